@@ -1,0 +1,5 @@
+pub mod Faults
+pub mod Bytes
+pub mod Files
+pub mod Lines
+pub mod Cutting

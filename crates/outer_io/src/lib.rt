@@ -1,0 +1,22 @@
+//! The outside as the other crates see it: bytes that come in, bytes that go out, and named files.
+//!
+//! Each kind of outside is a trait with ghost members that tell its bytes, where it knows them, and
+//! count its faults, so that a fault is answered only where a count rose. Bytes are cut into lines by
+//! [`LineCutter`], whose contract is the definition `lines` of `specs/Lines.antt`.
+#![tactic(auto)]
+
+mod cutter;
+mod fault;
+mod list;
+mod place;
+mod sink;
+mod source;
+mod text;
+
+pub use cutter::{Cut, CutFault};
+pub use fault::{Failed, IoFault, NoMemory};
+pub use list::List;
+pub use place::Place;
+pub use sink::Sink;
+pub use source::Source;
+pub use text::Text;
