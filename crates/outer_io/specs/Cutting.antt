@@ -25,6 +25,10 @@ lines_left left c = option_map (lines_from c.taken c.given) (rest_of left c)
 abbrev pub IsNew : {S : Type 0} → S → Cutter S → Type 0
 IsNew source c = c ≡ record { source = source; held = []; taken = 0; given = 0; fault = None; ended = false }
 
+-- how many bytes the whole input has, where the source tells them
+abbrev pub input_size : {S : Type 0} → (S → Option (List ℕ)) → Cutter S → Option ℕ
+input_size left c = option_map (λ rest. c.taken + length rest) (rest_of left c)
+
 -- it gave the line under the number, and has the lines after it left
 pub record GivesLine {S : Type 0} (left : S → Option (List ℕ)) (before after : Cutter S) (line : Line) (number : ℕ) : Type 0 where
   pub counts : number ≡ before.given + 1
@@ -32,6 +36,7 @@ pub record GivesLine {S : Type 0} (left : S → Option (List ℕ)) (before after
   pub given : after.given ≡ number
   pub goes_on : (after.fault ≡ None) × (after.ended ≡ false)
   pub first : MatchOption (lines_left left before) ⊤ (λ all. IsSomeAnd (lines_left left after) (λ rest. all ≡ line ∷ rest))
+  pub size : MatchOption (input_size left before) ⊤ (λ size. input_size left after ≡ Some size)
 
 -- it was at the end of the input, and no line was left
 pub record IsEnd {S : Type 0} (left : S → Option (List ℕ)) (before after : Cutter S) : Type 0 where
