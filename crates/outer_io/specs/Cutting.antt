@@ -42,6 +42,7 @@ pub record GivesLine {S : Type 0} (left : S → Option (List ℕ)) (before after
 pub record IsEnd {S : Type 0} (left : S → Option (List ℕ)) (before after : Cutter S) : Type 0 where
   pub ended : after.ended ≡ true
   pub nothing : MatchOption (rest_of left before) ⊤ (λ rest. rest ≡ [])
+  pub small : before.taken ≤ input_limit
   pub same : (after.taken ≡ before.taken) × (after.given ≡ before.given) × (after.fault ≡ None)
 
 -- no further line is whole within the limit of the input, and more than that was read
