@@ -13,7 +13,7 @@ mod sink;
 mod source;
 mod text;
 
-pub use cutter::{Cut, CutFault};
+pub use cutter::{Cut, CutFault, LineCutter};
 pub use fault::{Failed, IoFault, NoMemory};
 pub use list::List;
 pub use place::Place;

@@ -1,0 +1,5 @@
+pub mod Feeds
+pub mod Strips
+pub mod Reading
+pub mod LineLists
+pub mod Giving
