@@ -3,3 +3,4 @@ pub mod Bytes
 pub mod Files
 pub mod Lines
 pub mod Cutting
+pub mod Memory

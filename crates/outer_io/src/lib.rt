@@ -8,6 +8,7 @@
 mod cutter;
 mod fault;
 mod list;
+mod memory;
 mod place;
 mod sink;
 mod source;
@@ -16,6 +17,10 @@ mod text;
 pub use cutter::{Cut, CutFault};
 pub use fault::{Failed, IoFault, NoMemory};
 pub use list::List;
+pub use memory::mem_sink::MemSink;
+pub use memory::mem_source::MemSource;
+pub use memory::still_sink::StillSink;
+pub use memory::still_source::StillSource;
 pub use place::Place;
 pub use sink::Sink;
 pub use source::Source;
