@@ -5,10 +5,13 @@
 //! [`LineCutter`], whose contract is the definition `lines` of `specs/Lines.antt`.
 #![tactic(auto)]
 
+mod count;
 mod cutter;
 mod fault;
+mod files;
 mod list;
 mod memory;
+mod names;
 mod place;
 mod sink;
 mod source;
@@ -16,6 +19,9 @@ mod text;
 
 pub use cutter::{Cut, CutFault};
 pub use fault::{Failed, IoFault, NoMemory};
+pub use files::file_place::FilePlace;
+pub use files::file_source::FileSource;
+pub use files::std_sink::StdSink;
 pub use list::List;
 pub use memory::mem_sink::MemSink;
 pub use memory::mem_source::MemSource;

@@ -4,19 +4,13 @@
 //! `Mem` those calls fail that their maker says, so that a test can name each fault and its cause.
 ghost use Rattle.std.specs.Prelude.{◌≡◌, ◌==◌};
 ghost use Rattle.std.specs.List.{list_any};
-ghost use Rattle.outer_io.specs.Memory.{next_count};
 
 pub(crate) mod mem_sink;
 pub(crate) mod mem_source;
 pub(crate) mod still_sink;
 pub(crate) mod still_source;
-
-/// The count after this one. It stands still at its type's end.
-fn next_count(count: u64) -> u64
-    ensures { result ≡ next_count count }
-{
-    count.saturating_add(1)
-}
+#[cfg(test)]
+mod tests;
 
 /// Whether the number stands in the list.
 fn is_listed(numbers: &[u32], number: u64) -> bool

@@ -3,8 +3,9 @@ ghost use Rattle.std.specs.Prelude.{◌≡◌, ◌<◌, IfOk, OnErr, is_err, len
 ghost use Rattle.outer_io.specs.Faults.{Rose};
 ghost use Rattle.outer_io.specs.Memory.{share, filled, new_input, fails_next, after_given, after_failed_read};
 
+use super::is_listed;
 use super::still_source::StillSource;
-use super::{is_listed, next_count};
+use crate::count::next_count;
 use crate::{Failed, List, Source};
 use std::marker::Model;
 
