@@ -6,3 +6,4 @@ pub mod Cutting
 pub mod Counts
 pub mod Memory
 pub mod Places
+pub mod Codes
