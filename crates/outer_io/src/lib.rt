@@ -15,6 +15,8 @@ mod names;
 mod place;
 mod sink;
 mod source;
+#[cfg(test)]
+mod tests;
 mod text;
 
 pub use cutter::{Cut, CutFault};
