@@ -3,3 +3,4 @@ pub mod Strips
 pub mod Reading
 pub mod LineLists
 pub mod Giving
+pub mod ByName

@@ -5,3 +5,7 @@ pub mod Lines
 pub mod Pieces
 pub mod Cutting
 pub mod Cuts
+pub mod Counts
+pub mod Memory
+pub mod Places
+pub mod Codes
