@@ -1,3 +1,5 @@
+pub mod Bag
 pub mod Limits
+pub mod Places
 pub mod Points
 pub mod Validity
