@@ -3,6 +3,7 @@
 
 mod address;
 mod category;
+mod labels;
 mod schema;
 mod spot;
 mod stat;
@@ -10,6 +11,7 @@ mod view;
 
 pub use address::{Address, Tile};
 pub use category::Category;
+pub use labels::label;
 pub use schema::Schema;
 pub use spot::{Point, Spot};
 pub use stat::Stat;
