@@ -21,12 +21,14 @@ pub struct PlainCube {
 }
 
 impl PlainCube {
+    ghost use Rattle.cube_view.specs.Bag.{Counts};
     ghost use Rattle.plain_cube.specs.Kept.{points_of, schema_of};
 
     /// A cube of no points.
     pub fn new(alloc: Global, schema: Schema) -> PlainCube
         ensures schema { schema_of result ≡ schema }
         ensures points { points_of result ≡ [] }
+        ensures counted { Counts (⟦<PlainCube as CubeView>⟧.weight_at result) (⟦<PlainCube as CubeView>⟧.seen result) (points_of result) }
     {
         PlainCube {
             schema,
@@ -39,6 +41,7 @@ impl PlainCube {
         requires { IsTrue (valid (schema_of self.old) point) }
         ensures inserted { OnOk result (points_of self.new ≡ points_of self.old ++ point ∷ []) }
         ensures unchanged { OnErr result (points_of self.new ≡ points_of self.old) }
+        ensures counted { Counts (⟦<PlainCube as CubeView>⟧.weight_at self.new) (⟦<PlainCube as CubeView>⟧.seen self.new) (points_of self.new) }
         ensures schema { schema_of self.new ≡ schema_of self.old }
     {
         match self.points.push(point) {
