@@ -7,6 +7,7 @@ mod labels;
 mod schema;
 mod spot;
 mod stat;
+mod validity;
 mod view;
 
 pub use address::{Address, Tile};
@@ -15,4 +16,5 @@ pub use labels::label;
 pub use schema::Schema;
 pub use spot::{Point, Spot};
 pub use stat::Stat;
+pub use validity::is_valid;
 pub use view::CubeView;
