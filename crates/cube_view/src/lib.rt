@@ -3,6 +3,7 @@
 
 mod address;
 mod category;
+mod copies;
 mod labels;
 mod schema;
 mod spot;
