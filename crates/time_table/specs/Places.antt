@@ -1,5 +1,5 @@
 -- Places among rows in rising order of bin.
-use Rattle.std.specs.Prelude.{◌≡◌, ℕ, ◌+◌, ◌<◌, ◌≤◌, ◌==◌, if◌then◌else◌, List, [], ◌∷◌, ◌++◌, length, take, drop, All}
+use Rattle.std.specs.Prelude.{◌≡◌, ℕ, ◌-◌, ◌<◌, ◌≤◌, ◌==◌, if◌then◌else◌, List, [], ◌∷◌, ◌++◌, length, take, drop, All}
 use Rattle.time_table.specs.declared.row.Row.{Row}
 use Rattle.time_table.specs.Totals.{last_total}
 
@@ -22,8 +22,8 @@ with_row index below bin rows = take index rows ++ with_first below bin (drop in
 -- rows without their first one, if that has one record alone
 abbrev pub without_first : ℕ → List Row → List Row
 without_first below [] = []
-without_first below (row ∷ rows) = if row.total == below + 1 then rows else row ∷ rows
+without_first below (row ∷ rows) = if row.total - below == 1 then rows else row ∷ rows
 
 -- the rows without the one at the index, if that has one record alone
-abbrev pub without_last : ℕ → ℕ → List Row → List Row
-without_last index below rows = take index rows ++ without_first below (drop index rows)
+abbrev pub without_single : ℕ → ℕ → List Row → List Row
+without_single index below rows = take index rows ++ without_first below (drop index rows)

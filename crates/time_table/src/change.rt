@@ -1,9 +1,9 @@
 //! One record more or less, in rows that stand in rising order of bin.
-ghost use Rattle.std.specs.Prelude.{◌≡◌, ◌+◌, ◌-◌, ◌<◌, ◌≤◌, ◌^◌, ◌++◌, length, take, drop, map, All, OnOk, OnErr, IsTrue};
+ghost use Rattle.std.specs.Prelude.{◌≡◌, ◌+◌, ◌<◌, ◌≤◌, ◌^◌, ◌++◌, length, take, drop, map, All, OnOk, OnErr, IsTrue};
 ghost use Rattle.std.specs.FinMap.{contains_key};
 ghost use Rattle.time_table.specs.Counts.{add_one, take_one};
 ghost use Rattle.time_table.specs.Totals.{Rise, counts, last_total, one_more, one_less};
-ghost use Rattle.time_table.specs.Places.{with_row, without_last};
+ghost use Rattle.time_table.specs.Places.{with_row, without_single};
 
 use crate::place::{Place, place_of};
 use crate::row::Row;
@@ -41,7 +41,7 @@ pub fn take_record<L: Ledger>(rows: &mut Rows<Row>, bin: u32, blank: Blank)
 {
     let mut steps = Steps::<L>::new(blank);
     let place = place_of(rows, u64::from(bin), &mut steps);
-    drop_last(rows, place, &mut steps);
+    drop_single(rows, place, &mut steps);
     lower(rows, place.index, &mut steps);
 }
 
@@ -67,12 +67,12 @@ fn make_row<L: Ledger>(
 }
 
 /// Takes the row at the place off, if it has one record alone.
-fn drop_last<L: Ledger>(rows: &mut Rows<Row>, place: Place, steps: &mut Steps<L>)
+fn drop_single<L: Ledger>(rows: &mut Rows<Row>, place: Place, steps: &mut Steps<L>)
     requires within { place.index < length rows.old.items }
-    requires fits { place.below < 2 ^ 64 - 1 }
-    ensures { rows.new.items ≡ without_last place.index place.below rows.old.items }
+    requires more { All (λ row. place.below < row.total) (drop place.index rows.old.items) }
+    ensures { rows.new.items ≡ without_single place.index place.below rows.old.items }
 {
-    if rows.at(place.index, steps).total == place.below + 1 {
+    if rows.at(place.index, steps).total - place.below == 1 {
         rows.remove(place.index);
     }
 }
