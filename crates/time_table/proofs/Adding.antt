@@ -12,7 +12,7 @@ use Rattle.time_table.specs.Totals.{Rise, counts, counts_from, last_total, one_m
 use Rattle.time_table.specs.Places.{with_first, with_row}
 use Rattle.time_table.proofs.Counted.{entries-counts}
 use Rattle.time_table.proofs.Mapped.{map_second}
-use Rattle.time_table.proofs.Entries.{put_first, put_here, put_later, find_here, find_later, find_before}
+use Rattle.time_table.specs.Entries.{put_first, put_here, put_later, find_here, find_later, find_before}
 
 one_later : (a b : ℕ) → (a + 1) - (b + 1) ≡ a - b
 one_later a b = omega arith

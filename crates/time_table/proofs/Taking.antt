@@ -13,7 +13,7 @@ use Rattle.time_table.specs.Totals.{Rise, counts, counts_from, last_total, one_l
 use Rattle.time_table.specs.Places.{without_first, without_single}
 use Rattle.time_table.proofs.Counted.{entries-counts}
 use Rattle.time_table.proofs.Mapped.{map_second}
-use Rattle.time_table.proofs.Entries.{put_here, put_later, find_here, find_later}
+use Rattle.time_table.specs.Entries.{put_here, put_later, find_here, find_later}
 use Rattle.time_table.proofs.Adding.{count_at, find_none, all_past}
 
 -- rows lowered by one count as before from a total that is one less

@@ -1,7 +1,7 @@
 -- What a table of time means: how many records fell into each bin, as a finite map.
-use Rattle.std.specs.Prelude.{ℕ, ◌+◌, ◌-◌, ◌<◌, ◌==◌, if◌then◌else◌, nat_lt, unwrap_or, sum, sum_by, filter, All}
+use Rattle.std.specs.Prelude.{ℕ, ◌+◌, ◌-◌, ◌<◌, ◌==◌, if◌then◌else◌, nat_lt, unwrap_or, sum, sum_by, filter, All, List, [], ◌∷◌}
 use Rattle.std.specs.Ordering.{nat_cmp}
-use Rattle.std.specs.FinMap.{FinMap, get, insert, remove, values, entries}
+use Rattle.std.specs.FinMap.{FinMap, empty, get, insert, remove, values, entries}
 
 -- a count for each bin into which records fell
 abbrev pub Counts : Type 0
@@ -30,3 +30,8 @@ total_count m = sum (values m)
 -- how many records fell into bins less than bin_end
 abbrev pub count_before : Counts → ℕ → ℕ
 count_before m bin_end = sum_by (λ e. e.1) (filter (λ e. nat_lt e.0 bin_end) (entries m))
+
+-- the table of records that fell into these bins, whose order does not matter
+abbrev pub counts_of_bins : List ℕ → Counts
+counts_of_bins [] = empty
+counts_of_bins (bin ∷ bins) = add_one (counts_of_bins bins) bin

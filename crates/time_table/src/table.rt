@@ -1,5 +1,5 @@
 //! The table of one place in space and the categories.
-ghost use Rattle.std.specs.Prelude.{◌≡◌, ◌+◌, ◌<◌, ◌≤◌, ◌^◌, IfOk, OnOk, OnErr, IsTrue};
+ghost use Rattle.std.specs.Prelude.{◌≡◌, ◌+◌, ◌<◌, ◌≤◌, ◌^◌, IfOk, OnOk, OnErr, IsTrue, length};
 ghost use Rattle.std.specs.FinMap.{empty, contains_key, len};
 ghost use Rattle.probe_core.specs.Bits.{bits};
 ghost use Rattle.time_table.specs.Counts.{AllCounted, add_one, take_one, total_count, count_before};
@@ -79,5 +79,89 @@ impl TimeTable {
     {
         let rows = self.rows.copy(alloc)?;
         Ok(TimeTable { rows })
+    }
+}
+
+#[cfg(test)]
+mod tests {
+    use super::*;
+    use std::process::Abort;
+
+    fn add(rt: &impl Abort, table: &mut TimeTable, bin: u32)
+        requires { total_count table.old < 2 ^ 63 }
+        ensures { table.new ≡ add_one table.old bin }
+    {
+        assert!(rt; table.add(bin).is_ok());
+    }
+
+    fn add_each(rt: &impl Abort, table: &mut TimeTable, bins: &[u32])
+        requires { total_count table.old + length bins.now < 2 ^ 63 }
+        ensures { total_count table.new ≡ total_count table.old + length bins.now }
+    {
+        for bin in bins {
+            add(rt, table, *bin);
+        }
+    }
+
+    fn expect_before<L: Ledger>(
+        rt: &impl Abort,
+        blank: Blank,
+        table: &TimeTable,
+        cases: &[(u64, u64)],
+    )
+        requires name { blank.name ≡ L.name }
+        requires parts { blank.parts ≡ L.parts }
+        requires some { 0 < blank.parts }
+    {
+        let mut steps = Steps::<L>::new(blank);
+        for &(bin_end, want) in cases {
+            assert_eq!(rt; table.before(bin_end, &mut steps), want, "before {bin_end}");
+        }
+    }
+
+    #[test]
+    fn counts_before_each_end(rt: HostRuntime) {
+        let mut table = TimeTable::new(rt.alloc());
+        add_each(&rt, &mut table, &[5, 3, 5, 9]);
+        let copy = table.copy(rt.alloc()).expect(&rt, "room");
+        let cases = [(3, 0), (5, 1), (6, 3), (1 << 32, 4)];
+        expect_before::<Brand>(&rt, Blank::new(1), &copy, &cases);
+    }
+
+    #[test]
+    fn drops_a_bin_with_its_last_record(rt: HostRuntime) {
+        let mut table = TimeTable::new(rt.alloc());
+        add_each(&rt, &mut table, &[5, 5, 9]);
+        add(&rt, &mut table, 3);
+        table.take(3);
+        expect_before::<Brand>(&rt, Blank::new(1), &table, &[(5, 0), (6, 2), (10, 3)]);
+    }
+
+    #[test]
+    fn counts_the_first_and_the_last_bin(rt: HostRuntime) {
+        let mut table = TimeTable::new(rt.alloc());
+        add_each(&rt, &mut table, &[u32::MAX, 0]);
+        let cases = [(0, 0), (1, 1), ((1 << 32) - 1, 1), (1 << 32, 2)];
+        expect_before::<Brand>(&rt, Blank::new(1), &table, &cases);
+    }
+
+    fn expect_each_bin<L: Ledger>(rt: &impl Abort, blank: Blank, table: &TimeTable)
+        requires name { blank.name ≡ L.name }
+        requires parts { blank.parts ≡ L.parts }
+        requires some { 0 < blank.parts }
+    {
+        let mut steps = Steps::<L>::new(blank);
+        for bin in 0..1001u64 {
+            assert_eq!(rt; table.before(bin, &mut steps), bin, "before {bin}");
+        }
+    }
+
+    #[test]
+    fn counts_bins_added_in_falling_order(rt: HostRuntime) {
+        let mut table = TimeTable::new(rt.alloc());
+        for i in 0..1000u32 {
+            add(&rt, &mut table, 999 - i);
+        }
+        expect_each_bin::<Brand>(&rt, Blank::new(1), &table);
     }
 }
