@@ -1,0 +1,5 @@
+pub mod Adding
+pub mod Counted
+pub mod Mapped
+pub mod Rising
+pub mod Taking

@@ -1,0 +1,32 @@
+-- Rows of running totals, and the counts that they stand for.
+use Rattle.std.specs.Prelude.{ℕ, ◌+◌, ◌-◌, ◌<◌, ◌≤◌, List, [], ◌∷◌}
+use Rattle.std.specs.FinMap.{from_sorted}
+use Rattle.time_table.specs.declared.row.Row.{Row}
+use Rattle.time_table.specs.Counts.{Counts}
+
+-- the bins are `least` or later and rise, and the totals are above `before` and rise
+abbrev pub Rise : ℕ → ℕ → List Row → Type 0
+Rise least before [] = Unit {0}
+Rise least before (row ∷ rows) = (least ≤ row.bin) × (before < row.total) × Rise (row.bin + 1) row.total rows
+
+-- each bin with its count, where the total before the rows is `before`
+abbrev pub counts_from : ℕ → List Row → List (ℕ × ℕ)
+counts_from before [] = []
+counts_from before (row ∷ rows) = (row.bin, row.total - before) ∷ counts_from row.total rows
+
+-- the counts of rows that rise
+unfoldable pub counts : List Row → Counts
+counts rows = from_sorted (counts_from 0 rows)
+
+-- the total of the last row, or the one before the rows where there is none
+abbrev pub last_total : ℕ → List Row → ℕ
+last_total before [] = before
+last_total before (row ∷ rows) = last_total row.total rows
+
+-- a row whose total is one more
+abbrev pub one_more : Row → Row
+one_more row = record { bin = row.bin; total = row.total + 1 }
+
+-- a row whose total is one less
+abbrev pub one_less : Row → Row
+one_less row = record { bin = row.bin; total = row.total - 1 }
