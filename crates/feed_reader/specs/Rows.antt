@@ -1,5 +1,5 @@
 -- What a line after the header means: blank, a point, or the first fault.
-use Rattle.std.specs.Prelude.{ℕ, zero, suc, ◌-◌, ◌/◌, ◌^◌, Bool, false, not, ◌==◌, nat_lt, nat_le, if◌then◌else◌, List, [], ◌∷◌, ◌++◌, map, take, length, get_or, Option, Some, None, option_map, unwrap_or, position, IsTrue, ⊤}
+use Rattle.std.specs.Prelude.{ℕ, ◌-◌, ◌/◌, ◌^◌, Bool, not, nat_lt, nat_le, if◌then◌else◌, List, [], ◌∷◌, ◌++◌, map, take, length, get_or, Option, Some, None, option_map, position, IsTrue, ⊤}
 use Rattle.std.specs.List.{list_any, zip}
 use Rattle.cube_view.specs.Limits.{has_text}
 use Rattle.cube_view.specs.Points.{Point, point_at}
@@ -83,10 +83,14 @@ row_of_fields schema _ = row.Refused fault.ShortRow
 abbrev pub is_short : List ℕ → List (List ℕ) → Bool
 is_short places fields = list_any (λ place. nat_le (length fields) place) places
 
+-- the fields at the places
+abbrev pub texts_at : List (List ℕ) → List ℕ → List (List ℕ)
+texts_at fields places = map (λ place. get_or fields place []) places
+
 -- what a record means
 abbrev pub row_of_record : Schema → List ℕ → Option (List (List ℕ)) → Row
 row_of_record schema places None = row.Refused fault.BadRow
-row_of_record schema places (Some fields) = if is_short places fields then row.Refused fault.ShortRow else row_of_fields schema (map (λ place. get_or fields place []) places)
+row_of_record schema places (Some fields) = if is_short places fields then row.Refused fault.ShortRow else row_of_fields schema (texts_at fields places)
 
 -- what a line's bytes mean, with the places of the needed columns
 abbrev pub row_of : Schema → List ℕ → List ℕ → Row

@@ -1,7 +1,7 @@
 //! The fields of a line, where it is one record.
-ghost use Rattle.std.specs.Prelude.{◌≡◌, ◌<◌, [], IfOk, get_or, length};
+ghost use Rattle.std.specs.Prelude.{◌≡◌, ◌<◌, [], IfOk, Some, get_or, length};
 ghost use Rattle.feed_reader.specs.Headers.{count_of, place_in};
-ghost use Rattle.feed_reader.specs.Records.{begins_with_mark, record_of};
+ghost use Rattle.feed_reader.specs.Records.{IsReaderOf, begins_with_mark, record_of};
 ghost use Rattle.feed_reader.specs.Rows.{is_short};
 ghost use Rattle.cube_view.specs.Limits.{same_text};
 
@@ -42,6 +42,16 @@ fn begins_with_mark(line: &[u8]) -> bool
     }
 }
 
+// A reader that has yet to read the line.
+fn reader(alloc: Global, line: &[u8]) -> Reader<&[u8]>
+    ensures { IsReaderOf (λ rest. Some rest.now) result line.now }
+{
+    ReaderBuilder::new()
+        .has_headers(false)
+        .flexible(true)
+        .from_reader(alloc, line)
+}
+
 impl Fields {
     /// The fields of a line that has no mark at its start and is exactly one record.
     pub(crate) fn read(alloc: Global, line: &[u8]) -> Result<Option<Fields>, NoMemory>
@@ -50,10 +60,7 @@ impl Fields {
         if begins_with_mark(line) {
             return Ok(None);
         }
-        let mut reader = ReaderBuilder::new()
-            .has_headers(false)
-            .flexible(true)
-            .from_reader(alloc, line);
+        let mut reader = reader(alloc, line);
         let mut row = ByteRecord::new(alloc);
         let Ok(found) = reader.read_byte_record(&mut row) else {
             return Err(NoMemory);
@@ -62,10 +69,13 @@ impl Fields {
             return Ok(None);
         }
         let mut further = ByteRecord::new(alloc);
-        match reader.read_byte_record(&mut further) {
-            Ok(true) => Ok(None),
-            Ok(false) => Ok(Some(Fields { row })),
-            Err(_) => Err(NoMemory),
+        let Ok(more) = reader.read_byte_record(&mut further) else {
+            return Err(NoMemory);
+        };
+        if more {
+            Ok(None)
+        } else {
+            Ok(Some(Fields { row }))
         }
     }
 
@@ -80,12 +90,19 @@ impl Fields {
         }
     }
 
+    /// How many fields there are.
+    fn len(&self) -> usize
+        ensures { result ≡ length self.now }
+    {
+        self.row.len()
+    }
+
     /// How many fields are the name.
     pub(crate) fn count(&self, name: &[u8]) -> usize
         ensures { result ≡ count_of self.now name.now }
     {
         let mut count = 0;
-        for place in 0..self.row.len() {
+        for place in 0..self.len() {
             if is_same(name, self.field(place)) {
                 count += 1;
             }
@@ -97,7 +114,7 @@ impl Fields {
     pub(crate) fn place(&self, name: &[u8]) -> usize
         ensures { result ≡ place_in self.now name.now }
     {
-        let count = self.row.len();
+        let count = self.len();
         for place in 0..count {
             if is_same(name, self.field(place)) {
                 return place;
@@ -110,7 +127,7 @@ impl Fields {
     pub(crate) fn is_short(&self, places: &[usize]) -> bool
         ensures { result ≡ is_short places.now self.now }
     {
-        let count = self.row.len();
+        let count = self.len();
         for place in places {
             if count <= *place {
                 return true;

@@ -4,7 +4,7 @@ ghost use Rattle.cube_view.specs.Limits.{has_text, category_in_range, categories
 ghost use Rattle.feed_reader.specs.Columns.{needed_count};
 ghost use Rattle.feed_reader.specs.Decimals.{is_decimal};
 ghost use Rattle.feed_reader.specs.Headers.{place_in};
-ghost use Rattle.feed_reader.specs.Rows.{fault_if, first_fault, number, bin_of, first_unknown, values_of, faults_of, point_of, is_short, row_of_record, IsValidRow};
+ghost use Rattle.feed_reader.specs.Rows.{fault_if, first_fault, number, bin_of, first_unknown, values_of, faults_of, point_of, is_short, texts_at, row_of_record, IsValidRow};
 
 use crate::Column;
 use crate::decimal::decimal;
@@ -80,7 +80,7 @@ fn values(
     requires in_range { IsTrue (categories_in_range categories.now) }
     requires each { length places.now ≡ length categories.now }
     requires within { is_short places.now fields.now ≡ false }
-    ensures { let texts = map (λ place. get_or fields.now place []) places.now in
+    ensures { let texts = texts_at fields.now places.now in
         let fault = option_map RowFault.UnknownValue (first_unknown categories.now texts) in
         MatchResult result (λ values. (fault ≡ None) × (values ≡ values_of categories.now texts)) (λ f. fault ≡ Some f) }
 {
@@ -121,7 +121,7 @@ fn point(
 ) -> Result<Point, RowFault>
     requires each { length places.now ≡ length schema.now.categories }
     requires within { is_short places.now fields.now ≡ false }
-    ensures { let texts = map (λ place. get_or fields.now place []) places.now in
+    ensures { let texts = texts_at fields.now places.now in
         let fault = first_fault (faults_of schema.now x.now y.now time.now texts) in
         MatchResult result (λ p. (fault ≡ None) × (p ≡ point_of schema.now x.now y.now time.now texts)) (λ f. fault ≡ Some f) }
 {
