@@ -14,3 +14,6 @@ mod row;
 pub use column::Column;
 pub use header::{HeadFault, Header};
 pub use row::{Row, RowFault};
+
+#[cfg(test)]
+mod tests;
