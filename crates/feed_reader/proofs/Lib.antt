@@ -1,0 +1,7 @@
+pub mod Lists
+pub mod Digits
+pub mod OneRecord
+pub mod Columns
+pub mod Values
+pub mod FirstFault
+pub mod ValidRows

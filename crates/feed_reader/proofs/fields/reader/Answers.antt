@@ -1,0 +1,13 @@
+use Rattle.std.proofs.Common.{◌∙◌, inr}
+use Rattle.feed_reader.proofs.fields.reader.Goals as goal
+
+pub returns : goal.returns
+returns c =
+    let made = c.from_reader.ensures in
+    record {
+      config = rw (c.flexible.ensures, c.has_headers.ensures) at made.config ∙ c.new.ensures.config;
+      state = made.state;
+      source = made.source;
+      untrimmed = rw (c.flexible.ensures, c.has_headers.ensures) at made.trim ∙ c.new.ensures.trim;
+      ready = inr (inr (rw (c.flexible.ensures, c.has_headers.ensures) at made.has_headers, made.headers));
+    }

@@ -1,0 +1,6 @@
+pub mod Columns
+pub mod Records
+pub mod Decimals
+pub mod Headers
+pub mod Rows
+pub mod Feeds

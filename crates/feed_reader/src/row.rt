@@ -1,0 +1,158 @@
+//! What a line after the header is.
+ghost use Rattle.std.specs.Prelude.{◌≡◌, ◌<◌, ◌≤◌, ◌^◌, Some, None, MatchOption, MatchResult, IsTrue, nat_le, nat_lt, not, map, length, get_or, option_map, [], ◌∷◌, false, true};
+ghost use Rattle.cube_view.specs.Limits.{has_text, category_in_range, categories_in_range};
+ghost use Rattle.feed_reader.specs.Columns.{needed_count};
+ghost use Rattle.feed_reader.specs.Decimals.{is_decimal};
+ghost use Rattle.feed_reader.specs.Headers.{place_in};
+ghost use Rattle.feed_reader.specs.Rows.{fault_if, first_fault, number, bin_of, first_unknown, values_of, faults_of, point_of, is_short, texts_at, row_of_record, IsValidRow};
+
+use crate::Column;
+use crate::decimal::decimal;
+use crate::fields::{Fields, is_same};
+use cube_view::{Category, Point, Schema, Spot};
+use outer_io::List;
+
+/// Why a line is no point. A category goes by its number, from 0.
+#[derive(Clone, Copy, PartialEq, Eq, Debug)]
+pub enum RowFault {
+    BadRow,
+    ShortRow,
+    BadNumber(Column),
+    BadTile(Column),
+    UnknownValue(u8),
+    EarlyTime,
+    LateTime,
+    LongLine,
+}
+
+/// A line after the header: one without bytes, a point, or one that is refused.
+#[derive(Clone, Copy, PartialEq, Eq, Debug)]
+pub enum Row {
+    Blank,
+    Point(Point),
+    Refused(RowFault),
+}
+
+// The number in a column's field.
+fn number(field: &[u8], column: Column) -> Result<u64, RowFault>
+    ensures { let fault = fault_if (not (is_decimal field.now)) (RowFault.BadNumber column) in
+        MatchResult result (λ n. (fault ≡ None) × (n ≡ number field.now)) (λ f. fault ≡ Some f) }
+{
+    match decimal(field) {
+        Some(number) => Ok(number),
+        None => Err(RowFault::BadNumber(column)),
+    }
+}
+
+// The number, where it is that of a tile of the finest level.
+fn tile(number: u64, depth: u8, column: Column) -> Result<u32, RowFault>
+    requires { depth ≤ 20 }
+    ensures { let fault = fault_if (nat_le (2 ^ depth) number) (RowFault.BadTile column) in
+        MatchResult result (λ n. (fault ≡ None) × (n ≡ number)) (λ f. fault ≡ Some f) }
+{
+    if number < 2u64.pow(u32::from(depth)) {
+        Ok(number as u32)
+    } else {
+        Err(RowFault::BadTile(column))
+    }
+}
+
+// The number of a value of the category, from 0.
+fn value(category: &Category, field: &[u8]) -> Option<u8>
+    requires { IsTrue (category_in_range category.now) }
+    ensures { MatchOption result (has_text category.now.values field.now ≡ false)
+        (λ n. (has_text category.now.values field.now ≡ true) × (n ≡ place_in category.now.values field.now)) }
+{
+    for (n, text) in category.values.as_slice().iter().enumerate() {
+        if is_same(field, text.as_str().as_bytes()) {
+            return Some(n as u8);
+        }
+    }
+    None
+}
+
+// The values of the categories, whose fields stand at the places.
+fn values(
+    categories: &List<Category>,
+    places: &[usize],
+    fields: &Fields,
+) -> Result<[u8; 4], RowFault>
+    requires in_range { IsTrue (categories_in_range categories.now) }
+    requires each { length places.now ≡ length categories.now }
+    requires within { is_short places.now fields.now ≡ false }
+    ensures { let texts = texts_at fields.now places.now in
+        let fault = option_map RowFault.UnknownValue (first_unknown categories.now texts) in
+        MatchResult result (λ values. (fault ≡ None) × (values ≡ values_of categories.now texts)) (λ f. fault ≡ Some f) }
+{
+    let mut values = [0; 4];
+    for (k, place) in places.iter().enumerate() {
+        match value(categories.get(k), fields.field(*place)) {
+            Some(n) => values[k] = n,
+            None => return Err(RowFault::UnknownValue(k as u8)),
+        }
+    }
+    Ok(values)
+}
+
+// The bin of a time.
+fn bin(schema: &Schema, time: u64) -> Result<u32, RowFault>
+    ensures { let early = fault_if (nat_lt time schema.now.start) RowFault.EarlyTime in
+        let late = fault_if (nat_le (2 ^ 32) (bin_of schema.now time)) RowFault.LateTime in
+        MatchResult result (λ n. (early ≡ None) × (late ≡ None) × (n ≡ bin_of schema.now time))
+        (λ f. first_fault (early ∷ late ∷ []) ≡ Some f) }
+{
+    if time < schema.start {
+        return Err(RowFault::EarlyTime);
+    }
+    match u32::try_from((time - schema.start) / schema.width) {
+        Ok(bin) => Ok(bin),
+        Err(_) => Err(RowFault::LateTime),
+    }
+}
+
+// The point of a record, or its first fault. The fields of its categories stand at the places.
+fn point(
+    schema: &Schema,
+    fields: &Fields,
+    x: &[u8],
+    y: &[u8],
+    time: &[u8],
+    places: &[usize],
+) -> Result<Point, RowFault>
+    requires each { length places.now ≡ length schema.now.categories }
+    requires within { is_short places.now fields.now ≡ false }
+    ensures { let texts = texts_at fields.now places.now in
+        let fault = first_fault (faults_of schema.now x.now y.now time.now texts) in
+        MatchResult result (λ p. (fault ≡ None) × (p ≡ point_of schema.now x.now y.now time.now texts)) (λ f. fault ≡ Some f) }
+{
+    let x = number(x, Column::X)?;
+    let y = number(y, Column::Y)?;
+    let time = number(time, Column::Time)?;
+    let x = tile(x, schema.depth, Column::X)?;
+    let y = tile(y, schema.depth, Column::Y)?;
+    let values = values(&schema.categories, places, fields)?;
+    let bin = bin(schema, time)?;
+    Ok(Spot { x, y, values, bin })
+}
+
+/// What a record is whose needed columns stand at the places.
+pub(crate) fn row_of_record(schema: &Schema, places: &[usize], fields: &Fields) -> Row
+    requires { length places.now ≡ needed_count schema.now }
+    ensures { result ≡ row_of_record schema.now places.now (Some fields.now) }
+{
+    if fields.is_short(places) {
+        return Row::Refused(RowFault::ShortRow);
+    }
+    match places {
+        [x, y, time, rest @ ..] => {
+            let x = fields.field(*x);
+            let y = fields.field(*y);
+            let time = fields.field(*time);
+            match point(schema, fields, x, y, time, rest) {
+                Ok(point) => Row::Point(point),
+                Err(fault) => Row::Refused(fault),
+            }
+        }
+        _ => unreachable!(),
+    }
+}

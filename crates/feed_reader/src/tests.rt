@@ -1,0 +1,154 @@
+//! What the lines of a feed mean, by examples.
+ghost use Rattle.std.specs.Prelude.{◌≡◌, ◌++◌, ◌∷◌, [], IfOk, OnOk, codes};
+
+use crate::{Column, HeadFault, Header, Row, RowFault};
+use cube_view::{Category, Schema, Spot};
+use outer_io::{List, NoMemory, Text};
+use std::alloc::Global;
+use std::test::Fail;
+
+fn push<T: Drop>(list: &mut List<T>, item: T) -> Result<(), NoMemory>
+    ensures { OnOk result (list.new ≡ list.old ++ item ∷ []) }
+{
+    match list.push(item) {
+        Ok(()) => Ok(()),
+        Err(_) => Err(NoMemory),
+    }
+}
+
+fn kind(alloc: Global) -> Result<Category, NoMemory>
+    ensures name { IfOk result (λ category. category.name ≡ codes "kind") }
+    ensures values { IfOk result (λ category. category.values ≡ codes "a" ∷ codes "b" ∷ []) }
+{
+    let name = Text::copy_of(alloc, "kind")?;
+    let mut values = List::new(alloc);
+    push(&mut values, Text::copy_of(alloc, "a")?)?;
+    push(&mut values, Text::copy_of(alloc, "b")?)?;
+    Ok(Category { name, values })
+}
+
+// Depth 3, the category `kind` of a and b, and bins of 10 from `start` on.
+fn schema(alloc: Global, start: u64) -> Result<Schema, NoMemory> {
+    let mut categories = List::new(alloc);
+    push(&mut categories, kind(alloc)?)?;
+    Ok(Schema::new(3, categories, start, 10, 1))
+}
+
+fn row_under(alloc: Global, start: u64, head: &str, line: &str) -> Result<Row, Fail> {
+    let schema = schema(alloc, start)?;
+    let header = Header::read(alloc, &schema, head.as_bytes())?;
+    Ok(header.row(alloc, &schema, line.as_bytes())?)
+}
+
+fn point(x: u32, y: u32, kind: u8, bin: u32) -> Row {
+    Row::Point(Spot {
+        x,
+        y,
+        values: [kind, 0, 0, 0],
+        bin,
+    })
+}
+
+#[test]
+fn finds_the_columns_by_name(rt: HostRuntime) -> Result<(), Fail> {
+    let cases = [
+        ("1,0,0,\"a\",5", point(0, 0, 0, 0)),
+        ("2,7,7,b,12", point(7, 7, 1, 1)),
+        ("3,0,0,a,15", point(0, 0, 0, 1)),
+    ];
+    for (line, row) in cases {
+        assert_eq!(rt;
+            row_under(rt.alloc(), 0, "id,x,y,kind,time", line)?,
+            row,
+            "{line}"
+        );
+    }
+    Ok(())
+}
+
+#[test]
+fn refuses_a_header_by_its_first_fault(rt: HostRuntime) -> Result<(), Fail> {
+    let cases = [
+        ("", HeadFault::BadRow),
+        ("\u{FEFF}x,y,kind,time", HeadFault::BadRow),
+        ("x,y,kind,time\rx", HeadFault::BadRow),
+        ("X,y,kind,time", HeadFault::NoColumn(Column::X)),
+        ("x,x,y,kind", HeadFault::NoColumn(Column::Time)),
+        ("x,y,time", HeadFault::NoColumn(Column::Category(0))),
+        ("x,y,kind,time,kind,y", HeadFault::TwoColumns(Column::Y)),
+    ];
+    let schema = schema(rt.alloc(), 0)?;
+    for (line, fault) in cases {
+        let found = Header::read(rt.alloc(), &schema, line.as_bytes());
+        assert_eq!(rt; found.err(), Some(fault), "{line}");
+    }
+    Ok(())
+}
+
+#[test]
+fn reads_fields_as_csv_does(rt: HostRuntime) -> Result<(), Fail> {
+    let cases = [
+        ("", Row::Blank),
+        ("0,0,a,\"5", point(0, 0, 0, 0)),
+        ("\"0,0,a,5", Row::Refused(RowFault::ShortRow)),
+        ("0,0,a\"b,5", Row::Refused(RowFault::UnknownValue(0))),
+        ("0,0,a,5\r", point(0, 0, 0, 0)),
+        ("\r", Row::Refused(RowFault::BadRow)),
+        ("0,0,a,5\r1,1,b,6", Row::Refused(RowFault::BadRow)),
+        ("\u{FEFF}0,0,a,5", Row::Refused(RowFault::BadRow)),
+        ("0,0,a,5,9,9", point(0, 0, 0, 0)),
+        ("0,0,a", Row::Refused(RowFault::ShortRow)),
+    ];
+    for (line, row) in cases {
+        assert_eq!(rt;
+            row_under(rt.alloc(), 0, "x,y,kind,time", line)?,
+            row,
+            "{line}"
+        );
+    }
+    Ok(())
+}
+
+#[test]
+fn refuses_a_row_by_its_first_fault(rt: HostRuntime) -> Result<(), Fail> {
+    let cases = [
+        ("8,0,a,11", RowFault::BadTile(Column::X)),
+        ("0,8,a,11", RowFault::BadTile(Column::Y)),
+        ("0,0,c,11", RowFault::UnknownValue(0)),
+        ("0,0,A,9", RowFault::UnknownValue(0)),
+        ("x,0,a,11", RowFault::BadNumber(Column::X)),
+        ("8,+5,c,x", RowFault::BadNumber(Column::Y)),
+        (
+            "000000000000000000001,0,a,11",
+            RowFault::BadNumber(Column::X),
+        ),
+        (
+            "0,0,a,18446744073709551616",
+            RowFault::BadNumber(Column::Time),
+        ),
+        ("0,0,a,18446744073709551615", RowFault::LateTime),
+        ("0,0,a,42949672970", RowFault::LateTime),
+        ("0,0,a,9", RowFault::EarlyTime),
+    ];
+    for (line, fault) in cases {
+        let row = row_under(rt.alloc(), 10, "x,y,kind,time", line)?;
+        assert_eq!(rt; row, Row::Refused(fault), "{line}");
+    }
+    Ok(())
+}
+
+#[test]
+fn takes_the_first_and_the_last_bin(rt: HostRuntime) -> Result<(), Fail> {
+    let cases = [
+        ("00000000000000000001,0,a,10", point(1, 0, 0, 0)),
+        ("0,0,a,42949672969", point(0, 0, 0, 4_294_967_295)),
+    ];
+    for (line, row) in cases {
+        assert_eq!(rt;
+            row_under(rt.alloc(), 10, "x,y,kind,time", line)?,
+            row,
+            "{line}"
+        );
+    }
+    Ok(())
+}
