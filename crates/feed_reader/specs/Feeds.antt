@@ -29,13 +29,13 @@ points_in (row.Point p ∷ rest) = p ∷ points_in rest
 points_in (row.Refused f ∷ rest) = points_in rest
 
 -- the header of a feed with these bytes
-abbrev pub feed_head : Schema → List ℕ → Result (List ℕ) HeadFault
+unfoldable pub feed_head : Schema → List ℕ → Result (List ℕ) HeadFault
 feed_head schema bytes = head_of_lines schema (lines bytes)
 
 -- the meanings of its lines after the first
-abbrev pub rows : Schema → List ℕ → List Row
+unfoldable pub rows : Schema → List ℕ → List Row
 rows schema bytes = rows_under schema (feed_head schema bytes) (drop 1 (lines bytes))
 
 -- the records that a cube takes from it, in order
-abbrev pub accepted : Schema → List ℕ → List Point
+unfoldable pub accepted : Schema → List ℕ → List Point
 accepted schema bytes = points_in (rows schema bytes)

@@ -1,0 +1,7 @@
+mod Passing
+mod Points
+mod Heading
+mod Loaded
+mod Written
+mod Told
+mod Demoed

@@ -1,0 +1,14 @@
+use Rattle.std.proofs.Common.{arith, rules, ap, Ok}
+use Rattle.outer_io.specs.Lines.{Bytes}
+use Rattle.cube_main.proofs.Passing.{passes_line}
+use Rattle.cube_main.proofs.loading.next_row.Goals as goal
+
+pub returns-in_ok-row-in-Ok-Line-clause-row : goal.returns-in_ok-row-in-Ok-Line-clause-row
+returns-in_ok-row-in-Ok-Line-clause-row g c =
+    let given = c.in-Ok-Line.ensures.line _ _ (ap (λ x. Ok x) c.in-Ok-Line.field-0-is) in
+    (Bytes _, passes_line _ _ _ _ _ _ given (c.in-Ok-Line.ensures.quiet (λ e. cc)), rw (c.as_slice.ensures) at c.in_ok-row-in-Ok-Line.ensures.meaning)
+
+pub returns-in_ok-row-in-Ok-Line-clause-turn : goal.returns-in_ok-row-in-Ok-Line-clause-turn
+returns-in_ok-row-in-Ok-Line-clause-turn g c =
+    let given = c.in-Ok-Line.ensures.line _ _ (ap (λ x. Ok x) c.in-Ok-Line.field-0-is) in
+    (omega (arith, given.counts, given.given), omega (arith, given.small, given.given))

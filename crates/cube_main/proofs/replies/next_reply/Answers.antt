@@ -1,0 +1,14 @@
+use Rattle.std.proofs.Common.{arith, ap, Ok}
+use Rattle.outer_io.specs.Lines.{Bytes}
+use Rattle.cube_main.proofs.Passing.{passes_line}
+use Rattle.cube_main.proofs.replies.next_reply.Goals as goal
+
+pub returns-in-Ok-clause-reply : goal.returns-in-Ok-clause-reply
+returns-in-Ok-clause-reply g c =
+    let given = c.in-Ok-Line.ensures.line _ _ (ap (λ x. Ok x) c.in-Ok-Line.field-0-is) in
+    (Bytes _, passes_line _ _ _ _ _ _ given (c.in-Ok-Line.ensures.quiet (λ e. cc)), rw c.as_slice.ensures at c.in-Ok.ensures)
+
+pub returns-in-Ok-clause-turn : goal.returns-in-Ok-clause-turn
+returns-in-Ok-clause-turn g c =
+    let given = c.in-Ok-Line.ensures.line _ _ (ap (λ x. Ok x) c.in-Ok-Line.field-0-is) in
+    (omega (arith, given.counts, given.given), omega (arith, given.small, given.given))

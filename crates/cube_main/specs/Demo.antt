@@ -1,0 +1,20 @@
+-- The form `demo FEED SCRIPT`: a feed is loaded, and then a script is answered over its points.
+use Rattle.std.specs.Prelude.{ℕ, Bool, ◌||◌, ◌&&◌, ◌==◌, get_or, if◌then◌else◌, nat_lt, List, [], ◌∷◌, length, Option, Some, None, codes}
+use Rattle.cube_main.specs.BuiltIn.{built_in}
+use Rattle.cube_main.specs.Feeds.{is_feed_refused}
+use Rattle.cube_main.specs.Replies.{replies_to}
+use Rattle.cube_view.specs.Limits.{same_text}
+use Rattle.feed_reader.specs.Feeds.{accepted}
+use Rattle.outer_io.specs.Lines.{lines, input_limit}
+
+-- the names of the feed and the script, where the words are of this form
+abbrev pub demo_names : List (List ℕ) → Option (List ℕ × List ℕ)
+demo_names words = if (length words == 3) && same_text (get_or words 0 []) (codes "demo") then Some (get_or words 1 [], get_or words 2 []) else None
+
+-- what is written: the replies to the script's lines over the accepted records of the feed
+unfoldable pub demo_text : List ℕ → List ℕ → List ℕ
+demo_text feed script = replies_to (length (accepted built_in feed)) (lines script)
+
+-- the feed's header is refused, or the feed or the script has more than 2^30 bytes
+unfoldable pub is_refused : List ℕ → List ℕ → Bool
+is_refused feed script = is_feed_refused built_in feed || nat_lt input_limit (length script)

@@ -1,0 +1,41 @@
+//! The program. [`nanocube::nanocube`] does what the words of the command line say over a place and a sink.
+//!
+//! `main` makes both for the real files and standard output, and ends with the status that the call gives.
+//! It prints nothing by itself.
+#![tactic(auto)]
+
+mod built_in;
+mod demo;
+mod loading;
+mod nanocube;
+mod replies;
+mod status;
+#[cfg(test)]
+mod tests;
+
+use crate::nanocube::nanocube;
+use crate::status::Status;
+use outer_io::{FilePlace, NoMemory, StdSink};
+use std::env;
+use std::process::ExitCode;
+use std::rt::Env;
+
+/// The words after the program's name. A word that is not UTF-8 leaves a line of no words, which is no form.
+fn words<R: Env + AllocGlobal>(rt: &R) -> Result<Vec<String>, NoMemory> {
+    let Ok(args) = env::args(rt) else {
+        return Ok(Vec::new(rt.alloc()));
+    };
+    args.skip(1).collect(rt.alloc()).map_err(|_| NoMemory)
+}
+
+fn main(rt: HostRuntime) -> ExitCode {
+    let status = match words(&rt) {
+        Ok(words) => {
+            let mut place = FilePlace::new(rt.alloc(), &rt);
+            let mut out = StdSink::new(&rt);
+            nanocube(&rt, words.as_slice(), &mut place, &mut out)
+        }
+        Err(NoMemory) => Status::NoMemory,
+    };
+    ExitCode::from(status.code())
+}

@@ -1,0 +1,176 @@
+//! What whole runs write, over files in memory.
+use crate::nanocube::nanocube;
+use crate::status::Status;
+use outer_io::{List, MemPlace, MemSink, StillPlace, StillSink};
+use std::alloc::{AllocError, Global};
+use std::process::Abort;
+use std::test::Fail;
+
+const FEED: &str = "x,y,kind,time\n0,0,a,5\n7,7,b,12\n0,0,a,15\n";
+
+/// A list of a slice's items.
+fn list<T: Copy>(alloc: Global, items: &[T]) -> Result<List<T>, AllocError> {
+    Ok(List::from_vec(items.to_vec(alloc)?))
+}
+
+/// The words as a command line has them.
+fn words(alloc: Global, words: &[&str]) -> Result<Vec<String>, AllocError> {
+    let mut all = Vec::new(alloc);
+    for word in words {
+        all.push(String::from_str(alloc, word)?)?;
+    }
+    Ok(all)
+}
+
+/// A feed and a script over files in memory, and what they give.
+#[derive(Clone, Copy)]
+struct Case {
+    feed: &'static str,
+    script: &'static str,
+    status: Status,
+    out: &'static str,
+}
+
+/// Runs the case over files that fail at the given reads and a sink that fails at the given puts.
+fn run(
+    rt: &(impl Abort + AllocGlobal),
+    case: &Case,
+    feed_fails: &[u32],
+    script_fails: &[u32],
+    put_fails: &[u32],
+) -> Result<(), AllocError> {
+    let alloc = rt.alloc();
+    let mut place = MemPlace::new(alloc);
+    let feed = list(alloc, case.feed.as_bytes())?;
+    let script = list(alloc, case.script.as_bytes())?;
+    assert!(rt;
+        place
+            .put_file("a.csv", feed, 16, list(alloc, feed_fails)?)
+            .is_ok()
+    );
+    assert!(rt;
+        place
+            .put_file("q.txt", script, 6, list(alloc, script_fails)?)
+            .is_ok()
+    );
+    let mut out = MemSink::new(alloc, list(alloc, put_fails)?);
+    let words = words(alloc, &["demo", "a.csv", "q.txt"])?;
+    let status = nanocube(rt, words.as_slice(), &mut place, &mut out);
+    assert_eq!(rt; status, case.status, "over {}", case.script);
+    assert_eq!(rt; out.bytes(), case.out.as_bytes(), "over {}", case.script);
+    Ok(())
+}
+
+#[test]
+fn counts_the_accepted_records(rt: HostRuntime) -> Result<(), Fail> {
+    let cases = [
+        Case {
+            feed: FEED,
+            script: "count\n",
+            status: Status::Done,
+            out: "{\"rows\":[[3]],\"seen\":3}\n",
+        },
+        Case {
+            feed: "x,y,kind,time\n",
+            script: "count",
+            status: Status::Done,
+            out: "{\"rows\":[[0]],\"seen\":0}\n",
+        },
+        Case {
+            feed: FEED,
+            script: "count\nmap 1\n",
+            status: Status::Done,
+            out: "{\"rows\":[[3]],\"seen\":3}\n{\"at\":1,\"fault\":\"UnknownVerb\"}\n",
+        },
+        Case {
+            feed: "x,y,time,kind\n0,0,5,a\n8,0,1,a\n",
+            script: "count\n",
+            status: Status::Done,
+            out: "{\"rows\":[[1]],\"seen\":1}\n",
+        },
+        Case {
+            feed: "x,y,time\n0,0,5\n",
+            script: "count\n",
+            status: Status::FeedRefused,
+            out: "",
+        },
+        Case {
+            feed: "\u{FEFF}id,x,y,kind,time\r\n1,0,0,\"a\",5\r\n2,7,7,b,12\r\n3,0,0,a,15",
+            script: "count",
+            status: Status::Done,
+            out: "{\"rows\":[[3]],\"seen\":3}\n",
+        },
+    ];
+    for case in &cases {
+        run(&rt, case, &[], &[], &[])?;
+    }
+    Ok(())
+}
+
+#[test]
+fn names_the_fault_of_the_outside(rt: HostRuntime) -> Result<(), Fail> {
+    let feed_read = Case {
+        feed: FEED,
+        script: "count\n",
+        status: Status::ReadFault,
+        out: "",
+    };
+    run(&rt, &feed_read, &[3], &[], &[])?;
+    let second_put = Case {
+        feed: FEED,
+        script: "count\ncount\n",
+        status: Status::WriteFault,
+        out: "{\"rows\":[[3]],\"seen\":3}\n{\"rows\":[[3]",
+    };
+    run(&rt, &second_put, &[], &[], &[2])?;
+    let script_read = Case {
+        feed: FEED,
+        script: "count\ncount\n",
+        status: Status::ReadFault,
+        out: "{\"rows\":[[3]],\"seen\":3}\n",
+    };
+    run(&rt, &script_read, &[], &[2], &[])?;
+    Ok(())
+}
+
+#[test]
+fn refuses_words_of_no_form_and_absent_feeds(rt: HostRuntime) -> Result<(), Fail> {
+    let alloc = rt.alloc();
+    let lines: [(&[&str], Status); 4] = [
+        (&[], Status::Usage),
+        (&["big", "0"], Status::Usage),
+        (&["demo", "a"], Status::Usage),
+        (&["demo", "a.csv", "q.txt"], Status::ReadFault),
+    ];
+    for (line, status) in lines {
+        let mut place = MemPlace::new(alloc);
+        let mut out = MemSink::new(alloc, list(alloc, &[])?);
+        let line = words(alloc, line)?;
+        assert_eq!(rt;
+            nanocube(&rt, line.as_slice(), &mut place, &mut out),
+            status
+        );
+        assert_eq!(rt; out.bytes(), [].as_slice());
+    }
+    Ok(())
+}
+
+#[test]
+fn counts_over_files_that_cannot_fail(rt: HostRuntime) -> Result<(), Fail> {
+    let alloc = rt.alloc();
+    let mut place = StillPlace::new(alloc);
+    assert!(rt;
+        place
+            .put_file("a.csv", list(alloc, FEED.as_bytes())?, 7)
+            .is_ok()
+    );
+    assert!(rt; place.put_file("q.txt", list(alloc, b"count")?, 1).is_ok());
+    let mut out = StillSink::new(alloc);
+    let line = words(alloc, &["demo", "a.csv", "q.txt"])?;
+    assert_eq!(rt;
+        nanocube(&rt, line.as_slice(), &mut place, &mut out),
+        Status::Done
+    );
+    assert_eq!(rt; out.bytes(), b"{\"rows\":[[3]],\"seen\":3}\n".as_slice());
+    Ok(())
+}
