@@ -1,5 +1,5 @@
 -- What a cutter's next line tells of a header.
-use Rattle.std.proofs.Common.{◌≡◌, ℕ, Bool, false, List, [], ◌∷◌, Option, Some, None, Result, Ok, Err, is_ok, refl, ◌∙◌, ap, IfOk, IsSomeAnd, MatchOption}
+use Rattle.std.proofs.Common.{◌≡◌, ℕ, false, List, [], ◌∷◌, Option, Some, None, Result, Ok, Err, is_ok, ◌∙◌, ap, IfOk, OnOk, IsSomeAnd, MatchOption}
 use Rattle.std.specs.Bool.{⊤}
 use Rattle.cube_main.specs.Progress.{Passes}
 use Rattle.cube_main.specs.Feeds.{IsHeadRefused}
@@ -22,3 +22,8 @@ refused_first schema bytes (Some all) (Some rest) bad first = ap (λ ls. is_ok (
 -- the line that the cutter gave is refused as a header
 pub refused_line : {S : Type 0} (left : S → Option (List ℕ)) (a b : Cutter S) (schema : Schema) (bytes : List ℕ) (number : ℕ) → is_ok (head_of schema bytes) ≡ false → GivesLine left a b (Bytes bytes) number → IsHeadRefused left schema a
 refused_line left a b schema bytes number bad given = refused_first schema bytes (lines_left left a) (lines_left left b) bad given.first
+
+-- what holds at all holds where the result is `Ok`
+pub on_ok : {T E : Type 0} (r : Result T E) (P : Type 0) → P → OnOk r P
+on_ok (Ok x) P p = p
+on_ok (Err e) P p = tt

@@ -5,3 +5,4 @@ mod Loaded
 mod Written
 mod Told
 mod Demoed
+mod Ending

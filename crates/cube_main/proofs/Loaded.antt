@@ -2,13 +2,12 @@
 use Rattle.std.proofs.Common.{◌≡◌, ℕ, ◌+◌, ◌<◌, ◌≤◌, Bool, true, false, not, ◌||◌, nat_lt, List, [], ◌∷◌, ◌++◌, map, drop, length, Option, Some, None, option_map, Result, Ok, Err, is_ok, refl, sym, ◌∙◌, ap, subst, arith, zero-add, IfOk, IsSomeAnd, MatchOption}
 use Rattle.std.proofs.lemmas.Grind.{common_steps}
 use Rattle.std.specs.Bool.{⊤}
-use Rattle.cube_main.specs.Progress.{Passes, PassesAll, IsTooLarge, IsWithinLimit}
+use Rattle.cube_main.specs.Progress.{Passes, PassesAll, IsTooLarge}
 use Rattle.cube_main.specs.Feeds.{IsHeadRefused, is_feed_refused}
 use Rattle.cube_view.specs.Points.{Point}
 use Rattle.cube_view.specs.declared.schema.Schema.{Schema}
 use Rattle.feed_reader.specs.Feeds.{head_of_lines, rows_under, points_in, feed_head, rows, accepted}
 use Rattle.feed_reader.specs.Rows.{row_of_line}
-use Rattle.feed_reader.specs.declared.header.HeadFault.{HeadFault}
 use Rattle.outer_io.specs.Cutting.{Cutter, lines_left, input_size, rest_of}
 use Rattle.outer_io.specs.Lines.{Line, Bytes, Long, lines, lines_from, input_limit}
 

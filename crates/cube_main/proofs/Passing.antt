@@ -1,9 +1,9 @@
 -- A cutter's progress: none, a line, further lines, and the end.
-use Rattle.std.proofs.Common.{◌≡◌, ℕ, ◌+◌, ◌<◌, ◌≤◌, List, [], ◌∷◌, ◌++◌, length, Option, Some, None, refl, sym, ◌∙◌, ap, arith, append_assoc, IsSomeAnd, MatchOption}
+use Rattle.std.proofs.Common.{◌≡◌, ℕ, List, [], ◌∷◌, ◌++◌, Option, Some, None, refl, sym, ◌∙◌, ap, append_assoc, IsSomeAnd, MatchOption}
 use Rattle.std.specs.Bool.{⊤}
-use Rattle.cube_main.specs.Progress.{Passes, PassesAll, IsTooLarge, IsWithinLimit}
-use Rattle.outer_io.specs.Cutting.{Cutter, GivesLine, IsEnd, lines_left, input_size, rest_of}
-use Rattle.outer_io.specs.Lines.{Line, input_limit, lines_from}
+use Rattle.cube_main.specs.Progress.{Passes}
+use Rattle.outer_io.specs.Cutting.{Cutter, GivesLine, lines_left, input_size}
+use Rattle.outer_io.specs.Lines.{Line}
 
 -- what stays in an option stays
 kept : {A : Type 0} (o : Option A) → MatchOption o ⊤ (λ x. o ≡ Some x)

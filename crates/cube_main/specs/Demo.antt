@@ -1,5 +1,5 @@
 -- The form `demo FEED SCRIPT`: a feed is loaded, and then a script is answered over its points.
-use Rattle.std.specs.Prelude.{ℕ, Bool, ◌||◌, ◌&&◌, ◌==◌, get_or, if◌then◌else◌, nat_lt, List, [], ◌∷◌, length, Option, Some, None, codes}
+use Rattle.std.specs.Prelude.{ℕ, Bool, ◌||◌, ◌&&◌, ◌==◌, get_or, if◌then◌else◌, nat_lt, List, [], length, Option, Some, None, codes}
 use Rattle.cube_main.specs.BuiltIn.{built_in}
 use Rattle.cube_main.specs.Feeds.{is_feed_refused}
 use Rattle.cube_main.specs.Replies.{replies_to}

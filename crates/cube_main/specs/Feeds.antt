@@ -1,5 +1,5 @@
 -- Which feeds are loaded, and with which points.
-use Rattle.std.specs.Prelude.{◌≡◌, ℕ, Bool, not, ◌||◌, nat_lt, is_ok, List, length, Option, Some, true, false, ⊤, MatchOption}
+use Rattle.std.specs.Prelude.{◌≡◌, ℕ, Bool, not, ◌||◌, nat_lt, is_ok, List, length, Option, false, ⊤, MatchOption}
 use Rattle.cube_view.specs.declared.schema.Schema.{Schema}
 use Rattle.feed_reader.specs.Feeds.{feed_head, head_of_lines}
 use Rattle.outer_io.specs.Cutting.{Cutter, lines_left}

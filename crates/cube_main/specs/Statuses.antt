@@ -15,3 +15,7 @@ code_of FeedRefused = 7
 -- Where several hold at the end, the one with the least code is answered: a refused feed yields to each trouble
 abbrev pub IsRefusedOrEarlier : Status → Type 0
 IsRefusedOrEarlier status = (status ≡ FeedRefused) ⊎ (status ≡ NoMemory) ⊎ (status ≡ ReadFault) ⊎ (status ≡ WriteFault)
+
+-- the run went to its end, or memory was wanted
+abbrev pub IsDoneOrNoMemory : Status → Type 0
+IsDoneOrNoMemory status = (status ≡ Done) ⊎ (status ≡ NoMemory)

@@ -1,6 +1,6 @@
 //! The points of a feed.
 ghost use Rattle.std.specs.Prelude.{◌≡◌, ◌≢◌, ℕ, ◌+◌, ◌<◌, ◌≤◌, List, [], ◌∷◌, ◌++◌, map, take, length, Some, ⊤, Ok, Err, is_ok, true, false, IfOk, IfErr, OnOk, IfSome, IsErrOf, MatchOption};
-ghost use Rattle.cube_main.specs.Progress.{Passes, PassesAll, IsTooLarge};
+ghost use Rattle.cube_main.specs.Progress.{Passes, PassesAll, IsTooLarge, IsGoing};
 ghost use Rattle.feed_reader.specs.Rows.{row_of_line};
 ghost use Rattle.cube_main.specs.Feeds.{IsHeadRefused, is_feed_refused};
 ghost use Rattle.feed_reader.specs.Feeds.{points_in, head_of_lines, accepted};
@@ -42,9 +42,10 @@ fn next_row<S: Source>(
     header: &Header,
     cutter: &mut LineCutter<S>,
 ) -> Result<Option<Row>, LoadFault>
-    requires { length header.now ≡ needed_count schema.now }
+    requires complete { length header.now ≡ needed_count schema.now }
+    requires going { IsGoing cutter.old }
     ensures row { IfOk result (λ row. MatchOption row (PassesAll S.left S.faults cutter.old cutter.new []) (λ r. (line : Line) × Passes S.left S.faults cutter.old cutter.new (line ∷ []) × (r ≡ row_of_line schema.now header.now line))) }
-    ensures turn { IfOk result (λ row. IfSome row (λ _. (cutter.old.given < cutter.new.given) × (cutter.new.given ≤ input_limit))) }
+    ensures turn { IfOk result (λ row. IfSome row (λ _. (cutter.old.given < cutter.new.given) × (cutter.new.given ≤ input_limit) × IsGoing cutter.new)) }
     ensures read { IsErrOf result LoadFault.Read → Rose (S.faults cutter.old.source) (S.faults cutter.new.source) }
     ensures refused { IsErrOf result LoadFault.Refused → IsTooLarge S.left cutter.old }
     ensures quiet { (result ≢ Err LoadFault.Read) → S.faults cutter.new.source ≡ S.faults cutter.old.source }
@@ -78,7 +79,8 @@ fn read_points<S: Source>(
     header: &Header,
     cutter: &mut LineCutter<S>,
 ) -> Result<Vec<Point>, LoadFault>
-    requires { length header.now ≡ needed_count schema.now }
+    requires complete { length header.now ≡ needed_count schema.now }
+    requires going { IsGoing cutter.old }
     ensures points { IfOk result (λ points. (lines : List Line) × PassesAll S.left S.faults cutter.old cutter.new lines × (points.items ≡ points_in (map (row_of_line schema.now header.now) lines))) }
     ensures read { IsErrOf result LoadFault.Read → Rose (S.faults cutter.old.source) (S.faults cutter.new.source) }
     ensures refused { IsErrOf result LoadFault.Refused → IsTooLarge S.left cutter.old }
@@ -111,6 +113,8 @@ fn read_header<S: Source>(
     schema: &Schema,
     cutter: &mut LineCutter<S>,
 ) -> Result<Header, LoadFault>
+    requires { IsGoing cutter.old }
+    ensures going { OnOk result (IsGoing cutter.new) }
     ensures header { IfOk result (λ header. (line : Line) × Passes S.left S.faults cutter.old cutter.new (line ∷ []) × (head_of_lines schema.now (line ∷ []) ≡ Ok header)) }
     ensures complete { IfOk result (λ header. length header ≡ needed_count schema.now) }
     ensures read { IsErrOf result LoadFault.Read → Rose (S.faults cutter.old.source) (S.faults cutter.new.source) }
@@ -131,7 +135,8 @@ fn read_lines<S: Source>(
     schema: &Schema,
     cutter: &mut LineCutter<S>,
 ) -> Result<Vec<Point>, LoadFault>
-    requires { (cutter.old.taken ≡ 0) × (cutter.old.given ≡ 0) }
+    requires start { (cutter.old.taken ≡ 0) × (cutter.old.given ≡ 0) }
+    requires going { IsGoing cutter.old }
     ensures points { IfOk result (λ points. MatchOption (rest_of S.left cutter.old) ⊤ (λ feed. (is_feed_refused schema.now feed ≡ false) × (points.items ≡ accepted schema.now feed))) }
     ensures read { IsErrOf result LoadFault.Read → Rose (S.faults cutter.old.source) (S.faults cutter.new.source) }
     ensures refused { IsErrOf result LoadFault.Refused → MatchOption (rest_of S.left cutter.old) ⊤ (λ feed. is_feed_refused schema.now feed ≡ true) }

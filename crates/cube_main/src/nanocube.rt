@@ -3,6 +3,7 @@ ghost use Rattle.std.specs.Prelude.{◌≡◌, ◌≢◌, ◌↔◌, ℕ, List, 
 ghost use Rattle.cube_main.specs.BuiltIn.{built_in};
 ghost use Rattle.cube_main.specs.Demo.{demo_names, demo_text, is_refused};
 ghost use Rattle.cube_main.specs.Feeds.{is_feed_refused};
+ghost use Rattle.cube_main.specs.Statuses.{IsRefusedOrEarlier, IsDoneOrNoMemory};
 ghost use Rattle.outer_io.specs.Bytes.{Gains, GainsPart};
 ghost use Rattle.outer_io.specs.Faults.{Rose};
 ghost use Rattle.outer_io.specs.Files.{Files, file_or_empty};
@@ -45,7 +46,8 @@ pub fn nanocube<R: AllocGlobal, P: Place, O: Sink>(
     ensures read { result ≡ Status.ReadFault → Rose (P.read_faults place.old) (P.read_faults place.new) }
     ensures write { result ≡ Status.WriteFault → Rose (O.faults out.old) (O.faults out.new) }
     ensures refused { (feed script : List ℕ) (files : Files) → demo_names (map string_bytes words.now) ≡ Some (feed, script) → P.files place.old ≡ Some files → result ≡ Status.FeedRefused → is_refused (file_or_empty files feed) (file_or_empty files script) ≡ true }
-    ensures accepted { (feed script : List ℕ) (files : Files) → demo_names (map string_bytes words.now) ≡ Some (feed, script) → P.files place.old ≡ Some files → result ≡ Status.Done → is_refused (file_or_empty files feed) (file_or_empty files script) ≡ false }
+    ensures refused_or_earlier { (feed script : List ℕ) (files : Files) → demo_names (map string_bytes words.now) ≡ Some (feed, script) → P.files place.old ≡ Some files → is_refused (file_or_empty files feed) (file_or_empty files script) ≡ true → IsRefusedOrEarlier result }
+    ensures complete { (feed script : List ℕ) (files : Files) → demo_names (map string_bytes words.now) ≡ Some (feed, script) → P.files place.old ≡ Some files → is_refused (file_or_empty files feed) (file_or_empty files script) ≡ false → ¬ (Rose (P.read_faults place.old) (P.read_faults place.new)) → ¬ (Rose (O.faults out.old) (O.faults out.new)) → IsDoneOrNoMemory result }
     ensures quiet_place { result ≢ Status.ReadFault → P.read_faults place.new ≡ P.read_faults place.old }
     ensures quiet_sink { result ≢ Status.WriteFault → O.faults out.new ≡ O.faults out.old }
 

@@ -1,6 +1,6 @@
 //! The replies to the lines of a script.
 ghost use Rattle.std.specs.Prelude.{◌≡◌, ◌≢◌, ℕ, ◌<◌, ◌≤◌, ◌^◌, List, [], ◌∷◌, ◌++◌, take, length, nat_lt, true, false, string_bytes, Some, Ok, Err, ⊤, IfOk, OnOk, IfSome, IsErrOf, MatchOption};
-ghost use Rattle.cube_main.specs.Progress.{Passes, PassesAll, IsTooLarge};
+ghost use Rattle.cube_main.specs.Progress.{Passes, PassesAll, IsTooLarge, IsGoing};
 ghost use Rattle.cube_main.specs.Replies.{count_reply, reply_to, replies_to, unknown_verb};
 ghost use Rattle.cube_view.specs.Limits.{same_text};
 ghost use Rattle.outer_io.specs.Bytes.{Gains, GainsPart};
@@ -66,8 +66,9 @@ fn next_reply<S: Source>(
     n: usize,
     cutter: &mut LineCutter<S>,
 ) -> Result<Option<String>, ScriptFault>
+    requires { IsGoing cutter.old }
     ensures reply { IfOk result (λ reply. MatchOption reply (PassesAll S.left S.faults cutter.old cutter.new []) (λ text. (line : Line) × Passes S.left S.faults cutter.old cutter.new (line ∷ []) × (string_bytes text ≡ reply_to n line))) }
-    ensures turn { IfOk result (λ reply. IfSome reply (λ _. (cutter.old.given < cutter.new.given) × (cutter.new.given ≤ input_limit))) }
+    ensures turn { IfOk result (λ reply. IfSome reply (λ _. (cutter.old.given < cutter.new.given) × (cutter.new.given ≤ input_limit) × IsGoing cutter.new)) }
     ensures read { IsErrOf result ScriptFault.Read → Rose (S.faults cutter.old.source) (S.faults cutter.new.source) }
     ensures too_much { IsErrOf result ScriptFault.TooMuch → IsTooLarge S.left cutter.old × MatchOption (lines_left S.left cutter.old) ⊤ (λ all. all ≡ []) }
     ensures no_write { result ≢ Err ScriptFault.Write }
@@ -96,6 +97,7 @@ fn answer_lines<S: Source, O: Sink>(
     cutter: &mut LineCutter<S>,
     out: &mut O,
 ) -> Result<(), ScriptFault>
+    requires { IsGoing cutter.old }
     ensures all { OnOk result ((lines : List Line) × PassesAll S.left S.faults cutter.old cutter.new lines × Gains (O.held out.old) (O.held out.new) (replies_to n lines)) }
     ensures part { MatchOption (lines_left S.left cutter.old) ⊤ (λ all. GainsPart (O.held out.old) (O.held out.new) (replies_to n all)) }
     ensures read { IsErrOf result ScriptFault.Read → Rose (S.faults cutter.old.source) (S.faults cutter.new.source) }

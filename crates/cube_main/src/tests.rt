@@ -1,4 +1,6 @@
 //! What whole runs write, over files in memory.
+ghost use Rattle.std.specs.Prelude.{◌≢◌};
+
 use crate::nanocube::nanocube;
 use crate::status::Status;
 use outer_io::{List, MemPlace, MemSink, StillPlace, StillSink};
@@ -153,6 +155,19 @@ fn refuses_words_of_no_form_and_absent_feeds(rt: HostRuntime) -> Result<(), Fail
         assert_eq!(rt; out.bytes(), [].as_slice());
     }
     Ok(())
+}
+
+/// A run over files and a sink that cannot fail has no fault of the outside.
+fn run_still(
+    rt: &impl AllocGlobal,
+    line: &[String],
+    place: &mut StillPlace,
+    out: &mut StillSink,
+) -> Status
+    ensures read { result ≢ Status.ReadFault }
+    ensures write { result ≢ Status.WriteFault }
+{
+    nanocube(rt, line, place, out)
 }
 
 #[test]

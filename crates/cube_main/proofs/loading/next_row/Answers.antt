@@ -1,4 +1,4 @@
-use Rattle.std.proofs.Common.{arith, rules, ap, Ok}
+use Rattle.std.proofs.Common.{arith, ap, Ok}
 use Rattle.outer_io.specs.Lines.{Bytes}
 use Rattle.cube_main.proofs.Passing.{passes_line}
 use Rattle.cube_main.proofs.loading.next_row.Goals as goal
@@ -11,4 +11,4 @@ returns-in_ok-row-in-Ok-Line-clause-row g c =
 pub returns-in_ok-row-in-Ok-Line-clause-turn : goal.returns-in_ok-row-in-Ok-Line-clause-turn
 returns-in_ok-row-in-Ok-Line-clause-turn g c =
     let given = c.in-Ok-Line.ensures.line _ _ (ap (λ x. Ok x) c.in-Ok-Line.field-0-is) in
-    (omega (arith, given.counts, given.given), omega (arith, given.small, given.given))
+    (omega (arith, given.counts, given.given), omega (arith, given.small, given.given), given.goes_on)

@@ -1,6 +1,6 @@
 use Rattle.std.proofs.Common.{ap, Ok}
 use Rattle.cube_main.proofs.Passing.{passes_line}
-use Rattle.cube_main.proofs.Heading.{header_passed, refused_line}
+use Rattle.cube_main.proofs.Heading.{header_passed, on_ok, refused_line}
 use Rattle.cube_main.proofs.loading.read_header.Goals as goal
 
 pub returns-in-Ok-Line-clause-header : goal.returns-in-Ok-Line-clause-header
@@ -12,3 +12,8 @@ pub returns-in-Ok-Line-clause-refused : goal.returns-in-Ok-Line-clause-refused
 returns-in-Ok-Line-clause-refused g c e =
     let given = c.in-Ok-Line.ensures.line _ _ (ap (λ x. Ok x) c.in-Ok-Line.field-0-is) in
     refused_line _ _ _ c.args.schema.now _ _ (rw c.as_slice.ensures at c.header_of.ensures.refused e) given
+
+pub returns-in-Ok-Line-clause-going : goal.returns-in-Ok-Line-clause-going
+returns-in-Ok-Line-clause-going g c =
+    let given = c.in-Ok-Line.ensures.line _ _ (ap (λ x. Ok x) c.in-Ok-Line.field-0-is) in
+    on_ok c.header_of.result _ given.goes_on

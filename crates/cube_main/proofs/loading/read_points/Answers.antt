@@ -10,5 +10,6 @@ loop-points-preserved g c =
     let next = rw c.in-Some.is at c.in_ok-row.ensures.row in (
       so_far.0 ++ next.0 ∷ [],
       passes_on _ _ _ _ _ _ _ so_far.1 next.1,
-      points_of_more (row_of_line c.args.schema.now c.args.header.now) so_far.0 next.0 c.in-Some.row _ _ so_far.2 next.2 c.in_ok-keep_point.ensures,
+      (rw c.in-Some.is at c.in_ok-row.ensures.turn).2,
+      points_of_more (row_of_line c.args.schema.now c.args.header.now) so_far.0 next.0 c.in-Some.row _ _ so_far.3 next.2 c.in_ok-keep_point.ensures,
     )

@@ -11,4 +11,4 @@ returns-in-Ok-clause-reply g c =
 pub returns-in-Ok-clause-turn : goal.returns-in-Ok-clause-turn
 returns-in-Ok-clause-turn g c =
     let given = c.in-Ok-Line.ensures.line _ _ (ap (λ x. Ok x) c.in-Ok-Line.field-0-is) in
-    (omega (arith, given.counts, given.given), omega (arith, given.small, given.given))
+    (omega (arith, given.counts, given.given), omega (arith, given.small, given.given), given.goes_on)
