@@ -1,0 +1,4 @@
+pub mod Items
+pub mod Objects
+pub mod Limits
+pub mod Meanings
