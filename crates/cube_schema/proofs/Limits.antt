@@ -122,7 +122,7 @@ schema_in_limits draft ranges repeats =
     let numbers : numbers_in_range draft.depth draft.width draft.batch ≡ true = and_true _ _ (and_true _ _ r.depth r.width) r.batch in
     and_true _ _ (and_true _ _ numbers r.categories) (are_distinct draft repeats)
 
-and_parts : (a b : Bool) → (a && b) ≡ true → (a ≡ true) × (b ≡ true)
+pub and_parts : (a b : Bool) → (a && b) ≡ true → (a ≡ true) × (b ≡ true)
 and_parts true b e = (refl, e)
 and_parts false b e = absurd cc
 
@@ -130,8 +130,9 @@ and_parts false b e = absurd cc
 pub at_most : (low high n : ℕ) → is_between low high n ≡ true → n ≤ high
 at_most low high n e = let upper = (and_parts (nat_le low n) (nat_le n high) e).1 in search (rules, tests)
 
--- the draft of a plan of version 1, whose parts are the draft's
+pub version_one : (draft : Draft) → first_out_of_range draft ≡ None → draft.version ≡ 1
+version_one draft ranges = let e = (are_in_range draft ranges).version in search (rules, tests)
+
+-- a draft in its ranges has the version of every plan
 pub version_is : (draft : Draft) → first_out_of_range draft ≡ None → record draft { version = 1 } ≡ draft
-version_is draft ranges =
-    let is : draft.version ≡ 1 = let e = (are_in_range draft ranges).version in search (rules, tests) in
-    ap (λ (n : ℕ). record draft { version = n }) (sym is)
+version_is draft ranges = ap (λ (n : ℕ). record draft { version = n }) (sym (version_one draft ranges))

@@ -1,7 +1,8 @@
 -- What bytes mean, step by step.
-use Rattle.std.proofs.Common.{◌≡◌, ℕ, Bool, true, false, cond, List, length, Option, Some, None, Result, Ok, Err, refl}
+use Rattle.std.proofs.Common.{◌≤◌, ◌≡◌, ℕ, Bool, true, false, cond, List, length, Option, Some, None, Result, Ok, Err, refl}
 use Rattle.std.specs.Str.{IsUtf8, is_utf8}
 use Rattle.std.specs.Prelude.{is_some, nat_lt}
+use Rattle.std.proofs.lemmas.Bool.{le-ltb}
 use Rattle.std.proofs.lemmas.Str.{is_utf8-from_IsUtf8, IsUtf8-from_is_utf8}
 use Rattle.serde_json.specs.Data.{Data}
 use Rattle.serde_json.specs.Find.{as_object}
@@ -71,3 +72,10 @@ meaning-passes bytes draft e =
     let unknown = unless_ok Unknown (least_unknown d) _ draft missing.1 in
     let members = bind_ok (members_of d) tested draft unknown.1 in
     tested-passes members.0 draft members.1
+
+-- bytes that are not too many, are text and read as a value mean what the value does
+pub meaning-reads : (bytes : List ℕ) (d : Data) → length bytes ≤ longest_plan → IsUtf8 bytes → read bytes ≡ Some d → plan_meaning bytes ≡ value_meaning d
+unfolding plan_meaning
+meaning-reads bytes d short text reads =
+    let fits : nat_lt longest_plan (length bytes) ≡ false = le-ltb _ _ short in
+    rw (fits, json_value-some bytes d text reads) refl
