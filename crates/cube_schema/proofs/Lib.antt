@@ -5,3 +5,4 @@ pub mod Meanings
 pub mod PrintedBack
 pub mod PrintedSize
 pub mod RoundTrip
+pub mod SamePlan

@@ -1,5 +1,5 @@
 -- What bytes mean, step by step.
-use Rattle.std.proofs.Common.{◌≤◌, ◌≡◌, ℕ, Bool, true, false, cond, List, length, Option, Some, None, Result, Ok, Err, refl}
+use Rattle.std.proofs.Common.{◌≤◌, sym, ◌∙◌, ◌≡◌, ℕ, Bool, true, false, cond, List, length, Option, Some, None, Result, Ok, Err, refl}
 use Rattle.std.specs.Str.{IsUtf8, is_utf8}
 use Rattle.std.specs.Prelude.{is_some, nat_lt}
 use Rattle.std.proofs.lemmas.Bool.{le-ltb}
@@ -79,3 +79,7 @@ unfolding plan_meaning
 meaning-reads bytes d short text reads =
     let fits : nat_lt longest_plan (length bytes) ≡ false = le-ltb _ _ short in
     rw (fits, json_value-some bytes d text reads) refl
+
+-- bytes that mean two drafts mean one
+pub one_draft : (bytes : List ℕ) (a b : Draft) → plan_meaning bytes ≡ Ok a → plan_meaning bytes ≡ Ok b → a ≡ b
+one_draft bytes a b p q = same_draft a b (sym p ∙ q)

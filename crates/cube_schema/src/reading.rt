@@ -1,6 +1,7 @@
 //! The bytes of a plan, read.
 ghost use Rattle.std.specs.Prelude.{◌≡◌, ◌≢◌, Ok, Err, None, IfOk, IfErr};
 ghost use Rattle.serde_json.specs.View.{view};
+ghost use Rattle.cube_schema.specs.declared.plan.Plan.{Plan};
 ghost use Rattle.cube_schema.specs.Drafts.{draft_of};
 ghost use Rattle.cube_schema.specs.Kinds.{or_fault};
 ghost use Rattle.cube_schema.specs.Meaning.{Gives, json_value, object_meaning, value_meaning, tested, plan_meaning, IsPrintable};
@@ -109,6 +110,7 @@ fn plan_meaning(alloc: Global, bytes: &[u8]) -> Result<Draft, PlanFault>
 /// The plan that the bytes are, or the first fault.
 pub fn read_plan(alloc: Global, bytes: &[u8]) -> Result<Plan, PlanFault>
     ensures read { IfOk result (λ plan. plan_meaning bytes.now ≡ Ok (draft_of plan)) }
+    ensures only { IfOk result (λ plan. (other : Plan) → plan_meaning bytes.now ≡ Ok (draft_of other) → plan ≡ other) }
     ensures refused { IfErr result (λ fault. fault ≢ PlanFault.NoMemory → plan_meaning bytes.now ≡ Err fault) }
     ensures printable { IfOk result IsPrintable }
 {
