@@ -1,0 +1,70 @@
+-- The kinds of a plan's members, and what a value of the right kind is read as.
+use Rattle.std.specs.Prelude.{ℕ, Bool, true, false, List, [], ◌∷◌, codes, length, ◌==◌, Option, Some, None, option_map, option_and_then, Result, Ok, Err}
+use Rattle.serde_json.specs.Data.{Data, Items, no_items, item}
+use Rattle.serde_json.specs.Find.{get, as_number, as_str, as_array, as_u64}
+use Rattle.cube_view.specs.declared.category.Category.{Category}
+use Rattle.cube_schema.specs.declared.draft.Draft.{Draft}
+use Rattle.cube_schema.specs.declared.member.Member.{Member}
+use Rattle.cube_schema.specs.declared.member.Member.TheVariants.{Asks, Batch, Categories, Depth, Feeds, Finals, Journal, Start, Version, Width}
+use Rattle.cube_schema.specs.declared.fault.PlanFault.{PlanFault}
+use Rattle.cube_schema.specs.declared.fault.PlanFault.TheVariants.{BadKind}
+use Rattle.cube_schema.specs.Members.{name_of, names_of}
+
+-- a whole number: a JSON number that `serde_json` gives as a u64
+abbrev pub whole_number : Data → Option ℕ
+whole_number d = option_and_then as_u64 (as_number d)
+
+-- the items of an array, each read as the kind; none where one of them is of another
+abbrev pub items_as : {A : Type 0} → (Data → Option A) → Items → Option (List A)
+items_as kind no_items = Some []
+items_as kind (item d ds) = option_and_then (λ first. option_map (λ others. first ∷ others) (items_as kind ds)) (kind d)
+
+-- an array of texts
+abbrev pub texts : Data → Option (List (List ℕ))
+texts d = option_and_then (items_as as_str) (as_array d)
+
+-- the category that these parts make, where the object has two members in all
+abbrev pub category_if : Bool → List ℕ → List (List ℕ) → Option Category
+category_if true name values = Some (record { name = name; values = values })
+category_if false name values = None
+
+-- a category: an object with the two members `name`, a text, and `values`, an array of texts
+abbrev pub category_of : Data → Option Category
+category_of d =
+    option_and_then (λ name. option_and_then (category_if (length (names_of d) == 2) name)
+    (option_and_then texts (get (codes "values") d))) (option_and_then as_str (get (codes "name") d))
+
+-- an array of categories
+abbrev pub categories : Data → Option (List Category)
+categories d = option_and_then (items_as category_of) (as_array d)
+
+-- what was found, or else the fault
+abbrev pub or_fault : {A : Type 0} → PlanFault → Option A → Result A PlanFault
+or_fault fault None = Err fault
+or_fault fault (Some a) = Ok a
+
+-- the member of the object, read as its kind
+abbrev pub member_as : {A : Type 0} → (Data → Option A) → Data → Member → Result A PlanFault
+member_as kind d m = or_fault (BadKind m) (option_and_then kind (get (name_of m) d))
+
+infixl 10 ◌>>=◌
+-- what comes of the next step, or the fault of this one
+abbrev pub ◌>>=◌ : {A B : Type 0} → Result A PlanFault → (A → Result B PlanFault) → Result B PlanFault
+(Ok a) >>= next = next a
+(Err f) >>= next = Err f
+
+-- The members of a plan, each read as its kind. They are read in the byte order of their names, so the
+-- fault names the first one of the wrong kind.
+unfoldable pub members_of : Data → Result Draft PlanFault
+members_of d = do
+  asks ← member_as texts d Asks
+  batch ← member_as whole_number d Batch
+  categories ← member_as categories d Categories
+  depth ← member_as whole_number d Depth
+  feeds ← member_as texts d Feeds
+  finals ← member_as texts d Finals
+  journal ← member_as as_str d Journal
+  start ← member_as whole_number d Start
+  version ← member_as whole_number d Version
+  width ← member_as whole_number d Width
+  Ok (record { asks = asks; batch = batch; categories = categories; depth = depth; feeds = feeds; finals = finals; journal = journal; start = start; version = version; width = width })

@@ -1,0 +1,37 @@
+-- The ranges of a plan's members.
+use Rattle.std.specs.Prelude.{ℕ, Bool, true, ◌&&◌, ◌||◌, not, ◌==◌, nat_le, List, length, slice_index, find, Option}
+use Rattle.std.specs.List.{list_all}
+use Rattle.cube_view.specs.Limits.{is_between, categories_in_range}
+use Rattle.cube_schema.specs.declared.draft.Draft.{Draft}
+use Rattle.cube_schema.specs.declared.member.Member.{Member}
+use Rattle.cube_schema.specs.declared.member.Member.TheVariants.{Asks, Batch, Categories, Depth, Feeds, Finals, Journal, Start, Version, Width}
+use Rattle.cube_schema.specs.Members.{plan_members}
+
+-- a letter, a digit, a dot, an underscore or a hyphen
+abbrev pub is_file_byte : ℕ → Bool
+is_file_byte b = is_between 65 90 b || is_between 97 122 b || is_between 48 57 b || (b == 46) || (b == 95) || (b == 45)
+
+-- a file name in a plan: 1 to 64 such characters, of which the first is no dot
+abbrev pub is_file_name : List ℕ → Bool
+is_file_name name = is_between 1 64 (length name) && list_all is_file_byte name && not (slice_index name 0 == 46)
+
+-- from so many to 8 file names
+abbrev pub are_files : ℕ → List (List ℕ) → Bool
+are_files least names = is_between least 8 (length names) && list_all is_file_name names
+
+-- the member is within its range; a category's name, number of values and values count for `categories`
+abbrev pub in_range : Draft → Member → Bool
+in_range draft Asks = are_files 0 draft.asks
+in_range draft Batch = is_between 1 65536 draft.batch
+in_range draft Categories = categories_in_range draft.categories
+in_range draft Depth = is_between 1 20 draft.depth
+in_range draft Feeds = are_files 1 draft.feeds
+in_range draft Finals = are_files 0 draft.finals
+in_range draft Journal = is_file_name draft.journal
+in_range draft Start = true
+in_range draft Version = draft.version == 1
+in_range draft Width = nat_le 1 draft.width
+
+-- the first member that is out of its range
+unfoldable pub first_out_of_range : Draft → Option Member
+first_out_of_range draft = find (λ m. not (in_range draft m)) plan_members

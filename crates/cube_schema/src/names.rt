@@ -1,0 +1,38 @@
+//! Which members an object has.
+ghost use Rattle.std.specs.Prelude.{◌≡◌, option_map};
+ghost use Rattle.serde_json.specs.View.{view};
+ghost use Rattle.cube_schema.specs.Members.{is_plan_name, first_missing, least_unknown};
+
+use crate::Member;
+use crate::member::MEMBERS;
+use crate::texts::same_text;
+use serde_json::Value;
+
+/// The first member of a plan that the object lacks.
+pub(crate) fn first_missing(value: &Value) -> Option<Member>
+    ensures { result ≡ first_missing (view value.now) }
+{
+    MEMBERS
+        .iter()
+        .copied()
+        .find(|member| value.get(member.name()).is_none())
+}
+
+fn is_plan_name(text: &str) -> bool
+    ensures { result ≡ is_plan_name text.now }
+{
+    MEMBERS.iter().any(|member| same_text(member.name(), text))
+}
+
+/// The least name of a member of the object that is none of a plan's.
+pub(crate) fn least_unknown(value: &Value) -> Option<&str>
+    ensures { option_map (λ name. name.now) result ≡ least_unknown (view value.now) }
+{
+    let members = value.as_object()?;
+    for name in members.keys() {
+        if !is_plan_name(name.as_str()) {
+            return Some(name.as_str());
+        }
+    }
+    None
+}

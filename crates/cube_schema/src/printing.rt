@@ -1,0 +1,77 @@
+//! A plan as text.
+ghost use Rattle.std.specs.Prelude.{◌≡◌, ◌<◌, ◌^◌, Ok, None, IfOk, OnOk};
+ghost use Rattle.serde_json.specs.View.{view};
+ghost use Rattle.cube_schema.specs.Drafts.{draft_of};
+ghost use Rattle.cube_schema.specs.Meaning.{plan_meaning, IsPrintable};
+ghost use Rattle.cube_schema.specs.Printed.{texts_value, category_value, categories_value, draft_value, plan_text};
+
+use crate::Plan;
+use cube_view::Category;
+use outer_io::{List, NoMemory, Text};
+use serde_json::{Value, json};
+use std::alloc::{AllocError, Global};
+
+fn texts_value(alloc: Global, texts: &[Text]) -> Result<Value, AllocError>
+    ensures { IfOk result (λ value. view value ≡ texts_value texts.now) }
+{
+    let mut items = Vec::new(alloc);
+    for text in texts {
+        items.push(Value::try_from_str(alloc, text.as_str())?)?;
+    }
+    Ok(Value::Array(items))
+}
+
+fn category_value(alloc: Global, category: &Category) -> Result<Value, AllocError>
+    ensures { IfOk result (λ value. view value ≡ category_value category.now) }
+{
+    let values = texts_value(alloc, category.values.as_slice())?;
+    json!(in alloc; {"name": category.name.as_str(), "values": values})
+}
+
+fn categories_value(alloc: Global, categories: &[Category]) -> Result<Value, AllocError>
+    ensures { IfOk result (λ value. view value ≡ categories_value categories.now) }
+{
+    let mut items = Vec::new(alloc);
+    for category in categories {
+        items.push(category_value(alloc, category)?)?;
+    }
+    Ok(Value::Array(items))
+}
+
+#[tactic(auto, unfolding(crate::specs::Printed::draft_value))]
+fn plan_value(alloc: Global, plan: &Plan) -> Result<Value, AllocError>
+    ensures value { IfOk result (λ value. view value ≡ draft_value (draft_of plan.now)) }
+    ensures small { OnOk result ((plan.now.schema.start < 2 ^ 64) × (plan.now.schema.width < 2 ^ 64)) }
+{
+    let asks = texts_value(alloc, plan.asks.as_slice())?;
+    let categories = categories_value(alloc, plan.schema.categories.as_slice())?;
+    let feeds = texts_value(alloc, plan.feeds.as_slice())?;
+    let finals = texts_value(alloc, plan.finals.as_slice())?;
+    json!(in alloc; {
+        "asks": asks,
+        "batch": plan.schema.batch,
+        "categories": categories,
+        "depth": plan.schema.depth,
+        "feeds": feeds,
+        "finals": finals,
+        "journal": plan.journal.as_str(),
+        "start": plan.schema.start,
+        "version": 1u8,
+        "width": plan.schema.width
+    })
+}
+
+/// The text of a plan, as [`crate::read_plan`] reads it.
+pub fn print_plan(alloc: Global, plan: &Plan) -> Result<List<u8>, NoMemory>
+    requires { IsPrintable plan.now }
+    ensures text { IfOk result (λ bytes. bytes ≡ plan_text plan.now) }
+    ensures read_back { IfOk result (λ bytes. plan_meaning bytes ≡ Ok (draft_of plan.now)) }
+{
+    let Ok(value) = plan_value(alloc, plan) else {
+        return Err(NoMemory);
+    };
+    match value.to_vec(alloc) {
+        Ok(bytes) => Ok(List::from_vec(bytes)),
+        Err(_) => Err(NoMemory),
+    }
+}
