@@ -1,0 +1,5 @@
+pub mod Counting
+pub mod Edits
+pub mod Searching
+pub mod Sharing
+pub mod Viewed
