@@ -1,5 +1,6 @@
 -- The numbers of an arena's slots and links.
-use Rattle.std.specs.Prelude.{◌≡◌, ℕ, ◌+◌, Bool, true, false, not, List, [], ◌∷◌, sum_by, count_by, Option, Some, None, All}
+use Rattle.std.specs.Prelude.{◌≡◌, ℕ, ◌+◌, Bool, true, false, not, List, sum_by, count_by, if◌then◌else◌, min, ◌-◌, ◌^◌, Option, Some, None, All}
+use Rattle.cube_view.specs.declared.stat.Stat.{Stat}
 use Rattle.node_arena.specs.declared.link.Link.{Link}
 use Rattle.node_arena.specs.declared.link.LinkKind.{LinkKind}
 use Rattle.node_arena.specs.declared.link.LinkKind.TheVariants.{Proper, Shared}
@@ -27,7 +28,7 @@ children_that p children = count_by (λ (k : ℕ × Link). p k.1) children
 -- 1 if there is a content link that passes a test
 abbrev pub content_that : (Link → Bool) → Option Link → ℕ
 content_that p None = 0
-content_that p (Some l) = count_by p (l ∷ [])
+content_that p (Some l) = if p l then 1 else 0
 
 -- how many links of the slot pass a test
 abbrev pub links_that : (Link → Bool) → Slot → ℕ
@@ -52,6 +53,14 @@ shared_count slots = sum_by (links_that is_shared) slots
 -- the children of each slot stand in rising order of label
 abbrev pub AllRising : List Slot → Type 0
 AllRising slots = All (λ s. IsRising (children_of s)) slots
+
+-- a count of 64 bits, which stands still at its end
+abbrev pub capped : ℕ → ℕ
+capped n = min n (2 ^ 64 - 1)
+
+-- the numbers of an arena. There are fewer than 2 ^ 64 slots.
+abbrev pub stat_of : List Slot → Stat
+stat_of slots = record { nodes = node_count slots; tables = table_count slots; proper = capped (proper_count slots); shared = capped (shared_count slots) }
 
 -- in a shape every slot but the root has its one proper link
 abbrev pub TellsLinks : Type 0

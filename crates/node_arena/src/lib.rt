@@ -7,8 +7,10 @@
 
 mod arena;
 mod children;
+mod laws;
 mod link;
 mod slot;
 
 pub use arena::Arena;
+pub use laws::shape_laws;
 pub use link::{Link, LinkKind, SlotId};
