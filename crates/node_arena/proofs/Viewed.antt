@@ -13,3 +13,7 @@ map-slot_from-set items slots i old new change view less read changed =
 
 pub map-slot_from-take : (items : List Stored) (slots : List Slot) (n : ℕ) → map slot_from items ≡ slots → map slot_from (take n items) ≡ take n slots
 map-slot_from-take items slots n view = sym (take-map slot_from n items) ∙ ap (take n) view
+
+-- the slot that is read at i
+pub slot_from-read : (items : List Stored) (slots : List Slot) (i : ℕ) (x : Stored) → map slot_from items ≡ slots → i < length slots → x ≡ get_or items i x → slot_from x ≡ slot_of slots i
+slot_from-read items slots i x view less read = ap slot_from read ∙ (sym (get_or-map slot_from items i x empty_node (omega (arith, length-map items slot_from, ap length view))) ∙ ap (λ ys. slot_of ys i) view)

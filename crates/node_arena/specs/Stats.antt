@@ -58,9 +58,17 @@ AllRising slots = All (λ s. IsRising (children_of s)) slots
 abbrev pub capped : ℕ → ℕ
 capped n = min n (2 ^ 64 - 1)
 
--- the numbers of an arena. There are fewer than 2 ^ 64 slots.
+-- the numbers of an arena, as far as 64 bits count
 abbrev pub stat_of : List Slot → Stat
-stat_of slots = record { nodes = node_count slots; tables = table_count slots; proper = capped (proper_count slots); shared = capped (shared_count slots) }
+stat_of slots = record { nodes = capped (node_count slots); tables = capped (table_count slots); proper = capped (proper_count slots); shared = capped (shared_count slots) }
+
+-- the numbers with those of one slot more
+abbrev pub with_slot : Stat → Slot → Stat
+with_slot stat s = record { nodes = capped (stat.nodes + (if is_table s then 0 else 1)); tables = capped (stat.tables + (if is_table s then 1 else 0)); proper = capped (stat.proper + links_that is_proper s); shared = capped (stat.shared + links_that is_shared s) }
+
+-- in a shape the numbers of nodes and tables together are one more than that of proper links
+abbrev pub TellsStat : List Slot → Stat → Type 0
+TellsStat slots stat = (dims : ℕ) (homes : List Walk) (h : List SpotPath) → IsShaped dims slots homes h → stat.nodes + stat.tables ≡ stat.proper + 1
 
 -- in a shape every slot but the root has its one proper link
 abbrev pub TellsLinks : Type 0

@@ -5,11 +5,13 @@ ghost use Rattle.probe_core.specs.Bits.{bits};
 ghost use Rattle.time_table.specs.Counts.{AllCounted, total_count};
 ghost use Rattle.node_arena.specs.Walks.{down, across};
 ghost use Rattle.node_arena.specs.Slots.{id_of, IsNode, IsTable, IsRising, slot_of, children_of, counts_of, link_of};
+ghost use Rattle.node_arena.specs.Stats.{stat_of, AllRising, TellsStat};
 ghost use Rattle.node_arena.specs.Calls.{added, add_node, add_table, copy_slot, put_child, set_child, drop_child, set_content, table_add, table_take, child_from, only_link};
 
 use crate::children::Children;
 use crate::link::{Link, SlotId};
 use crate::slot::Stored;
+use cube_view::Stat;
 use outer_io::NoMemory;
 use probe_core::Steps;
 use std::alloc::Global;
@@ -63,6 +65,25 @@ impl Arena {
         ensures { IsTrue result ↔ (self.now ≡ []) }
     {
         self.slots.is_empty()
+    }
+
+    /// How many nodes and time tables there are, and how many proper and shared links. In the shape of a
+    /// cube every slot but the root has one proper link.
+    pub fn stat(&self) -> Stat
+        ensures numbers { result ≡ stat_of self.now }
+        ensures in_order { AllRising self.now }
+        ensures links { TellsStat self.now result }
+    {
+        let mut stat = Stat {
+            nodes: 0,
+            tables: 0,
+            proper: 0,
+            shared: 0,
+        };
+        for i in 0..self.slots.len() {
+            stat = self.slots[i].counted_with(stat);
+        }
+        stat
     }
 
     /// Adds an empty node. For want of memory the slots are as before.

@@ -4,7 +4,7 @@ ghost use Rattle.probe_core.specs.Bits.{bits};
 ghost use Rattle.node_arena.specs.Slots.{Children as Listed, IsRising, child};
 ghost use Rattle.node_arena.specs.Calls.{with_child, with_link, without_child, child_from, only_link, share_all};
 ghost use Rattle.node_arena.specs.Places.{IsPlace};
-ghost use Rattle.node_arena.specs.Stats.{children_that, is_proper};
+ghost use Rattle.node_arena.specs.Stats.{children_that, is_proper, is_shared};
 
 use crate::link::{Link, LinkKind};
 use outer_io::NoMemory;
@@ -155,7 +155,7 @@ impl Children {
     }
 
     /// How many of the links are proper.
-    pub fn proper_count(&self) -> usize
+    fn proper_count(&self) -> usize
         ensures count { result ≡ children_that is_proper self.now }
         ensures within { result ≤ length self.now }
         ensures in_order { IsRising self.now }
@@ -167,6 +167,16 @@ impl Children {
             }
         }
         count
+    }
+
+    /// How many of the links are proper, and how many are shared.
+    pub fn link_counts(&self) -> (usize, usize)
+        ensures proper { result.0 ≡ children_that is_proper self.now }
+        ensures shared { result.1 ≡ children_that is_shared self.now }
+        ensures in_order { IsRising self.now }
+    {
+        let proper = self.proper_count();
+        (proper, self.len() - proper)
     }
 
     /// The place of a label, where nobody counts the steps.

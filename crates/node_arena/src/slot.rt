@@ -6,10 +6,12 @@ ghost use Rattle.time_table.specs.Counts.{AllCounted, total_count};
 ghost use Rattle.node_arena.specs.Walks.{down, across};
 ghost use Rattle.node_arena.specs.Slots.{IsNode, IsTable, IsRising, children_of, counts_of, link as link_at};
 ghost use Rattle.node_arena.specs.Calls.{put, relink, unlink, with_content, with_one, without_one, copied, child_from, only_link};
+ghost use Rattle.node_arena.specs.Stats.{content_that, is_proper, is_shared, capped, with_slot};
 ghost use Rattle.node_arena.specs.Stored.{slot_from};
 
 use crate::children::Children;
 use crate::link::Link;
+use cube_view::Stat;
 use outer_io::NoMemory;
 use probe_core::Steps;
 use std::alloc::Global;
@@ -179,4 +181,46 @@ impl Stored {
             Stored::Table(_) => unreachable!(),
         }
     }
+
+    /// The numbers of nodes, time tables and links with those of this slot.
+    pub fn counted_with(&self, stat: Stat) -> Stat
+        ensures numbers { result ≡ with_slot stat (slot_from self.now) }
+        ensures in_order { IsRising (children_of (slot_from self.now)) }
+    {
+        match self {
+            Stored::Node(children, content) => {
+                let (proper, shared) = children.link_counts();
+                let (more_proper, more_shared) = content_counts(content);
+                Stat {
+                    nodes: stat.nodes.saturating_add(1),
+                    tables: stat.tables,
+                    proper: add_capped(stat.proper, proper as u64, more_proper),
+                    shared: add_capped(stat.shared, shared as u64, more_shared),
+                }
+            }
+            Stored::Table(_) => Stat {
+                tables: stat.tables.saturating_add(1),
+                ..stat
+            },
+        }
+    }
+}
+
+/// How many of the links to a content are proper, and how many are shared.
+fn content_counts(content: &Option<Link>) -> (u64, u64)
+    ensures proper { result.0 ≡ content_that is_proper content.now }
+    ensures shared { result.1 ≡ content_that is_shared content.now }
+{
+    match content {
+        Some(link) if link.is_proper() => (1, 0),
+        Some(_) => (0, 1),
+        None => (0, 0),
+    }
+}
+
+/// A sum of three counts, as far as 64 bits count.
+fn add_capped(a: u64, b: u64, c: u64) -> u64
+    ensures { result ≡ capped (a + (b + c)) }
+{
+    a.saturating_add(b).saturating_add(c)
 }
