@@ -9,5 +9,4 @@ pub fn shape_laws()
     ensures walks { TellsWalks }
     ensures weights { TellsWeights }
     ensures links { TellsLinks }
-{
-}
+{}
