@@ -5,6 +5,8 @@
 #![tactic(auto)]
 
 mod change;
+#[cfg(test)]
+mod tests;
 mod work;
 
 pub use work::Work;
