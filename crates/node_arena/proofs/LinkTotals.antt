@@ -1,11 +1,11 @@
 -- In a shape one proper link leads to each slot but the root.
-use Rattle.std.proofs.Common.{◌≡◌, ℕ, zero, suc, ◌+◌, ◌<◌, ◌≤◌, Bool, true, false, cond, not, ◌&&◌, eqb, ◌⊎◌, inl, inr, List, [], ◌∷◌, Option, Some, None, sum_by, count_by, All, length, get_or, refl, sym, ap, ◌∙◌, subst, arith, ap₂, eqb-true, eq-eqb, ne_eqb, true≢false}
+use Rattle.std.proofs.Common.{◌≡◌, ℕ, zero, suc, ◌+◌, ◌<◌, ◌≤◌, Bool, true, false, cond, not, ◌&&◌, eqb, ◌⊎◌, inl, inr, List, [], ◌∷◌, Option, Some, None, sum_by, length, get_or, refl, sym, ap, ◌∙◌, subst, arith, ap₂, eqb-true, eq-eqb, ne_eqb, true≢false}
 use Rattle.std.proofs.lemmas.List.Sums.{sum_by-cons}
 use Rattle.std.proofs.lemmas.Bool.{cases_eq, cases_lt}
 use Rattle.node_arena.specs.declared.link.Link.{Link}
-use Rattle.node_arena.specs.Walks.{Step, down, across, Walk, SpotPath}
-use Rattle.node_arena.specs.Slots.{proper, shared, target, Children, IsRising, Slot, node, table, empty_node, is_table, children_of, content_of, child, link, slot_of, link_of}
-use Rattle.node_arena.specs.Shape.{home_of, HasHomes, IsShaped}
+use Rattle.node_arena.specs.Walks.{Step, down, across, Walk}
+use Rattle.node_arena.specs.Slots.{proper, shared, target, Children, IsRising, Slot, node, table, empty_node, is_table, children_of, child, link, slot_of, link_of}
+use Rattle.node_arena.specs.Shape.{home_of, HasHomes}
 use Rattle.node_arena.specs.Stats.{is_proper, children_that, content_that, links_that, node_count, table_count, proper_count, AllRising, TellsLinks}
 use Rattle.node_arena.proofs.Linked.{link_cases, linked-lt}
 use Rattle.node_arena.proofs.Reaching.{target-lt}

@@ -2,9 +2,9 @@
 use Rattle.std.proofs.Common.{◌≡◌, ℕ, zero, suc, ◌+◌, ◌<◌, true, false, List, [], ◌∷◌, Option, Some, None, Contains, length, refl, sym, ap, ◌∙◌, subst, arith, inl, inr, ◌⊎◌}
 use Rattle.node_arena.specs.declared.link.Link.{Link}
 use Rattle.node_arena.specs.Walks.{Step, down, across, Walk, SpotPath, Under, count_under, top, IsCoarser, dimension, HasSpot}
-use Rattle.node_arena.specs.Slots.{proper, shared, target, Slot, is_table, IsTable, link_of, slot_of, count, reached, follow, walk_end}
+use Rattle.node_arena.specs.Slots.{proper, shared, target, Slot, is_table, link_of, slot_of, count, reached, follow, walk_end}
 use Rattle.node_arena.specs.Shape.{home_of, HasHomes, IsShaped}
-use Rattle.node_arena.specs.Reach.{IsReached, IsWalked, down_all, whole_from, whole_of, whole, count_at, weight_at, TellsWalks, TellsWeights}
+use Rattle.node_arena.specs.Reach.{IsWalked, down_all, whole_from, whole_of, whole, count_at, weight_at, TellsWalks, TellsWeights}
 use Rattle.node_arena.proofs.Walking.{finer-refl, finer-step, finer-trans, coarser_under, step_across_finer, under_before, count_along, count-none, dimension-finer}
 use Rattle.node_arena.proofs.Linked.{linked-lt, link_cases}
 

@@ -1,5 +1,5 @@
 -- What finer walks say of the spots under them.
-use Rattle.std.proofs.Common.{◌≡◌, ℕ, zero, suc, ◌+◌, ◌<◌, Bool, true, false, cond, ◌&&◌, eqb, ◌⊎◌, inl, inr, List, [], ◌∷◌, Option, Some, None, is_some, count_by, Contains, length, get_or, refl, sym, ap, ◌∙◌, subst, arith, true≢false, ap₂, eqb-true}
+use Rattle.std.proofs.Common.{◌≡◌, ℕ, zero, suc, ◌+◌, Bool, true, false, cond, ◌&&◌, eqb, ◌⊎◌, inl, inr, List, [], ◌∷◌, Option, Some, None, is_some, count_by, Contains, refl, sym, ap, ◌∙◌, arith, true≢false, ap₂}
 use Rattle.std.proofs.lemmas.List.Sums.{sum_by-cons}
 use Rattle.node_arena.specs.Walks.{Step, down, across, Walk, SpotPath, Cursor, after_down, after_across, after_step, then_step, cursor, under, Under, count_under, Finer, top, by_down, by_across, longer, dimension, HasSpot}
 

@@ -10,6 +10,8 @@ mod children;
 mod laws;
 mod link;
 mod slot;
+#[cfg(test)]
+mod tests;
 
 pub use arena::Arena;
 pub use laws::shape_laws;

@@ -1,4 +1,4 @@
-use Rattle.std.proofs.Common.{◌≡◌, ◌<◌, ◌^◌, ℕ, List, [], ◌∷◌, Some, None, length, map, sum, refl, sym, ap, ap₂, ◌∙◌, subst, subst₂, arith, IsSome, is_some}
+use Rattle.std.proofs.Common.{◌≡◌, ◌<◌, ◌^◌, ℕ, List, [], ◌∷◌, Some, None, length, map, sum, refl, sym, ap, ap₂, ◌∙◌, subst, subst₂, arith, IsSome}
 use Rattle.std.specs.FinMap as fin
 use Rattle.std.specs.Ordering.{nat_cmp}
 use Rattle.std.proofs.lemmas.List.{nil_from_length}
@@ -7,7 +7,7 @@ use Rattle.node_arena.specs.declared.link.SlotId.{SlotId}
 use Rattle.node_arena.specs.declared.link.Link.{Link}
 use Rattle.node_arena.specs.declared.link.LinkKind.TheVariants.{Proper}
 use Rattle.node_arena.specs.Walks.{down}
-use Rattle.node_arena.specs.Slots.{id_of, empty_node, slot_of, link_of, counts_of, is_table, IsNode, IsTable}
+use Rattle.node_arena.specs.Slots.{id_of, empty_node, slot_of, link_of, counts_of, IsNode, IsTable}
 use Rattle.node_arena.specs.Calls.{add_node, add_table, copy_slot, put_child, set_child, set_content}
 use Rattle.arena_undo.specs.Worked.{Worked, begun, changed}
 use Rattle.arena_undo.proofs.tests.change_by_each_call.Goals as goal

@@ -1,6 +1,6 @@
-use Rattle.std.proofs.Common.{List, sym, ap, ◌∙◌, subst}
+use Rattle.std.proofs.Common.{List}
 use Rattle.std.specs.FinMap.{empty}
-use Rattle.node_arena.specs.Slots.{Slot, table, empty_node, slot_of, counts_of, link_of}
+use Rattle.node_arena.specs.Slots.{Slot, table}
 use Rattle.node_arena.specs.Calls.{add_table}
 use Rattle.arena_undo.proofs.Backward.{added_back, added_there}
 use Rattle.arena_undo.proofs.Trails.{step_made}

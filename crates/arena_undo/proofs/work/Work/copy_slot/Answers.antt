@@ -1,5 +1,5 @@
-use Rattle.std.proofs.Common.{List, sym, ap, ◌∙◌, subst}
-use Rattle.node_arena.specs.Slots.{Slot, table, empty_node, slot_of, counts_of, link_of}
+use Rattle.std.proofs.Common.{List}
+use Rattle.node_arena.specs.Slots.{Slot}
 use Rattle.node_arena.specs.Calls.{copy_slot}
 use Rattle.arena_undo.proofs.Backward.{added_back, added_there}
 use Rattle.arena_undo.proofs.Trails.{step_made}

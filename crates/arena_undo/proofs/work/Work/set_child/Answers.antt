@@ -1,7 +1,7 @@
-use Rattle.std.proofs.Common.{List, sym, ap, ◌∙◌, subst}
+use Rattle.std.proofs.Common.{List, sym, ap, ◌∙◌}
 use Rattle.node_arena.specs.Walks.{down}
 use Rattle.arena_undo.specs.Worked.{Worked}
-use Rattle.node_arena.specs.Slots.{Slot, table, empty_node, slot_of, counts_of, link_of}
+use Rattle.node_arena.specs.Slots.{Slot, link_of}
 use Rattle.node_arena.specs.Calls.{set_child}
 use Rattle.arena_undo.proofs.Backward.{relinked_back, relinked_there}
 use Rattle.arena_undo.proofs.Trails.{step_made}

@@ -1,7 +1,7 @@
-use Rattle.std.proofs.Common.{List, sym, ap, ◌∙◌, subst}
+use Rattle.std.proofs.Common.{List, subst}
 use Rattle.time_table.specs.Counts.{AllCounted}
 use Rattle.arena_undo.specs.Worked.{Worked}
-use Rattle.node_arena.specs.Slots.{Slot, table, empty_node, slot_of, counts_of, link_of}
+use Rattle.node_arena.specs.Slots.{Slot, slot_of, counts_of}
 use Rattle.node_arena.specs.Calls.{table_add}
 use Rattle.arena_undo.proofs.Backward.{counted_back, counted_there}
 use Rattle.arena_undo.proofs.Trails.{step_made}
