@@ -50,6 +50,7 @@ impl TimeTable {
         requires { total_count self.old < 2 ^ 63 }
         ensures added { OnOk result (self.new ≡ add_one self.old bin) }
         ensures unchanged { OnErr result (self.new ≡ self.old) }
+        ensures was_counted { AllCounted self.old }
         ensures counted { AllCounted self.new }
     {
         add_record::<Brand>(&mut self.rows, bin, Blank::new(1))

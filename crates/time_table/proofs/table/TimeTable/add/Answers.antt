@@ -1,5 +1,5 @@
 use Rattle.std.proofs.Common.{◌<◌, ◌^◌, subst, ap, ◌∙◌, sym}
-use Rattle.time_table.specs.Counts.{Counts, total_count}
+use Rattle.time_table.specs.Counts.{Counts, AllCounted, total_count}
 use Rattle.time_table.proofs.Counted.{total_count-counts, AllCounted-counts}
 use Rattle.time_table.proofs.table.TimeTable.add.Goals as goal
 
@@ -9,3 +9,6 @@ add_record-requires-clause-fits c =
 
 pub returns-clause-counted : goal.returns-clause-counted
 returns-clause-counted c = AllCounted-counts c.add_record.new.rows.items c.add_record.ensures.rise
+
+pub returns-clause-was_counted : goal.returns-clause-was_counted
+returns-clause-was_counted c = subst AllCounted c.self.view_is (AllCounted-counts c.self.inside.rows.items c.self.invariant)

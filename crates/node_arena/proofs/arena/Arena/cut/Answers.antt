@@ -1,0 +1,7 @@
+use Rattle.std.proofs.Common.{ap, ◌∙◌, map}
+use Rattle.node_arena.specs.Stored.{slot_from}
+use Rattle.node_arena.proofs.Viewed.{map-slot_from-take}
+use Rattle.node_arena.proofs.arena.Arena.cut.Goals as goal
+
+pub returns : goal.returns
+returns c = ap (map slot_from) c.truncate.ensures.items ∙ map-slot_from-take c.self.inside.slots.items c.args.self.now c.args.len c.self.view_is

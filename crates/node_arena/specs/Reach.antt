@@ -1,0 +1,69 @@
+-- The shape in the words of walks from the root, as laws; and what a cube counts.
+use Rattle.std.specs.Prelude.{◌≡◌, ℕ, suc, ◌<◌, List, [], ◌∷◌, length, Option, Some, None, Contains}
+use Rattle.node_arena.specs.Walks.{Step, down, across, Walk, SpotPath, count_under, HasSpot, IsCoarser, Under}
+use Rattle.node_arena.specs.Slots.{Slot, IsTable, slot_of, count, walk_end}
+use Rattle.node_arena.specs.Shape.{home_of, IsShaped}
+
+-- From the root a slot's home leads to the slot; each address at which it is reached is coarser than
+-- its home, and the spots under the address lie under the home.
+pub record ReachesHomes (slots : List Slot) (homes : List Walk) (h : List SpotPath) : Type 0 where
+  pub at_home : (i : ℕ) → i < length slots → walk_end slots 0 (home_of homes i) ≡ Some i
+  pub coarser : (a : Walk) (i : ℕ) → walk_end slots 0 a ≡ Some i → IsCoarser a (home_of homes i)
+  pub agrees : (a : Walk) (i : ℕ) → walk_end slots 0 a ≡ Some i → (q : SpotPath) → Contains h q → Under q a → Under q (home_of homes i)
+
+-- a slot is reached at the address
+pub record IsReached (slots : List Slot) (a : Walk) : Type 0 where
+  pub slot : ℕ
+  pub is : walk_end slots 0 a ≡ Some slot
+
+-- An address below the top is reached exactly where a spot lies under it, and the top always is.
+pub record ReachesSpots (slots : List Slot) (h : List SpotPath) : Type 0 where
+  pub top : walk_end slots 0 [] ≡ Some 0
+  pub reached : (a : Walk) → HasSpot h a → IsReached slots a
+  pub only : (a : Walk) (e : Step) → IsReached slots (e ∷ a) → HasSpot h (e ∷ a)
+
+-- A time table that is reached at an address counts the spots under the address, bin by bin.
+pub record CountsReached (slots : List Slot) (h : List SpotPath) : Type 0 where
+  pub counts : (a : Walk) (i bin : ℕ) → walk_end slots 0 a ≡ Some i → IsTable (slot_of slots i) → count (slot_of slots i) bin ≡ count_under h a bin
+
+-- the shape, said of walks
+pub record IsWalked (slots : List Slot) (homes : List Walk) (h : List SpotPath) : Type 0 where
+  pub homes_reached : ReachesHomes slots homes h
+  pub spots_reached : ReachesSpots slots h
+  pub counted : CountsReached slots h
+
+-- a shape says what walks reach
+abbrev pub TellsWalks : Type 0
+TellsWalks = (dims : ℕ) (slots : List Slot) (homes : List Walk) (h : List SpotPath) → IsShaped dims slots homes h → IsWalked slots homes h
+
+-- down along all labels of a path
+abbrev pub down_all : List ℕ → Walk → Walk
+down_all [] a = a
+down_all (l ∷ path) a = down_all path (down l ∷ a)
+
+-- on through all later dimensions
+abbrev pub whole_from : List (List ℕ) → Walk → Walk
+whole_from [] a = a
+whole_from (path ∷ later) a = whole_from later (down_all path (across ∷ a))
+
+-- the walk by whole paths in all dimensions
+abbrev pub whole_of : List (List ℕ) → Walk
+whole_of [] = []
+whole_of (path ∷ later) = whole_from later (down_all path [])
+
+-- the walk of a spot by its whole path in every dimension, which ends at a time table
+abbrev pub whole : SpotPath → Walk
+whole q = whole_of q.paths
+
+-- how many records the slot counts in the bin, if there is one
+abbrev pub count_at : List Slot → Option ℕ → ℕ → ℕ
+count_at slots None bin = 0
+count_at slots (Some i) bin = count (slot_of slots i) bin
+
+-- how often the cube counts a spot: what its whole walk finds in its bin
+abbrev pub weight_at : List Slot → SpotPath → ℕ
+weight_at slots q = count_at slots (walk_end slots 0 (whole q)) q.bin
+
+-- a shape counts a spot as often as the list has a spot of that path and bin
+abbrev pub TellsWeights : Type 0
+TellsWeights = (dims : ℕ) (slots : List Slot) (homes : List Walk) (h : List SpotPath) → IsShaped dims slots homes h → (q : SpotPath) → length q.paths ≡ suc dims → weight_at slots q ≡ count_under h (whole q) q.bin

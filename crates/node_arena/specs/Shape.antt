@@ -1,0 +1,106 @@
+-- The shape of a cube. It is said link by link, of the slots, of the homes of the slots in the same
+-- order, and of a list h of spots that the cube counts. The root is slot 0, and the dimension of number
+-- `dims` is time. The laws of Reach.antt say the same of walks from the root.
+use Rattle.std.specs.Prelude.{◌≡◌, ℕ, ◌<◌, ◌↔◌, List, [], ◌∷◌, length, slice_index_or, Some, Contains}
+use Rattle.node_arena.specs.declared.link.Link.{Link}
+use Rattle.node_arena.specs.Walks.{Step, down, across, Walk, SpotPath, Under, count_under, HasSpot, IsCoarser, dimension}
+use Rattle.node_arena.specs.Slots.{proper, shared, target, Slot, IsTable, slot_of, link_of, count}
+
+-- the home of the slot at a place: the walk along proper links that leads to it
+abbrev pub home_of : List Walk → ℕ → Walk
+home_of homes i = slice_index_or homes i []
+
+-- a proper link leads to slot j
+pub record IsOwned (slots : List Slot) (j : ℕ) : Type 0 where
+  pub by : ℕ
+  pub step : Step
+  pub owns : link_of slots by step ≡ Some (proper j)
+
+-- Part 1, homes. Each slot but the root has one proper link to it, the root has none, and proper links
+-- lead from the root to each slot: a proper link leads from a home to a home that is one step longer,
+-- each slot but the root has such a link, and no two slots have one home.
+pub record HasProperLinks (slots : List Slot) (homes : List Walk) : Type 0 where
+  pub size : length homes ≡ length slots
+  pub some : 0 < length slots
+  pub root : home_of homes 0 ≡ []
+  pub distinct : (i j : ℕ) → i < length slots → j < length slots → home_of homes i ≡ home_of homes j → i ≡ j
+  pub owner : (j : ℕ) → 0 < j → j < length slots → IsOwned slots j
+  pub at_home : (i j : ℕ) (e : Step) → link_of slots i e ≡ Some (proper j) → (j < length slots) × (home_of homes j ≡ e ∷ home_of homes i)
+
+-- Part 1, tables. A slot is a time table exactly where its home's dimension is time.
+pub record HasTables (dims : ℕ) (slots : List Slot) (homes : List Walk) : Type 0 where
+  pub tables : (i : ℕ) → i < length slots → IsTable (slot_of slots i) ↔ (dimension (home_of homes i) ≡ dims)
+
+-- Part 2. The address of a shared link is coarser than its target's home or equal. For proper links
+-- they are equal by part 1, so each address at which a slot is reached is coarser than its home.
+pub record HasHomes (slots : List Slot) (homes : List Walk) : Type 0 where
+  pub owned : HasProperLinks slots homes
+  pub open owned use *
+  pub finer : (i j : ℕ) (e : Step) → link_of slots i e ≡ Some (shared j) → (j < length slots) × IsCoarser (e ∷ home_of homes i) (home_of homes j)
+
+-- a link stands at the place and the step
+pub record IsLinked (slots : List Slot) (i : ℕ) (e : Step) : Type 0 where
+  pub link : Link
+  pub is : link_of slots i e ≡ Some link
+
+-- Part 3, links. A link is there where a spot of `sure` lies under its address, and only where one of
+-- `all` does; and the spots of `sure` under its address lie under its target's home. In a shape both
+-- lists are h. Within an insertion `all` has the new spot too.
+pub record HoldsSpots (slots : List Slot) (homes : List Walk) (sure all : List SpotPath) : Type 0 where
+  pub needed : (i : ℕ) (e : Step) → i < length slots → HasSpot sure (e ∷ home_of homes i) → IsLinked slots i e
+  pub wanted : (i : ℕ) (e : Step) (l : Link) → link_of slots i e ≡ Some l → HasSpot all (e ∷ home_of homes i)
+  pub agrees : (i : ℕ) (e : Step) (l : Link) → link_of slots i e ≡ Some l → (q : SpotPath) → Contains sure q → Under q (e ∷ home_of homes i) → Under q (home_of homes (target l))
+
+-- Part 3, counts. A time table counts the spots under its home, bin by bin.
+pub record CountsSpots (slots : List Slot) (homes : List Walk) (h : List SpotPath) : Type 0 where
+  pub counts : (i bin : ℕ) → i < length slots → IsTable (slot_of slots i) → count (slot_of slots i) bin ≡ count_under h (home_of homes i) bin
+
+-- the node at a place has one child, which is at the label
+pub record HasOneChild (slots : List Slot) (i label : ℕ) (l : Link) : Type 0 where
+  pub is : link_of slots i (down label) ≡ Some l
+  pub only : (m : ℕ) (k : Link) → link_of slots i (down m) ≡ Some k → m ≡ label
+
+-- the node has a shared content link to the child's content
+pub record SharesContent (slots : List Slot) (i : ℕ) (child : Link) : Type 0 where
+  pub content : Link
+  pub of_child : link_of slots (target child) across ≡ Some content
+  pub of_node : link_of slots i across ≡ Some (shared (target content))
+
+-- Part 4. A node with one child shares that child's content.
+abbrev pub SharesOnlyContent : List Slot → Type 0
+SharesOnlyContent slots = (i label : ℕ) (l : Link) → HasOneChild slots i label l → SharesContent slots i l
+
+-- every link is proper
+abbrev pub IsAllProper : List Slot → Type 0
+IsAllProper slots = (i : ℕ) (e : Step) (l : Link) → link_of slots i e ≡ Some l → l ≡ proper (target l)
+
+-- parts 1 to 3, which a tree and a cube with shared links have in common
+pub record IsShaped (dims : ℕ) (slots : List Slot) (homes : List Walk) (h : List SpotPath) : Type 0 where
+  pub has_homes : HasHomes slots homes
+  pub has_tables : HasTables dims slots homes
+  pub holds : HoldsSpots slots homes h h
+  pub counted : CountsSpots slots homes h
+
+-- the shape of a cube that shares what it can
+pub record HasShape (dims : ℕ) (slots : List Slot) (homes : List Walk) (h : List SpotPath) : Type 0 where
+  pub shaped : IsShaped dims slots homes h
+  pub open shaped use *
+  pub shares : SharesOnlyContent slots
+
+-- the reduced shape: a tree of proper links, in which each node has content of its own
+pub record HasTreeShape (dims : ℕ) (slots : List Slot) (homes : List Walk) (h : List SpotPath) : Type 0 where
+  pub shaped : IsShaped dims slots homes h
+  pub open shaped use *
+  pub all_proper : IsAllProper slots
+
+-- what the type of a cube keeps: there are homes and spots for which its slots have the shape
+pub record IsCube (dims : ℕ) (slots : List Slot) : Type 0 where
+  pub homes : List Walk
+  pub spots : List SpotPath
+  pub shape : HasShape dims slots homes spots
+
+-- the same of a tree of proper links
+pub record IsTree (dims : ℕ) (slots : List Slot) : Type 0 where
+  pub homes : List Walk
+  pub spots : List SpotPath
+  pub shape : HasTreeShape dims slots homes spots

@@ -1,0 +1,272 @@
+//! The arena: slots in a list, each named by its place.
+ghost use Rattle.std.specs.Prelude.{◌≡◌, ◌+◌, ◌≤◌, ◌<◌, ◌^◌, ◌↔◌, [], length, take, None, Some, IfOk, OnOk, OnErr, IsSome, IsTrue};
+ghost use Rattle.std.specs.FinMap.{contains_key};
+ghost use Rattle.probe_core.specs.Bits.{bits};
+ghost use Rattle.time_table.specs.Counts.{AllCounted, total_count};
+ghost use Rattle.node_arena.specs.Walks.{down, across};
+ghost use Rattle.node_arena.specs.Slots.{id_of, IsNode, IsTable, IsRising, slot_of, children_of, counts_of, link_of};
+ghost use Rattle.node_arena.specs.Stats.{stat_of, AllRising, TellsStat};
+ghost use Rattle.node_arena.specs.Calls.{added, add_node, add_table, copy_slot, put_child, set_child, drop_child, set_content, table_add, table_take, child_from, only_link};
+
+use crate::children::Children;
+use crate::link::{Link, SlotId};
+use crate::slot::Stored;
+use cube_view::Stat;
+use outer_io::NoMemory;
+use probe_core::Steps;
+use std::alloc::Global;
+use std::marker::Model;
+use std::sync::ledger::Ledger;
+use time_table::TimeTable;
+
+/// The slots of a cube. Nodes and time tables are added at the end, and a slot keeps its place. Readers
+/// count a step for each slot that they visit and for each child that they probe.
+#[derive(Drop)]
+pub struct Arena {
+    alloc: Global,
+    slots: Vec<Stored>,
+}
+
+impl Model for Arena {
+    ghost use Rattle.std.specs.Prelude.{List, map};
+    ghost use Rattle.std.specs.Coded.{codes};
+    ghost use Rattle.node_arena.specs.Slots.{Slot, counts_code};
+    ghost use Rattle.node_arena.specs.Stored.{slot_from};
+
+    ghost Value = { List Slot };
+
+    ghost coded = { Prim.hlevel (codes, counts_code) };
+
+    ghost view = { λ a. map slot_from a.slots.items };
+}
+
+impl Arena {
+    ghost use Rattle.node_arena.specs.Stored.{slot_from};
+
+    /// No slots.
+    pub fn new(alloc: Global) -> Arena
+        ensures { result ≡ [] }
+    {
+        Arena {
+            alloc,
+            slots: Vec::new(alloc),
+        }
+    }
+
+    /// How many slots there are.
+    pub fn len(&self) -> usize
+        ensures { result ≡ length self.now }
+    {
+        self.slots.len()
+    }
+
+    /// Whether there are none.
+    pub fn is_empty(&self) -> bool
+        ensures { IsTrue result ↔ (self.now ≡ []) }
+    {
+        self.slots.is_empty()
+    }
+
+    /// How many nodes and time tables there are, and how many proper and shared links. In the shape of a
+    /// cube every slot but the root has one proper link.
+    pub fn stat(&self) -> Stat
+        ensures numbers { result ≡ stat_of self.now }
+        ensures in_order { AllRising self.now }
+        ensures links { TellsStat self.now result }
+    {
+        let mut stat = Stat {
+            nodes: 0,
+            tables: 0,
+            proper: 0,
+            shared: 0,
+        };
+        for i in 0..self.slots.len() {
+            stat = self.slots[i].counted_with(stat);
+        }
+        stat
+    }
+
+    /// Adds an empty node. For want of memory the slots are as before.
+    pub fn add_node(&mut self) -> Result<SlotId, NoMemory>
+        ensures id { IfOk result (λ id. id ≡ id_of (length self.old)) }
+        ensures added { OnOk result (self.new ≡ add_node self.old) }
+        ensures unchanged { OnErr result (self.new ≡ self.old) }
+    {
+        let node = Stored::Node(Children::new(self.alloc), None);
+        self.add(node)
+    }
+
+    /// Adds an empty time table. For want of memory the slots are as before.
+    pub fn add_table(&mut self) -> Result<SlotId, NoMemory>
+        ensures id { IfOk result (λ id. id ≡ id_of (length self.old)) }
+        ensures added { OnOk result (self.new ≡ add_table self.old) }
+        ensures unchanged { OnErr result (self.new ≡ self.old) }
+    {
+        let table = Stored::Table(TimeTable::new(self.alloc));
+        self.add(table)
+    }
+
+    /// Adds a shallow copy of a slot: all links of the copy are shared, and a time table has the same
+    /// counts. For want of memory the slots are as before.
+    pub fn copy_slot(&mut self, id: SlotId) -> Result<SlotId, NoMemory>
+        requires { id.0 < length self.old }
+        ensures id { IfOk result (λ copy. copy ≡ id_of (length self.old)) }
+        ensures copied { OnOk result (self.new ≡ copy_slot self.old id.0) }
+        ensures unchanged { OnErr result (self.new ≡ self.old) }
+    {
+        let copy = self.slots[id.0].copied(self.alloc)?;
+        self.add(copy)
+    }
+
+    /// Puts a child of a new label. For want of memory the slots are as before.
+    pub fn put_child(&mut self, id: SlotId, label: u8, link: Link) -> Result<(), NoMemory>
+        requires in_range { id.0 < length self.old }
+        requires is_node { IsNode (slot_of self.old id.0) }
+        requires is_new { link_of self.old id.0 (down label) ≡ None }
+        ensures put { OnOk result (self.new ≡ put_child self.old id.0 label link) }
+        ensures unchanged { OnErr result (self.new ≡ self.old) }
+    {
+        let slot = &mut self.slots[id.0];
+        slot.put_child(label, link)
+    }
+
+    /// Sets another link to a child that is there, and gives the old one.
+    pub fn set_child(&mut self, id: SlotId, label: u8, link: Link) -> Link
+        requires in_range { id.0 < length self.old }
+        requires is_node { IsNode (slot_of self.old id.0) }
+        requires is_there { IsSome (link_of self.old id.0 (down label)) }
+        ensures given { link_of self.old id.0 (down label) ≡ Some result }
+        ensures set { self.new ≡ set_child self.old id.0 label link }
+    {
+        let slot = &mut self.slots[id.0];
+        slot.set_child(label, link)
+    }
+
+    /// Takes a child off that is there, and gives its link.
+    pub fn drop_child(&mut self, id: SlotId, label: u8) -> Link
+        requires in_range { id.0 < length self.old }
+        requires is_node { IsNode (slot_of self.old id.0) }
+        requires is_there { IsSome (link_of self.old id.0 (down label)) }
+        ensures given { link_of self.old id.0 (down label) ≡ Some result }
+        ensures dropped { self.new ≡ drop_child self.old id.0 label }
+    {
+        let slot = &mut self.slots[id.0];
+        slot.drop_child(label)
+    }
+
+    /// Sets the content, or none, and gives the old one.
+    pub fn set_content(&mut self, id: SlotId, link: Option<Link>) -> Option<Link>
+        requires in_range { id.0 < length self.old }
+        requires is_node { IsNode (slot_of self.old id.0) }
+        ensures given { result ≡ link_of self.old id.0 across }
+        ensures set { self.new ≡ set_content self.old id.0 link }
+    {
+        let slot = &mut self.slots[id.0];
+        slot.set_content(link)
+    }
+
+    /// Counts a record more in a bin of a time table. For want of memory the slots are as before.
+    pub fn table_add(&mut self, id: SlotId, bin: u32) -> Result<(), NoMemory>
+        requires in_range { id.0 < length self.old }
+        requires is_table { IsTable (slot_of self.old id.0) }
+        requires fits { total_count (counts_of (slot_of self.old id.0)) < 2 ^ 63 }
+        ensures added { OnOk result (self.new ≡ table_add self.old id.0 bin) }
+        ensures unchanged { OnErr result (self.new ≡ self.old) }
+        ensures was_counted { AllCounted (counts_of (slot_of self.old id.0)) }
+    {
+        let slot = &mut self.slots[id.0];
+        slot.add_one(bin)
+    }
+
+    /// Counts a record less in a bin of a time table that has one.
+    pub fn table_take(&mut self, id: SlotId, bin: u32)
+        requires in_range { id.0 < length self.old }
+        requires is_table { IsTable (slot_of self.old id.0) }
+        requires is_there { IsTrue (contains_key (counts_of (slot_of self.old id.0)) bin) }
+        ensures { self.new ≡ table_take self.old id.0 bin }
+    {
+        let slot = &mut self.slots[id.0];
+        slot.take_one(bin);
+    }
+
+    /// Takes off the slots from a place on.
+    pub fn cut(&mut self, len: usize)
+        requires { len ≤ length self.old }
+        ensures { self.new ≡ take len self.old }
+    {
+        self.slots.truncate(len);
+    }
+
+    /// The link to the child of a label. None comes exactly where there is none.
+    pub fn child<L: Ledger>(&self, id: SlotId, label: u8, steps: &mut Steps<L>) -> Option<Link>
+        requires in_range { id.0 < length self.now }
+        requires is_node { IsNode (slot_of self.now id.0) }
+        ensures link { result ≡ link_of self.now id.0 (down label) }
+        ensures cost { steps.new ≤ steps.old + (1 + bits (length (children_of (slot_of self.now id.0)))) }
+        ensures in_order { IsRising (children_of (slot_of self.now id.0)) }
+    {
+        steps.tick();
+        self.slots[id.0].child(label, steps)
+    }
+
+    /// The first child whose label is `from` or later. None comes exactly where there is none.
+    pub fn next_child<L: Ledger>(
+        &self,
+        id: SlotId,
+        from: u8,
+        steps: &mut Steps<L>,
+    ) -> Option<(u8, Link)>
+        requires in_range { id.0 < length self.now }
+        requires is_node { IsNode (slot_of self.now id.0) }
+        ensures child { result ≡ child_from (children_of (slot_of self.now id.0)) from }
+        ensures cost { steps.new ≤ steps.old + (1 + bits (length (children_of (slot_of self.now id.0)))) }
+        ensures in_order { IsRising (children_of (slot_of self.now id.0)) }
+    {
+        steps.tick();
+        self.slots[id.0].next_child(from, steps)
+    }
+
+    /// The link to the content. None comes exactly where there is none.
+    pub fn content<L: Ledger>(&self, id: SlotId, steps: &mut Steps<L>) -> Option<Link>
+        requires in_range { id.0 < length self.now }
+        requires is_node { IsNode (slot_of self.now id.0) }
+        ensures link { result ≡ link_of self.now id.0 across }
+        ensures cost { steps.new ≡ steps.old + 1 }
+    {
+        steps.tick();
+        self.slots[id.0].content()
+    }
+
+    /// A time table.
+    pub fn table<L: Ledger>(&self, id: SlotId, steps: &mut Steps<L>) -> &TimeTable
+        requires in_range { id.0 < length self.now }
+        requires is_table { IsTable (slot_of self.now id.0) }
+        ensures counts { result.now ≡ counts_of (slot_of self.now id.0) }
+        ensures cost { steps.new ≡ steps.old + 1 }
+    {
+        steps.tick();
+        self.slots[id.0].table()
+    }
+
+    /// The link to the only child. None comes exactly where there is not exactly one.
+    pub fn only_child(&self, id: SlotId) -> Option<Link>
+        requires in_range { id.0 < length self.now }
+        requires is_node { IsNode (slot_of self.now id.0) }
+        ensures { result ≡ only_link (children_of (slot_of self.now id.0)) }
+    {
+        self.slots[id.0].only_child()
+    }
+
+    /// Adds a slot at the end.
+    fn add(&mut self, slot: Stored) -> Result<SlotId, NoMemory>
+        ensures id { IfOk result (λ id. id ≡ id_of (length self.old)) }
+        ensures added { OnOk result (self.new ≡ added self.old (slot_from slot)) }
+        ensures unchanged { OnErr result (self.new ≡ self.old) }
+    {
+        let place = self.slots.len();
+        match self.slots.push(slot) {
+            Ok(()) => Ok(SlotId(place)),
+            Err(_) => Err(NoMemory),
+        }
+    }
+}

@@ -1,0 +1,44 @@
+//! Links between slots.
+ghost use Rattle.std.specs.Prelude.{◌≡◌};
+ghost use Rattle.node_arena.specs.Slots.{shared, target};
+ghost use Rattle.node_arena.specs.Stats.{is_proper};
+
+/// A slot of an arena, by its place.
+#[derive(Clone, Copy, PartialEq, Eq, Debug)]
+pub struct SlotId(pub usize);
+
+/// Whether a link owns the slot that it leads to, or shares it.
+#[derive(Clone, Copy, PartialEq, Eq, Debug)]
+pub enum LinkKind {
+    Proper,
+    Shared,
+}
+
+/// A link to a slot.
+#[derive(Clone, Copy, PartialEq, Eq, Debug)]
+pub struct Link {
+    pub to: SlotId,
+    pub kind: LinkKind,
+}
+
+impl Link {
+    /// A shared link to the same slot.
+    pub(crate) fn shared(self) -> Link
+        ensures { result ≡ shared (target self) }
+    {
+        Link {
+            to: self.to,
+            kind: LinkKind::Shared,
+        }
+    }
+
+    /// Whether it owns the slot that it leads to.
+    pub(crate) fn is_proper(self) -> bool
+        ensures { result ≡ is_proper self }
+    {
+        match self.kind {
+            LinkKind::Proper => true,
+            LinkKind::Shared => false,
+        }
+    }
+}
