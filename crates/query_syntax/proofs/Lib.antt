@@ -1,4 +1,5 @@
 pub mod Cutting
+pub mod FilterSteps
 pub mod Numerals
 pub mod Quoting
 pub mod SchemaLimits

@@ -1,5 +1,5 @@
 -- Filters: which points count. They stand in any order after the verb's words.
-use Rattle.std.specs.Prelude.{◌≡◌, ℕ, ◌+◌, Bool, true, false, count_by, not, nat_lt, if◌then◌else◌, List, [], ◌∷◌, slice_set, replicate, is_some, Option, Some, None, Result, Ok, Err, codes}
+use Rattle.std.specs.Prelude.{◌≡◌, ℕ, ◌+◌, Bool, true, false, count_by, length, not, nat_lt, if◌then◌else◌, List, [], ◌∷◌, slice_set, replicate, is_some, Option, Some, None, Result, Ok, Err, codes}
 use Rattle.std.specs.Str.{bytes_eq}
 use Rattle.cube_view.specs.declared.category.Category.{Category}
 use Rattle.cube_view.specs.declared.schema.Schema.{Schema}
@@ -75,3 +75,8 @@ one_if false = 0
 -- how many filters there were
 abbrev pub filters_used : Filters → ℕ
 filters_used filters = one_if (is_some filters.region) + count_by is_some filters.sets + one_if (is_some filters.time)
+
+-- one filter more, in as many places for categories
+pub record AddsFilter (old new : Filters) : Type 0 where
+  pub used : filters_used new ≡ filters_used old + 1
+  pub places : length new.sets ≡ length old.sets

@@ -30,12 +30,17 @@ query_with verb filters = record {
 abbrev pub query_if_fits : Schema → Query → Result Query WordFault
 query_if_fits schema q = if is_too_deep schema.depth q.region.z q.verb then fault_at TooDeep 2 else Ok q
 
+-- what a verb and the words after its own ask for
+unfoldable pub query_after_verb : Schema → Verb → List (List ℕ) → Result Query WordFault
+query_after_verb schema verb words = do
+  filters ← filters_at schema verb (verb_words verb + 1) words
+  query_if_fits schema (query_with verb filters)
+
 -- what the words of a line ask for
 unfoldable pub query_of : Schema → List (List ℕ) → Result Query WordFault
 query_of schema words = do
   verb ← verb_at schema.categories words
-  filters ← filters_at schema verb.0 (verb_words verb.0 + 1) verb.1
-  query_if_fits schema (query_with verb.0 filters)
+  query_after_verb schema verb.0 verb.1
 
 -- a query that was read, or its fault
 abbrev pub parsed_of : Result Query WordFault → Parsed

@@ -166,7 +166,8 @@ pub fn item_of(
     item: &[u8],
 ) -> Result<(usize, Choice), WordFault>
     ensures read { result ≡ item_at schema.now.categories sets.now number item.now }
-    ensures fresh { IfOk result (λ found. (found.0 < 4) × (has_item sets.now found.0 ≡ false)) }
+    ensures below { IfOk result (λ found. (found.0 < 4) × (found.0 < length sets.now)) }
+    ensures fresh { IfOk result (λ found. has_item sets.now found.0 ≡ false) }
 {
     if !is_quote_count_even(item) {
         return Err(WordFault::at(QueryFault::BadQuote, number));

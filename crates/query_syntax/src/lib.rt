@@ -10,6 +10,7 @@ mod decimal;
 mod fault;
 mod filters;
 mod item;
+mod parsing;
 mod query;
 mod tile_word;
 mod value_set;
@@ -17,5 +18,6 @@ mod verb_words;
 mod words;
 
 pub use fault::QueryFault;
+pub use parsing::parse;
 pub use query::{Choice, Parsed, Query, Span, Verb};
 pub use value_set::ValueSet;
