@@ -1,14 +1,14 @@
 -- Pieces and words of bytes.
-use Rattle.std.proofs.Common.{◌≡◌, ◌⊎◌, inl, inr, ℕ, suc, ◌+◌, ◌<◌, ◌≤◌, ◌≢◌, Bool, true, false, List, [], ◌∷◌, ◌++◌, length, take, drop, get_or, cond, eqb, sym, ◌∙◌, ap, refl, arith, add-one, append_assoc, append-nil}
+use Rattle.std.proofs.Common.{◌≡◌, ◌⊎◌, inl, inr, ℕ, suc, ◌+◌, ◌<◌, ◌≢◌, Bool, true, false, List, [], ◌∷◌, ◌++◌, length, take, drop, get_or, cond, eqb, sym, ◌∙◌, ap, refl, arith, add-one, append_assoc, append-nil}
 use Rattle.std.proofs.Math.Seq.{drop-cons}
-use Rattle.std.specs.Prelude.{not, filter, Option, Some, None}
+use Rattle.std.specs.Prelude.{not, filter, None}
 use Rattle.std.proofs.lemmas.List.{take_more}
 use Rattle.std.proofs.Math.Seq.{take-length, drop-length}
 use Rattle.std.proofs.lemmas.Bool.{false≢true}
 use Rattle.std.proofs.lemmas.Bool.Decides.{nat_tests}
 use Rattle.outer_io.specs.Lines.{onto_first}
 use Rattle.query_syntax.specs.Tiles.{tile_of_pieces}
-use Rattle.query_syntax.specs.Words.{pieces, pieces_from, pieces_after, cuts, quoted_after, words, is_some_text, space}
+use Rattle.query_syntax.specs.Words.{pieces, pieces_from, cuts, quoted_after, words, is_some_text, space}
 
 -- the bytes go in front of the first piece
 abbrev pub before_first_piece : List ℕ → List (List ℕ) → List (List ℕ)

@@ -1,12 +1,11 @@
 -- Steps of reading filters.
-use Rattle.std.proofs.Common.{◌≡◌, ℕ, zero, suc, ◌+◌, ◌<◌, ◌≤◌, Bool, true, false, List, [], ◌∷◌, length, get_or, cond, sym, ◌∙◌, ap, refl, arith, subst, Option, Some, None, Result, Ok, Err, set}
+use Rattle.std.proofs.Common.{◌≡◌, ℕ, ◌+◌, ◌<◌, ◌≤◌, Bool, true, false, List, ◌∷◌, length, get_or, cond, sym, ◌∙◌, ap, refl, arith, subst, Option, Some, None, Result, set}
 use Rattle.std.specs.Prelude.{codes, is_some, count_by, slice_set}
 use Rattle.std.specs.Str.{bytes_eq}
-use Rattle.std.proofs.lemmas.Bool.{false≢true}
 use Rattle.std.proofs.lemmas.List.Sums.{sum_by-set, count_by-le-length}
 use Rattle.query_syntax.proofs.SchemaLimits.{has_item-get}
 use Rattle.cube_view.specs.declared.schema.Schema.{Schema}
-use Rattle.query_syntax.specs.Filters.{words_read, Wanted, ReadsOn, one_if, filters_used}
+use Rattle.query_syntax.specs.Filters.{words_read, ReadsOn, one_if, filters_used}
 use Rattle.query_syntax.specs.Filters.Wanted.{Name, Region, Item, From}
 use Rattle.query_syntax.specs.Items.{has_item}
 use Rattle.query_syntax.specs.Verbs.{takes_filters, is_series}

@@ -3,3 +3,5 @@ pub mod FilterSteps
 pub mod Numerals
 pub mod Quoting
 pub mod SchemaLimits
+pub mod Sets
+pub mod Validity

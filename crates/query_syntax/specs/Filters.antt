@@ -1,7 +1,6 @@
 -- Filters: which points count. They stand in any order after the verb's words.
-use Rattle.std.specs.Prelude.{◌≡◌, ℕ, ◌+◌, Bool, true, false, count_by, length, not, nat_lt, if◌then◌else◌, List, [], ◌∷◌, slice_set, replicate, is_some, Option, Some, None, Result, Ok, Err, codes}
+use Rattle.std.specs.Prelude.{◌≡◌, ℕ, ◌+◌, Bool, true, false, count_by, length, not, nat_lt, if◌then◌else◌, List, [], ◌∷◌, slice_set, replicate, is_some, Some, None, Result, Ok, Err, codes}
 use Rattle.std.specs.Str.{bytes_eq}
-use Rattle.cube_view.specs.declared.category.Category.{Category}
 use Rattle.cube_view.specs.declared.schema.Schema.{Schema}
 use Rattle.query_syntax.specs.Items.{item_at}
 use Rattle.query_syntax.specs.Reading.{◌>>=◌, fault_at, or_fault, number_of}

@@ -1,8 +1,8 @@
 -- Items: a category and the values of it that count, as `name=value|value`.
 --
 -- A value may stand in quotes. It has to where it has a space or a bar.
-use Rattle.std.specs.Prelude.{ℕ, zero, suc, ◌+◌, ◌%◌, Bool, true, false, not, ◌&&◌, ◌||◌, ◌==◌, if◌then◌else◌, List, [], ◌∷◌, ◌++◌, length, map, filter, take, drop, count_by, position, slice_set, replicate, is_some, Option, Some, None, option_map, option_and_then, Result, Ok}
-use Rattle.std.specs.List.{list_all, list_any, slice_get}
+use Rattle.std.specs.Prelude.{◌≡◌, ℕ, zero, suc, ◌+◌, ◌%◌, Bool, true, false, not, ◌||◌, ◌==◌, if◌then◌else◌, List, [], ◌∷◌, ◌++◌, length, filter, take, drop, count_by, position, slice_set, replicate, is_some, Option, Some, option_map, option_and_then, Result, Ok}
+use Rattle.std.specs.List.{list_all, list_any}
 use Rattle.std.specs.Str.{bytes_eq}
 use Rattle.cube_view.specs.declared.category.Category.{Category}
 use Rattle.query_syntax.specs.Words.{quote, bar, pieces}
@@ -89,3 +89,9 @@ item_at categories sets n item =
     if not (are_well_quoted parts.1) then fault_at BadQuote n else (or_fault (category_number categories parts.0) UnknownCategory n >>= λ k.
     if has_item sets k then fault_at RepeatedFilter n else (or_fault (set_of (values_at categories k) parts.1) UnknownValue n >>= λ set.
     Ok (k, choice_of (length (values_at categories k)) set))))
+
+-- a set of some of so many values
+pub record IsSetOf (count : ℕ) (set : List Bool) : Type 0 where
+  pub size : length set ≡ 256
+  pub some : list_any (λ b. b) set ≡ true
+  pub none_past : list_any (λ b. b) (drop count set) ≡ false

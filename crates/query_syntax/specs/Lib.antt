@@ -8,4 +8,3 @@ pub mod Filters
 pub mod Queries
 pub mod Meaning
 pub mod Boxes
-pub mod Spelling

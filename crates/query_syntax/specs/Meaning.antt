@@ -1,16 +1,16 @@
 -- The meaning of a line: nothing, a query, or the first fault from the left and the number of its word.
-use Rattle.std.specs.Prelude.{ℕ, ◌+◌, Bool, true, false, not, ◌==◌, if◌then◌else◌, List, [], ◌∷◌, map, unwrap_or, Option, Result, Ok, Err}
+use Rattle.std.specs.Prelude.{◌≡◌, ℕ, length, None, ◌+◌, Bool, true, false, not, ◌==◌, if◌then◌else◌, List, [], ◌∷◌, map, unwrap_or, Result, Ok, Err}
 use Rattle.std.specs.Str.{is_utf8}
 use Rattle.cube_view.specs.declared.schema.Schema.{Schema}
-use Rattle.query_syntax.specs.Filters.{filters_at}
-use Rattle.query_syntax.specs.Queries.{whole_space, all_bins, is_too_deep}
+use Rattle.query_syntax.specs.Filters.{filters_at, no_filters}
+use Rattle.query_syntax.specs.Queries.{whole_space, all_bins, is_too_deep, are_choices, is_span, is_valid_query}
 use Rattle.query_syntax.specs.Reading.{◌>>=◌, fault_at}
-use Rattle.query_syntax.specs.Verbs.{verb_at, verb_words}
+use Rattle.query_syntax.specs.Tiles.{is_tile}
+use Rattle.query_syntax.specs.Verbs.{verb_at, verb_words, takes_filters, is_series}
 use Rattle.query_syntax.specs.Words.{words}
 use Rattle.query_syntax.specs.declared.fault.QueryFault.TheVariants.{NotText, TooDeep}
 use Rattle.query_syntax.specs.declared.fault.WordFault.{WordFault}
 use Rattle.query_syntax.specs.declared.filters.Filters.{Filters}
-use Rattle.query_syntax.specs.declared.query.Choice.{Choice}
 use Rattle.query_syntax.specs.declared.query.Choice.TheVariants.{All}
 use Rattle.query_syntax.specs.declared.query.Parsed.{Parsed}
 use Rattle.query_syntax.specs.declared.query.Parsed.TheVariants.{Skip, Ask, Fault}
@@ -62,3 +62,18 @@ unfoldable pub meaning : Schema → List ℕ → Parsed
 meaning schema line =
     if not (is_utf8 line) then Fault NotText 1 else (
     if is_comment line then Skip else words_meaning schema (words line))
+
+-- What the filters of a verb said is in order for the schema
+pub record FiltersFit (schema : Schema) (verb : Verb) (filters : Filters) : Type 0 where
+  pub region : is_tile schema.depth (unwrap_or filters.region whole_space) ≡ true
+  pub places : length filters.sets ≡ 4
+  pub sets : are_choices schema.categories (map (λ set. unwrap_or set All) filters.sets) ≡ true
+  pub time : is_span (unwrap_or filters.time all_bins) ≡ true
+  pub none : takes_filters verb ≡ false → filters ≡ no_filters
+  pub own : is_series verb ≡ true → filters.time ≡ None
+
+-- the query that is asked, if there is one, is valid
+abbrev pub asks_valid : Schema → Parsed → Bool
+asks_valid schema Skip = true
+asks_valid schema (Ask q) = is_valid_query schema q
+asks_valid schema (Fault fault n) = true

@@ -1,5 +1,5 @@
 -- Which queries a schema takes.
-use Rattle.std.specs.Prelude.{ℕ, ◌+◌, ◌-◌, Bool, true, false, not, ◌&&◌, ◌||◌, ◌==◌, nat_le, nat_lt, if◌then◌else◌, List, [], ◌∷◌, length, drop}
+use Rattle.std.specs.Prelude.{ℕ, ◌+◌, Bool, true, false, not, ◌&&◌, ◌||◌, ◌==◌, nat_le, nat_lt, List, [], ◌∷◌, length, drop}
 use Rattle.std.specs.List.{list_all, list_any}
 use Rattle.cube_view.specs.Limits.{is_between}
 use Rattle.cube_view.specs.declared.category.Category.{Category}

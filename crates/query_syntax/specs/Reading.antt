@@ -1,5 +1,5 @@
 -- Reading words from left to right: a value, or the first fault and the number of its word.
-use Rattle.std.specs.Prelude.{◌≡◌, ℕ, nat_le, if◌then◌else◌, List, [], ◌∷◌, Option, Some, None, Result, Ok, Err, MatchResult}
+use Rattle.std.specs.Prelude.{◌≡◌, ℕ, if◌then◌else◌, List, [], ◌∷◌, Option, Some, None, Result, Ok, Err}
 use Rattle.cube_view.specs.Limits.{is_between}
 use Rattle.query_syntax.specs.Decimals.{decimal_value}
 use Rattle.query_syntax.specs.declared.fault.QueryFault.{QueryFault}

@@ -1,7 +1,6 @@
 -- Verbs: what the first words of a query say.
-use Rattle.std.specs.Prelude.{ℕ, ◌-◌, ◌^◌, Bool, true, false, ◌&&◌, nat_lt, if◌then◌else◌, List, Result, Ok, codes}
+use Rattle.std.specs.Prelude.{ℕ, ◌-◌, ◌^◌, Bool, true, false, if◌then◌else◌, List, Result, Ok, codes}
 use Rattle.std.specs.Str.{bytes_eq}
-use Rattle.cube_view.specs.Limits.{is_between}
 use Rattle.cube_view.specs.declared.category.Category.{Category}
 use Rattle.query_syntax.specs.Items.{category_number}
 use Rattle.query_syntax.specs.Reading.{◌>>=◌, fault_at, or_fault, word_at, number_at}

@@ -1,7 +1,8 @@
 //! Filters of a query.
-ghost use Rattle.std.specs.Prelude.{◌≡◌, ℕ, ◌+◌, ◌<◌, ◌≤◌, ◌^◌, ◌∷◌, None, false, length, IfOk};
+ghost use Rattle.std.specs.Prelude.{◌≡◌, ℕ, ◌+◌, ◌<◌, ◌≤◌, ◌^◌, ◌∷◌, None, true, false, length, IfOk};
 ghost use Rattle.query_syntax.specs.Filters.{no_filters, words_read, filters_at, ReadsOn, AddsFilter};
 ghost use Rattle.query_syntax.specs.Filters.Wanted.{Name, Region, Item, From};
+ghost use Rattle.query_syntax.specs.Meaning.{FiltersFit};
 ghost use Rattle.query_syntax.specs.Verbs.{takes_filters, is_series};
 ghost use Rattle.query_syntax.specs.Words.{words};
 ghost use Rattle.query_syntax.specs.declared.query.Verb.{Verb};
@@ -62,6 +63,7 @@ fn region_filter<'a>(
     ensures reads { (verb : Verb) → ReadsOn (words_read schema.now verb Region filters.now number (words line.now)) result (λ x. words_read schema.now verb Name x.0 x.1 (words x.2.now)) }
     ensures next { IfOk result (λ x. x.1 ≡ number + 1) }
     ensures adds { IfOk result (λ x. AddsFilter filters.now x.0) }
+    ensures fits { IfOk result (λ x. (verb : Verb) → takes_filters verb ≡ true → FiltersFit schema.now verb filters.now → FiltersFit schema.now verb x.0) }
 {
     let Some((word, rest)) = next_word(line) else {
         return Err(WordFault::at(QueryFault::MissingWord, number));
@@ -83,6 +85,7 @@ fn category_filter<'a>(
     ensures reads { (verb : Verb) → ReadsOn (words_read schema.now verb Item filters.now number (words line.now)) result (λ x. words_read schema.now verb Name x.0 x.1 (words x.2.now)) }
     ensures next { IfOk result (λ x. x.1 ≡ number + 1) }
     ensures adds { IfOk result (λ x. AddsFilter filters.now x.0) }
+    ensures fits { IfOk result (λ x. (verb : Verb) → takes_filters verb ≡ true → FiltersFit schema.now verb filters.now → FiltersFit schema.now verb x.0) }
 {
     let Some((word, rest)) = next_word(line) else {
         return Err(WordFault::at(QueryFault::MissingWord, number));
@@ -105,6 +108,7 @@ fn time_filter<'a>(
     ensures reads { (verb : Verb) → ReadsOn (words_read schema.now verb From filters.now number (words line.now)) result (λ x. words_read schema.now verb Name x.0 x.1 (words x.2.now)) }
     ensures next { IfOk result (λ x. x.1 ≡ number + 2) }
     ensures adds { IfOk result (λ x. AddsFilter filters.now x.0) }
+    ensures fits { IfOk result (λ x. (verb : Verb) → takes_filters verb ≡ true → is_series verb ≡ false → FiltersFit schema.now verb filters.now → FiltersFit schema.now verb x.0) }
 {
     let Some((word, rest)) = next_word(line) else {
         return Err(WordFault::at(QueryFault::MissingWord, number));
@@ -131,10 +135,12 @@ fn filter_of<'a>(
     word: &[u8],
     line: &'a [u8],
 ) -> Result<(Filters, u32, &'a [u8]), WordFault>
-    requires { number + 3 < 2 ^ 32 }
+    requires small { number + 3 < 2 ^ 32 }
+    requires fits { FiltersFit schema.now verb filters.now }
     ensures reads { ReadsOn (words_read schema.now verb Name filters.now number (word.now ∷ words line.now)) result (λ x. words_read schema.now verb Name x.0 x.1 (words x.2.now)) }
     ensures next { IfOk result (λ x. x.1 ≤ number + 3) }
     ensures adds { IfOk result (λ x. AddsFilter filters.now x.0) }
+    ensures fits { IfOk result (λ x. FiltersFit schema.now verb x.0) }
 {
     if !may_have_filters(verb) {
         Err(WordFault::at(QueryFault::UnknownFilter, number))
@@ -167,7 +173,8 @@ pub fn filters_of(
     line: &[u8],
 ) -> Result<Filters, WordFault>
     requires { first ≤ 5 }
-    ensures { result ≡ filters_at schema.now verb first (words line.now) }
+    ensures read { result ≡ filters_at schema.now verb first (words line.now) }
+    ensures fits { IfOk result (FiltersFit schema.now verb) }
 {
     let mut filters = no_filters_yet();
     let mut number = first;

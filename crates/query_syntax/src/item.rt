@@ -2,7 +2,8 @@
 ghost use Rattle.std.specs.Prelude.{◌≡◌, ◌≢◌, ◌⊎◌, ℕ, List, ◌≤◌, ◌<◌, ◌&&◌, ◌==◌, ◌%◌, false, not, length, position, count_by, filter, slice_set, slice_index_or, option_map, IfOk, IfSome, IsTrue};
 ghost use Rattle.std.specs.List.{list_all};
 ghost use Rattle.std.specs.Str.{bytes_eq};
-ghost use Rattle.query_syntax.specs.Items.{is_quote, is_equals_sign, item_parts, has_even_quotes, are_well_quoted, is_well_quoted, bare, in_quotes, no_values, value_number, set_of, is_full, choice_of, values_at, has_item, item_at};
+ghost use Rattle.query_syntax.specs.Items.{is_quote, is_equals_sign, item_parts, has_even_quotes, are_well_quoted, is_well_quoted, bare, in_quotes, no_values, value_number, set_of, is_full, choice_of, values_at, has_item, IsSetOf, item_at};
+ghost use Rattle.query_syntax.specs.Queries.{is_choice};
 ghost use Rattle.query_syntax.specs.Words.{pieces, bar};
 
 use crate::fault::{QueryFault, WordFault};
@@ -84,11 +85,12 @@ fn value_named(values: &[Text], piece: &[u8]) -> Option<usize>
 }
 
 /// The set of the values that the pieces between bars write, if each writes one.
-#[tactic(auto, unfolding(crate::specs::Items::set_of, crate::specs::Items::are_well_quoted))]
+#[tactic(auto, using(crate::proofs::Sets::set_with), unfolding(crate::specs::Items::set_of, crate::specs::Items::are_well_quoted))]
 fn values_in(values: &[Text], text: &[u8]) -> Option<ValueSet>
     requires few { length values.now ≤ 256 }
     requires quoted { IsTrue (are_well_quoted text.now) }
-    ensures { result ≡ set_of values.now text.now }
+    ensures read { result ≡ set_of values.now text.now }
+    ensures valid { IfSome result (IsSetOf (length values.now)) }
 {
     let mut set = ValueSet::none();
     let mut rest = text;
@@ -128,9 +130,12 @@ fn has_all(set: &ValueSet, count: usize) -> bool
 }
 
 /// The set as a choice among so many values.
+#[tactic(auto, using(crate::proofs::Sets::choice_fits))]
 fn choice_among(set: ValueSet, count: usize) -> Choice
-    requires { count ≤ 256 }
-    ensures { result ≡ choice_of count set }
+    requires few { count ≤ 256 }
+    requires valid { IsSetOf count set }
+    ensures value { result ≡ choice_of count set }
+    ensures valid { IsTrue (is_choice count result) }
 {
     if has_all(&set, count) {
         Choice::All
@@ -167,6 +172,8 @@ pub fn item_of(
 ) -> Result<(usize, Choice), WordFault>
     ensures read { result ≡ item_at schema.now.categories sets.now number item.now }
     ensures below { IfOk result (λ found. (found.0 < 4) × (found.0 < length sets.now)) }
+    ensures known { IfOk result (λ found. found.0 < length schema.now.categories) }
+    ensures valid { IfOk result (λ found. IsTrue (is_choice (length (values_at schema.now.categories found.0)) found.1)) }
     ensures fresh { IfOk result (λ found. has_item sets.now found.0 ≡ false) }
 {
     if !is_quote_count_even(item) {

@@ -1,8 +1,8 @@
 //! Lines read as queries.
-ghost use Rattle.std.specs.Prelude.{◌≡◌, ◌+◌, true, unwrap_or, IfOk, IsTrue};
+ghost use Rattle.std.specs.Prelude.{◌≡◌, ◌+◌, true, length, unwrap_or, IfOk, IsTrue};
 ghost use Rattle.std.specs.Str.{is_utf8};
-ghost use Rattle.query_syntax.specs.Meaning.{meaning, query_of, query_with, query_if_fits, query_after_verb, is_comment};
-ghost use Rattle.query_syntax.specs.Queries.{is_too_deep, is_valid_query, whole_space, all_bins};
+ghost use Rattle.query_syntax.specs.Meaning.{meaning, query_of, query_with, query_if_fits, query_after_verb, is_comment, asks_valid, FiltersFit};
+ghost use Rattle.query_syntax.specs.Queries.{is_too_deep, is_valid_query, verb_in_range};
 ghost use Rattle.query_syntax.specs.Filters.{filters_at};
 ghost use Rattle.query_syntax.specs.Verbs.{verb_words};
 ghost use Rattle.query_syntax.specs.Words.{words};
@@ -65,7 +65,10 @@ fn query_from(verb: Verb, filters: &Filters) -> Query
 
 /// The query of a verb and filters, if its map is not too deep.
 fn fitting_query(schema: &Schema, verb: Verb, filters: &Filters) -> Result<Query, WordFault>
-    ensures { result ≡ query_if_fits schema.now (query_with verb filters.now) }
+    requires range { IsTrue (verb_in_range (length schema.now.categories) verb) }
+    requires fits { FiltersFit schema.now verb filters.now }
+    ensures read { result ≡ query_if_fits schema.now (query_with verb filters.now) }
+    ensures valid { IfOk result (λ q. IsTrue (is_valid_query schema.now q)) }
 {
     let query = query_from(verb, filters);
     if is_map_too_deep(schema.depth, query.region.z, verb) {
@@ -78,7 +81,9 @@ fn fitting_query(schema: &Schema, verb: Verb, filters: &Filters) -> Result<Query
 /// What the line asks for after the words of the verb.
 #[tactic(auto, unfolding(crate::specs::Meaning::query_after_verb))]
 fn query_after(schema: &Schema, verb: Verb, line: &[u8]) -> Result<Query, WordFault>
-    ensures { result ≡ query_after_verb schema.now verb (words line.now) }
+    requires { IsTrue (verb_in_range (length schema.now.categories) verb) }
+    ensures read { result ≡ query_after_verb schema.now verb (words line.now) }
+    ensures valid { IfOk result (λ q. IsTrue (is_valid_query schema.now q)) }
 {
     match filters_of(schema, verb, words_of_verb(verb) + 1, line) {
         Ok(filters) => fitting_query(schema, verb, &filters),
@@ -89,7 +94,8 @@ fn query_after(schema: &Schema, verb: Verb, line: &[u8]) -> Result<Query, WordFa
 /// What the words of the line ask for.
 #[tactic(auto, unfolding(crate::specs::Meaning::query_of))]
 fn query_in(schema: &Schema, line: &[u8]) -> Result<Query, WordFault>
-    ensures { result ≡ query_of schema.now (words line.now) }
+    ensures read { result ≡ query_of schema.now (words line.now) }
+    ensures valid { IfOk result (λ q. IsTrue (is_valid_query schema.now q)) }
 {
     match verb_of(schema, line) {
         Ok((verb, rest)) => query_after(schema, verb, rest),
@@ -117,7 +123,8 @@ fn is_text_line(line: &[u8]) -> bool
 /// The meaning of the line.
 #[tactic(auto, unfolding(crate::specs::Meaning::meaning))]
 fn meaning_of(schema: &Schema, line: &[u8]) -> Parsed
-    ensures { result ≡ meaning schema.now line.now }
+    ensures meaning { result ≡ meaning schema.now line.now }
+    ensures valid { IsTrue (asks_valid schema.now result) }
 {
     if !is_text_line(line) {
         return Parsed::Fault(QueryFault::NotText, 1);
@@ -137,6 +144,7 @@ fn meaning_of(schema: &Schema, line: &[u8]) -> Parsed
 /// The meaning of a line: nothing, a valid query, or the first fault and the number of its word.
 pub fn parse(_alloc: Global, schema: &Schema, line: &[u8]) -> Result<Parsed, NoMemory>
     ensures meaning { IfOk result (λ parsed. parsed ≡ meaning schema.now line.now) }
+    ensures valid { IfOk result (λ parsed. IsTrue (asks_valid schema.now parsed)) }
 {
     Ok(meaning_of(schema, line))
 }

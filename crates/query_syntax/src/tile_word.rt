@@ -1,7 +1,7 @@
 //! Tiles in words.
-ghost use Rattle.std.specs.Prelude.{◌≡◌, ◌≤◌};
+ghost use Rattle.std.specs.Prelude.{◌≡◌, ◌≤◌, IfOk, IfSome, IsTrue};
 ghost use Rattle.query_syntax.specs.Reading.{or_fault};
-ghost use Rattle.query_syntax.specs.Tiles.{tile_if_fits, tile_value};
+ghost use Rattle.query_syntax.specs.Tiles.{is_tile, tile_if_fits, tile_value};
 ghost use Rattle.query_syntax.specs.declared.fault.QueryFault.TheVariants.{BadTile};
 
 use crate::decimal::decimal_of;
@@ -12,7 +12,8 @@ use cube_view::Tile;
 /// The tile of these numbers, if there is one.
 fn tile_from(depth: u8, z: u64, x: u64, y: u64) -> Option<Tile>
     requires { depth ≤ 20 }
-    ensures { result ≡ tile_if_fits depth (record { z = z; x = x; y = y }) }
+    ensures valid { IfSome result (λ t. IsTrue (is_tile depth t)) }
+    ensures value { result ≡ tile_if_fits depth (record { z = z; x = x; y = y }) }
 {
     if z > u64::from(depth) {
         return None;
@@ -35,7 +36,8 @@ fn tile_from(depth: u8, z: u64, x: u64, y: u64) -> Option<Tile>
 #[tactic(auto, unfolding(crate::specs::Tiles::tile_value))]
 fn tile_in(depth: u8, word: &[u8]) -> Option<Tile>
     requires { depth ≤ 20 }
-    ensures { result ≡ tile_value depth word.now }
+    ensures valid { IfSome result (λ t. IsTrue (is_tile depth t)) }
+    ensures value { result ≡ tile_value depth word.now }
 {
     let (z, rest) = next_piece(word, b'/');
     let (x, rest) = next_piece(rest?, b'/');
@@ -52,7 +54,8 @@ fn tile_in(depth: u8, word: &[u8]) -> Option<Tile>
 /// The tile that the word of that number writes.
 pub fn tile_of(depth: u8, number: u32, word: &[u8]) -> Result<Tile, WordFault>
     requires { depth ≤ 20 }
-    ensures { result ≡ or_fault (tile_value depth word.now) BadTile number }
+    ensures valid { IfOk result (λ t. IsTrue (is_tile depth t)) }
+    ensures read { result ≡ or_fault (tile_value depth word.now) BadTile number }
 {
     tile_in(depth, word).ok_or(WordFault::at(QueryFault::BadTile, number))
 }

@@ -1,4 +1,4 @@
-use Rattle.std.proofs.Common.{◌≡◌, ◌≤◌, length, sym, ◌∙◌, true, subst, ℕ, List, arith}
+use Rattle.std.proofs.Common.{◌≡◌, ◌≤◌, length, sym, ◌∙◌, true, arith}
 use Rattle.std.specs.List.{list_all}
 use Rattle.std.specs.Char.{is_ascii_digit}
 use Rattle.std.specs.Str.Parse.{ParsesUnsigned}

@@ -1,4 +1,4 @@
-use Rattle.std.proofs.Common.{◌≡◌, ◌∙◌, sym, ap, length, subst, ◌≤◌, ℕ, List, arith}
+use Rattle.std.proofs.Common.{◌≡◌, ◌∙◌, sym, ap}
 use Rattle.cube_view.specs.declared.category.Category.{Category}
 use Rattle.query_syntax.specs.Items.{values_at}
 use Rattle.query_syntax.proofs.SchemaLimits.{values_at-get, few_values}

@@ -1,4 +1,4 @@
-use Rattle.std.proofs.Common.{◌≡◌, Bool, true, false, List, ℕ, sym, refl}
+use Rattle.std.proofs.Common.{◌≡◌, true, false, List, ℕ, sym, refl}
 use Rattle.std.proofs.lemmas.Str.{is_utf8-from_IsUtf8, IsUtf8-from_is_utf8}
 use Rattle.std.specs.Str.{is_utf8, IsUtf8}
 use Rattle.query_syntax.proofs.parsing.is_text_line.Goals as goal

@@ -1,6 +1,5 @@
-use Rattle.std.proofs.Common.{◌≡◌, ◌∷◌, [], List, ℕ, Option, Some, None, sym, ◌∙◌, ap, subst, IfSome, IfNone}
-use Rattle.std.specs.Option.{option_copied}
-use Rattle.query_syntax.specs.Words.{pieces, pieces_after, words, space}
+use Rattle.std.proofs.Common.{◌≡◌, ◌∷◌, [], sym, ◌∙◌}
+use Rattle.query_syntax.specs.Words.{pieces, words, space}
 use Rattle.query_syntax.proofs.Cutting.{words-more, words-skip, words-last}
 use Rattle.query_syntax.proofs.words.next_word.Goals as goal
 
