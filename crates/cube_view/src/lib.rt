@@ -4,9 +4,7 @@
 mod category;
 mod schema;
 mod spot;
-mod tile;
 
 pub use category::Category;
 pub use schema::Schema;
 pub use spot::{Point, Spot};
-pub use tile::Tile;
