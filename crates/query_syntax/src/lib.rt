@@ -1,8 +1,7 @@
 //! The query language, read and printed, and what a query asks for.
 //!
 //! [`parse`] answers the meaning of a line, which `specs/Meaning.antt` defines: a query, or the first
-//! fault from the left with the number of its word. [`print`] writes a valid query as the one line that
-//! has it as its meaning. What a query counts, its box and the total of a list of points in it, is
+//! fault from the left with the number of its word. What a query counts, its box and the total of a list of points in it, is
 //! defined in `specs/Boxes.antt`.
 #![tactic(auto)]
 
@@ -12,6 +11,8 @@ mod filters;
 mod item;
 mod parsing;
 mod query;
+#[cfg(test)]
+mod tests;
 mod tile_word;
 mod value_set;
 mod verb_words;

@@ -1,0 +1,169 @@
+//! The cube, and what it is as a view.
+ghost use Rattle.std.specs.Prelude.{◌≡◌, ℕ, ◌+◌, ◌*◌, ◌/◌, ◌%◌, ◌^◌, ◌<◌, [], ◌∷◌, ◌++◌, length, All, IsTrue, OnOk, OnErr};
+ghost use Rattle.cube_view.specs.Bag.{bag_limit};
+ghost use Rattle.cube_view.specs.Places.{deepest, longer as longer_address, longer_tile as longer_tile_of, IsAddress};
+ghost use Rattle.cube_view.specs.Validity.{valid};
+
+use crate::scans::{any_below, count_before, least_below};
+use cube_view::{Address, CubeView, Point, Schema, Stat, Tile};
+use outer_io::NoMemory;
+use probe_core::Steps;
+use std::alloc::Global;
+use std::sync::ledger::Ledger;
+
+/// A schema and a list of points that it takes.
+#[derive(Drop)]
+pub struct PlainCube {
+    schema: Schema,
+    points: Vec<Point>,
+    ghost valid: { All (λ p. IsTrue (valid schema p)) points.items },
+    ghost few: { length points.items < bag_limit },
+}
+
+impl PlainCube {
+    ghost use Rattle.cube_view.specs.Bag.{Counts};
+    ghost use Rattle.plain_cube.specs.Kept.{points_of, schema_of};
+
+    /// A cube of no points.
+    pub fn new(alloc: Global, schema: Schema) -> PlainCube
+        ensures schema { schema_of result ≡ schema }
+        ensures points { points_of result ≡ [] }
+        ensures counted { Counts (⟦<PlainCube as CubeView>⟧.weight_at result) (⟦<PlainCube as CubeView>⟧.seen result) (points_of result) }
+    {
+        PlainCube {
+            schema,
+            points: Vec::new(alloc),
+        }
+    }
+
+    /// Adds the point once more.
+    pub fn insert(&mut self, point: Point) -> Result<(), NoMemory>
+        requires { IsTrue (valid (schema_of self.old) point) }
+        ensures inserted { OnOk result (points_of self.new ≡ points_of self.old ++ point ∷ []) }
+        ensures unchanged { OnErr result (points_of self.new ≡ points_of self.old) }
+        ensures counted { Counts (⟦<PlainCube as CubeView>⟧.weight_at self.new) (⟦<PlainCube as CubeView>⟧.seen self.new) (points_of self.new) }
+        ensures schema { schema_of self.new ≡ schema_of self.old }
+    {
+        match self.points.push(point) {
+            Ok(()) => {
+                let _count = self.points.len();
+                Ok(())
+            }
+            Err(_) => Err(NoMemory),
+        }
+    }
+}
+
+impl CubeView for PlainCube {
+    ghost use Rattle.plain_cube.specs.Owned.{bag_of, own_bag};
+
+    type Cursor = Address;
+
+    ghost weight_at = { λ c. bag_of c.points.items };
+
+    ghost seen = { λ c. length c.points.items };
+
+    ghost schema = { λ c. c.schema };
+
+    ghost stands = { λ c a. IsAddress c.schema a };
+
+    ghost address = { λ c a. a };
+
+    ghost down_cost = { λ c a. length c.points.items };
+
+    ghost before_cost = { λ c a. length c.points.items };
+
+    ghost is_stat = { λ s. s ≡ record { nodes = 0; tables = 0; proper = 0; shared = 0 } };
+
+    ghost bag = { λ c. own_bag c.schema c.points.items c.valid c.few };
+
+    fn schema(&self) -> &Schema {
+        &self.schema
+    }
+
+    fn seen(&self) -> u64 {
+        self.points.len() as u64
+    }
+
+    fn top(&self) -> Address {
+        Address {
+            dim: 1,
+            level: 0,
+            tile: Tile { z: 0, x: 0, y: 0 },
+            values: [None; 4],
+        }
+    }
+
+    fn stat(&self) -> Stat {
+        Stat {
+            nodes: 0,
+            tables: 0,
+            proper: 0,
+            shared: 0,
+        }
+    }
+
+    fn down<L: Ledger>(&self, cursor: Address, label: u8, steps: &mut Steps<L>) -> Option<Address> {
+        if any_below(&self.schema, self.points.as_slice(), &cursor, label, steps) {
+            Some(longer(&self.schema, &cursor, label))
+        } else {
+            None
+        }
+    }
+
+    fn next_label<L: Ledger>(&self, cursor: Address, from: u8, steps: &mut Steps<L>) -> Option<u8> {
+        least_below(&self.schema, self.points.as_slice(), &cursor, from, steps)
+    }
+
+    fn across<L: Ledger>(&self, cursor: Address, _steps: &mut Steps<L>) -> Option<Address> {
+        if self.points.is_empty() {
+            return None;
+        }
+        let mut next = cursor;
+        next.dim += 1;
+        next.level = 0;
+        Some(next)
+    }
+
+    fn before<L: Ledger>(&self, cursor: Address, bin_end: u64, steps: &mut Steps<L>) -> u64 {
+        count_before(
+            &self.schema,
+            self.points.as_slice(),
+            &cursor,
+            bin_end,
+            steps,
+        )
+    }
+}
+
+fn longer(schema: &Schema, address: &Address, label: u8) -> Address
+    requires address { IsAddress schema.now address.now }
+    requires above { address.now.level < deepest schema.now address.now.dim }
+    requires quadrant { address.now.dim ≡ 1 → label < 4 }
+    ensures place { result ≡ longer_address address.now label }
+    ensures address { IsAddress schema.now result }
+{
+    let mut next = *address;
+    next.level += 1;
+    if address.dim == 1 {
+        next.tile = quadrant(address.tile, label);
+    } else {
+        next.values[address.dim as usize - 2] = Some(label);
+    }
+    next
+}
+
+// The tile's quadrant with the label.
+fn quadrant(tile: Tile, label: u8) -> Tile
+    requires level { tile.z < 20 }
+    requires tile { (tile.x < 2 ^ tile.z) × (tile.y < 2 ^ tile.z) }
+    requires quadrant { label < 4 }
+    ensures tile { result ≡ longer_tile_of 1 tile label }
+    ensures within { (result.x < 2 ^ result.z) × (result.y < 2 ^ result.z) }
+{
+    Tile {
+        z: tile.z + 1,
+        x: 2 * tile.x + (label % 2) as u32,
+        y: 2 * tile.y + (label / 2) as u32,
+    }
+}
