@@ -29,10 +29,10 @@ box q = record { tile = q.region; sets = map chosen q.sets; from = q.time.from; 
 abbrev pub is_in_tile : ℕ → Tile → Spot → Bool
 is_in_tile depth t s = (s.x / 2 ^ (depth - t.z) == t.x) && (s.y / 2 ^ (depth - t.z) == t.y)
 
--- each value is in its set
+-- each value is in its set, and one that is not there counts as 0
 abbrev pub are_in_sets : List (ℕ → Bool) → List ℕ → Bool
 are_in_sets [] values = true
-are_in_sets (set ∷ sets) [] = true
+are_in_sets (set ∷ sets) [] = set 0 && are_in_sets sets []
 are_in_sets (set ∷ sets) (v ∷ values) = set v && are_in_sets sets values
 
 -- the spot is inside the box
