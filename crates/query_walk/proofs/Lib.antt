@@ -1,0 +1,5 @@
+pub mod Costing
+pub mod Descends
+pub mod Sets
+pub mod Spans
+pub mod Valid
