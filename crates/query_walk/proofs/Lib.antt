@@ -1,3 +1,4 @@
+pub mod Addresses
 pub mod Costing
 pub mod Descends
 pub mod Sets

@@ -28,19 +28,26 @@ by_choice All all each = all
 by_choice (Only set) all each = sum_over set each
 
 module _ (down before : Address → ℕ) (q : Query) where
-  -- the n categories from the k-th on, counted from 0, and time
+  -- what the n categories from the k-th on, counted from 0, and time cost a walk that stands at the address
   abbrev pub rest_cost : Address → ℕ → ℕ → ℕ
   rest_cost a k zero = 2 * before a
   rest_cost a k (suc n) = by_choice (slice_index_or q.sets k All) (1 + rest_cost (next_dim a) (k + 1) n) (λ v. down a + (1 + rest_cost (next_dim (longer a v)) (k + 1) n))
 
-  -- one value of category k, with n categories after it
+  -- the same, by one value of category k, with n categories after it
   abbrev pub value_cost : Address → ℕ → ℕ → ℕ → ℕ
   value_cost a k n v = down a + (1 + rest_cost (next_dim (longer a v)) (k + 1) n)
 
-  -- the values of a set of category k
+  -- the same, by each value of a set of category k
   abbrev pub set_cost : Address → ℕ → ℕ → List Bool → ℕ
   set_cost a k n set = sum_over set (value_cost a k n)
 
-  -- the region, then each category, and time
+  -- The query's addresses have, after this one, no value of a category whose set is `All`, else one value of
+  -- its set. For each of them the cost of its whole walk is counted, where the walk so far has cost that much.
+  abbrev pub addresses_cost : ℕ → Address → ℕ → ℕ → ℕ
+  addresses_cost so_far a k zero = so_far + 2 * before a
+  addresses_cost so_far a k (suc n) = by_choice (slice_index_or q.sets k All) (addresses_cost (so_far + 1) (next_dim a) (k + 1) n) (λ v. addresses_cost (so_far + (down a + 1)) (next_dim (longer a v)) (k + 1) n)
+
+  -- The sum, over the query's addresses, of the cost of each: the downs of its walk, 1 for each step across, and
+  -- two running totals at its end
   abbrev pub search_cost : Schema → ℕ
-  search_cost schema = region_cost down q.region q.region.z + (1 + rest_cost (next_dim (region_address q.region)) 0 (length schema.categories))
+  search_cost schema = addresses_cost (region_cost down q.region q.region.z + 1) (next_dim (region_address q.region)) 0 (length schema.categories)

@@ -61,7 +61,8 @@ fn total_in_set<V: CubeView, L: Ledger>(
     let mut sum = 0;
     for value in 0..256u16 {
         if set.has(value as u8) {
-            sum += total_at_value(view, query, cursor, k, value as u8, steps);
+            let at_value = total_at_value(view, query, cursor, k, value as u8, steps);
+            sum += at_value;
         }
     }
     sum

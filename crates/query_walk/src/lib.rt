@@ -9,5 +9,7 @@ mod categories;
 mod region;
 mod search;
 mod span;
+#[cfg(test)]
+mod tests;
 
 pub use search::total;

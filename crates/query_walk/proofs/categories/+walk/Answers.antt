@@ -103,15 +103,15 @@ total_in_set-loop-value-init g t c = record { total = λ h counts. sets.below_no
 
 pub total_in_set-overflow_add-sum : goal.total_in_set-overflow_add-sum
 total_in_set-overflow_add-sum g t c =
-    let small : c.loop-value.sum + c.total_at_value-sum.result < 2 ^ 64 = ∥∥₁_elim (g.met.V.CubeView.bag c.args.view.now).counted le_prop (λ p.
+    let small : c.loop-value.sum + c.total_at_value-at_value.result < 2 ^ 64 = ∥∥₁_elim (g.met.V.CubeView.bag c.args.view.now).counted le_prop (λ p.
     let z = g.V.CubeView.schema c.args.view.now in
     let a = g.V.CubeView.address c.args.view.now c.args.cursor in
     let few = few_categories z in
     let lt : c.args.k < 4 = omega (arith, few, c.requires.category) in
     let e = sets.below_yes z c.args.query.now a c.args.k p.0 c.args.set.now c.loop-value.value lt c.requires.here (sym c.has.ensures ∙ c.if-has.true) in
     let b = c.loop-value.invariant.total p.0 p.1 in
-    let d = c.total_at_value-sum.ensures.total p.0 p.1 in
-    sets.sum_fits (sets.is_left_below z c.args.query.now a c.args.k c.args.set.now (c.loop-value.value + 1)) p.0 c.loop-value.sum c.total_at_value-sum.result (omega (arith, e, b, d)) ((g.met.V.CubeView.bag c.args.view.now).small p.0 p.1)) in
+    let d = c.total_at_value-at_value.ensures.total p.0 p.1 in
+    sets.sum_fits (sets.is_left_below z c.args.query.now a c.args.k c.args.set.now (c.loop-value.value + 1)) p.0 c.loop-value.sum c.total_at_value-at_value.result (omega (arith, e, b, d)) ((g.met.V.CubeView.bag c.args.view.now).small p.0 p.1)) in
     omega (arith, small)
 
 pub total_in_set-loop-value-preserved : goal.total_in_set-loop-value-preserved
@@ -127,11 +127,11 @@ total_in_set-loop-value-preserved g t c =
       total = λ h counts.
           let b = c.loop-value.invariant.total h counts in
           elim c.if-has.branch [
-            | total_in_set-then-has w ↦ (let e = sets.below_yes z c.args.query.now a c.args.k h c.args.set.now c.loop-value.value lt c.requires.here (sym c.has.ensures ∙ w.if-has.true) in let d = w.total_at_value-sum.ensures.total h counts in omega (arith, e, b, d, w.sum-is))
+            | total_in_set-then-has w ↦ (let e = sets.below_yes z c.args.query.now a c.args.k h c.args.set.now c.loop-value.value lt c.requires.here (sym c.has.ensures ∙ w.if-has.true) in let d = w.total_at_value-at_value.ensures.total h counts in omega (arith, e, b, d, w.sum-is))
             | total_in_set-else-has w ↦ (let e = sets.below_no z c.args.query.now a c.args.k h c.args.set.now c.loop-value.value (sym c.has.ensures ∙ w.if-has.false) in omega (arith, e, b, w.sum-is))
           ];
       cost = elim c.if-has.branch [
-        | total_in_set-then-has w ↦ (let k = cond-true (get_or c.args.set.now c.loop-value.value false) (value_cost (g.V.CubeView.down_cost c.args.view.now) (g.V.CubeView.before_cost c.args.view.now) c.args.query.now a c.args.k n c.loop-value.value) 0 (sym c.has.ensures ∙ w.if-has.true) in omega (arith, m, k, c.loop-value.invariant.cost, w.total_at_value-sum.ensures.cost, w.steps-is))
+        | total_in_set-then-has w ↦ (let k = cond-true (get_or c.args.set.now c.loop-value.value false) (value_cost (g.V.CubeView.down_cost c.args.view.now) (g.V.CubeView.before_cost c.args.view.now) c.args.query.now a c.args.k n c.loop-value.value) 0 (sym c.has.ensures ∙ w.if-has.true) in omega (arith, m, k, c.loop-value.invariant.cost, w.total_at_value-at_value.ensures.cost, w.steps-is))
         | total_in_set-else-has w ↦ omega (arith, m, c.loop-value.invariant.cost, w.steps-is)
       ];
     }
