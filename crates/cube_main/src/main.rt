@@ -17,15 +17,17 @@ use crate::nanocube::nanocube;
 use crate::status::Status;
 use outer_io::{FilePlace, NoMemory, StdSink};
 use std::env;
+use std::io::ErrorKind;
 use std::process::ExitCode;
 use std::rt::Env;
 
 /// The words after the program's name. A word that is not UTF-8 leaves a line of no words, which is no form.
 fn words<R: Env + AllocGlobal>(rt: &R) -> Result<Vec<String>, NoMemory> {
-    let Ok(args) = env::args(rt) else {
-        return Ok(Vec::new(rt.alloc()));
-    };
-    args.skip(1).collect(rt.alloc()).map_err(|_| NoMemory)
+    match env::args(rt) {
+        Ok(args) => args.skip(1).collect(rt.alloc()).map_err(|_| NoMemory),
+        Err(fault) if fault.kind() == ErrorKind::OutOfMemory => Err(NoMemory),
+        Err(_) => Ok(Vec::new(rt.alloc())),
+    }
 }
 
 fn main(rt: HostRuntime) -> ExitCode {

@@ -1,0 +1,11 @@
+use Rattle.std.proofs.Common.{refl, arith}
+use Rattle.query_syntax.proofs.Validity.{fit_none}
+use Rattle.query_syntax.proofs.filters.filters_of.Goals as goal
+
+pub loop-word-init : goal.loop-word-init
+loop-word-init c = rw c.no_filters_yet-filters.ensures (record {
+  reads = refl;
+  number = omega (arith, c.requires);
+  fits = fit_none c.args.schema.now c.args.verb;
+  places = refl;
+})

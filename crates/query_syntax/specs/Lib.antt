@@ -1,0 +1,10 @@
+pub mod Words
+pub mod Decimals
+pub mod Reading
+pub mod Tiles
+pub mod Items
+pub mod Verbs
+pub mod Filters
+pub mod Queries
+pub mod Meaning
+pub mod Boxes

@@ -1,0 +1,81 @@
+-- Which queries a schema takes.
+use Rattle.std.specs.Prelude.{ℕ, ◌+◌, Bool, true, false, not, ◌&&◌, ◌||◌, ◌==◌, nat_le, nat_lt, List, [], ◌∷◌, length, drop}
+use Rattle.std.specs.List.{list_all, list_any}
+use Rattle.cube_view.specs.Limits.{is_between}
+use Rattle.cube_view.specs.declared.category.Category.{Category}
+use Rattle.cube_view.specs.declared.schema.Schema.{Schema}
+use Rattle.cube_view.specs.declared.address.Tile.{Tile}
+use Rattle.query_syntax.specs.Items.{is_full}
+use Rattle.query_syntax.specs.Tiles.{is_tile}
+use Rattle.query_syntax.specs.Verbs.{bins, deepest_map, most_rows, takes_filters, is_series}
+use Rattle.query_syntax.specs.declared.query.Choice.{Choice}
+use Rattle.query_syntax.specs.declared.query.Choice.TheVariants.{All, Only}
+use Rattle.query_syntax.specs.declared.query.Query.{Query}
+use Rattle.query_syntax.specs.declared.query.Span.{Span}
+use Rattle.query_syntax.specs.declared.query.Verb.{Verb}
+use Rattle.query_syntax.specs.declared.query.Verb.TheVariants.{Count, Hist, Map, Series, Stat, Told, Quit}
+
+abbrev pub whole_space : Tile
+whole_space = record { z = 0; x = 0; y = 0 }
+
+abbrev pub all_bins : Span
+all_bins = record { from = 0; to = bins }
+
+abbrev pub is_all : Choice → Bool
+is_all All = true
+is_all (Only set) = false
+
+-- a choice among so many values: all, or some but not all of them
+abbrev pub is_choice : ℕ → Choice → Bool
+is_choice count All = true
+is_choice count (Only set) = (length set == 256) && list_any (λ b. b) set && not (is_full count set) && not (list_any (λ b. b) (drop count set))
+
+-- each choice is one of its category's values, and past the categories it is `All`
+abbrev pub are_choices : List Category → List Choice → Bool
+are_choices categories [] = true
+are_choices [] (choice ∷ choices) = is_all choice && are_choices [] choices
+are_choices (c ∷ categories) (choice ∷ choices) = is_choice (length c.values) choice && are_choices categories choices
+
+-- from the first bin of the span to one at or after it
+abbrev pub is_span : Span → Bool
+is_span span = nat_le span.from span.to && nat_le span.to bins
+
+-- the map's tiles are too deep for the schema
+abbrev pub is_too_deep : ℕ → ℕ → Verb → Bool
+is_too_deep depth z Count = false
+is_too_deep depth z (Hist k) = false
+is_too_deep depth z (Map down) = nat_lt depth (z + down)
+is_too_deep depth z (Series from wide rows) = false
+is_too_deep depth z Stat = false
+is_too_deep depth z Told = false
+is_too_deep depth z Quit = false
+
+-- the numbers of the verb are in their ranges, where there are so many categories
+abbrev pub verb_in_range : ℕ → Verb → Bool
+verb_in_range count Count = true
+verb_in_range count (Hist k) = nat_lt k count
+verb_in_range count (Map down) = nat_le down deepest_map
+verb_in_range count (Series from wide rows) = nat_lt from bins && is_between 1 bins wide && is_between 1 most_rows rows
+verb_in_range count Stat = true
+verb_in_range count Told = true
+verb_in_range count Quit = true
+
+abbrev pub is_whole_space : Tile → Bool
+is_whole_space t = (t.z == 0) && (t.x == 0) && (t.y == 0)
+
+abbrev pub is_all_bins : Span → Bool
+is_all_bins span = (span.from == 0) && (span.to == bins)
+
+-- the filters are those that a line without filters has
+abbrev pub has_no_filters : Query → Bool
+has_no_filters q = is_whole_space q.region && list_all is_all q.sets && is_all_bins q.time
+
+-- the filters that the verb doesn't take are as without them
+abbrev pub filters_fit_verb : Query → Bool
+filters_fit_verb q = (takes_filters q.verb || has_no_filters q) && (not (is_series q.verb) || is_all_bins q.time)
+
+-- The schema takes the query
+unfoldable pub is_valid_query : Schema → Query → Bool
+is_valid_query schema q =
+    verb_in_range (length schema.categories) q.verb && is_tile schema.depth q.region && not (is_too_deep schema.depth q.region.z q.verb)
+    && (length q.sets == 4) && are_choices schema.categories q.sets && is_span q.time && filters_fit_verb q

@@ -1,0 +1,24 @@
+//! The query language, read and printed, and what a query asks for.
+//!
+//! [`parse`] answers the meaning of a line, which `specs/Meaning.antt` defines: a query, or the first
+//! fault from the left with the number of its word. What a query counts, its box and the total of a list of points in it, is
+//! defined in `specs/Boxes.antt`.
+#![tactic(auto)]
+
+mod decimal;
+mod fault;
+mod filters;
+mod item;
+mod parsing;
+mod query;
+#[cfg(test)]
+mod tests;
+mod tile_word;
+mod value_set;
+mod verb_words;
+mod words;
+
+pub use fault::QueryFault;
+pub use parsing::parse;
+pub use query::{Choice, Parsed, Query, Span, Verb};
+pub use value_set::ValueSet;

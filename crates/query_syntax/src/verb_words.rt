@@ -1,0 +1,125 @@
+//! Verbs in words.
+ghost use Rattle.std.specs.Prelude.{◌≡◌, ◌≤◌, ◌<◌, ◌-◌, length, IfSome, IfOk, IsTrue, ℕ};
+ghost use Rattle.std.specs.Str.{bytes_eq};
+ghost use Rattle.query_syntax.specs.Items.{category_number};
+ghost use Rattle.query_syntax.specs.Reading.{Gives, number_at, number_of};
+ghost use Rattle.query_syntax.specs.Queries.{verb_in_range};
+ghost use Rattle.query_syntax.specs.Verbs.{verb_at, hist_at, map_at, series_at};
+ghost use Rattle.query_syntax.specs.Words.{words};
+
+use crate::Verb;
+use crate::decimal::decimal_of;
+use crate::fault::{QueryFault, WordFault};
+use crate::words::{is_text, word_of};
+use cube_view::Schema;
+
+/// How many bins there are.
+pub const BINS: u64 = 1 << 32;
+
+/// The number that the word of that number writes, which is one from low to high.
+#[tactic(auto, unfolding(crate::specs::Reading::number_of))]
+pub fn number_in(low: u64, high: u64, number: u32, word: &[u8]) -> Result<u64, WordFault>
+    ensures read { result ≡ number_of low high number word.now }
+    ensures within { IfOk result (λ value. (low ≤ value) × (value ≤ high)) }
+{
+    match decimal_of(word) {
+        None => Err(WordFault::at(QueryFault::BadNumber, number)),
+        Some(value) => {
+            if low <= value && value <= high {
+                Ok(value)
+            } else {
+                Err(WordFault::at(QueryFault::OutOfRange, number))
+            }
+        }
+    }
+}
+
+/// The number that the first word of the line writes, and what comes after it.
+#[tactic(auto, unfolding(crate::specs::Reading::number_at))]
+pub fn next_number(low: u64, high: u64, number: u32, line: &[u8]) -> Result<(u64, &[u8]), WordFault>
+    ensures read { Gives (λ x. (x.0, words x.1.now)) result (number_at low high number (words line.now)) }
+    ensures within { IfOk result (λ x. (low ≤ x.0) × (x.0 ≤ high)) }
+{
+    let (word, rest) = word_of(line, number)?;
+    let value = number_in(low, high, number, word)?;
+    Ok((value, rest))
+}
+
+/// The number of the category of that name.
+#[tactic(auto, unfolding(crate::specs::Items::category_number))]
+pub fn category_named(schema: &Schema, name: &[u8]) -> Option<usize>
+    ensures number { result ≡ category_number schema.now.categories name.now }
+    ensures below { IfSome result (λ k. k < length schema.now.categories) }
+    ensures few { IfSome result (λ k. k < 4) }
+{
+    schema
+        .categories
+        .as_slice()
+        .iter()
+        .position(|category| category.name.as_str().as_bytes() == name)
+}
+
+#[tactic(auto, unfolding(crate::specs::Verbs::hist_at))]
+fn hist_of<'a>(schema: &Schema, line: &'a [u8]) -> Result<(Verb, &'a [u8]), WordFault>
+    ensures valid { IfOk result (λ x. IsTrue (verb_in_range (length schema.now.categories) x.0)) }
+    ensures read { Gives (λ x. (x.0, words x.1.now)) result (hist_at schema.now.categories (words line.now)) }
+{
+    let (name, rest) = word_of(line, 2)?;
+    match category_named(schema, name) {
+        Some(k) => Ok((Verb::Hist(k as u8), rest)),
+        None => Err(WordFault::at(QueryFault::UnknownCategory, 2)),
+    }
+}
+
+#[tactic(auto, unfolding(crate::specs::Verbs::map_at))]
+fn map_of(line: &[u8]) -> Result<(Verb, &[u8]), WordFault>
+    ensures valid { IfOk result (λ x. (count : ℕ) → IsTrue (verb_in_range count x.0)) }
+    ensures read { Gives (λ x. (x.0, words x.1.now)) result (map_at (words line.now)) }
+{
+    let (down, rest) = next_number(0, 10, 2, line)?;
+    Ok((Verb::Map(down as u8), rest))
+}
+
+#[tactic(auto, unfolding(crate::specs::Verbs::series_at))]
+fn series_of(line: &[u8]) -> Result<(Verb, &[u8]), WordFault>
+    ensures valid { IfOk result (λ x. (count : ℕ) → IsTrue (verb_in_range count x.0)) }
+    ensures read { Gives (λ x. (x.0, words x.1.now)) result (series_at (words line.now)) }
+{
+    let (from, rest) = next_number(0, BINS - 1, 2, line)?;
+    let (wide, rest) = next_number(1, BINS, 3, rest)?;
+    let (rows, rest) = next_number(1, 10_000, 4, rest)?;
+    Ok((
+        Verb::Series {
+            from,
+            wide,
+            rows: rows as u32,
+        },
+        rest,
+    ))
+}
+
+/// The verb that the line begins with, and what comes after its words.
+#[tactic(auto, unfolding(crate::specs::Verbs::verb_at))]
+pub fn verb_of<'a>(schema: &Schema, line: &'a [u8]) -> Result<(Verb, &'a [u8]), WordFault>
+    ensures valid { IfOk result (λ x. IsTrue (verb_in_range (length schema.now.categories) x.0)) }
+    ensures read { Gives (λ x. (x.0, words x.1.now)) result (verb_at schema.now.categories (words line.now)) }
+{
+    let (word, rest) = word_of(line, 1)?;
+    if is_text(word, "count") {
+        Ok((Verb::Count, rest))
+    } else if is_text(word, "hist") {
+        hist_of(schema, rest)
+    } else if is_text(word, "map") {
+        map_of(rest)
+    } else if is_text(word, "series") {
+        series_of(rest)
+    } else if is_text(word, "stat") {
+        Ok((Verb::Stat, rest))
+    } else if is_text(word, "told") {
+        Ok((Verb::Told, rest))
+    } else if is_text(word, "quit") {
+        Ok((Verb::Quit, rest))
+    } else {
+        Err(WordFault::at(QueryFault::UnknownVerb, 1))
+    }
+}

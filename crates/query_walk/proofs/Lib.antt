@@ -1,0 +1,6 @@
+pub mod Addresses
+pub mod Costing
+pub mod Descends
+pub mod Sets
+pub mod Spans
+pub mod Valid

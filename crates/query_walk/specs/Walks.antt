@@ -1,0 +1,57 @@
+-- Where a walk stands, and which spots it has still to count.
+use Rattle.std.specs.Prelude.{◌≡◌, ℕ, ◌+◌, ◌*◌, ◌≤◌, Bool, false, ◌&&◌, nat_le, nat_lt, IsTrue, List, [], ◌∷◌, length, map, drop, None, slice_index, slice_index_or}
+use Rattle.cube_view.specs.Places.{shifted, bit_at, is_under}
+use Rattle.cube_view.specs.declared.address.Address.{Address}
+use Rattle.cube_view.specs.declared.address.Tile.{Tile}
+use Rattle.cube_view.specs.declared.schema.Schema.{Schema}
+use Rattle.cube_view.specs.declared.spot.Spot.{Spot}
+use Rattle.query_syntax.specs.Boxes.{chosen, are_in_sets}
+use Rattle.query_syntax.specs.Queries.{are_choices}
+use Rattle.query_syntax.specs.declared.query.Query.{Query}
+use Rattle.query_syntax.specs.declared.query.Span.{Span}
+
+-- the quadrant that the way to the tile takes at a level, from 1 to the tile's
+abbrev pub tile_label : Tile → ℕ → ℕ
+tile_label t level = 2 * bit_at t.z level t.y + bit_at t.z level t.x
+
+-- the tile of a level that has the tile in it
+abbrev pub tile_at : Tile → ℕ → Tile
+tile_at t level = record { z = level; x = shifted t.z level t.x; y = shifted t.z level t.y }
+
+-- the address in space of a tile
+abbrev pub region_address : Tile → Address
+region_address t = record { dim = 1; level = t.z; tile = t; values = None ∷ None ∷ None ∷ None ∷ [] }
+
+-- the bin is one of the span
+abbrev pub is_in_span : Span → ℕ → Bool
+is_in_span span bin = nat_le span.from bin && nat_lt bin span.to
+
+-- the spot lies under the address, in a bin of the span
+abbrev pub is_under_in : Schema → Address → Span → Spot → Bool
+is_under_in schema address span s = is_under schema address s && is_in_span span s.bin
+
+-- the spot's values from category k on, counted from 0, are in the query's sets, and its bin is in the span
+abbrev pub meets_from : Query → ℕ → Spot → Bool
+meets_from q k s = are_in_sets (map chosen (drop k q.sets)) (drop k s.values) && is_in_span q.time s.bin
+
+-- the spot lies under the address, and is one of the query as far as it says from category k on
+abbrev pub is_left : Schema → Query → Address → ℕ → Spot → Bool
+is_left schema q address k s = is_under schema address s && meets_from q k s
+
+-- the same, where the set is that of category k
+abbrev pub is_left_in_set : Schema → Query → Address → ℕ → List Bool → Spot → Bool
+is_left_in_set schema q address k set s = is_under schema address s && (slice_index_or set (slice_index s.values k) false && meets_from q (k + 1) s)
+
+-- The address is at level 0 of category k, counted from 0, or of time, and has no value from there on.
+pub record IsAtCategory (address : Address) (k : ℕ) : Type 0 where
+  pub dim : address.dim ≡ k + 2
+  pub level : address.level ≡ 0
+  pub wide : length address.values ≡ 4
+  pub open_from : (j : ℕ) → k ≤ j → slice_index_or address.values j None ≡ None
+
+-- There are k categories or more, what the query asks from there on the schema takes, and its span is in order.
+pub record HasChoicesFrom (schema : Schema) (q : Query) (k : ℕ) : Type 0 where
+  pub few : k ≤ length schema.categories
+  pub wide : length q.sets ≡ 4
+  pub choices : IsTrue (are_choices (drop k schema.categories) (drop k q.sets))
+  pub order : q.time.from ≤ q.time.to
