@@ -1,12 +1,12 @@
 -- What a valid query has: a tile of the schema, choices among its values, and a span in order.
-use Rattle.std.proofs.Common.{◌≡◌, ℕ, zero, suc, ◌+◌, ◌<◌, ◌≤◌, ◌^◌, Bool, true, eqb, ltb, leb, IsTrue, List, [], ◌∷◌, length, drop, get_or, sym, subst, arith, add-one}
+use Rattle.std.proofs.Common.{◌≡◌, ℕ, zero, suc, ◌+◌, ◌<◌, ◌≤◌, ◌^◌, true, eqb, ltb, leb, IsTrue, List, [], ◌∷◌, length, drop, sym, ap, subst, arith, add-one}
 use Rattle.std.proofs.lemmas.Bool.{and_parts, eqb-true, ltb-true, leb-true}
+use Rattle.cube_view.specs.SchemaBounds.{few_categories}
 use Rattle.cube_view.specs.declared.category.Category.{Category}
 use Rattle.cube_view.specs.declared.schema.Schema.{Schema}
 use Rattle.query_syntax.specs.Queries.{is_choice, are_choices, is_span, is_valid_query, filters_fit_verb}
 use Rattle.query_syntax.specs.Tiles.{is_tile}
 use Rattle.query_syntax.specs.declared.query.Choice.{Choice}
-use Rattle.query_syntax.specs.declared.query.Choice.TheVariants.{All, Only}
 use Rattle.query_syntax.specs.declared.query.Query.{Query}
 use Rattle.query_walk.specs.Walks.{HasChoicesFrom}
 
@@ -51,29 +51,24 @@ next_choices (c ∷ cs) [] k lt le e = absurd (omega (arith, le))
 next_choices (c ∷ cs) (x ∷ qs) zero lt le e = (and_parts (is_choice (length c.values) x) (are_choices cs qs) e).1
 next_choices (c ∷ cs) (x ∷ qs) (suc k) lt le e = next_choices cs qs k (omega (arith, lt)) (omega (arith, le)) e
 
-choice_wide : (count : ℕ) (x : Choice) (set : List Bool) → is_choice count x ≡ true → x ≡ Only set → length set ≡ 256
-choice_wide count x set e is =
-    let only : is_choice count (Only set) ≡ true = subst (λ (y : Choice). is_choice count y ≡ true) is e in
-    let a = and_parts _ _ only in
-    let b = and_parts _ _ a.0 in
-    let c = and_parts (eqb (length set) 256) _ b.0 in
-    eqb-true _ _ c.0
+-- a category's number from 0
+pub below_four : (z : Schema) (k : ℕ) → k < length z.categories → k < 4
+below_four z k lt = let few = few_categories z in omega (arith, few, lt)
 
--- the set of category k
-wide_at : (cs : List Category) (qs : List Choice) (k : ℕ) (set : List Bool) → k < length cs → k < length qs → are_choices (drop k cs) (drop k qs) ≡ true → get_or qs k All ≡ Only set → length set ≡ 256
-wide_at [] qs k set lt le e is = absurd (omega (arith, lt))
-wide_at (c ∷ cs) [] k set lt le e is = absurd (omega (arith, le))
-wide_at (c ∷ cs) (x ∷ qs) zero set lt le e is = choice_wide (length c.values) x set (and_parts (is_choice (length c.values) x) (are_choices cs qs) e).0 is
-wide_at (c ∷ cs) (x ∷ qs) (suc k) set lt le e is = wide_at cs qs k set (omega (arith, lt)) (omega (arith, le)) e is
+-- a number that is not past the categories is one's, or that of time
+pub at_category : (y z : Schema) (q : Query) (k n : ℕ) → y ≡ z → n ≡ length y.categories → (k ≡ n → ⊥) → HasChoicesFrom z q k → (k < length z.categories) × (k < length q.sets)
+at_category y z q k n same all ne has =
+    let count = ap (λ (x : Schema). length x.categories) same in
+    let low = has.few in
+    let lt : k < length z.categories = omega (arith, count, all, ne, low) in
+    let four = below_four z k lt in
+    let wide = has.wide in
+    (lt, omega (arith, four, wide))
 
-module _ (z : Schema) (q : Query) (k : ℕ) (has : HasChoicesFrom z q k) (lt : k < length z.categories) (le : k < 4) where
-  pub choices_next : HasChoicesFrom z q (k + 1)
-  choices_next = record {
-    few = omega (arith, lt);
-    wide = has.wide;
-    choices = subst (λ j. are_choices (drop j z.categories) (drop j q.sets) ≡ true) (sym (add-one k)) (next_choices z.categories q.sets k lt (let w = has.wide in omega (arith, w, le)) has.choices);
-    order = has.order;
-  }
-
-  pub set_wide : (set : List Bool) → get_or q.sets k All ≡ Only set → length set ≡ 256
-  set_wide set is = wide_at z.categories q.sets k set lt (let w = has.wide in omega (arith, w, le)) has.choices is
+pub choices_next : (z : Schema) (q : Query) (k : ℕ) → HasChoicesFrom z q k → k < length z.categories → HasChoicesFrom z q (k + 1)
+choices_next z q k has lt = record {
+  few = omega (arith, lt);
+  wide = has.wide;
+  choices = subst (λ j. are_choices (drop j z.categories) (drop j q.sets) ≡ true) (sym (add-one k)) (next_choices z.categories q.sets k lt (let four = below_four z k lt in let wide = has.wide in omega (arith, wide, four)) has.choices);
+  order = has.order;
+}

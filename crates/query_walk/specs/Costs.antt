@@ -41,8 +41,8 @@ module _ (down before : Address → ℕ) (q : Query) where
   abbrev pub set_cost : Address → ℕ → ℕ → List Bool → ℕ
   set_cost a k n set = sum_over set (value_cost a k n)
 
-  -- The query's addresses have, after this one, no value of a category whose set is `All`, else one value of
-  -- its set. For each of them the cost of its whole walk is counted, where the walk so far has cost that much.
+  -- The sum of the costs of the query's addresses that go on from this one: with no value of a category whose
+  -- set is `All`, else with one value of its set. Each cost is that of a whole walk, and so far that much.
   abbrev pub addresses_cost : ℕ → Address → ℕ → ℕ → ℕ
   addresses_cost so_far a k zero = so_far + 2 * before a
   addresses_cost so_far a k (suc n) = by_choice (slice_index_or q.sets k All) (addresses_cost (so_far + 1) (next_dim a) (k + 1) n) (λ v. addresses_cost (so_far + (down a + 1)) (next_dim (longer a v)) (k + 1) n)

@@ -4,28 +4,25 @@ use Rattle.std.proofs.Math.Logic.{∥∥₁_elim}
 use Rattle.std.proofs.lemmas.Bool.{cond-true}
 use Rattle.std.proofs.lemmas.List.{get_or_default}
 use Rattle.cube_view.specs.Amounts.{none_anywhere}
-use Rattle.cube_view.specs.SchemaBounds.{few_categories}
 use Rattle.cube_view.specs.declared.address.Address.{Address}
 use Rattle.cube_view.specs.declared.schema.Schema.{Schema}
 use Rattle.query_syntax.specs.declared.query.Choice.TheVariants.{All}
 use Rattle.query_walk.specs.Costs.{rest_cost, value_cost}
 use Rattle.query_walk.proofs.Costing.{sum_more, sum_all, open_is, set_is}
 use Rattle.query_walk.proofs.Sets as sets
-use Rattle.query_walk.proofs.Valid.{choices_next}
+use Rattle.query_walk.proofs.Valid.{at_category, below_four, choices_next}
 use Rattle.query_walk.proofs.categories.+walk.Goals.{total_in_set-then-has, total_in_set-else-has}
 use Rattle.query_walk.proofs.categories.+walk.Goals as goal
 
 pub total_at_value-returns-in_default-clause-total : goal.total_at_value-returns-in_default-clause-total
 total_at_value-returns-in_default-clause-total g t c h counts =
     let z = g.V.CubeView.schema c.args.view.now in
-    let few = few_categories z in
-    sets.none_at z c.args.query.now (g.V.CubeView.address c.args.view.now c.args.cursor) c.args.k h c.args.value (omega (arith, few, c.requires.category)) c.requires.here (c.in_default.ensures.found h counts)
+    sets.none_at z c.args.query.now (g.V.CubeView.address c.args.view.now c.args.cursor) c.args.k h c.args.value (below_four z c.args.k c.requires.category) c.requires.here (c.in_default.ensures.found h counts)
 
 pub total_at_value-total_from-requires-clause-choices : goal.total_at_value-total_from-requires-clause-choices
 total_at_value-total_from-requires-clause-choices g t c κs within =
     let z = g.V.CubeView.schema c.args.view.now in
-    let few = few_categories z in
-    choices_next z c.args.query.now c.args.k c.requires.choices c.requires.category (omega (arith, few, c.requires.category))
+    choices_next z c.args.query.now c.args.k c.requires.choices c.requires.category
 
 pub total_at_value-returns-in-None-clause-total : goal.total_at_value-returns-in-None-clause-total
 total_at_value-returns-in-None-clause-total g t c h counts = none_anywhere _ h (c.in-None.ensures.found h counts)
@@ -38,29 +35,21 @@ total_from-returns-then-k-len-clause-total g t c h counts =
 pub total_from-total_from-requires-clause-choices : goal.total_from-total_from-requires-clause-choices
 total_from-total_from-requires-clause-choices g t c κs within =
     let z = g.V.CubeView.schema c.args.view.now in
-    let few = few_categories z in
-    let count = ap (λ (y : Schema). length y.categories) c.schema.ensures in
-    let lt : c.args.k < length z.categories = omega (arith, count, c.len.ensures, c.if-k-len.false, c.requires.choices.few) in
-    choices_next z c.args.query.now c.args.k c.requires.choices lt (omega (arith, few, lt))
+    let at = at_category c.schema.result.now z c.args.query.now c.args.k c.len.result c.schema.ensures c.len.ensures c.if-k-len.false c.requires.choices in
+    choices_next z c.args.query.now c.args.k c.requires.choices at.0
 
 pub total_from-returns-in-Some-clause-total : goal.total_from-returns-in-Some-clause-total
 total_from-returns-in-Some-clause-total g t c h counts =
     let z = g.V.CubeView.schema c.args.view.now in
-    let few = few_categories z in
-    let count = ap (λ (y : Schema). length y.categories) c.schema.ensures in
-    let lt : c.args.k < length z.categories = omega (arith, count, c.len.ensures, c.if-k-len.false, c.requires.choices.few) in
-    let le : c.args.k < length c.args.query.now.sets = let w = c.requires.choices.wide in omega (arith, w, lt, few) in
-    c.total_from.ensures.total h counts ∙ sets.any_value z c.args.query.now (g.V.CubeView.address c.args.view.now c.args.cursor) c.args.k h _ c.in-Some.ensures.place.1 le (get_or_default c.args.query.now.sets c.args.k All _ le ∙ c.in-All.is)
+    let at = at_category c.schema.result.now z c.args.query.now c.args.k c.len.result c.schema.ensures c.len.ensures c.if-k-len.false c.requires.choices in
+    c.total_from.ensures.total h counts ∙ sets.any_value z c.args.query.now (g.V.CubeView.address c.args.view.now c.args.cursor) c.args.k h _ c.in-Some.ensures.place.1 at.1 (get_or_default c.args.query.now.sets c.args.k All _ at.1 ∙ c.in-All.is)
 
 pub total_from-returns-in-Some-clause-cost : goal.total_from-returns-in-Some-clause-cost
 total_from-returns-in-Some-clause-cost g t c =
     let z = g.V.CubeView.schema c.args.view.now in
-    let few = few_categories z in
-    let count = ap (λ (y : Schema). length y.categories) c.schema.ensures in
-    let lt : c.args.k < length z.categories = omega (arith, count, c.len.ensures, c.if-k-len.false, c.requires.choices.few) in
-    let le : c.args.k < length c.args.query.now.sets = let w = c.requires.choices.wide in omega (arith, w, lt, few) in
-    let more : length z.categories - c.args.k ≡ suc (length z.categories - (c.args.k + 1)) = omega (arith, lt) in
-    let e = open_is (g.V.CubeView.down_cost c.args.view.now) (g.V.CubeView.before_cost c.args.view.now) c.args.query.now (g.V.CubeView.address c.args.view.now c.args.cursor) c.args.k (length z.categories - c.args.k) (length z.categories - (c.args.k + 1)) (get_or_default c.args.query.now.sets c.args.k All _ le ∙ c.in-All.is) more in
+    let at = at_category c.schema.result.now z c.args.query.now c.args.k c.len.result c.schema.ensures c.len.ensures c.if-k-len.false c.requires.choices in
+    let more : length z.categories - c.args.k ≡ suc (length z.categories - (c.args.k + 1)) = let lt = at.0 in omega (arith, lt) in
+    let e = open_is (g.V.CubeView.down_cost c.args.view.now) (g.V.CubeView.before_cost c.args.view.now) c.args.query.now (g.V.CubeView.address c.args.view.now c.args.cursor) c.args.k (length z.categories - c.args.k) (length z.categories - (c.args.k + 1)) (get_or_default c.args.query.now.sets c.args.k All _ at.1 ∙ c.in-All.is) more in
     let next = ap (λ (a : Address). rest_cost (g.V.CubeView.down_cost c.args.view.now) (g.V.CubeView.before_cost c.args.view.now) c.args.query.now a (c.args.k + 1) (length z.categories - (c.args.k + 1))) c.in-Some.ensures.place.1 in
     omega (arith, e, next, c.in-Some.ensures.cost, c.total_from.ensures.cost)
 
@@ -70,32 +59,23 @@ total_from-returns-in-None-clause-total g t c h counts = none_anywhere _ h (c.in
 pub total_from-returns-in-None-clause-cost : goal.total_from-returns-in-None-clause-cost
 total_from-returns-in-None-clause-cost g t c =
     let z = g.V.CubeView.schema c.args.view.now in
-    let few = few_categories z in
-    let count = ap (λ (y : Schema). length y.categories) c.schema.ensures in
-    let lt : c.args.k < length z.categories = omega (arith, count, c.len.ensures, c.if-k-len.false, c.requires.choices.few) in
-    let le : c.args.k < length c.args.query.now.sets = let w = c.requires.choices.wide in omega (arith, w, lt, few) in
-    let more : length z.categories - c.args.k ≡ suc (length z.categories - (c.args.k + 1)) = omega (arith, lt) in
-    let e = open_is (g.V.CubeView.down_cost c.args.view.now) (g.V.CubeView.before_cost c.args.view.now) c.args.query.now (g.V.CubeView.address c.args.view.now c.args.cursor) c.args.k (length z.categories - c.args.k) (length z.categories - (c.args.k + 1)) (get_or_default c.args.query.now.sets c.args.k All _ le ∙ c.in-All.is) more in
+    let at = at_category c.schema.result.now z c.args.query.now c.args.k c.len.result c.schema.ensures c.len.ensures c.if-k-len.false c.requires.choices in
+    let more : length z.categories - c.args.k ≡ suc (length z.categories - (c.args.k + 1)) = let lt = at.0 in omega (arith, lt) in
+    let e = open_is (g.V.CubeView.down_cost c.args.view.now) (g.V.CubeView.before_cost c.args.view.now) c.args.query.now (g.V.CubeView.address c.args.view.now c.args.cursor) c.args.k (length z.categories - c.args.k) (length z.categories - (c.args.k + 1)) (get_or_default c.args.query.now.sets c.args.k All _ at.1 ∙ c.in-All.is) more in
     omega (arith, e, c.in-None.ensures.cost)
 
 pub total_from-returns-in-Only-clause-total : goal.total_from-returns-in-Only-clause-total
 total_from-returns-in-Only-clause-total g t c h counts =
     let z = g.V.CubeView.schema c.args.view.now in
-    let few = few_categories z in
-    let count = ap (λ (y : Schema). length y.categories) c.schema.ensures in
-    let lt : c.args.k < length z.categories = omega (arith, count, c.len.ensures, c.if-k-len.false, c.requires.choices.few) in
-    let le : c.args.k < length c.args.query.now.sets = let w = c.requires.choices.wide in omega (arith, w, lt, few) in
-    c.total_in_set.ensures.total h counts ∙ sets.set_left z c.args.query.now (g.V.CubeView.address c.args.view.now c.args.cursor) c.args.k h _ le (get_or_default c.args.query.now.sets c.args.k All _ le ∙ c.in-Only.is)
+    let at = at_category c.schema.result.now z c.args.query.now c.args.k c.len.result c.schema.ensures c.len.ensures c.if-k-len.false c.requires.choices in
+    c.total_in_set.ensures.total h counts ∙ sets.set_left z c.args.query.now (g.V.CubeView.address c.args.view.now c.args.cursor) c.args.k h _ at.1 (get_or_default c.args.query.now.sets c.args.k All _ at.1 ∙ c.in-Only.is)
 
 pub total_from-returns-in-Only-clause-cost : goal.total_from-returns-in-Only-clause-cost
 total_from-returns-in-Only-clause-cost g t c =
     let z = g.V.CubeView.schema c.args.view.now in
-    let few = few_categories z in
-    let count = ap (λ (y : Schema). length y.categories) c.schema.ensures in
-    let lt : c.args.k < length z.categories = omega (arith, count, c.len.ensures, c.if-k-len.false, c.requires.choices.few) in
-    let le : c.args.k < length c.args.query.now.sets = let w = c.requires.choices.wide in omega (arith, w, lt, few) in
-    let more : length z.categories - c.args.k ≡ suc (length z.categories - (c.args.k + 1)) = omega (arith, lt) in
-    let e = set_is (g.V.CubeView.down_cost c.args.view.now) (g.V.CubeView.before_cost c.args.view.now) c.args.query.now (g.V.CubeView.address c.args.view.now c.args.cursor) c.args.k (length z.categories - c.args.k) (length z.categories - (c.args.k + 1)) _ (get_or_default c.args.query.now.sets c.args.k All _ le ∙ c.in-Only.is) more in
+    let at = at_category c.schema.result.now z c.args.query.now c.args.k c.len.result c.schema.ensures c.len.ensures c.if-k-len.false c.requires.choices in
+    let more : length z.categories - c.args.k ≡ suc (length z.categories - (c.args.k + 1)) = let lt = at.0 in omega (arith, lt) in
+    let e = set_is (g.V.CubeView.down_cost c.args.view.now) (g.V.CubeView.before_cost c.args.view.now) c.args.query.now (g.V.CubeView.address c.args.view.now c.args.cursor) c.args.k (length z.categories - c.args.k) (length z.categories - (c.args.k + 1)) _ (get_or_default c.args.query.now.sets c.args.k All _ at.1 ∙ c.in-Only.is) more in
     omega (arith, e, c.total_in_set.ensures.cost)
 
 pub total_in_set-loop-value-init : goal.total_in_set-loop-value-init
@@ -106,8 +86,7 @@ total_in_set-overflow_add-sum g t c =
     let small : c.loop-value.sum + c.total_at_value-at_value.result < 2 ^ 64 = ∥∥₁_elim (g.met.V.CubeView.bag c.args.view.now).counted le_prop (λ p.
     let z = g.V.CubeView.schema c.args.view.now in
     let a = g.V.CubeView.address c.args.view.now c.args.cursor in
-    let few = few_categories z in
-    let lt : c.args.k < 4 = omega (arith, few, c.requires.category) in
+    let lt = below_four z c.args.k c.requires.category in
     let e = sets.below_yes z c.args.query.now a c.args.k p.0 c.args.set.now c.loop-value.value lt c.requires.here (sym c.has.ensures ∙ c.if-has.true) in
     let b = c.loop-value.invariant.total p.0 p.1 in
     let d = c.total_at_value-at_value.ensures.total p.0 p.1 in
@@ -118,8 +97,7 @@ pub total_in_set-loop-value-preserved : goal.total_in_set-loop-value-preserved
 total_in_set-loop-value-preserved g t c =
     let z = g.V.CubeView.schema c.args.view.now in
     let a = g.V.CubeView.address c.args.view.now c.args.cursor in
-    let few = few_categories z in
-    let lt : c.args.k < 4 = omega (arith, few, c.requires.category) in
+    let lt = below_four z c.args.k c.requires.category in
     let n = length z.categories - (c.args.k + 1) in
     let f = λ (v : ℕ). cond (get_or c.args.set.now v false) (value_cost (g.V.CubeView.down_cost c.args.view.now) (g.V.CubeView.before_cost c.args.view.now) c.args.query.now a c.args.k n v) 0 in
     let m = sum_more f c.loop-value.value in
