@@ -1,7 +1,9 @@
 pub mod Cutting
 pub mod FilterSteps
+pub mod Listing
 pub mod Numerals
 pub mod Quoting
 pub mod SchemaLimits
 pub mod Sets
+pub mod ValidParts
 pub mod Validity
