@@ -18,6 +18,9 @@ pub and_right : (a b : Bool) → a && b ≡ true → b ≡ true
 and_right true b h = h
 and_right false b h = absurd (false≢true h)
 
+pub and_both : (a b : Bool) → a ≡ true → b ≡ true → a && b ≡ true
+and_both a b h k = rw (h, k) refl
+
 pub between_high : (low high n : ℕ) → is_between low high n ≡ true → n ≤ high
 between_high low high n h = grind (arith, nat_tests, and_right (nat_le low n) (nat_le n high) h)
 

@@ -3,6 +3,8 @@ ghost use Rattle.std.specs.Prelude.{◌≡◌, ◌<◌, ◌≤◌, ◌++◌, ◌
 ghost use Rattle.std.specs.Fmt.{decimal};
 ghost use Rattle.std.specs.List.{list_any, join_with_byte};
 ghost use Rattle.query_syntax.specs.Words.{bar};
+ghost use Rattle.query_syntax.specs.Meaning.{meaning};
+ghost use Rattle.query_syntax.specs.declared.query.Parsed.TheVariants.{Ask};
 ghost use Rattle.query_syntax.specs.Queries.{is_valid_query, is_all_bins, verb_in_range};
 ghost use Rattle.query_syntax.specs.Spelling.{spaced, value_text, value_texts, needs_quotes, value_listed, item_text, choice_texts, choices_texts, further_texts, verb_name, verb_texts, name_at, tile_text, region_texts, span_texts, query_text};
 
@@ -228,17 +230,19 @@ fn push_further(
 /// The query as text.
 fn text_of_query(alloc: Global, schema: &Schema, query: &Query) -> Result<String, AllocError>
     requires { IsTrue (is_valid_query schema.now query.now) }
-    ensures { IfOk result (λ text. string_bytes text ≡ query_text schema.now query.now) }
+    ensures text { IfOk result (λ text. string_bytes text ≡ query_text schema.now query.now) }
+    ensures read_back { IfOk result (λ text. meaning schema.now (string_bytes text) ≡ Ask query.now) }
 {
     let mut text = String::from_str(alloc, name_of_verb(query.verb))?;
     push_further(alloc, &mut text, schema, query)?;
     Ok(text)
 }
 
-/// The query as a line: its words, with one space between two.
+/// The query as a line: its words, with one space between two. The line is read back as the query.
 pub fn print(alloc: Global, schema: &Schema, query: &Query) -> Result<List<u8>, NoMemory>
     requires { IsTrue (is_valid_query schema.now query.now) }
     ensures text { IfOk result (λ text. text ≡ query_text schema.now query.now) }
+    ensures read_back { IfOk result (λ text. meaning schema.now text ≡ Ask query.now) }
 {
     match text_of_query(alloc, schema, query) {
         Ok(text) => Ok(List::from_vec(text.into_bytes())),
