@@ -61,14 +61,14 @@ verb_reads categories (Hist k) rest names h = rw (category_reads categories k na
 verb_reads categories (Map down) rest names h =
     let small : down ≤ 10 = leb-true down 10 h in
     rw (number_reads 0 deepest_map down 2 (omega arith) (from_zero down 10 small)) refl
-verb_reads categories (Series from wide rows) rest names h =
-    let rows_between : is_between 1 most_rows rows ≡ true = and_right _ (is_between 1 most_rows rows) h in
-    let two = and_left _ (is_between 1 most_rows rows) h in
+verb_reads categories (Series from wide many) rest names h =
+    let rows_between : is_between 1 most_rows many ≡ true = and_right _ (is_between 1 most_rows many) h in
+    let two = and_left _ (is_between 1 most_rows many) h in
     let wide_between : is_between 1 bins wide ≡ true = and_right _ (is_between 1 bins wide) two in
     let early : from < 2 ^ 32 = ltb-true from bins (and_left (nat_lt from bins) _ two) in
     let narrow : wide ≤ 2 ^ 32 = between_at_most 1 bins wide wide_between in
-    let few : rows ≤ 10000 = between_at_most 1 most_rows rows rows_between in
-    rw (number_reads 0 (bins - 1) from 2 (omega arith) (from_zero from (bins - 1) (omega arith)), number_reads 1 bins wide 3 (omega arith) wide_between, number_reads 1 most_rows rows 4 (omega arith) rows_between) refl
+    let few : many ≤ 10000 = between_at_most 1 most_rows many rows_between in
+    rw (number_reads 0 (bins - 1) from 2 (omega arith) (from_zero from (bins - 1) (omega arith)), number_reads 1 bins wide 3 (omega arith) wide_between, number_reads 1 most_rows many 4 (omega arith) rows_between) refl
 verb_reads categories Stat rest names h = refl
 verb_reads categories Told rest names h = refl
 verb_reads categories Quit rest names h = refl

@@ -2,7 +2,7 @@
 //!
 //! [`parse`] answers the meaning of a line, which `specs/Meaning.antt` defines: a query, or the first
 //! fault from the left with the number of its word. [`print`] answers the line of a query, which
-//! `specs/Spelling.antt` defines. What a query counts, its box and the total of a list of points in it, is
+//! `specs/Spelling.antt` defines; that line means the query. What a query counts, its box and the total of a list of points in it, is
 //! defined in `specs/Boxes.antt`.
 #![tactic(auto)]
 
@@ -11,6 +11,8 @@ mod fault;
 mod filters;
 mod item;
 mod parsing;
+#[cfg(test)]
+mod print_tests;
 mod printing;
 mod query;
 #[cfg(test)]

@@ -7,7 +7,7 @@ use outer_io::{List, NoMemory, Text};
 use std::alloc::Global;
 use std::test::Fail;
 
-fn push<T: Drop>(list: &mut List<T>, item: T) -> Result<(), NoMemory>
+pub fn push<T: Drop>(list: &mut List<T>, item: T) -> Result<(), NoMemory>
     ensures { OnOk result (list.new ≡ list.old ++ item ∷ []) }
 {
     match list.push(item) {
@@ -28,7 +28,7 @@ fn kind(alloc: Global) -> Result<Category, NoMemory>
 }
 
 // Depth 3, the category `kind` of a and b, and bins of 10 from 0 on.
-fn schema(alloc: Global) -> Result<Schema, NoMemory> {
+pub fn schema(alloc: Global) -> Result<Schema, NoMemory> {
     let mut categories = List::new(alloc);
     push(&mut categories, kind(alloc)?)?;
     Ok(Schema::new(3, categories, 0, 10, 1))
