@@ -1,7 +1,16 @@
 pub mod Cutting
 pub mod FilterSteps
+pub mod Listing
 pub mod Numerals
+pub mod Places
+pub mod PrintedFilters
+pub mod PrintedItems
+pub mod PrintedNumbers
+pub mod PrintedVerbs
 pub mod Quoting
+pub mod ReadBack
 pub mod SchemaLimits
 pub mod Sets
+pub mod ValidParts
 pub mod Validity
+pub mod WholeTexts

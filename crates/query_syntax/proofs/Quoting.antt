@@ -21,11 +21,11 @@ same_bools true b f g = sym (f refl)
 same_bools false true f g = g refl
 same_bools false false f g = refl
 
-pub filter_same : (p : ℕ → Bool) (xs : List ℕ) → list_all p xs ≡ true → filter p xs ≡ xs
+pub filter_same : {X : Type 0} (p : X → Bool) (xs : List X) → list_all p xs ≡ true → filter p xs ≡ xs
 filter_same p [] h = refl
 filter_same p (x ∷ xs) h =
     (elim (p x) as (λ v. v && list_all p xs ≡ true → cond v (x ∷ filter p xs) (filter p xs) ≡ x ∷ xs) [
-      | true ↦ λ e. ap (λ (ys : List ℕ). x ∷ ys) (filter_same p xs e)
+      | true ↦ λ e. ap (λ ys. x ∷ ys) (filter_same p xs e)
       | false ↦ λ e. absurd (false≢true e)
     ]) h
 

@@ -7,6 +7,7 @@ use Rattle.std.proofs.lemmas.Bool.Decides.{nat_tests}
 use Rattle.cube_view.specs.Limits.{in_limits, category_in_range, categories_in_range, is_between}
 use Rattle.cube_view.specs.declared.category.Category.{Category}
 use Rattle.query_syntax.specs.Items.{values_at, has_item}
+use Rattle.query_syntax.specs.Spelling.{name_at}
 use Rattle.query_syntax.specs.declared.query.Choice.{Choice}
 
 pub and_left : (a b : Bool) → a && b ≡ true → a ≡ true
@@ -16,6 +17,9 @@ and_left false b h = absurd (false≢true h)
 pub and_right : (a b : Bool) → a && b ≡ true → b ≡ true
 and_right true b h = h
 and_right false b h = absurd (false≢true h)
+
+pub and_both : (a b : Bool) → a ≡ true → b ≡ true → a && b ≡ true
+and_both a b h k = rw (h, k) refl
 
 pub between_high : (low high n : ℕ) → is_between low high n ≡ true → n ≤ high
 between_high low high n h = grind (arith, nat_tests, and_right (nat_le low n) (nat_le n high) h)
@@ -38,6 +42,11 @@ pub values_at-get : (categories : List Category) (k : ℕ) (d : Category) → k 
 values_at-get [] k d l = absurd (omega arith)
 values_at-get (c ∷ categories) zero d l = refl
 values_at-get (c ∷ categories) (suc k) d l = values_at-get categories k d (omega arith)
+
+pub name_at-get : (categories : List Category) (k : ℕ) (d : Category) → k < length categories → name_at categories k ≡ (get_or categories k d).name
+name_at-get [] k d l = absurd (omega arith)
+name_at-get (c ∷ categories) zero d l = refl
+name_at-get (c ∷ categories) (suc k) d l = name_at-get categories k d (omega arith)
 
 pub has_item-get : (sets : List (Option Choice)) (k : ℕ) (d : Option Choice) → k < length sets → has_item sets k ≡ is_some (get_or sets k d)
 has_item-get [] k d l = absurd (omega arith)

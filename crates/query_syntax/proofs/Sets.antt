@@ -1,6 +1,6 @@
 -- Sets of values, and choices.
 use Rattle.std.proofs.Common.{◌≡◌, ℕ, zero, suc, ◌<◌, ◌≤◌, Bool, true, false, List, [], ◌∷◌, length, drop, cond, ◌∙◌, ap, refl, arith, Option, Some}
-use Rattle.std.specs.Prelude.{◌&&◌, map, replicate, slice_set, unwrap_or}
+use Rattle.std.specs.Prelude.{map, replicate, slice_set, unwrap_or}
 use Rattle.std.specs.List.{list_any}
 use Rattle.std.proofs.lemmas.List.{drop-set-lt, length-set}
 use Rattle.cube_view.specs.declared.category.Category.{Category}
@@ -8,7 +8,7 @@ use Rattle.query_syntax.specs.Items.{IsSetOf, choice_of, is_full, values_at}
 use Rattle.query_syntax.specs.Queries.{is_choice, are_choices}
 use Rattle.query_syntax.specs.declared.query.Choice.{Choice}
 use Rattle.query_syntax.specs.declared.query.Choice.TheVariants.{All, Only}
-use Rattle.query_syntax.proofs.SchemaLimits.{and_left, and_right}
+use Rattle.query_syntax.proofs.SchemaLimits.{and_left, and_right, and_both}
 
 list_any-set : (set : List Bool) (v : ℕ) → v < length set → list_any (λ b. b) (slice_set set v true) ≡ true
 list_any-set [] v l = absurd (omega arith)
@@ -39,9 +39,6 @@ choice_fits count set h = choice_by count set (is_full count set) refl h
 -- the choice of a set, or all where there was none
 abbrev pub or_all : Option Choice → Choice
 or_all set = unwrap_or set All
-
-and_both : (a b : Bool) → a ≡ true → b ≡ true → a && b ≡ true
-and_both a b h k = rw (h, k) refl
 
 pub are_choices-set : (categories : List Category) (sets : List (Option Choice)) (k : ℕ) (choice : Choice) → are_choices categories (map or_all sets) ≡ true → is_choice (length (values_at categories k)) choice ≡ true → k < length categories → are_choices categories (map or_all (slice_set sets k (Some choice))) ≡ true
 are_choices-set [] sets k choice h fits l = absurd (omega arith)

@@ -8,3 +8,4 @@ pub mod Filters
 pub mod Queries
 pub mod Meaning
 pub mod Boxes
+pub mod Spelling

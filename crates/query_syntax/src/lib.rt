@@ -1,7 +1,8 @@
 //! The query language, read and printed, and what a query asks for.
 //!
 //! [`parse`] answers the meaning of a line, which `specs/Meaning.antt` defines: a query, or the first
-//! fault from the left with the number of its word. What a query counts, its box and the total of a list of points in it, is
+//! fault from the left with the number of its word. [`print`] answers the line of a query, which
+//! `specs/Spelling.antt` defines; that line means the query. What a query counts, its box and the total of a list of points in it, is
 //! defined in `specs/Boxes.antt`.
 #![tactic(auto)]
 
@@ -10,6 +11,9 @@ mod fault;
 mod filters;
 mod item;
 mod parsing;
+#[cfg(test)]
+mod print_tests;
+mod printing;
 mod query;
 #[cfg(test)]
 mod tests;
@@ -20,5 +24,6 @@ mod words;
 
 pub use fault::QueryFault;
 pub use parsing::parse;
+pub use printing::print;
 pub use query::{Choice, Parsed, Query, Span, Verb};
 pub use value_set::ValueSet;

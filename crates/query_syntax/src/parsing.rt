@@ -1,5 +1,5 @@
 //! Lines read as queries.
-ghost use Rattle.std.specs.Prelude.{◌≡◌, ◌+◌, true, length, unwrap_or, IfOk, IsTrue};
+ghost use Rattle.std.specs.Prelude.{◌≡◌, ◌+◌, true, length, unwrap_or, IfOk, IsOk, IsTrue};
 ghost use Rattle.std.specs.Str.{is_utf8};
 ghost use Rattle.query_syntax.specs.Meaning.{meaning, query_of, query_with, query_if_fits, query_after_verb, is_comment, asks_valid, FiltersFit};
 ghost use Rattle.query_syntax.specs.Queries.{is_too_deep, is_valid_query, verb_in_range};
@@ -141,10 +141,12 @@ fn meaning_of(schema: &Schema, line: &[u8]) -> Parsed
     }
 }
 
-/// The meaning of a line: nothing, a valid query, or the first fault and the number of its word.
+/// The meaning of a line: nothing, a valid query, or the first fault and the number of its word. It
+/// takes no memory now; callers are ready for a reader that does.
 pub fn parse(_alloc: Global, schema: &Schema, line: &[u8]) -> Result<Parsed, NoMemory>
     ensures meaning { IfOk result (λ parsed. parsed ≡ meaning schema.now line.now) }
     ensures valid { IfOk result (λ parsed. IsTrue (asks_valid schema.now parsed)) }
+    ensures answers { IsOk result }
 {
     Ok(meaning_of(schema, line))
 }

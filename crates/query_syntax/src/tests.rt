@@ -7,7 +7,7 @@ use outer_io::{List, NoMemory, Text};
 use std::alloc::Global;
 use std::test::Fail;
 
-fn push<T: Drop>(list: &mut List<T>, item: T) -> Result<(), NoMemory>
+pub fn push<T: Drop>(list: &mut List<T>, item: T) -> Result<(), NoMemory>
     ensures { OnOk result (list.new ≡ list.old ++ item ∷ []) }
 {
     match list.push(item) {
@@ -28,7 +28,7 @@ fn kind(alloc: Global) -> Result<Category, NoMemory>
 }
 
 // Depth 3, the category `kind` of a and b, and bins of 10 from 0 on.
-fn schema(alloc: Global) -> Result<Schema, NoMemory> {
+pub fn schema(alloc: Global) -> Result<Schema, NoMemory> {
     let mut categories = List::new(alloc);
     push(&mut categories, kind(alloc)?)?;
     Ok(Schema::new(3, categories, 0, 10, 1))
@@ -39,51 +39,65 @@ fn meaning(alloc: Global, line: &[u8]) -> Result<Parsed, Fail> {
     Ok(parse(alloc, &schema, line)?)
 }
 
+fn fault(fault: QueryFault, word: u32) -> Parsed {
+    Parsed::Fault(fault, word)
+}
+
 #[test]
 fn names_the_first_fault_and_its_word(rt: HostRuntime) -> Result<(), Fail> {
-    let cases: [(&[u8], QueryFault, u32); 26] = [
-        (b"\xff", QueryFault::NotText, 1),
-        (b"counts", QueryFault::UnknownVerb, 1),
-        (b"hist", QueryFault::MissingWord, 2),
-        (b"hist color", QueryFault::UnknownCategory, 2),
-        (b"map x", QueryFault::BadNumber, 2),
-        (b"map 11", QueryFault::OutOfRange, 2),
-        (b"map 1 in 3/0/0", QueryFault::TooDeep, 2),
-        (b"map 4 in 1/2/0", QueryFault::BadTile, 4),
-        (b"series 4294967296 1 1", QueryFault::OutOfRange, 2),
-        (b"series 0 0 1", QueryFault::OutOfRange, 3),
-        (b"series 0 1 10001", QueryFault::OutOfRange, 4),
-        (b"series 0 1", QueryFault::MissingWord, 4),
-        (b"series 0 1 3 time 0 1", QueryFault::TimeInSeries, 5),
-        (b"count in 1/2/0", QueryFault::BadTile, 3),
-        (b"count in 4/0/0", QueryFault::BadTile, 3),
-        (b"count in 0/0/0 in 0/0/0", QueryFault::RepeatedFilter, 4),
-        (b"count time 1 0", QueryFault::OutOfRange, 4),
-        (b"count time 0", QueryFault::MissingWord, 4),
-        (b"count time 0 1 time 0 1", QueryFault::RepeatedFilter, 5),
-        (b"count with kind=\"a", QueryFault::BadQuote, 3),
-        (b"count with kind=a\"b\"", QueryFault::BadQuote, 3),
-        (b"count with kind", QueryFault::UnknownCategory, 3),
-        (b"count with kind=c", QueryFault::UnknownValue, 3),
+    let cases: [(&[u8], Parsed); 26] = [
+        (b"\xff", fault(QueryFault::NotText, 1)),
+        (b"counts", fault(QueryFault::UnknownVerb, 1)),
+        (b"hist", fault(QueryFault::MissingWord, 2)),
+        (b"hist color", fault(QueryFault::UnknownCategory, 2)),
+        (b"map x", fault(QueryFault::BadNumber, 2)),
+        (b"map 11", fault(QueryFault::OutOfRange, 2)),
+        (b"map 1 in 3/0/0", fault(QueryFault::TooDeep, 2)),
+        (b"map 4 in 1/2/0", fault(QueryFault::BadTile, 4)),
+        (b"series 4294967296 1 1", fault(QueryFault::OutOfRange, 2)),
+        (b"series 0 0 1", fault(QueryFault::OutOfRange, 3)),
+        (b"series 0 1 10001", fault(QueryFault::OutOfRange, 4)),
+        (b"series 0 1", fault(QueryFault::MissingWord, 4)),
+        (b"series 0 1 3 time 0 1", fault(QueryFault::TimeInSeries, 5)),
+        (b"count in 1/2/0", fault(QueryFault::BadTile, 3)),
+        (b"count in 4/0/0", fault(QueryFault::BadTile, 3)),
+        (
+            b"count in 0/0/0 in 0/0/0",
+            fault(QueryFault::RepeatedFilter, 4),
+        ),
+        (b"count time 1 0", fault(QueryFault::OutOfRange, 4)),
+        (b"count time 0", fault(QueryFault::MissingWord, 4)),
+        (
+            b"count time 0 1 time 0 1",
+            fault(QueryFault::RepeatedFilter, 5),
+        ),
+        (b"count with kind=\"a", fault(QueryFault::BadQuote, 3)),
+        (b"count with kind=a\"b\"", fault(QueryFault::BadQuote, 3)),
+        (b"count with kind", fault(QueryFault::UnknownCategory, 3)),
+        (b"count with kind=c", fault(QueryFault::UnknownValue, 3)),
         (
             b"count with kind=a with kind=b",
-            QueryFault::RepeatedFilter,
-            5,
+            fault(QueryFault::RepeatedFilter, 5),
         ),
-        (b"stat in 0/0/0", QueryFault::UnknownFilter, 2),
-        (b"count by kind", QueryFault::UnknownFilter, 2),
+        (b"stat in 0/0/0", fault(QueryFault::UnknownFilter, 2)),
+        (b"count by kind", fault(QueryFault::UnknownFilter, 2)),
     ];
-    for (line, fault, word) in cases {
-        assert_eq!(rt; meaning(rt.alloc(), line)?, Parsed::Fault(fault, word));
+    for (line, want) in cases {
+        assert_eq!(rt; meaning(rt.alloc(), line)?, want);
     }
     Ok(())
 }
 
 #[test]
 fn skips_blank_lines_and_comments(rt: HostRuntime) -> Result<(), Fail> {
-    let cases: [&[u8]; 4] = [b"", b"   ", b"#", b"# count"];
-    for line in cases {
-        assert_eq!(rt; meaning(rt.alloc(), line)?, Parsed::Skip);
+    let cases: [(&[u8], Parsed); 4] = [
+        (b"", Parsed::Skip),
+        (b"   ", Parsed::Skip),
+        (b"#", Parsed::Skip),
+        (b"# count", Parsed::Skip),
+    ];
+    for (line, want) in cases {
+        assert_eq!(rt; meaning(rt.alloc(), line)?, want);
     }
     Ok(())
 }

@@ -1,0 +1,146 @@
+-- Printed verbs and tiles are read back.
+use Rattle.std.proofs.Common.{◌≡◌, ℕ, zero, suc, ◌+◌, ◌-◌, ◌<◌, ◌≤◌, ◌^◌, true, false, List, [], ◌∷◌, ◌++◌, length, sym, ◌∙◌, ap, refl, arith, append_assoc, Some, Ok}
+use Rattle.std.specs.Prelude.{nat_le, nat_lt, map}
+use Rattle.std.specs.Fmt.{decimal}
+use Rattle.std.specs.List.{list_all}
+use Rattle.std.proofs.Math.Pow.{pow_mono}
+use Rattle.std.proofs.lemmas.Bool.{leb-true, ltb-true, false≢true}
+use Rattle.std.proofs.lemmas.List.{length-append}
+use Rattle.std.proofs.lemmas.Bool.Decides.{nat_tests}
+use Rattle.cube_view.specs.Limits.{all_distinct, category_in_range, is_between}
+use Rattle.cube_view.specs.declared.address.Tile.{Tile}
+use Rattle.cube_view.specs.declared.category.Category.{Category}
+use Rattle.query_syntax.specs.Items.{category_number}
+use Rattle.query_syntax.specs.Reading.{number_at}
+use Rattle.query_syntax.specs.Queries.{verb_in_range}
+use Rattle.query_syntax.specs.Spelling.{name_at, verb_name, verb_texts, tile_text}
+use Rattle.query_syntax.specs.Tiles.{is_tile, tile_value, tile_of_pieces}
+use Rattle.query_syntax.specs.Verbs.{bins, deepest_map, most_rows, verb_at, hist_at, map_at, series_at}
+use Rattle.query_syntax.specs.Words.{space, slash, pieces, pieces_from, is_some_text}
+use Rattle.query_syntax.specs.declared.query.Verb.{Verb}
+use Rattle.query_syntax.specs.declared.query.Verb.TheVariants.{Count, Hist, Map, Series, Stat, Told, Quit}
+use Rattle.query_syntax.proofs.Places.{position_of}
+use Rattle.query_syntax.proofs.PrintedItems.{name_is_word}
+use Rattle.query_syntax.proofs.PrintedNumbers.{decimal_reads, number_reads, decimal_is_word, decimal_whole_in_line, decimal_whole_in_tile}
+use Rattle.query_syntax.proofs.SchemaLimits.{and_left, and_right, and_both}
+use Rattle.query_syntax.proofs.WholeTexts.{stays_whole, whole-append, piece_alone, piece_cut, is_word}
+
+-- categories
+
+number_of_category : (front categories : List Category) (k : ℕ) → all_distinct (map (λ (c : Category). c.name) (front ++ categories)) ≡ true → k < length categories → category_number (front ++ categories) (name_at categories k) ≡ Some (length front + k)
+unfolding category_number
+number_of_category front [] k h l = absurd (omega arith)
+number_of_category front (c ∷ categories) zero h l = position_of (λ (x : Category). x.name) front c categories h ∙ ap (λ (n : ℕ). Some n) (omega arith)
+number_of_category front (c ∷ categories) (suc k) h l =
+    let whole : (front ++ c ∷ []) ++ categories ≡ front ++ c ∷ categories = append_assoc front (c ∷ []) categories in
+    let place : length (front ++ c ∷ []) + k ≡ length front + suc k = omega (arith, length-append front (c ∷ [])) in
+    ap (λ (cs : List Category). category_number cs (name_at categories k)) (sym whole)
+    ∙ number_of_category (front ++ c ∷ []) categories k (ap (λ (cs : List Category). all_distinct (map (λ (x : Category). x.name) cs)) whole ∙ h) (omega arith)
+    ∙ ap (λ (n : ℕ). Some n) place
+
+pub category_reads : (categories : List Category) (k : ℕ) → all_distinct (map (λ (c : Category). c.name) categories) ≡ true → k < length categories → category_number categories (name_at categories k) ≡ Some k
+category_reads categories k h l = number_of_category [] categories k h l ∙ ap (λ (n : ℕ). Some n) (omega arith)
+
+name_at_is_word : (categories : List Category) (k : ℕ) → list_all category_in_range categories ≡ true → k < length categories → is_word (name_at categories k) ≡ true
+name_at_is_word [] k h l = absurd (omega arith)
+name_at_is_word (c ∷ categories) zero h l = name_is_word c (and_left (category_in_range c) _ h)
+name_at_is_word (c ∷ categories) (suc k) h l = name_at_is_word categories k (and_right (category_in_range c) _ h) (omega arith)
+
+-- verbs
+
+pub from_zero : (n high : ℕ) → n ≤ high → is_between 0 high n ≡ true
+from_zero n high h = grind (arith, nat_tests)
+
+between_at_most : (low high n : ℕ) → is_between low high n ≡ true → n ≤ high
+between_at_most low high n h = leb-true n high (and_right (nat_le low n) _ h)
+
+pub verb_reads : (categories : List Category) (verb : Verb) (rest : List (List ℕ)) → all_distinct (map (λ (c : Category). c.name) categories) ≡ true → verb_in_range (length categories) verb ≡ true → verb_at categories (verb_name verb ∷ (verb_texts categories verb ++ rest)) ≡ Ok (verb, rest)
+unfolding verb_at hist_at map_at series_at number_at
+verb_reads categories Count rest names h = refl
+verb_reads categories (Hist k) rest names h = rw (category_reads categories k names (ltb-true k (length categories) h)) refl
+verb_reads categories (Map down) rest names h =
+    let small : down ≤ 10 = leb-true down 10 h in
+    rw (number_reads 0 deepest_map down 2 (omega arith) (from_zero down 10 small)) refl
+verb_reads categories (Series from wide many) rest names h =
+    let rows_between : is_between 1 most_rows many ≡ true = and_right _ (is_between 1 most_rows many) h in
+    let two = and_left _ (is_between 1 most_rows many) h in
+    let wide_between : is_between 1 bins wide ≡ true = and_right _ (is_between 1 bins wide) two in
+    let early : from < 2 ^ 32 = ltb-true from bins (and_left (nat_lt from bins) _ two) in
+    let narrow : wide ≤ 2 ^ 32 = between_at_most 1 bins wide wide_between in
+    let few : many ≤ 10000 = between_at_most 1 most_rows many rows_between in
+    rw (number_reads 0 (bins - 1) from 2 (omega arith) (from_zero from (bins - 1) (omega arith)), number_reads 1 bins wide 3 (omega arith) wide_between, number_reads 1 most_rows many 4 (omega arith) rows_between) refl
+verb_reads categories Stat rest names h = refl
+verb_reads categories Told rest names h = refl
+verb_reads categories Quit rest names h = refl
+
+pub verb_name_is_word : (verb : Verb) → is_word (verb_name verb) ≡ true
+verb_name_is_word Count = refl
+verb_name_is_word (Hist k) = refl
+verb_name_is_word (Map down) = refl
+verb_name_is_word (Series from wide rows) = refl
+verb_name_is_word Stat = refl
+verb_name_is_word Told = refl
+verb_name_is_word Quit = refl
+
+pub verb_texts_are_words : (categories : List Category) (verb : Verb) → list_all category_in_range categories ≡ true → verb_in_range (length categories) verb ≡ true → list_all is_word (verb_texts categories verb) ≡ true
+verb_texts_are_words categories Count each h = refl
+verb_texts_are_words categories (Hist k) each h = and_both _ _ (name_at_is_word categories k each (ltb-true k (length categories) h)) refl
+verb_texts_are_words categories (Map down) each h =
+    let small : down ≤ 10 = leb-true down 10 h in
+    and_both _ _ (decimal_is_word down (omega arith)) refl
+verb_texts_are_words categories (Series from wide rows) each h =
+    let few : rows ≤ 10000 = between_at_most 1 most_rows rows (and_right _ (is_between 1 most_rows rows) h) in
+    let two = and_left _ (is_between 1 most_rows rows) h in
+    let narrow : wide ≤ 2 ^ 32 = between_at_most 1 bins wide (and_right _ (is_between 1 bins wide) two) in
+    let early : from < 2 ^ 32 = ltb-true from bins (and_left (nat_lt from bins) _ two) in
+    and_both _ _ (decimal_is_word from (omega arith)) (and_both _ _ (decimal_is_word wide (omega arith)) (and_both _ _ (decimal_is_word rows (omega arith)) refl))
+verb_texts_are_words categories Stat each h = refl
+verb_texts_are_words categories Told each h = refl
+verb_texts_are_words categories Quit each h = refl
+
+-- tiles
+
+-- the numbers of a tile of at most 20 levels are small
+pub record SmallTile (t : Tile) : Type 0 where
+  pub z : t.z ≤ 20
+  pub column : t.x < 2 ^ t.z
+  pub row : t.y < 2 ^ t.z
+  pub x : t.x < 2 ^ 20
+  pub y : t.y < 2 ^ 20
+
+pub small_tile : (depth : ℕ) (t : Tile) → depth ≤ 20 → is_tile depth t ≡ true → SmallTile t
+small_tile depth t few h =
+    let row : t.y < 2 ^ t.z = ltb-true t.y (2 ^ t.z) (and_right _ (nat_lt t.y (2 ^ t.z)) h) in
+    let two = and_left _ (nat_lt t.y (2 ^ t.z)) h in
+    let column : t.x < 2 ^ t.z = ltb-true t.x (2 ^ t.z) (and_right _ (nat_lt t.x (2 ^ t.z)) two) in
+    let level : t.z ≤ depth = leb-true t.z depth (and_left (nat_le t.z depth) _ two) in
+    let shallow : t.z ≤ 20 = omega arith in
+    let wide : 2 ^ t.z ≤ 2 ^ 20 = pow_mono shallow in
+    record { z = shallow; column = column; row = row; x = omega (arith, wide, column); y = omega (arith, wide, row) }
+
+pub tile_reads : (depth : ℕ) (t : Tile) → depth ≤ 20 → is_tile depth t ≡ true → tile_value depth (tile_text t) ≡ Some t
+unfolding tile_value pieces
+tile_reads depth t few h =
+    let small = small_tile depth t few h in
+    let level : t.z < 2 ^ 64 = omega (arith, small.z) in
+    let column : t.x < 2 ^ 64 = omega (arith, small.x) in
+    let row : t.y < 2 ^ 64 = omega (arith, small.y) in
+    let cut : pieces_from slash false (tile_text t) ≡ decimal t.z ∷ decimal t.x ∷ decimal t.y ∷ [] =
+    piece_cut slash false (decimal t.z) (decimal t.x ++ slash ∷ decimal t.y) (decimal_whole_in_tile t.z level)
+    ∙ ap (λ (ps : List (List ℕ)). decimal t.z ∷ ps) (piece_cut slash false (decimal t.x) (decimal t.y) (decimal_whole_in_tile t.x column) ∙ ap (λ (ps : List (List ℕ)). decimal t.x ∷ ps) (piece_alone slash false (decimal t.y) (decimal_whole_in_tile t.y row))) in
+    ap (tile_of_pieces depth) cut ∙ rw (decimal_reads t.z level, decimal_reads t.x column, decimal_reads t.y row, h) refl
+
+some-left : (u v : List ℕ) → is_some_text u ≡ true → is_some_text (u ++ v) ≡ true
+some-left [] v h = absurd (false≢true h)
+some-left (b ∷ u) v h = refl
+
+pub tile_is_word : (depth : ℕ) (t : Tile) → depth ≤ 20 → is_tile depth t ≡ true → is_word (tile_text t) ≡ true
+tile_is_word depth t few h =
+    let small = small_tile depth t few h in
+    let level : t.z < 2 ^ 64 = omega (arith, small.z) in
+    let column : t.x < 2 ^ 64 = omega (arith, small.x) in
+    let row : t.y < 2 ^ 64 = omega (arith, small.y) in
+    let whole : stays_whole space false (tile_text t) ≡ true =
+    whole-append space false (decimal t.z) (slash ∷ (decimal t.x ++ slash ∷ decimal t.y)) (decimal_whole_in_line t.z level)
+    ∙ whole-append space false (decimal t.x) (slash ∷ decimal t.y) (decimal_whole_in_line t.x column) ∙ decimal_whole_in_line t.y row in
+    and_both _ _ (some-left (decimal t.z) (slash ∷ (decimal t.x ++ slash ∷ decimal t.y)) (and_left (is_some_text (decimal t.z)) _ (decimal_is_word t.z level))) whole
