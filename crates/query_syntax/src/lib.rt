@@ -11,6 +11,7 @@ mod filters;
 mod item;
 mod parsing;
 mod query;
+mod table;
 #[cfg(test)]
 mod tests;
 mod tile_word;
@@ -21,4 +22,5 @@ mod words;
 pub use fault::QueryFault;
 pub use parsing::parse;
 pub use query::{Choice, Parsed, Query, Span, Verb};
+pub use table::{RowOut, Table};
 pub use value_set::ValueSet;
