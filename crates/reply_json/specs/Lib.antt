@@ -1,0 +1,3 @@
+pub mod Validity
+pub mod Types
+pub mod Printed
