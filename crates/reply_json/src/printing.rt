@@ -26,7 +26,7 @@ pub fn no_memory_line() -> &'static str
     NO_MEMORY_LINE
 }
 
-fn fault_name(fault: QueryFault) -> &'static str
+pub(crate) fn fault_name(fault: QueryFault) -> &'static str
     ensures { result.now ≡ fault_name fault }
 {
     match fault {
@@ -94,7 +94,7 @@ fn number_text(alloc: Global, number: u64) -> Result<Vec<u8>, AllocError>
     value.to_vec(alloc)
 }
 
-#[tactic(auto, using(crate::proofs::Rows::table_parts), unfolding(crate::specs::Types::ReplyFits))]
+#[tactic(auto, using(crate::proofs::RowTexts::table_parts), unfolding(crate::specs::Types::ReplyFits))]
 fn table_text(alloc: Global, table: &Table) -> Result<Vec<u8>, AllocError>
     ensures text { IfOk result (λ bytes. bytes.items ≡ reply_text (Reply.Table table.now)) }
     ensures fits { OnOk result (ReplyFits (Reply.Table table.now)) }
@@ -160,7 +160,7 @@ fn reply_text(alloc: Global, reply: &Reply) -> Result<Vec<u8>, AllocError>
     }
 }
 
-/// The text of a valid reply, without a line feed.
+/// The text of a valid reply, without a line feed, as [`crate::read_reply`] reads it.
 pub fn print_reply(alloc: Global, reply: &Reply) -> Result<List<u8>, NoMemory>
     requires { IsTrue (is_valid_reply reply.now) }
     ensures text { IfOk result (λ bytes. bytes ≡ reply_text reply.now) }

@@ -1,6 +1,6 @@
 use Rattle.std.proofs.Common.{◌≡◌, ◌++◌, ℕ, Vec, Global, ap, ◌∙◌}
 use Rattle.serde_json.specs.Written.{comma_if}
-use Rattle.reply_json.proofs.Rows.{first_row, next_row, last_row, with_comma, without_comma, none_fit, fits_more, all_fit}
+use Rattle.reply_json.proofs.RowTexts.{first_row, next_row, last_row, with_comma, without_comma, none_fit, fits_more, all_fit}
 use Rattle.reply_json.proofs.printing.push_rows.Goals.{then-is_later+in_ok-push-2, else-is_later}
 use Rattle.reply_json.proofs.printing.push_rows.Goals as goal
 

@@ -3,7 +3,7 @@ use Rattle.std.specs.List.{All}
 use Rattle.serde_json.specs.Written.{compact_text}
 use Rattle.reply_json.specs.Printed.{rows_value}
 use Rattle.reply_json.specs.Types.{RowFits}
-use Rattle.reply_json.proofs.Rows.{rest_text}
+use Rattle.reply_json.proofs.RowTexts.{rest_text}
 use Rattle.reply_json.proofs.printing.push_rows.Given as goal
 
 abbrev pub invariant-loop-row : goal.invariant-loop-row
