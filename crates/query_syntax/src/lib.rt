@@ -15,6 +15,7 @@ mod parsing;
 mod print_tests;
 mod printing;
 mod query;
+mod table;
 #[cfg(test)]
 mod tests;
 mod tile_word;
@@ -26,4 +27,5 @@ pub use fault::QueryFault;
 pub use parsing::parse;
 pub use printing::print;
 pub use query::{Choice, Parsed, Query, Span, Verb};
+pub use table::{RowOut, Table};
 pub use value_set::ValueSet;

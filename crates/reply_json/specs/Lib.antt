@@ -1,0 +1,5 @@
+pub mod Validity
+pub mod Types
+pub mod Printed
+pub mod Reading
+pub mod Meaning
