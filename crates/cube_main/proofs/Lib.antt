@@ -1,8 +1,10 @@
+mod Saying
 mod Passing
+mod Written
+mod Answering
+mod Told
 mod Points
 mod Heading
 mod Loaded
-mod Written
-mod Told
-mod Demoed
 mod Ending
+mod Demoed

@@ -1,5 +1,5 @@
 -- A feed that is read from its start: its header, then its points.
-use Rattle.std.proofs.Common.{◌≡◌, ℕ, ◌+◌, ◌<◌, ◌≤◌, Bool, true, false, not, ◌||◌, nat_lt, List, [], ◌∷◌, ◌++◌, map, drop, length, Option, Some, None, option_map, Result, Ok, Err, is_ok, refl, sym, ◌∙◌, ap, subst, arith, zero-add, IfOk, IsSomeAnd, MatchOption}
+use Rattle.std.proofs.Common.{◌≡◌, ℕ, ◌+◌, ◌<◌, ◌≤◌, Bool, true, false, not, ◌||◌, nat_lt, List, [], ◌∷◌, ◌++◌, map, drop, length, Option, Some, None, option_map, Result, Ok, Err, is_ok, refl, sym, ◌∙◌, ap, subst, arith, zero-add, OnOk, IsSomeAnd, MatchOption}
 use Rattle.std.proofs.lemmas.Grind.{common_steps}
 use Rattle.std.specs.Bool.{⊤}
 use Rattle.cube_main.specs.Progress.{Passes, PassesAll, IsTooLarge}
@@ -89,7 +89,7 @@ module _ {S : Type 0} (left : S → Option (List ℕ)) (faults : S → ℕ) (sch
       (lines_at_start (λ ls. ls ≡ line ∷ more) (rest_of left a) a.taken a.given start.0 start.1 (each (lines_left left a) _ _ (λ ls first. lines_after line more ls (lines_left left b) first all.covers) passed.covers))
       (size_at_start (λ n. n ≤ input_limit) (rest_of left a) a.taken (input_size left b) start.0 passed.size all.size)
 
--- what holds of an `Ok` leads to what follows from it
-pub each_ok : {T E : Type 0} (r : Result T E) (P Q : T → Type 0) → ((x : T) → P x → Q x) → IfOk r P → IfOk r Q
-each_ok (Ok x) P Q f p = f x p
-each_ok (Err e) P Q f p = tt
+-- what holds where the result is `Ok` leads to what follows from it
+pub each_on : {T E : Type 0} (r : Result T E) (P Q : Type 0) → (P → Q) → OnOk r P → OnOk r Q
+each_on (Ok x) P Q f p = f p
+each_on (Err e) P Q f p = tt

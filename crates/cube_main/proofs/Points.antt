@@ -1,5 +1,5 @@
 -- The points in the rows of lines, one line after another.
-use Rattle.std.proofs.Common.{◌≡◌, List, [], ◌∷◌, ◌++◌, map, refl, ap, ◌∙◌, sym}
+use Rattle.std.proofs.Common.{◌≡◌, List, [], ◌∷◌, ◌++◌, map, refl, ap, ◌∙◌, sym, append_assoc}
 use Rattle.cube_view.specs.Points.{Point}
 use Rattle.feed_reader.specs.Feeds.{points_in}
 use Rattle.feed_reader.specs.declared.row.Row.{Row}
@@ -16,7 +16,9 @@ map-push : {A B : Type 0} (f : A → B) (xs : List A) (x : A) → map f (xs ++ x
 map-push f [] x = refl
 map-push f (y ∷ xs) x = ap (λ zs. f y ∷ zs) (map-push f xs x)
 
--- the points of the lines so far and of one line more
-pub points_of_more : (meaning : Line → Row) (lines : List Line) (line : Line) (r : Row) (points after : List Point) → points ≡ points_in (map meaning lines) → r ≡ meaning line → after ≡ points ++ points_in (r ∷ []) → after ≡ points_in (map meaning (lines ++ line ∷ []))
-points_of_more meaning lines line r points after so_far is more =
-    more ∙ ap (λ ps. ps ++ points_in (r ∷ [])) so_far ∙ ap (λ s. points_in (map meaning lines) ++ points_in (s ∷ [])) is ∙ sym (points_in-append (map meaning lines) (meaning line ∷ [])) ∙ ap points_in (sym (map-push meaning lines line))
+-- the points at first, of the lines so far and of one line more
+pub points_of_more : (meaning : Line → Row) (lines : List Line) (line : Line) (r : Row) (first points after : List Point) → points ≡ first ++ points_in (map meaning lines) → r ≡ meaning line → after ≡ points ++ points_in (r ∷ []) → after ≡ first ++ points_in (map meaning (lines ++ line ∷ []))
+points_of_more meaning lines line r first points after so_far is more =
+    more ∙ ap (λ ps. ps ++ points_in (r ∷ [])) so_far ∙ ap (λ s. (first ++ points_in (map meaning lines)) ++ points_in (s ∷ [])) is
+    ∙ append_assoc first (points_in (map meaning lines)) (points_in (meaning line ∷ []))
+    ∙ ap (λ ps. first ++ ps) (sym (points_in-append (map meaning lines) (meaning line ∷ [])) ∙ ap points_in (sym (map-push meaning lines line)))

@@ -1,6 +1,9 @@
-pub mod Statuses
 pub mod BuiltIn
-pub mod Progress
 pub mod Feeds
+pub mod Progress
 pub mod Replies
+pub mod Said
+pub mod Scripts
+pub mod Statuses
+pub mod Turns
 pub mod Demo

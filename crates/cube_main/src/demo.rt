@@ -10,9 +10,10 @@ ghost use Rattle.outer_io.specs.Files.{Files, file_or_empty};
 
 use crate::built_in::built_in_schema;
 use crate::loading::load;
-use crate::replies::answer;
+use crate::script::answer;
 use crate::status::Status;
 use outer_io::{NoMemory, Place, Sink};
+use plain_cube::PlainCube;
 use std::alloc::Global;
 
 /// Loads the feed and then answers the script over its points.
@@ -48,8 +49,9 @@ fn run_demo<P: Place, O: Sink>(
         Ok(schema) => schema,
         Err(NoMemory) => return Status::NoMemory,
     };
-    match load(alloc, &schema, feed, place) {
-        Ok(points) => answer(alloc, points.len(), script, place, out),
+    let mut cube = PlainCube::new(alloc, schema);
+    match load(alloc, feed, place, &mut cube) {
+        Ok(()) => answer(alloc, &cube, script, place, out),
         Err(status) => status,
     }
 }

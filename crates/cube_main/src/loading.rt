@@ -1,7 +1,7 @@
 //! The points of a feed.
 ghost use Rattle.std.specs.Prelude.{◌≡◌, ◌≢◌, ℕ, ◌+◌, ◌<◌, ◌≤◌, List, [], ◌∷◌, ◌++◌, map, take, length, Some, ⊤, Ok, Err, is_ok, true, false, IfOk, IfErr, OnOk, IfSome, IsErrOf, MatchOption};
 ghost use Rattle.cube_main.specs.Progress.{Passes, PassesAll, IsTooLarge, IsGoing};
-ghost use Rattle.feed_reader.specs.Rows.{row_of_line};
+ghost use Rattle.feed_reader.specs.Rows.{row_of_line, IsValidRow};
 ghost use Rattle.cube_main.specs.Feeds.{IsHeadRefused, is_feed_refused};
 ghost use Rattle.feed_reader.specs.Feeds.{points_in, head_of_lines, accepted};
 ghost use Rattle.feed_reader.specs.Headers.{head_of};
@@ -10,11 +10,13 @@ ghost use Rattle.outer_io.specs.Cutting.{rest_of};
 ghost use Rattle.outer_io.specs.Faults.{Rose};
 ghost use Rattle.outer_io.specs.Files.{Files, file_or_empty};
 ghost use Rattle.outer_io.specs.Lines.{Line, input_limit};
+ghost use Rattle.plain_cube.specs.Kept.{points_of, schema_of};
 
 use crate::status::Status;
-use cube_view::{Point, Schema};
+use cube_view::{CubeView, Schema};
 use feed_reader::{HeadFault, Header, Row, RowFault};
 use outer_io::{Cut, CutFault, IoFault, LineCutter, NoMemory, Place, Source};
+use plain_cube::PlainCube;
 use std::alloc::Global;
 
 /// Why a feed is not loaded.
@@ -45,6 +47,7 @@ fn next_row<S: Source>(
     requires complete { length header.now ≡ needed_count schema.now }
     requires going { IsGoing cutter.old }
     ensures row { IfOk result (λ row. MatchOption row (PassesAll S.left S.faults cutter.old cutter.new []) (λ r. (line : Line) × Passes S.left S.faults cutter.old cutter.new (line ∷ []) × (r ≡ row_of_line schema.now header.now line))) }
+    ensures valid { IfOk result (λ row. IfSome row (IsValidRow schema.now)) }
     ensures turn { IfOk result (λ row. IfSome row (λ _. (cutter.old.given < cutter.new.given) × (cutter.new.given ≤ input_limit) × IsGoing cutter.new)) }
     ensures read { IsErrOf result LoadFault.Read → Rose (S.faults cutter.old.source) (S.faults cutter.new.source) }
     ensures refused { IsErrOf result LoadFault.Refused → IsTooLarge S.left cutter.old }
@@ -60,37 +63,38 @@ fn next_row<S: Source>(
     }
 }
 
-/// Keeps the row's point, if the row is one.
-fn keep_point(points: &mut Vec<Point>, row: Row) -> Result<(), NoMemory>
-    ensures { OnOk result (points.new.items ≡ points.old.items ++ points_in (row ∷ [])) }
+/// Keeps the row's point in the cube, if the row is one.
+fn keep_point(cube: &mut PlainCube, row: Row) -> Result<(), NoMemory>
+    requires { IsValidRow (schema_of cube.old) row }
+    ensures kept { OnOk result (points_of cube.new ≡ points_of cube.old ++ points_in (row ∷ [])) }
+    ensures schema { schema_of cube.new ≡ schema_of cube.old }
 {
-    if let Row::Point(point) = row {
-        if points.push(point).is_err() {
-            return Err(NoMemory);
-        }
+    match row {
+        Row::Point(point) => cube.insert(point),
+        Row::Blank => Ok(()),
+        Row::Refused(_) => Ok(()),
     }
-    Ok(())
 }
 
-/// The points of the lines that are left.
+/// Keeps the points of the lines that are left in the cube.
 fn read_points<S: Source>(
     alloc: Global,
-    schema: &Schema,
     header: &Header,
     cutter: &mut LineCutter<S>,
-) -> Result<Vec<Point>, LoadFault>
-    requires complete { length header.now ≡ needed_count schema.now }
+    cube: &mut PlainCube,
+) -> Result<(), LoadFault>
+    requires complete { length header.now ≡ needed_count (schema_of cube.old) }
     requires going { IsGoing cutter.old }
-    ensures points { IfOk result (λ points. (lines : List Line) × PassesAll S.left S.faults cutter.old cutter.new lines × (points.items ≡ points_in (map (row_of_line schema.now header.now) lines))) }
+    ensures points { OnOk result ((lines : List Line) × PassesAll S.left S.faults cutter.old cutter.new lines × (points_of cube.new ≡ points_of cube.old ++ points_in (map (row_of_line (schema_of cube.old) header.now) lines))) }
+    ensures schema { schema_of cube.new ≡ schema_of cube.old }
     ensures read { IsErrOf result LoadFault.Read → Rose (S.faults cutter.old.source) (S.faults cutter.new.source) }
     ensures refused { IsErrOf result LoadFault.Refused → IsTooLarge S.left cutter.old }
     ensures quiet { (result ≢ Err LoadFault.Read) → S.faults cutter.new.source ≡ S.faults cutter.old.source }
 {
-    let mut points = Vec::new(alloc);
-    while let Some(row) = next_row(alloc, schema, header, cutter)? {
-        keep_point(&mut points, row)?;
+    while let Some(row) = next_row(alloc, cube.schema(), header, cutter)? {
+        keep_point(cube, row)?;
     }
-    Ok(points)
+    Ok(())
 }
 
 /// The header that a line is.
@@ -129,56 +133,62 @@ fn read_header<S: Source>(
     }
 }
 
-/// The header and the points of the lines of a cutter that gave none yet.
+/// Keeps the points of a feed's lines in an empty cube, from a cutter that gave none yet.
 fn read_lines<S: Source>(
     alloc: Global,
-    schema: &Schema,
     cutter: &mut LineCutter<S>,
-) -> Result<Vec<Point>, LoadFault>
+    cube: &mut PlainCube,
+) -> Result<(), LoadFault>
+    requires empty { points_of cube.old ≡ [] }
     requires start { (cutter.old.taken ≡ 0) × (cutter.old.given ≡ 0) }
     requires going { IsGoing cutter.old }
-    ensures points { IfOk result (λ points. MatchOption (rest_of S.left cutter.old) ⊤ (λ feed. (is_feed_refused schema.now feed ≡ false) × (points.items ≡ accepted schema.now feed))) }
+    ensures points { OnOk result (MatchOption (rest_of S.left cutter.old) ⊤ (λ feed. (is_feed_refused (schema_of cube.old) feed ≡ false) × (points_of cube.new ≡ accepted (schema_of cube.old) feed))) }
+    ensures schema { schema_of cube.new ≡ schema_of cube.old }
     ensures read { IsErrOf result LoadFault.Read → Rose (S.faults cutter.old.source) (S.faults cutter.new.source) }
-    ensures refused { IsErrOf result LoadFault.Refused → MatchOption (rest_of S.left cutter.old) ⊤ (λ feed. is_feed_refused schema.now feed ≡ true) }
+    ensures refused { IsErrOf result LoadFault.Refused → MatchOption (rest_of S.left cutter.old) ⊤ (λ feed. is_feed_refused (schema_of cube.old) feed ≡ true) }
     ensures quiet { (result ≢ Err LoadFault.Read) → S.faults cutter.new.source ≡ S.faults cutter.old.source }
 {
-    match read_header(alloc, schema, cutter) {
-        Ok(header) => read_points(alloc, schema, &header, cutter),
+    match read_header(alloc, cube.schema(), cutter) {
+        Ok(header) => read_points(alloc, &header, cutter, cube),
         Err(fault) => Err(fault),
     }
 }
 
-/// The points of a feed. The source comes back with every answer.
+/// Keeps the points of a feed in an empty cube. The source comes back with every answer.
 fn read_feed<S: Source>(
     alloc: Global,
-    schema: &Schema,
     source: S,
-) -> (S, Result<Vec<Point>, LoadFault>)
-    ensures points { (feed : List ℕ) → S.left source ≡ Some feed → IfOk result.1 (λ points. (is_feed_refused schema.now feed ≡ false) × (points.items ≡ accepted schema.now feed)) }
+    cube: &mut PlainCube,
+) -> (S, Result<(), LoadFault>)
+    requires { points_of cube.old ≡ [] }
+    ensures points { (feed : List ℕ) → S.left source ≡ Some feed → OnOk result.1 ((is_feed_refused (schema_of cube.old) feed ≡ false) × (points_of cube.new ≡ accepted (schema_of cube.old) feed)) }
+    ensures schema { schema_of cube.new ≡ schema_of cube.old }
     ensures read { IsErrOf result.1 LoadFault.Read → Rose (S.faults source) (S.faults result.0) }
-    ensures refused { (feed : List ℕ) → S.left source ≡ Some feed → IsErrOf result.1 LoadFault.Refused → is_feed_refused schema.now feed ≡ true }
+    ensures refused { (feed : List ℕ) → S.left source ≡ Some feed → IsErrOf result.1 LoadFault.Refused → is_feed_refused (schema_of cube.old) feed ≡ true }
     ensures quiet { (result.1 ≢ Err LoadFault.Read) → S.faults result.0 ≡ S.faults source }
 {
     match LineCutter::new(alloc, source) {
         Ok(mut cutter) => {
-            let points = read_lines(alloc, schema, &mut cutter);
-            (cutter.into_source(), points)
+            let loaded = read_lines(alloc, &mut cutter, cube);
+            (cutter.into_source(), loaded)
         }
         Err(source) => (source, Err(LoadFault::NoMemory)),
     }
 }
 
-/// The points of the named feed, or how the run ended. The feed's source is given back.
+/// Keeps the points of the named feed in an empty cube, or says how the run ended. The feed's source is given back.
 pub(crate) fn load<P: Place>(
     alloc: Global,
-    schema: &Schema,
     feed: &str,
     place: &mut P,
-) -> Result<Vec<Point>, Status>
-    ensures points { (files : Files) → P.files place.old ≡ Some files → let bytes = file_or_empty files feed.now in IfOk result (λ points. (is_feed_refused schema.now bytes ≡ false) × (points.items ≡ accepted schema.now bytes)) }
+    cube: &mut PlainCube,
+) -> Result<(), Status>
+    requires { points_of cube.old ≡ [] }
+    ensures points { (files : Files) → P.files place.old ≡ Some files → let bytes = file_or_empty files feed.now in OnOk result ((is_feed_refused (schema_of cube.old) bytes ≡ false) × (points_of cube.new ≡ accepted (schema_of cube.old) bytes)) }
+    ensures schema { schema_of cube.new ≡ schema_of cube.old }
     ensures status { IfErr result (λ status. (status ≢ Status.Done) × (status ≢ Status.Usage) × (status ≢ Status.WriteFault)) }
     ensures read { IsErrOf result Status.ReadFault → Rose (P.read_faults place.old) (P.read_faults place.new) }
-    ensures refused { (files : Files) → P.files place.old ≡ Some files → IsErrOf result Status.FeedRefused → is_feed_refused schema.now (file_or_empty files feed.now) ≡ true }
+    ensures refused { (files : Files) → P.files place.old ≡ Some files → IsErrOf result Status.FeedRefused → is_feed_refused (schema_of cube.old) (file_or_empty files feed.now) ≡ true }
     ensures quiet { (result ≢ Err Status.ReadFault) → P.read_faults place.new ≡ P.read_faults place.old }
     ensures files { P.files place.new ≡ P.files place.old }
     ensures opened { OnOk result (P.opened place.new ≡ P.opened place.old ++ feed.now ∷ []) }
@@ -186,10 +196,10 @@ pub(crate) fn load<P: Place>(
 {
     match place.open(feed) {
         Ok(source) => {
-            let (source, points) = read_feed(alloc, schema, source);
+            let (source, loaded) = read_feed(alloc, source, cube);
             place.give_back_in(source);
-            match points {
-                Ok(points) => Ok(points),
+            match loaded {
+                Ok(()) => Ok(()),
                 Err(LoadFault::NoMemory) => Err(Status::NoMemory),
                 Err(LoadFault::Read) => Err(Status::ReadFault),
                 Err(LoadFault::Refused) => Err(Status::FeedRefused),

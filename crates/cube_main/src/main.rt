@@ -9,6 +9,7 @@ mod demo;
 mod loading;
 mod nanocube;
 mod replies;
+mod script;
 mod status;
 #[cfg(test)]
 mod tests;

@@ -109,6 +109,94 @@ fn counts_the_accepted_records(rt: HostRuntime) -> Result<(), Fail> {
     Ok(())
 }
 
+/// The lines, each with a line feed.
+fn joined(alloc: Global, lines: &[(&[u8], &str)]) -> Result<(Vec<u8>, Vec<u8>), AllocError> {
+    let mut script = Vec::new(alloc);
+    let mut replies = Vec::new(alloc);
+    for (line, reply) in lines {
+        script.extend_from_slice(line)?;
+        script.push(b'\n')?;
+        replies.extend_from_slice(reply.as_bytes())?;
+        if !reply.is_empty() {
+            replies.push(b'\n')?;
+        }
+    }
+    Ok((script, replies))
+}
+
+#[test]
+fn answers_each_line_of_the_language(rt: HostRuntime) -> Result<(), Fail> {
+    let alloc = rt.alloc();
+    let long = vec![in alloc; b'x'; 4097]?;
+    let lines: [(&[u8], &str); 25] = [
+        (b"count in 1/0/0", "{\"rows\":[[2]],\"seen\":3}"),
+        (b"count in 3/7/7", "{\"rows\":[[1]],\"seen\":3}"),
+        (b"count in 1/2/0", "{\"at\":3,\"fault\":\"BadTile\"}"),
+        (
+            b"count with kind=a|b time 0 1",
+            "{\"rows\":[[1]],\"seen\":3}",
+        ),
+        (b"map 1", "{\"at\":1,\"fault\":\"UnknownVerb\"}"),
+        (b"map 1 in 3/0/0", "{\"at\":2,\"fault\":\"TooDeep\"}"),
+        (
+            b"series 0 1 3 time 0 1",
+            "{\"at\":5,\"fault\":\"TimeInSeries\"}",
+        ),
+        (b"\xff", "{\"at\":1,\"fault\":\"NotText\"}"),
+        (long.as_slice(), "{\"at\":1,\"fault\":\"LongLine\"}"),
+        (b"count with kind=\"a", "{\"at\":3,\"fault\":\"BadQuote\"}"),
+        (b"sum", "{\"at\":1,\"fault\":\"UnknownVerb\"}"),
+        (b"map", "{\"at\":2,\"fault\":\"MissingWord\"}"),
+        (b"map x", "{\"at\":2,\"fault\":\"BadNumber\"}"),
+        (b"map 11", "{\"at\":2,\"fault\":\"OutOfRange\"}"),
+        (b"hist color", "{\"at\":2,\"fault\":\"UnknownCategory\"}"),
+        (
+            b"count with kind=c",
+            "{\"at\":3,\"fault\":\"UnknownValue\"}",
+        ),
+        (
+            b"count in 0/0/0 in 0/0/0",
+            "{\"at\":4,\"fault\":\"RepeatedFilter\"}",
+        ),
+        (b"count near 1", "{\"at\":2,\"fault\":\"UnknownFilter\"}"),
+        (b"count time 2 1", "{\"at\":4,\"fault\":\"OutOfRange\"}"),
+        (b"# note", ""),
+        (b"", ""),
+        (b"told", "{\"told\":3}"),
+        (
+            b"count  with kind=a|a in 01/0/1",
+            "{\"rows\":[[0]],\"seen\":3}",
+        ),
+        (b"quit", ""),
+        (b"count with kind=a", ""),
+    ];
+    let (script, replies) = joined(alloc, &lines)?;
+    let mut place = MemPlace::new(alloc);
+    assert!(rt;
+        place
+            .put_file(
+                "a.csv",
+                list(alloc, FEED.as_bytes())?,
+                16,
+                list(alloc, &[])?
+            )
+            .is_ok()
+    );
+    assert!(rt;
+        place
+            .put_file("q.txt", List::from_vec(script), 100, list(alloc, &[])?)
+            .is_ok()
+    );
+    let mut out = MemSink::new(alloc, list(alloc, &[])?);
+    let line = words(alloc, &["demo", "a.csv", "q.txt"])?;
+    assert_eq!(rt;
+        nanocube(&rt, line.as_slice(), &mut place, &mut out),
+        Status::Done
+    );
+    assert_eq!(rt; out.bytes(), replies.as_slice());
+    Ok(())
+}
+
 #[test]
 fn names_the_fault_of_the_outside(rt: HostRuntime) -> Result<(), Fail> {
     let feed_read = Case {

@@ -5,6 +5,7 @@ use crate::{Choice, Parsed, Query, QueryFault, Span, ValueSet, Verb, parse};
 use cube_view::{Category, Schema, Tile};
 use outer_io::{List, NoMemory, Text};
 use std::alloc::Global;
+use std::process::Abort;
 use std::test::Fail;
 
 pub fn push<T: Drop>(list: &mut List<T>, item: T) -> Result<(), NoMemory>
@@ -37,6 +38,12 @@ pub fn schema(alloc: Global) -> Result<Schema, NoMemory> {
 fn meaning(alloc: Global, line: &[u8]) -> Result<Parsed, Fail> {
     let schema = schema(alloc)?;
     Ok(parse(alloc, &schema, line)?)
+}
+
+fn expect(rt: &(impl Abort + AllocGlobal), line: &[u8], want: &Parsed) -> Result<(), Fail> {
+    let found = meaning(rt.alloc(), line)?;
+    assert!(rt; found == *want);
+    Ok(())
 }
 
 fn fault(fault: QueryFault, word: u32) -> Parsed {
@@ -82,8 +89,8 @@ fn names_the_first_fault_and_its_word(rt: HostRuntime) -> Result<(), Fail> {
         (b"stat in 0/0/0", fault(QueryFault::UnknownFilter, 2)),
         (b"count by kind", fault(QueryFault::UnknownFilter, 2)),
     ];
-    for (line, want) in cases {
-        assert_eq!(rt; meaning(rt.alloc(), line)?, want);
+    for case in &cases {
+        expect(&rt, case.0, &case.1)?;
     }
     Ok(())
 }
@@ -96,8 +103,8 @@ fn skips_blank_lines_and_comments(rt: HostRuntime) -> Result<(), Fail> {
         (b"#", Parsed::Skip),
         (b"# count", Parsed::Skip),
     ];
-    for (line, want) in cases {
-        assert_eq!(rt; meaning(rt.alloc(), line)?, want);
+    for case in &cases {
+        expect(&rt, case.0, &case.1)?;
     }
     Ok(())
 }

@@ -1,15 +1,18 @@
-use Rattle.std.proofs.Common.{◌∷◌, ◌++◌, []}
+use Rattle.std.proofs.Common.{◌∷◌, ◌++◌, [], ◌∙◌, ap}
 use Rattle.cube_main.proofs.Passing.{passes_on}
 use Rattle.cube_main.proofs.Points.{points_of_more}
 use Rattle.feed_reader.specs.Rows.{row_of_line}
+use Rattle.plain_cube.specs.Kept.{points_of, schema_of}
 use Rattle.cube_main.proofs.loading.read_points.Goals as goal
 
-pub loop-points-preserved : goal.loop-points-preserved
-loop-points-preserved g c =
-    let so_far = c.loop-points.invariant in
+pub loop-row-preserved : goal.loop-row-preserved
+loop-row-preserved g c =
+    let so_far = c.loop-row.invariant in
     let next = rw c.in-Some.is at c.in_ok-row.ensures.row in (
       so_far.0 ++ next.0 ∷ [],
       passes_on _ _ _ _ _ _ _ so_far.1 next.1,
       (rw c.in-Some.is at c.in_ok-row.ensures.turn).2,
-      points_of_more (row_of_line c.args.schema.now c.args.header.now) so_far.0 next.0 c.in-Some.row _ _ so_far.3 next.2 c.in_ok-keep_point.ensures,
+      c.keep_point.ensures.schema ∙ so_far.3,
+      points_of_more (row_of_line (schema_of c.args.cube.now) c.args.header.now) so_far.0 next.0 c.in-Some.row (points_of c.args.cube.now) (points_of c.loop-row.cube) (points_of c.keep_point.new.cube)
+          so_far.4 (next.2 ∙ ap (λ s. row_of_line s c.args.header.now next.0) (c.schema.ensures ∙ so_far.3)) c.in_ok-keep_point.ensures.kept,
     )

@@ -1,13 +1,16 @@
-use Rattle.std.proofs.Common.{◌≡◌, ◌-◌, List, map}
+use Rattle.std.proofs.Common.{◌≡◌, ◌-◌, ◌++◌, List, map}
 use Rattle.cube_main.specs.Progress.{Passes, IsGoing}
-use Rattle.feed_reader.specs.Rows.{row_of_line}
 use Rattle.feed_reader.specs.Feeds.{points_in}
+use Rattle.feed_reader.specs.Rows.{row_of_line}
 use Rattle.outer_io.specs.Lines.{Line, input_limit}
+use Rattle.plain_cube.specs.Kept.{points_of, schema_of}
 use Rattle.cube_main.proofs.loading.read_points.Given as goal
 
-abbrev pub invariant-loop-points : goal.invariant-loop-points
-invariant-loop-points g l =
-    (lines : List Line) × Passes g.S.Source.left g.S.Source.faults l.initial.cutter l.cutter lines × IsGoing l.cutter × (l.points.items ≡ points_in (map (row_of_line l.schema l.header) lines))
+abbrev pub invariant-loop-row : goal.invariant-loop-row
+invariant-loop-row g l =
+    (lines : List Line) × Passes g.S.Source.left g.S.Source.faults l.initial.cutter l.cutter lines × IsGoing l.cutter
+    × (schema_of l.cube ≡ schema_of l.initial.cube)
+    × (points_of l.cube ≡ points_of l.initial.cube ++ points_in (map (row_of_line (schema_of l.initial.cube) l.header) lines))
 
-abbrev pub decreases-loop-points : goal.decreases-loop-points
-decreases-loop-points g l = input_limit - l.cutter.given
+abbrev pub decreases-loop-row : goal.decreases-loop-row
+decreases-loop-row g l = input_limit - l.cutter.given

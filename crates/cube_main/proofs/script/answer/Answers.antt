@@ -1,5 +1,5 @@
 use Rattle.std.proofs.Common.{◌∙◌}
-use Rattle.cube_main.proofs.replies.answer.Goals as goal
+use Rattle.cube_main.proofs.script.answer.Goals as goal
 
 pub returns-in-Ok-answered-clause-done : goal.returns-in-Ok-answered-clause-done
 returns-in-Ok-answered-clause-done g c files told e =
