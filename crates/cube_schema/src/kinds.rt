@@ -22,9 +22,7 @@ fn texts_of(alloc: Global, items: &[Value]) -> Result<Option<List<Text>>, NoMemo
         let Some(text) = item.as_str() else {
             return Ok(None);
         };
-        if texts.push(Text::copy_of(alloc, text)?).is_err() {
-            return Err(NoMemory);
-        }
+        texts.add(Text::copy_of(alloc, text)?)?;
     }
     Ok(Some(texts))
 }
@@ -78,9 +76,7 @@ fn categories_of(alloc: Global, items: &[Value]) -> Result<Option<List<Category>
         let Some(category) = category_of(alloc, item)? else {
             return Ok(None);
         };
-        if categories.push(category).is_err() {
-            return Err(NoMemory);
-        }
+        categories.add(category)?;
     }
     Ok(Some(categories))
 }

@@ -5,7 +5,7 @@ ghost use Rattle.cube_schema.specs.Members.{is_plan_name, first_missing, least_u
 
 use crate::Member;
 use crate::member::MEMBERS;
-use crate::texts::same_text;
+use cube_view::is_same_text;
 use serde_json::Value;
 
 /// The first member of a plan that the object lacks.
@@ -21,7 +21,7 @@ pub(crate) fn first_missing(value: &Value) -> Option<Member>
 fn is_plan_name(text: &str) -> bool
     ensures { result ≡ is_plan_name text.now }
 {
-    MEMBERS.iter().any(|member| same_text(member.name(), text))
+    MEMBERS.iter().any(|member| is_same_text(member.name().as_bytes(), text.as_bytes()))
 }
 
 /// The least name of a member of the object that is none of a plan's.

@@ -38,10 +38,7 @@ fn add_copy(alloc: Global, texts: &mut List<Text>, text: &str) -> Result<(), NoM
     ensures { OnOk result (texts.new ≡ texts.old ++ text.now ∷ []) }
 {
     let copy = Text::copy_of(alloc, text)?;
-    match texts.push(copy) {
-        Ok(()) => Ok(()),
-        Err(_) => Err(NoMemory),
-    }
+    texts.add(copy)
 }
 
 // Adds copies of the texts at the end.
@@ -62,9 +59,7 @@ fn add_outputs(alloc: Global, texts: &mut List<Text>, names: &[Text]) -> Result<
         let Ok(output) = format!(in alloc; "{}.out", name.as_str()) else {
             return Err(NoMemory);
         };
-        if texts.push(Text::from_string(output)).is_err() {
-            return Err(NoMemory);
-        }
+        texts.add(Text::from_string(output))?;
     }
     Ok(())
 }

@@ -8,6 +8,7 @@ mod labels;
 mod schema;
 mod spot;
 mod stat;
+mod texts;
 mod validity;
 mod view;
 
@@ -17,5 +18,6 @@ pub use labels::label;
 pub use schema::Schema;
 pub use spot::{Point, Spot};
 pub use stat::Stat;
+pub use texts::is_same_text;
 pub use validity::is_valid;
 pub use view::CubeView;

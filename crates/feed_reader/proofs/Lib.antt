@@ -1,5 +1,4 @@
 pub mod Lists
-pub mod Digits
 pub mod OneRecord
 pub mod Columns
 pub mod Values

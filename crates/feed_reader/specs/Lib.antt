@@ -1,6 +1,5 @@
 pub mod Columns
 pub mod Records
-pub mod Decimals
 pub mod Headers
 pub mod Rows
 pub mod Feeds

@@ -3,9 +3,9 @@ ghost use Rattle.std.specs.Prelude.{◌≡◌, ◌<◌, [], IfOk, Some, get_or, 
 ghost use Rattle.feed_reader.specs.Headers.{count_of, place_in};
 ghost use Rattle.feed_reader.specs.Records.{IsReaderOf, begins_with_mark, record_of};
 ghost use Rattle.feed_reader.specs.Rows.{is_short};
-ghost use Rattle.cube_view.specs.Limits.{same_text};
 
 use csv::{ByteRecord, Reader, ReaderBuilder};
+use cube_view::is_same_text;
 use outer_io::NoMemory;
 use std::alloc::Global;
 use std::marker::Model;
@@ -23,13 +23,6 @@ impl Model for Fields {
     ghost Value = { List (List ℕ) };
 
     ghost view = { λ fields. fields_of fields.row };
-}
-
-/// Whether two texts have the same bytes.
-pub(crate) fn is_same(a: &[u8], b: &[u8]) -> bool
-    ensures { result ≡ same_text a.now b.now }
-{
-    a == b
 }
 
 // Whether the bytes begin with a byte order mark, which `csv` would pass over.
@@ -103,7 +96,7 @@ impl Fields {
     {
         let mut count = 0;
         for place in 0..self.len() {
-            if is_same(name, self.field(place)) {
+            if is_same_text(name, self.field(place)) {
                 count += 1;
             }
         }
@@ -116,7 +109,7 @@ impl Fields {
     {
         let count = self.len();
         for place in 0..count {
-            if is_same(name, self.field(place)) {
+            if is_same_text(name, self.field(place)) {
                 return place;
             }
         }

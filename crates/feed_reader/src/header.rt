@@ -99,12 +99,7 @@ fn places(alloc: Global, schema: &Schema, fields: &Fields) -> Result<List<usize>
 {
     let mut places = List::new(alloc);
     for place in 0..needed_count(schema) {
-        if places
-            .push(fields.place(needed_name(schema, place)))
-            .is_err()
-        {
-            return Err(NoMemory);
-        }
+        places.add(fields.place(needed_name(schema, place)))?;
     }
     Ok(places)
 }

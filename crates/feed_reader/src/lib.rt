@@ -6,7 +6,6 @@
 #![tactic(auto)]
 
 mod column;
-mod decimal;
 mod fields;
 mod header;
 mod row;

@@ -2,15 +2,14 @@
 ghost use Rattle.std.specs.Prelude.{◌≡◌, ◌<◌, ◌≤◌, ◌^◌, Some, None, MatchOption, MatchResult, IsTrue, nat_le, nat_lt, not, map, length, get_or, option_map, [], ◌∷◌, false, true};
 ghost use Rattle.cube_view.specs.Limits.{has_text, category_in_range, categories_in_range};
 ghost use Rattle.feed_reader.specs.Columns.{needed_count};
-ghost use Rattle.feed_reader.specs.Decimals.{is_decimal};
+ghost use Rattle.outer_io.specs.Decimals.{is_decimal};
 ghost use Rattle.feed_reader.specs.Headers.{place_in};
 ghost use Rattle.feed_reader.specs.Rows.{fault_if, first_fault, number, bin_of, first_unknown, values_of, faults_of, point_of, is_short, texts_at, row_of_record, IsValidRow};
 
 use crate::Column;
-use crate::decimal::decimal;
-use crate::fields::{Fields, is_same};
-use cube_view::{Category, Point, Schema, Spot};
-use outer_io::List;
+use crate::fields::Fields;
+use cube_view::{Category, Point, Schema, Spot, is_same_text};
+use outer_io::{List, decimal_of};
 
 /// Why a line is no point. A category goes by its number, from 0.
 #[derive(Clone, Copy, PartialEq, Eq, Debug)]
@@ -34,11 +33,12 @@ pub enum Row {
 }
 
 // The number in a column's field.
+#[tactic(auto, unfolding(outer_io::specs::Decimals::decimal_value))]
 fn number(field: &[u8], column: Column) -> Result<u64, RowFault>
     ensures { let fault = fault_if (not (is_decimal field.now)) (RowFault.BadNumber column) in
         MatchResult result (λ n. (fault ≡ None) × (n ≡ number field.now)) (λ f. fault ≡ Some f) }
 {
-    match decimal(field) {
+    match decimal_of(field) {
         Some(number) => Ok(number),
         None => Err(RowFault::BadNumber(column)),
     }
@@ -64,7 +64,7 @@ fn value(category: &Category, field: &[u8]) -> Option<u8>
         (λ n. (has_text category.now.values field.now ≡ true) × (n ≡ place_in category.now.values field.now)) }
 {
     for (n, text) in category.values.as_slice().iter().enumerate() {
-        if is_same(field, text.as_str().as_bytes()) {
+        if is_same_text(field, text.as_str().as_bytes()) {
             return Some(n as u8);
         }
     }

@@ -1,5 +1,5 @@
 //! What the lines of a feed mean, by examples.
-ghost use Rattle.std.specs.Prelude.{◌≡◌, ◌++◌, ◌∷◌, [], IfOk, OnOk, codes};
+ghost use Rattle.std.specs.Prelude.{◌≡◌, ◌∷◌, [], IfOk, codes};
 
 use crate::{Column, HeadFault, Header, Row, RowFault};
 use cube_view::{Category, Schema, Spot};
@@ -7,30 +7,21 @@ use outer_io::{List, NoMemory, Text};
 use std::alloc::Global;
 use std::test::Fail;
 
-fn push<T: Drop>(list: &mut List<T>, item: T) -> Result<(), NoMemory>
-    ensures { OnOk result (list.new ≡ list.old ++ item ∷ []) }
-{
-    match list.push(item) {
-        Ok(()) => Ok(()),
-        Err(_) => Err(NoMemory),
-    }
-}
-
 fn kind(alloc: Global) -> Result<Category, NoMemory>
     ensures name { IfOk result (λ category. category.name ≡ codes "kind") }
     ensures values { IfOk result (λ category. category.values ≡ codes "a" ∷ codes "b" ∷ []) }
 {
     let name = Text::copy_of(alloc, "kind")?;
     let mut values = List::new(alloc);
-    push(&mut values, Text::copy_of(alloc, "a")?)?;
-    push(&mut values, Text::copy_of(alloc, "b")?)?;
+    values.add(Text::copy_of(alloc, "a")?)?;
+    values.add(Text::copy_of(alloc, "b")?)?;
     Ok(Category { name, values })
 }
 
 // Depth 3, the category `kind` of a and b, and bins of 10 from `start` on.
 fn schema(alloc: Global, start: u64) -> Result<Schema, NoMemory> {
     let mut categories = List::new(alloc);
-    push(&mut categories, kind(alloc)?)?;
+    categories.add(kind(alloc)?)?;
     Ok(Schema::new(3, categories, start, 10, 1))
 }
 

@@ -4,9 +4,9 @@ use Rattle.std.proofs.lemmas.List.Sums.{position_or_len_is}
 use Rattle.feed_reader.proofs.Lists.{position_or_len_all}
 use Rattle.feed_reader.proofs.fields.Fields.place.Goals as goal
 
-pub returns-then-is_same : goal.returns-then-is_same
-returns-then-is_same c =
-    let here = rw c.field.ensures at (sym c.is_same.ensures ∙ c.if-is_same.true) in
+pub returns-then-is_same_text : goal.returns-then-is_same_text
+returns-then-is_same_text c =
+    let here = rw c.field.ensures at (sym c.is_same_text.ensures ∙ c.if-is_same_text.true) in
     sym (position_or_len_is (same_text c.args.name.now) c.args.self.now c.loop-place.place [] (omega arith) c.loop-place.invariant (λ _. here))
 
 pub returns : goal.returns
