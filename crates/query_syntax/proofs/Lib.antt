@@ -1,7 +1,7 @@
+pub mod BoxSteps
 pub mod Cutting
 pub mod FilterSteps
 pub mod Listing
-pub mod Numerals
 pub mod Places
 pub mod PrintedFilters
 pub mod PrintedItems
@@ -9,8 +9,8 @@ pub mod PrintedNumbers
 pub mod PrintedVerbs
 pub mod Quoting
 pub mod ReadBack
-pub mod SchemaLimits
 pub mod Sets
+pub mod TableRows
 pub mod ValidParts
 pub mod Validity
 pub mod WholeTexts

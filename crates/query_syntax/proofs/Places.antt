@@ -12,7 +12,7 @@ use Rattle.cube_view.specs.Limits.{all_distinct, has_text, same_text}
 use Rattle.cube_view.specs.declared.category.Category.{Category}
 use Rattle.query_syntax.specs.Items.{values_at, has_item}
 use Rattle.query_syntax.specs.declared.query.Choice.{Choice}
-use Rattle.query_syntax.proofs.SchemaLimits.{and_left, and_right}
+use Rattle.query_syntax.specs.SchemaLimits.{and_left, and_right}
 use Rattle.query_syntax.proofs.WholeTexts.{not_false, or_false_left, or_false_right}
 
 abbrev first_place : {X : Type 0} → (X → Bool) → List X → ℕ

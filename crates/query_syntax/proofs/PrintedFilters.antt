@@ -27,7 +27,7 @@ use Rattle.query_syntax.proofs.FilterSteps.{region_begins, item_begins, time_beg
 use Rattle.query_syntax.proofs.PrintedItems.{item_reads, item_is_word, length-push}
 use Rattle.query_syntax.proofs.PrintedNumbers.{number_reads, decimal_is_word}
 use Rattle.query_syntax.proofs.PrintedVerbs.{tile_reads, tile_is_word, SmallTile, from_zero}
-use Rattle.query_syntax.proofs.SchemaLimits.{and_left, and_right, and_both}
+use Rattle.query_syntax.specs.SchemaLimits.{and_left, and_right, and_both}
 use Rattle.query_syntax.proofs.Sets.{or_all}
 use Rattle.query_syntax.proofs.WholeTexts.{is_word}
 

@@ -1,18 +1,25 @@
 -- Printed decimals are read back.
-use Rattle.std.proofs.Common.{◌≡◌, ℕ, ◌<◌, ◌^◌, true, false, List, [], ◌∷◌, length, Some, Ok, ap, refl, arith}
+use Rattle.std.proofs.Common.{◌≡◌, ℕ, ◌<◌, ◌^◌, true, false, List, [], ◌∷◌, length, Some, Ok, ap, refl, arith, rules}
 use Rattle.std.specs.List.{list_all}
 use Rattle.std.specs.Char.{is_ascii_digit}
 use Rattle.std.specs.Fmt.{decimal}
 use Rattle.std.specs.Str.Parse.{digits_value}
 use Rattle.std.proofs.lemmas.Bool.Decides.{nat_tests}
+use Rattle.std.proofs.lemmas.Str.Parse.{IsNumeralModel, numerals_by_value, IsDigitsTest}
 use Rattle.std.proofs.lemmas.Fmt.{digits_decimal, digits_value-decimal, decimal_nonempty, length-decimal-le}
 use Rattle.cube_view.specs.Limits.{is_between}
-use Rattle.query_syntax.specs.Decimals.{decimal_value, is_decimal}
+use Rattle.outer_io.specs.Decimals.{decimal_value, is_decimal}
 use Rattle.query_syntax.specs.Reading.{number_of}
 use Rattle.query_syntax.specs.Words.{space, slash, is_some_text}
-use Rattle.query_syntax.proofs.Numerals.{own}
-use Rattle.query_syntax.proofs.SchemaLimits.{and_both}
+use Rattle.query_syntax.specs.SchemaLimits.{and_both}
 use Rattle.query_syntax.proofs.WholeTexts.{stays_whole, is_plain, plain_whole, all_weaker, is_word}
+
+-- std's words for digits and their value
+tells : IsDigitsTest (λ ds. list_all is_ascii_digit ds ≡ true)
+tells = search rules
+
+own : IsNumeralModel (λ ds. list_all is_ascii_digit ds ≡ true) (digits_value 10)
+own = numerals_by_value _ tells
 
 digits_of_number : (n : ℕ) → n < 2 ^ 64 → list_all is_ascii_digit (decimal n) ≡ true
 digits_of_number n h = digits_decimal own n h

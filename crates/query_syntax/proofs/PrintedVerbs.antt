@@ -22,7 +22,7 @@ use Rattle.query_syntax.specs.declared.query.Verb.TheVariants.{Count, Hist, Map,
 use Rattle.query_syntax.proofs.Places.{position_of}
 use Rattle.query_syntax.proofs.PrintedItems.{name_is_word}
 use Rattle.query_syntax.proofs.PrintedNumbers.{decimal_reads, number_reads, decimal_is_word, decimal_whole_in_line, decimal_whole_in_tile}
-use Rattle.query_syntax.proofs.SchemaLimits.{and_left, and_right, and_both}
+use Rattle.query_syntax.specs.SchemaLimits.{and_left, and_right, and_both}
 use Rattle.query_syntax.proofs.WholeTexts.{stays_whole, whole-append, piece_alone, piece_cut, is_word}
 
 -- categories

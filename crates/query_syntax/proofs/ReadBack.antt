@@ -28,7 +28,7 @@ use Rattle.query_syntax.specs.declared.query.Verb.{Verb}
 use Rattle.query_syntax.specs.declared.query.Verb.TheVariants.{Count, Hist, Map, Series, Stat, Told, Quit}
 use Rattle.query_syntax.proofs.PrintedFilters.{Says, filters_with, region_said, said, span_said, nones, region_reads, span_reads, items_read, region_texts_are_words, span_texts_are_words, choices_texts_are_words, region_back, span_back, choices_back, no_items, none_said}
 use Rattle.query_syntax.proofs.PrintedVerbs.{verb_reads, verb_name_is_word, verb_texts_are_words, small_tile}
-use Rattle.query_syntax.proofs.SchemaLimits.{and_left, and_right, in_range, and_both}
+use Rattle.query_syntax.specs.SchemaLimits.{and_left, and_right, in_range, and_both}
 use Rattle.query_syntax.proofs.Sets.{or_all}
 use Rattle.query_syntax.proofs.ValidParts.{ValidParts, valid_parts}
 use Rattle.query_syntax.proofs.WholeTexts.{is_word, not_false, words_listed}

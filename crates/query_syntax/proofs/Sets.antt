@@ -8,7 +8,7 @@ use Rattle.query_syntax.specs.Items.{IsSetOf, choice_of, is_full, values_at}
 use Rattle.query_syntax.specs.Queries.{is_choice, are_choices}
 use Rattle.query_syntax.specs.declared.query.Choice.{Choice}
 use Rattle.query_syntax.specs.declared.query.Choice.TheVariants.{All, Only}
-use Rattle.query_syntax.proofs.SchemaLimits.{and_left, and_right, and_both}
+use Rattle.query_syntax.specs.SchemaLimits.{and_left, and_right, and_both}
 
 list_any-set : (set : List Bool) (v : ℕ) → v < length set → list_any (λ b. b) (slice_set set v true) ≡ true
 list_any-set [] v l = absurd (omega arith)

@@ -6,7 +6,7 @@ use Rattle.query_syntax.specs.Queries.{is_valid_query, verb_in_range, is_too_dee
 use Rattle.query_syntax.specs.Tiles.{is_tile}
 use Rattle.query_syntax.specs.Verbs.{takes_filters, is_series}
 use Rattle.query_syntax.specs.declared.query.Query.{Query}
-use Rattle.query_syntax.proofs.SchemaLimits.{and_left, and_right}
+use Rattle.query_syntax.specs.SchemaLimits.{and_left, and_right}
 
 pub record ValidParts (schema : Schema) (q : Query) : Type 0 where
   pub verb : verb_in_range (length schema.categories) q.verb ≡ true

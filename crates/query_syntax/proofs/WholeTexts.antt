@@ -10,7 +10,7 @@ use Rattle.query_syntax.specs.Spelling.{needs_quotes, value_text, spaced}
 use Rattle.query_syntax.specs.Words.{quote, space, bar, cuts, quoted_after, pieces, pieces_from, words, is_some_text}
 use Rattle.query_syntax.proofs.Cutting.{pieces_from-uncut, pieces_from-cut, is_cut}
 use Rattle.query_syntax.proofs.Quoting.{no_quote, filter_same}
-use Rattle.query_syntax.proofs.SchemaLimits.{and_left, and_right, and_both}
+use Rattle.query_syntax.specs.SchemaLimits.{and_left, and_right, and_both}
 
 -- no byte is a mark that cuts, where the first byte is in quotes or not, and at the end nothing is in quotes
 abbrev pub stays_whole : ℕ → Bool → List ℕ → Bool

@@ -1,5 +1,4 @@
 pub mod Words
-pub mod Decimals
 pub mod Reading
 pub mod Tiles
 pub mod Items
@@ -8,4 +7,8 @@ pub mod Filters
 pub mod Queries
 pub mod Meaning
 pub mod Boxes
+pub mod Parts
+pub mod Tables
+pub mod SchemaLimits
+pub mod TableLaws
 pub mod Spelling

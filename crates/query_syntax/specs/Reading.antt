@@ -1,7 +1,7 @@
 -- Reading words from left to right: a value, or the first fault and the number of its word.
 use Rattle.std.specs.Prelude.{◌≡◌, ℕ, if◌then◌else◌, List, [], ◌∷◌, Option, Some, None, Result, Ok, Err}
 use Rattle.cube_view.specs.Limits.{is_between}
-use Rattle.query_syntax.specs.Decimals.{decimal_value}
+use Rattle.outer_io.specs.Decimals.{decimal_value}
 use Rattle.query_syntax.specs.declared.fault.QueryFault.{QueryFault}
 use Rattle.query_syntax.specs.declared.fault.QueryFault.TheVariants.{MissingWord, BadNumber, OutOfRange}
 use Rattle.query_syntax.specs.declared.fault.WordFault.{WordFault}

@@ -145,7 +145,7 @@ fn choice_among(set: ValueSet, count: usize) -> Choice
 }
 
 /// The values of the category of that number.
-fn values_of(schema: &Schema, k: usize) -> &[Text]
+pub fn values_of(schema: &Schema, k: usize) -> &[Text]
     requires { k < length schema.now.categories }
     ensures values { result.now ≡ values_at schema.now.categories k }
     ensures few { length result.now ≤ 256 }

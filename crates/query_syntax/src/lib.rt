@@ -2,11 +2,11 @@
 //!
 //! [`parse`] answers the meaning of a line, which `specs/Meaning.antt` defines: a query, or the first
 //! fault from the left with the number of its word. [`print`] answers the line of a query, which
-//! `specs/Spelling.antt` defines; that line means the query. What a query counts, its box and the total of a list of points in it, is
-//! defined in `specs/Boxes.antt`.
+//! `specs/Spelling.antt` defines; that line means the query. What a query counts, its box and the total
+//! of a list of points in it, is defined in `specs/Boxes.antt`, and its table in `specs/Tables.antt`.
+//! [`table_of`] counts that table row by row, for small lists and as the answer that tests compare with.
 #![tactic(auto)]
 
-mod decimal;
 mod fault;
 mod filters;
 mod item;
@@ -14,11 +14,16 @@ mod parsing;
 #[cfg(test)]
 mod print_tests;
 mod printing;
+mod quadrants;
 mod query;
 mod table;
 #[cfg(test)]
+mod table_tests;
+mod tables;
+#[cfg(test)]
 mod tests;
 mod tile_word;
+mod totals;
 mod value_set;
 mod verb_words;
 mod words;
@@ -26,6 +31,8 @@ mod words;
 pub use fault::QueryFault;
 pub use parsing::parse;
 pub use printing::print;
+pub use quadrants::quadrant;
 pub use query::{Choice, Parsed, Query, Span, Verb};
 pub use table::{RowOut, Table};
+pub use tables::table_of;
 pub use value_set::ValueSet;

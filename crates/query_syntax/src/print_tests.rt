@@ -2,7 +2,7 @@
 ghost use Rattle.std.specs.Prelude.{◌≡◌, ◌∷◌, [], IfOk, IsTrue};
 ghost use Rattle.query_syntax.specs.Meaning.{asks_valid};
 
-use crate::tests::{push, schema};
+use crate::tests::schema;
 use crate::{Choice, Parsed, Query, QueryFault, Span, ValueSet, Verb, parse, print};
 use cube_view::{Category, Schema, Tile};
 use outer_io::{List, NoMemory, Text};
@@ -21,17 +21,17 @@ fn category(
 {
     let name = Text::copy_of(alloc, name)?;
     let mut values = List::new(alloc);
-    push(&mut values, Text::copy_of(alloc, first)?)?;
-    push(&mut values, Text::copy_of(alloc, second)?)?;
-    push(&mut values, Text::copy_of(alloc, third)?)?;
+    values.add(Text::copy_of(alloc, first)?)?;
+    values.add(Text::copy_of(alloc, second)?)?;
+    values.add(Text::copy_of(alloc, third)?)?;
     Ok(Category { name, values })
 }
 
 // The categories `k` and `m`, whose values have spaces and a bar.
 fn spaced_schema(alloc: Global) -> Result<Schema, NoMemory> {
     let mut categories = List::new(alloc);
-    push(&mut categories, category(alloc, "k", "a b", "c|d", "e")?)?;
-    push(&mut categories, category(alloc, "m", "c d", "e", "f")?)?;
+    categories.add(category(alloc, "k", "a b", "c|d", "e")?)?;
+    categories.add(category(alloc, "m", "c d", "e", "f")?)?;
     Ok(Schema::new(3, categories, 0, 10, 1))
 }
 

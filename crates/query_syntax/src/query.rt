@@ -1,4 +1,8 @@
 //! Queries.
+ghost use Rattle.std.specs.Prelude.{◌≡◌, ◌<◌};
+ghost use Rattle.query_syntax.specs.Boxes.{chosen};
+ghost use Rattle.query_syntax.specs.Parts.{with_region, with_span, with_one_value};
+
 use crate::{QueryFault, ValueSet};
 use cube_view::Tile;
 
@@ -22,6 +26,18 @@ pub enum Choice {
     Only(ValueSet),
 }
 
+impl Choice {
+    /// Whether the value is counted.
+    pub fn has(&self, value: u8) -> bool
+        ensures { result ≡ chosen self.now value }
+    {
+        match self {
+            Choice::All => true,
+            Choice::Only(set) => set.has(value),
+        }
+    }
+}
+
 /// The bins from `from` on that are under `to`.
 #[derive(Clone, Copy, PartialEq, Eq, Debug)]
 pub struct Span {
@@ -36,6 +52,36 @@ pub struct Query {
     pub region: Tile,
     pub sets: [Choice; 4],
     pub time: Span,
+}
+
+impl Query {
+    /// The query with that tile as its region.
+    pub fn with_region(&self, region: Tile) -> Query
+        ensures { result ≡ with_region self.now region }
+    {
+        let mut other = *self;
+        other.region = region;
+        other
+    }
+
+    /// The query with that span.
+    pub fn with_span(&self, time: Span) -> Query
+        ensures { result ≡ with_span self.now time }
+    {
+        let mut other = *self;
+        other.time = time;
+        other
+    }
+
+    /// The query with this value alone in its set of category `k`, counted from 0.
+    pub fn with_one_value(&self, k: usize, value: u8) -> Query
+        requires { k < 4 }
+        ensures { result ≡ with_one_value self.now k value }
+    {
+        let mut other = *self;
+        other.sets[k] = Choice::Only(ValueSet::one(value));
+        other
+    }
 }
 
 /// What a line means: nothing, a query, or its first fault and the number of that word from 1.

@@ -1,4 +1,5 @@
 //! What a query of a table verb answers.
+
 use cube_view::Tile;
 use outer_io::{List, Text};
 

@@ -1,5 +1,5 @@
 //! What lines mean, by examples.
-ghost use Rattle.std.specs.Prelude.{◌≡◌, ◌++◌, ◌∷◌, [], IfOk, OnOk, codes};
+ghost use Rattle.std.specs.Prelude.{◌≡◌, ◌∷◌, [], IfOk, codes};
 
 use crate::{Choice, Parsed, Query, QueryFault, Span, ValueSet, Verb, parse};
 use cube_view::{Category, Schema, Tile};
@@ -8,30 +8,21 @@ use std::alloc::Global;
 use std::process::Abort;
 use std::test::Fail;
 
-pub fn push<T: Drop>(list: &mut List<T>, item: T) -> Result<(), NoMemory>
-    ensures { OnOk result (list.new ≡ list.old ++ item ∷ []) }
-{
-    match list.push(item) {
-        Ok(()) => Ok(()),
-        Err(_) => Err(NoMemory),
-    }
-}
-
 fn kind(alloc: Global) -> Result<Category, NoMemory>
     ensures name { IfOk result (λ category. category.name ≡ codes "kind") }
     ensures values { IfOk result (λ category. category.values ≡ codes "a" ∷ codes "b" ∷ []) }
 {
     let name = Text::copy_of(alloc, "kind")?;
     let mut values = List::new(alloc);
-    push(&mut values, Text::copy_of(alloc, "a")?)?;
-    push(&mut values, Text::copy_of(alloc, "b")?)?;
+    values.add(Text::copy_of(alloc, "a")?)?;
+    values.add(Text::copy_of(alloc, "b")?)?;
     Ok(Category { name, values })
 }
 
 // Depth 3, the category `kind` of a and b, and bins of 10 from 0 on.
 pub fn schema(alloc: Global) -> Result<Schema, NoMemory> {
     let mut categories = List::new(alloc);
-    push(&mut categories, kind(alloc)?)?;
+    categories.add(kind(alloc)?)?;
     Ok(Schema::new(3, categories, 0, 10, 1))
 }
 

@@ -4,10 +4,10 @@ ghost use Rattle.query_syntax.specs.Reading.{or_fault};
 ghost use Rattle.query_syntax.specs.Tiles.{is_tile, tile_if_fits, tile_value};
 ghost use Rattle.query_syntax.specs.declared.fault.QueryFault.TheVariants.{BadTile};
 
-use crate::decimal::decimal_of;
 use crate::fault::{QueryFault, WordFault};
 use crate::words::next_piece;
 use cube_view::Tile;
+use outer_io::decimal_of;
 
 /// The tile of these numbers, if there is one.
 fn tile_from(depth: u8, z: u64, x: u64, y: u64) -> Option<Tile>

@@ -8,10 +8,10 @@ ghost use Rattle.query_syntax.specs.Verbs.{verb_at, hist_at, map_at, series_at};
 ghost use Rattle.query_syntax.specs.Words.{words};
 
 use crate::Verb;
-use crate::decimal::decimal_of;
 use crate::fault::{QueryFault, WordFault};
 use crate::words::{is_text, word_of};
 use cube_view::Schema;
+use outer_io::decimal_of;
 
 /// How many bins there are.
 pub const BINS: u64 = 1 << 32;

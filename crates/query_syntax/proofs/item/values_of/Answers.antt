@@ -1,7 +1,7 @@
 use Rattle.std.proofs.Common.{◌≡◌, ◌∙◌, sym, ap}
 use Rattle.cube_view.specs.declared.category.Category.{Category}
 use Rattle.query_syntax.specs.Items.{values_at}
-use Rattle.query_syntax.proofs.SchemaLimits.{values_at-get, few_values}
+use Rattle.query_syntax.specs.SchemaLimits.{values_at-get, few_values}
 use Rattle.query_syntax.proofs.item.values_of.Goals as goal
 
 pub returns-clause-values : goal.returns-clause-values

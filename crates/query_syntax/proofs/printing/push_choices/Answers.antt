@@ -3,7 +3,7 @@ use Rattle.cube_view.specs.declared.category.Category.{Category}
 use Rattle.cube_view.specs.SchemaBounds.{few_categories}
 use Rattle.query_syntax.specs.Items.{values_at}
 use Rattle.query_syntax.proofs.Listing.{choices_bytes}
-use Rattle.query_syntax.proofs.SchemaLimits.{few_values, values_at-get}
+use Rattle.query_syntax.specs.SchemaLimits.{few_values, values_at-get}
 use Rattle.query_syntax.proofs.printing.push_choices.Goals as goal
 
 pub push_choice-requires : goal.push_choice-requires

@@ -1,0 +1,16 @@
+use Rattle.std.proofs.Common.{◌-◌, map, ap, append_assoc}
+use Rattle.std.specs.List.{filter_map, flat_map, range_with_len}
+use Rattle.cube_view.specs.Places.{longer_tile}
+use Rattle.cube_view.specs.declared.address.Tile.{Tile}
+use Rattle.query_syntax.specs.Tables.{tiles_inside, area_row}
+use Rattle.query_syntax.proofs.TableRows.{areas_more}
+use Rattle.query_syntax.proofs.tables.+push_areas.Goals as goal
+
+pub loop-label-preserved : goal.loop-label-preserved
+loop-label-preserved t c =
+    let row = area_row c.args.schema.now c.args.query.now c.args.points.now in
+    let inside = tiles_inside (c.args.levels - 1) in
+    let more = areas_more row inside (longer_tile 1 c.args.tile) c.loop-label.label in
+    let here = ap (λ (tile : Tile). filter_map row (inside tile)) c.quadrant-part.ensures.quadrant in
+    let together = append_assoc c.args.rows.now (filter_map row (flat_map inside (map (longer_tile 1 c.args.tile) (range_with_len 0 c.loop-label.label)))) (filter_map row (inside (longer_tile 1 c.args.tile c.loop-label.label))) in
+    cc (c.in_ok-push_areas.ensures, c.loop-label.invariant)

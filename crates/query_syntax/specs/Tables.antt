@@ -1,0 +1,84 @@
+-- The result table of a query over a list of points: each row is a direct total.
+--
+-- The tables are the rollups and drilldowns of Lins, Klosowski and Scheidegger, "Nanocubes for Real-Time
+-- Exploration of Spatiotemporal Datasets", IEEE TVCG 2013.
+use Rattle.std.specs.Prelude.{ℕ, zero, suc, ◌+◌, ◌*◌, Bool, true, false, ◌&&◌, ◌==◌, if◌then◌else◌, List, [], ◌∷◌, length, map, Option, Some, None, slice_set, slice_index_or}
+use Rattle.std.specs.List.{filter_map, flat_map, range_with_len}
+use Rattle.cube_view.specs.Places.{longer_tile}
+use Rattle.cube_view.specs.Points.{Point}
+use Rattle.cube_view.specs.declared.address.Tile.{Tile}
+use Rattle.cube_view.specs.declared.schema.Schema.{Schema}
+use Rattle.query_syntax.specs.Boxes.{Box, box, total}
+use Rattle.query_syntax.specs.Items.{values_at}
+use Rattle.query_syntax.specs.declared.query.Query.{Query}
+use Rattle.query_syntax.specs.declared.query.Verb.{Verb}
+use Rattle.query_syntax.specs.declared.query.Verb.TheVariants.{Count, Hist, Map, Series, Stat, Told, Quit}
+use Rattle.query_syntax.specs.declared.table.RowOut.{RowOut}
+use Rattle.query_syntax.specs.declared.table.Table.{Table}
+
+-- the verb asks for a table
+abbrev pub has_table : Verb → Bool
+has_table Count = true
+has_table (Hist k) = true
+has_table (Map down) = true
+has_table (Series from wide rows) = true
+has_table Stat = false
+has_table Told = false
+has_table Quit = false
+
+-- each value
+abbrev pub any_value : ℕ → Bool
+any_value v = true
+
+-- the box, with its set of category k met with the one value v
+abbrev pub with_value : Box → ℕ → ℕ → Box
+with_value b k v = record b { sets = slice_set b.sets k (λ w. slice_index_or b.sets k any_value w && (w == v)) }
+
+-- the box, with that tile as its tile
+abbrev pub with_tile : Box → Tile → Box
+with_tile b t = record b { tile = t }
+
+-- the box, with the bins from the first number to before the second
+abbrev pub with_bins : Box → ℕ → ℕ → Box
+with_bins b from to = record b { from = from; to = to }
+
+-- the four quadrants of a tile, in the order of their labels
+abbrev pub quadrants : Tile → List Tile
+quadrants t = map (longer_tile 1 t) (range_with_len 0 4)
+
+-- All tiles of the level that is so many levels below a tile's, inside that tile, in path order: by their quadrant
+-- labels from the coarsest level down
+abbrev pub tiles_inside : ℕ → Tile → List Tile
+tiles_inside zero t = t ∷ []
+tiles_inside (suc levels) t = flat_map (tiles_inside levels) (quadrants t)
+
+module _ (schema : Schema) (q : Query) (h : List Point) where
+  -- the row of value v of category k: its text, and the total with this value
+  abbrev pub value_row : ℕ → ℕ → RowOut
+  value_row k v = RowOut.Value (slice_index_or (values_at schema.categories k) v []) (total schema (with_value (box q) k v) h)
+
+  -- the row of a tile: the total with this tile as the region, if it isn't 0
+  abbrev pub area_row : Tile → Option RowOut
+  area_row t = if total schema (with_tile (box q) t) h == 0 then None else Some (RowOut.Area t (total schema (with_tile (box q) t) h))
+
+  -- row i, from 0, of a series of rows of so many bins: its first bin, and the total of its bins
+  abbrev pub bins_row : ℕ → ℕ → ℕ → RowOut
+  bins_row from wide i = RowOut.Bin (from + i * wide) (total schema (with_bins (box q) (from + i * wide) (from + (i + 1) * wide)) h)
+
+  -- the rows that a verb asks for
+  abbrev pub rows_of_verb : Verb → List RowOut
+  rows_of_verb Count = RowOut.One (total schema (box q) h) ∷ []
+  rows_of_verb (Hist k) = map (value_row k) (range_with_len 0 (length (values_at schema.categories k)))
+  rows_of_verb (Map down) = filter_map area_row (tiles_inside down q.region)
+  rows_of_verb (Series from wide rows) = map (bins_row from wide) (range_with_len 0 rows)
+  rows_of_verb Stat = []
+  rows_of_verb Told = []
+  rows_of_verb Quit = []
+
+  -- the rows of the query
+  unfoldable pub table_rows : List RowOut
+  table_rows = rows_of_verb q.verb
+
+  -- the table of the query: its rows, and how many points the list has
+  unfoldable pub table : Table
+  table = record { rows = table_rows; seen = length h }
