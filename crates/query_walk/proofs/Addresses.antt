@@ -6,32 +6,29 @@ use Rattle.cube_view.specs.Places.{longer, next_dim}
 use Rattle.cube_view.specs.declared.address.Address.{Address}
 use Rattle.cube_view.specs.declared.category.Category.{Category}
 use Rattle.cube_view.specs.declared.schema.Schema.{Schema}
-use Rattle.query_syntax.specs.Queries.{is_choice, are_choices, is_valid_query}
 use Rattle.query_syntax.specs.declared.query.Choice.{Choice}
 use Rattle.query_syntax.specs.declared.query.Choice.TheVariants.{All, Only}
 use Rattle.query_syntax.specs.declared.query.Query.{Query}
 use Rattle.query_walk.specs.Costs.{sum_upto, sum_over, by_choice, rest_cost, value_cost, addresses_cost}
-use Rattle.query_walk.proofs.Valid.{valid_parts}
+use Rattle.query_walk.specs.Walks.{is_walkable, are_walkable, HasBox}
 
 abbrev has_member : List Bool → Type 0
 has_member set = list_any (λ b. b) set ≡ true
 
--- Sets of valid queries have a member
+-- Sets that can be walked have a member
 
-choice_has : (count : ℕ) (x : Choice) (set : List Bool) → is_choice count x ≡ true → x ≡ Only set → has_member set
-choice_has count x set e is =
-    let only : is_choice count (Only set) ≡ true = subst (λ (y : Choice). is_choice count y ≡ true) is e in
-    let a = and_parts _ _ only in
-    let b = and_parts _ _ a.0 in
-    (and_parts _ (list_any (λ b. b) set) b.0).1
+choice_has : (x : Choice) (set : List Bool) → is_walkable x ≡ true → x ≡ Only set → has_member set
+choice_has x set e is =
+    let only : is_walkable (Only set) ≡ true = subst (λ (y : Choice). is_walkable y ≡ true) is e in
+    (and_parts _ (list_any (λ b. b) set) only).1
 
-choices_have : (cs : List Category) (qs : List Choice) (k : ℕ) (set : List Bool) → are_choices cs qs ≡ true → get_or qs k All ≡ Only set → has_member set
+choices_have : (cs : List Category) (qs : List Choice) (k : ℕ) (set : List Bool) → are_walkable cs qs ≡ true → get_or qs k All ≡ Only set → has_member set
 choices_have cs [] k set e is = absurd (cc)
 choices_have [] (All ∷ qs) zero set e is = absurd (cc)
 choices_have [] (Only other ∷ qs) k set e is = absurd (cc)
 choices_have [] (All ∷ qs) (suc k) set e is = choices_have [] qs k set e is
-choices_have (c ∷ cs) (x ∷ qs) zero set e is = choice_has (length c.values) x set (and_parts (is_choice (length c.values) x) (are_choices cs qs) e).0 is
-choices_have (c ∷ cs) (x ∷ qs) (suc k) set e is = choices_have cs qs k set (and_parts (is_choice (length c.values) x) (are_choices cs qs) e).1 is
+choices_have (c ∷ cs) (x ∷ qs) zero set e is = choice_has x set (and_parts (is_walkable x) (are_walkable cs qs) e).0 is
+choices_have (c ∷ cs) (x ∷ qs) (suc k) set e is = choices_have cs qs k set (and_parts (is_walkable x) (are_walkable cs qs) e).1 is
 
 member_at : (set : List Bool) → has_member set → (i : ℕ) × (i < length set) × (get_or set i false ≡ true)
 member_at [] e = absurd (cc)
@@ -75,6 +72,6 @@ module _ (down before : Address → ℕ) (q : Query) (have : (k : ℕ) (set : Li
     | Only set ↦ λ e. over_apart set so_far (value_cost down before q a k n) (λ v. addresses_cost down before q (so_far + (down a + 1)) (next_dim (longer a v)) (k + 1) n) (λ v. let rest = rest_within n (so_far + (down a + 1)) (next_dim (longer a v)) (k + 1) in omega (arith, rest)) (have k set e)
   ] refl
 
--- of a valid query
-pub search_within : (down before : Address → ℕ) (z : Schema) (q : Query) → is_valid_query z q ≡ true → (n so_far : ℕ) (a : Address) → so_far + rest_cost down before q a 0 n ≤ addresses_cost down before q so_far a 0 n
-search_within down before z q valid n so_far a = rest_within down before q (λ k set is. choices_have z.categories q.sets k set (valid_parts z q valid).2 is) n so_far a 0
+-- of a query whose box can be walked
+pub search_within : (down before : Address → ℕ) (z : Schema) (q : Query) → HasBox z q → (n so_far : ℕ) (a : Address) → so_far + rest_cost down before q a 0 n ≤ addresses_cost down before q so_far a 0 n
+search_within down before z q has n so_far a = rest_within down before q (λ k set is. choices_have z.categories q.sets k set has.choices is) n so_far a 0

@@ -1,7 +1,6 @@
 -- The way down to a tile.
 use Rattle.std.proofs.Common.{◌≡◌, ℕ, ◌+◌, ◌-◌, ◌*◌, ◌/◌, ◌%◌, ◌^◌, ◌<◌, ◌≤◌, true, List, [], ◌∷◌, None, sym, ◌∙◌, ap, subst, arith}
-use Rattle.std.proofs.Math.Nat.{div-div-eq-div-mul, div-add-mod, div-eq_of_lt}
-use Rattle.std.proofs.lemmas.Nat.{pow-add}
+use Rattle.std.proofs.Math.Nat.{div-eq_of_lt}
 use Rattle.std.proofs.lemmas.Bool.{and_parts, and_from, eqb-true, eq-eqb}
 use Rattle.cube_view.specs.Amounts.{none_less}
 use Rattle.cube_view.specs.Bag.{amount}
@@ -11,20 +10,8 @@ use Rattle.cube_view.specs.declared.address.Address.{Address}
 use Rattle.cube_view.specs.declared.address.Tile.{Tile}
 use Rattle.cube_view.specs.declared.schema.Schema.{Schema}
 use Rattle.cube_view.specs.declared.spot.Spot.{Spot}
+use Rattle.query_walk.specs.Shifts.{shift_more, bit_more}
 use Rattle.query_walk.specs.Walks.{tile_label, tile_at, region_address}
-
-shift_more : (n a b : ℕ) → n / 2 ^ (a + b) ≡ n / 2 ^ a / 2 ^ b
-shift_more n a b = ap (λ d. n / d) (pow-add 2 a b) ∙ sym (div-div-eq-div-mul n (2 ^ a) (2 ^ b))
-
--- a coordinate at the next level is twice that of the level, and its bit
-bit_more : (z i n : ℕ) → i < z → 2 * shifted z i n + bit_at z (i + 1) n ≡ shifted z (i + 1) n
-bit_more z i n lt =
-    let j = z - (i + 1) in
-    let e : z - i ≡ j + 1 = omega arith in
-    let m : n / 2 ^ (z - i) ≡ n / 2 ^ (j + 1) = ap (λ k. n / 2 ^ k) e in
-    let s : n / 2 ^ (j + 1) ≡ n / 2 ^ j / 2 = shift_more n j 1 in
-    let d = div-add-mod (n / 2 ^ j) 2 in
-    omega (arith, m, s, d)
 
 -- a coordinate at a level above that of the tile
 shifted_up : (depth z i n m : ℕ) → i ≤ z → z ≤ depth → shifted depth z n ≡ m → shifted depth i n ≡ shifted z i m

@@ -13,11 +13,10 @@ use Rattle.cube_view.specs.declared.address.Tile.{Tile}
 use Rattle.cube_view.specs.declared.schema.Schema.{Schema}
 use Rattle.cube_view.specs.declared.spot.Spot.{Spot}
 use Rattle.query_syntax.specs.Boxes.{chosen, are_in_sets, inside, box, total}
-use Rattle.query_syntax.specs.Queries.{are_choices}
 use Rattle.query_syntax.specs.declared.query.Choice.{Choice}
 use Rattle.query_syntax.specs.declared.query.Choice.TheVariants.{All, Only}
 use Rattle.query_syntax.specs.declared.query.Query.{Query}
-use Rattle.query_walk.specs.Walks.{is_in_span, is_under_in, meets_from, is_left, is_left_in_set, region_address, IsAtCategory, HasChoicesFrom}
+use Rattle.query_walk.specs.Walks.{is_in_span, is_under_in, meets_from, is_left, is_left_in_set, region_address, are_walkable, IsAtCategory, HasChoicesFrom}
 
 abbrev in_set : List Bool → ℕ → Bool
 in_set set x = get_or set x false
@@ -100,7 +99,7 @@ meets_next q k s c lt is =
     ∙ and_assoc (chosen c (value_of s k)) (are_in_sets (map chosen (drop (k + 1) q.sets)) (drop (k + 1) s.values)) (is_in_span q.time s.bin)
 
 -- choices past the categories take every value
-open_past : (cs : List Choice) (vs : List ℕ) → are_choices [] cs ≡ true → are_in_sets (map chosen cs) vs ≡ true
+open_past : (cs : List Choice) (vs : List ℕ) → are_walkable [] cs ≡ true → are_in_sets (map chosen cs) vs ≡ true
 open_past [] vs e = refl
 open_past (All ∷ cs) [] e = open_past cs [] e
 open_past (All ∷ cs) (v ∷ vs) e = open_past cs vs e
@@ -223,7 +222,7 @@ module _ (z : Schema) (q : Query) (a : Address) (k : ℕ) (h : List Point) where
   -- where no category is left
   pub time_left : HasChoicesFrom z q k → k ≡ length z.categories → amount (is_under_in z a q.time) h ≡ amount (is_left z q a k) h
   time_left has end = amount_same (is_under_in z a q.time) (is_left z q a k) (λ s.
-      let gone : are_choices [] (drop k q.sets) ≡ true = subst (λ cs. are_choices cs (drop k q.sets) ≡ true) (drop_all k z.categories (omega (arith, end))) has.choices in
+      let gone : are_walkable [] (drop k q.sets) ≡ true = subst (λ cs. are_walkable cs (drop k q.sets) ≡ true) (drop_all k z.categories (omega (arith, end))) has.choices in
       ap (λ b. is_under z a s && (b && is_in_span q.time s.bin)) (sym (open_past (drop k q.sets) (drop k s.values) gone))) h
 
 regroup : (t c f u : Bool) → (((t && c) && f) && u) ≡ ((t && true) && (c && (f && u)))

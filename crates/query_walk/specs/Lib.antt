@@ -1,2 +1,5 @@
 pub mod Costs
 pub mod Walks
+pub mod Boxed
+pub mod Sums
+pub mod Shifts

@@ -1,12 +1,17 @@
 -- Where a walk stands, and which spots it has still to count.
-use Rattle.std.specs.Prelude.{◌≡◌, ℕ, ◌+◌, ◌*◌, ◌≤◌, Bool, false, ◌&&◌, nat_le, nat_lt, IsTrue, List, [], ◌∷◌, length, map, drop, None, slice_index, slice_index_or}
+use Rattle.std.specs.Prelude.{◌≡◌, ℕ, ◌+◌, ◌*◌, ◌≤◌, Bool, true, false, ◌&&◌, ◌==◌, nat_le, nat_lt, IsTrue, List, [], ◌∷◌, length, map, drop, None, slice_index, slice_index_or}
+use Rattle.std.specs.List.{list_any}
 use Rattle.cube_view.specs.Places.{shifted, bit_at, is_under}
 use Rattle.cube_view.specs.declared.address.Address.{Address}
 use Rattle.cube_view.specs.declared.address.Tile.{Tile}
+use Rattle.cube_view.specs.declared.category.Category.{Category}
 use Rattle.cube_view.specs.declared.schema.Schema.{Schema}
 use Rattle.cube_view.specs.declared.spot.Spot.{Spot}
 use Rattle.query_syntax.specs.Boxes.{chosen, are_in_sets}
-use Rattle.query_syntax.specs.Queries.{are_choices}
+use Rattle.query_syntax.specs.Queries.{is_all}
+use Rattle.query_syntax.specs.Tiles.{is_tile}
+use Rattle.query_syntax.specs.declared.query.Choice.{Choice}
+use Rattle.query_syntax.specs.declared.query.Choice.TheVariants.{All, Only}
 use Rattle.query_syntax.specs.declared.query.Query.{Query}
 use Rattle.query_syntax.specs.declared.query.Span.{Span}
 
@@ -49,9 +54,28 @@ pub record IsAtCategory (address : Address) (k : ℕ) : Type 0 where
   pub wide : length address.values ≡ 4
   pub open_from : (j : ℕ) → k ≤ j → slice_index_or address.values j None ≡ None
 
+-- all values, or those of a set that has one
+abbrev pub is_walkable : Choice → Bool
+is_walkable All = true
+is_walkable (Only set) = (length set == 256) && list_any (λ b. b) set
+
+-- each choice is such, and past the categories it is `All`
+abbrev pub are_walkable : List Category → List Choice → Bool
+are_walkable categories [] = true
+are_walkable [] (choice ∷ choices) = is_all choice && are_walkable [] choices
+are_walkable (c ∷ categories) (choice ∷ choices) = is_walkable choice && are_walkable categories choices
+
+-- The query's box can be walked: its region is a tile of the schema, its sets are of the schema's categories, and
+-- its span is in order. So it is for each valid query, and for each row of its table.
+pub record HasBox (schema : Schema) (q : Query) : Type 0 where
+  pub region : IsTrue (is_tile schema.depth q.region)
+  pub wide : length q.sets ≡ 4
+  pub choices : IsTrue (are_walkable schema.categories q.sets)
+  pub order : q.time.from ≤ q.time.to
+
 -- There are k categories or more, what the query asks from there on the schema takes, and its span is in order.
 pub record HasChoicesFrom (schema : Schema) (q : Query) (k : ℕ) : Type 0 where
   pub few : k ≤ length schema.categories
   pub wide : length q.sets ≡ 4
-  pub choices : IsTrue (are_choices (drop k schema.categories) (drop k q.sets))
+  pub choices : IsTrue (are_walkable (drop k schema.categories) (drop k q.sets))
   pub order : q.time.from ≤ q.time.to

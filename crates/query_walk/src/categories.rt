@@ -3,9 +3,8 @@ ghost use Rattle.std.specs.Prelude.{◌≡◌, ℕ, ◌+◌, ◌*◌, ◌-◌, �
 ghost use Rattle.cube_view.specs.Bag.{amount, Counts};
 ghost use Rattle.cube_view.specs.Places.{longer, next_dim};
 ghost use Rattle.cube_view.specs.Points.{Point};
-ghost use Rattle.query_syntax.specs.Queries.{are_choices};
 ghost use Rattle.query_walk.specs.Costs.{rest_cost, set_cost, value_cost};
-ghost use Rattle.query_walk.specs.Walks.{IsAtCategory, HasChoicesFrom, is_left, is_left_in_set};
+ghost use Rattle.query_walk.specs.Walks.{IsAtCategory, HasChoicesFrom, are_walkable, is_left, is_left_in_set};
 
 use crate::span::total_in_span;
 use cube_view::CubeView;

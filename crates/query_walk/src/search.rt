@@ -5,6 +5,7 @@ ghost use Rattle.cube_view.specs.Points.{Point};
 ghost use Rattle.query_syntax.specs.Boxes.{box, total as total_of};
 ghost use Rattle.query_syntax.specs.Queries.{is_valid_query};
 ghost use Rattle.query_walk.specs.Costs.{search_cost};
+ghost use Rattle.query_walk.specs.Walks.{HasBox};
 
 use crate::categories::total_from;
 use crate::region::region_cursor;
@@ -16,6 +17,16 @@ use std::sync::ledger::Ledger;
 /// How much the bag has in the query's region, sets and time. It takes no memory.
 pub fn total<V: CubeView, L: Ledger>(view: &V, query: &Query, steps: &mut Steps<L>) -> u64
     requires valid { IsTrue (is_valid_query (V.schema view.now) query.now) }
+    ensures total { (h : List Point) → Counts (V.weight_at view.now) (V.seen view.now) h → result ≡ total_of (V.schema view.now) (box query.now) h }
+    ensures cost { steps.new ≤ steps.old + search_cost (V.down_cost view.now) (V.before_cost view.now) query.now (V.schema view.now) }
+{
+    total_in_box(view, query, steps)
+}
+
+/// The same, of a query that need not be valid: its span may end past all bins, and a set may be of all values. The
+/// rows of a table ask such queries.
+pub fn total_in_box<V: CubeView, L: Ledger>(view: &V, query: &Query, steps: &mut Steps<L>) -> u64
+    requires has_box { HasBox (V.schema view.now) query.now }
     ensures total { (h : List Point) → Counts (V.weight_at view.now) (V.seen view.now) h → result ≡ total_of (V.schema view.now) (box query.now) h }
     ensures cost { steps.new ≤ steps.old + search_cost (V.down_cost view.now) (V.before_cost view.now) query.now (V.schema view.now) }
 {

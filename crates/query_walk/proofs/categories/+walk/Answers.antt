@@ -8,7 +8,8 @@ use Rattle.cube_view.specs.declared.address.Address.{Address}
 use Rattle.cube_view.specs.declared.schema.Schema.{Schema}
 use Rattle.query_syntax.specs.declared.query.Choice.TheVariants.{All}
 use Rattle.query_walk.specs.Costs.{rest_cost, value_cost}
-use Rattle.query_walk.proofs.Costing.{sum_more, sum_all, open_is, set_is}
+use Rattle.query_walk.proofs.Costing.{open_is, set_is}
+use Rattle.query_walk.specs.Sums.{sum_more, sum_all}
 use Rattle.query_walk.proofs.Sets as sets
 use Rattle.query_walk.proofs.Valid.{at_category, below_four, choices_next}
 use Rattle.query_walk.proofs.categories.+walk.Goals.{total_in_set-then-has, total_in_set-else-has}

@@ -1,6 +1,6 @@
 use Rattle.std.proofs.Common.{ℕ, ◌∙◌, arith, ap}
 use Rattle.query_walk.specs.Walks.{tile_at, region_address}
-use Rattle.query_walk.proofs.Costing.{sum_more, sum_within}
+use Rattle.query_walk.specs.Sums.{sum_more, sum_within}
 use Rattle.query_walk.proofs.Descends.{top_is, none_here, next_place}
 use Rattle.query_walk.proofs.region.region_cursor.Goals as goal
 
