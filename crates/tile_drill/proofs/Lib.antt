@@ -1,0 +1,5 @@
+pub mod Boxes
+pub mod Drilling
+pub mod Growing
+pub mod Paying
+pub mod Ranges

@@ -1,0 +1,76 @@
+//! The table of a query.
+ghost use Rattle.std.specs.Prelude.{◌≡◌, ℕ, ◌+◌, ◌≤◌, IsTrue, List, IfOk};
+ghost use Rattle.cube_view.specs.Bag.{Counts};
+ghost use Rattle.cube_view.specs.Points.{Point};
+ghost use Rattle.query_syntax.specs.Queries.{is_valid_query};
+ghost use Rattle.query_syntax.specs.Tables.{has_table, table, rows_of_verb};
+ghost use Rattle.query_walk.specs.Costs.{search_cost};
+ghost use Rattle.tile_drill.specs.Costs.{table_cost};
+
+use crate::areas::area_rows;
+use crate::bins::bins_rows;
+use crate::values::value_rows;
+use cube_view::CubeView;
+use outer_io::{List, NoMemory};
+use probe_core::Steps;
+use query_syntax::{Query, RowOut, Table, Verb};
+use query_walk::total;
+use std::alloc::Global;
+use std::sync::ledger::Ledger;
+
+/// The row of a count.
+fn total_row<V: CubeView, L: Ledger>(
+    alloc: Global,
+    view: &V,
+    query: &Query,
+    steps: &mut Steps<L>,
+) -> Result<List<RowOut>, NoMemory>
+    requires valid { IsTrue (is_valid_query (V.schema view.now) query.now) }
+    ensures rows { IfOk result (λ rows. (h : List Point) → Counts (V.weight_at view.now) (V.seen view.now) h → rows ≡ rows_of_verb (V.schema view.now) query.now h Verb.Count) }
+    ensures cost { steps.new ≤ steps.old + search_cost (V.down_cost view.now) (V.before_cost view.now) query.now (V.schema view.now) }
+{
+    let mut rows = List::new(alloc);
+    rows.add(RowOut::One(total(view, query, steps)))?;
+    Ok(rows)
+}
+
+/// The rows that the query asks for.
+fn table_rows<V: CubeView, L: Ledger>(
+    alloc: Global,
+    view: &V,
+    query: &Query,
+    steps: &mut Steps<L>,
+) -> Result<List<RowOut>, NoMemory>
+    requires valid { IsTrue (is_valid_query (V.schema view.now) query.now) }
+    ensures rows { IfOk result (λ rows. (h : List Point) → Counts (V.weight_at view.now) (V.seen view.now) h → rows ≡ rows_of_verb (V.schema view.now) query.now h query.now.verb) }
+    ensures cost { (h : List Point) → Counts (V.weight_at view.now) (V.seen view.now) h → steps.new ≤ steps.old + table_cost (V.down_cost view.now) (V.before_cost view.now) (V.schema view.now) query.now h query.now.verb }
+{
+    match query.verb {
+        Verb::Count => total_row(alloc, view, query, steps),
+        Verb::Hist(category) => value_rows(alloc, view, query, category, steps),
+        Verb::Map(levels) => area_rows(alloc, view, query, levels, steps),
+        Verb::Series { from, wide, rows } => bins_rows(alloc, view, query, from, wide, rows, steps),
+        Verb::Stat | Verb::Told | Verb::Quit => Ok(List::new(alloc)),
+    }
+}
+
+/// The table that the query asks for, over any list of points that the view counts.
+pub fn answer<V: CubeView, L: Ledger>(
+    alloc: Global,
+    view: &V,
+    query: &Query,
+    steps: &mut Steps<L>,
+) -> Result<Table, NoMemory>
+    requires valid { IsTrue (is_valid_query (V.schema view.now) query.now) }
+    requires verb { IsTrue (has_table query.now.verb) }
+    ensures table { (h : List Point) → Counts (V.weight_at view.now) (V.seen view.now) h → IfOk result (λ t. t ≡ table (V.schema view.now) query.now h) }
+    ensures cost { (h : List Point) → Counts (V.weight_at view.now) (V.seen view.now) h → steps.new ≤ steps.old + table_cost (V.down_cost view.now) (V.before_cost view.now) (V.schema view.now) query.now h query.now.verb }
+{
+    match table_rows(alloc, view, query, steps) {
+        Ok(rows) => Ok(Table {
+            rows,
+            seen: view.seen(),
+        }),
+        Err(NoMemory) => Err(NoMemory),
+    }
+}

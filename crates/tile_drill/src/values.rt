@@ -1,0 +1,61 @@
+//! The rows of a histogram.
+ghost use Rattle.std.specs.Prelude.{◌≡◌, ℕ, ◌<◌, ◌≤◌, List, IfOk, length, ◌+◌};
+ghost use Rattle.cube_view.specs.Bag.{Counts};
+ghost use Rattle.cube_view.specs.Points.{Point};
+ghost use Rattle.query_syntax.specs.Boxes.{box, total as total_of};
+ghost use Rattle.query_syntax.specs.Parts.{with_one_value};
+ghost use Rattle.query_syntax.specs.Tables.{with_value, value_row, rows_of_verb};
+ghost use Rattle.query_walk.specs.Costs.{search_cost};
+ghost use Rattle.query_walk.specs.Walks.{HasBox};
+ghost use Rattle.tile_drill.specs.Costs.{values_cost};
+
+use cube_view::CubeView;
+use outer_io::{List, NoMemory, Text};
+use probe_core::Steps;
+use query_syntax::{Query, RowOut, Verb};
+use query_walk::total_in_box;
+use std::alloc::Global;
+use std::sync::ledger::Ledger;
+
+/// How much the bag has in the query's box, of its set of the category this value alone.
+fn value_total<V: CubeView, L: Ledger>(
+    view: &V,
+    query: &Query,
+    category: usize,
+    value: u8,
+    steps: &mut Steps<L>,
+) -> u64
+    requires has_box { HasBox (V.schema view.now) query.now }
+    requires category { category < length (V.schema view.now).categories }
+    ensures total { (h : List Point) → Counts (V.weight_at view.now) (V.seen view.now) h → result ≡ total_of (V.schema view.now) (with_value (box query.now) category value) h }
+    ensures cost { steps.new ≤ steps.old + search_cost (V.down_cost view.now) (V.before_cost view.now) (with_one_value query.now category value) (V.schema view.now) }
+{
+    if !query.sets[category].has(value) {
+        return 0;
+    }
+    total_in_box(view, &query.with_one_value(category, value), steps)
+}
+
+/// The rows of a histogram: one for each value of the category.
+pub fn value_rows<V: CubeView, L: Ledger>(
+    alloc: Global,
+    view: &V,
+    query: &Query,
+    category: u8,
+    steps: &mut Steps<L>,
+) -> Result<List<RowOut>, NoMemory>
+    requires has_box { HasBox (V.schema view.now) query.now }
+    requires category { category < length (V.schema view.now).categories }
+    ensures rows { IfOk result (λ rows. (h : List Point) → Counts (V.weight_at view.now) (V.seen view.now) h → rows ≡ rows_of_verb (V.schema view.now) query.now h (Verb.Hist category)) }
+    ensures cost { steps.new ≤ steps.old + values_cost (V.down_cost view.now) (V.before_cost view.now) (V.schema view.now) query.now category }
+{
+    let mut rows = List::new(alloc);
+    let place = usize::from(category);
+    let values = &view.schema().categories.get(place).values;
+    for value in 0..values.len() {
+        let text = Text::copy_of(alloc, values.get(value).as_str())?;
+        let total = value_total(view, query, place, value as u8, steps);
+        rows.add(RowOut::Value(text, total))?;
+    }
+    Ok(rows)
+}
