@@ -3,3 +3,5 @@ pub mod Types
 pub mod Printed
 pub mod Reading
 pub mod Meaning
+pub mod Asked
+pub mod Tables

@@ -83,9 +83,7 @@ fn rows_of_items(alloc: Global, items: &[Value]) -> Result<Option<List<RowOut>>,
         let Some(row) = row_of(alloc, item)? else {
             return Ok(None);
         };
-        if rows.push(row).is_err() {
-            return Err(NoMemory);
-        }
+        rows.add(row)?;
     }
     Ok(Some(rows))
 }

@@ -123,6 +123,16 @@ fn reads_what_is_printed(rt: HostRuntime) -> Result<(), Fail> {
 }
 
 #[test]
+fn reads_a_total_alone_as_the_table_of_one_row(rt: HostRuntime) -> Result<(), Fail> {
+    let Ok(Reply::Table(table)) = read_reply(rt.alloc(), COUNT.as_bytes()) else {
+        return Err(Fail::from("it is a table"));
+    };
+    assert!(rt; matches!(table.rows.as_slice(), [RowOut::One(3)]));
+    assert_eq!(rt; table.seen, 3);
+    Ok(())
+}
+
+#[test]
 fn refuses_every_other_spelling(rt: HostRuntime) -> Result<(), Fail> {
     let texts: [&[u8]; 18] = [
         b"",

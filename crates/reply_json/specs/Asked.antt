@@ -1,0 +1,64 @@
+-- The reply to a line of a script, over a list of points.
+use Rattle.std.specs.Prelude.{ℕ, Bool, true, false, List, [], ◌∷◌, ◌++◌, length, Option, Some, None}
+use Rattle.cube_view.specs.Points.{Point}
+use Rattle.cube_view.specs.declared.schema.Schema.{Schema}
+use Rattle.cube_view.specs.declared.stat.Stat.{Stat}
+use Rattle.outer_io.specs.Lines.{Line, Bytes, Long}
+use Rattle.query_syntax.specs.Meaning.{meaning}
+use Rattle.query_syntax.specs.Tables.{table}
+use Rattle.query_syntax.specs.declared.fault.QueryFault.TheVariants.{LongLine}
+use Rattle.query_syntax.specs.declared.query.Parsed.{Parsed}
+use Rattle.query_syntax.specs.declared.query.Parsed.TheVariants.{Skip, Ask, Fault}
+use Rattle.query_syntax.specs.declared.query.Query.{Query}
+use Rattle.query_syntax.specs.declared.query.Verb.{Verb}
+use Rattle.query_syntax.specs.declared.query.Verb.TheVariants as verb
+use Rattle.reply_json.specs.declared.reply.Reply.{Reply}
+use Rattle.reply_json.specs.Printed.{reply_text}
+
+-- what a line of a script means; a long one is a fault at its first word
+abbrev pub line_meaning : Schema → Line → Parsed
+line_meaning schema (Bytes line) = meaning schema line
+line_meaning schema Long = Fault LongLine 1
+
+-- where the structure has these numbers, and so many records were told
+module _ (stat : Stat) (schema : Schema) (h : List Point) (told : ℕ) where
+  -- the reply to a query of a verb; none to `quit`
+  abbrev pub query_reply : Query → Verb → Option Reply
+  query_reply q verb.Count = Some (Reply.Table (table schema q h))
+  query_reply q (verb.Hist k) = Some (Reply.Table (table schema q h))
+  query_reply q (verb.Map down) = Some (Reply.Table (table schema q h))
+  query_reply q (verb.Series from wide rows) = Some (Reply.Table (table schema q h))
+  query_reply q verb.Stat = Some (Reply.Stat stat (length h))
+  query_reply q verb.Told = Some (Reply.Told told)
+  query_reply q verb.Quit = None
+
+  -- the reply to what a line means; none to a line that asks nothing
+  abbrev pub asked_reply : Parsed → Option Reply
+  asked_reply Skip = None
+  asked_reply (Ask q) = query_reply q q.verb
+  asked_reply (Fault fault word) = Some (Reply.Fault fault word)
+
+-- the line of a reply, with its line feed
+unfoldable pub reply_line : Reply → List ℕ
+reply_line reply = reply_text reply ++ 10 ∷ []
+
+-- the line of a reply, if there is one
+abbrev pub line_of : Option Reply → List ℕ
+line_of None = []
+line_of (Some reply) = reply_line reply
+
+-- the verb ends the session
+abbrev pub ends : Verb → Bool
+ends verb.Count = false
+ends (verb.Hist k) = false
+ends (verb.Map down) = false
+ends (verb.Series from wide rows) = false
+ends verb.Stat = false
+ends verb.Told = false
+ends verb.Quit = true
+
+-- the line asks to end the session
+abbrev pub asks_to_end : Parsed → Bool
+asks_to_end Skip = false
+asks_to_end (Ask q) = ends q.verb
+asks_to_end (Fault fault word) = false

@@ -1,0 +1,62 @@
+-- The table of a query is a reply that can be printed.
+use Rattle.std.specs.Prelude.{◌≡◌, ℕ, Bool, true, false, ◌||◌, ◌==◌, if◌then◌else◌, List, [], ◌∷◌, length, map, Some, None, refl}
+use Rattle.std.specs.List.{list_all, filter_map, range_with_len, cons_option}
+use Rattle.std.proofs.Common.{ap, ◌∙◌}
+use Rattle.std.proofs.Math.Bool.{or-true}
+use Rattle.std.proofs.lemmas.Bool.{false≢true}
+use Rattle.cube_view.specs.Points.{Point}
+use Rattle.cube_view.specs.declared.address.Tile.{Tile}
+use Rattle.cube_view.specs.declared.schema.Schema.{Schema}
+use Rattle.query_syntax.specs.Boxes.{box, total}
+use Rattle.query_syntax.specs.Items.{values_at}
+use Rattle.query_syntax.specs.Tables.{has_table, area_row, bins_row, rows_of_verb, table, table_rows, tiles_inside, value_row, with_tile}
+use Rattle.query_syntax.specs.declared.query.Query.{Query}
+use Rattle.query_syntax.specs.declared.query.Verb.{Verb}
+use Rattle.query_syntax.specs.declared.query.Verb.TheVariants as verb
+use Rattle.query_syntax.specs.declared.table.RowOut.{RowOut}
+use Rattle.reply_json.specs.declared.reply.Reply.{Reply}
+use Rattle.reply_json.specs.Validity.{are_valid_rows, is_area, is_bin, is_total, is_valid_reply, is_value}
+
+-- rows of one kind are valid
+values_valid : (rows : List RowOut) → list_all is_value rows ≡ true → are_valid_rows rows ≡ true
+values_valid rows all = ap (λ b. is_total rows || b || list_all is_area rows || list_all is_bin rows) all ∙ ap (λ b. b || list_all is_area rows || list_all is_bin rows) (or-true (is_total rows))
+
+areas_valid : (rows : List RowOut) → list_all is_area rows ≡ true → are_valid_rows rows ≡ true
+areas_valid rows all = ap (λ b. is_total rows || list_all is_value rows || b || list_all is_bin rows) all ∙ ap (λ b. b || list_all is_bin rows) (or-true (is_total rows || list_all is_value rows))
+
+bins_valid : (rows : List RowOut) → list_all is_bin rows ≡ true → are_valid_rows rows ≡ true
+bins_valid rows all = ap (λ b. is_total rows || list_all is_value rows || list_all is_area rows || b) all ∙ or-true (is_total rows || list_all is_value rows || list_all is_area rows)
+
+-- a tile's row, if there is one, before rows of tiles
+area_first : (b : Bool) (t : Tile) (n : ℕ) (rows : List RowOut) → list_all is_area rows ≡ true → list_all is_area (cons_option (if b then None else Some (RowOut.Area t n)) rows) ≡ true
+area_first true t n rows all = all
+area_first false t n rows all = all
+
+module _ (schema : Schema) (q : Query) (h : List Point) where
+  values_all : (k : ℕ) (vs : List ℕ) → list_all is_value (map (value_row schema q h k) vs) ≡ true
+  values_all k [] = refl
+  values_all k (v ∷ vs) = values_all k vs
+
+  areas_all : (tiles : List Tile) → list_all is_area (filter_map (area_row schema q h) tiles) ≡ true
+  areas_all [] = refl
+  areas_all (t ∷ tiles) =
+      area_first (total schema (with_tile (box q) t) h == 0) t (total schema (with_tile (box q) t) h) (filter_map (area_row schema q h) tiles) (areas_all tiles)
+
+  bins_all : (from wide : ℕ) (is : List ℕ) → list_all is_bin (map (bins_row schema q h from wide) is) ≡ true
+  bins_all from wide [] = refl
+  bins_all from wide (i ∷ is) = bins_all from wide is
+
+  -- the rows that a verb with a table asks for are one total alone, or all of another kind
+  rows_valid : (v : Verb) → has_table v ≡ true → are_valid_rows (rows_of_verb schema q h v) ≡ true
+  rows_valid verb.Count asked = refl
+  rows_valid (verb.Hist k) asked = values_valid (rows_of_verb schema q h (verb.Hist k)) (values_all k (range_with_len 0 (length (values_at schema.categories k))))
+  rows_valid (verb.Map down) asked = areas_valid (rows_of_verb schema q h (verb.Map down)) (areas_all (tiles_inside down q.region))
+  rows_valid (verb.Series from wide rows) asked = bins_valid (rows_of_verb schema q h (verb.Series from wide rows)) (bins_all from wide (range_with_len 0 rows))
+  rows_valid verb.Stat asked = absurd (false≢true asked)
+  rows_valid verb.Told asked = absurd (false≢true asked)
+  rows_valid verb.Quit asked = absurd (false≢true asked)
+
+  -- the reply to a query that asks for a table can be printed
+  pub table_valid : has_table q.verb ≡ true → is_valid_reply (Reply.Table (table schema q h)) ≡ true
+  unfolding is_valid_reply table table_rows
+  table_valid asked = rows_valid q.verb asked
