@@ -1,4 +1,4 @@
-mod Saying
+mod Serving
 mod Passing
 mod Written
 mod Answering

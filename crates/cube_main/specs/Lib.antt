@@ -2,7 +2,7 @@ pub mod BuiltIn
 pub mod Feeds
 pub mod Progress
 pub mod Replies
-pub mod Said
+pub mod Served
 pub mod Scripts
 pub mod Statuses
 pub mod Turns

@@ -11,8 +11,8 @@ fn pair(alloc: Global, first: Text, second: Text) -> Result<List<Text>, NoMemory
     ensures { IfOk result (λ items. items ≡ first ∷ second ∷ []) }
 {
     let mut items = List::new(alloc);
-    items.push(first).map_err(|_| NoMemory)?;
-    items.push(second).map_err(|_| NoMemory)?;
+    items.add(first)?;
+    items.add(second)?;
     Ok(items)
 }
 
@@ -33,8 +33,6 @@ pub(crate) fn built_in_schema(alloc: Global) -> Result<Schema, NoMemory>
 {
     let kind = kind_category(alloc)?;
     let mut categories = List::new(alloc);
-    if categories.push(kind).is_err() {
-        return Err(NoMemory);
-    }
+    categories.add(kind)?;
     Ok(Schema::new(3, categories, 0, 10, 1))
 }

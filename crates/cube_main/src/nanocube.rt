@@ -4,27 +4,20 @@ ghost use Rattle.cube_main.specs.BuiltIn.{built_in};
 ghost use Rattle.cube_main.specs.Demo.{demo_names, demo_text, is_refused};
 ghost use Rattle.cube_main.specs.Feeds.{is_feed_refused};
 ghost use Rattle.cube_main.specs.Statuses.{IsRefusedOrEarlier, IsDoneOrNoMemory};
-ghost use Rattle.cube_view.specs.Limits.{same_text};
 ghost use Rattle.outer_io.specs.Bytes.{Gains, GainsPart};
 ghost use Rattle.outer_io.specs.Faults.{Rose};
 ghost use Rattle.outer_io.specs.Files.{Files, file_or_empty};
 
 use crate::demo::demo;
 use crate::status::Status;
+use cube_view::is_same_text;
 use outer_io::{Place, Sink};
-
-// Whether the bytes are the same.
-fn is_same(a: &[u8], b: &[u8]) -> bool
-    ensures { result ≡ same_text a.now b.now }
-{
-    a == b
-}
 
 // The names of the feed and the script, where the words are `demo FEED SCRIPT`.
 fn demo_files(words: &[String]) -> Option<(&str, &str)>
     ensures { option_map (λ names. (names.0.now, names.1.now)) result ≡ demo_names (map string_bytes words.now) }
 {
-    if words.len() == 3 && is_same(words[0].as_str().as_bytes(), b"demo") {
+    if words.len() == 3 && is_same_text(words[0].as_str().as_bytes(), b"demo") {
         Some((words[1].as_str(), words[2].as_str()))
     } else {
         None

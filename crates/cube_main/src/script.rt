@@ -1,22 +1,22 @@
 //! A script answered line by line.
-ghost use Rattle.std.specs.Prelude.{◌≡◌, ◌≢◌, ◌⊎◌, ℕ, ◌<◌, ◌≤◌, List, [], ◌∷◌, ◌++◌, take, length, nat_lt, true, false, ◌&&◌, not, string_bytes, Some, Ok, Err, ⊤, IfOk, OnOk, IfSome, IsErrOf, MatchOption};
+ghost use Rattle.std.specs.Prelude.{◌≡◌, ◌≢◌, ◌⊎◌, ℕ, ◌<◌, ◌≤◌, List, [], ◌∷◌, ◌++◌, take, length, nat_lt, true, false, ◌&&◌, not, Some, Ok, Err, ⊤, IfOk, OnOk, IfSome, IsErrOf, MatchOption};
 ghost use Rattle.cube_main.specs.Progress.{Passes, PassesAll, IsTooLarge, IsWithinLimit, IsGoing};
 ghost use Rattle.cube_main.specs.Replies.{has_quit, replies_to};
-ghost use Rattle.cube_main.specs.Said.{SaysLine};
+ghost use Rattle.cube_main.specs.Served.{ServesLine};
 ghost use Rattle.cube_main.specs.Scripts.{is_script_refused};
 ghost use Rattle.cube_main.specs.Turns.{GoesOn, Stops, BreaksOff};
 ghost use Rattle.outer_io.specs.Bytes.{Gains, GainsPart};
 ghost use Rattle.outer_io.specs.Cutting.{lines_left};
 ghost use Rattle.outer_io.specs.Faults.{Rose};
 ghost use Rattle.outer_io.specs.Files.{Files, file_or_empty};
-ghost use Rattle.outer_io.specs.Lines.{Line, Long, input_limit, lines};
+ghost use Rattle.outer_io.specs.Lines.{Line, input_limit, lines};
 ghost use Rattle.plain_cube.specs.Kept.{points_of, schema_of};
 
-use crate::replies::{Said, say, say_line};
+use crate::replies::{serve_line, serve_long};
 use crate::status::Status;
 use outer_io::{Cut, CutFault, IoFault, LineCutter, NoMemory, Place, Sink, Source};
 use plain_cube::PlainCube;
-use query_syntax::{Parsed, QueryFault};
+use session_core::Served;
 use std::alloc::Global;
 
 /// Why a script is not answered to its end.
@@ -28,34 +28,27 @@ pub(crate) enum ScriptFault {
     TooMuch,
 }
 
-/// The answer to a line that is too long.
-fn say_long(alloc: Global, cube: &PlainCube) -> Result<Said, NoMemory>
-    ensures { IfOk result (SaysLine (schema_of cube.now) (points_of cube.now) Long) }
-{
-    say(alloc, cube, &Parsed::Fault(QueryFault::LongLine, 1))
-}
-
 /// The answer to the next line, or none at the end of the script.
-fn next_said<S: Source>(
+fn next_served<S: Source>(
     alloc: Global,
     cube: &PlainCube,
     cutter: &mut LineCutter<S>,
-) -> Result<Option<Said>, ScriptFault>
+) -> Result<Option<Served>, ScriptFault>
     requires { IsGoing cutter.old }
-    ensures said { IfOk result (λ said. MatchOption said (PassesAll S.left S.faults cutter.old cutter.new []) (λ s. (line : Line) × Passes S.left S.faults cutter.old cutter.new (line ∷ []) × SaysLine (schema_of cube.now) (points_of cube.now) line s)) }
-    ensures turn { IfOk result (λ said. IfSome said (λ _. (cutter.old.given < cutter.new.given) × (cutter.new.given ≤ input_limit) × IsGoing cutter.new)) }
+    ensures served { IfOk result (λ served. MatchOption served (PassesAll S.left S.faults cutter.old cutter.new []) (λ s. (line : Line) × Passes S.left S.faults cutter.old cutter.new (line ∷ []) × ServesLine (schema_of cube.now) (points_of cube.now) line s)) }
+    ensures turn { IfOk result (λ served. IfSome served (λ _. (cutter.old.given < cutter.new.given) × (cutter.new.given ≤ input_limit) × IsGoing cutter.new)) }
     ensures read { IsErrOf result ScriptFault.Read → Rose (S.faults cutter.old.source) (S.faults cutter.new.source) }
     ensures too_much { IsErrOf result ScriptFault.TooMuch → IsTooLarge S.left cutter.old × MatchOption (lines_left S.left cutter.old) ⊤ (λ all. all ≡ []) }
     ensures no_write { result ≢ Err ScriptFault.Write }
     ensures quiet { (result ≢ Err ScriptFault.Read) → S.faults cutter.new.source ≡ S.faults cutter.old.source }
 {
     match cutter.next() {
-        Ok(Cut::Line(line, _)) => match say_line(alloc, cube, line.as_slice()) {
-            Ok(said) => Ok(Some(said)),
+        Ok(Cut::Line(line, _)) => match serve_line(alloc, cube, line.as_slice()) {
+            Ok(served) => Ok(Some(served)),
             Err(NoMemory) => Err(ScriptFault::NoMemory),
         },
-        Ok(Cut::Long(_)) => match say_long(alloc, cube) {
-            Ok(said) => Ok(Some(said)),
+        Ok(Cut::Long(_)) => match serve_long(alloc, cube) {
+            Ok(served) => Ok(Some(served)),
             Err(NoMemory) => Err(ScriptFault::NoMemory),
         },
         Ok(Cut::End) => Ok(None),
@@ -85,11 +78,11 @@ fn answer_next<S: Source, O: Sink>(
     ensures quiet_sink { (result ≢ Err ScriptFault.Write) → O.faults out.new ≡ O.faults out.old }
     ensures name { O.name out.new ≡ O.name out.old }
 {
-    match next_said(alloc, cube, cutter) {
+    match next_served(alloc, cube, cutter) {
         Ok(None) => Ok(false),
-        Ok(Some(Said::End)) => Ok(false),
-        Ok(Some(Said::Nothing)) => Ok(true),
-        Ok(Some(Said::Reply(text))) => match out.put(text.as_bytes()) {
+        Ok(Some(Served::Quit)) => Ok(false),
+        Ok(Some(Served::Skipped)) => Ok(true),
+        Ok(Some(Served::Reply(line))) => match out.put(line.as_slice()) {
             Ok(()) => Ok(true),
             Err(IoFault::Failed) => Err(ScriptFault::Write),
             Err(IoFault::NoMemory) => Err(ScriptFault::NoMemory),

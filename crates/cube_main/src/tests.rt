@@ -26,11 +26,11 @@ fn words(alloc: Global, words: &[&str]) -> Result<Vec<String>, AllocError> {
 
 /// A feed and a script over files in memory, and what they give.
 #[derive(Clone, Copy)]
-struct Case {
-    feed: &'static str,
-    script: &'static str,
+struct Case<'a> {
+    feed: &'a str,
+    script: &'a [u8],
     status: Status,
-    out: &'static str,
+    out: &'a [u8],
 }
 
 /// Runs the case over files that fail at the given reads and a sink that fails at the given puts.
@@ -44,7 +44,7 @@ fn run(
     let alloc = rt.alloc();
     let mut place = MemPlace::new(alloc);
     let feed = list(alloc, case.feed.as_bytes())?;
-    let script = list(alloc, case.script.as_bytes())?;
+    let script = list(alloc, case.script)?;
     assert!(rt;
         place
             .put_file("a.csv", feed, 16, list(alloc, feed_fails)?)
@@ -58,9 +58,44 @@ fn run(
     let mut out = MemSink::new(alloc, list(alloc, put_fails)?);
     let words = words(alloc, &["demo", "a.csv", "q.txt"])?;
     let status = nanocube(rt, words.as_slice(), &mut place, &mut out);
-    assert_eq!(rt; status, case.status, "over {}", case.script);
-    assert_eq!(rt; out.bytes(), case.out.as_bytes(), "over {}", case.script);
+    assert_eq!(rt; status, case.status);
+    assert_eq!(rt; out.bytes(), case.out);
     Ok(())
+}
+
+/// A run over files and a sink that cannot fail has no fault of the outside.
+fn still_status(
+    rt: &impl AllocGlobal,
+    line: &[String],
+    place: &mut StillPlace,
+    out: &mut StillSink,
+) -> Status
+    ensures read { result ≢ Status.ReadFault }
+    ensures write { result ≢ Status.WriteFault }
+{
+    nanocube(rt, line, place, out)
+}
+
+/// Runs the case over files and a sink that cannot fail.
+fn run_still(rt: &(impl Abort + AllocGlobal), case: &Case) -> Result<(), AllocError> {
+    let alloc = rt.alloc();
+    let mut place = StillPlace::new(alloc);
+    let feed = list(alloc, case.feed.as_bytes())?;
+    let script = list(alloc, case.script)?;
+    assert!(rt; place.put_file("a.csv", feed, 7).is_ok());
+    assert!(rt; place.put_file("q.txt", script, 1).is_ok());
+    let mut out = StillSink::new(alloc);
+    let words = words(alloc, &["demo", "a.csv", "q.txt"])?;
+    let status = still_status(rt, words.as_slice(), &mut place, &mut out);
+    assert_eq!(rt; status, case.status);
+    assert_eq!(rt; out.bytes(), case.out);
+    Ok(())
+}
+
+/// Runs the case over files of either kind, none of which fails.
+fn check(rt: &(impl Abort + AllocGlobal), case: &Case) -> Result<(), AllocError> {
+    run(rt, case, &[], &[], &[])?;
+    run_still(rt, case)
 }
 
 #[test]
@@ -68,44 +103,50 @@ fn counts_the_accepted_records(rt: HostRuntime) -> Result<(), Fail> {
     let cases = [
         Case {
             feed: FEED,
-            script: "count\n",
+            script: b"count\n",
             status: Status::Done,
-            out: "{\"rows\":[[3]],\"seen\":3}\n",
+            out: b"{\"rows\":[[3]],\"seen\":3}\n",
         },
         Case {
             feed: "x,y,kind,time\n",
-            script: "count",
+            script: b"count",
             status: Status::Done,
-            out: "{\"rows\":[[0]],\"seen\":0}\n",
-        },
-        Case {
-            feed: FEED,
-            script: "count\nmap 1\n",
-            status: Status::Done,
-            out: "{\"rows\":[[3]],\"seen\":3}\n{\"at\":1,\"fault\":\"UnknownVerb\"}\n",
+            out: b"{\"rows\":[[0]],\"seen\":0}\n",
         },
         Case {
             feed: "x,y,time,kind\n0,0,5,a\n8,0,1,a\n",
-            script: "count\n",
+            script: b"count\n",
             status: Status::Done,
-            out: "{\"rows\":[[1]],\"seen\":1}\n",
+            out: b"{\"rows\":[[1]],\"seen\":1}\n",
         },
         Case {
             feed: "x,y,time\n0,0,5\n",
-            script: "count\n",
+            script: b"count\n",
             status: Status::FeedRefused,
-            out: "",
+            out: b"",
         },
         Case {
             feed: "\u{FEFF}id,x,y,kind,time\r\n1,0,0,\"a\",5\r\n2,7,7,b,12\r\n3,0,0,a,15",
-            script: "count",
+            script: b"count",
             status: Status::Done,
-            out: "{\"rows\":[[3]],\"seen\":3}\n",
+            out: b"{\"rows\":[[3]],\"seen\":3}\n",
         },
     ];
     for case in &cases {
-        run(&rt, case, &[], &[], &[])?;
+        check(&rt, case)?;
     }
+    Ok(())
+}
+
+#[test]
+fn maps_tiles_in_the_order_of_their_paths(rt: HostRuntime) -> Result<(), Fail> {
+    let case = Case {
+        feed: "x,y,kind,time\n4,0,a,0\n0,2,b,0\n",
+        script: b"map 2",
+        status: Status::Done,
+        out: b"{\"rows\":[[2,0,1,1],[2,2,0,1]],\"seen\":2}\n",
+    };
+    check(&rt, &case)?;
     Ok(())
 }
 
@@ -124,24 +165,58 @@ fn joined(alloc: Global, lines: &[(&[u8], &str)]) -> Result<(Vec<u8>, Vec<u8>), 
     Ok((script, replies))
 }
 
+/// Runs the lines as a script, over the feed of three records.
+fn check_lines(rt: &(impl Abort + AllocGlobal), lines: &[(&[u8], &str)]) -> Result<(), AllocError> {
+    let (script, replies) = joined(rt.alloc(), lines)?;
+    let case = Case {
+        feed: FEED,
+        script: script.as_slice(),
+        status: Status::Done,
+        out: replies.as_slice(),
+    };
+    check(rt, &case)
+}
+
 #[test]
-fn answers_each_line_of_the_language(rt: HostRuntime) -> Result<(), Fail> {
-    let alloc = rt.alloc();
-    let long = vec![in alloc; b'x'; 4097]?;
-    let lines: [(&[u8], &str); 25] = [
+fn answers_the_lines_of_a_script_up_to_quit(rt: HostRuntime) -> Result<(), Fail> {
+    let lines: [(&[u8], &str); 16] = [
         (b"count in 1/0/0", "{\"rows\":[[2]],\"seen\":3}"),
         (b"count in 3/7/7", "{\"rows\":[[1]],\"seen\":3}"),
-        (b"count in 1/2/0", "{\"at\":3,\"fault\":\"BadTile\"}"),
         (
             b"count with kind=a|b time 0 1",
             "{\"rows\":[[1]],\"seen\":3}",
         ),
-        (b"map 1", "{\"at\":1,\"fault\":\"UnknownVerb\"}"),
-        (b"map 1 in 3/0/0", "{\"at\":2,\"fault\":\"TooDeep\"}"),
         (
-            b"series 0 1 3 time 0 1",
-            "{\"at\":5,\"fault\":\"TimeInSeries\"}",
+            b"count  with kind=a|a in 01/0/1",
+            "{\"rows\":[[0]],\"seen\":3}",
         ),
+        (b"hist kind", "{\"rows\":[[\"a\",2],[\"b\",1]],\"seen\":3}"),
+        (
+            b"hist kind time 1 1",
+            "{\"rows\":[[\"a\",0],[\"b\",0]],\"seen\":3}",
+        ),
+        (b"map 1", "{\"rows\":[[1,0,0,2],[1,1,1,1]],\"seen\":3}"),
+        (b"map 2 in 1/1/0", "{\"rows\":[],\"seen\":3}"),
+        (b"series 0 1 3", "{\"rows\":[[0,1],[1,2],[2,0]],\"seen\":3}"),
+        (
+            b"stat",
+            "{\"nodes\":0,\"proper\":0,\"seen\":3,\"shared\":0,\"tables\":0}",
+        ),
+        (b"told", "{\"told\":3}"),
+        (b"# note", ""),
+        (b"", ""),
+        (b"  ", ""),
+        (b"quit", ""),
+        (b"count", ""),
+    ];
+    check_lines(&rt, &lines)?;
+    Ok(())
+}
+
+#[test]
+fn names_the_fault_of_a_line(rt: HostRuntime) -> Result<(), Fail> {
+    let long = vec![in rt.alloc(); b'x'; 4097]?;
+    let lines: [(&[u8], &str); 15] = [
         (b"\xff", "{\"at\":1,\"fault\":\"NotText\"}"),
         (long.as_slice(), "{\"at\":1,\"fault\":\"LongLine\"}"),
         (b"count with kind=\"a", "{\"at\":3,\"fault\":\"BadQuote\"}"),
@@ -149,6 +224,9 @@ fn answers_each_line_of_the_language(rt: HostRuntime) -> Result<(), Fail> {
         (b"map", "{\"at\":2,\"fault\":\"MissingWord\"}"),
         (b"map x", "{\"at\":2,\"fault\":\"BadNumber\"}"),
         (b"map 11", "{\"at\":2,\"fault\":\"OutOfRange\"}"),
+        (b"count time 2 1", "{\"at\":4,\"fault\":\"OutOfRange\"}"),
+        (b"count in 1/2/0", "{\"at\":3,\"fault\":\"BadTile\"}"),
+        (b"map 1 in 3/0/0", "{\"at\":2,\"fault\":\"TooDeep\"}"),
         (b"hist color", "{\"at\":2,\"fault\":\"UnknownCategory\"}"),
         (
             b"count with kind=c",
@@ -159,41 +237,12 @@ fn answers_each_line_of_the_language(rt: HostRuntime) -> Result<(), Fail> {
             "{\"at\":4,\"fault\":\"RepeatedFilter\"}",
         ),
         (b"count near 1", "{\"at\":2,\"fault\":\"UnknownFilter\"}"),
-        (b"count time 2 1", "{\"at\":4,\"fault\":\"OutOfRange\"}"),
-        (b"# note", ""),
-        (b"", ""),
-        (b"told", "{\"told\":3}"),
         (
-            b"count  with kind=a|a in 01/0/1",
-            "{\"rows\":[[0]],\"seen\":3}",
+            b"series 0 1 3 time 0 1",
+            "{\"at\":5,\"fault\":\"TimeInSeries\"}",
         ),
-        (b"quit", ""),
-        (b"count with kind=a", ""),
     ];
-    let (script, replies) = joined(alloc, &lines)?;
-    let mut place = MemPlace::new(alloc);
-    assert!(rt;
-        place
-            .put_file(
-                "a.csv",
-                list(alloc, FEED.as_bytes())?,
-                16,
-                list(alloc, &[])?
-            )
-            .is_ok()
-    );
-    assert!(rt;
-        place
-            .put_file("q.txt", List::from_vec(script), 100, list(alloc, &[])?)
-            .is_ok()
-    );
-    let mut out = MemSink::new(alloc, list(alloc, &[])?);
-    let line = words(alloc, &["demo", "a.csv", "q.txt"])?;
-    assert_eq!(rt;
-        nanocube(&rt, line.as_slice(), &mut place, &mut out),
-        Status::Done
-    );
-    assert_eq!(rt; out.bytes(), replies.as_slice());
+    check_lines(&rt, &lines)?;
     Ok(())
 }
 
@@ -201,23 +250,23 @@ fn answers_each_line_of_the_language(rt: HostRuntime) -> Result<(), Fail> {
 fn names_the_fault_of_the_outside(rt: HostRuntime) -> Result<(), Fail> {
     let feed_read = Case {
         feed: FEED,
-        script: "count\n",
+        script: b"count\n",
         status: Status::ReadFault,
-        out: "",
+        out: b"",
     };
     run(&rt, &feed_read, &[3], &[], &[])?;
     let second_put = Case {
         feed: FEED,
-        script: "count\ncount\n",
+        script: b"count\ncount\n",
         status: Status::WriteFault,
-        out: "{\"rows\":[[3]],\"seen\":3}\n{\"rows\":[[3]",
+        out: b"{\"rows\":[[3]],\"seen\":3}\n{\"rows\":[[3]",
     };
     run(&rt, &second_put, &[], &[], &[2])?;
     let script_read = Case {
         feed: FEED,
-        script: "count\ncount\n",
+        script: b"count\ncount\n",
         status: Status::ReadFault,
-        out: "{\"rows\":[[3]],\"seen\":3}\n",
+        out: b"{\"rows\":[[3]],\"seen\":3}\n",
     };
     run(&rt, &script_read, &[], &[2], &[])?;
     Ok(())
@@ -242,38 +291,5 @@ fn refuses_words_of_no_form_and_absent_feeds(rt: HostRuntime) -> Result<(), Fail
         );
         assert_eq!(rt; out.bytes(), [].as_slice());
     }
-    Ok(())
-}
-
-/// A run over files and a sink that cannot fail has no fault of the outside.
-fn run_still(
-    rt: &impl AllocGlobal,
-    line: &[String],
-    place: &mut StillPlace,
-    out: &mut StillSink,
-) -> Status
-    ensures read { result ≢ Status.ReadFault }
-    ensures write { result ≢ Status.WriteFault }
-{
-    nanocube(rt, line, place, out)
-}
-
-#[test]
-fn counts_over_files_that_cannot_fail(rt: HostRuntime) -> Result<(), Fail> {
-    let alloc = rt.alloc();
-    let mut place = StillPlace::new(alloc);
-    assert!(rt;
-        place
-            .put_file("a.csv", list(alloc, FEED.as_bytes())?, 7)
-            .is_ok()
-    );
-    assert!(rt; place.put_file("q.txt", list(alloc, b"count")?, 1).is_ok());
-    let mut out = StillSink::new(alloc);
-    let line = words(alloc, &["demo", "a.csv", "q.txt"])?;
-    assert_eq!(rt;
-        nanocube(&rt, line.as_slice(), &mut place, &mut out),
-        Status::Done
-    );
-    assert_eq!(rt; out.bytes(), b"{\"rows\":[[3]],\"seen\":3}\n".as_slice());
     Ok(())
 }
