@@ -6,5 +6,4 @@ mod Told
 mod Points
 mod Heading
 mod Loaded
-mod Ending
 mod Demoed
