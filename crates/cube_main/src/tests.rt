@@ -150,6 +150,25 @@ fn maps_tiles_in_the_order_of_their_paths(rt: HostRuntime) -> Result<(), Fail> {
     Ok(())
 }
 
+#[test]
+fn writes_a_series_of_ten_thousand_rows(rt: HostRuntime) -> Result<(), Fail> {
+    let alloc = rt.alloc();
+    let mut reply = String::from_str(alloc, "{\"rows\":[[0,1],[1,2]")?;
+    for bin in 2..10_000u32 {
+        let row = format!(in alloc; ",[{bin},0]")?;
+        reply.push_str(row.as_str())?;
+    }
+    reply.push_str("],\"seen\":3}\n")?;
+    let case = Case {
+        feed: FEED,
+        script: b"series 0 1 10000",
+        status: Status::Done,
+        out: reply.as_bytes(),
+    };
+    check(&rt, &case)?;
+    Ok(())
+}
+
 /// The lines, each with a line feed.
 fn joined(alloc: Global, lines: &[(&[u8], &str)]) -> Result<(Vec<u8>, Vec<u8>), AllocError> {
     let mut script = Vec::new(alloc);
@@ -179,7 +198,7 @@ fn check_lines(rt: &(impl Abort + AllocGlobal), lines: &[(&[u8], &str)]) -> Resu
 
 #[test]
 fn answers_the_lines_of_a_script_up_to_quit(rt: HostRuntime) -> Result<(), Fail> {
-    let lines: [(&[u8], &str); 16] = [
+    let lines: [(&[u8], &str); 17] = [
         (b"count in 1/0/0", "{\"rows\":[[2]],\"seen\":3}"),
         (b"count in 3/7/7", "{\"rows\":[[1]],\"seen\":3}"),
         (
@@ -195,6 +214,7 @@ fn answers_the_lines_of_a_script_up_to_quit(rt: HostRuntime) -> Result<(), Fail>
             b"hist kind time 1 1",
             "{\"rows\":[[\"a\",0],[\"b\",0]],\"seen\":3}",
         ),
+        (b"map 0", "{\"rows\":[[0,0,0,3]],\"seen\":3}"),
         (b"map 1", "{\"rows\":[[1,0,0,2],[1,1,1,1]],\"seen\":3}"),
         (b"map 2 in 1/1/0", "{\"rows\":[],\"seen\":3}"),
         (b"series 0 1 3", "{\"rows\":[[0,1],[1,2],[2,0]],\"seen\":3}"),
