@@ -8,6 +8,8 @@ pub mod Queries
 pub mod Meaning
 pub mod Boxes
 pub mod Parts
+pub mod TileOrder
+pub mod TileLaws
 pub mod Tables
 pub mod SchemaLimits
 pub mod TableLaws

@@ -2,14 +2,14 @@
 --
 -- The tables are the rollups and drilldowns of Lins, Klosowski and Scheidegger, "Nanocubes for Real-Time
 -- Exploration of Spatiotemporal Datasets", IEEE TVCG 2013.
-use Rattle.std.specs.Prelude.{ℕ, zero, suc, ◌+◌, ◌*◌, Bool, true, false, ◌&&◌, ◌==◌, if◌then◌else◌, List, [], ◌∷◌, length, map, Option, Some, None, slice_set, slice_index_or}
-use Rattle.std.specs.List.{filter_map, flat_map, range_with_len}
-use Rattle.cube_view.specs.Places.{longer_tile}
+use Rattle.std.specs.Prelude.{ℕ, ◌+◌, ◌*◌, Bool, true, false, ◌&&◌, ◌==◌, if◌then◌else◌, List, [], ◌∷◌, length, map, Option, Some, None, slice_set, slice_index_or}
+use Rattle.std.specs.List.{filter_map, range_with_len}
 use Rattle.cube_view.specs.Points.{Point}
 use Rattle.cube_view.specs.declared.address.Tile.{Tile}
 use Rattle.cube_view.specs.declared.schema.Schema.{Schema}
 use Rattle.query_syntax.specs.Boxes.{Box, box, total}
 use Rattle.query_syntax.specs.Items.{values_at}
+use Rattle.query_syntax.specs.TileOrder.{tiles_below}
 use Rattle.query_syntax.specs.declared.query.Query.{Query}
 use Rattle.query_syntax.specs.declared.query.Verb.{Verb}
 use Rattle.query_syntax.specs.declared.query.Verb.TheVariants.{Count, Hist, Map, Series, Stat, Told, Quit}
@@ -42,16 +42,6 @@ with_tile b t = record b { tile = t }
 abbrev pub with_bins : Box → ℕ → ℕ → Box
 with_bins b from to = record b { from = from; to = to }
 
--- the four quadrants of a tile, in the order of their labels
-abbrev pub quadrants : Tile → List Tile
-quadrants t = map (longer_tile 1 t) (range_with_len 0 4)
-
--- All tiles of the level that is so many levels below a tile's, inside that tile, in path order: by their quadrant
--- labels from the coarsest level down
-abbrev pub tiles_inside : ℕ → Tile → List Tile
-tiles_inside zero t = t ∷ []
-tiles_inside (suc levels) t = flat_map (tiles_inside levels) (quadrants t)
-
 module _ (schema : Schema) (q : Query) (h : List Point) where
   -- the row of value v of category k: its text, and the total with this value
   abbrev pub value_row : ℕ → ℕ → RowOut
@@ -69,7 +59,7 @@ module _ (schema : Schema) (q : Query) (h : List Point) where
   abbrev pub rows_of_verb : Verb → List RowOut
   rows_of_verb Count = RowOut.One (total schema (box q) h) ∷ []
   rows_of_verb (Hist k) = map (value_row k) (range_with_len 0 (length (values_at schema.categories k)))
-  rows_of_verb (Map down) = filter_map area_row (tiles_inside down q.region)
+  rows_of_verb (Map down) = filter_map area_row (tiles_below down q.region)
   rows_of_verb (Series from wide rows) = map (bins_row from wide) (range_with_len 0 rows)
   rows_of_verb Stat = []
   rows_of_verb Told = []

@@ -7,7 +7,8 @@ ghost use Rattle.cube_view.specs.Places.{longer_tile};
 ghost use Rattle.query_syntax.specs.Boxes.{box, total};
 ghost use Rattle.query_syntax.specs.Items.{values_at};
 ghost use Rattle.query_syntax.specs.Queries.{is_valid_query};
-ghost use Rattle.query_syntax.specs.Tables.{has_table, tiles_inside, value_row, area_row, bins_row, with_tile, with_bins, table, table_rows};
+ghost use Rattle.query_syntax.specs.Tables.{has_table, value_row, area_row, bins_row, with_tile, with_bins, table, table_rows};
+ghost use Rattle.query_syntax.specs.TileOrder.{tiles_below, tiles_inside};
 
 use crate::item::values_of;
 use crate::quadrants::quadrant;
@@ -104,7 +105,7 @@ fn area_rows(
 ) -> Result<List<RowOut>, NoMemory>
     requires deep { query.now.region.z + down ≤ schema.now.depth }
     requires region { (query.now.region.x < 2 ^ query.now.region.z) × (query.now.region.y < 2 ^ query.now.region.z) }
-    ensures { IfOk result (λ rows. rows ≡ filter_map (area_row schema.now query.now points.now) (tiles_inside down query.now.region)) }
+    ensures { IfOk result (λ rows. rows ≡ filter_map (area_row schema.now query.now points.now) (tiles_below down query.now.region)) }
 {
     let mut rows = List::new(alloc);
     push_areas(&mut rows, schema, query, points, query.region, down)?;

@@ -1,6 +1,6 @@
 -- What a box that can be walked has: a tile of the schema, and choices for each category.
-use Rattle.std.proofs.Common.{◌≡◌, ℕ, zero, suc, ◌+◌, ◌<◌, ◌≤◌, ◌^◌, true, ltb, leb, List, [], ◌∷◌, length, drop, sym, ap, subst, arith, add-one}
-use Rattle.std.proofs.lemmas.Bool.{and_parts, ltb-true, leb-true}
+use Rattle.std.proofs.Common.{◌≡◌, ℕ, zero, suc, ◌+◌, ◌<◌, true, List, [], ◌∷◌, length, drop, sym, ap, subst, arith, add-one}
+use Rattle.std.proofs.lemmas.Bool.{and_parts}
 use Rattle.cube_view.specs.SchemaBounds.{few_categories}
 use Rattle.cube_view.specs.declared.category.Category.{Category}
 use Rattle.cube_view.specs.declared.schema.Schema.{Schema}
@@ -9,17 +9,6 @@ use Rattle.query_syntax.specs.declared.query.Query.{Query}
 use Rattle.query_walk.specs.Walks.{is_walkable, are_walkable, HasBox, HasChoicesFrom}
 
 module _ (z : Schema) (q : Query) (has : HasBox z q) where
-  pub region_within : (q.region.x < 2 ^ q.region.z) × (q.region.y < 2 ^ q.region.z)
-  region_within =
-      let parts = and_parts _ _ has.region in
-      let first = and_parts (leb q.region.z z.depth) (ltb q.region.x (2 ^ q.region.z)) parts.0 in
-      (ltb-true _ _ first.1, ltb-true _ _ parts.1)
-
-  pub region_deep : q.region.z ≤ z.depth
-  region_deep =
-      let parts = and_parts _ _ has.region in
-      leb-true _ _ (and_parts (leb q.region.z z.depth) (ltb q.region.x (2 ^ q.region.z)) parts.0).0
-
   pub has_choices : HasChoicesFrom z q 0
   has_choices = record {
     few = omega arith;

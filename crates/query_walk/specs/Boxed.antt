@@ -1,6 +1,6 @@
 -- What valid queries have: a box that can be walked.
-use Rattle.std.proofs.Common.{◌≡◌, ℕ, true, eqb, leb, IsTrue, List, [], ◌∷◌, length}
-use Rattle.std.proofs.lemmas.Bool.{and_parts, and_from, eqb-true, leb-true}
+use Rattle.std.proofs.Common.{◌≡◌, ℕ, ◌<◌, ◌≤◌, ◌^◌, true, eqb, ltb, leb, IsTrue, List, [], ◌∷◌, length}
+use Rattle.std.proofs.lemmas.Bool.{and_parts, and_from, eqb-true, ltb-true, leb-true}
 use Rattle.cube_view.specs.declared.category.Category.{Category}
 use Rattle.cube_view.specs.declared.schema.Schema.{Schema}
 use Rattle.query_syntax.specs.Queries.{is_choice, are_choices, is_span, is_valid_query, filters_fit_verb}
@@ -42,3 +42,17 @@ valid_has_box z q valid =
       choices = choices_walkable z.categories q.sets parts.2;
       order = leb-true _ _ (and_parts (leb q.time.from q.time.to) _ parts.3).0;
     }
+
+-- What a box that can be walked has
+
+module _ (z : Schema) (q : Query) (has : HasBox z q) where
+  pub region_within : (q.region.x < 2 ^ q.region.z) × (q.region.y < 2 ^ q.region.z)
+  region_within =
+      let parts = and_parts _ _ has.region in
+      let first = and_parts (leb q.region.z z.depth) (ltb q.region.x (2 ^ q.region.z)) parts.0 in
+      (ltb-true _ _ first.1, ltb-true _ _ parts.1)
+
+  pub region_deep : q.region.z ≤ z.depth
+  region_deep =
+      let parts = and_parts _ _ has.region in
+      leb-true _ _ (and_parts (leb q.region.z z.depth) (ltb q.region.x (2 ^ q.region.z)) parts.0).0

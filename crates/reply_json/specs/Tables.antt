@@ -9,7 +9,8 @@ use Rattle.cube_view.specs.declared.address.Tile.{Tile}
 use Rattle.cube_view.specs.declared.schema.Schema.{Schema}
 use Rattle.query_syntax.specs.Boxes.{box, total}
 use Rattle.query_syntax.specs.Items.{values_at}
-use Rattle.query_syntax.specs.Tables.{has_table, area_row, bins_row, rows_of_verb, table, table_rows, tiles_inside, value_row, with_tile}
+use Rattle.query_syntax.specs.Tables.{has_table, area_row, bins_row, rows_of_verb, table, table_rows, value_row, with_tile}
+use Rattle.query_syntax.specs.TileOrder.{tiles_below}
 use Rattle.query_syntax.specs.declared.query.Query.{Query}
 use Rattle.query_syntax.specs.declared.query.Verb.{Verb}
 use Rattle.query_syntax.specs.declared.query.Verb.TheVariants as verb
@@ -50,7 +51,7 @@ module _ (schema : Schema) (q : Query) (h : List Point) where
   rows_valid : (v : Verb) → has_table v ≡ true → are_valid_rows (rows_of_verb schema q h v) ≡ true
   rows_valid verb.Count asked = refl
   rows_valid (verb.Hist k) asked = values_valid (rows_of_verb schema q h (verb.Hist k)) (values_all k (range_with_len 0 (length (values_at schema.categories k))))
-  rows_valid (verb.Map down) asked = areas_valid (rows_of_verb schema q h (verb.Map down)) (areas_all (tiles_inside down q.region))
+  rows_valid (verb.Map down) asked = areas_valid (rows_of_verb schema q h (verb.Map down)) (areas_all (tiles_below down q.region))
   rows_valid (verb.Series from wide rows) asked = bins_valid (rows_of_verb schema q h (verb.Series from wide rows)) (bins_all from wide (range_with_len 0 rows))
   rows_valid verb.Stat asked = absurd (false≢true asked)
   rows_valid verb.Told asked = absurd (false≢true asked)

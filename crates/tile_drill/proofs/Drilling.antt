@@ -16,10 +16,13 @@ use Rattle.cube_view.specs.declared.schema.Schema.{Schema}
 use Rattle.cube_view.specs.declared.spot.Spot.{Spot}
 use Rattle.query_syntax.specs.Boxes.{is_in_tile}
 use Rattle.query_syntax.specs.TableLaws.{quadrant_in_tile, rows_inside}
-use Rattle.query_syntax.specs.Tables.{area_row, tiles_inside}
+use Rattle.query_syntax.specs.Tables.{area_row}
+use Rattle.query_syntax.specs.TileLaws.{all_inside}
+use Rattle.query_syntax.specs.TileOrder.{tiles_below, tiles_inside}
 use Rattle.query_syntax.specs.declared.query.Query.{Query}
 use Rattle.query_syntax.specs.declared.table.RowOut.{RowOut}
-use Rattle.query_walk.specs.Walks.{region_address}
+use Rattle.query_walk.specs.Boxed.{region_within}
+use Rattle.query_walk.specs.Walks.{HasBox, region_address}
 
 -- The bits of a label, by which a spot in that quadrant goes on
 
@@ -74,6 +77,12 @@ module _ (z : Schema) (q : Query) (h : List Point) where
   -- a tile that no spot of the list lies under has no rows
   pub no_rows_under : (levels : ℕ) → q.region.z + levels ≤ z.depth → amount (is_under z (region_address q.region)) h ≡ 0 → filter_map (area_row z q h) (tiles_inside levels q.region) ≡ []
   no_rows_under levels deep none = rows_inside z q h levels q.region deep (none_less (λ s. is_in_tile z.depth q.region s) (is_under z (region_address q.region)) (under_region z q.region) h none)
+
+  -- the rows of the tiles that the way down comes to are those of all tiles inside the region
+  pub rows_of_way : HasBox z q → (levels : ℕ) → filter_map (area_row z q h) (tiles_inside levels q.region) ≡ filter_map (area_row z q h) (tiles_below levels q.region)
+  rows_of_way has levels =
+      let within = region_within z q has in
+      ap (filter_map (area_row z q h)) (sym (all_inside q.region within.0 within.1 levels))
 
 -- a list of no points has no spots anywhere
 pub no_points : (p : Spot → Bool) (h : List Point) (seen : ℕ) → seen ≡ length h → seen ≡ 0 → amount p h ≡ 0

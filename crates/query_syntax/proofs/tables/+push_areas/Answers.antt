@@ -2,7 +2,8 @@ use Rattle.std.proofs.Common.{◌-◌, map, ap, append_assoc}
 use Rattle.std.specs.List.{filter_map, flat_map, range_with_len}
 use Rattle.cube_view.specs.Places.{longer_tile}
 use Rattle.cube_view.specs.declared.address.Tile.{Tile}
-use Rattle.query_syntax.specs.Tables.{tiles_inside, area_row}
+use Rattle.query_syntax.specs.Tables.{area_row}
+use Rattle.query_syntax.specs.TileOrder.{tiles_inside}
 use Rattle.query_syntax.proofs.TableRows.{areas_more}
 use Rattle.query_syntax.proofs.tables.+push_areas.Goals as goal
 

@@ -1,7 +1,8 @@
 use Rattle.std.proofs.Common.{◌≡◌, ◌-◌, ◌++◌, map}
 use Rattle.std.specs.List.{filter_map, flat_map, range_with_len}
 use Rattle.cube_view.specs.Places.{longer_tile}
-use Rattle.query_syntax.specs.Tables.{tiles_inside, area_row}
+use Rattle.query_syntax.specs.Tables.{area_row}
+use Rattle.query_syntax.specs.TileOrder.{tiles_inside}
 use Rattle.query_syntax.proofs.tables.+push_areas.Given as goal
 
 abbrev pub invariant-loop-label : goal.invariant-loop-label

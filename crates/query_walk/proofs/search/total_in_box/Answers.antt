@@ -5,7 +5,8 @@ use Rattle.query_walk.specs.Costs.{region_cost, rest_cost}
 use Rattle.query_walk.specs.Walks.{region_address}
 use Rattle.query_walk.proofs.Addresses.{search_within}
 use Rattle.query_walk.proofs.Sets.{box_is, none_in_region, none_in_bag}
-use Rattle.query_walk.proofs.Valid.{region_deep, region_within, has_choices}
+use Rattle.query_walk.proofs.Valid.{has_choices}
+use Rattle.query_walk.specs.Boxed.{region_deep, region_within}
 use Rattle.query_walk.proofs.search.total_in_box.Goals as goal
 
 pub region_cursor-requires-clause-deep : goal.region_cursor-requires-clause-deep

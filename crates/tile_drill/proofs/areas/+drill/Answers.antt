@@ -1,6 +1,7 @@
 use Rattle.std.proofs.Common.{◌-◌, ◌++◌, ◌∙◌, ap, arith}
 use Rattle.std.specs.List.{filter_map}
-use Rattle.query_syntax.specs.Tables.{area_row, tiles_inside}
+use Rattle.query_syntax.specs.Tables.{area_row}
+use Rattle.query_syntax.specs.TileOrder.{tiles_inside}
 use Rattle.query_syntax.specs.declared.query.Query.{Query}
 use Rattle.tile_drill.proofs.Paying.{paid_through, paid_past, paid_in_all, paid_whole}
 use Rattle.tile_drill.proofs.Drilling.{quadrant_gone_through, quadrant_passed_over}

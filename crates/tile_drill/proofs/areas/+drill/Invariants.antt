@@ -3,7 +3,8 @@ use Rattle.std.specs.List.{filter_map, flat_map, range_with_len}
 use Rattle.cube_view.specs.Bag.{Counts}
 use Rattle.cube_view.specs.Places.{longer_tile}
 use Rattle.cube_view.specs.Points.{Point}
-use Rattle.query_syntax.specs.Tables.{area_row, tiles_inside}
+use Rattle.query_syntax.specs.Tables.{area_row}
+use Rattle.query_syntax.specs.TileOrder.{tiles_inside}
 use Rattle.query_walk.specs.Costs.{sum_upto}
 use Rattle.query_walk.specs.Walks.{region_address}
 use Rattle.tile_drill.specs.Costs.{quadrant_cost}

@@ -1,10 +1,11 @@
 use Rattle.std.proofs.Common.{◌++◌, List, sym, ◌∙◌, ap, arith}
 use Rattle.std.specs.List.{filter_map}
 use Rattle.cube_view.specs.Places.{is_under}
-use Rattle.query_syntax.specs.Tables.{area_row, tiles_inside}
+use Rattle.query_syntax.specs.Tables.{area_row}
+use Rattle.query_syntax.specs.TileOrder.{tiles_inside}
 use Rattle.query_syntax.specs.declared.table.RowOut.{RowOut}
 use Rattle.query_walk.specs.Walks.{region_address}
-use Rattle.tile_drill.proofs.Drilling.{no_rows_under, no_points}
+use Rattle.tile_drill.proofs.Drilling.{no_rows_under, no_points, rows_of_way}
 use Rattle.tile_drill.proofs.Paying.{map_cost_is}
 use Rattle.tile_drill.proofs.areas.area_rows.Goals as goal
 use Rattle.tile_drill.proofs.areas.area_rows.Goals.{in-Some+in_ok-drill, in_default}
@@ -13,15 +14,16 @@ pub returns-then-seen-eq0-clause-rows : goal.returns-then-seen-eq0-clause-rows
 returns-then-seen-eq0-clause-rows g c h counts =
     let z = g.V.CubeView.schema c.args.view.now in
     let none = no_points (is_under z (region_address c.args.query.now.region)) h c.seen.result (c.seen.ensures ∙ counts.number) c.if-seen-eq0.true in
-    c.new-rows.ensures ∙ sym (no_rows_under z c.args.query.now h c.args.levels c.requires.deep none)
+    c.new-rows.ensures ∙ (sym (no_rows_under z c.args.query.now h c.args.levels c.requires.deep none) ∙ rows_of_way z c.args.query.now h c.requires.has_box c.args.levels)
 
 pub returns-clause-rows : goal.returns-clause-rows
 returns-clause-rows g c h counts =
     let z = g.V.CubeView.schema c.args.view.now in
     let all = filter_map (area_row z c.args.query.now h) (tiles_inside c.args.levels c.args.query.now.region) in
+    let way = rows_of_way z c.args.query.now h c.requires.has_box c.args.levels in
     elim c.match-region_cursor.branch [
-      | in-Some+in_ok-drill w ↦ (let inner = w.in_ok-drill.ensures {u = tt} in w.rows-is ∙ (inner.rows h counts ∙ ap (λ (rows : List RowOut). rows ++ all) c.new-rows.ensures))
-      | in_default w ↦ (w.rows-is ∙ (c.new-rows.ensures ∙ sym (no_rows_under z c.args.query.now h c.args.levels c.requires.deep (w.in_default.ensures.place h counts))))
+      | in-Some+in_ok-drill w ↦ (let inner = w.in_ok-drill.ensures {u = tt} in w.rows-is ∙ (inner.rows h counts ∙ (ap (λ (rows : List RowOut). rows ++ all) c.new-rows.ensures ∙ way)))
+      | in_default w ↦ (w.rows-is ∙ (c.new-rows.ensures ∙ (sym (no_rows_under z c.args.query.now h c.args.levels c.requires.deep (w.in_default.ensures.place h counts)) ∙ way)))
     ]
 
 pub returns-clause-cost : goal.returns-clause-cost
