@@ -11,6 +11,5 @@ pub mod Quoting
 pub mod ReadBack
 pub mod Sets
 pub mod TableRows
-pub mod ValidParts
 pub mod Validity
 pub mod WholeTexts

@@ -30,7 +30,7 @@ use Rattle.query_syntax.proofs.PrintedFilters.{Says, filters_with, region_said, 
 use Rattle.query_syntax.proofs.PrintedVerbs.{verb_reads, verb_name_is_word, verb_texts_are_words, small_tile}
 use Rattle.query_syntax.specs.SchemaLimits.{and_left, and_right, in_range, and_both}
 use Rattle.query_syntax.proofs.Sets.{or_all}
-use Rattle.query_syntax.proofs.ValidParts.{ValidParts, valid_parts}
+use Rattle.query_syntax.specs.ValidParts.{ValidParts, valid_parts}
 use Rattle.query_syntax.proofs.WholeTexts.{is_word, not_false, words_listed}
 
 -- what the limits of a schema give

@@ -1,6 +1,7 @@
 -- What a query counts: the points of a box.
-use Rattle.std.specs.Prelude.{ℕ, ◌-◌, ◌^◌, ◌/◌, Bool, true, false, ◌&&◌, ◌==◌, nat_le, nat_lt, List, [], ◌∷◌, map, slice_index_or}
+use Rattle.std.specs.Prelude.{ℕ, Bool, true, false, ◌&&◌, nat_le, nat_lt, List, [], ◌∷◌, map, slice_index_or}
 use Rattle.cube_view.specs.Bag.{amount}
+use Rattle.cube_view.specs.Places.{in_tile}
 use Rattle.cube_view.specs.Points.{Point}
 use Rattle.cube_view.specs.declared.schema.Schema.{Schema}
 use Rattle.cube_view.specs.declared.spot.Spot.{Spot}
@@ -25,10 +26,6 @@ chosen (Only set) v = slice_index_or set v false
 abbrev pub box : Query → Box
 box q = record { tile = q.region; sets = map chosen q.sets; from = q.time.from; to = q.time.to }
 
--- the spot's tile of that level is the tile
-abbrev pub is_in_tile : ℕ → Tile → Spot → Bool
-is_in_tile depth t s = (s.x / 2 ^ (depth - t.z) == t.x) && (s.y / 2 ^ (depth - t.z) == t.y)
-
 -- each value is in its set, and one that is not there counts as 0
 abbrev pub are_in_sets : List (ℕ → Bool) → List ℕ → Bool
 are_in_sets [] values = true
@@ -37,7 +34,7 @@ are_in_sets (set ∷ sets) (v ∷ values) = set v && are_in_sets sets values
 
 -- the spot is inside the box
 unfoldable pub inside : Schema → Box → Spot → Bool
-inside schema b s = is_in_tile schema.depth b.tile s && are_in_sets b.sets s.values && nat_le b.from s.bin && nat_lt s.bin b.to
+inside schema b s = in_tile schema.depth b.tile s && are_in_sets b.sets s.values && nat_le b.from s.bin && nat_lt s.bin b.to
 
 -- how much of the list of points is inside the box
 unfoldable pub total : Schema → Box → List Point → ℕ

@@ -12,5 +12,6 @@ pub mod TileOrder
 pub mod TileLaws
 pub mod Tables
 pub mod SchemaLimits
+pub mod ValidParts
 pub mod TableLaws
 pub mod Spelling

@@ -2,18 +2,19 @@
 use Rattle.std.proofs.Common.{◌≡◌, ℕ, zero, suc, ◌+◌, ◌-◌, ◌*◌, ◌/◌, ◌%◌, ◌^◌, ◌<◌, ◌≤◌, Bool, true, false, ◌&&◌, eqb, leb, ltb, List, [], ◌∷◌, ◌++◌, length, map, get_or, set, None, refl, sym, ◌∙◌, ap, arith, ⊎_elim}
 use Rattle.std.specs.Prelude.{replicate, if◌then◌else◌, ◌==◌, Some}
 use Rattle.std.specs.List.{cons_option, filter_map}
+use Rattle.std.proofs.Math.Bool.{and-false}
 use Rattle.std.proofs.lemmas.Bool.{and_parts, and_from, eqb-true, eq-eqb, ne_eqb, cases_eq}
 use Rattle.std.proofs.lemmas.List.{get_or-set_same, get_or-set_other, length-replicate}
 use Rattle.std.proofs.lemmas.List.Elements.{filter_map-append}
 use Rattle.std.proofs.lemmas.Nat.{shr-shr}
 use Rattle.cube_view.specs.Amounts.{amount_same, amount_none, none_less}
 use Rattle.cube_view.specs.Bag.{amount}
-use Rattle.cube_view.specs.Places.{longer_tile}
+use Rattle.cube_view.specs.Places.{in_tile, longer_tile}
 use Rattle.cube_view.specs.Points.{Point}
 use Rattle.cube_view.specs.declared.address.Tile.{Tile}
 use Rattle.cube_view.specs.declared.schema.Schema.{Schema}
 use Rattle.cube_view.specs.declared.spot.Spot.{Spot}
-use Rattle.query_syntax.specs.Boxes.{box, chosen, is_in_tile, are_in_sets, inside, total}
+use Rattle.query_syntax.specs.Boxes.{box, chosen, are_in_sets, inside, total}
 use Rattle.query_syntax.specs.Tables.{any_value, with_value, with_tile, with_bins, area_row}
 use Rattle.query_syntax.specs.TileOrder.{tiles_inside}
 use Rattle.query_syntax.specs.declared.query.Choice.{Choice}
@@ -22,10 +23,6 @@ use Rattle.query_syntax.specs.declared.query.Query.{Query}
 use Rattle.query_syntax.specs.declared.table.RowOut.{RowOut}
 
 -- One value of a category
-
-and_false : (b : Bool) → b && false ≡ false
-and_false true = refl
-and_false false = refl
 
 none_of : (n w : ℕ) → get_or (replicate n false) w false ≡ false
 none_of zero w = refl
@@ -36,14 +33,14 @@ none_of (suc n) (suc w) = none_of n w
 only_one : (n v w : ℕ) (c : Choice) → v < n → chosen c v ≡ true → (chosen c w && eqb w v) ≡ get_or (set (replicate n false) v true) w false
 only_one n v w c below is = ⊎_elim
     (λ (e : w ≡ v). and_from _ _ (ap (chosen c) e ∙ is) (eq-eqb w v e) ∙ sym (ap (λ j. get_or (set (replicate n false) v true) j false) e ∙ get_or-set_same (replicate n false) v true false (let l = length-replicate n false in omega (arith, l, below))))
-    (λ (ne : w ≡ v → ⊥). ap (λ b. chosen c w && b) (ne_eqb w v ne) ∙ (and_false (chosen c w) ∙ sym (get_or-set_other (replicate n false) v w true false ne ∙ none_of n w)))
+    (λ (ne : w ≡ v → ⊥). ap (λ b. chosen c w && b) (ne_eqb w v ne) ∙ (and-false (chosen c w) ∙ sym (get_or-set_other (replicate n false) v w true false ne ∙ none_of n w)))
     (cases_eq w v)
 
 -- no value of a choice without v is v
 none_left : (v w : ℕ) (c : Choice) → chosen c v ≡ false → (chosen c w && eqb w v) ≡ false
 none_left v w c is = ⊎_elim
     (λ (e : w ≡ v). ap (λ b. b && eqb w v) (ap (chosen c) e ∙ is))
-    (λ (ne : w ≡ v → ⊥). ap (λ b. chosen c w && b) (ne_eqb w v ne) ∙ and_false (chosen c w))
+    (λ (ne : w ≡ v → ⊥). ap (λ b. chosen c w && b) (ne_eqb w v ne) ∙ and-false (chosen c w))
     (cases_eq w v)
 
 -- the sets of choices, of which one is met with v
@@ -61,19 +58,19 @@ sets_with_none : (v : ℕ) (choices : List Choice) (values : List ℕ) (k : ℕ)
 sets_with_none v [] values k is = absurd (cc)
 sets_with_none v (c ∷ choices) [] zero is = ap (λ b. b && are_in_sets (map chosen choices) []) (none_left v 0 c is)
 sets_with_none v (c ∷ choices) (w ∷ values) zero is = ap (λ b. b && are_in_sets (map chosen choices) values) (none_left v w c is)
-sets_with_none v (c ∷ choices) [] (suc k) is = ap (λ b. chosen c 0 && b) (sets_with_none v choices [] k is) ∙ and_false (chosen c 0)
-sets_with_none v (c ∷ choices) (w ∷ values) (suc k) is = ap (λ b. chosen c w && b) (sets_with_none v choices values k is) ∙ and_false (chosen c w)
+sets_with_none v (c ∷ choices) [] (suc k) is = ap (λ b. chosen c 0 && b) (sets_with_none v choices [] k is) ∙ and-false (chosen c 0)
+sets_with_none v (c ∷ choices) (w ∷ values) (suc k) is = ap (λ b. chosen c w && b) (sets_with_none v choices values k is) ∙ and-false (chosen c w)
 
 module _ (schema : Schema) (q : Query) (h : List Point) where
   -- a value that the query's set of its category has counts as much as the query with the set of this value alone
   pub box_value : (k v : ℕ) → k < length q.sets → v < 256 → chosen (get_or q.sets k All) v ≡ true → total schema (with_value (box q) k v) h ≡ total schema (box (record q { sets = set q.sets k (Only (set (replicate 256 false) v true)) })) h
   unfolding total inside
-  box_value k v lt below is = amount_same _ _ (λ s. ap (λ b. ((is_in_tile schema.depth q.region s && b) && leb q.time.from s.bin) && ltb s.bin q.time.to) (sets_with_one 256 v q.sets s.values k below lt is)) h
+  box_value k v lt below is = amount_same _ _ (λ s. ap (λ b. ((in_tile schema.depth q.region s && b) && leb q.time.from s.bin) && ltb s.bin q.time.to) (sets_with_one 256 v q.sets s.values k below lt is)) h
 
   -- a value that it doesn't have counts nothing
   pub box_value_out : (k v : ℕ) → chosen (get_or q.sets k All) v ≡ false → total schema (with_value (box q) k v) h ≡ 0
   unfolding total inside
-  box_value_out k v is = amount_none _ (λ s. ap (λ b. ((is_in_tile schema.depth q.region s && b) && leb q.time.from s.bin) && ltb s.bin q.time.to) (sets_with_none v q.sets s.values k is) ∙ ap (λ b. (b && leb q.time.from s.bin) && ltb s.bin q.time.to) (and_false (is_in_tile schema.depth q.region s))) h
+  box_value_out k v is = amount_none _ (λ s. ap (λ b. ((in_tile schema.depth q.region s && b) && leb q.time.from s.bin) && ltb s.bin q.time.to) (sets_with_none v q.sets s.values k is) ∙ ap (λ b. (b && leb q.time.from s.bin) && ltb s.bin q.time.to) (and-false (in_tile schema.depth q.region s))) h
 
 -- Another tile, other bins
 
@@ -91,7 +88,7 @@ half_of n depth z c b above bit at =
     omega (arith, s, at, bit)
 
 -- a spot in a quadrant of a tile is in the tile
-pub quadrant_in_tile : (depth : ℕ) (t : Tile) (label : ℕ) (s : Spot) → t.z < depth → label < 4 → is_in_tile depth (longer_tile 1 t label) s ≡ true → is_in_tile depth t s ≡ true
+pub quadrant_in_tile : (depth : ℕ) (t : Tile) (label : ℕ) (s : Spot) → t.z < depth → label < 4 → in_tile depth (longer_tile 1 t label) s ≡ true → in_tile depth t s ≡ true
 quadrant_in_tile depth t label s above four is =
     let parts = and_parts _ _ is in
     let x = eqb-true _ _ parts.0 in
@@ -103,12 +100,12 @@ quadrant_in_tile depth t label s above four is =
 -- A tile without spots
 
 module _ (schema : Schema) (q : Query) (h : List Point) where
-  pub none_in_tile : (t : Tile) → amount (λ s. is_in_tile schema.depth t s) h ≡ 0 → total schema (with_tile (box q) t) h ≡ 0
+  pub none_in_tile : (t : Tile) → amount (λ s. in_tile schema.depth t s) h ≡ 0 → total schema (with_tile (box q) t) h ≡ 0
   unfolding total inside
-  none_in_tile t none = none_less _ (is_in_tile schema.depth t) (λ s e. (and_parts _ _ (and_parts (is_in_tile schema.depth t s && are_in_sets (map chosen q.sets) s.values) (leb q.time.from s.bin) (and_parts _ (ltb s.bin q.time.to) e).0).0).0) h none
+  none_in_tile t none = none_less _ (in_tile schema.depth t) (λ s e. (and_parts _ _ (and_parts (in_tile schema.depth t s && are_in_sets (map chosen q.sets) s.values) (leb q.time.from s.bin) (and_parts _ (ltb s.bin q.time.to) e).0).0).0) h none
 
-  none_in_quadrant : (t : Tile) (label : ℕ) → t.z < schema.depth → label < 4 → amount (λ s. is_in_tile schema.depth t s) h ≡ 0 → amount (λ s. is_in_tile schema.depth (longer_tile 1 t label) s) h ≡ 0
-  none_in_quadrant t label above four none = none_less _ (is_in_tile schema.depth t) (λ s e. quadrant_in_tile schema.depth t label s above four e) h none
+  none_in_quadrant : (t : Tile) (label : ℕ) → t.z < schema.depth → label < 4 → amount (λ s. in_tile schema.depth t s) h ≡ 0 → amount (λ s. in_tile schema.depth (longer_tile 1 t label) s) h ≡ 0
+  none_in_quadrant t label above four none = none_less _ (in_tile schema.depth t) (λ s e. quadrant_in_tile schema.depth t label s above four e) h none
 
   no_row : (t : Tile) → total schema (with_tile (box q) t) h ≡ 0 → filter_map (area_row schema q h) (t ∷ []) ≡ []
   no_row t e = ap (λ n. cons_option (if n == 0 then None else Some (RowOut.Area t n)) []) e
@@ -117,7 +114,7 @@ module _ (schema : Schema) (q : Query) (h : List Point) where
   no_rows xs ys a b = filter_map-append (area_row schema q h) xs ys ∙ (ap (λ rows. rows ++ filter_map (area_row schema q h) ys) a ∙ b)
 
   -- a map has no row in a tile without spots
-  pub rows_inside : (levels : ℕ) (t : Tile) → t.z + levels ≤ schema.depth → amount (λ s. is_in_tile schema.depth t s) h ≡ 0 → filter_map (area_row schema q h) (tiles_inside levels t) ≡ []
+  pub rows_inside : (levels : ℕ) (t : Tile) → t.z + levels ≤ schema.depth → amount (λ s. in_tile schema.depth t s) h ≡ 0 → filter_map (area_row schema q h) (tiles_inside levels t) ≡ []
   rows_inside zero t deep none = no_row t (none_in_tile t none)
   rows_inside (suc levels) t deep none =
       let at : (label : ℕ) → label < 4 → filter_map (area_row schema q h) (tiles_inside levels (longer_tile 1 t label)) ≡ [] = λ label four. rows_inside levels (longer_tile 1 t label) (omega (arith, deep)) (none_in_quadrant t label (omega (arith, deep)) four none) in

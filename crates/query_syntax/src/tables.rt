@@ -9,6 +9,7 @@ ghost use Rattle.query_syntax.specs.Items.{values_at};
 ghost use Rattle.query_syntax.specs.Queries.{is_valid_query};
 ghost use Rattle.query_syntax.specs.Tables.{has_table, value_row, area_row, bins_row, with_tile, with_bins, table, table_rows};
 ghost use Rattle.query_syntax.specs.TileOrder.{tiles_below, tiles_inside};
+ghost use Rattle.query_syntax.specs.Verbs.{bins, most_rows};
 
 use crate::item::values_of;
 use crate::quadrants::quadrant;
@@ -132,9 +133,9 @@ fn bin_rows(
     count: u32,
 ) -> Result<List<RowOut>, NoMemory>
     requires region { query.now.region.z ≤ schema.now.depth }
-    requires from { from < 2 ^ 32 }
-    requires wide { wide ≤ 2 ^ 32 }
-    requires count { count ≤ 10000 }
+    requires from { from < bins }
+    requires wide { wide ≤ bins }
+    requires count { count ≤ most_rows }
     ensures { IfOk result (λ rows. rows ≡ map (bins_row schema.now query.now points.now from wide) (range_with_len 0 count)) }
 {
     let mut rows = List::new(alloc);

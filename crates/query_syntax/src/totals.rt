@@ -1,6 +1,7 @@
 //! The total of a list of points in a query's box, by a look at each point.
 ghost use Rattle.std.specs.Prelude.{◌≡◌, ◌≤◌, ◌<◌, length, map};
-ghost use Rattle.query_syntax.specs.Boxes.{box, chosen, is_in_tile, are_in_sets, inside, total};
+ghost use Rattle.query_syntax.specs.Boxes.{box, chosen, are_in_sets, inside, total};
+ghost use Rattle.cube_view.specs.Places.{in_tile};
 ghost use Rattle.query_syntax.specs.Tables.{with_value};
 
 use crate::{Choice, Query};
@@ -10,7 +11,7 @@ use cube_view::{Point, Schema, Spot, Tile};
 fn lies_in(depth: u8, tile: Tile, spot: &Spot) -> bool
     requires depth { depth ≤ 20 }
     requires level { tile.z ≤ depth }
-    ensures { result ≡ is_in_tile depth tile spot.now }
+    ensures { result ≡ in_tile depth tile spot.now }
 {
     let by = depth - tile.z;
     spot.x >> by == tile.x && spot.y >> by == tile.y

@@ -1,26 +1,14 @@
 -- What valid queries have: a box that can be walked.
-use Rattle.std.proofs.Common.{◌≡◌, ℕ, ◌<◌, ◌≤◌, ◌^◌, true, eqb, ltb, leb, IsTrue, List, [], ◌∷◌, length}
+use Rattle.std.proofs.Common.{◌≡◌, ℕ, ◌<◌, ◌≤◌, ◌^◌, true, ltb, leb, IsTrue, List, [], ◌∷◌, length}
 use Rattle.std.proofs.lemmas.Bool.{and_parts, and_from, eqb-true, ltb-true, leb-true}
 use Rattle.cube_view.specs.declared.category.Category.{Category}
 use Rattle.cube_view.specs.declared.schema.Schema.{Schema}
-use Rattle.query_syntax.specs.Queries.{is_choice, are_choices, is_span, is_valid_query, filters_fit_verb}
-use Rattle.query_syntax.specs.Tiles.{is_tile}
+use Rattle.query_syntax.specs.Queries.{is_choice, are_choices, is_valid_query}
+use Rattle.query_syntax.specs.ValidParts.{valid_parts}
 use Rattle.query_syntax.specs.declared.query.Choice.{Choice}
 use Rattle.query_syntax.specs.declared.query.Choice.TheVariants.{All, Only}
 use Rattle.query_syntax.specs.declared.query.Query.{Query}
 use Rattle.query_walk.specs.Walks.{is_walkable, are_walkable, HasBox}
-
--- the tile, the sets and the span of a valid query
-valid_parts : (z : Schema) (q : Query) → IsTrue (is_valid_query z q) → IsTrue (is_tile z.depth q.region) × IsTrue (eqb (length q.sets) 4) × IsTrue (are_choices z.categories q.sets) × IsTrue (is_span q.time)
-unfolding is_valid_query
-valid_parts z q valid =
-    let a = and_parts _ (filters_fit_verb q) valid in
-    let b = and_parts _ (is_span q.time) a.0 in
-    let c = and_parts _ (are_choices z.categories q.sets) b.0 in
-    let d = and_parts _ (eqb (length q.sets) 4) c.0 in
-    let e = and_parts _ _ d.0 in
-    let f = and_parts _ (is_tile z.depth q.region) e.0 in
-    (f.1, d.1, c.1, b.1)
 
 choice_walkable : (count : ℕ) (x : Choice) → is_choice count x ≡ true → is_walkable x ≡ true
 choice_walkable count All e = e
@@ -37,10 +25,10 @@ pub valid_has_box : (z : Schema) (q : Query) → IsTrue (is_valid_query z q) →
 valid_has_box z q valid =
     let parts = valid_parts z q valid in
     record {
-      region = parts.0;
-      wide = eqb-true _ _ parts.1;
-      choices = choices_walkable z.categories q.sets parts.2;
-      order = leb-true _ _ (and_parts (leb q.time.from q.time.to) _ parts.3).0;
+      region = parts.region;
+      wide = eqb-true _ _ parts.places;
+      choices = choices_walkable z.categories q.sets parts.sets;
+      order = leb-true _ _ (and_parts (leb q.time.from q.time.to) _ parts.time).0;
     }
 
 -- What a box that can be walked has

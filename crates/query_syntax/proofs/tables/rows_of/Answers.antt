@@ -1,6 +1,7 @@
 use Rattle.std.proofs.Common.{sym, ◌∙◌, arith, ⊎_elim}
 use Rattle.query_syntax.specs.declared.query.Verb.TheVariants.{Stat, Told, Quit}
-use Rattle.query_syntax.proofs.TableRows.{region_above, region_within, hist_known, map_above, series_small, rows_at}
+use Rattle.query_syntax.proofs.TableRows.{rows_at}
+use Rattle.query_syntax.specs.ValidParts.{region_above, region_within, hist_known, map_above, series_small}
 use Rattle.query_syntax.proofs.tables.rows_of.Goals as goal
 
 pub one_row-requires : goal.one_row-requires
