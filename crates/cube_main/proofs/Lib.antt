@@ -7,3 +7,4 @@ mod Points
 mod Heading
 mod Loaded
 mod Demoed
+mod InputLimit

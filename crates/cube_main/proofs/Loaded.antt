@@ -1,9 +1,10 @@
 -- A feed that is read from its start: its header, then its points.
-use Rattle.std.proofs.Common.{◌≡◌, ℕ, ◌+◌, ◌<◌, ◌≤◌, Bool, true, false, not, ◌||◌, nat_lt, List, [], ◌∷◌, ◌++◌, map, drop, length, Option, Some, None, option_map, Result, Ok, Err, is_ok, refl, sym, ◌∙◌, ap, subst, arith, zero-add, OnOk, IsSomeAnd, MatchOption}
-use Rattle.std.proofs.lemmas.Grind.{common_steps}
+use Rattle.std.proofs.Common.{◌≡◌, ℕ, ◌+◌, ◌<◌, ◌≤◌, true, false, not, ◌||◌, nat_lt, List, [], ◌∷◌, ◌++◌, map, drop, length, Option, Some, None, option_map, Result, Ok, Err, is_ok, refl, sym, ◌∙◌, ap, subst, zero-add, OnOk, IsSomeAnd, MatchOption}
+use Rattle.std.proofs.Math.Bool.{or-true}
 use Rattle.std.specs.Bool.{⊤}
 use Rattle.cube_main.specs.Progress.{Passes, PassesAll, IsTooLarge}
 use Rattle.cube_main.specs.Feeds.{IsHeadRefused, is_feed_refused}
+use Rattle.cube_main.proofs.InputLimit.{over_limit, under_limit}
 use Rattle.cube_view.specs.Points.{Point}
 use Rattle.cube_view.specs.declared.schema.Schema.{Schema}
 use Rattle.feed_reader.specs.Feeds.{head_of_lines, rows_under, points_in, feed_head, rows, accepted}
@@ -16,14 +17,10 @@ refused_by_head : (schema : Schema) (feed : List ℕ) → is_ok (head_of_lines s
 unfolding is_feed_refused feed_head
 refused_by_head schema feed bad = ap (λ b. not b || nat_lt input_limit (length feed)) bad
 
-or_true : (b : Bool) → b || true ≡ true
-or_true true = refl
-or_true false = refl
-
 -- a feed over the limit is refused
 refused_by_size : (schema : Schema) (feed : List ℕ) → nat_lt input_limit (length feed) ≡ true → is_feed_refused schema feed ≡ true
 unfolding is_feed_refused
-refused_by_size schema feed large = ap (λ b. not (is_ok (feed_head schema feed)) || b) large ∙ or_true (not (is_ok (feed_head schema feed)))
+refused_by_size schema feed large = ap (λ b. not (is_ok (feed_head schema feed)) || b) large ∙ or-true (not (is_ok (feed_head schema feed)))
 
 -- a feed with a header that is within the limit is not
 not_refused : (schema : Schema) (feed : List ℕ) → is_ok (head_of_lines schema (lines feed)) ≡ true → nat_lt input_limit (length feed) ≡ false → is_feed_refused schema feed ≡ false
@@ -40,12 +37,6 @@ unfolding accepted rows feed_head
 accepted_of schema feed places line rest is head =
     ap (λ ls. points_in (rows_under schema (head_of_lines schema ls) (drop 1 ls))) is
     ∙ ap (λ h. points_in (rows_under schema h rest)) (head_of_first schema line rest ∙ head)
-
-under_limit : (n : ℕ) → n ≤ input_limit → nat_lt input_limit n ≡ false
-under_limit n small = grind (arith, common_steps)
-
-over_limit : (n : ℕ) → input_limit < n → nat_lt input_limit n ≡ true
-over_limit n large = grind (arith, common_steps)
 
 -- of the bytes that are told
 both : {A : Type 0} (o : Option A) (P Q R : A → Type 0) → ((x : A) → P x → Q x → R x) → MatchOption o ⊤ P → MatchOption o ⊤ Q → MatchOption o ⊤ R

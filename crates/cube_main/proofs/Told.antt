@@ -1,23 +1,14 @@
 -- What a new cutter has left, where its source tells its bytes, and which scripts are refused.
-use Rattle.std.proofs.Common.{◌≡◌, ℕ, ◌+◌, ◌<◌, ◌≤◌, Bool, List, [], ◌++◌, length, true, false, not, ◌&&◌, nat_lt, Option, Some, option_map, ◌⊎◌, inl, inr, refl, ◌∙◌, ap, subst, arith, zero-add, MatchOption}
-use Rattle.std.proofs.lemmas.Grind.{common_steps}
+use Rattle.std.proofs.Common.{◌≡◌, ℕ, ◌+◌, ◌<◌, ◌≤◌, List, [], ◌++◌, length, true, false, not, ◌&&◌, nat_lt, Option, Some, option_map, ◌⊎◌, inl, inr, ◌∙◌, ap, subst, zero-add, MatchOption}
+use Rattle.std.proofs.Math.Bool.{and-false}
 use Rattle.std.specs.Bool.{⊤}
 use Rattle.cube_main.specs.Progress.{IsTooLarge, IsWithinLimit}
 use Rattle.cube_main.specs.Replies.{has_quit}
 use Rattle.cube_main.specs.Scripts.{is_script_refused}
+use Rattle.cube_main.proofs.InputLimit.{over_limit, under_limit}
 use Rattle.cube_view.specs.declared.schema.Schema.{Schema}
 use Rattle.outer_io.specs.Cutting.{Cutter, IsNew, lines_left, input_size}
 use Rattle.outer_io.specs.Lines.{Line, lines, lines_from, input_limit}
-
-over_limit : (n : ℕ) → input_limit < n → nat_lt input_limit n ≡ true
-over_limit n large = grind (arith, common_steps)
-
-under_limit : (n : ℕ) → n ≤ input_limit → nat_lt input_limit n ≡ false
-under_limit n small = grind (arith, common_steps)
-
-and_false : (b : Bool) → b && false ≡ false
-and_false true = refl
-and_false false = refl
 
 module _ {S : Type 0} (left : S → Option (List ℕ)) (source : S) (c : Cutter S) (bytes : List ℕ) where
   told_lines : IsNew source c → left source ≡ Some bytes → lines_left left c ≡ Some (lines bytes)
@@ -41,7 +32,7 @@ module _ {S : Type 0} (left : S → Option (List ℕ)) (source : S) (c : Cutter 
   script_taken schema new told (inl within) =
       ap (λ b. b && not (has_quit schema (lines bytes))) (under_limit (length bytes) (of_told_size (λ n. n ≤ input_limit) new told within))
   script_taken schema new told (inr quit) =
-      ap (λ b. nat_lt input_limit (length bytes) && not b) (of_told (λ all. has_quit schema all ≡ true) new told quit) ∙ and_false (nat_lt input_limit (length bytes))
+      ap (λ b. nat_lt input_limit (length bytes) && not b) (of_told (λ all. has_quit schema all ≡ true) new told quit) ∙ and-false (nat_lt input_limit (length bytes))
 
   -- one with too much and no `quit` is refused
   pub script_refused : (schema : Schema) → IsNew source c → left source ≡ Some bytes → IsTooLarge left c → MatchOption (lines_left left c) ⊤ (λ all. has_quit schema all ≡ false) → is_script_refused schema bytes ≡ true

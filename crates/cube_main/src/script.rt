@@ -28,6 +28,16 @@ pub(crate) enum ScriptFault {
     TooMuch,
 }
 
+impl From<NoMemory> for ScriptFault {
+    ghost use Rattle.cube_main.specs.declared.script.ScriptFault.TheVariants as fault;
+
+    ghost from_gives = { λ _ e. e ≡ fault.NoMemory };
+
+    fn from(_fault: NoMemory) -> ScriptFault {
+        ScriptFault::NoMemory
+    }
+}
+
 /// The answer to the next line, or none at the end of the script.
 fn next_served<S: Source>(
     alloc: Global,
@@ -43,14 +53,8 @@ fn next_served<S: Source>(
     ensures quiet { (result ≢ Err ScriptFault.Read) → S.faults cutter.new.source ≡ S.faults cutter.old.source }
 {
     match cutter.next() {
-        Ok(Cut::Line(line, _)) => match serve_line(alloc, cube, line.as_slice()) {
-            Ok(served) => Ok(Some(served)),
-            Err(NoMemory) => Err(ScriptFault::NoMemory),
-        },
-        Ok(Cut::Long(_)) => match serve_long(alloc, cube) {
-            Ok(served) => Ok(Some(served)),
-            Err(NoMemory) => Err(ScriptFault::NoMemory),
-        },
+        Ok(Cut::Line(line, _)) => Ok(Some(serve_line(alloc, cube, line.as_slice())?)),
+        Ok(Cut::Long(_)) => Ok(Some(serve_long(alloc, cube)?)),
         Ok(Cut::End) => Ok(None),
         Err(CutFault::Read) => Err(ScriptFault::Read),
         Err(CutFault::TooMuch) => Err(ScriptFault::TooMuch),

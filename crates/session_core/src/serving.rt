@@ -34,10 +34,8 @@ fn line_of(alloc: Global, reply: &Reply) -> Result<Served, NoMemory>
     ensures { IfOk result (λ served. served ≡ Served.Reply (reply_line reply.now)) }
 {
     let mut line = print_reply(alloc, reply)?;
-    match line.push(b'\n') {
-        Ok(()) => Ok(Served::Reply(line)),
-        Err(_) => Err(NoMemory),
-    }
+    line.add(b'\n')?;
+    Ok(Served::Reply(line))
 }
 
 /// The line of a query's table.
