@@ -1,8 +1,9 @@
 //! A cube as its readers see it.
-ghost use Rattle.std.specs.Prelude.{◌≡◌, ℕ, ◌+◌, ◌<◌, ◌≤◌, ◌≢◌, List, IfSome, MatchOption};
-ghost use Rattle.cube_view.specs.Bag.{amount, anywhere, Counts, IsBag};
-ghost use Rattle.cube_view.specs.Places.{time_dim, deepest, is_below, is_below_from, is_before, top_address, longer, next_dim};
-ghost use Rattle.cube_view.specs.Points.{Point};
+ghost use Rattle.std.specs.Prelude.{◌≡◌, ℕ, ◌+◌, ◌<◌, ◌≤◌, ◌≢◌, IfSome};
+ghost use Rattle.cube_view.specs.Bag.{amount, anywhere, EachCounted, IsBag};
+ghost use Rattle.cube_view.specs.Costs.{ViewCosts};
+ghost use Rattle.cube_view.specs.Found.{SomeIfAny, IsNextLabel};
+ghost use Rattle.cube_view.specs.Places.{time_dim, deepest, is_below, is_before, top_address, longer, next_dim};
 ghost use Rattle.cube_view.specs.declared.address.Address.{Address};
 ghost use Rattle.cube_view.specs.declared.schema.Schema.{Schema};
 ghost use Rattle.cube_view.specs.declared.spot.Spot.{Spot};
@@ -12,8 +13,7 @@ use crate::{Schema, Stat};
 use probe_core::Steps;
 use std::sync::ledger::Ledger;
 
-/// A bag of spots that is read by cursors. Each clause on numbers speaks of any list `h` of points that
-/// the bag counts.
+/// A bag of spots that is read by cursors. Each clause on amounts speaks of any list `h` of points that the bag counts.
 pub trait CubeView: Drop {
     /// Where a walk stands. Every call with a cursor asks that it stands in this view.
     type Cursor: Copy + Send + Sync;
@@ -33,13 +33,13 @@ pub trait CubeView: Drop {
     /// The address at which a cursor stands.
     ghost address: { Self → Self.Cursor → Address };
 
-    /// At most how many steps `down` and `next_label` take at an address.
-    ghost down_cost: { Self → Address → ℕ };
+    /// At most how many steps the calls take at an address.
+    ghost costs: { Self → ViewCosts };
 
-    /// At most how many steps `before` takes at an address.
-    ghost before_cost: { Self → Address → ℕ };
+    /// The structure's numbers.
+    ghost numbers: { Self → Stat };
 
-    /// The test that the numbers of `stat` meet.
+    /// The test that the numbers meet.
     ghost is_stat: { Stat → Type 0 };
 
     /// The schema.
@@ -57,7 +57,7 @@ pub trait CubeView: Drop {
 
     /// The structure's numbers.
     fn stat(&self) -> Stat
-        ensures { is_stat result };
+        ensures { result ≡ numbers self.now };
 
     /// To the address that is longer by the label, if the bag has a spot under it.
     fn down<L: Ledger>(
@@ -68,9 +68,9 @@ pub trait CubeView: Drop {
     ) -> Option<Self::Cursor>
         requires stands { stands self.now cursor }
         requires above { (address self.now cursor).level < deepest (schema self.now) (address self.now cursor).dim }
-        ensures found { (h : List Point) → Counts (weight_at self.now) (seen self.now) h → let under = amount (is_below (schema self.now) (address self.now cursor) label) h in MatchOption result (under ≡ 0) (λ _. 0 < under) }
+        ensures found { EachCounted (weight_at self.now) (seen self.now) (λ h. SomeIfAny result (amount (is_below (schema self.now) (address self.now cursor) label) h)) }
         ensures place { IfSome result (λ d. stands self.now d × (address self.now d ≡ longer (address self.now cursor) label)) }
-        ensures cost { steps.new ≤ steps.old + down_cost self.now (address self.now cursor) };
+        ensures cost { steps.new ≤ steps.old + (costs self.now).down_cost (address self.now cursor) };
 
     /// The least label from `from` on under which the bag has a spot, if there is one.
     fn next_label<L: Ledger>(
@@ -81,14 +81,14 @@ pub trait CubeView: Drop {
     ) -> Option<u8>
         requires stands { stands self.now cursor }
         requires above { (address self.now cursor).level < deepest (schema self.now) (address self.now cursor).dim }
-        ensures found { (h : List Point) → Counts (weight_at self.now) (seen self.now) h → MatchOption result (amount (is_below_from (schema self.now) (address self.now cursor) from) h ≡ 0) (λ l. (from ≤ l) × (0 < amount (is_below (schema self.now) (address self.now cursor) l) h) × ((k : ℕ) → from ≤ k → k < l → amount (is_below (schema self.now) (address self.now cursor) k) h ≡ 0)) }
-        ensures cost { steps.new ≤ steps.old + down_cost self.now (address self.now cursor) };
+        ensures found { EachCounted (weight_at self.now) (seen self.now) (IsNextLabel (schema self.now) (address self.now cursor) from result) }
+        ensures cost { steps.new ≤ steps.old + (costs self.now).down_cost (address self.now cursor) };
 
     /// To level 0 of the next dimension, if the bag is not empty.
     fn across<L: Ledger>(&self, cursor: Self::Cursor, steps: &mut Steps<L>) -> Option<Self::Cursor>
         requires stands { stands self.now cursor }
         requires before_time { (address self.now cursor).dim ≢ time_dim (schema self.now) }
-        ensures found { (h : List Point) → Counts (weight_at self.now) (seen self.now) h → MatchOption result (amount anywhere h ≡ 0) (λ _. 0 < amount anywhere h) }
+        ensures found { EachCounted (weight_at self.now) (seen self.now) (λ h. SomeIfAny result (amount anywhere h)) }
         ensures place { IfSome result (λ d. stands self.now d × (address self.now d ≡ next_dim (address self.now cursor))) }
         ensures cost { steps.new ≤ steps.old + 1 };
 
@@ -96,9 +96,12 @@ pub trait CubeView: Drop {
     fn before<L: Ledger>(&self, cursor: Self::Cursor, bin_end: u64, steps: &mut Steps<L>) -> u64
         requires stands { stands self.now cursor }
         requires time { (address self.now cursor).dim ≡ time_dim (schema self.now) }
-        ensures total { (h : List Point) → Counts (weight_at self.now) (seen self.now) h → result ≡ amount (is_before (schema self.now) (address self.now cursor) bin_end) h }
-        ensures cost { steps.new ≤ steps.old + before_cost self.now (address self.now cursor) };
+        ensures total { EachCounted (weight_at self.now) (seen self.now) (λ h. result ≡ amount (is_before (schema self.now) (address self.now cursor) bin_end) h) }
+        ensures cost { steps.new ≤ steps.old + (costs self.now).before_cost (address self.now cursor) };
 
-    /// The bag counts some list, its sum is small, and it is empty only where it is of no points.
+    /// The bag counts some list, it is of few points, and each weighs something and not much.
     ghost bag: { (v : Self) → IsBag (weight_at v) (seen v) };
+
+    /// The structure's numbers meet the test.
+    ghost structure: { (v : Self) → is_stat (numbers v) };
 }
