@@ -5,14 +5,7 @@ use Rattle.cube_view.specs.Limits.{column_names}
 use Rattle.cube_view.specs.declared.category.Category.{Category}
 use Rattle.cube_view.specs.declared.schema.Schema.{Schema}
 use Rattle.feed_reader.proofs.Lists.{FailsBelow, position_found, position_none}
-use Rattle.feed_reader.specs.Columns.{needed_names, needed_count, column_at, first_column}
-
-pub column_found : (test : List ℕ → Bool) (schema : Schema) (place : ℕ) → place < needed_count schema → FailsBelow test (needed_names schema) [] place
-    → test (get_or (needed_names schema) place []) ≡ true → first_column test schema ≡ Some (column_at place)
-column_found test schema place within below here = rw (position_found test (needed_names schema) [] place within below here) refl
-
-pub column_none : (test : List ℕ → Bool) (schema : Schema) → FailsBelow test (needed_names schema) [] (needed_count schema) → first_column test schema ≡ None
-column_none test schema below = rw (position_none test (needed_names schema) [] below) refl
+use Rattle.feed_reader.specs.Columns.{needed_names, needed_count, column_at}
 
 -- from the fourth on, the names are those of the categories
 pub category_name : (categories : List Category) (place : ℕ) (c : Category) → 3 ≤ place → place < length (column_names categories)

@@ -1,5 +1,5 @@
 -- The columns that a feed must have: x, y, time and then the categories in the schema's order.
-use Rattle.std.specs.Prelude.{ℕ, zero, suc, Bool, List, Option, option_map, length, position}
+use Rattle.std.specs.Prelude.{ℕ, zero, suc, List, length}
 use Rattle.cube_view.specs.Limits.{column_names}
 use Rattle.cube_view.specs.declared.schema.Schema.{Schema}
 use Rattle.feed_reader.specs.declared.column.Column.{Column}
@@ -19,7 +19,3 @@ column_at zero = column.X
 column_at (suc zero) = column.Y
 column_at (suc (suc zero)) = column.Time
 column_at (suc (suc (suc k))) = column.Category k
-
--- the first needed column whose name passes the test
-abbrev pub first_column : (List ℕ → Bool) → Schema → Option Column
-first_column test schema = option_map column_at (position test (needed_names schema))

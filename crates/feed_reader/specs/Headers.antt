@@ -1,10 +1,12 @@
 -- What the first line of a feed means: the place of each needed column in a line, or the first fault.
-use Rattle.std.specs.Prelude.{ℕ, Bool, ◌==◌, nat_lt, List, map, Option, Some, None, option_map, Result, Ok, Err, count_by}
+use Rattle.std.specs.Prelude.{ℕ, Bool, ◌==◌, nat_lt, List, map, Option, Some, None, option_map, Result, Ok, Err, count_by, position}
 use Rattle.std.specs.List.{position_or_len}
+use Rattle.std.specs.Option.{option_or}
 use Rattle.cube_view.specs.Limits.{same_text}
 use Rattle.cube_view.specs.declared.schema.Schema.{Schema}
-use Rattle.feed_reader.specs.Columns.{needed_names, first_column}
+use Rattle.feed_reader.specs.Columns.{needed_names, column_at}
 use Rattle.feed_reader.specs.Records.{record_of}
+use Rattle.feed_reader.specs.declared.column.Column.{Column}
 use Rattle.feed_reader.specs.declared.header.HeadFault.{HeadFault}
 use Rattle.feed_reader.specs.declared.header.HeadFault.TheVariants as head
 
@@ -12,13 +14,17 @@ use Rattle.feed_reader.specs.declared.header.HeadFault.TheVariants as head
 abbrev pub count_of : List (List ℕ) → List ℕ → ℕ
 count_of fields name = count_by (same_text name) fields
 
--- no field is the name
-abbrev pub is_absent : List (List ℕ) → List ℕ → Bool
-is_absent fields name = count_of fields name == 0
+-- how many fields are the name of each needed column
+abbrev pub counts_of : Schema → List (List ℕ) → List ℕ
+counts_of schema fields = map (count_of fields) (needed_names schema)
 
--- two fields or more are the name
-abbrev pub is_repeated : List (List ℕ) → List ℕ → Bool
-is_repeated fields name = nat_lt 1 (count_of fields name)
+-- the needed column at the first place whose number passes the test
+abbrev pub first_column : (ℕ → Bool) → List ℕ → Option Column
+first_column test counts = option_map column_at (position test counts)
+
+-- the fault of a header in which so many fields are the name of each needed column, if it has one
+abbrev pub column_fault : List ℕ → Option HeadFault
+column_fault counts = option_or (option_map head.NoColumn (first_column (λ n. n == 0) counts)) (option_map head.TwoColumns (first_column (λ n. nat_lt 1 n) counts))
 
 -- the place of the first text of the list that is this one, from 0
 abbrev pub place_in : List (List ℕ) → List ℕ → ℕ
@@ -31,10 +37,7 @@ unless_fault (Some f) r = Err f
 
 -- what a header's fields mean
 abbrev pub head_of_fields : Schema → List (List ℕ) → Result (List ℕ) HeadFault
-head_of_fields schema fields =
-    unless_fault (option_map head.NoColumn (first_column (is_absent fields) schema))
-    (unless_fault (option_map head.TwoColumns (first_column (is_repeated fields) schema))
-    (Ok (map (place_in fields) (needed_names schema))))
+head_of_fields schema fields = unless_fault (column_fault (counts_of schema fields)) (Ok (map (place_in fields) (needed_names schema)))
 
 -- what a header means whose fields are known, or that has not one record
 abbrev pub head_of_record : Schema → Option (List (List ℕ)) → Result (List ℕ) HeadFault

@@ -1,5 +1,6 @@
 pub mod Columns
 pub mod Records
+pub mod Headings
 pub mod Headers
 pub mod Rows
 pub mod Feeds

@@ -1,7 +1,7 @@
 //! Headers: in which column of a feed each part of a record stands.
-ghost use Rattle.std.specs.Prelude.{◌≡◌, ◌≢◌, ◌<◌, IfOk, IfErr, Ok, Err, Some, [], length, map, get_or, nat_lt, ◌==◌};
-ghost use Rattle.feed_reader.specs.Columns.{needed_names, needed_count, column_at, first_column};
-ghost use Rattle.feed_reader.specs.Headers.{head_of, is_absent, is_repeated, place_in};
+ghost use Rattle.std.specs.Prelude.{◌≡◌, ◌≢◌, ◌<◌, IfOk, IfErr, IfSome, position, Ok, Err, Some, [], length, map, get_or, nat_lt, ◌==◌};
+ghost use Rattle.feed_reader.specs.Columns.{needed_names, needed_count, column_at};
+ghost use Rattle.feed_reader.specs.Headers.{column_fault, counts_of, head_of, place_in};
 ghost use Rattle.feed_reader.specs.Rows.{row_of, row_of_record, IsValidRow};
 
 use crate::fields::Fields;
@@ -11,6 +11,7 @@ use cube_view::Schema;
 use outer_io::{List, NoMemory};
 use std::alloc::Global;
 use std::marker::Model;
+use std::snapshot::Snapshot;
 
 /// Why a line is no header.
 #[derive(Clone, Copy, PartialEq, Eq, Debug)]
@@ -21,18 +22,33 @@ pub enum HeadFault {
     NoMemory,
 }
 
-/// The place of each needed column in a line, from 0: x, y, time and then the categories.
+impl From<NoMemory> for HeadFault {
+    ghost use Rattle.feed_reader.specs.declared.header.HeadFault.TheVariants as fault;
+
+    ghost from_gives = { λ _ e. e ≡ fault.NoMemory };
+
+    fn from(_fault: NoMemory) -> HeadFault {
+        HeadFault::NoMemory
+    }
+}
+
+/// The place of each needed column in a line, from 0, under the schema that the header was read with.
 #[derive(Drop)]
 pub struct Header {
     places: List<usize>,
+    schema: Snapshot<Schema>,
 }
 
 impl Model for Header {
-    ghost use Rattle.std.specs.Prelude.{List, ℕ};
+    ghost use Rattle.std.specs.Prelude.{◌≡◌, length};
+    ghost use Rattle.feed_reader.specs.Columns.{needed_count};
+    ghost use Rattle.feed_reader.specs.Headings.{Heading};
 
-    ghost Value = { List ℕ };
+    ghost Value = { Heading };
 
-    ghost view = { λ header. header.places };
+    ghost view = { λ header. record { schema = header.schema.value; places = header.places } };
+
+    ghost invariant = { λ header. length header.places ≡ needed_count header.schema.value };
 }
 
 // How many columns are needed.
@@ -69,28 +85,42 @@ fn needed_name(schema: &Schema, place: usize) -> &[u8]
     }
 }
 
-// The first needed column that no field names.
-fn first_absent(schema: &Schema, fields: &Fields) -> Option<Column>
-    ensures { result ≡ first_column (is_absent fields.now) schema.now }
+// How many fields each needed column's name is.
+fn counts(alloc: Global, schema: &Schema, fields: &Fields) -> Result<List<usize>, NoMemory>
+    ensures { IfOk result (λ counts. counts ≡ counts_of schema.now fields.now) }
 {
+    let mut counts = List::new(alloc);
     for place in 0..needed_count(schema) {
-        if fields.count(needed_name(schema, place)) == 0 {
-            return Some(column_at(place));
-        }
+        counts.add(fields.count(needed_name(schema, place)))?;
     }
-    None
+    Ok(counts)
 }
 
-// The first needed column that two fields or more name.
-fn first_repeated(schema: &Schema, fields: &Fields) -> Option<Column>
-    ensures { result ≡ first_column (is_repeated fields.now) schema.now }
+// The first place of a 0.
+fn first_absent(counts: &[usize]) -> Option<usize>
+    ensures place { result ≡ position (λ count. count == 0) counts.now }
+    ensures within { IfSome result (λ place. place < length counts.now) }
 {
-    for place in 0..needed_count(schema) {
-        if fields.count(needed_name(schema, place)) > 1 {
-            return Some(column_at(place));
-        }
+    counts.iter().position(|count| *count == 0)
+}
+
+// The first place of a number over 1.
+fn first_repeated(counts: &[usize]) -> Option<usize>
+    ensures place { result ≡ position (λ count. nat_lt 1 count) counts.now }
+    ensures within { IfSome result (λ place. place < length counts.now) }
+{
+    counts.iter().position(|count| *count > 1)
+}
+
+// The fault of a header in which so many fields are the name of each needed column, if it has one.
+fn column_fault(counts: &[usize]) -> Option<HeadFault>
+    requires { length counts.now < 8 }
+    ensures { result ≡ column_fault counts.now }
+{
+    if let Some(place) = first_absent(counts) {
+        return Some(HeadFault::NoColumn(column_at(place)));
     }
-    None
+    first_repeated(counts).map(|place| HeadFault::TwoColumns(column_at(place)))
 }
 
 // The place of each needed column in the line.
@@ -107,32 +137,27 @@ fn places(alloc: Global, schema: &Schema, fields: &Fields) -> Result<List<usize>
 impl Header {
     /// The header that a line is. After `NoMemory` nothing is said of the line.
     pub fn read(alloc: Global, schema: &Schema, line: &[u8]) -> Result<Header, HeadFault>
-        ensures places { IfOk result (λ header. head_of schema.now line.now ≡ Ok header) }
-        ensures complete { IfOk result (λ header. length header ≡ needed_count schema.now) }
+        ensures places { IfOk result (λ header. head_of schema.now line.now ≡ Ok header.places) }
+        ensures schema { IfOk result (λ header. header.schema ≡ schema.now) }
         ensures fault { IfErr result (λ fault. fault ≢ HeadFault.NoMemory → head_of schema.now line.now ≡ Err fault) }
     {
-        let Ok(found) = Fields::read(alloc, line) else {
-            return Err(HeadFault::NoMemory);
-        };
-        let Some(fields) = found else {
+        let Some(fields) = Fields::read(alloc, line)? else {
             return Err(HeadFault::BadRow);
         };
-        if let Some(column) = first_absent(schema, &fields) {
-            return Err(HeadFault::NoColumn(column));
+        let counts = counts(alloc, schema, &fields)?;
+        if let Some(fault) = column_fault(counts.as_slice()) {
+            return Err(fault);
         }
-        if let Some(column) = first_repeated(schema, &fields) {
-            return Err(HeadFault::TwoColumns(column));
-        }
-        match places(alloc, schema, &fields) {
-            Ok(places) => Ok(Header { places }),
-            Err(NoMemory) => Err(HeadFault::NoMemory),
-        }
+        Ok(Header {
+            places: places(alloc, schema, &fields)?,
+            schema: Snapshot::of(schema),
+        })
     }
 
     /// What a line after the header is. It keeps nothing between lines.
     pub fn row(&self, alloc: Global, schema: &Schema, line: &[u8]) -> Result<Row, NoMemory>
-        requires { length self.now ≡ needed_count schema.now }
-        ensures meaning { IfOk result (λ row. row ≡ row_of schema.now self.now line.now) }
+        requires { self.now.schema ≡ schema.now }
+        ensures meaning { IfOk result (λ row. row ≡ row_of schema.now self.now.places line.now) }
         ensures valid { IfOk result (IsValidRow schema.now) }
     {
         if line.is_empty() {

@@ -86,6 +86,7 @@ fn reads_fields_as_csv_does(rt: HostRuntime) -> Result<(), Fail> {
         ("0,0,a,5\r", point(0, 0, 0, 0)),
         ("\r", Row::Refused(RowFault::BadRow)),
         ("0,0,a,5\r1,1,b,6", Row::Refused(RowFault::BadRow)),
+        ("0,0,a,5\r1", Row::Refused(RowFault::BadRow)),
         ("\u{FEFF}0,0,a,5", Row::Refused(RowFault::BadRow)),
         ("0,0,a,5,9,9", point(0, 0, 0, 0)),
         ("0,0,a", Row::Refused(RowFault::ShortRow)),
