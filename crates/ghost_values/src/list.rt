@@ -1,0 +1,36 @@
+//! A list that only contracts read.
+ghost use Rattle.std.specs.Prelude.{◌≡◌, List, [], ◌∷◌, ◌++◌};
+ghost use Rattle.std.specs.Borrow.{ftrue};
+
+use std::marker::{Model, PhantomData};
+
+/// A list that only contracts read, as `items`. It is Send and Sync where `T` is.
+#[derive(Drop)]
+pub struct GhostList<T> {
+    marker: PhantomData<T>,
+    pub ghost items: { List T },
+}
+
+impl<T> Model for GhostList<T> {
+    ghost also_owns = { λ _. ftrue };
+}
+
+impl<T> GhostList<T> {
+    /// No items.
+    pub fn new() -> GhostList<T>
+        ensures { result.items ≡ [] }
+    {
+        GhostList {
+            marker: PhantomData,
+        }
+    }
+
+    /// The list with one item more at its end.
+    pub fn and(&self, item: &T) -> GhostList<T>
+        ensures { result.items ≡ self.now.items ++ item.now ∷ [] }
+    {
+        GhostList {
+            marker: PhantomData,
+        }
+    }
+}

@@ -1,0 +1,36 @@
+//! One value that only contracts read.
+ghost use Rattle.std.specs.Prelude.{◌≡◌};
+ghost use Rattle.std.specs.Borrow.{ftrue};
+
+use std::marker::{Model, PhantomData};
+
+/// A value that only contracts read, as `value`. It is Send and Sync where `T` is.
+#[derive(Drop)]
+pub struct GhostValue<T> {
+    marker: PhantomData<T>,
+    pub ghost value: { T },
+}
+
+impl<T> Model for GhostValue<T> {
+    ghost also_owns = { λ _. ftrue };
+}
+
+impl<T> GhostValue<T> {
+    /// The value as it is now.
+    pub fn of(x: &T) -> GhostValue<T>
+        ensures { result.value ≡ x.now }
+    {
+        GhostValue {
+            marker: PhantomData,
+        }
+    }
+
+    /// The same value again.
+    pub fn again(&self) -> GhostValue<T>
+        ensures { result.value ≡ self.now.value }
+    {
+        GhostValue {
+            marker: PhantomData,
+        }
+    }
+}
