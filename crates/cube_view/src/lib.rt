@@ -18,6 +18,8 @@ mod labels;
 mod schema;
 mod spot;
 mod stat;
+#[cfg(test)]
+mod tests;
 mod texts;
 mod tiles;
 mod validity;
