@@ -1,6 +1,8 @@
-pub mod Items
 pub mod Objects
+pub mod InRange
+pub mod Distinct
 pub mod Limits
+pub mod PlanFiles
 pub mod Meanings
 pub mod PrintedBack
 pub mod PrintedSize

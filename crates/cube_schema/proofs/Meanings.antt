@@ -10,7 +10,7 @@ use Rattle.serde_json.specs.Read.{read}
 use Rattle.cube_schema.specs.declared.draft.Draft.{Draft}
 use Rattle.cube_schema.specs.declared.fault.PlanFault.{PlanFault}
 use Rattle.cube_schema.specs.declared.fault.PlanFault.TheVariants.{NotJson, NotObject, Missing, Unknown, OutOfRange, Repeated, TooLong}
-use Rattle.cube_schema.specs.Kinds.{◌>>=◌, or_fault, members_of}
+use Rattle.cube_schema.specs.Kinds.{◌>>=◌, found_or, members_of}
 use Rattle.cube_schema.specs.Members.{first_missing, least_unknown}
 use Rattle.cube_schema.specs.Ranges.{first_out_of_range}
 use Rattle.cube_schema.specs.Repeats.{first_repeated}
@@ -65,7 +65,7 @@ tested-passes draft meant e =
 pub meaning-passes : (bytes : List ℕ) (draft : Draft) → plan_meaning bytes ≡ Ok draft → (first_out_of_range draft ≡ None) × (first_repeated draft ≡ None)
 unfolding plan_meaning value_meaning
 meaning-passes bytes draft e =
-    let value = bind_ok (or_fault NotJson (json_value bytes)) value_meaning draft (cond_err_ok (nat_lt longest_plan (length bytes)) TooLong _ draft e) in
+    let value = bind_ok (found_or NotJson (json_value bytes)) value_meaning draft (cond_err_ok (nat_lt longest_plan (length bytes)) TooLong _ draft e) in
     let d = value.0 in
     let object = cond_ok (is_some (as_object d)) NotObject (object_meaning d) draft value.1 in
     let missing = unless_ok Missing (first_missing d) _ draft object in

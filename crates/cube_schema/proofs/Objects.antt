@@ -1,5 +1,5 @@
 -- The members of an object, as the code walks over them.
-use Rattle.std.proofs.Common.{Bool, true, false, cond, find, filter, string_cmp, Less, ◌≡◌, List, [], ◌∷◌, length, suc, map, ℕ, string_bytes, Some, None, String, Global, refl, ap, sym, ◌∙◌}
+use Rattle.std.proofs.Common.{Bool, true, false, cond, find, filter, string_cmp, Less, ◌≡◌, List, [], ◌∷◌, length, suc, map, ℕ, string_bytes, Some, String, Global, refl, ap, sym, ◌∙◌}
 use Rattle.std.specs.List.{AllByRecursion}
 use Rattle.std.specs.List.Sorted.{IsStrictlySortedBy}
 use Rattle.std.specs.Map.{keys_of}
@@ -18,15 +18,6 @@ names_of-object (number n) ms e = absurd cc
 names_of-object (string s) ms e = absurd cc
 names_of-object (array ds) ms e = absurd cc
 names_of-object (object ns) ms e = ap names_in cc
-
--- what is no object has no names
-pub names_of-other : (d : Data) → None ≡ as_object d → names_of d ≡ []
-names_of-other null e = refl
-names_of-other (boolean b) e = refl
-names_of-other (number n) e = refl
-names_of-other (string s) e = refl
-names_of-other (array ds) e = refl
-names_of-other (object ns) e = absurd cc
 
 pub length-names_in : (es : List (String Global × Value)) → length (names_in (members_view es)) ≡ length es
 length-names_in [] = refl

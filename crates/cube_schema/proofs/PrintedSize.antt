@@ -1,6 +1,7 @@
 -- A printed draft within its ranges nests little, has no float, and is short enough to be read.
 use Rattle.std.proofs.Common.{◌≡◌, ℕ, ◌+◌, ◌*◌, ◌≤◌, ◌<◌, ◌^◌, Bool, true, false, cond, List, [], ◌∷◌, ◌++◌, length, map, None, refl, arith, rules, tests, length-append}
 use Rattle.std.specs.Prelude.{max, codes, nat_lt, nat_le, ◌/◌, ◌%◌, ◌&&◌}
+use Rattle.std.proofs.lemmas.Bool.{and_parts}
 use Rattle.std.proofs.lemmas.Fmt.{length-decimal-le}
 use Rattle.std.specs.List.{list_all, AllByRecursion}
 use Rattle.std.specs.Char.{digit_char}
@@ -15,7 +16,8 @@ use Rattle.cube_schema.specs.declared.draft.Draft.{Draft}
 use Rattle.cube_schema.specs.Printed.{texts_value, category_value, categories_value, draft_members, draft_value}
 use Rattle.cube_schema.specs.Ranges.{is_file_name, are_files, first_out_of_range}
 use Rattle.cube_schema.specs.Meaning.{longest_plan}
-use Rattle.cube_schema.proofs.Limits.{are_in_range, and_parts, at_most, version_one}
+use Rattle.cube_schema.proofs.InRange.{are_in_range, at_most}
+use Rattle.cube_schema.proofs.Limits.{version_one}
 
 -- ---- how deep it nests
 

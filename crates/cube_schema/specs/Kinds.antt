@@ -8,11 +8,11 @@ use Rattle.cube_schema.specs.declared.member.Member.{Member}
 use Rattle.cube_schema.specs.declared.member.Member.TheVariants.{Asks, Batch, Categories, Depth, Feeds, Finals, Journal, Start, Version, Width}
 use Rattle.cube_schema.specs.declared.fault.PlanFault.{PlanFault}
 use Rattle.cube_schema.specs.declared.fault.PlanFault.TheVariants.{BadKind}
-use Rattle.cube_schema.specs.Members.{name_of, names_of}
+use Rattle.cube_schema.specs.Members.{member_name, names_of}
 
 -- a whole number: a JSON number that `serde_json` gives as a u64
-abbrev pub whole_number : Data → Option ℕ
-whole_number d = option_and_then as_u64 (as_number d)
+abbrev pub as_whole_number : Data → Option ℕ
+as_whole_number d = option_and_then as_u64 (as_number d)
 
 -- the items of an array, each read as the kind; none where one of them is of another
 abbrev pub items_as : {A : Type 0} → (Data → Option A) → Items → Option (List A)
@@ -39,13 +39,13 @@ abbrev pub categories : Data → Option (List Category)
 categories d = option_and_then (items_as category_of) (as_array d)
 
 -- what was found, or else the fault
-abbrev pub or_fault : {A : Type 0} → PlanFault → Option A → Result A PlanFault
-or_fault fault None = Err fault
-or_fault fault (Some a) = Ok a
+abbrev pub found_or : {A : Type 0} → PlanFault → Option A → Result A PlanFault
+found_or fault None = Err fault
+found_or fault (Some a) = Ok a
 
 -- the member of the object, read as its kind
 abbrev pub member_as : {A : Type 0} → (Data → Option A) → Data → Member → Result A PlanFault
-member_as kind d m = or_fault (BadKind m) (option_and_then kind (get (name_of m) d))
+member_as kind d m = found_or (BadKind m) (option_and_then kind (get (member_name m) d))
 
 infixl 10 ◌>>=◌
 -- what comes of the next step, or the fault of this one
@@ -58,13 +58,13 @@ abbrev pub ◌>>=◌ : {A B : Type 0} → Result A PlanFault → (A → Result B
 unfoldable pub members_of : Data → Result Draft PlanFault
 members_of d = do
   asks ← member_as texts d Asks
-  batch ← member_as whole_number d Batch
+  batch ← member_as as_whole_number d Batch
   categories ← member_as categories d Categories
-  depth ← member_as whole_number d Depth
+  depth ← member_as as_whole_number d Depth
   feeds ← member_as texts d Feeds
   finals ← member_as texts d Finals
   journal ← member_as as_str d Journal
-  start ← member_as whole_number d Start
-  version ← member_as whole_number d Version
-  width ← member_as whole_number d Width
+  start ← member_as as_whole_number d Start
+  version ← member_as as_whole_number d Version
+  width ← member_as as_whole_number d Width
   Ok (record { asks = asks; batch = batch; categories = categories; depth = depth; feeds = feeds; finals = finals; journal = journal; start = start; version = version; width = width })

@@ -5,3 +5,4 @@ pub mod Ranges
 pub mod Repeats
 pub mod Meaning
 pub mod Printed
+pub mod Files

@@ -10,7 +10,7 @@ use Rattle.cube_schema.specs.declared.fault.PlanFault.{PlanFault}
 use Rattle.cube_schema.specs.declared.fault.PlanFault.TheVariants.{NotJson, NotObject, Missing, Unknown, OutOfRange, Repeated, NoMemory, TooLong}
 use Rattle.cube_schema.specs.Members.{first_missing, least_unknown}
 use Rattle.cube_schema.specs.Drafts.{draft_of}
-use Rattle.cube_schema.specs.Kinds.{◌>>=◌, or_fault, members_of}
+use Rattle.cube_schema.specs.Kinds.{◌>>=◌, found_or, members_of}
 use Rattle.cube_schema.specs.Ranges.{first_out_of_range}
 use Rattle.cube_schema.specs.Repeats.{first_repeated}
 
@@ -41,13 +41,13 @@ json_value bytes = if is_utf8 bytes then read bytes else None
 
 -- what the bytes mean
 unfoldable pub plan_meaning : List ℕ → Result Draft PlanFault
-plan_meaning bytes = if nat_lt longest_plan (length bytes) then Err TooLong else or_fault NotJson (json_value bytes) >>= value_meaning
+plan_meaning bytes = if nat_lt longest_plan (length bytes) then Err TooLong else found_or NotJson (json_value bytes) >>= value_meaning
 
 -- no member of the plan is out of its range, and no text is repeated in it
 abbrev pub IsPrintable : Plan → Type 0
 IsPrintable plan = (first_out_of_range (draft_of plan) ≡ None) × (first_repeated (draft_of plan) ≡ None)
 
 -- what a step of reading answers, seen by `see`, is what is meant, unless memory ran out
-abbrev pub Gives : {A B : Type 0} → (A → B) → Result A PlanFault → Result B PlanFault → Type 0
-Gives see (Ok a) meant = meant ≡ Ok (see a)
-Gives see (Err f) meant = f ≢ NoMemory → meant ≡ Err f
+abbrev pub ReadsAs : {A B : Type 0} → (A → B) → Result A PlanFault → Result B PlanFault → Type 0
+ReadsAs see (Ok a) meant = meant ≡ Ok (see a)
+ReadsAs see (Err f) meant = f ≢ NoMemory → meant ≡ Err f

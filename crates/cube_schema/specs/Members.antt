@@ -15,17 +15,17 @@ abbrev pub plan_members : List Member
 plan_members = Asks ∷ Batch ∷ Categories ∷ Depth ∷ Feeds ∷ Finals ∷ Journal ∷ Start ∷ Version ∷ Width ∷ []
 
 -- the name of a member in the text of a plan
-abbrev pub name_of : Member → List ℕ
-name_of Asks = codes "asks"
-name_of Batch = codes "batch"
-name_of Categories = codes "categories"
-name_of Depth = codes "depth"
-name_of Feeds = codes "feeds"
-name_of Finals = codes "finals"
-name_of Journal = codes "journal"
-name_of Start = codes "start"
-name_of Version = codes "version"
-name_of Width = codes "width"
+abbrev pub member_name : Member → List ℕ
+member_name Asks = codes "asks"
+member_name Batch = codes "batch"
+member_name Categories = codes "categories"
+member_name Depth = codes "depth"
+member_name Feeds = codes "feeds"
+member_name Finals = codes "finals"
+member_name Journal = codes "journal"
+member_name Start = codes "start"
+member_name Version = codes "version"
+member_name Width = codes "width"
 
 -- the names of the members of an object
 abbrev pub names_in : Members → List (List ℕ)
@@ -43,11 +43,11 @@ names_of (object ms) = names_in ms
 
 -- the text is the name of a plan's member
 abbrev pub is_plan_name : List ℕ → Bool
-is_plan_name text = list_any (λ m. same_text (name_of m) text) plan_members
+is_plan_name text = list_any (λ m. same_text (member_name m) text) plan_members
 
 -- the object has no such member
 abbrev pub is_missing : Data → Member → Bool
-is_missing d m = is_none (get (name_of m) d)
+is_missing d m = is_none (get (member_name m) d)
 
 -- the first member of a plan that the object lacks
 abbrev pub first_missing : Data → Option Member

@@ -20,18 +20,18 @@ abbrev pub are_files : ℕ → List (List ℕ) → Bool
 are_files least names = is_between least 8 (length names) && list_all is_file_name names
 
 -- the member is within its range; a category's name, number of values and values count for `categories`
-abbrev pub in_range : Draft → Member → Bool
-in_range draft Asks = are_files 0 draft.asks
-in_range draft Batch = is_between 1 65536 draft.batch
-in_range draft Categories = categories_in_range draft.categories
-in_range draft Depth = is_between 1 20 draft.depth
-in_range draft Feeds = are_files 1 draft.feeds
-in_range draft Finals = are_files 0 draft.finals
-in_range draft Journal = is_file_name draft.journal
-in_range draft Start = true
-in_range draft Version = draft.version == 1
-in_range draft Width = nat_le 1 draft.width
+abbrev pub member_in_range : Draft → Member → Bool
+member_in_range draft Asks = are_files 0 draft.asks
+member_in_range draft Batch = is_between 1 65536 draft.batch
+member_in_range draft Categories = categories_in_range draft.categories
+member_in_range draft Depth = is_between 1 20 draft.depth
+member_in_range draft Feeds = are_files 1 draft.feeds
+member_in_range draft Finals = are_files 0 draft.finals
+member_in_range draft Journal = is_file_name draft.journal
+member_in_range draft Start = true
+member_in_range draft Version = draft.version == 1
+member_in_range draft Width = nat_le 1 draft.width
 
 -- the first member that is out of its range
 unfoldable pub first_out_of_range : Draft → Option Member
-first_out_of_range draft = find (λ m. not (in_range draft m)) plan_members
+first_out_of_range draft = find (λ m. not (member_in_range draft m)) plan_members

@@ -2,8 +2,8 @@
 ghost use Rattle.std.specs.Prelude.{◌≡◌, Some, codes, IfOk, length, option_map, option_and_then};
 ghost use Rattle.serde_json.specs.Find.{as_str, as_array, get};
 ghost use Rattle.serde_json.specs.View.{view, items_view};
-ghost use Rattle.cube_schema.specs.Kinds.{whole_number, texts, items_as, category_of, categories, member_as, members_of};
-ghost use Rattle.cube_schema.specs.Meaning.{Gives};
+ghost use Rattle.cube_schema.specs.Kinds.{as_whole_number, texts, items_as, category_of, categories, member_as, members_of};
+ghost use Rattle.cube_schema.specs.Meaning.{ReadsAs};
 ghost use Rattle.cube_schema.specs.Members.{names_of};
 
 use crate::draft::Draft;
@@ -82,7 +82,7 @@ fn categories_of(alloc: Global, items: &[Value]) -> Result<Option<List<Category>
 }
 
 fn number_at(value: &Value, member: Member) -> Result<u64, PlanFault>
-    ensures { result ≡ member_as whole_number (view value.now) member }
+    ensures { result ≡ member_as as_whole_number (view value.now) member }
 {
     match value.get(member.name()).and_then(Value::as_u64) {
         Some(number) => Ok(number),
@@ -91,7 +91,7 @@ fn number_at(value: &Value, member: Member) -> Result<u64, PlanFault>
 }
 
 fn text_at(alloc: Global, value: &Value, member: Member) -> Result<Text, PlanFault>
-    ensures { Gives (λ text. text) result (member_as as_str (view value.now) member) }
+    ensures { ReadsAs (λ text. text) result (member_as as_str (view value.now) member) }
 {
     match value.get(member.name()).and_then(Value::as_str) {
         Some(text) => Ok(Text::copy_of(alloc, text)?),
@@ -100,7 +100,7 @@ fn text_at(alloc: Global, value: &Value, member: Member) -> Result<Text, PlanFau
 }
 
 fn texts_at(alloc: Global, value: &Value, member: Member) -> Result<List<Text>, PlanFault>
-    ensures { Gives (λ texts. texts) result (member_as texts (view value.now) member) }
+    ensures { ReadsAs (λ texts. texts) result (member_as texts (view value.now) member) }
 {
     let Some(value) = value.get(member.name()) else {
         return Err(PlanFault::BadKind(member));
@@ -112,7 +112,7 @@ fn texts_at(alloc: Global, value: &Value, member: Member) -> Result<List<Text>, 
 }
 
 fn categories_at(alloc: Global, value: &Value, member: Member) -> Result<List<Category>, PlanFault>
-    ensures { Gives (λ categories. categories) result (member_as categories (view value.now) member) }
+    ensures { ReadsAs (λ categories. categories) result (member_as categories (view value.now) member) }
 {
     let Some(items) = value.get(member.name()).and_then(Value::as_array) else {
         return Err(PlanFault::BadKind(member));
@@ -126,7 +126,7 @@ fn categories_at(alloc: Global, value: &Value, member: Member) -> Result<List<Ca
 /// The members of a plan, each read as its kind.
 #[tactic(auto, unfolding(crate::specs::Kinds::members_of))]
 pub(crate) fn members_of(alloc: Global, value: &Value) -> Result<Draft, PlanFault>
-    ensures { Gives (λ draft. draft) result (members_of (view value.now)) }
+    ensures { ReadsAs (λ draft. draft) result (members_of (view value.now)) }
 {
     let asks = texts_at(alloc, value, Member::Asks)?;
     let batch = number_at(value, Member::Batch)?;

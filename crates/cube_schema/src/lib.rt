@@ -1,6 +1,15 @@
 //! Plans: what a run is told, as one JSON object. [`read_plan`] reads its bytes and [`print_plan`] writes them.
 //!
-//! What bytes mean is the definition `plan_meaning` of `specs/Meaning.antt`, which names the first fault.
+//! It stands on `cube_view` for the schema, `outer_io` for texts and lists, and `serde_json` for JSON. It opens no file:
+//! that is left to whoever runs the plan. What bytes mean is the definition `plan_meaning` of `specs/Meaning.antt`, which
+//! names the first fault.
+//!
+//! ```
+//! let text = r#"{"asks":[],"batch":1,"categories":[],"depth":3,"feeds":["a.csv"],"finals":[],"journal":"j.txt","start":0,"version":1,"width":10}"#;
+//! let plan = read_plan(alloc, text.as_bytes()).ok().ok_or("it is a plan")?;
+//! assert_eq!(rt; plan.feeds.as_slice().len(), 1);
+//! assert_eq!(rt; print_plan(alloc, &plan)?.as_slice(), text.as_bytes());
+//! ```
 #![tactic(auto)]
 
 mod draft;

@@ -31,11 +31,11 @@ pub(crate) const MEMBERS: [Member; 10] = [
 ];
 
 impl Member {
-    ghost use Rattle.cube_schema.specs.Members.{name_of};
+    ghost use Rattle.cube_schema.specs.Members.{member_name};
 
     /// Its name in the text of a plan.
     pub fn name(self) -> &'static str
-        ensures { result.now ≡ name_of self }
+        ensures { result.now ≡ member_name self }
     {
         match self {
             Member::Asks => "asks",

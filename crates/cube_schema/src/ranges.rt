@@ -2,7 +2,7 @@
 ghost use Rattle.std.specs.Prelude.{◌≡◌};
 ghost use Rattle.std.specs.List.{list_all};
 ghost use Rattle.cube_view.specs.Limits.{is_between, is_name_byte, is_category_name, is_value_byte, is_value, category_in_range, categories_in_range};
-ghost use Rattle.cube_schema.specs.Ranges.{is_file_byte, is_file_name, are_files, in_range, first_out_of_range};
+ghost use Rattle.cube_schema.specs.Ranges.{is_file_byte, is_file_name, are_files, member_in_range, first_out_of_range};
 
 use crate::Member;
 use crate::draft::Draft;
@@ -110,8 +110,8 @@ fn categories_in_range(categories: &[Category]) -> bool
     categories.len() <= 4 && all_in_range(categories)
 }
 
-fn in_range(draft: &Draft, member: Member) -> bool
-    ensures { result ≡ in_range draft.now member }
+fn member_in_range(draft: &Draft, member: Member) -> bool
+    ensures { result ≡ member_in_range draft.now member }
 {
     match member {
         Member::Asks => are_files(0, draft.asks.as_slice()),
@@ -135,5 +135,5 @@ pub(crate) fn first_out_of_range(draft: &Draft) -> Option<Member>
     MEMBERS
         .iter()
         .copied()
-        .find(|member| !in_range(draft, *member))
+        .find(|member| !member_in_range(draft, *member))
 }

@@ -3,8 +3,9 @@ ghost use Rattle.std.specs.Prelude.{◌≡◌, ◌≢◌, Ok, Err, None, IfOk, I
 ghost use Rattle.serde_json.specs.View.{view};
 ghost use Rattle.cube_schema.specs.declared.plan.Plan.{Plan};
 ghost use Rattle.cube_schema.specs.Drafts.{draft_of};
-ghost use Rattle.cube_schema.specs.Kinds.{or_fault};
-ghost use Rattle.cube_schema.specs.Meaning.{Gives, json_value, object_meaning, value_meaning, tested, plan_meaning, IsPrintable};
+ghost use Rattle.cube_schema.specs.Files.{NamesFiles};
+ghost use Rattle.cube_schema.specs.Kinds.{found_or};
+ghost use Rattle.cube_schema.specs.Meaning.{ReadsAs, json_value, object_meaning, value_meaning, tested, plan_meaning, IsPrintable};
 ghost use Rattle.cube_schema.specs.Ranges.{first_out_of_range};
 ghost use Rattle.cube_schema.specs.Repeats.{first_repeated};
 
@@ -23,7 +24,7 @@ const LONGEST_PLAN: usize = 1_048_576;
 
 #[tactic(auto, unfolding(crate::specs::Meaning::json_value))]
 fn json_value(alloc: Global, bytes: &[u8]) -> Result<Value, PlanFault>
-    ensures { Gives view result (or_fault PlanFault.NotJson (json_value bytes.now)) }
+    ensures { ReadsAs view result (found_or PlanFault.NotJson (json_value bytes.now)) }
 {
     match Value::from_slice(alloc, bytes) {
         Ok(value) => Ok(value),
@@ -34,7 +35,7 @@ fn json_value(alloc: Global, bytes: &[u8]) -> Result<Value, PlanFault>
 
 // The draft, if it is within its ranges and no text is repeated in it.
 fn tested(alloc: Global, draft: Draft) -> Result<Draft, PlanFault>
-    ensures { Gives (λ draft. draft) result (tested draft) }
+    ensures { ReadsAs (λ draft. draft) result (tested draft) }
 {
     if let Some(member) = first_out_of_range(&draft) {
         return Err(PlanFault::OutOfRange(member));
@@ -46,7 +47,7 @@ fn tested(alloc: Global, draft: Draft) -> Result<Draft, PlanFault>
 }
 
 fn object_meaning(alloc: Global, value: &Value) -> Result<Draft, PlanFault>
-    ensures { Gives (λ draft. draft) result (object_meaning (view value.now)) }
+    ensures { ReadsAs (λ draft. draft) result (object_meaning (view value.now)) }
 {
     if let Some(member) = first_missing(value) {
         return Err(PlanFault::Missing(member));
@@ -60,7 +61,7 @@ fn object_meaning(alloc: Global, value: &Value) -> Result<Draft, PlanFault>
 
 #[tactic(auto, unfolding(crate::specs::Meaning::value_meaning))]
 fn value_meaning(alloc: Global, value: &Value) -> Result<Draft, PlanFault>
-    ensures { Gives (λ draft. draft) result (value_meaning (view value.now)) }
+    ensures { ReadsAs (λ draft. draft) result (value_meaning (view value.now)) }
 {
     if value.is_object() {
         object_meaning(alloc, value)
@@ -98,7 +99,7 @@ fn plan_of(draft: Draft) -> Plan
 
 #[tactic(auto, unfolding(crate::specs::Meaning::plan_meaning))]
 fn plan_meaning(alloc: Global, bytes: &[u8]) -> Result<Draft, PlanFault>
-    ensures { Gives (λ draft. draft) result (plan_meaning bytes.now) }
+    ensures { ReadsAs (λ draft. draft) result (plan_meaning bytes.now) }
 {
     if bytes.len() > LONGEST_PLAN {
         return Err(PlanFault::TooLong);
@@ -107,12 +108,14 @@ fn plan_meaning(alloc: Global, bytes: &[u8]) -> Result<Draft, PlanFault>
     value_meaning(alloc, &value)
 }
 
-/// The plan that the bytes are, or the first fault.
+/// The plan that the bytes are, or the first fault. What is read can be printed, and names 1 to 8 feeds, at most 8 asks
+/// and 8 finals, and no file twice, the outputs of its scripts included.
 pub fn read_plan(alloc: Global, bytes: &[u8]) -> Result<Plan, PlanFault>
     ensures read { IfOk result (λ plan. plan_meaning bytes.now ≡ Ok (draft_of plan)) }
     ensures only { IfOk result (λ plan. (other : Plan) → plan_meaning bytes.now ≡ Ok (draft_of other) → plan ≡ other) }
     ensures refused { IfErr result (λ fault. fault ≢ PlanFault.NoMemory → plan_meaning bytes.now ≡ Err fault) }
     ensures printable { IfOk result IsPrintable }
+    ensures files { IfOk result NamesFiles }
 {
     let draft = plan_meaning(alloc, bytes)?;
     Ok(plan_of(draft))

@@ -5,13 +5,13 @@ use std::test::Fail;
 
 // The least plan, which the tables below change.
 const LEAST: &str =
-    "{\"asks\":[],\"batch\":1,\"categories\":[{\"name\":\"kind\",\"values\":[\"a\",\"b\"]}],\"depth\":3,\"feeds\":[\"a.csv\"],\"finals\":[],\"journal\":\"j.txt\",\"start\":0,\"version\":1,\"width\":10}";
+    r#"{"asks":[],"batch":1,"categories":[{"name":"kind","values":["a","b"]}],"depth":3,"feeds":["a.csv"],"finals":[],"journal":"j.txt","start":0,"version":1,"width":10}"#;
 
 const EXAMPLES: [&str; 4] = [
     LEAST,
-    "{\"asks\":[\"q.txt\"],\"batch\":1,\"categories\":[{\"name\":\"kind\",\"values\":[\"a\",\"b\"]}],\"depth\":3,\"feeds\":[\"a.csv\",\"b.csv\"],\"finals\":[\"f.txt\"],\"journal\":\"j.txt\",\"start\":0,\"version\":1,\"width\":10}",
-    "{\"asks\":[],\"batch\":64,\"categories\":[{\"name\":\"type\",\"values\":[\"THEFT\",\"MOTOR VEHICLE THEFT\",\"BATTERY\"]},{\"name\":\"district\",\"values\":[\"001\",\"002\"]}],\"depth\":16,\"feeds\":[\"city.csv\"],\"finals\":[\"f.txt\"],\"journal\":\"j.txt\",\"start\":1357016400,\"version\":1,\"width\":3600}",
-    "{\"asks\":[],\"batch\":1,\"categories\":[{\"name\":\"k\",\"values\":[\"a\",\"b\"]},{\"name\":\"m\",\"values\":[\"c\",\"d\"]}],\"depth\":1,\"feeds\":[\"a.csv\"],\"finals\":[\"f.txt\"],\"journal\":\"j.txt\",\"start\":0,\"version\":1,\"width\":1}",
+    r#"{"asks":["q.txt"],"batch":1,"categories":[{"name":"kind","values":["a","b"]}],"depth":3,"feeds":["a.csv","b.csv"],"finals":["f.txt"],"journal":"j.txt","start":0,"version":1,"width":10}"#,
+    r#"{"asks":[],"batch":64,"categories":[{"name":"type","values":["THEFT","MOTOR VEHICLE THEFT","BATTERY"]},{"name":"district","values":["001","002"]}],"depth":16,"feeds":["city.csv"],"finals":["f.txt"],"journal":"j.txt","start":1357016400,"version":1,"width":3600}"#,
+    r#"{"asks":[],"batch":1,"categories":[{"name":"k","values":["a","b"]},{"name":"m","values":["c","d"]}],"depth":1,"feeds":["a.csv"],"finals":["f.txt"],"journal":"j.txt","start":0,"version":1,"width":1}"#,
 ];
 
 // What is read of the bytes: the fault's name, or `read`.
@@ -28,6 +28,19 @@ fn outcome(alloc: Global, bytes: &[u8]) -> Result<String, AllocError> {
         Err(PlanFault::NoMemory) => String::from_str(alloc, "NoMemory"),
         Err(PlanFault::TooLong) => String::from_str(alloc, "TooLong"),
     }
+}
+
+#[test]
+fn reads_and_prints_the_plan_of_the_page(rt: HostRuntime) -> Result<(), Fail> {
+    let alloc = rt.alloc();
+    let text =
+        r#"{"asks":[],"batch":1,"categories":[],"depth":3,"feeds":["a.csv"],"finals":[],"journal":"j.txt","start":0,"version":1,"width":10}"#;
+    let plan = read_plan(alloc, text.as_bytes())
+        .ok()
+        .ok_or("it is a plan")?;
+    assert_eq!(rt; plan.feeds.as_slice().len(), 1);
+    assert_eq!(rt; print_plan(alloc, &plan)?.as_slice(), text.as_bytes());
+    Ok(())
 }
 
 #[test]
@@ -48,11 +61,11 @@ fn refuses_what_is_no_object_of_a_plan(rt: HostRuntime) -> Result<(), Fail> {
     let cases: [(&[u8], &str); 9] = [
         (b"{", "NotJson"),
         (b"", "NotJson"),
-        (b"\"\xff\"", "NotJson"),
+        (&[b'"', 0xff, b'"'], "NotJson"),
         (b"[]", "NotObject"),
         (b"{}", "Missing(asks)"),
-        (b"{\"zoom\":1}", "Missing(asks)"),
-        (b"{\"asks\":1}", "Missing(batch)"),
+        (br#"{"zoom":1}"#, "Missing(asks)"),
+        (br#"{"asks":1}"#, "Missing(batch)"),
         (&spaces, "TooLong"),
         (&spaces[1..], "NotJson"),
     ];
@@ -66,66 +79,62 @@ fn refuses_what_is_no_object_of_a_plan(rt: HostRuntime) -> Result<(), Fail> {
 #[test]
 fn answers_the_first_fault_of_a_changed_plan(rt: HostRuntime) -> Result<(), Fail> {
     let cases = [
-        ("10}", "10,\"zoom\":1}", "Unknown(zoom)"),
-        ("10}", "10,\"zoom\":1,\"Zoom\":1}", "Unknown(Zoom)"),
-        ("\"depth\":3", "\"depth\":\"3\"", "BadKind(depth)"),
-        ("\"depth\":3", "\"depth\":1e0", "BadKind(depth)"),
-        ("\"depth\":3", "\"depth\":21", "OutOfRange(depth)"),
-        ("\"depth\":3", "\"depth\":99,\"depth\":3", "read"),
+        ("10}", r#"10,"zoom":1}"#, "Unknown(zoom)"),
+        ("10}", r#"10,"zoom":1,"Zoom":1}"#, "Unknown(Zoom)"),
+        (r#""depth":3"#, r#""depth":"3""#, "BadKind(depth)"),
+        (r#""depth":3"#, r#""depth":1e0"#, "BadKind(depth)"),
+        (r#""depth":3"#, r#""depth":21"#, "OutOfRange(depth)"),
+        (r#""depth":3"#, r#""depth":99,"depth":3"#, "read"),
         (
-            "\"depth\":3",
-            "\"depth\":3,\"depth\":99",
+            r#""depth":3"#,
+            r#""depth":3,"depth":99"#,
             "OutOfRange(depth)",
         ),
-        ("\"start\":0", "\"start\":-0", "BadKind(start)"),
-        ("\"start\":0", "\"start\":18446744073709551615", "read"),
+        (r#""start":0"#, r#""start":-0"#, "BadKind(start)"),
+        (r#""start":0"#, r#""start":18446744073709551615"#, "read"),
         (
-            "\"start\":0",
-            "\"start\":18446744073709551616",
+            r#""start":0"#,
+            r#""start":18446744073709551616"#,
             "BadKind(start)",
         ),
-        ("\"version\":1", "\"version\":2", "OutOfRange(version)"),
-        ("\"batch\":1", "\"batch\":65537", "OutOfRange(batch)"),
-        ("[\"a.csv\"]", "[]", "OutOfRange(feeds)"),
-        ("[\"a.csv\"]", "[1]", "BadKind(feeds)"),
+        (r#""version":1"#, r#""version":2"#, "OutOfRange(version)"),
+        (r#""batch":1"#, r#""batch":65537"#, "OutOfRange(batch)"),
+        (r#"["a.csv"]"#, "[]", "OutOfRange(feeds)"),
+        (r#"["a.csv"]"#, "[1]", "BadKind(feeds)"),
         ("j.txt", ".txt", "OutOfRange(journal)"),
-        ("\"asks\":[]", "\"asks\":[\"a.csv\"]", "Repeated(a.csv)"),
-        ("\"name\":\"kind\"", "\"name\":\"x\"", "Repeated(x)"),
+        (r#""asks":[]"#, r#""asks":["a.csv"]"#, "Repeated(a.csv)"),
+        (r#""name":"kind""#, r#""name":"x""#, "Repeated(x)"),
+        (r#""name":"kind""#, r#""name":"""#, "OutOfRange(categories)"),
         (
-            "\"name\":\"kind\"",
-            "\"name\":\"\"",
-            "OutOfRange(categories)",
-        ),
-        (
-            "\"name\":\"kind\"",
-            "\"name\":\"kind\",\"order\":1",
+            r#""name":"kind""#,
+            r#""name":"kind","order":1"#,
             "BadKind(categories)",
         ),
-        ("\"b\"", "\"a\"", "Repeated(a)"),
-        ("\"b\"", "\"\\u0062\"", "read"),
-        ("\"b\"", "\"\\u0061\"", "Repeated(a)"),
-        ("\"b\"", "\"\\\"\"", "OutOfRange(categories)"),
-        ("\"b\"", "\"\\u001f\"", "OutOfRange(categories)"),
-        ("\"b\"", "\"\\u007f\"", "OutOfRange(categories)"),
+        (r#""b""#, r#""a""#, "Repeated(a)"),
+        (r#""b""#, r#""\u0062""#, "read"),
+        (r#""b""#, r#""\u0061""#, "Repeated(a)"),
+        (r#""b""#, r#""\"""#, "OutOfRange(categories)"),
+        (r#""b""#, r#""\u001f""#, "OutOfRange(categories)"),
+        (r#""b""#, r#""\u007f""#, "OutOfRange(categories)"),
         (
-            "\"b\"",
-            "\"0123456789abcdef0123456789abcdef0123456789abcdef0123456789abcdef\"",
+            r#""b""#,
+            r#""0123456789abcdef0123456789abcdef0123456789abcdef0123456789abcdef""#,
             "read",
         ),
         (
-            "\"b\"",
-            "\"0123456789abcdef0123456789abcdef0123456789abcdef0123456789abcdef6\"",
+            r#""b""#,
+            r#""0123456789abcdef0123456789abcdef0123456789abcdef0123456789abcdef6""#,
             "OutOfRange(categories)",
         ),
-        ("}]", "},{\"name\":\"m\",\"values\":[\"b\",\"a\"]}]", "read"),
+        ("}]", r#"},{"name":"m","values":["b","a"]}]"#, "read"),
         (
             "}]",
-            "},{\"name\":\"kind\",\"values\":[\"b\"]}]",
+            r#"},{"name":"kind","values":["b"]}]"#,
             "Repeated(kind)",
         ),
         (
             "10}",
-            "10,\"asks\":[\"q\"],\"journal\":\"q.out\"}",
+            r#"10,"asks":["q"],"journal":"q.out"}"#,
             "Repeated(q.out)",
         ),
     ];

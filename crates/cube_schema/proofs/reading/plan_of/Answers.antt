@@ -1,5 +1,6 @@
 use Rattle.std.proofs.Common.{arith}
-use Rattle.cube_schema.proofs.Limits.{are_in_range, at_most, schema_in_limits, version_is}
+use Rattle.cube_schema.proofs.InRange.{are_in_range, at_most}
+use Rattle.cube_schema.proofs.Limits.{schema_in_limits, version_is}
 use Rattle.cube_schema.proofs.reading.plan_of.Goals as goal
 
 pub overflow_cast-depth : goal.overflow_cast-depth

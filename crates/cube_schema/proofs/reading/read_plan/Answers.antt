@@ -1,4 +1,5 @@
 use Rattle.cube_schema.proofs.Meanings.{meaning-passes, one_draft}
+use Rattle.cube_schema.proofs.PlanFiles.{names_files}
 use Rattle.cube_schema.proofs.SamePlan.{same_plan}
 use Rattle.cube_schema.specs.Drafts.{draft_of}
 use Rattle.std.proofs.Common.{◌≡◌, ◌∙◌, None, subst, sym}
@@ -16,6 +17,9 @@ plan_of-requires-clause-distinct c = (meaning-passes c.args.bytes.now c.in_ok-dr
 pub returns-clause-printable : goal.returns-clause-printable
 returns-clause-printable c =
     subst (λ (draft : Draft). (first_out_of_range draft ≡ None) × (first_repeated draft ≡ None)) (sym c.plan_of.ensures) (meaning-passes c.args.bytes.now c.in_ok-draft.draft c.in_ok-draft.ensures)
+
+pub returns-clause-files : goal.returns-clause-files
+returns-clause-files c = names_files c.plan_of.result (returns-clause-printable c)
 
 pub returns-clause-only : goal.returns-clause-only
 returns-clause-only c = λ other e. same_plan c.plan_of.result other (c.plan_of.ensures ∙ one_draft c.args.bytes.now _ (draft_of other) c.in_ok-draft.ensures e)
