@@ -1,23 +1,23 @@
 //! The cube, and what it is as a view.
-ghost use Rattle.std.specs.Prelude.{◌≡◌, ℕ, ◌+◌, ◌*◌, ◌/◌, ◌%◌, ◌^◌, ◌<◌, [], ◌∷◌, ◌++◌, length, All, IsTrue, OnOk, OnErr};
-ghost use Rattle.cube_view.specs.Bag.{bag_limit};
-ghost use Rattle.cube_view.specs.Places.{deepest, longer as longer_address, longer_tile as longer_tile_of, IsAddress};
-ghost use Rattle.cube_view.specs.Validity.{valid};
+ghost use Rattle.std.specs.Prelude.{◌≡◌, ℕ, ◌+◌, ◌*◌, ◌^◌, ◌<◌, ◌≤◌, [], ◌∷◌, ◌++◌, length, All, IsTrue, OnOk, OnErr, refl};
+ghost use Rattle.cube_view.specs.Bag.{most_points};
+ghost use Rattle.cube_view.specs.Places.{deepest, longer as longer_address, IsAddress};
+ghost use Rattle.cube_view.specs.Validity.{sound};
 
 use crate::scans::{any_below, count_before, least_below};
-use cube_view::{Address, CubeView, Point, Schema, Stat, Tile};
+use cube_view::{Address, CubeView, Point, Schema, Stat, Tile, quadrant};
 use outer_io::NoMemory;
 use probe_core::Steps;
 use std::alloc::Global;
 use std::sync::ledger::Ledger;
 
-/// A schema and a list of points that it takes.
+/// A schema and a list of at most 2^35 points that are sound for it.
 #[derive(Drop)]
 pub struct PlainCube {
     schema: Schema,
     points: Vec<Point>,
-    ghost valid: { All (λ p. IsTrue (valid schema p)) points.items },
-    ghost few: { length points.items < bag_limit },
+    ghost sound: { All (λ p. IsTrue (sound schema p)) points.items },
+    ghost few: { length points.items ≤ most_points },
 }
 
 impl PlainCube {
@@ -36,26 +36,25 @@ impl PlainCube {
         }
     }
 
-    /// Adds the point once more.
+    /// Adds the point once more. After a want of memory the cube is as before.
     pub fn insert(&mut self, point: Point) -> Result<(), NoMemory>
-        requires { IsTrue (valid (schema_of self.old) point) }
+        requires sound { IsTrue (sound (schema_of self.old) point) }
+        requires room { length (points_of self.old) < most_points }
         ensures inserted { OnOk result (points_of self.new ≡ points_of self.old ++ point ∷ []) }
         ensures unchanged { OnErr result (points_of self.new ≡ points_of self.old) }
         ensures counted { Counts (⟦<PlainCube as CubeView>⟧.weight_at self.new) (⟦<PlainCube as CubeView>⟧.seen self.new) (points_of self.new) }
         ensures schema { schema_of self.new ≡ schema_of self.old }
     {
         match self.points.push(point) {
-            Ok(()) => {
-                let _count = self.points.len();
-                Ok(())
-            }
+            Ok(()) => Ok(()),
             Err(_) => Err(NoMemory),
         }
     }
 }
 
 impl CubeView for PlainCube {
-    ghost use Rattle.plain_cube.specs.Owned.{bag_of, own_bag};
+    ghost use Rattle.plain_cube.specs.Owned.{IsBag-own};
+    ghost use Rattle.plain_cube.specs.Listed.{bag_of, scan_costs, no_structure};
 
     type Cursor = Address;
 
@@ -69,13 +68,15 @@ impl CubeView for PlainCube {
 
     ghost address = { λ c a. a };
 
-    ghost down_cost = { λ c a. length c.points.items };
+    ghost costs = { λ c. scan_costs c.points.items };
 
-    ghost before_cost = { λ c a. length c.points.items };
+    ghost numbers = { λ c. no_structure };
 
-    ghost is_stat = { λ s. s ≡ record { nodes = 0; tables = 0; proper = 0; shared = 0 } };
+    ghost is_stat = { λ s. s ≡ no_structure };
 
-    ghost bag = { λ c. own_bag c.schema c.points.items c.valid c.few };
+    ghost bag = { λ c. IsBag-own c.schema c.points.items c.sound c.few };
+
+    ghost structure = { λ c. refl };
 
     fn schema(&self) -> &Schema {
         &self.schema
@@ -146,24 +147,9 @@ fn longer(schema: &Schema, address: &Address, label: u8) -> Address
     let mut next = *address;
     next.level += 1;
     if address.dim == 1 {
-        next.tile = quadrant(address.tile, label);
+        next.tile = quadrant(&address.tile, label);
     } else {
         next.values[address.dim as usize - 2] = Some(label);
     }
     next
-}
-
-// The tile's quadrant with the label.
-fn quadrant(tile: Tile, label: u8) -> Tile
-    requires level { tile.z < 20 }
-    requires tile { (tile.x < 2 ^ tile.z) × (tile.y < 2 ^ tile.z) }
-    requires quadrant { label < 4 }
-    ensures tile { result ≡ longer_tile_of 1 tile label }
-    ensures within { (result.x < 2 ^ result.z) × (result.y < 2 ^ result.z) }
-{
-    Tile {
-        z: tile.z + 1,
-        x: 2 * tile.x + (label % 2) as u32,
-        y: 2 * tile.y + (label / 2) as u32,
-    }
 }
