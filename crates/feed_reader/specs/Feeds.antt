@@ -1,6 +1,6 @@
 -- What the bytes of a feed mean: its header, the rows after it, and the points among them.
 use Rattle.std.specs.Prelude.{ℕ, List, [], ◌∷◌, map, drop, Result, Ok, Err}
-use Rattle.cube_view.specs.Points.{Point}
+use Rattle.cube_view.specs.declared.spot.Point.{Point}
 use Rattle.cube_view.specs.declared.schema.Schema.{Schema}
 use Rattle.outer_io.specs.Lines.{Line, Bytes, Long, lines}
 use Rattle.feed_reader.specs.Headers.{head_of}

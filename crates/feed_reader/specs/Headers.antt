@@ -19,12 +19,14 @@ abbrev pub counts_of : Schema → List (List ℕ) → List ℕ
 counts_of schema fields = map (count_of fields) (needed_names schema)
 
 -- the needed column at the first place whose number passes the test
-abbrev pub first_column : (ℕ → Bool) → List ℕ → Option Column
-first_column test counts = option_map column_at (position test counts)
+abbrev pub first_column : Schema → (ℕ → Bool) → List ℕ → Option Column
+first_column schema test counts = option_map (column_at schema) (position test counts)
 
 -- the fault of a header in which so many fields are the name of each needed column, if it has one
-abbrev pub column_fault : List ℕ → Option HeadFault
-column_fault counts = option_or (option_map head.NoColumn (first_column (λ n. n == 0) counts)) (option_map head.TwoColumns (first_column (λ n. nat_lt 1 n) counts))
+abbrev pub column_fault : Schema → List ℕ → Option HeadFault
+column_fault schema counts =
+    option_or (option_map head.NoColumn (first_column schema (λ count. count == 0) counts))
+    (option_map head.TwoColumns (first_column schema (λ count. nat_lt 1 count) counts))
 
 -- the place of the first text of the list that is this one, from 0
 abbrev pub place_in : List (List ℕ) → List ℕ → ℕ
@@ -37,7 +39,7 @@ unless_fault (Some f) r = Err f
 
 -- what a header's fields mean
 abbrev pub head_of_fields : Schema → List (List ℕ) → Result (List ℕ) HeadFault
-head_of_fields schema fields = unless_fault (column_fault (counts_of schema fields)) (Ok (map (place_in fields) (needed_names schema)))
+head_of_fields schema fields = unless_fault (column_fault schema (counts_of schema fields)) (Ok (map (place_in fields) (needed_names schema)))
 
 -- what a header means whose fields are known, or that has not one record
 abbrev pub head_of_record : Schema → Option (List (List ℕ)) → Result (List ℕ) HeadFault

@@ -1,14 +1,15 @@
 -- What a line after the header means: blank, a point, or the first fault.
-use Rattle.std.specs.Prelude.{ℕ, ◌-◌, ◌/◌, ◌^◌, Bool, not, nat_lt, nat_le, if◌then◌else◌, List, [], ◌∷◌, ◌++◌, map, take, length, get_or, Option, Some, None, option_map, position, IsTrue, ⊤}
+use Rattle.std.specs.Prelude.{ℕ, ◌-◌, ◌/◌, ◌^◌, Bool, false, not, nat_lt, nat_le, if◌then◌else◌, List, [], ◌∷◌, ◌++◌, map, take, length, get_or, Option, Some, None, option_map, position, IsTrue, ⊤}
 use Rattle.std.specs.List.{list_any, zip}
 use Rattle.cube_view.specs.Limits.{has_text}
-use Rattle.cube_view.specs.Points.{Point, point_at}
-use Rattle.cube_view.specs.Validity.{valid}
+use Rattle.cube_view.specs.declared.spot.Point.{Point}
+use Rattle.cube_view.specs.Validity.{is_weight, valid}
 use Rattle.cube_view.specs.declared.category.Category.{Category}
 use Rattle.cube_view.specs.declared.schema.Schema.{Schema}
 use Rattle.outer_io.specs.Lines.{Line, Bytes, Long}
 use Rattle.outer_io.specs.Decimals.{is_decimal}
 use Rattle.std.specs.Str.Parse.{digits_value}
+use Rattle.feed_reader.specs.Columns.{weight_item, category_items}
 use Rattle.feed_reader.specs.Headers.{place_in}
 use Rattle.feed_reader.specs.Records.{record_of}
 use Rattle.feed_reader.specs.declared.column.Column.TheVariants as column
@@ -51,32 +52,50 @@ first_unknown categories fields = position is_unknown (zip categories fields)
 abbrev pub values_of : List Category → List (List ℕ) → List ℕ
 values_of categories fields = take 4 (map value_of (zip categories fields) ++ 0 ∷ 0 ∷ 0 ∷ 0 ∷ [])
 
--- the faults that a record can have, in the order in which they are answered
-abbrev pub faults_of : Schema → List ℕ → List ℕ → List ℕ → List (List ℕ) → List (Option RowFault)
-faults_of schema x y time fields =
+-- there is a weight's field, and it is no decimal
+abbrev pub is_weight_unread : Option (List ℕ) → Bool
+is_weight_unread None = false
+is_weight_unread (Some field) = not (is_decimal field)
+
+-- what a record weighs: the number in the weight's field, or 1 where there is no such column
+abbrev pub weight_in : Option (List ℕ) → ℕ
+weight_in None = 1
+weight_in (Some field) = number field
+
+-- The faults that a record can have, in the order in which they are answered. Its fields are x, y, time, the weight's where there is such a column, and the categories'.
+abbrev pub faults_of : Schema → List ℕ → List ℕ → List ℕ → Option (List ℕ) → List (List ℕ) → List (Option RowFault)
+faults_of schema x y time weight fields =
     fault_if (not (is_decimal x)) (fault.BadNumber column.X)
     ∷ fault_if (not (is_decimal y)) (fault.BadNumber column.Y)
     ∷ fault_if (not (is_decimal time)) (fault.BadNumber column.Time)
+    ∷ fault_if (is_weight_unread weight) (fault.BadNumber column.Weight)
     ∷ fault_if (nat_le (2 ^ schema.depth) (number x)) (fault.BadTile column.X)
     ∷ fault_if (nat_le (2 ^ schema.depth) (number y)) (fault.BadTile column.Y)
     ∷ option_map fault.UnknownValue (first_unknown schema.categories fields)
     ∷ fault_if (nat_lt (number time) schema.start) fault.EarlyTime
     ∷ fault_if (nat_le (2 ^ 32) (bin_of schema (number time))) fault.LateTime
+    ∷ fault_if (not (is_weight (weight_in weight))) fault.BadWeight
     ∷ []
 
 -- the point of a record without fault
-abbrev pub point_of : Schema → List ℕ → List ℕ → List ℕ → List (List ℕ) → Point
-point_of schema x y time fields =
-    point_at (record { x = number x; y = number y; values = values_of schema.categories fields; bin = bin_of schema (number time) })
+abbrev pub point_of : Schema → List ℕ → List ℕ → List ℕ → Option (List ℕ) → List (List ℕ) → Point
+point_of schema x y time weight fields = record {
+  spot = record { x = number x; y = number y; values = values_of schema.categories fields; bin = bin_of schema (number time) };
+  weight = weight_in weight;
+}
 
 -- the fault, if there is one, else the point
 abbrev pub row_unless : Option RowFault → Point → Row
 row_unless None p = row.Point p
 row_unless (Some f) p = row.Refused f
 
+-- what the fields of x, y, time and the columns after them mean
+abbrev pub row_of_parts : Schema → List ℕ → List ℕ → List ℕ → Option (List ℕ) → List (List ℕ) → Row
+row_of_parts schema x y time weight fields = row_unless (first_fault (faults_of schema x y time weight fields)) (point_of schema x y time weight fields)
+
 -- what the fields of the needed columns mean
 abbrev pub row_of_fields : Schema → List (List ℕ) → Row
-row_of_fields schema (x ∷ y ∷ time ∷ fields) = row_unless (first_fault (faults_of schema x y time fields)) (point_of schema x y time fields)
+row_of_fields schema (x ∷ y ∷ time ∷ rest) = row_of_parts schema x y time (weight_item schema.weight rest) (category_items schema.weight rest)
 row_of_fields schema _ = row.Refused fault.ShortRow
 
 -- a needed column's place is past the record's end
@@ -86,6 +105,10 @@ is_short places fields = list_any (λ place. nat_le (length fields) place) place
 -- the fields at the places
 abbrev pub texts_at : List (List ℕ) → List ℕ → List (List ℕ)
 texts_at fields places = map (λ place. get_or fields place []) places
+
+-- the field at the place, if there is a place
+abbrev pub text_at : List (List ℕ) → Option ℕ → Option (List ℕ)
+text_at fields place = option_map (λ place. get_or fields place []) place
 
 -- what a record means
 abbrev pub row_of_record : Schema → List ℕ → Option (List (List ℕ)) → Row

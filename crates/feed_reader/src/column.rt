@@ -6,5 +6,6 @@ pub enum Column {
     X,
     Y,
     Time,
+    Weight,
     Category(u8),
 }

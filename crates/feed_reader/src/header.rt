@@ -1,6 +1,6 @@
 //! Headers: in which column of a feed each part of a record stands.
 ghost use Rattle.std.specs.Prelude.{◌≡◌, ◌≢◌, ◌<◌, IfOk, IfErr, IfSome, position, Ok, Err, Some, [], length, map, get_or, nat_lt, ◌==◌};
-ghost use Rattle.feed_reader.specs.Columns.{needed_names, needed_count, column_at};
+ghost use Rattle.feed_reader.specs.Columns.{further_names, needed_names, needed_count, further_column, column_at};
 ghost use Rattle.feed_reader.specs.Headers.{column_fault, counts_of, head_of, place_in};
 ghost use Rattle.feed_reader.specs.Rows.{row_of, row_of_record, IsValidRow};
 
@@ -54,21 +54,48 @@ impl Model for Header {
 // How many columns are needed.
 fn needed_count(schema: &Schema) -> usize
     ensures count { result ≡ needed_count schema.now }
-    ensures few { result < 8 }
+    ensures few { result < 9 }
 {
-    3 + schema.categories.len()
+    match &schema.weight {
+        Some(_) => 4 + schema.categories.len(),
+        None => 3 + schema.categories.len(),
+    }
+}
+
+// The needed column at a place after time, from 0.
+fn further_column(schema: &Schema, place: usize) -> Column
+    requires { place < 6 }
+    ensures { result ≡ further_column schema.now.weight place }
+{
+    match (&schema.weight, place) {
+        (Some(_), 0) => Column::Weight,
+        (Some(_), _) => Column::Category((place - 1) as u8),
+        (None, _) => Column::Category(place as u8),
+    }
 }
 
 // The needed column at a place in their order.
-fn column_at(place: usize) -> Column
-    requires { place < 8 }
-    ensures { result ≡ column_at place }
+fn column_at(schema: &Schema, place: usize) -> Column
+    requires { place < 9 }
+    ensures { result ≡ column_at schema.now place }
 {
     match place {
         0 => Column::X,
         1 => Column::Y,
         2 => Column::Time,
-        _ => Column::Category((place - 3) as u8),
+        _ => further_column(schema, place - 3),
+    }
+}
+
+// The name of the needed column at a place after time, from 0.
+fn further_name(schema: &Schema, place: usize) -> &[u8]
+    requires { place < length (further_names schema.now) }
+    ensures { result.now ≡ get_or (further_names schema.now) place [] }
+{
+    match (&schema.weight, place) {
+        (Some(name), 0) => name.as_str().as_bytes(),
+        (Some(_), _) => schema.categories.get(place - 1).name.as_str().as_bytes(),
+        (None, _) => schema.categories.get(place).name.as_str().as_bytes(),
     }
 }
 
@@ -81,7 +108,7 @@ fn needed_name(schema: &Schema, place: usize) -> &[u8]
         0 => b"x",
         1 => b"y",
         2 => b"time",
-        _ => schema.categories.get(place - 3).name.as_str().as_bytes(),
+        _ => further_name(schema, place - 3),
     }
 }
 
@@ -113,14 +140,14 @@ fn first_repeated(counts: &[usize]) -> Option<usize>
 }
 
 // The fault of a header in which so many fields are the name of each needed column, if it has one.
-fn column_fault(counts: &[usize]) -> Option<HeadFault>
-    requires { length counts.now < 8 }
-    ensures { result ≡ column_fault counts.now }
+fn column_fault(schema: &Schema, counts: &[usize]) -> Option<HeadFault>
+    requires { length counts.now < 9 }
+    ensures { result ≡ column_fault schema.now counts.now }
 {
     if let Some(place) = first_absent(counts) {
-        return Some(HeadFault::NoColumn(column_at(place)));
+        return Some(HeadFault::NoColumn(column_at(schema, place)));
     }
-    first_repeated(counts).map(|place| HeadFault::TwoColumns(column_at(place)))
+    first_repeated(counts).map(|place| HeadFault::TwoColumns(column_at(schema, place)))
 }
 
 // The place of each needed column in the line.
@@ -145,7 +172,7 @@ impl Header {
             return Err(HeadFault::BadRow);
         };
         let counts = counts(alloc, schema, &fields)?;
-        if let Some(fault) = column_fault(counts.as_slice()) {
+        if let Some(fault) = column_fault(schema, counts.as_slice()) {
             return Err(fault);
         }
         Ok(Header {

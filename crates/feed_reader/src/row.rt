@@ -1,10 +1,11 @@
 //! What a line after the header is.
-ghost use Rattle.std.specs.Prelude.{◌≡◌, ◌<◌, ◌≤◌, ◌^◌, Some, None, MatchOption, MatchResult, IsTrue, nat_le, nat_lt, not, map, length, get_or, option_map, [], ◌∷◌, false, true};
+ghost use Rattle.std.specs.Prelude.{IfSome, ◌≡◌, ◌<◌, ◌≤◌, ◌^◌, Some, None, MatchOption, MatchResult, IsTrue, nat_le, nat_lt, not, map, length, get_or, option_map, [], ◌∷◌, false, true};
 ghost use Rattle.cube_view.specs.Limits.{has_text, category_in_range, categories_in_range};
-ghost use Rattle.feed_reader.specs.Columns.{needed_count};
+ghost use Rattle.feed_reader.specs.Columns.{needed_count, weight_item, category_items};
 ghost use Rattle.outer_io.specs.Decimals.{is_decimal};
+ghost use Rattle.cube_view.specs.Validity.{is_weight};
 ghost use Rattle.feed_reader.specs.Headers.{place_in};
-ghost use Rattle.feed_reader.specs.Rows.{fault_if, first_fault, number, bin_of, first_unknown, values_of, faults_of, point_of, is_short, texts_at, row_of_record, IsValidRow};
+ghost use Rattle.feed_reader.specs.Rows.{fault_if, first_fault, number, bin_of, first_unknown, values_of, is_weight_unread, weight_in, faults_of, point_of, is_short, text_at, texts_at, row_of_record, IsValidRow};
 
 use crate::Column;
 use crate::fields::Fields;
@@ -22,6 +23,7 @@ pub enum RowFault {
     EarlyTime,
     LateTime,
     LongLine,
+    BadWeight,
 }
 
 /// A line after the header: one without bytes, a point, or one that is refused.
@@ -41,6 +43,19 @@ fn number(field: &[u8], column: Column) -> Result<u64, RowFault>
     match decimal_of(field) {
         Some(number) => Ok(number),
         None => Err(RowFault::BadNumber(column)),
+    }
+}
+
+// What a record weighs: the number in the field at the place, if there is a place, else 1.
+fn weight_number(fields: &Fields, place: Option<usize>) -> Result<u64, RowFault>
+    requires { IfSome place (λ place. place < length fields.now) }
+    ensures { let text = text_at fields.now place in
+        let fault = fault_if (is_weight_unread text) (RowFault.BadNumber Column.Weight) in
+        MatchResult result (λ n. (fault ≡ None) × (n ≡ weight_in text)) (λ f. fault ≡ Some f) }
+{
+    match place {
+        Some(place) => number(fields.field(place), Column::Weight),
+        None => Ok(1),
     }
 }
 
@@ -110,6 +125,18 @@ fn bin(schema: &Schema, time: u64) -> Result<u32, RowFault>
     }
 }
 
+// The number, where it is a weight of a point.
+fn weight(number: u64) -> Result<u32, RowFault>
+    ensures { let fault = fault_if (not (is_weight number)) RowFault.BadWeight in
+        MatchResult result (λ n. (fault ≡ None) × (n ≡ number)) (λ f. fault ≡ Some f) }
+{
+    if number > 0 && number < 1 << 28 {
+        Ok(number as u32)
+    } else {
+        Err(RowFault::BadWeight)
+    }
+}
+
 // The point of a record, or its first fault. The fields of its categories stand at the places.
 fn point(
     schema: &Schema,
@@ -117,22 +144,40 @@ fn point(
     x: &[u8],
     y: &[u8],
     time: &[u8],
+    weight_place: Option<usize>,
     places: &[usize],
 ) -> Result<Point, RowFault>
     requires each { length places.now ≡ length schema.now.categories }
     requires within { is_short places.now fields.now ≡ false }
+    requires weight { IfSome weight_place (λ place. place < length fields.now) }
     ensures { let texts = texts_at fields.now places.now in
-        let fault = first_fault (faults_of schema.now x.now y.now time.now texts) in
-        MatchResult result (λ p. (fault ≡ None) × (p ≡ point_of schema.now x.now y.now time.now texts)) (λ f. fault ≡ Some f) }
+        let heavy = text_at fields.now weight_place in
+        let fault = first_fault (faults_of schema.now x.now y.now time.now heavy texts) in
+        MatchResult result (λ p. (fault ≡ None) × (p ≡ point_of schema.now x.now y.now time.now heavy texts)) (λ f. fault ≡ Some f) }
 {
     let x = number(x, Column::X)?;
     let y = number(y, Column::Y)?;
     let time = number(time, Column::Time)?;
+    let heavy = weight_number(fields, weight_place)?;
     let x = tile(x, schema.depth, Column::X)?;
     let y = tile(y, schema.depth, Column::Y)?;
     let values = values(&schema.categories, places, fields)?;
     let bin = bin(schema, time)?;
-    Ok(Spot { x, y, values, bin })
+    let weight = weight(heavy)?;
+    let spot = Spot { x, y, values, bin };
+    Ok(Point { spot, weight })
+}
+
+// The place of the weight's column, where the schema has one, and those of the categories, of the places after time.
+fn further_places<'a>(schema: &Schema, places: &'a [usize]) -> (Option<usize>, &'a [usize])
+    ensures weight { result.0 ≡ weight_item schema.now.weight places.now }
+    ensures categories { result.1.now ≡ category_items schema.now.weight places.now }
+{
+    match (&schema.weight, places) {
+        (Some(_), [weight, categories @ ..]) => (Some(*weight), categories),
+        (Some(_), []) => (None, places),
+        (None, _) => (None, places),
+    }
 }
 
 /// What a record is whose needed columns stand at the places.
@@ -144,11 +189,12 @@ pub(crate) fn row_of_record(schema: &Schema, places: &[usize], fields: &Fields) 
         return Row::Refused(RowFault::ShortRow);
     }
     match places {
-        [x, y, time, rest @ ..] => {
+        [x, y, time, further @ ..] => {
             let x = fields.field(*x);
             let y = fields.field(*y);
             let time = fields.field(*time);
-            match point(schema, fields, x, y, time, rest) {
+            let (weight, categories) = further_places(schema, further);
+            match point(schema, fields, x, y, time, weight, categories) {
                 Ok(point) => Row::Point(point),
                 Err(fault) => Row::Refused(fault),
             }

@@ -2,7 +2,7 @@
 ghost use Rattle.std.specs.Prelude.{◌≡◌, ◌∷◌, [], IfOk, codes};
 
 use crate::{Column, HeadFault, Header, Row, RowFault};
-use cube_view::{Category, Schema, Spot};
+use cube_view::{Category, Point, Schema, Spot};
 use outer_io::{List, NoMemory, Text};
 use std::alloc::Global;
 use std::test::Fail;
@@ -18,11 +18,19 @@ fn kind(alloc: Global) -> Result<Category, NoMemory>
     Ok(Category { name, values })
 }
 
-// Depth 3, the category `kind` of a and b, and bins of 10 from `start` on.
+// Depth 3, the category `kind` of a and b, bins of 10 from `start` on, and no weight column.
 fn schema(alloc: Global, start: u64) -> Result<Schema, NoMemory> {
     let mut categories = List::new(alloc);
     categories.add(kind(alloc)?)?;
-    Ok(Schema::new(3, categories, start, 10, 1))
+    Ok(Schema::new(3, categories, start, 10, 1, None))
+}
+
+// The same from 0 on, with the weight column `n`.
+fn weighted_schema(alloc: Global) -> Result<Schema, NoMemory> {
+    let mut categories = List::new(alloc);
+    categories.add(kind(alloc)?)?;
+    let weight = Text::copy_of(alloc, "n")?;
+    Ok(Schema::new(3, categories, 0, 10, 1, Some(weight)))
 }
 
 fn row_under(alloc: Global, start: u64, head: &str, line: &str) -> Result<Row, Fail> {
@@ -31,19 +39,26 @@ fn row_under(alloc: Global, start: u64, head: &str, line: &str) -> Result<Row, F
     Ok(header.row(alloc, &schema, line.as_bytes())?)
 }
 
+fn weighted_row(alloc: Global, line: &str) -> Result<Row, Fail> {
+    let schema = weighted_schema(alloc)?;
+    let header = Header::read(alloc, &schema, b"x,y,kind,time,n")?;
+    Ok(header.row(alloc, &schema, line.as_bytes())?)
+}
+
+fn weighted_point(x: u32, y: u32, kind: u8, bin: u32, weight: u32) -> Row {
+    let values = [kind, 0, 0, 0];
+    let spot = Spot { x, y, values, bin };
+    Row::Point(Point { spot, weight })
+}
+
 fn point(x: u32, y: u32, kind: u8, bin: u32) -> Row {
-    Row::Point(Spot {
-        x,
-        y,
-        values: [kind, 0, 0, 0],
-        bin,
-    })
+    weighted_point(x, y, kind, bin, 1)
 }
 
 #[test]
 fn finds_the_columns_by_name(rt: HostRuntime) -> Result<(), Fail> {
     let cases = [
-        ("1,0,0,\"a\",5", point(0, 0, 0, 0)),
+        (r#"1,0,0,"a",5"#, point(0, 0, 0, 0)),
         ("2,7,7,b,12", point(7, 7, 1, 1)),
         ("3,0,0,a,15", point(0, 0, 0, 1)),
     ];
@@ -80,9 +95,9 @@ fn refuses_a_header_by_its_first_fault(rt: HostRuntime) -> Result<(), Fail> {
 fn reads_fields_as_csv_does(rt: HostRuntime) -> Result<(), Fail> {
     let cases = [
         ("", Row::Blank),
-        ("0,0,a,\"5", point(0, 0, 0, 0)),
-        ("\"0,0,a,5", Row::Refused(RowFault::ShortRow)),
-        ("0,0,a\"b,5", Row::Refused(RowFault::UnknownValue(0))),
+        (r#"0,0,a,"5"#, point(0, 0, 0, 0)),
+        (r#""0,0,a,5"#, Row::Refused(RowFault::ShortRow)),
+        (r#"0,0,a"b,5"#, Row::Refused(RowFault::UnknownValue(0))),
         ("0,0,a,5\r", point(0, 0, 0, 0)),
         ("\r", Row::Refused(RowFault::BadRow)),
         ("0,0,a,5\r1,1,b,6", Row::Refused(RowFault::BadRow)),
@@ -141,6 +156,53 @@ fn takes_the_first_and_the_last_bin(rt: HostRuntime) -> Result<(), Fail> {
             row,
             "{line}"
         );
+    }
+    Ok(())
+}
+
+#[test]
+fn reads_the_weight_column(rt: HostRuntime) -> Result<(), Fail> {
+    let cases = [
+        ("0,0,a,5,4", weighted_point(0, 0, 0, 0, 4)),
+        (
+            "7,7,b,12,268435455",
+            weighted_point(7, 7, 1, 1, 268_435_455),
+        ),
+        ("0,0,a,15,0", Row::Refused(RowFault::BadWeight)),
+        ("0,0,a,15,268435456", Row::Refused(RowFault::BadWeight)),
+        (
+            "0,0,a,15,x",
+            Row::Refused(RowFault::BadNumber(Column::Weight)),
+        ),
+        (
+            "8,0,a,15,x",
+            Row::Refused(RowFault::BadNumber(Column::Weight)),
+        ),
+        ("0,0,a,x,x", Row::Refused(RowFault::BadNumber(Column::Time))),
+        ("0,0,c,15,0", Row::Refused(RowFault::UnknownValue(0))),
+        ("0,0,a,15", Row::Refused(RowFault::ShortRow)),
+    ];
+    for (line, row) in cases {
+        assert_eq!(rt; weighted_row(rt.alloc(), line)?, row, "{line}");
+    }
+    Ok(())
+}
+
+#[test]
+fn wants_the_weight_column_before_the_categories(rt: HostRuntime) -> Result<(), Fail> {
+    let cases = [
+        ("x,y,kind,time", HeadFault::NoColumn(Column::Weight)),
+        ("x,y,time", HeadFault::NoColumn(Column::Weight)),
+        ("x,y,n,time", HeadFault::NoColumn(Column::Category(0))),
+        (
+            "n,x,y,n,kind,time,kind",
+            HeadFault::TwoColumns(Column::Weight),
+        ),
+    ];
+    let schema = weighted_schema(rt.alloc())?;
+    for (line, fault) in cases {
+        let found = Header::read(rt.alloc(), &schema, line.as_bytes());
+        assert_eq!(rt; found.err(), Some(fault), "{line}");
     }
     Ok(())
 }
