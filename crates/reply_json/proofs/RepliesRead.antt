@@ -17,7 +17,7 @@ use Rattle.query_syntax.specs.declared.fault.QueryFault.TheVariants.{NotText, Lo
 use Rattle.query_syntax.specs.declared.table.RowOut.{RowOut}
 use Rattle.reply_json.specs.declared.reply.Reply.{Reply}
 use Rattle.reply_json.specs.Printed.{fault_name, row_value, reply_value, reply_text}
-use Rattle.reply_json.specs.Reading.{row_of, rows_of, fault_named, reply_of, reply_in}
+use Rattle.reply_json.specs.Reading.{row_in, rows_in, fault_named, reply_of, reply_in}
 use Rattle.reply_json.specs.Meaning.{IsTextOf, IsNoReply}
 use Rattle.reply_json.specs.Validity.{is_valid_reply}
 use Rattle.reply_json.specs.Types.{RowFits, ReplyFits}
@@ -57,7 +57,7 @@ name_utf8 RepeatedFilter = IsUtf8-are_ascii (codes "RepeatedFilter") refl
 name_utf8 UnknownFilter = IsUtf8-are_ascii (codes "UnknownFilter") refl
 name_utf8 TimeInSeries = IsUtf8-are_ascii (codes "TimeInSeries") refl
 
-reply_plain : (reply : Reply) → ReplyFits reply → IsPlain (reply_value reply)
+pub reply_plain : (reply : Reply) → ReplyFits reply → IsPlain (reply_value reply)
 unfolding ReplyFits reply_value
 reply_plain (Reply.Table table) h = (IsUtf8-are_ascii (codes "rows") refl, rows_plain table.rows h.0, (IsUtf8-are_ascii (codes "seen") refl, h.1, tt))
 reply_plain (Reply.Stat stat seen) h = (
@@ -121,13 +121,13 @@ reply_shallow Reply.NoMemory = omega arith
 
 -- ---- the replies taken out of the values are they
 
-row_back : (row : RowOut) → RowFits row → row_of (row_value row) ≡ Some row
+row_back : (row : RowOut) → RowFits row → row_in (row_value row) ≡ Some row
 row_back (RowOut.One total) h = refl
 row_back (RowOut.Value text total) h = refl
 row_back (RowOut.Area tile total) h = rw (lt-ltb _ _ h.0, lt-ltb _ _ h.1, lt-ltb _ _ h.2) refl
 row_back (RowOut.Bin start total) h = refl
 
-rows_back : (rows : List RowOut) → All RowFits rows → rows_of (items_of (map row_value rows)) ≡ Some rows
+rows_back : (rows : List RowOut) → All RowFits rows → rows_in (items_of (map row_value rows)) ≡ Some rows
 rows_back [] all = refl
 rows_back (row ∷ rows) all = rw (row_back row (first_of row rows all), rows_back rows (others_of row rows all)) refl
 

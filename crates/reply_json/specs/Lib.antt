@@ -3,5 +3,4 @@ pub mod Types
 pub mod Printed
 pub mod Reading
 pub mod Meaning
-pub mod Asked
-pub mod Tables
+pub mod ValidTables

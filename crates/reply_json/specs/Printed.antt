@@ -1,5 +1,5 @@
--- The text of a reply: the compact JSON of an object, members in byte order of their names.
-use Rattle.std.specs.Prelude.{ℕ, List, [], ◌∷◌, codes, map}
+-- The text of a reply: the compact JSON of an object, members in byte order of their names. And which numbers of points it prints.
+use Rattle.std.specs.Prelude.{ℕ, List, [], ◌∷◌, codes, map, Option, Some, None}
 use Rattle.serde_json.specs.Data.{Data, number, unsigned, string, array, object, Members, no_members, member}
 use Rattle.serde_json.specs.View.{items_of}
 use Rattle.serde_json.specs.Written.{compact_text}
@@ -64,3 +64,19 @@ reply_value reply = object (reply_members reply)
 -- the text of a reply
 unfoldable pub reply_text : Reply → List ℕ
 reply_text reply = compact_text (reply_value reply)
+
+-- how many points a reply has seen, where it prints that
+abbrev pub seen_of : Reply → Option ℕ
+seen_of (Reply.Table table) = Some table.seen
+seen_of (Reply.Stat stat seen) = Some seen
+seen_of (Reply.Told told) = None
+seen_of (Reply.Fault fault word) = None
+seen_of Reply.NoMemory = None
+
+-- how many points were told, where it prints that
+abbrev pub told_of : Reply → Option ℕ
+told_of (Reply.Table table) = None
+told_of (Reply.Stat stat seen) = None
+told_of (Reply.Told told) = Some told
+told_of (Reply.Fault fault word) = None
+told_of Reply.NoMemory = None

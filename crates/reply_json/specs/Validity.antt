@@ -5,35 +5,35 @@ use Rattle.query_syntax.specs.declared.table.RowOut.{RowOut}
 use Rattle.reply_json.specs.declared.reply.Reply.{Reply}
 
 -- the rows are one total alone
-abbrev pub is_total : List RowOut → Bool
-is_total [] = false
-is_total (RowOut.One total ∷ []) = true
-is_total (row ∷ rows) = false
+abbrev pub is_one_total : List RowOut → Bool
+is_one_total [] = false
+is_one_total (RowOut.One total ∷ []) = true
+is_one_total (row ∷ rows) = false
 
 -- the row is the total of a value of a category
-abbrev pub is_value : RowOut → Bool
-is_value (RowOut.One total) = false
-is_value (RowOut.Value text total) = true
-is_value (RowOut.Area tile total) = false
-is_value (RowOut.Bin start total) = false
+abbrev pub is_value_row : RowOut → Bool
+is_value_row (RowOut.One total) = false
+is_value_row (RowOut.Value text total) = true
+is_value_row (RowOut.Area tile total) = false
+is_value_row (RowOut.Bin start total) = false
 
 -- the row is the total of a tile
-abbrev pub is_area : RowOut → Bool
-is_area (RowOut.One total) = false
-is_area (RowOut.Value text total) = false
-is_area (RowOut.Area tile total) = true
-is_area (RowOut.Bin start total) = false
+abbrev pub is_area_row : RowOut → Bool
+is_area_row (RowOut.One total) = false
+is_area_row (RowOut.Value text total) = false
+is_area_row (RowOut.Area tile total) = true
+is_area_row (RowOut.Bin start total) = false
 
 -- the row is the total of some bins
-abbrev pub is_bin : RowOut → Bool
-is_bin (RowOut.One total) = false
-is_bin (RowOut.Value text total) = false
-is_bin (RowOut.Area tile total) = false
-is_bin (RowOut.Bin start total) = true
+abbrev pub is_bin_row : RowOut → Bool
+is_bin_row (RowOut.One total) = false
+is_bin_row (RowOut.Value text total) = false
+is_bin_row (RowOut.Area tile total) = false
+is_bin_row (RowOut.Bin start total) = true
 
 -- the rows are one total alone, or all of another kind
 abbrev pub are_valid_rows : List RowOut → Bool
-are_valid_rows rows = is_total rows || list_all is_value rows || list_all is_area rows || list_all is_bin rows
+are_valid_rows rows = is_one_total rows || list_all is_value_row rows || list_all is_area_row rows || list_all is_bin_row rows
 
 -- the reply can be printed
 unfoldable pub is_valid_reply : Reply → Bool

@@ -1,6 +1,14 @@
-//! Replies: what is answered to a query, as one line of compact JSON. [`print_reply`] writes it and [`read_reply`] reads it.
+//! Replies: what is answered to a query, as one line of compact JSON, printed and read.
 //!
-//! The text of each reply is the definition `reply_text` of `specs/Printed.antt`.
+//! [`print_reply`] writes the text of a reply, which `specs/Printed.antt` defines, and [`read_reply`] reads exactly
+//! these texts. Tables and faults come from `query_syntax`, JSON from the kit's `serde_json`. Which reply a line gets
+//! is for `session_core`.
+//!
+//! ```
+//! let reply = read_reply(alloc, br#"{"told":7}"#)?;
+//! assert!(matches!(reply, Reply::Told(7)));
+//! assert_eq!(print_reply(alloc, &reply)?.as_slice(), br#"{"told":7}"#);
+//! ```
 #![tactic(auto)]
 
 mod printing;

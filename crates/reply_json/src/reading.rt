@@ -6,12 +6,12 @@ ghost use Rattle.reply_json.specs.declared.reply.Reply.{Reply};
 ghost use Rattle.reply_json.specs.declared.reply.ReplyFault.{ReplyFault};
 ghost use Rattle.reply_json.specs.Meaning.{IsTextOf, IsNoReply};
 ghost use Rattle.reply_json.specs.Printed.{fault_name, reply_text};
-ghost use Rattle.reply_json.specs.Reading.{number_of, table_of, stat_of, fault_named, fault_in, fault_of, no_memory_of, reply_of, reply_in};
+ghost use Rattle.reply_json.specs.Reading.{member_number, table_reply, stat_reply, fault_named, fault_in, fault_reply, no_memory_reply, reply_of, reply_in};
 ghost use Rattle.reply_json.specs.Types.{ReplyFits};
 ghost use Rattle.reply_json.specs.Validity.{is_valid_reply};
 
 use crate::printing::fault_name;
-use crate::rows::{rows_of, u32_of};
+use crate::rows::{rows_in, u32_of};
 use crate::{Reply, ReplyFault, is_valid_reply, print_reply};
 use cube_view::Stat;
 use outer_io::NoMemory;
@@ -36,31 +36,31 @@ const FAULTS: [QueryFault; 14] = [
     QueryFault::TimeInSeries,
 ];
 
-fn number_of(value: &Value, name: &str) -> Option<u64>
-    ensures { result ≡ number_of (view value.now) name.now }
+fn member_number(value: &Value, name: &str) -> Option<u64>
+    ensures { result ≡ member_number (view value.now) name.now }
 {
     value.get(name).and_then(Value::as_u64)
 }
 
-fn table_of(alloc: Global, value: &Value, rows: &Value) -> Result<Option<Reply>, NoMemory>
-    ensures { IfOk result (λ found. found ≡ table_of (view value.now) (view rows.now)) }
+fn table_reply(alloc: Global, value: &Value, rows: &Value) -> Result<Option<Reply>, NoMemory>
+    ensures { IfOk result (λ found. found ≡ table_reply (view value.now) (view rows.now)) }
 {
-    let Some(seen) = number_of(value, "seen") else {
+    let Some(seen) = member_number(value, "seen") else {
         return Ok(None);
     };
-    match rows_of(alloc, rows)? {
+    match rows_in(alloc, rows)? {
         Some(rows) => Ok(Some(Reply::Table(Table { rows, seen }))),
         None => Ok(None),
     }
 }
 
-fn stat_of(value: &Value, nodes: u64) -> Option<Reply>
-    ensures { result ≡ stat_of (view value.now) nodes }
+fn stat_reply(value: &Value, nodes: u64) -> Option<Reply>
+    ensures { result ≡ stat_reply (view value.now) nodes }
 {
-    let proper = number_of(value, "proper")?;
-    let seen = number_of(value, "seen")?;
-    let shared = number_of(value, "shared")?;
-    let tables = number_of(value, "tables")?;
+    let proper = member_number(value, "proper")?;
+    let seen = member_number(value, "seen")?;
+    let shared = member_number(value, "shared")?;
+    let tables = member_number(value, "tables")?;
     let stat = Stat {
         nodes,
         tables,
@@ -95,16 +95,16 @@ fn fault_in(value: &Value) -> Option<QueryFault>
     fault_named(name)
 }
 
-fn fault_of(value: &Value, word: u64) -> Option<Reply>
-    ensures { result ≡ fault_of (view value.now) word }
+fn fault_reply(value: &Value, word: u64) -> Option<Reply>
+    ensures { result ≡ fault_reply (view value.now) word }
 {
     let word = u32_of(word)?;
     let fault = fault_in(value)?;
     Some(Reply::Fault(fault, word))
 }
 
-fn no_memory_of(value: &Value) -> Option<Reply>
-    ensures { result ≡ no_memory_of (view value.now) }
+fn no_memory_reply(value: &Value) -> Option<Reply>
+    ensures { result ≡ no_memory_reply (view value.now) }
 {
     let name = value.get("fault").and_then(Value::as_str)?;
     if name == "NoMemory" {
@@ -119,18 +119,18 @@ fn reply_of(alloc: Global, value: &Value) -> Result<Option<Reply>, NoMemory>
     ensures { IfOk result (λ found. found ≡ reply_of (view value.now)) }
 {
     if let Some(rows) = value.get("rows") {
-        return table_of(alloc, value, rows);
+        return table_reply(alloc, value, rows);
     }
-    if let Some(nodes) = number_of(value, "nodes") {
-        return Ok(stat_of(value, nodes));
+    if let Some(nodes) = member_number(value, "nodes") {
+        return Ok(stat_reply(value, nodes));
     }
-    if let Some(told) = number_of(value, "told") {
+    if let Some(told) = member_number(value, "told") {
         return Ok(Some(Reply::Told(told)));
     }
-    if let Some(word) = number_of(value, "at") {
-        return Ok(fault_of(value, word));
+    if let Some(word) = member_number(value, "at") {
+        return Ok(fault_reply(value, word));
     }
-    Ok(no_memory_of(value))
+    Ok(no_memory_reply(value))
 }
 
 fn reply_in(alloc: Global, bytes: &[u8]) -> Result<Reply, ReplyFault>

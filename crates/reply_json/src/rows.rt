@@ -2,7 +2,7 @@
 ghost use Rattle.std.specs.Prelude.{◌≡◌, ◌^◌, IfOk, option_and_then};
 ghost use Rattle.serde_json.specs.Find.{as_array};
 ghost use Rattle.serde_json.specs.View.{view, items_view};
-ghost use Rattle.reply_json.specs.Reading.{number_in, under, area_of, pair_of, row_of, rows_of};
+ghost use Rattle.reply_json.specs.Reading.{number_in, number_under, area_of, pair_of, row_in, rows_in};
 
 use cube_view::Tile;
 use outer_io::{List, NoMemory, Text};
@@ -19,7 +19,7 @@ fn number_in(value: &Value, place: usize) -> Option<u64>
 
 /// The number, if it is one of 8 bits.
 pub(crate) fn u8_of(number: u64) -> Option<u8>
-    ensures { result ≡ under (2 ^ 8) number }
+    ensures { result ≡ number_under (2 ^ 8) number }
 {
     if number < 1 << 8 {
         Some(number as u8)
@@ -30,7 +30,7 @@ pub(crate) fn u8_of(number: u64) -> Option<u8>
 
 /// The number, if it is one of 32 bits.
 pub(crate) fn u32_of(number: u64) -> Option<u32>
-    ensures { result ≡ under (2 ^ 32) number }
+    ensures { result ≡ number_under (2 ^ 32) number }
 {
     if number < 1 << 32 {
         Some(number as u32)
@@ -60,8 +60,8 @@ fn pair_of(alloc: Global, value: &Value, total: u64) -> Result<Option<RowOut>, N
     }
 }
 
-fn row_of(alloc: Global, value: &Value) -> Result<Option<RowOut>, NoMemory>
-    ensures { IfOk result (λ found. found ≡ row_of (view value.now)) }
+fn row_in(alloc: Global, value: &Value) -> Result<Option<RowOut>, NoMemory>
+    ensures { IfOk result (λ found. found ≡ row_in (view value.now)) }
 {
     if let Some(total) = number_in(value, 3) {
         return Ok(area_of(value, total));
@@ -76,11 +76,11 @@ fn row_of(alloc: Global, value: &Value) -> Result<Option<RowOut>, NoMemory>
 }
 
 fn rows_of_items(alloc: Global, items: &[Value]) -> Result<Option<List<RowOut>>, NoMemory>
-    ensures { IfOk result (λ found. found ≡ rows_of (items_view items.now)) }
+    ensures { IfOk result (λ found. found ≡ rows_in (items_view items.now)) }
 {
     let mut rows = List::new(alloc);
     for item in items {
-        let Some(row) = row_of(alloc, item)? else {
+        let Some(row) = row_in(alloc, item)? else {
             return Ok(None);
         };
         rows.add(row)?;
@@ -89,8 +89,8 @@ fn rows_of_items(alloc: Global, items: &[Value]) -> Result<Option<List<RowOut>>,
 }
 
 /// The rows of an array, or `None` where the value is no array of rows.
-pub(crate) fn rows_of(alloc: Global, value: &Value) -> Result<Option<List<RowOut>>, NoMemory>
-    ensures { IfOk result (λ found. found ≡ option_and_then rows_of (as_array (view value.now))) }
+pub(crate) fn rows_in(alloc: Global, value: &Value) -> Result<Option<List<RowOut>>, NoMemory>
+    ensures { IfOk result (λ found. found ≡ option_and_then rows_in (as_array (view value.now))) }
 {
     match value.as_array() {
         Some(items) => rows_of_items(alloc, items),

@@ -4,127 +4,138 @@ use cube_view::{Stat, Tile};
 use outer_io::{List, NoMemory, Text};
 use query_syntax::{QueryFault, RowOut, Table};
 use std::alloc::Global;
+use std::process::Abort;
 use std::test::Fail;
 
-const COUNT: &str = "{\"rows\":[[3]],\"seen\":3}";
-
-const HIST: &str = "{\"rows\":[[\"a\",0],[\"b\",0]],\"seen\":3}";
-
-const MAP: &str = "{\"rows\":[[1,0,0,2],[1,1,1,1]],\"seen\":3}";
-
-const SERIES: &str = "{\"rows\":[[0,1],[1,2],[2,0]],\"seen\":3}";
-
-const NO_ROWS: &str = "{\"rows\":[],\"seen\":0}";
-
-const STAT: &str = "{\"nodes\":6,\"proper\":6,\"seen\":1,\"shared\":4,\"tables\":1}";
-
-const TOLD: &str = "{\"told\":7}";
-
-const FAULT: &str = "{\"at\":3,\"fault\":\"BadTile\"}";
-
-const NO_MEMORY: &str = "{\"fault\":\"NoMemory\"}";
-
-const ESCAPED: &str = "{\"rows\":[[\"a\\\\b\\tc\u{e9}\",1]],\"seen\":1}";
-
-fn table(rows: Vec<RowOut>, seen: u64) -> Reply {
-    Reply::Table(Table {
-        rows: List::from_vec(rows),
-        seen,
-    })
+/// A row of a table.
+#[derive(Clone, Copy)]
+enum Row<'a> {
+    One(u64),
+    Value(&'a str, u64),
+    Area(u8, u32, u32, u64),
+    Bin(u64, u64),
 }
 
-fn value_row(alloc: Global, value: &str, total: u64) -> Result<RowOut, NoMemory> {
-    Ok(RowOut::Value(Text::copy_of(alloc, value)?, total))
+fn row_out(alloc: Global, row: Row) -> Result<RowOut, NoMemory> {
+    match row {
+        Row::One(total) => Ok(RowOut::One(total)),
+        Row::Value(text, total) => Ok(RowOut::Value(Text::copy_of(alloc, text)?, total)),
+        Row::Area(z, x, y, total) => Ok(RowOut::Area(Tile { z, x, y }, total)),
+        Row::Bin(start, total) => Ok(RowOut::Bin(start, total)),
+    }
 }
 
-fn area_row(z: u8, x: u32, y: u32, total: u64) -> RowOut {
-    RowOut::Area(Tile { z, x, y }, total)
+fn table(alloc: Global, rows: &[Row], seen: u64) -> Result<Reply, NoMemory> {
+    let mut list = List::new(alloc);
+    for row in rows {
+        list.add(row_out(alloc, *row)?)?;
+    }
+    Ok(Reply::Table(Table { rows: list, seen }))
 }
 
-fn printed(alloc: Global, reply: &Reply) -> Result<List<u8>, Fail> {
+/// The reply is printed as the text.
+fn check_printed(rt: &impl Abort, alloc: Global, reply: &Reply, text: &str) -> Result<(), Fail> {
     if !is_valid_reply(reply) {
         return Err(Fail::from("it is valid"));
     }
-    Ok(print_reply(alloc, reply)?)
+    let printed = print_reply(alloc, reply)?;
+    assert_eq!(rt; printed.as_slice(), text.as_bytes());
+    Ok(())
+}
+
+/// The reply is printed as the text, and so is the one that is read from it.
+fn check(rt: &impl Abort, alloc: Global, reply: &Reply, text: &str) -> Result<(), Fail> {
+    check_printed(rt, alloc, reply, text)?;
+    let read = read_reply(alloc, text.as_bytes()).ok().ok_or("it is a reply")?;
+    check_printed(rt, alloc, &read, text)
 }
 
 #[test]
-fn prints_the_rows_of_each_kind(rt: HostRuntime) -> Result<(), Fail> {
-    let alloc = rt.alloc();
-    let count = table(vec![in alloc; RowOut::One(3)]?, 3);
-    assert_eq!(rt; printed(alloc, &count)?.as_slice(), COUNT.as_bytes());
-    let values = vec![in alloc; value_row(alloc, "a", 0)?, value_row(alloc, "b", 0)?]?;
-    let hist = table(values, 3);
-    assert_eq!(rt; printed(alloc, &hist)?.as_slice(), HIST.as_bytes());
-    let map = table(
-        vec![in alloc; area_row(1, 0, 0, 2), area_row(1, 1, 1, 1)]?,
-        3,
-    );
-    assert_eq!(rt; printed(alloc, &map)?.as_slice(), MAP.as_bytes());
-    let bins = vec![in alloc; RowOut::Bin(0, 1), RowOut::Bin(1, 2), RowOut::Bin(2, 0)]?;
-    let series = table(bins, 3);
-    assert_eq!(rt; printed(alloc, &series)?.as_slice(), SERIES.as_bytes());
-    let none = table(Vec::new(alloc), 0);
-    assert_eq!(rt; printed(alloc, &none)?.as_slice(), NO_ROWS.as_bytes());
-    let escaped = table(vec![in alloc; value_row(alloc, "a\\b\tc\u{e9}", 1)?]?, 1);
-    assert_eq!(rt; printed(alloc, &escaped)?.as_slice(), ESCAPED.as_bytes());
+fn prints_tables_and_reads_them_back(rt: HostRuntime) -> Result<(), Fail> {
+    let cases: [(&[Row], u64, &str); 6] = [
+        (&[Row::One(3)], 3, r#"{"rows":[[3]],"seen":3}"#),
+        (
+            &[Row::Value("a", 0), Row::Value("b", 0)],
+            3,
+            r#"{"rows":[["a",0],["b",0]],"seen":3}"#,
+        ),
+        (
+            &[Row::Area(1, 0, 0, 2), Row::Area(1, 1, 1, 1)],
+            3,
+            r#"{"rows":[[1,0,0,2],[1,1,1,1]],"seen":3}"#,
+        ),
+        (
+            &[Row::Bin(0, 1), Row::Bin(1, 2), Row::Bin(2, 0)],
+            3,
+            r#"{"rows":[[0,1],[1,2],[2,0]],"seen":3}"#,
+        ),
+        (&[], 0, r#"{"rows":[],"seen":0}"#),
+        (
+            &[Row::Value("a\\b\tcé", 1)],
+            1,
+            r#"{"rows":[["a\\b\tcé",1]],"seen":1}"#,
+        ),
+    ];
+    for (rows, seen, text) in cases {
+        check(&rt, rt.alloc(), &table(rt.alloc(), rows, seen)?, text)?;
+    }
     Ok(())
 }
 
 #[test]
-fn prints_replies_that_are_no_table(rt: HostRuntime) -> Result<(), Fail> {
-    let alloc = rt.alloc();
+fn prints_replies_that_are_no_table_and_reads_them_back(rt: HostRuntime) -> Result<(), Fail> {
     let stat = Stat {
         nodes: 6,
         tables: 1,
         proper: 6,
         shared: 4,
     };
-    assert_eq!(rt;
-        printed(alloc, &Reply::Stat(stat, 1))?.as_slice(),
-        STAT.as_bytes()
-    );
-    assert_eq!(rt;
-        printed(alloc, &Reply::Told(7))?.as_slice(),
-        TOLD.as_bytes()
-    );
-    let fault = Reply::Fault(QueryFault::BadTile, 3);
-    assert_eq!(rt; printed(alloc, &fault)?.as_slice(), FAULT.as_bytes());
-    assert_eq!(rt;
-        printed(alloc, &Reply::NoMemory)?.as_slice(),
-        NO_MEMORY.as_bytes()
-    );
+    let cases = [
+        (
+            Reply::Stat(stat, 1),
+            r#"{"nodes":6,"proper":6,"seen":1,"shared":4,"tables":1}"#,
+        ),
+        (Reply::Told(7), r#"{"told":7}"#),
+        (
+            Reply::Fault(QueryFault::BadTile, 3),
+            r#"{"at":3,"fault":"BadTile"}"#,
+        ),
+        (Reply::NoMemory, r#"{"fault":"NoMemory"}"#),
+    ];
+    for (reply, text) in &cases {
+        check(&rt, rt.alloc(), reply, text)?;
+    }
     assert_eq!(rt; no_memory_line(), "{\"fault\":\"NoMemory\"}\n");
     Ok(())
 }
 
 #[test]
 fn rows_of_two_kinds_or_two_totals_are_not_valid(rt: HostRuntime) -> Result<(), Fail> {
-    let alloc = rt.alloc();
-    let two_kinds = table(vec![in alloc; RowOut::Bin(0, 1), area_row(0, 0, 0, 1)]?, 1);
-    assert!(rt; !is_valid_reply(&two_kinds));
-    let two_totals = table(vec![in alloc; RowOut::One(1), RowOut::One(1)]?, 1);
-    assert!(rt; !is_valid_reply(&two_totals));
-    Ok(())
-}
-
-#[test]
-fn reads_what_is_printed(rt: HostRuntime) -> Result<(), Fail> {
-    let texts = [
-        COUNT, HIST, MAP, SERIES, NO_ROWS, STAT, TOLD, FAULT, NO_MEMORY, ESCAPED,
+    let cases: [&[Row]; 2] = [
+        &[Row::Bin(0, 1), Row::Area(0, 0, 0, 1)],
+        &[Row::One(1), Row::One(1)],
     ];
-    for text in texts {
-        let reply = read_reply(rt.alloc(), text.as_bytes())
-            .ok()
-            .ok_or("it is a reply")?;
-        assert_eq!(rt; printed(rt.alloc(), &reply)?.as_slice(), text.as_bytes());
+    for rows in cases {
+        let reply = table(rt.alloc(), rows, 1)?;
+        assert!(rt; !is_valid_reply(&reply));
     }
     Ok(())
 }
 
+// The example of the crate's page.
+#[test]
+fn reads_and_prints_what_was_told(rt: HostRuntime) -> Result<(), Fail> {
+    let Ok(reply) = read_reply(rt.alloc(), br#"{"told":7}"#) else {
+        return Err(Fail::from("it is a reply"));
+    };
+    assert!(rt; matches!(reply, Reply::Told(7)));
+    check_printed(&rt, rt.alloc(), &reply, r#"{"told":7}"#)
+}
+
 #[test]
 fn reads_a_total_alone_as_the_table_of_one_row(rt: HostRuntime) -> Result<(), Fail> {
-    let Ok(Reply::Table(table)) = read_reply(rt.alloc(), COUNT.as_bytes()) else {
+    let text = br#"{"rows":[[3]],"seen":3}"#;
+    let Ok(Reply::Table(table)) = read_reply(rt.alloc(), text) else {
         return Err(Fail::from("it is a table"));
     };
     assert!(rt; matches!(table.rows.as_slice(), [RowOut::One(3)]));
@@ -139,20 +150,20 @@ fn refuses_every_other_spelling(rt: HostRuntime) -> Result<(), Fail> {
         b"3",
         b"{}",
         b"\"\xff\"",
-        b" {\"rows\":[[3]],\"seen\":3}",
+        br#" {"rows":[[3]],"seen":3}"#,
         b"{\"rows\":[[3]],\"seen\":3}\n",
-        b"{\"rows\":[[3]], \"seen\":3}",
-        b"{\"rows\":[[3.0]],\"seen\":3}",
-        b"{\"rows\":[[03]],\"seen\":3}",
-        b"{\"rows\":[[3]],\"seen\":3,\"seen\":3}",
-        b"{\"seen\":3,\"rows\":[[3]]}",
-        b"{\"rows\":[[3]],\"seen\":3,\"told\":3}",
-        b"{\"rows\":[[3],[3]],\"seen\":3}",
-        b"{\"rows\":[[\"a\",0],[0,1]],\"seen\":3}",
-        b"{\"rows\":[[256,0,0,1]],\"seen\":3}",
-        b"{\"rows\":[[18446744073709551616]],\"seen\":3}",
-        b"{\"at\":4294967296,\"fault\":\"BadTile\"}",
-        b"{\"at\":3,\"fault\":\"NoMemory\"}",
+        br#"{"rows":[[3]], "seen":3}"#,
+        br#"{"rows":[[3.0]],"seen":3}"#,
+        br#"{"rows":[[03]],"seen":3}"#,
+        br#"{"rows":[[3]],"seen":3,"seen":3}"#,
+        br#"{"seen":3,"rows":[[3]]}"#,
+        br#"{"rows":[[3]],"seen":3,"told":3}"#,
+        br#"{"rows":[[3],[3]],"seen":3}"#,
+        br#"{"rows":[["a",0],[0,1]],"seen":3}"#,
+        br#"{"rows":[[256,0,0,1]],"seen":3}"#,
+        br#"{"rows":[[18446744073709551616]],"seen":3}"#,
+        br#"{"at":4294967296,"fault":"BadTile"}"#,
+        br#"{"at":3,"fault":"NoMemory"}"#,
     ];
     for text in texts {
         let read = read_reply(rt.alloc(), text);

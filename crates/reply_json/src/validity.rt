@@ -1,31 +1,31 @@
 //! Which replies are valid.
 ghost use Rattle.std.specs.Prelude.{◌≡◌};
 ghost use Rattle.std.specs.List.{list_all};
-ghost use Rattle.reply_json.specs.Validity.{is_total, is_value, is_area, is_bin, are_valid_rows, is_valid_reply};
+ghost use Rattle.reply_json.specs.Validity.{is_one_total, is_value_row, is_area_row, is_bin_row, are_valid_rows, is_valid_reply};
 
 use crate::Reply;
 use query_syntax::RowOut;
 
 fn all_values(rows: &[RowOut]) -> bool
-    ensures { result ≡ list_all is_value rows.now }
+    ensures { result ≡ list_all is_value_row rows.now }
 {
     rows.iter().all(|row| matches!(row, RowOut::Value(_, _)))
 }
 
 fn all_areas(rows: &[RowOut]) -> bool
-    ensures { result ≡ list_all is_area rows.now }
+    ensures { result ≡ list_all is_area_row rows.now }
 {
     rows.iter().all(|row| matches!(row, RowOut::Area(_, _)))
 }
 
 fn all_bins(rows: &[RowOut]) -> bool
-    ensures { result ≡ list_all is_bin rows.now }
+    ensures { result ≡ list_all is_bin_row rows.now }
 {
     rows.iter().all(|row| matches!(row, RowOut::Bin(_, _)))
 }
 
-fn is_total(rows: &[RowOut]) -> bool
-    ensures { result ≡ is_total rows.now }
+fn is_one_total(rows: &[RowOut]) -> bool
+    ensures { result ≡ is_one_total rows.now }
 {
     matches!(rows, [RowOut::One(_)])
 }
@@ -39,7 +39,7 @@ pub fn is_valid_reply(reply: &Reply) -> bool
     match reply {
         Reply::Table(table) => {
             let rows = table.rows.as_slice();
-            is_total(rows) || all_values(rows) || all_areas(rows) || all_bins(rows)
+            is_one_total(rows) || all_values(rows) || all_areas(rows) || all_bins(rows)
         }
         _ => true,
     }

@@ -1,4 +1,4 @@
--- The table of a query is a reply that can be printed.
+-- Law: the table of a query is a reply that can be printed.
 use Rattle.std.specs.Prelude.{◌≡◌, ℕ, Bool, true, false, ◌||◌, ◌==◌, if◌then◌else◌, List, [], ◌∷◌, length, map, Some, None, refl}
 use Rattle.std.specs.List.{list_all, filter_map, range_with_len, cons_option}
 use Rattle.std.proofs.Common.{ap, ◌∙◌}
@@ -16,34 +16,34 @@ use Rattle.query_syntax.specs.declared.query.Verb.{Verb}
 use Rattle.query_syntax.specs.declared.query.Verb.TheVariants as verb
 use Rattle.query_syntax.specs.declared.table.RowOut.{RowOut}
 use Rattle.reply_json.specs.declared.reply.Reply.{Reply}
-use Rattle.reply_json.specs.Validity.{are_valid_rows, is_area, is_bin, is_total, is_valid_reply, is_value}
+use Rattle.reply_json.specs.Validity.{are_valid_rows, is_area_row, is_bin_row, is_one_total, is_valid_reply, is_value_row}
 
 -- rows of one kind are valid
-values_valid : (rows : List RowOut) → list_all is_value rows ≡ true → are_valid_rows rows ≡ true
-values_valid rows all = ap (λ b. is_total rows || b || list_all is_area rows || list_all is_bin rows) all ∙ ap (λ b. b || list_all is_area rows || list_all is_bin rows) (or-true (is_total rows))
+values_valid : (rows : List RowOut) → list_all is_value_row rows ≡ true → are_valid_rows rows ≡ true
+values_valid rows all = ap (λ b. is_one_total rows || b || list_all is_area_row rows || list_all is_bin_row rows) all ∙ ap (λ b. b || list_all is_area_row rows || list_all is_bin_row rows) (or-true (is_one_total rows))
 
-areas_valid : (rows : List RowOut) → list_all is_area rows ≡ true → are_valid_rows rows ≡ true
-areas_valid rows all = ap (λ b. is_total rows || list_all is_value rows || b || list_all is_bin rows) all ∙ ap (λ b. b || list_all is_bin rows) (or-true (is_total rows || list_all is_value rows))
+areas_valid : (rows : List RowOut) → list_all is_area_row rows ≡ true → are_valid_rows rows ≡ true
+areas_valid rows all = ap (λ b. is_one_total rows || list_all is_value_row rows || b || list_all is_bin_row rows) all ∙ ap (λ b. b || list_all is_bin_row rows) (or-true (is_one_total rows || list_all is_value_row rows))
 
-bins_valid : (rows : List RowOut) → list_all is_bin rows ≡ true → are_valid_rows rows ≡ true
-bins_valid rows all = ap (λ b. is_total rows || list_all is_value rows || list_all is_area rows || b) all ∙ or-true (is_total rows || list_all is_value rows || list_all is_area rows)
+bins_valid : (rows : List RowOut) → list_all is_bin_row rows ≡ true → are_valid_rows rows ≡ true
+bins_valid rows all = ap (λ b. is_one_total rows || list_all is_value_row rows || list_all is_area_row rows || b) all ∙ or-true (is_one_total rows || list_all is_value_row rows || list_all is_area_row rows)
 
 -- a tile's row, if there is one, before rows of tiles
-area_first : (b : Bool) (t : Tile) (n : ℕ) (rows : List RowOut) → list_all is_area rows ≡ true → list_all is_area (cons_option (if b then None else Some (RowOut.Area t n)) rows) ≡ true
+area_first : (b : Bool) (t : Tile) (n : ℕ) (rows : List RowOut) → list_all is_area_row rows ≡ true → list_all is_area_row (cons_option (if b then None else Some (RowOut.Area t n)) rows) ≡ true
 area_first true t n rows all = all
 area_first false t n rows all = all
 
 module _ (schema : Schema) (q : Query) (h : List Point) where
-  values_all : (k : ℕ) (vs : List ℕ) → list_all is_value (map (value_row schema q h k) vs) ≡ true
+  values_all : (k : ℕ) (vs : List ℕ) → list_all is_value_row (map (value_row schema q h k) vs) ≡ true
   values_all k [] = refl
   values_all k (v ∷ vs) = values_all k vs
 
-  areas_all : (tiles : List Tile) → list_all is_area (filter_map (area_row schema q h) tiles) ≡ true
+  areas_all : (tiles : List Tile) → list_all is_area_row (filter_map (area_row schema q h) tiles) ≡ true
   areas_all [] = refl
   areas_all (t ∷ tiles) =
       area_first (total schema (with_tile (box q) t) h == 0) t (total schema (with_tile (box q) t) h) (filter_map (area_row schema q h) tiles) (areas_all tiles)
 
-  bins_all : (from wide : ℕ) (is : List ℕ) → list_all is_bin (map (bins_row schema q h from wide) is) ≡ true
+  bins_all : (from wide : ℕ) (is : List ℕ) → list_all is_bin_row (map (bins_row schema q h from wide) is) ≡ true
   bins_all from wide [] = refl
   bins_all from wide (i ∷ is) = bins_all from wide is
 
@@ -58,6 +58,6 @@ module _ (schema : Schema) (q : Query) (h : List Point) where
   rows_valid verb.Quit asked = absurd (false≢true asked)
 
   -- the reply to a query that asks for a table can be printed
-  pub table_valid : has_table q.verb ≡ true → is_valid_reply (Reply.Table (table schema q h)) ≡ true
+  pub is_valid_reply-table : has_table q.verb ≡ true → is_valid_reply (Reply.Table (table schema q h)) ≡ true
   unfolding is_valid_reply table table_rows
-  table_valid asked = rows_valid q.verb asked
+  is_valid_reply-table asked = rows_valid q.verb asked
