@@ -1,8 +1,9 @@
 -- Steps of a count of the points of a box.
-use Rattle.std.proofs.Common.{◌≡◌, ℕ, ◌+◌, ◌<◌, Bool, true, false, List, [], length, map, take, drop, get_or, sym, ◌∙◌, arith}
-use Rattle.cube_view.specs.Amounts.{amount-nil, amount_gain, amount_skip}
-use Rattle.cube_view.specs.Points.{Point, spot_of}
-use Rattle.cube_view.specs.Weighing.{weight_is}
+use Rattle.std.proofs.Common.{◌≡◌, ℕ, ◌+◌, ◌<◌, ◌≤◌, Bool, true, false, List, [], length, map, take, drop, get_or, sym, ◌∙◌, arith}
+use Rattle.cube_view.specs.Bag.{amount, anywhere}
+use Rattle.cube_view.proofs.Amounts.{amount-nil, amount-gain, amount-skip, amount-take, amount-within}
+use Rattle.cube_view.specs.declared.spot.Point.{Point}
+use Rattle.cube_view.specs.Points.{spot_of, weight_of_point}
 use Rattle.cube_view.specs.declared.schema.Schema.{Schema}
 use Rattle.query_syntax.specs.Boxes.{Box, chosen, are_in_sets, inside, total}
 use Rattle.query_syntax.specs.declared.query.Choice.{Choice}
@@ -19,14 +20,20 @@ module _ (schema : Schema) (b : Box) where
 
   module _ (h : List Point) (i : ℕ) (d : Point) (n : ℕ) (lt : i < length h) (so_far : n ≡ total schema b (take i h)) where
     -- one point inside the box
-    pub total_more : inside schema b (spot_of (get_or h i d)) ≡ true → n + 1 ≡ total schema b (take (i + 1) h)
+    pub total_more : inside schema b (spot_of (get_or h i d)) ≡ true → n + weight_of_point (get_or h i d) ≡ total schema b (take (i + 1) h)
     unfolding total
-    total_more is =
-        let g = amount_gain (inside schema b) h i d lt is in
-        let w = weight_is (get_or h i d) in
-        omega (arith, g, w, so_far)
+    total_more is = let g = amount-gain (inside schema b) h i d lt is in omega (arith, g, so_far)
 
     -- one point outside
     pub total_same : inside schema b (spot_of (get_or h i d)) ≡ false → n ≡ total schema b (take (i + 1) h)
     unfolding total
-    total_same is = so_far ∙ sym (amount_skip (inside schema b) h i d lt is)
+    total_same is = so_far ∙ sym (amount-skip (inside schema b) h i d lt is)
+
+    -- the total of some points is no more than all of them weigh
+    pub total_light : inside schema b (spot_of (get_or h i d)) ≡ true → n + weight_of_point (get_or h i d) ≤ amount anywhere h
+    unfolding total
+    total_light is =
+        let more = total_more is in
+        let part = amount-take (inside schema b) h (i + 1) in
+        let all = amount-within (inside schema b) h in
+        omega (arith, more, part, all)

@@ -3,7 +3,7 @@ use Rattle.std.proofs.Common.{◌≡◌, ℕ, ◌+◌, ◌<◌, ◌≤◌, Bool,
 use Rattle.std.specs.Prelude.{codes, is_some, count_by, slice_set}
 use Rattle.std.specs.Str.{bytes_eq}
 use Rattle.std.proofs.lemmas.List.Sums.{sum_by-set, count_by-le-length}
-use Rattle.query_syntax.specs.SchemaLimits.{has_item-get}
+use Rattle.query_syntax.proofs.SchemaLimits.{has_item-get}
 use Rattle.cube_view.specs.declared.schema.Schema.{Schema}
 use Rattle.query_syntax.specs.Filters.{words_read, ReadsOn, one_if, filters_used}
 use Rattle.query_syntax.specs.Filters.Wanted.{Name, Region, Item, From}

@@ -9,7 +9,12 @@ pub mod PrintedNumbers
 pub mod PrintedVerbs
 pub mod Quoting
 pub mod ReadBack
+pub mod SchemaLimits
 pub mod Sets
+pub mod TableLaws
 pub mod TableRows
+pub mod TileLaws
+pub mod TilesInside
+pub mod ValidParts
 pub mod Validity
 pub mod WholeTexts

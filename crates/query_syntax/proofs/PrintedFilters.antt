@@ -4,7 +4,7 @@ use Rattle.std.specs.Prelude.{◌==◌, nat_le, nat_lt, map, replicate, slice_se
 use Rattle.std.specs.Fmt.{decimal}
 use Rattle.std.specs.List.{list_all}
 use Rattle.std.proofs.Math.Seq.{set-append_seam}
-use Rattle.std.proofs.lemmas.Bool.{leb-true, eqb-true, false≢true}
+use Rattle.std.proofs.lemmas.Bool.{leb-true, eqb-true, false≢true, and_parts, and_from}
 use Rattle.std.proofs.lemmas.Bool.Decides.{nat_tests}
 use Rattle.std.proofs.lemmas.List.Folds.{list_all-append}
 use Rattle.cube_view.specs.Limits.{all_distinct, category_in_range, values_distinct}
@@ -27,7 +27,6 @@ use Rattle.query_syntax.proofs.FilterSteps.{region_begins, item_begins, time_beg
 use Rattle.query_syntax.proofs.PrintedItems.{item_reads, item_is_word, length-push}
 use Rattle.query_syntax.proofs.PrintedNumbers.{number_reads, decimal_is_word}
 use Rattle.query_syntax.proofs.PrintedVerbs.{tile_reads, tile_is_word, SmallTile, from_zero}
-use Rattle.query_syntax.specs.SchemaLimits.{and_left, and_right, and_both}
 use Rattle.query_syntax.proofs.Sets.{or_all}
 use Rattle.query_syntax.proofs.WholeTexts.{is_word}
 
@@ -65,8 +64,8 @@ region_reads schema verb t sets ws after few h takes goes_on = region_by (t.z ==
 span_by : (whole : Bool) (schema : Schema) (verb : Verb) (span : Span) (region : Option Tile) (sets : List (Option Choice)) → is_span span ≡ true → takes_filters verb ≡ true → (whole ≡ false → is_series verb ≡ false) → Says schema verb (filters_with region sets None) (cond whole [] (codes "time" ∷ decimal span.from ∷ decimal span.to ∷ [])) (filters_with region sets (cond whole None (Some span)))
 span_by true schema verb span region sets h takes series = λ n. refl
 span_by false schema verb span region sets h takes series = λ n.
-    let order : span.from ≤ span.to = leb-true span.from span.to (and_left _ (nat_le span.to bins) h) in
-    let within : span.to ≤ 2 ^ 32 = leb-true span.to bins (and_right (nat_le span.from span.to) _ h) in
+    let order : span.from ≤ span.to = leb-true span.from span.to ((and_parts _ (nat_le span.to bins) h).0) in
+    let within : span.to ≤ 2 ^ 32 = leb-true span.to bins ((and_parts (nat_le span.from span.to) _ h).1) in
     let forward : nat_lt span.to span.from ≡ false = grind (arith, nat_tests, order) in
     time_begins schema verb (filters_with region sets None) n (codes "time") (decimal span.from ∷ decimal span.to ∷ []) takes refl refl refl (series refl) refl
     ∙ rw (number_reads 0 bins span.from (n + 1) (omega arith) (from_zero span.from bins (omega arith)), number_reads 0 bins span.to (n + 1 + 1) (omega arith) (from_zero span.to bins within), forward) refl
@@ -106,16 +105,16 @@ items_read schema verb region ws after pre (c ∷ cs) front (choice ∷ choices)
     let end : Says schema verb (filters_with region ((front ++ said choice ∷ []) ++ map said choices) None) ws after = λ n.
     ap (λ (s : List (Option Choice)). words_read schema verb Name (filters_with region s None) n ws) (append_assoc front (said choice ∷ []) (map said choices)) ∙ goes_on n in
     let later : Says schema verb (filters_with region ((front ++ said choice ∷ []) ++ nones choices) None) (choices_texts cs choices ++ ws) after =
-    items_read schema verb region ws after (pre ++ c ∷ []) cs (front ++ said choice ∷ []) choices takes (is ∙ sym (append_assoc pre (c ∷ []) cs)) names (and_right (values_distinct c) _ distinct) (and_right (category_in_range c) _ range) (length-push front (said choice) ∙ ap (λ (n : ℕ). n + 1) size ∙ sym (length-push pre c)) (and_right (is_choice (length c.values) choice) _ h) end in
+    items_read schema verb region ws after (pre ++ c ∷ []) cs (front ++ said choice ∷ []) choices takes (is ∙ sym (append_assoc pre (c ∷ []) cs)) names ((and_parts (values_distinct c) _ distinct).1) ((and_parts (category_in_range c) _ range).1) (length-push front (said choice) ∙ ap (λ (n : ℕ). n + 1) size ∙ sym (length-push pre c)) ((and_parts (is_choice (length c.values) choice) _ h).1) end in
     let rest : Says schema verb (filters_with region (front ++ said choice ∷ nones choices) None) (choices_texts cs choices ++ ws) after = λ n.
     ap (λ (s : List (Option Choice)). words_read schema verb Name (filters_with region s None) n (choices_texts cs choices ++ ws)) (sym (append_assoc front (said choice ∷ []) (nones choices))) ∙ later n in
-    item_by schema verb region ws after pre c cs front choice choices takes is names (and_left (values_distinct c) _ distinct) (and_left (category_in_range c) _ range) size (and_left (is_choice (length c.values) choice) _ h) rest
+    item_by schema verb region ws after pre c cs front choice choices takes is names ((and_parts (values_distinct c) _ distinct).0) ((and_parts (category_in_range c) _ range).0) size ((and_parts (is_choice (length c.values) choice) _ h).0) rest
 
 -- the filters of a query as words
 
 region_words_by : (whole : Bool) (depth : ℕ) (t : Tile) → depth ≤ 20 → is_tile depth t ≡ true → list_all is_word (cond whole [] (codes "in" ∷ tile_text t ∷ [])) ≡ true
 region_words_by true depth t few h = refl
-region_words_by false depth t few h = and_both _ _ (tile_is_word depth t few h) refl
+region_words_by false depth t few h = and_from _ _ (tile_is_word depth t few h) refl
 
 pub region_texts_are_words : (depth : ℕ) (t : Tile) → depth ≤ 20 → is_tile depth t ≡ true → list_all is_word (region_texts t) ≡ true
 region_texts_are_words depth t few h = region_words_by (t.z == 0) depth t few h
@@ -123,23 +122,23 @@ region_texts_are_words depth t few h = region_words_by (t.z == 0) depth t few h
 span_words_by : (whole : Bool) (span : Span) → is_span span ≡ true → list_all is_word (cond whole [] (codes "time" ∷ decimal span.from ∷ decimal span.to ∷ [])) ≡ true
 span_words_by true span h = refl
 span_words_by false span h =
-    let order : span.from ≤ span.to = leb-true span.from span.to (and_left _ (nat_le span.to bins) h) in
-    let within : span.to ≤ 2 ^ 32 = leb-true span.to bins (and_right (nat_le span.from span.to) _ h) in
-    and_both _ _ (decimal_is_word span.from (omega arith)) (and_both _ _ (decimal_is_word span.to (omega arith)) refl)
+    let order : span.from ≤ span.to = leb-true span.from span.to ((and_parts _ (nat_le span.to bins) h).0) in
+    let within : span.to ≤ 2 ^ 32 = leb-true span.to bins ((and_parts (nat_le span.from span.to) _ h).1) in
+    and_from _ _ (decimal_is_word span.from (omega arith)) (and_from _ _ (decimal_is_word span.to (omega arith)) refl)
 
 pub span_texts_are_words : (span : Span) → is_span span ≡ true → list_all is_word (span_texts span) ≡ true
 span_texts_are_words span h = span_words_by (is_all_bins span) span h
 
 choice_words : (c : Category) (choice : Choice) → category_in_range c ≡ true → list_all is_word (choice_texts c choice) ≡ true
 choice_words c All h = refl
-choice_words c (Only set) h = and_both _ _ (item_is_word c set h) refl
+choice_words c (Only set) h = and_from _ _ (item_is_word c set h) refl
 
 pub choices_texts_are_words : (categories : List Category) (choices : List Choice) → list_all category_in_range categories ≡ true → list_all is_word (choices_texts categories choices) ≡ true
 choices_texts_are_words [] choices h = refl
 choices_texts_are_words (c ∷ categories) [] h = refl
 choices_texts_are_words (c ∷ categories) (choice ∷ choices) h =
     list_all-append is_word (choice_texts c choice) (choices_texts categories choices)
-    ∙ and_both _ _ (choice_words c choice (and_left (category_in_range c) _ h)) (choices_texts_are_words categories choices (and_right (category_in_range c) _ h))
+    ∙ and_from _ _ (choice_words c choice ((and_parts (category_in_range c) _ h).0)) (choices_texts_are_words categories choices ((and_parts (category_in_range c) _ h).1))
 
 -- what the filters said is what the query has
 
@@ -165,8 +164,8 @@ span_of from to = record { from = from; to = to }
 
 span_back_by : (whole : Bool) (span : Span) → whole ≡ is_all_bins span → unwrap_or (cond whole None (Some span)) all_bins ≡ span
 span_back_by true span is =
-    let from : span.from ≡ 0 = eqb-true span.from 0 (and_left _ (span.to == bins) (sym is)) in
-    let to : span.to ≡ bins = eqb-true span.to bins (and_right (span.from == 0) _ (sym is)) in
+    let from : span.from ≡ 0 = eqb-true span.from 0 ((and_parts _ (span.to == bins) (sym is)).0) in
+    let to : span.to ≡ bins = eqb-true span.to bins ((and_parts (span.from == 0) _ (sym is)).1) in
     ap (λ (n : ℕ). span_of n bins) (sym from) ∙ ap (λ (n : ℕ). span_of span.from n) (sym to)
 span_back_by false span is = refl
 

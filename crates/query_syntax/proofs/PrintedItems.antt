@@ -3,7 +3,7 @@ use Rattle.std.proofs.Common.{◌≡◌, ℕ, ◌+◌, Bool, true, false, List, 
 use Rattle.std.specs.Prelude.{not, ◌==◌, nat_le, map, replicate, position, slice_set, option_and_then, option_map}
 use Rattle.std.specs.List.{list_all, list_any, join_with_byte}
 use Rattle.std.specs.Str.{bytes_eq}
-use Rattle.std.proofs.lemmas.Bool.{false≢true}
+use Rattle.std.proofs.lemmas.Bool.{false≢true, and_parts, and_from}
 use Rattle.std.proofs.lemmas.Bool.Decides.{nat_tests}
 use Rattle.std.proofs.lemmas.List.{length-append, map-id}
 use Rattle.std.proofs.Math.Seq.{set-append_seam, take-append_seam, drop-append-add}
@@ -18,7 +18,6 @@ use Rattle.query_syntax.specs.declared.query.Choice.TheVariants.{Only}
 use Rattle.query_syntax.proofs.Places.{position_at, position_of, values_at-seam, has_item-seam}
 use Rattle.query_syntax.proofs.PrintedNumbers.{some_from_length}
 use Rattle.query_syntax.proofs.Quoting.{no_quote, filter_same, bare-in_quotes, well_quoted_plain, well_quoted_between}
-use Rattle.query_syntax.specs.SchemaLimits.{and_left, and_right, and_both}
 use Rattle.query_syntax.proofs.WholeTexts.{stays_whole, not_false, all_weaker, is_plain, plain_whole, whole-append, pieces_joined, value_whole_in_item, value_whole_in_line, quotes_parity, is_word}
 
 -- no value has a quote
@@ -26,10 +25,10 @@ abbrev pub are_unquoted : List (List ℕ) → Bool
 are_unquoted values = list_all (list_all no_quote) values
 
 value_unquoted : (v : List ℕ) → is_value v ≡ true → list_all no_quote v ≡ true
-value_unquoted v h = all_weaker is_value_byte no_quote (λ b k. and_right (nat_le 32 b) _ (and_left _ (not (b == 127)) k)) v (and_right (is_between 1 64 (length v)) _ h)
+value_unquoted v h = all_weaker is_value_byte no_quote (λ b k. (and_parts (nat_le 32 b) _ ((and_parts _ (not (b == 127)) k).0)).1) v ((and_parts (is_between 1 64 (length v)) _ h).1)
 
 pub values_unquoted : (c : Category) → category_in_range c ≡ true → are_unquoted c.values ≡ true
-values_unquoted c h = all_weaker is_value (list_all no_quote) value_unquoted c.values (and_right _ (list_all is_value c.values) h)
+values_unquoted c h = all_weaker is_value (list_all no_quote) value_unquoted c.values ((and_parts _ (list_all is_value c.values) h).1)
 
 -- one value
 
@@ -52,8 +51,8 @@ value_well_quoted v h = quoted_by (list_any needs_quotes v) v h
 texts_all : (p : List ℕ → Bool) → ((v : List ℕ) → list_all no_quote v ≡ true → p (value_text v) ≡ true) → (set : List Bool) (values : List (List ℕ)) → are_unquoted values ≡ true → list_all p (value_texts set values) ≡ true
 texts_all p f [] values h = refl
 texts_all p f (b ∷ set) [] h = refl
-texts_all p f (true ∷ set) (v ∷ values) h = and_both (p (value_text v)) _ (f v (and_left (list_all no_quote v) _ h)) (texts_all p f set values (and_right (list_all no_quote v) _ h))
-texts_all p f (false ∷ set) (v ∷ values) h = texts_all p f set values (and_right (list_all no_quote v) _ h)
+texts_all p f (true ∷ set) (v ∷ values) h = and_from (p (value_text v)) _ (f v ((and_parts (list_all no_quote v) _ h).0)) (texts_all p f set values ((and_parts (list_all no_quote v) _ h).1))
+texts_all p f (false ∷ set) (v ∷ values) h = texts_all p f set values ((and_parts (list_all no_quote v) _ h).1)
 
 texts_some : (set : List Bool) (values : List (List ℕ)) → list_any (λ b. b) set ≡ true → list_any (λ b. b) (drop (length values) set) ≡ false → (w : List ℕ) × (ws : List (List ℕ)) × (value_texts set values ≡ w ∷ ws)
 texts_some [] values h k = absurd (false≢true h)
@@ -90,13 +89,13 @@ rebuilt values pre vs front [] is size distinct h none = refl
 rebuilt values pre [] front (b ∷ back) is size distinct h none = ap (λ (s : List Bool). Some (front ++ s)) (falses_are (b ∷ back) none)
 rebuilt values pre (v ∷ vs) front (b ∷ back) is size distinct h none =
     let rest : with_values values ((front ++ b ∷ []) ++ falses back) (value_texts back vs) ≡ Some ((front ++ b ∷ []) ++ back) =
-    rebuilt values (pre ++ v ∷ []) vs (front ++ b ∷ []) back (is ∙ sym (append_assoc pre (v ∷ []) vs)) (length-push front b ∙ ap (λ (n : ℕ). n + 1) size ∙ sym (length-push pre v)) distinct (and_right (list_all no_quote v) _ h) none in
+    rebuilt values (pre ++ v ∷ []) vs (front ++ b ∷ []) back (is ∙ sym (append_assoc pre (v ∷ []) vs)) (length-push front b ∙ ap (λ (n : ℕ). n + 1) size ∙ sym (length-push pre v)) distinct ((and_parts (list_all no_quote v) _ h).1) none in
     let onward : with_values values (front ++ b ∷ falses back) (value_texts back vs) ≡ Some (front ++ b ∷ back) =
     ap (λ (s : List Bool). with_values values s (value_texts back vs)) (sym (append_assoc front (b ∷ []) (falses back))) ∙ rest ∙ ap (λ (s : List Bool). Some s) (append_assoc front (b ∷ []) back) in
     (elim b as (λ b. with_values values (front ++ b ∷ falses back) (value_texts back vs) ≡ Some (front ++ b ∷ back) → with_values values (front ++ false ∷ falses back) (value_texts (b ∷ back) (v ∷ vs)) ≡ Some (front ++ b ∷ back)) [
       | false ↦ λ e. e
       | true ↦ λ e.
-          let number : value_number values (value_text v) ≡ Some (length pre) = ap (λ (t : List (List ℕ)). value_number t (value_text v)) is ∙ number_of_value pre v vs (ap all_distinct (sym is) ∙ distinct) (and_left (list_all no_quote v) _ h) in
+          let number : value_number values (value_text v) ≡ Some (length pre) = ap (λ (t : List (List ℕ)). value_number t (value_text v)) is ∙ number_of_value pre v vs (ap all_distinct (sym is) ∙ distinct) ((and_parts (list_all no_quote v) _ h).0) in
           let put : slice_set (front ++ false ∷ falses back) (length pre) true ≡ front ++ true ∷ falses back = ap (λ (n : ℕ). slice_set (front ++ false ∷ falses back) n true) (sym size) ∙ set-append_seam front false (falses back) true in
           ap (λ (o : Option ℕ). option_and_then (λ n. with_values values (slice_set (front ++ false ∷ falses back) n true) (value_texts back vs)) o) number
           ∙ ap (λ (s : List Bool). with_values values s (value_texts back vs)) put ∙ e
@@ -114,10 +113,10 @@ set_reads set values size distinct h some none =
 
 joined_whole : (ws : List (List ℕ)) → list_all (stays_whole space false) ws ≡ true → stays_whole space false (join_with_byte bar ws) ≡ true
 joined_whole [] h = refl
-joined_whole (w ∷ []) h = and_left (stays_whole space false w) _ h
+joined_whole (w ∷ []) h = (and_parts (stays_whole space false w) _ h).0
 joined_whole (w ∷ x ∷ ws) h =
-    whole-append space false w (bar ∷ join_with_byte bar (x ∷ ws)) (and_left (stays_whole space false w) _ h)
-    ∙ joined_whole (x ∷ ws) (and_right (stays_whole space false w) _ h)
+    whole-append space false w (bar ∷ join_with_byte bar (x ∷ ws)) ((and_parts (stays_whole space false w) _ h).0)
+    ∙ joined_whole (x ∷ ws) ((and_parts (stays_whole space false w) _ h).1)
 
 name_byte_in_line : (b : ℕ) → is_name_byte b ≡ true → is_plain space b ≡ true
 name_byte_in_line b h = grind (arith, nat_tests, h)
@@ -126,18 +125,18 @@ name_byte_no_equals : (b : ℕ) → is_name_byte b ≡ true → is_equals_sign b
 name_byte_no_equals b h = grind (arith, nat_tests, h)
 
 name_of : (c : Category) → category_in_range c ≡ true → is_category_name c.name ≡ true
-name_of c h = and_left (is_category_name c.name) _ (and_left _ (list_all is_value c.values) h)
+name_of c h = (and_parts (is_category_name c.name) _ ((and_parts _ (list_all is_value c.values) h).0)).0
 
 name_bytes : (c : Category) → category_in_range c ≡ true → list_all is_name_byte c.name ≡ true
-name_bytes c h = and_right (is_between 1 32 (length c.name)) _ (name_of c h)
+name_bytes c h = (and_parts (is_between 1 32 (length c.name)) _ (name_of c h)).1
 
 name_whole : (c : Category) → category_in_range c ≡ true → stays_whole space false c.name ≡ true
 name_whole c h = plain_whole space c.name (all_weaker is_name_byte (is_plain space) name_byte_in_line c.name (name_bytes c h))
 
 pub name_is_word : (c : Category) → category_in_range c ≡ true → is_word c.name ≡ true
 name_is_word c h =
-    let range : is_between 1 32 (length c.name) ≡ true = and_left _ (list_all is_name_byte c.name) (name_of c h) in
-    and_both _ _ (some_from_length c.name (grind (arith, nat_tests, range))) (name_whole c h)
+    let range : is_between 1 32 (length c.name) ≡ true = (and_parts _ (list_all is_name_byte c.name) (name_of c h)).0 in
+    and_from _ _ (some_from_length c.name (grind (arith, nat_tests, range))) (name_whole c h)
 
 item_whole : (c : Category) (set : List Bool) → category_in_range c ≡ true → stays_whole space false (item_text c set) ≡ true
 item_whole c set h =
@@ -149,11 +148,11 @@ some-append [] b v = refl
 some-append (x ∷ u) b v = refl
 
 pub item_is_word : (c : Category) (set : List Bool) → category_in_range c ≡ true → is_word (item_text c set) ≡ true
-item_is_word c set h = and_both _ _ (some-append c.name 61 (join_with_byte bar (value_texts set c.values))) (item_whole c set h)
+item_is_word c set h = and_from _ _ (some-append c.name 61 (join_with_byte bar (value_texts set c.values))) (item_whole c set h)
 
 no_equals : (name : List ℕ) → list_all is_name_byte name ≡ true → list_any is_equals_sign name ≡ false
 no_equals [] h = refl
-no_equals (b ∷ name) h = rw (name_byte_no_equals b (and_left (is_name_byte b) _ h)) (no_equals name (and_right (is_name_byte b) _ h))
+no_equals (b ∷ name) h = rw (name_byte_no_equals b ((and_parts (is_name_byte b) _ h).0)) (no_equals name ((and_parts (is_name_byte b) _ h).1))
 
 item_parts_are : (name text : List ℕ) → list_any is_equals_sign name ≡ false → item_parts (name ++ 61 ∷ text) ≡ Some (name, text)
 unfolding item_parts
@@ -170,12 +169,12 @@ unfolding item_at has_even_quotes are_well_quoted category_number
 item_reads pre c cs front back n set names distinct range size choice =
     let unquoted = values_unquoted c range in
     let text : List ℕ = join_with_byte bar (value_texts set c.values) in
-    let none : list_any (λ b. b) (drop (length c.values) set) ≡ false = not_false _ (and_right _ (not (list_any (λ b. b) (drop (length c.values) set))) choice) in
-    let three = and_left _ (not (list_any (λ b. b) (drop (length c.values) set))) choice in
-    let part : is_full (length c.values) set ≡ false = not_false _ (and_right _ (not (is_full (length c.values) set)) three) in
-    let two = and_left _ (not (is_full (length c.values) set)) three in
-    let some : list_any (λ b. b) set ≡ true = and_right _ (list_any (λ b. b) set) two in
-    let wide : (length set == 256) ≡ true = and_left (length set == 256) _ two in
+    let none : list_any (λ b. b) (drop (length c.values) set) ≡ false = not_false _ ((and_parts _ (not (list_any (λ b. b) (drop (length c.values) set))) choice).1) in
+    let three = (and_parts _ (not (list_any (λ b. b) (drop (length c.values) set))) choice).0 in
+    let part : is_full (length c.values) set ≡ false = not_false _ ((and_parts _ (not (is_full (length c.values) set)) three).1) in
+    let two = (and_parts _ (not (is_full (length c.values) set)) three).0 in
+    let some : list_any (λ b. b) set ≡ true = (and_parts _ (list_any (λ b. b) set) two).1 in
+    let wide : (length set == 256) ≡ true = (and_parts (length set == 256) _ two).0 in
     let even : has_even_quotes (item_text c set) ≡ true = ap (λ (m : ℕ). m == 0) (quotes_parity space false (item_text c set) (item_whole c set range)) in
     let parts : item_parts (item_text c set) ≡ Some (c.name, text) = item_parts_are c.name text (no_equals c.name (name_bytes c range)) in
     let well : are_well_quoted text ≡ true = ap (list_all is_well_quoted) (pieces_of_values set c.values unquoted some none) ∙ texts_all is_well_quoted value_well_quoted set c.values unquoted in

@@ -11,8 +11,8 @@ use Rattle.cube_view.specs.Limits.{is_between}
 use Rattle.outer_io.specs.Decimals.{decimal_value, is_decimal}
 use Rattle.query_syntax.specs.Reading.{number_of}
 use Rattle.query_syntax.specs.Words.{space, slash, is_some_text}
-use Rattle.query_syntax.specs.SchemaLimits.{and_both}
 use Rattle.query_syntax.proofs.WholeTexts.{stays_whole, is_plain, plain_whole, all_weaker, is_word}
+use Rattle.std.proofs.lemmas.Bool.{and_from}
 
 -- std's words for digits and their value
 tells : IsDigitsTest (λ ds. list_all is_ascii_digit ds ≡ true)
@@ -55,4 +55,4 @@ pub decimal_whole_in_tile : (n : ℕ) → n < 2 ^ 64 → stays_whole slash false
 decimal_whole_in_tile n h = plain_whole slash (decimal n) (all_weaker is_ascii_digit (is_plain slash) digit_in_tile (decimal n) (digits_of_number n h))
 
 pub decimal_is_word : (n : ℕ) → n < 2 ^ 64 → is_word (decimal n) ≡ true
-decimal_is_word n h = and_both _ _ (some_from_length (decimal n) (decimal_nonempty n h)) (decimal_whole_in_line n h)
+decimal_is_word n h = and_from _ _ (some_from_length (decimal n) (decimal_nonempty n h)) (decimal_whole_in_line n h)

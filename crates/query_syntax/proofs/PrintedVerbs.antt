@@ -4,7 +4,7 @@ use Rattle.std.specs.Prelude.{nat_le, nat_lt, map}
 use Rattle.std.specs.Fmt.{decimal}
 use Rattle.std.specs.List.{list_all}
 use Rattle.std.proofs.Math.Pow.{pow_mono}
-use Rattle.std.proofs.lemmas.Bool.{leb-true, ltb-true, false≢true}
+use Rattle.std.proofs.lemmas.Bool.{leb-true, ltb-true, false≢true, and_parts, and_from}
 use Rattle.std.proofs.lemmas.List.{length-append}
 use Rattle.std.proofs.lemmas.Bool.Decides.{nat_tests}
 use Rattle.cube_view.specs.Limits.{all_distinct, category_in_range, is_between}
@@ -22,7 +22,7 @@ use Rattle.query_syntax.specs.declared.query.Verb.TheVariants.{Count, Hist, Map,
 use Rattle.query_syntax.proofs.Places.{position_of}
 use Rattle.query_syntax.proofs.PrintedItems.{name_is_word}
 use Rattle.query_syntax.proofs.PrintedNumbers.{decimal_reads, number_reads, decimal_is_word, decimal_whole_in_line, decimal_whole_in_tile}
-use Rattle.query_syntax.specs.SchemaLimits.{and_left, and_right, and_both}
+use Rattle.query_syntax.proofs.SchemaLimits.{between_high}
 use Rattle.query_syntax.proofs.WholeTexts.{stays_whole, whole-append, piece_alone, piece_cut, is_word}
 
 -- categories
@@ -43,16 +43,13 @@ category_reads categories k h l = number_of_category [] categories k h l ∙ ap 
 
 name_at_is_word : (categories : List Category) (k : ℕ) → list_all category_in_range categories ≡ true → k < length categories → is_word (name_at categories k) ≡ true
 name_at_is_word [] k h l = absurd (omega arith)
-name_at_is_word (c ∷ categories) zero h l = name_is_word c (and_left (category_in_range c) _ h)
-name_at_is_word (c ∷ categories) (suc k) h l = name_at_is_word categories k (and_right (category_in_range c) _ h) (omega arith)
+name_at_is_word (c ∷ categories) zero h l = name_is_word c ((and_parts (category_in_range c) _ h).0)
+name_at_is_word (c ∷ categories) (suc k) h l = name_at_is_word categories k ((and_parts (category_in_range c) _ h).1) (omega arith)
 
 -- verbs
 
 pub from_zero : (n high : ℕ) → n ≤ high → is_between 0 high n ≡ true
 from_zero n high h = grind (arith, nat_tests)
-
-between_at_most : (low high n : ℕ) → is_between low high n ≡ true → n ≤ high
-between_at_most low high n h = leb-true n high (and_right (nat_le low n) _ h)
 
 pub verb_reads : (categories : List Category) (verb : Verb) (rest : List (List ℕ)) → all_distinct (map (λ (c : Category). c.name) categories) ≡ true → verb_in_range (length categories) verb ≡ true → verb_at categories (verb_name verb ∷ (verb_texts categories verb ++ rest)) ≡ Ok (verb, rest)
 unfolding verb_at hist_at map_at series_at number_at
@@ -62,12 +59,12 @@ verb_reads categories (Map down) rest names h =
     let small : down ≤ 10 = leb-true down 10 h in
     rw (number_reads 0 deepest_map down 2 (omega arith) (from_zero down 10 small)) refl
 verb_reads categories (Series from wide many) rest names h =
-    let rows_between : is_between 1 most_rows many ≡ true = and_right _ (is_between 1 most_rows many) h in
-    let two = and_left _ (is_between 1 most_rows many) h in
-    let wide_between : is_between 1 bins wide ≡ true = and_right _ (is_between 1 bins wide) two in
-    let early : from < 2 ^ 32 = ltb-true from bins (and_left (nat_lt from bins) _ two) in
-    let narrow : wide ≤ 2 ^ 32 = between_at_most 1 bins wide wide_between in
-    let few : many ≤ 10000 = between_at_most 1 most_rows many rows_between in
+    let rows_between : is_between 1 most_rows many ≡ true = (and_parts _ (is_between 1 most_rows many) h).1 in
+    let two = (and_parts _ (is_between 1 most_rows many) h).0 in
+    let wide_between : is_between 1 bins wide ≡ true = (and_parts _ (is_between 1 bins wide) two).1 in
+    let early : from < 2 ^ 32 = ltb-true from bins ((and_parts (nat_lt from bins) _ two).0) in
+    let narrow : wide ≤ 2 ^ 32 = between_high 1 bins wide wide_between in
+    let few : many ≤ 10000 = between_high 1 most_rows many rows_between in
     rw (number_reads 0 (bins - 1) from 2 (omega arith) (from_zero from (bins - 1) (omega arith)), number_reads 1 bins wide 3 (omega arith) wide_between, number_reads 1 most_rows many 4 (omega arith) rows_between) refl
 verb_reads categories Stat rest names h = refl
 verb_reads categories Told rest names h = refl
@@ -84,16 +81,16 @@ verb_name_is_word Quit = refl
 
 pub verb_texts_are_words : (categories : List Category) (verb : Verb) → list_all category_in_range categories ≡ true → verb_in_range (length categories) verb ≡ true → list_all is_word (verb_texts categories verb) ≡ true
 verb_texts_are_words categories Count each h = refl
-verb_texts_are_words categories (Hist k) each h = and_both _ _ (name_at_is_word categories k each (ltb-true k (length categories) h)) refl
+verb_texts_are_words categories (Hist k) each h = and_from _ _ (name_at_is_word categories k each (ltb-true k (length categories) h)) refl
 verb_texts_are_words categories (Map down) each h =
     let small : down ≤ 10 = leb-true down 10 h in
-    and_both _ _ (decimal_is_word down (omega arith)) refl
+    and_from _ _ (decimal_is_word down (omega arith)) refl
 verb_texts_are_words categories (Series from wide rows) each h =
-    let few : rows ≤ 10000 = between_at_most 1 most_rows rows (and_right _ (is_between 1 most_rows rows) h) in
-    let two = and_left _ (is_between 1 most_rows rows) h in
-    let narrow : wide ≤ 2 ^ 32 = between_at_most 1 bins wide (and_right _ (is_between 1 bins wide) two) in
-    let early : from < 2 ^ 32 = ltb-true from bins (and_left (nat_lt from bins) _ two) in
-    and_both _ _ (decimal_is_word from (omega arith)) (and_both _ _ (decimal_is_word wide (omega arith)) (and_both _ _ (decimal_is_word rows (omega arith)) refl))
+    let few : rows ≤ 10000 = between_high 1 most_rows rows ((and_parts _ (is_between 1 most_rows rows) h).1) in
+    let two = (and_parts _ (is_between 1 most_rows rows) h).0 in
+    let narrow : wide ≤ 2 ^ 32 = between_high 1 bins wide ((and_parts _ (is_between 1 bins wide) two).1) in
+    let early : from < 2 ^ 32 = ltb-true from bins ((and_parts (nat_lt from bins) _ two).0) in
+    and_from _ _ (decimal_is_word from (omega arith)) (and_from _ _ (decimal_is_word wide (omega arith)) (and_from _ _ (decimal_is_word rows (omega arith)) refl))
 verb_texts_are_words categories Stat each h = refl
 verb_texts_are_words categories Told each h = refl
 verb_texts_are_words categories Quit each h = refl
@@ -110,10 +107,10 @@ pub record SmallTile (t : Tile) : Type 0 where
 
 pub small_tile : (depth : ℕ) (t : Tile) → depth ≤ 20 → is_tile depth t ≡ true → SmallTile t
 small_tile depth t few h =
-    let row : t.y < 2 ^ t.z = ltb-true t.y (2 ^ t.z) (and_right _ (nat_lt t.y (2 ^ t.z)) h) in
-    let two = and_left _ (nat_lt t.y (2 ^ t.z)) h in
-    let column : t.x < 2 ^ t.z = ltb-true t.x (2 ^ t.z) (and_right _ (nat_lt t.x (2 ^ t.z)) two) in
-    let level : t.z ≤ depth = leb-true t.z depth (and_left (nat_le t.z depth) _ two) in
+    let row : t.y < 2 ^ t.z = ltb-true t.y (2 ^ t.z) ((and_parts _ (nat_lt t.y (2 ^ t.z)) h).1) in
+    let two = (and_parts _ (nat_lt t.y (2 ^ t.z)) h).0 in
+    let column : t.x < 2 ^ t.z = ltb-true t.x (2 ^ t.z) ((and_parts _ (nat_lt t.x (2 ^ t.z)) two).1) in
+    let level : t.z ≤ depth = leb-true t.z depth ((and_parts (nat_le t.z depth) _ two).0) in
     let shallow : t.z ≤ 20 = omega arith in
     let wide : 2 ^ t.z ≤ 2 ^ 20 = pow_mono shallow in
     record { z = shallow; column = column; row = row; x = omega (arith, wide, column); y = omega (arith, wide, row) }
@@ -143,4 +140,4 @@ tile_is_word depth t few h =
     let whole : stays_whole space false (tile_text t) ≡ true =
     whole-append space false (decimal t.z) (slash ∷ (decimal t.x ++ slash ∷ decimal t.y)) (decimal_whole_in_line t.z level)
     ∙ whole-append space false (decimal t.x) (slash ∷ decimal t.y) (decimal_whole_in_line t.x column) ∙ decimal_whole_in_line t.y row in
-    and_both _ _ (some-left (decimal t.z) (slash ∷ (decimal t.x ++ slash ∷ decimal t.y)) (and_left (is_some_text (decimal t.z)) _ (decimal_is_word t.z level))) whole
+    and_from _ _ (some-left (decimal t.z) (slash ∷ (decimal t.x ++ slash ∷ decimal t.y)) ((and_parts (is_some_text (decimal t.z)) _ (decimal_is_word t.z level)).0)) whole

@@ -3,6 +3,7 @@ use Rattle.std.proofs.Common.{◌≡◌, ◌≢◌, ◌⊎◌, inl, inr, ℕ, Bo
 use Rattle.std.specs.Prelude.{not, filter, ◌||◌, ◌&&◌}
 use Rattle.std.specs.List.{list_all}
 use Rattle.std.specs.Str.{bytes_eq}
+use Rattle.std.proofs.Math.Bool.{or-true}
 use Rattle.std.proofs.lemmas.Bool.{false≢true}
 use Rattle.std.proofs.lemmas.List.{append_cancel_right}
 use Rattle.std.proofs.lemmas.Slice.Eq.{bytes_eq-Decides}
@@ -55,10 +56,6 @@ or_cases false b h = inr h
 or_left : (a b : Bool) → a ≡ true → a || b ≡ true
 or_left a b h = rw h refl
 
-or_right : (a b : Bool) → b ≡ true → a || b ≡ true
-or_right true b h = refl
-or_right false b h = h
-
 pub well_quoted_cases : (piece : List ℕ) → is_well_quoted piece ≡ true → (piece ≡ bare piece) ⊎ (piece ≡ in_quotes (bare piece))
 unfolding is_well_quoted
 well_quoted_cases piece h =
@@ -73,7 +70,7 @@ well_quoted_plain piece e = or_left (bytes_eq piece (bare piece)) _ ((bytes_eq-D
 
 pub well_quoted_between : (piece : List ℕ) → piece ≡ in_quotes (bare piece) → is_well_quoted piece ≡ true
 unfolding is_well_quoted
-well_quoted_between piece e = or_right (bytes_eq piece (bare piece)) _ ((bytes_eq-Decides piece (in_quotes (bare piece))).1 e)
+well_quoted_between piece e = ap (λ b. bytes_eq piece (bare piece) || b) ((bytes_eq-Decides piece (in_quotes (bare piece))).1 e) ∙ or-true (bytes_eq piece (bare piece))
 
 -- a text in quotes has a quote
 quoted_not_bare : (t piece : List ℕ) → piece ≡ in_quotes t → piece ≡ bare piece → ⊥

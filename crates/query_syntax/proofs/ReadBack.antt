@@ -1,12 +1,12 @@
 -- A printed query is read back as itself.
-use Rattle.std.proofs.Common.{◌≡◌, ℕ, ◌+◌, ◌≤◌, Bool, true, false, List, [], ◌∷◌, ◌++◌, length, sym, ◌∙◌, ap, refl, append_assoc, None, Result, Ok}
+use Rattle.std.proofs.Common.{◌≡◌, ℕ, ◌+◌, ◌≤◌, Bool, true, false, List, [], Option, Some, None, ◌∷◌, ◌++◌, length, sym, ◌∙◌, ap, refl, append_assoc, Result, Ok}
 use Rattle.std.specs.Prelude.{not, ◌&&◌, ◌||◌, ◌==◌, map, replicate}
 use Rattle.std.specs.List.{list_all}
 use Rattle.std.specs.Str.{is_utf8}
-use Rattle.std.proofs.lemmas.Bool.{eqb-true, false≢true}
+use Rattle.std.proofs.lemmas.Bool.{eqb-true, false≢true, and_parts, and_from}
 use Rattle.std.proofs.lemmas.List.Folds.{list_all-append}
-use Rattle.cube_view.specs.Limits.{all_distinct, category_in_range, column_names, numbers_in_range, categories_in_range, texts_distinct, values_distinct}
-use Rattle.cube_view.specs.SchemaBounds.{depth_bounds}
+use Rattle.cube_view.specs.Limits.{all_distinct, category_in_range, column_names, parts_in_range, texts_distinct, values_distinct, with_weight}
+use Rattle.cube_view.proofs.SchemaBounds.{depth_bounds}
 use Rattle.cube_view.specs.declared.address.Tile.{Tile}
 use Rattle.cube_view.specs.declared.category.Category.{Category}
 use Rattle.cube_view.specs.declared.schema.Schema.{Schema}
@@ -28,9 +28,10 @@ use Rattle.query_syntax.specs.declared.query.Verb.{Verb}
 use Rattle.query_syntax.specs.declared.query.Verb.TheVariants.{Count, Hist, Map, Series, Stat, Told, Quit}
 use Rattle.query_syntax.proofs.PrintedFilters.{Says, filters_with, region_said, said, span_said, nones, region_reads, span_reads, items_read, region_texts_are_words, span_texts_are_words, choices_texts_are_words, region_back, span_back, choices_back, no_items, none_said}
 use Rattle.query_syntax.proofs.PrintedVerbs.{verb_reads, verb_name_is_word, verb_texts_are_words, small_tile}
-use Rattle.query_syntax.specs.SchemaLimits.{and_left, and_right, in_range, and_both}
+use Rattle.query_syntax.proofs.SchemaLimits.{categories-limits}
 use Rattle.query_syntax.proofs.Sets.{or_all}
-use Rattle.query_syntax.specs.ValidParts.{ValidParts, valid_parts}
+use Rattle.query_syntax.proofs.ValidParts.{valid_parts}
+use Rattle.query_syntax.specs.Queries.{ValidParts}
 use Rattle.query_syntax.proofs.WholeTexts.{is_word, not_false, words_listed}
 
 -- what the limits of a schema give
@@ -39,22 +40,28 @@ shallow : (schema : Schema) → schema.depth ≤ 20
 shallow schema = (depth_bounds schema).1
 
 each_in_range : (schema : Schema) → list_all category_in_range schema.categories ≡ true
-each_in_range schema = and_right _ (list_all category_in_range schema.categories) (in_range schema.depth schema.categories schema.width schema.batch schema.limits)
+each_in_range schema = (and_parts _ (list_all category_in_range schema.categories) (categories-limits schema)).1
 
-all_texts_distinct : (schema : Schema) → texts_distinct schema.categories ≡ true
-all_texts_distinct schema = and_right (numbers_in_range schema.depth schema.width schema.batch && categories_in_range schema.categories) (texts_distinct schema.categories) schema.limits
+all_texts_distinct : (schema : Schema) → texts_distinct schema.categories schema.weight ≡ true
+all_texts_distinct schema =
+    (and_parts (parts_in_range schema.depth schema.categories schema.width schema.batch schema.weight) (texts_distinct schema.categories schema.weight) schema.limits).1
 
 each_distinct : (schema : Schema) → list_all values_distinct schema.categories ≡ true
-each_distinct schema = and_right (all_distinct (column_names schema.categories)) (list_all values_distinct schema.categories) (all_texts_distinct schema)
+each_distinct schema = (and_parts (all_distinct (column_names schema.categories schema.weight)) (list_all values_distinct schema.categories) (all_texts_distinct schema)).1
 
 distinct_rest : (t : List ℕ) (ts : List (List ℕ)) → all_distinct (t ∷ ts) ≡ true → all_distinct ts ≡ true
-distinct_rest t ts h = and_right _ (all_distinct ts) h
+distinct_rest t ts h = (and_parts _ (all_distinct ts) h).1
+
+distinct_past_weight : (weight : Option (List ℕ)) (names : List (List ℕ)) → all_distinct (with_weight weight names) ≡ true → all_distinct names ≡ true
+distinct_past_weight None names h = h
+distinct_past_weight (Some name) names h = distinct_rest name names h
 
 names_distinct : (schema : Schema) → all_distinct (map (λ (c : Category). c.name) schema.categories) ≡ true
 names_distinct schema =
-    let names : List (List ℕ) = map (λ (c : Category). c.name) schema.categories in
-    let columns : all_distinct (column_names schema.categories) ≡ true = and_left _ (list_all values_distinct schema.categories) (all_texts_distinct schema) in
-    distinct_rest (116 ∷ 105 ∷ 109 ∷ 101 ∷ []) names (distinct_rest (121 ∷ []) ((116 ∷ 105 ∷ 109 ∷ 101 ∷ []) ∷ names) (distinct_rest (120 ∷ []) ((121 ∷ []) ∷ (116 ∷ 105 ∷ 109 ∷ 101 ∷ []) ∷ names) columns))
+    let names : List (List ℕ) = with_weight schema.weight (map (λ (c : Category). c.name) schema.categories) in
+    let columns : all_distinct (column_names schema.categories schema.weight) ≡ true = (and_parts _ (list_all values_distinct schema.categories) (all_texts_distinct schema)).0 in
+    distinct_past_weight schema.weight (map (λ (c : Category). c.name) schema.categories)
+    (distinct_rest (116 ∷ 105 ∷ 109 ∷ 101 ∷ []) names (distinct_rest (121 ∷ []) ((116 ∷ 105 ∷ 109 ∷ 101 ∷ []) ∷ names) (distinct_rest (120 ∷ []) ((121 ∷ []) ∷ (116 ∷ 105 ∷ 109 ∷ 101 ∷ []) ∷ names) columns)))
 
 -- the filters of a query, as printed and as read
 abbrev filter_texts : Schema → Query → List (List ℕ)
@@ -91,11 +98,11 @@ or_rest false b h e = h
 none_say : (schema : Schema) (q : Query) → ValidParts schema q → takes_filters q.verb ≡ false → Says schema q.verb no_filters (filter_texts schema q) (filters_of q)
 none_say schema q v takes =
     let none : has_no_filters q ≡ true = or_rest (takes_filters q.verb) (has_no_filters q) v.takes takes in
-    let bins : is_all_bins q.time ≡ true = and_right _ (is_all_bins q.time) none in
-    let two = and_left _ (is_all_bins q.time) none in
-    let all : list_all is_all q.sets ≡ true = and_right (is_whole_space q.region) (list_all is_all q.sets) two in
-    let space : is_whole_space q.region ≡ true = and_left (is_whole_space q.region) (list_all is_all q.sets) two in
-    let level : (q.region.z == 0) ≡ true = and_left (q.region.z == 0) _ (and_left _ (q.region.y == 0) space) in
+    let bins : is_all_bins q.time ≡ true = (and_parts _ (is_all_bins q.time) none).1 in
+    let two = (and_parts _ (is_all_bins q.time) none).0 in
+    let all : list_all is_all q.sets ≡ true = (and_parts (is_whole_space q.region) (list_all is_all q.sets) two).1 in
+    let space : is_whole_space q.region ≡ true = (and_parts (is_whole_space q.region) (list_all is_all q.sets) two).0 in
+    let level : (q.region.z == 0) ≡ true = (and_parts (q.region.z == 0) _ ((and_parts _ (q.region.y == 0) space).0)).0 in
     let places : length q.sets ≡ 4 = eqb-true (length q.sets) 4 v.places in
     let sets : map said q.sets ≡ replicate 4 None = none_said q.sets all ∙ ap (λ (k : ℕ). replicate k None) places in
     λ n. rw (level, no_items schema.categories q.sets all, bins, sets) refl
@@ -128,11 +135,11 @@ further_words : (schema : Schema) (q : Query) → ValidParts schema q → list_a
 further_words schema q v =
     ap (list_all is_word) (further_are schema q)
     ∙ list_all-append is_word (verb_texts schema.categories q.verb) (filter_texts schema q)
-    ∙ and_both _ _ (verb_texts_are_words schema.categories q.verb (each_in_range schema) v.verb)
+    ∙ and_from _ _ (verb_texts_are_words schema.categories q.verb (each_in_range schema) v.verb)
     (list_all-append is_word (region_texts q.region) (choices_texts schema.categories q.sets ++ span_texts q.time)
-    ∙ and_both _ _ (region_texts_are_words schema.depth q.region (shallow schema) v.region)
+    ∙ and_from _ _ (region_texts_are_words schema.depth q.region (shallow schema) v.region)
     (list_all-append is_word (choices_texts schema.categories q.sets) (span_texts q.time)
-    ∙ and_both _ _ (choices_texts_are_words schema.categories q.sets (each_in_range schema)) (span_texts_are_words q.time v.time)))
+    ∙ and_from _ _ (choices_texts_are_words schema.categories q.sets (each_in_range schema)) (span_texts_are_words q.time v.time)))
 
 no_comment : (verb : Verb) (rest : List ℕ) → is_comment (verb_name verb ++ rest) ≡ false
 no_comment Count rest = refl
@@ -149,5 +156,5 @@ unfolding meaning query_text
 read_back schema q h utf8 =
     let v = valid_parts schema q h in
     let is : words (verb_name q.verb ++ spaced (further_texts schema q)) ≡ verb_name q.verb ∷ further_texts schema q =
-    words_listed (verb_name q.verb) (further_texts schema q) (and_both _ _ (verb_name_is_word q.verb) (further_words schema q v)) in
+    words_listed (verb_name q.verb) (further_texts schema q) (and_from _ _ (verb_name_is_word q.verb) (further_words schema q v)) in
     rw (utf8, no_comment q.verb (spaced (further_texts schema q)), is) (ap parsed_of (query_reads schema q v))

@@ -8,7 +8,7 @@ use Rattle.query_syntax.specs.Items.{IsSetOf, choice_of, is_full, values_at}
 use Rattle.query_syntax.specs.Queries.{is_choice, are_choices}
 use Rattle.query_syntax.specs.declared.query.Choice.{Choice}
 use Rattle.query_syntax.specs.declared.query.Choice.TheVariants.{All, Only}
-use Rattle.query_syntax.specs.SchemaLimits.{and_left, and_right, and_both}
+use Rattle.std.proofs.lemmas.Bool.{and_parts, and_from}
 
 list_any-set : (set : List Bool) (v : ℕ) → v < length set → list_any (λ b. b) (slice_set set v true) ≡ true
 list_any-set [] v l = absurd (omega arith)
@@ -43,5 +43,5 @@ or_all set = unwrap_or set All
 pub are_choices-set : (categories : List Category) (sets : List (Option Choice)) (k : ℕ) (choice : Choice) → are_choices categories (map or_all sets) ≡ true → is_choice (length (values_at categories k)) choice ≡ true → k < length categories → are_choices categories (map or_all (slice_set sets k (Some choice))) ≡ true
 are_choices-set [] sets k choice h fits l = absurd (omega arith)
 are_choices-set (c ∷ categories) [] k choice h fits l = refl
-are_choices-set (c ∷ categories) (set ∷ sets) zero choice h fits l = and_both _ _ fits (and_right (is_choice (length c.values) (or_all set)) _ h)
-are_choices-set (c ∷ categories) (set ∷ sets) (suc k) choice h fits l = and_both _ _ (and_left (is_choice (length c.values) (or_all set)) _ h) (are_choices-set categories sets k choice (and_right (is_choice (length c.values) (or_all set)) _ h) fits (omega arith))
+are_choices-set (c ∷ categories) (set ∷ sets) zero choice h fits l = and_from _ _ fits ((and_parts (is_choice (length c.values) (or_all set)) _ h).1)
+are_choices-set (c ∷ categories) (set ∷ sets) (suc k) choice h fits l = and_from _ _ ((and_parts (is_choice (length c.values) (or_all set)) _ h).0) (are_choices-set categories sets k choice ((and_parts (is_choice (length c.values) (or_all set)) _ h).1) fits (omega arith))

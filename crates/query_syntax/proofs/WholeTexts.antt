@@ -2,7 +2,8 @@
 use Rattle.std.proofs.Common.{◌≡◌, ℕ, ◌+◌, ◌%◌, Bool, true, false, List, [], ◌∷◌, ◌++◌, cond, sym, ◌∙◌, ap, refl, arith, append-nil}
 use Rattle.std.specs.Prelude.{not, ◌&&◌, ◌||◌, ◌==◌, filter, count_by}
 use Rattle.std.specs.List.{list_all, list_any, flat_map, join_with_byte}
-use Rattle.std.proofs.lemmas.Bool.{false≢true}
+use Rattle.std.proofs.Math.Bool.{and-false}
+use Rattle.std.proofs.lemmas.Bool.{false≢true, and_parts, and_from}
 use Rattle.std.proofs.lemmas.List.Sums.{sum_by-cons}
 use Rattle.outer_io.specs.Lines.{onto_first}
 use Rattle.query_syntax.specs.Items.{is_quote, in_quotes}
@@ -10,7 +11,6 @@ use Rattle.query_syntax.specs.Spelling.{needs_quotes, value_text, spaced}
 use Rattle.query_syntax.specs.Words.{quote, space, bar, cuts, quoted_after, pieces, pieces_from, words, is_some_text}
 use Rattle.query_syntax.proofs.Cutting.{pieces_from-uncut, pieces_from-cut, is_cut}
 use Rattle.query_syntax.proofs.Quoting.{no_quote, filter_same}
-use Rattle.query_syntax.specs.SchemaLimits.{and_left, and_right, and_both}
 
 -- no byte is a mark that cuts, where the first byte is in quotes or not, and at the end nothing is in quotes
 abbrev pub stays_whole : ℕ → Bool → List ℕ → Bool
@@ -20,10 +20,6 @@ stays_whole mark quoted (b ∷ bytes) = not (cuts mark quoted b) && stays_whole 
 pub not_false : (b : Bool) → not b ≡ true → b ≡ false
 not_false true h = sym h
 not_false false h = refl
-
-and_false : (a : Bool) → a && false ≡ false
-and_false true = refl
-and_false false = refl
 
 pub or_false_left : (a b : Bool) → a || b ≡ false → a ≡ false
 or_false_left true b h = h
@@ -35,21 +31,21 @@ or_false_right false b h = h
 
 pub all_weaker : {X : Type 0} (p q : X → Bool) → ((x : X) → p x ≡ true → q x ≡ true) → (xs : List X) → list_all p xs ≡ true → list_all q xs ≡ true
 all_weaker p q f [] h = refl
-all_weaker p q f (x ∷ xs) h = and_both (q x) _ (f x (and_left (p x) _ h)) (all_weaker p q f xs (and_right (p x) _ h))
+all_weaker p q f (x ∷ xs) h = and_from (q x) _ (f x ((and_parts (p x) _ h).0)) (all_weaker p q f xs ((and_parts (p x) _ h).1))
 
 -- pieces
 
 pub piece_alone : (mark : ℕ) (quoted : Bool) (w : List ℕ) → stays_whole mark quoted w ≡ true → pieces_from mark quoted w ≡ w ∷ []
 piece_alone mark quoted [] h = refl
 piece_alone mark quoted (b ∷ w) h =
-    pieces_from-uncut mark quoted b w (not_false _ (and_left (not (cuts mark quoted b)) _ h))
-    ∙ ap (onto_first b) (piece_alone mark (quoted_after quoted b) w (and_right (not (cuts mark quoted b)) _ h))
+    pieces_from-uncut mark quoted b w (not_false _ ((and_parts (not (cuts mark quoted b)) _ h).0))
+    ∙ ap (onto_first b) (piece_alone mark (quoted_after quoted b) w ((and_parts (not (cuts mark quoted b)) _ h).1))
 
 pub piece_cut : (mark : ℕ) (quoted : Bool) (w rest : List ℕ) → stays_whole mark quoted w ≡ true → pieces_from mark quoted (w ++ mark ∷ rest) ≡ w ∷ pieces_from mark false rest
 piece_cut mark quoted [] rest h = pieces_from-cut mark quoted mark rest (is_cut mark mark quoted refl (not_false quoted h))
 piece_cut mark quoted (b ∷ w) rest h =
-    pieces_from-uncut mark quoted b (w ++ mark ∷ rest) (not_false _ (and_left (not (cuts mark quoted b)) _ h))
-    ∙ ap (onto_first b) (piece_cut mark (quoted_after quoted b) w rest (and_right (not (cuts mark quoted b)) _ h))
+    pieces_from-uncut mark quoted b (w ++ mark ∷ rest) (not_false _ ((and_parts (not (cuts mark quoted b)) _ h).0))
+    ∙ ap (onto_first b) (piece_cut mark (quoted_after quoted b) w rest ((and_parts (not (cuts mark quoted b)) _ h).1))
 
 abbrev pub after_mark : ℕ → List ℕ → List ℕ
 after_mark mark w = mark ∷ w
@@ -58,7 +54,7 @@ pieces_listed : (mark : ℕ) (w : List ℕ) (ws : List (List ℕ)) → stays_who
 pieces_listed mark w [] h k = ap (pieces_from mark false) (append-nil w) ∙ piece_alone mark false w h
 pieces_listed mark w (x ∷ ws) h k =
     piece_cut mark false w (x ++ flat_map (after_mark mark) ws) h
-    ∙ ap (λ (ps : List (List ℕ)). w ∷ ps) (pieces_listed mark x ws (and_left (stays_whole mark false x) _ k) (and_right (stays_whole mark false x) _ k))
+    ∙ ap (λ (ps : List (List ℕ)). w ∷ ps) (pieces_listed mark x ws ((and_parts (stays_whole mark false x) _ k).0) ((and_parts (stays_whole mark false x) _ k).1))
 
 join_is : (mark : ℕ) (w : List ℕ) (ws : List (List ℕ)) → join_with_byte mark (w ∷ ws) ≡ w ++ flat_map (after_mark mark) ws
 join_is mark w [] = sym (append-nil w)
@@ -67,15 +63,15 @@ join_is mark w (x ∷ ws) = ap (λ (r : List ℕ). w ++ mark ∷ r) (join_is mar
 -- whole texts with marks between them are the pieces
 pub pieces_joined : (mark : ℕ) (w : List ℕ) (ws : List (List ℕ)) → list_all (stays_whole mark false) (w ∷ ws) ≡ true → pieces mark (join_with_byte mark (w ∷ ws)) ≡ w ∷ ws
 unfolding pieces
-pieces_joined mark w ws h = ap (pieces_from mark false) (join_is mark w ws) ∙ pieces_listed mark w ws (and_left (stays_whole mark false w) _ h) (and_right (stays_whole mark false w) _ h)
+pieces_joined mark w ws h = ap (pieces_from mark false) (join_is mark w ws) ∙ pieces_listed mark w ws ((and_parts (stays_whole mark false w) _ h).0) ((and_parts (stays_whole mark false w) _ h).1)
 
 -- what stays whole
 
 pub whole-append : (mark : ℕ) (quoted : Bool) (u v : List ℕ) → stays_whole mark quoted u ≡ true → stays_whole mark quoted (u ++ v) ≡ stays_whole mark false v
 whole-append mark quoted [] v h = ap (λ (q : Bool). stays_whole mark q v) (not_false quoted h)
 whole-append mark quoted (b ∷ u) v h =
-    ap (λ (t : Bool). t && stays_whole mark (quoted_after quoted b) (u ++ v)) (and_left (not (cuts mark quoted b)) _ h)
-    ∙ whole-append mark (quoted_after quoted b) u v (and_right (not (cuts mark quoted b)) _ h)
+    ap (λ (t : Bool). t && stays_whole mark (quoted_after quoted b) (u ++ v)) ((and_parts (not (cuts mark quoted b)) _ h).0)
+    ∙ whole-append mark (quoted_after quoted b) u v ((and_parts (not (cuts mark quoted b)) _ h).1)
 
 -- neither the mark nor a quote
 abbrev pub is_plain : ℕ → ℕ → Bool
@@ -84,23 +80,23 @@ is_plain mark b = not (b == mark) && not (b == quote)
 pub plain_whole : (mark : ℕ) (w : List ℕ) → list_all (is_plain mark) w ≡ true → stays_whole mark false w ≡ true
 plain_whole mark [] h = refl
 plain_whole mark (b ∷ w) h =
-    let plain : is_plain mark b ≡ true = and_left (is_plain mark b) _ h in
-    let other : (b == mark) ≡ false = not_false _ (and_left _ (not (b == quote)) plain) in
-    let unquoted : (b == quote) ≡ false = not_false _ (and_right (not (b == mark)) _ plain) in
-    rw (other, unquoted) (plain_whole mark w (and_right (is_plain mark b) _ h))
+    let plain : is_plain mark b ≡ true = (and_parts (is_plain mark b) _ h).0 in
+    let other : (b == mark) ≡ false = not_false _ ((and_parts _ (not (b == quote)) plain).0) in
+    let unquoted : (b == quote) ≡ false = not_false _ ((and_parts (not (b == mark)) _ plain).1) in
+    rw (other, unquoted) (plain_whole mark w ((and_parts (is_plain mark b) _ h).1))
 
 quoted_whole : (mark : ℕ) (w : List ℕ) → (quote == mark) ≡ false → list_all no_quote w ≡ true → stays_whole mark true (w ++ quote ∷ []) ≡ true
 quoted_whole mark [] e h = rw e refl
 quoted_whole mark (b ∷ w) e h =
-    let unquoted : (b == quote) ≡ false = not_false _ (and_left (no_quote b) _ h) in
-    rw (and_false (b == mark), unquoted) (quoted_whole mark w e (and_right (no_quote b) _ h))
+    let unquoted : (b == quote) ≡ false = not_false _ ((and_parts (no_quote b) _ h).0) in
+    rw (and-false (b == mark), unquoted) (quoted_whole mark w e ((and_parts (no_quote b) _ h).1))
 
 bare_plain : (mark : ℕ) → ((b : ℕ) → needs_quotes b ≡ false → (b == mark) ≡ false) → (v : List ℕ) → list_any needs_quotes v ≡ false → list_all no_quote v ≡ true → list_all (is_plain mark) v ≡ true
 bare_plain mark f [] h k = refl
 bare_plain mark f (b ∷ v) h k =
     let other : (b == mark) ≡ false = f b (or_false_left (needs_quotes b) _ h) in
-    let unquoted : (b == quote) ≡ false = not_false _ (and_left (no_quote b) _ k) in
-    rw (other, unquoted) (bare_plain mark f v (or_false_right (needs_quotes b) _ h) (and_right (no_quote b) _ k))
+    let unquoted : (b == quote) ≡ false = not_false _ ((and_parts (no_quote b) _ k).0) in
+    rw (other, unquoted) (bare_plain mark f v (or_false_right (needs_quotes b) _ h) ((and_parts (no_quote b) _ k).1))
 
 value_by : (mark : ℕ) (quotes : Bool) (v : List ℕ) → (quote == mark) ≡ false → ((b : ℕ) → needs_quotes b ≡ false → (b == mark) ≡ false) → list_all no_quote v ≡ true → quotes ≡ list_any needs_quotes v → stays_whole mark false (cond quotes (in_quotes v) v) ≡ true
 value_by mark true v e f h is = rw e (quoted_whole mark v e h)
@@ -127,7 +123,7 @@ pub quotes_parity : (mark : ℕ) (quoted : Bool) (w : List ℕ) → stays_whole 
 quotes_parity mark quoted [] h = rw (not_false quoted h) refl
 quotes_parity mark quoted (b ∷ w) h =
     ap (λ (n : ℕ). n % 2) (sum_by-cons (λ x. cond (is_quote x) 1 0) b w)
-    ∙ parity_step (is_quote b) quoted (count_by is_quote w) (quotes_parity mark (quoted_after quoted b) w (and_right (not (cuts mark quoted b)) _ h))
+    ∙ parity_step (is_quote b) quoted (count_by is_quote w) (quotes_parity mark (quoted_after quoted b) w ((and_parts (not (cuts mark quoted b)) _ h).1))
 
 -- words
 
@@ -138,6 +134,6 @@ is_word w = is_some_text w && stays_whole space false w
 pub words_listed : (w : List ℕ) (ws : List (List ℕ)) → list_all is_word (w ∷ ws) ≡ true → words (w ++ spaced ws) ≡ w ∷ ws
 unfolding words pieces
 words_listed w ws h =
-    let whole : list_all (stays_whole space false) (w ∷ ws) ≡ true = all_weaker is_word (stays_whole space false) (λ x k. and_right (is_some_text x) _ k) (w ∷ ws) h in
-    let some : list_all is_some_text (w ∷ ws) ≡ true = all_weaker is_word is_some_text (λ x k. and_left (is_some_text x) _ k) (w ∷ ws) h in
-    ap (filter is_some_text) (pieces_listed space w ws (and_left (stays_whole space false w) _ whole) (and_right (stays_whole space false w) _ whole)) ∙ filter_same is_some_text (w ∷ ws) some
+    let whole : list_all (stays_whole space false) (w ∷ ws) ≡ true = all_weaker is_word (stays_whole space false) (λ x k. (and_parts (is_some_text x) _ k).1) (w ∷ ws) h in
+    let some : list_all is_some_text (w ∷ ws) ≡ true = all_weaker is_word is_some_text (λ x k. (and_parts (is_some_text x) _ k).0) (w ∷ ws) h in
+    ap (filter is_some_text) (pieces_listed space w ws ((and_parts (stays_whole space false w) _ whole).0) ((and_parts (stays_whole space false w) _ whole).1)) ∙ filter_same is_some_text (w ∷ ws) some

@@ -2,7 +2,7 @@
 use Rattle.std.specs.Prelude.{ℕ, Bool, true, false, ◌&&◌, nat_le, nat_lt, List, [], ◌∷◌, map, slice_index_or}
 use Rattle.cube_view.specs.Bag.{amount}
 use Rattle.cube_view.specs.Places.{in_tile}
-use Rattle.cube_view.specs.Points.{Point}
+use Rattle.cube_view.specs.declared.spot.Point.{Point}
 use Rattle.cube_view.specs.declared.schema.Schema.{Schema}
 use Rattle.cube_view.specs.declared.spot.Spot.{Spot}
 use Rattle.cube_view.specs.declared.address.Tile.{Tile}

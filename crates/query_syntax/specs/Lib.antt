@@ -9,9 +9,5 @@ pub mod Meaning
 pub mod Boxes
 pub mod Parts
 pub mod TileOrder
-pub mod TileLaws
 pub mod Tables
-pub mod SchemaLimits
-pub mod ValidParts
-pub mod TableLaws
 pub mod Spelling

@@ -1,5 +1,5 @@
 -- Which queries a schema takes.
-use Rattle.std.specs.Prelude.{ℕ, ◌+◌, Bool, true, false, not, ◌&&◌, ◌||◌, ◌==◌, nat_le, nat_lt, List, [], ◌∷◌, length, drop}
+use Rattle.std.specs.Prelude.{◌≡◌, ℕ, ◌+◌, Bool, true, false, not, ◌&&◌, ◌||◌, ◌==◌, nat_le, nat_lt, List, [], ◌∷◌, length, drop}
 use Rattle.std.specs.List.{list_all, list_any}
 use Rattle.cube_view.specs.Limits.{is_between}
 use Rattle.cube_view.specs.declared.category.Category.{Category}
@@ -79,3 +79,22 @@ unfoldable pub is_valid_query : Schema → Query → Bool
 is_valid_query schema q =
     verb_in_range (length schema.categories) q.verb && is_tile schema.depth q.region && not (is_too_deep schema.depth q.region.z q.verb)
     && (length q.sets == 4) && are_choices schema.categories q.sets && is_span q.time && filters_fit_verb q
+
+-- The parts of a query that a schema takes
+pub record ValidParts (schema : Schema) (q : Query) : Type 0 where
+  -- the numbers of its verb are in their ranges
+  pub verb : verb_in_range (length schema.categories) q.verb ≡ true
+  -- its region is a tile of the schema
+  pub region : is_tile schema.depth q.region ≡ true
+  -- the tiles of its map are not too deep
+  pub deep : not (is_too_deep schema.depth q.region.z q.verb) ≡ true
+  -- it has a choice for each of four categories
+  pub places : (length q.sets == 4) ≡ true
+  -- each choice is one of its category's values
+  pub sets : are_choices schema.categories q.sets ≡ true
+  -- its span is in order
+  pub time : is_span q.time ≡ true
+  -- it has no filters that its verb doesn't take
+  pub takes : takes_filters q.verb || has_no_filters q ≡ true
+  -- a series has its bins by itself
+  pub series : not (is_series q.verb) || is_all_bins q.time ≡ true

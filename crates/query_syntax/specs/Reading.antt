@@ -21,9 +21,9 @@ or_fault None fault n = fault_at fault n
 or_fault (Some x) fault n = Ok x
 
 -- What a function returned, seen by view, is what reading gives
-abbrev pub Gives : {X Y : Type 0} → (X → Y) → Result X WordFault → Result Y WordFault → Type 0
-Gives view (Ok x) read = read ≡ Ok (view x)
-Gives view (Err e) read = read ≡ Err e
+abbrev pub GivesRead : {X Y : Type 0} → (X → Y) → Result X WordFault → Result Y WordFault → Type 0
+GivesRead view (Ok x) read = read ≡ Ok (view x)
+GivesRead view (Err e) read = read ≡ Err e
 
 -- the first of the words, of which it is number n, and the words after it
 abbrev pub word_at : ℕ → List (List ℕ) → Result (List ℕ × List (List ℕ)) WordFault

@@ -4,7 +4,7 @@
 -- Exploration of Spatiotemporal Datasets", IEEE TVCG 2013.
 use Rattle.std.specs.Prelude.{ℕ, ◌+◌, ◌*◌, Bool, true, false, ◌&&◌, ◌==◌, if◌then◌else◌, List, [], ◌∷◌, length, map, Option, Some, None, slice_set, slice_index_or}
 use Rattle.std.specs.List.{filter_map, range_with_len}
-use Rattle.cube_view.specs.Points.{Point}
+use Rattle.cube_view.specs.declared.spot.Point.{Point}
 use Rattle.cube_view.specs.declared.address.Tile.{Tile}
 use Rattle.cube_view.specs.declared.schema.Schema.{Schema}
 use Rattle.query_syntax.specs.Boxes.{Box, box, total}

@@ -14,7 +14,6 @@ mod parsing;
 #[cfg(test)]
 mod print_tests;
 mod printing;
-mod quadrants;
 mod query;
 mod table;
 #[cfg(test)]
@@ -31,7 +30,6 @@ mod words;
 pub use fault::QueryFault;
 pub use parsing::parse;
 pub use printing::print;
-pub use quadrants::quadrant;
 pub use query::{Choice, Parsed, Query, Span, Verb};
 pub use table::{RowOut, Table};
 pub use tables::table_of;

@@ -3,6 +3,7 @@
 //! Each row is counted by a look at every point, so this serves small lists, and to test what is faster.
 ghost use Rattle.std.specs.Prelude.{◌≡◌, ◌+◌, ◌*◌, ◌^◌, ◌<◌, ◌≤◌, ◌++◌, ◌∷◌, [], length, map, IfOk, OnOk, IsTrue};
 ghost use Rattle.std.specs.List.{filter_map, range_with_len};
+ghost use Rattle.cube_view.specs.Bag.{amount, anywhere};
 ghost use Rattle.cube_view.specs.Places.{longer_tile};
 ghost use Rattle.query_syntax.specs.Boxes.{box, total};
 ghost use Rattle.query_syntax.specs.Items.{values_at};
@@ -12,10 +13,9 @@ ghost use Rattle.query_syntax.specs.TileOrder.{tiles_below, tiles_inside};
 ghost use Rattle.query_syntax.specs.Verbs.{bins, most_rows};
 
 use crate::item::values_of;
-use crate::quadrants::quadrant;
 use crate::totals::{total_of, total_with};
 use crate::{Query, RowOut, Span, Table, Verb};
-use cube_view::{Point, Schema, Tile};
+use cube_view::{Point, Schema, Tile, quadrant};
 use outer_io::{List, NoMemory, Text};
 use std::alloc::Global;
 
@@ -26,7 +26,8 @@ fn one_row(
     query: &Query,
     points: &[Point],
 ) -> Result<List<RowOut>, NoMemory>
-    requires { query.now.region.z ≤ schema.now.depth }
+    requires region { query.now.region.z ≤ schema.now.depth }
+    requires light { amount anywhere points.now < 2 ^ 64 }
     ensures { IfOk result (λ rows. rows ≡ RowOut.One (total schema.now (box query.now) points.now) ∷ []) }
 {
     let mut rows = List::new(alloc);
@@ -43,6 +44,7 @@ fn value_rows(
     k: usize,
 ) -> Result<List<RowOut>, NoMemory>
     requires region { query.now.region.z ≤ schema.now.depth }
+    requires light { amount anywhere points.now < 2 ^ 64 }
     requires category { k < length schema.now.categories }
     ensures { IfOk result (λ rows. rows ≡ map (value_row schema.now query.now points.now k) (range_with_len 0 (length (values_at schema.now.categories k)))) }
 {
@@ -63,7 +65,8 @@ fn push_area(
     points: &[Point],
     tile: Tile,
 ) -> Result<(), NoMemory>
-    requires { tile.z ≤ schema.now.depth }
+    requires level { tile.z ≤ schema.now.depth }
+    requires light { amount anywhere points.now < 2 ^ 64 }
     ensures { OnOk result (rows.new ≡ rows.old ++ filter_map (area_row schema.now query.now points.now) (tile ∷ [])) }
 {
     let total = total_of(schema, &query.with_region(tile), points);
@@ -82,6 +85,7 @@ fn push_areas(
     tile: Tile,
     levels: u8,
 ) -> Result<(), NoMemory>
+    requires light { amount anywhere points.now < 2 ^ 64 }
     requires deep { tile.z + levels ≤ schema.now.depth }
     requires tile { (tile.x < 2 ^ tile.z) × (tile.y < 2 ^ tile.z) }
     ensures { OnOk result (rows.new ≡ rows.old ++ filter_map (area_row schema.now query.now points.now) (tiles_inside levels tile)) }
@@ -104,6 +108,7 @@ fn area_rows(
     points: &[Point],
     down: u8,
 ) -> Result<List<RowOut>, NoMemory>
+    requires light { amount anywhere points.now < 2 ^ 64 }
     requires deep { query.now.region.z + down ≤ schema.now.depth }
     requires region { (query.now.region.x < 2 ^ query.now.region.z) × (query.now.region.y < 2 ^ query.now.region.z) }
     ensures { IfOk result (λ rows. rows ≡ filter_map (area_row schema.now query.now points.now) (tiles_below down query.now.region)) }
@@ -115,7 +120,8 @@ fn area_rows(
 
 /// The row of the bins from one number on under another.
 fn bin_row(schema: &Schema, query: &Query, points: &[Point], from: u64, to: u64) -> RowOut
-    requires { query.now.region.z ≤ schema.now.depth }
+    requires region { query.now.region.z ≤ schema.now.depth }
+    requires light { amount anywhere points.now < 2 ^ 64 }
     ensures { result ≡ RowOut.Bin from (total schema.now (with_bins (box query.now) from to) points.now) }
 {
     let in_bins = query.with_span(Span { from, to });
@@ -133,6 +139,7 @@ fn bin_rows(
     count: u32,
 ) -> Result<List<RowOut>, NoMemory>
     requires region { query.now.region.z ≤ schema.now.depth }
+    requires light { amount anywhere points.now < 2 ^ 64 }
     requires from { from < bins }
     requires wide { wide ≤ bins }
     requires count { count ≤ most_rows }
@@ -159,7 +166,8 @@ fn rows_of(
     query: &Query,
     points: &[Point],
 ) -> Result<List<RowOut>, NoMemory>
-    requires { IsTrue (is_valid_query schema.now query.now) }
+    requires valid { IsTrue (is_valid_query schema.now query.now) }
+    requires light { amount anywhere points.now < 2 ^ 64 }
     ensures { IfOk result (λ rows. rows ≡ table_rows schema.now query.now points.now) }
 {
     match query.verb {
@@ -173,7 +181,8 @@ fn rows_of(
     }
 }
 
-/// The table that the query asks for over the points.
+/// The table that the query asks for over the points, which weigh less than 2^64 in all. `NoMemory` where its rows
+/// find no room.
 #[tactic(auto, unfolding(crate::specs::Tables::table))]
 pub fn table_of(
     alloc: Global,
@@ -183,6 +192,7 @@ pub fn table_of(
 ) -> Result<Table, NoMemory>
     requires valid { IsTrue (is_valid_query schema.now query.now) }
     requires verb { IsTrue (has_table query.now.verb) }
+    requires light { amount anywhere points.now < 2 ^ 64 }
     ensures { IfOk result (λ t. t ≡ table schema.now query.now points.now) }
 {
     let rows = rows_of(alloc, schema, query, points)?;

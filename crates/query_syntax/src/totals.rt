@@ -1,21 +1,11 @@
 //! The total of a list of points in a query's box, by a look at each point.
-ghost use Rattle.std.specs.Prelude.{◌≡◌, ◌≤◌, ◌<◌, length, map};
+ghost use Rattle.std.specs.Prelude.{◌≡◌, ◌≤◌, ◌<◌, ◌^◌, length, map};
 ghost use Rattle.query_syntax.specs.Boxes.{box, chosen, are_in_sets, inside, total};
-ghost use Rattle.cube_view.specs.Places.{in_tile};
+ghost use Rattle.cube_view.specs.Bag.{amount, anywhere};
 ghost use Rattle.query_syntax.specs.Tables.{with_value};
 
 use crate::{Choice, Query};
-use cube_view::{Point, Schema, Spot, Tile};
-
-/// Whether the spot is in the tile.
-fn lies_in(depth: u8, tile: Tile, spot: &Spot) -> bool
-    requires depth { depth ≤ 20 }
-    requires level { tile.z ≤ depth }
-    ensures { result ≡ in_tile depth tile spot.now }
-{
-    let by = depth - tile.z;
-    spot.x >> by == tile.x && spot.y >> by == tile.y
-}
+use cube_view::{Point, Schema, Spot, lies_in};
 
 /// Whether each value is in the set of its category.
 fn are_chosen(sets: &[Choice; 4], values: &[u8; 4]) -> bool
@@ -42,15 +32,16 @@ fn is_inside(schema: &Schema, query: &Query, spot: &Spot) -> bool
         && bin < query.time.to
 }
 
-/// The total of the points in the query's box.
+/// The total of the points in the query's box. All of them weigh less than 2^64.
 pub fn total_of(schema: &Schema, query: &Query, points: &[Point]) -> u64
-    requires { query.now.region.z ≤ schema.now.depth }
+    requires region { query.now.region.z ≤ schema.now.depth }
+    requires light { amount anywhere points.now < 2 ^ 64 }
     ensures { result ≡ total schema.now (box query.now) points.now }
 {
     let mut total = 0;
     for point in points {
-        if is_inside(schema, query, point) {
-            total += 1;
+        if is_inside(schema, query, &point.spot) {
+            total += u64::from(point.weight);
         }
     }
     total
@@ -59,6 +50,7 @@ pub fn total_of(schema: &Schema, query: &Query, points: &[Point]) -> u64
 /// The total of the points in the query's box that have the value of category `k`.
 pub fn total_with(schema: &Schema, query: &Query, points: &[Point], k: usize, value: u8) -> u64
     requires region { query.now.region.z ≤ schema.now.depth }
+    requires light { amount anywhere points.now < 2 ^ 64 }
     requires category { k < 4 }
     ensures { result ≡ total schema.now (with_value (box query.now) k value) points.now }
 {

@@ -2,7 +2,7 @@
 ghost use Rattle.std.specs.Prelude.{◌≡◌, ◌≤◌, ◌<◌, ◌-◌, length, IfSome, IfOk, IsTrue, ℕ};
 ghost use Rattle.std.specs.Str.{bytes_eq};
 ghost use Rattle.query_syntax.specs.Items.{category_number};
-ghost use Rattle.query_syntax.specs.Reading.{Gives, number_at, number_of};
+ghost use Rattle.query_syntax.specs.Reading.{GivesRead, number_at, number_of};
 ghost use Rattle.query_syntax.specs.Queries.{verb_in_range};
 ghost use Rattle.query_syntax.specs.Verbs.{verb_at, hist_at, map_at, series_at};
 ghost use Rattle.query_syntax.specs.Words.{words};
@@ -37,7 +37,7 @@ pub fn number_in(low: u64, high: u64, number: u32, word: &[u8]) -> Result<u64, W
 /// The number that the first word of the line writes, and what comes after it.
 #[tactic(auto, unfolding(crate::specs::Reading::number_at))]
 pub fn next_number(low: u64, high: u64, number: u32, line: &[u8]) -> Result<(u64, &[u8]), WordFault>
-    ensures read { Gives (λ x. (x.0, words x.1.now)) result (number_at low high number (words line.now)) }
+    ensures read { GivesRead (λ x. (x.0, words x.1.now)) result (number_at low high number (words line.now)) }
     ensures within { IfOk result (λ x. (low ≤ x.0) × (x.0 ≤ high)) }
 {
     let (word, rest) = word_of(line, number)?;
@@ -62,7 +62,7 @@ pub fn category_named(schema: &Schema, name: &[u8]) -> Option<usize>
 #[tactic(auto, unfolding(crate::specs::Verbs::hist_at))]
 fn hist_of<'a>(schema: &Schema, line: &'a [u8]) -> Result<(Verb, &'a [u8]), WordFault>
     ensures valid { IfOk result (λ x. IsTrue (verb_in_range (length schema.now.categories) x.0)) }
-    ensures read { Gives (λ x. (x.0, words x.1.now)) result (hist_at schema.now.categories (words line.now)) }
+    ensures read { GivesRead (λ x. (x.0, words x.1.now)) result (hist_at schema.now.categories (words line.now)) }
 {
     let (name, rest) = word_of(line, 2)?;
     match category_named(schema, name) {
@@ -74,7 +74,7 @@ fn hist_of<'a>(schema: &Schema, line: &'a [u8]) -> Result<(Verb, &'a [u8]), Word
 #[tactic(auto, unfolding(crate::specs::Verbs::map_at))]
 fn map_of(line: &[u8]) -> Result<(Verb, &[u8]), WordFault>
     ensures valid { IfOk result (λ x. (count : ℕ) → IsTrue (verb_in_range count x.0)) }
-    ensures read { Gives (λ x. (x.0, words x.1.now)) result (map_at (words line.now)) }
+    ensures read { GivesRead (λ x. (x.0, words x.1.now)) result (map_at (words line.now)) }
 {
     let (down, rest) = next_number(0, 10, 2, line)?;
     Ok((Verb::Map(down as u8), rest))
@@ -83,7 +83,7 @@ fn map_of(line: &[u8]) -> Result<(Verb, &[u8]), WordFault>
 #[tactic(auto, unfolding(crate::specs::Verbs::series_at))]
 fn series_of(line: &[u8]) -> Result<(Verb, &[u8]), WordFault>
     ensures valid { IfOk result (λ x. (count : ℕ) → IsTrue (verb_in_range count x.0)) }
-    ensures read { Gives (λ x. (x.0, words x.1.now)) result (series_at (words line.now)) }
+    ensures read { GivesRead (λ x. (x.0, words x.1.now)) result (series_at (words line.now)) }
 {
     let (from, rest) = next_number(0, BINS - 1, 2, line)?;
     let (wide, rest) = next_number(1, BINS, 3, rest)?;
@@ -102,7 +102,7 @@ fn series_of(line: &[u8]) -> Result<(Verb, &[u8]), WordFault>
 #[tactic(auto, unfolding(crate::specs::Verbs::verb_at))]
 pub fn verb_of<'a>(schema: &Schema, line: &'a [u8]) -> Result<(Verb, &'a [u8]), WordFault>
     ensures valid { IfOk result (λ x. IsTrue (verb_in_range (length schema.now.categories) x.0)) }
-    ensures read { Gives (λ x. (x.0, words x.1.now)) result (verb_at schema.now.categories (words line.now)) }
+    ensures read { GivesRead (λ x. (x.0, words x.1.now)) result (verb_at schema.now.categories (words line.now)) }
 {
     let (word, rest) = word_of(line, 1)?;
     if is_text(word, "count") {

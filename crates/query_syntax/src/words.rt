@@ -2,7 +2,7 @@
 ghost use Rattle.std.specs.Prelude.{◌≡◌, ℕ, ◌+◌, ◌<◌, ◌≤◌, ◌++◌, [], ◌∷◌, false, length, take, drop, filter, IfSome, IfNone};
 ghost use Rattle.std.specs.Str.{bytes_eq};
 ghost use Rattle.std.specs.Option.{option_copied};
-ghost use Rattle.query_syntax.specs.Reading.{Gives, word_at};
+ghost use Rattle.query_syntax.specs.Reading.{GivesRead, word_at};
 ghost use Rattle.query_syntax.specs.Words.{pieces, pieces_from, pieces_after, words, is_some_text};
 
 use crate::fault::{QueryFault, WordFault};
@@ -74,7 +74,7 @@ fn last_word(piece: &[u8]) -> Option<(&[u8], &[u8])>
 
 /// The first word of the line, which has the number, and what comes after it.
 pub fn word_of(line: &[u8], number: u32) -> Result<(&[u8], &[u8]), WordFault>
-    ensures { Gives (λ x. (x.0.now, words x.1.now)) result (word_at number (words line.now)) }
+    ensures { GivesRead (λ x. (x.0.now, words x.1.now)) result (word_at number (words line.now)) }
 {
     match next_word(line) {
         Some(found) => Ok(found),

@@ -4,7 +4,7 @@ use Rattle.std.specs.List.{list_all, filter_map, range_with_len, cons_option}
 use Rattle.std.proofs.Common.{ap, ◌∙◌}
 use Rattle.std.proofs.Math.Bool.{or-true}
 use Rattle.std.proofs.lemmas.Bool.{false≢true}
-use Rattle.cube_view.specs.Points.{Point}
+use Rattle.cube_view.specs.declared.spot.Point.{Point}
 use Rattle.cube_view.specs.declared.address.Tile.{Tile}
 use Rattle.cube_view.specs.declared.schema.Schema.{Schema}
 use Rattle.query_syntax.specs.Boxes.{box, total}

@@ -1,6 +1,6 @@
 -- The reply to a line of a script, over a list of points.
 use Rattle.std.specs.Prelude.{ℕ, Bool, true, false, List, [], ◌∷◌, ◌++◌, length, Option, Some, None}
-use Rattle.cube_view.specs.Points.{Point}
+use Rattle.cube_view.specs.declared.spot.Point.{Point}
 use Rattle.cube_view.specs.declared.schema.Schema.{Schema}
 use Rattle.cube_view.specs.declared.stat.Stat.{Stat}
 use Rattle.outer_io.specs.Lines.{Line, Bytes, Long}

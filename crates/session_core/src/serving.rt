@@ -1,7 +1,7 @@
 //! What is answered to a line.
 ghost use Rattle.std.specs.Prelude.{◌≡◌, ℕ, IsTrue, IfOk, true, false};
 ghost use Rattle.cube_view.specs.Bag.{Counts};
-ghost use Rattle.cube_view.specs.Points.{Point};
+ghost use Rattle.cube_view.specs.declared.spot.Point.{Point};
 ghost use Rattle.cube_view.specs.declared.stat.Stat.{Stat};
 ghost use Rattle.query_syntax.specs.Meaning.{asks_valid};
 ghost use Rattle.query_syntax.specs.Queries.{is_valid_query};

@@ -1,7 +1,7 @@
 use Rattle.std.proofs.Common.{◌≡◌, ◌∙◌, sym, ap}
 use Rattle.cube_view.specs.declared.category.Category.{Category}
 use Rattle.query_syntax.specs.Items.{values_at}
-use Rattle.query_syntax.specs.SchemaLimits.{values_at-get, few_values}
+use Rattle.query_syntax.proofs.SchemaLimits.{values_at-get, few_values}
 use Rattle.query_syntax.proofs.item.values_of.Goals as goal
 
 pub returns-clause-values : goal.returns-clause-values
@@ -12,4 +12,4 @@ pub returns-clause-few : goal.returns-clause-few
 returns-clause-few c =
     let schema = c.args.schema.now in
     let e : c.as_slice.result.now ≡ values_at schema.categories c.args.k = c.as_slice.ensures ∙ ap (λ (x : Category). x.values) c.get.ensures ∙ sym (values_at-get schema.categories c.args.k c.get.result.now c.requires) in
-    rw e (few_values schema.depth schema.categories schema.width schema.batch c.args.k schema.limits c.requires)
+    rw e (few_values schema c.args.k c.requires)

@@ -1,6 +1,6 @@
 use Rattle.std.proofs.Common.{◌∙◌, sym, ap}
 use Rattle.cube_view.specs.declared.category.Category.{Category}
-use Rattle.query_syntax.specs.SchemaLimits.{name_at-get}
+use Rattle.query_syntax.proofs.SchemaLimits.{name_at-get}
 use Rattle.query_syntax.proofs.printing.name_of_category.Goals as goal
 
 pub returns : goal.returns

@@ -1,4 +1,4 @@
-use Rattle.query_syntax.specs.ValidParts.{valid_parts}
+use Rattle.query_syntax.proofs.ValidParts.{valid_parts}
 use Rattle.query_syntax.proofs.printing.push_further.Goals as goal
 
 pub push_verb-requires : goal.push_verb-requires

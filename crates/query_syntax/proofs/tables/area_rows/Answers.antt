@@ -1,7 +1,7 @@
 use Rattle.std.proofs.Common.{◌++◌, List, sym, ◌∙◌, ap}
 use Rattle.std.specs.List.{filter_map}
 use Rattle.query_syntax.specs.Tables.{area_row}
-use Rattle.query_syntax.specs.TileLaws.{all_inside}
+use Rattle.query_syntax.proofs.TileLaws.{all_inside}
 use Rattle.query_syntax.specs.TileOrder.{tiles_inside}
 use Rattle.query_syntax.specs.declared.table.RowOut.{RowOut}
 use Rattle.query_syntax.proofs.tables.area_rows.Goals as goal

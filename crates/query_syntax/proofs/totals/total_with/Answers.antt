@@ -1,7 +1,7 @@
 use Rattle.std.proofs.Common.{◌<◌, length, sym, ◌∙◌, ap, arith}
 use Rattle.std.proofs.lemmas.List.{get_or_default}
 use Rattle.query_syntax.specs.Boxes.{box, chosen, total}
-use Rattle.query_syntax.specs.TableLaws.{box_value, box_value_out}
+use Rattle.query_syntax.proofs.TableLaws.{box_value, box_value_out}
 use Rattle.query_syntax.specs.declared.query.Choice.{Choice}
 use Rattle.query_syntax.specs.declared.query.Choice.TheVariants.{All}
 use Rattle.query_syntax.specs.declared.query.Query.{Query}

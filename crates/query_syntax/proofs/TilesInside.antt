@@ -1,4 +1,4 @@
--- The way down from a tile comes to all tiles inside it of each level, in path order.
+-- Tiles inside a tile, level by level.
 use Rattle.std.proofs.Common.{◌≡◌, ℕ, zero, suc, ◌+◌, ◌-◌, ◌*◌, ◌/◌, ◌%◌, ◌^◌, ◌<◌, ◌≤◌, Bool, true, false, cond, ◌&&◌, eqb, leb, List, [], ◌∷◌, ◌++◌, map, refl, sym, ◌∙◌, ap, arith, ⊎_elim, add-suc, add-zero}
 use Rattle.std.specs.Prelude.{filter}
 use Rattle.std.specs.List.{flat_map}
@@ -28,7 +28,7 @@ flat_map-single [] = refl
 flat_map-single (x ∷ xs) = ap (λ ys. x ∷ ys) (flat_map-single xs)
 
 -- one level deeper: below each tile that the way comes to, its quadrants
-inside_deeper : (n : ℕ) (t : Tile) → tiles_inside (suc n) t ≡ flat_map quadrants (tiles_inside n t)
+pub inside_deeper : (n : ℕ) (t : Tile) → tiles_inside (suc n) t ≡ flat_map quadrants (tiles_inside n t)
 inside_deeper zero t = flat_map-single (quadrants t) ∙ sym (append-nil (quadrants t))
 inside_deeper (suc n) t = flat_map-same (tiles_inside (suc n)) (λ u. flat_map quadrants (tiles_inside n u)) (inside_deeper n) (quadrants t) ∙ sym (flat_map-flat_map quadrants (tiles_inside n) (quadrants t))
 
@@ -73,7 +73,7 @@ filter-same p true (t ∷ ts) (here, rest) = ap (λ b. kept b t (filter p ts)) h
 filter-same p false (t ∷ ts) (here, rest) = ap (λ b. kept b t (filter p ts)) here ∙ filter-same p false ts rest
 
 -- each tile is of that level
-abbrev of_level : ℕ → List Tile → Type 0
+abbrev pub of_level : ℕ → List Tile → Type 0
 of_level n [] = Unit {0}
 of_level n (t ∷ ts) = (t.z ≡ n) × of_level n ts
 
@@ -81,7 +81,7 @@ of_next_level : (n : ℕ) (ts : List Tile) → of_level n ts → of_level (suc n
 of_next_level n [] all = tt
 of_next_level n (t ∷ ts) (here, rest) = let e : t.z + 1 ≡ suc n = omega (arith, here) in (e, (e, (e, (e, of_next_level n ts rest))))
 
-levels : (n : ℕ) → of_level n (tiles_of_level n)
+pub levels : (n : ℕ) → of_level n (tiles_of_level n)
 levels zero = (refl, tt)
 levels (suc n) = of_next_level n (tiles_of_level n) (levels n)
 
@@ -91,7 +91,7 @@ module _ (r : Tile) where
   cases_of true t ts us e = ap (λ vs. quadrants t ++ vs) e
   cases_of false t ts us e = e
 
-  filter_deeper : (n : ℕ) (ts : List Tile) → r.z ≤ n → of_level n ts → filter (tile_within r) (flat_map quadrants ts) ≡ flat_map quadrants (filter (tile_within r) ts)
+  pub filter_deeper : (n : ℕ) (ts : List Tile) → r.z ≤ n → of_level n ts → filter (tile_within r) (flat_map quadrants ts) ≡ flat_map quadrants (filter (tile_within r) ts)
   filter_deeper n [] le all = refl
   filter_deeper n (t ∷ ts) le (here, rest) =
       let deep : r.z ≤ t.z = omega (arith, le, here) in
@@ -193,7 +193,7 @@ module _ (z : ℕ) (r : Tile) (at : r.z ≡ suc z) where
       ∙ (ap (λ us. cond (tile_within parent t) (r ∷ []) [] ++ us) (below_parent ts rest)
       ∙ once_each (tile_within parent t) t (filter (tile_within parent) ts)))
 
-own_level : (z : ℕ) (r : Tile) → r.z ≡ z → r.x < 2 ^ z → r.y < 2 ^ z → filter (tile_within r) (tiles_of_level z) ≡ r ∷ []
+pub own_level : (z : ℕ) (r : Tile) → r.z ≡ z → r.x < 2 ^ z → r.y < 2 ^ z → filter (tile_within r) (tiles_of_level z) ≡ r ∷ []
 own_level zero r at x_lt y_lt =
     let x : 0 ≡ r.x = omega (arith, x_lt) in
     let y : 0 ≡ r.y = omega (arith, y_lt) in
@@ -204,11 +204,3 @@ own_level (suc z) r at x_lt y_lt =
     let two : 2 ^ suc z ≡ 2 * 2 ^ z = omega arith in
     below_parent z r at (tiles_of_level z) (levels z)
     ∙ ap (map (λ (u : Tile). r)) (own_level z (parent z r at) refl (omega (arith, x_lt, two)) (omega (arith, y_lt, two)))
-
--- the tiles so many levels below a tile are those that the way down from it comes to, in the same order
-pub all_inside : (r : Tile) → r.x < 2 ^ r.z → r.y < 2 ^ r.z → (n : ℕ) → tiles_below n r ≡ tiles_inside n r
-all_inside r x_lt y_lt zero = ap (λ (k : ℕ). filter (tile_within r) (tiles_of_level k)) (add-zero r.z) ∙ own_level r.z r refl x_lt y_lt
-all_inside r x_lt y_lt (suc n) =
-    ap (λ (k : ℕ). filter (tile_within r) (tiles_of_level k)) (add-suc r.z n)
-    ∙ (filter_deeper r (r.z + n) (tiles_of_level (r.z + n)) (omega arith) (levels (r.z + n))
-    ∙ (ap (flat_map quadrants) (all_inside r x_lt y_lt n) ∙ sym (inside_deeper n r)))

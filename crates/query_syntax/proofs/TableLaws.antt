@@ -7,10 +7,10 @@ use Rattle.std.proofs.lemmas.Bool.{and_parts, and_from, eqb-true, eq-eqb, ne_eqb
 use Rattle.std.proofs.lemmas.List.{get_or-set_same, get_or-set_other, length-replicate}
 use Rattle.std.proofs.lemmas.List.Elements.{filter_map-append}
 use Rattle.std.proofs.lemmas.Nat.{shr-shr}
-use Rattle.cube_view.specs.Amounts.{amount_same, amount_none, none_less}
+use Rattle.cube_view.proofs.Amounts.{amount-same, amount-none, none-less}
 use Rattle.cube_view.specs.Bag.{amount}
 use Rattle.cube_view.specs.Places.{in_tile, longer_tile}
-use Rattle.cube_view.specs.Points.{Point}
+use Rattle.cube_view.specs.declared.spot.Point.{Point}
 use Rattle.cube_view.specs.declared.address.Tile.{Tile}
 use Rattle.cube_view.specs.declared.schema.Schema.{Schema}
 use Rattle.cube_view.specs.declared.spot.Spot.{Spot}
@@ -65,20 +65,12 @@ module _ (schema : Schema) (q : Query) (h : List Point) where
   -- a value that the query's set of its category has counts as much as the query with the set of this value alone
   pub box_value : (k v : ℕ) → k < length q.sets → v < 256 → chosen (get_or q.sets k All) v ≡ true → total schema (with_value (box q) k v) h ≡ total schema (box (record q { sets = set q.sets k (Only (set (replicate 256 false) v true)) })) h
   unfolding total inside
-  box_value k v lt below is = amount_same _ _ (λ s. ap (λ b. ((in_tile schema.depth q.region s && b) && leb q.time.from s.bin) && ltb s.bin q.time.to) (sets_with_one 256 v q.sets s.values k below lt is)) h
+  box_value k v lt below is = amount-same _ _ (λ s. ap (λ b. ((in_tile schema.depth q.region s && b) && leb q.time.from s.bin) && ltb s.bin q.time.to) (sets_with_one 256 v q.sets s.values k below lt is)) h
 
   -- a value that it doesn't have counts nothing
   pub box_value_out : (k v : ℕ) → chosen (get_or q.sets k All) v ≡ false → total schema (with_value (box q) k v) h ≡ 0
   unfolding total inside
-  box_value_out k v is = amount_none _ (λ s. ap (λ b. ((in_tile schema.depth q.region s && b) && leb q.time.from s.bin) && ltb s.bin q.time.to) (sets_with_none v q.sets s.values k is) ∙ ap (λ b. (b && leb q.time.from s.bin) && ltb s.bin q.time.to) (and-false (in_tile schema.depth q.region s))) h
-
--- Another tile, other bins
-
-pub box_tile : (q : Query) (t : Tile) → with_tile (box q) t ≡ box (record q { region = t })
-box_tile q t = refl
-
-pub box_bins : (q : Query) (from to : ℕ) → with_bins (box q) from to ≡ box (record q { time = record { from = from; to = to } })
-box_bins q from to = refl
+  box_value_out k v is = amount-none _ (λ s. ap (λ b. ((in_tile schema.depth q.region s && b) && leb q.time.from s.bin) && ltb s.bin q.time.to) (sets_with_none v q.sets s.values k is) ∙ ap (λ b. (b && leb q.time.from s.bin) && ltb s.bin q.time.to) (and-false (in_tile schema.depth q.region s))) h
 
 -- the half of a coordinate one level deeper
 half_of : (n depth z c b : ℕ) → z < depth → b < 2 → n / 2 ^ (depth - (z + 1)) ≡ 2 * c + b → n / 2 ^ (depth - z) ≡ c
@@ -102,10 +94,10 @@ quadrant_in_tile depth t label s above four is =
 module _ (schema : Schema) (q : Query) (h : List Point) where
   pub none_in_tile : (t : Tile) → amount (λ s. in_tile schema.depth t s) h ≡ 0 → total schema (with_tile (box q) t) h ≡ 0
   unfolding total inside
-  none_in_tile t none = none_less _ (in_tile schema.depth t) (λ s e. (and_parts _ _ (and_parts (in_tile schema.depth t s && are_in_sets (map chosen q.sets) s.values) (leb q.time.from s.bin) (and_parts _ (ltb s.bin q.time.to) e).0).0).0) h none
+  none_in_tile t none = none-less _ (in_tile schema.depth t) (λ s e. (and_parts _ _ (and_parts (in_tile schema.depth t s && are_in_sets (map chosen q.sets) s.values) (leb q.time.from s.bin) (and_parts _ (ltb s.bin q.time.to) e).0).0).0) h none
 
   none_in_quadrant : (t : Tile) (label : ℕ) → t.z < schema.depth → label < 4 → amount (λ s. in_tile schema.depth t s) h ≡ 0 → amount (λ s. in_tile schema.depth (longer_tile 1 t label) s) h ≡ 0
-  none_in_quadrant t label above four none = none_less _ (in_tile schema.depth t) (λ s e. quadrant_in_tile schema.depth t label s above four e) h none
+  none_in_quadrant t label above four none = none-less _ (in_tile schema.depth t) (λ s e. quadrant_in_tile schema.depth t label s above four e) h none
 
   no_row : (t : Tile) → total schema (with_tile (box q) t) h ≡ 0 → filter_map (area_row schema q h) (t ∷ []) ≡ []
   no_row t e = ap (λ n. cons_option (if n == 0 then None else Some (RowOut.Area t n)) []) e
