@@ -1,4 +1,5 @@
 pub mod BoxSteps
+pub mod ChoicesAt
 pub mod Cutting
 pub mod FilterSteps
 pub mod Listing

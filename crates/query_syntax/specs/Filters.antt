@@ -6,6 +6,7 @@ use Rattle.query_syntax.specs.Items.{item_at}
 use Rattle.query_syntax.specs.Reading.{◌>>=◌, fault_at, or_fault, number_of}
 use Rattle.query_syntax.specs.Tiles.{tile_value}
 use Rattle.query_syntax.specs.Verbs.{bins, takes_filters, is_series}
+use Rattle.query_syntax.specs.Words.{words}
 use Rattle.query_syntax.specs.declared.fault.QueryFault.TheVariants.{MissingWord, OutOfRange, BadTile, RepeatedFilter, UnknownFilter, TimeInSeries}
 use Rattle.query_syntax.specs.declared.fault.WordFault.{WordFault}
 use Rattle.query_syntax.specs.declared.filters.Filters.{Filters}
@@ -56,17 +57,22 @@ end_read (To from) filters n = fault_at MissingWord n
 -- what the words say, the first of which is word n, after what the filters said before
 abbrev pub words_read : Schema → Verb → Wanted → Filters → ℕ → List (List ℕ) → Result Filters WordFault
 words_read schema verb wanted filters n [] = end_read wanted filters n
-words_read schema verb wanted filters n (word ∷ words) = word_read schema verb wanted filters n word >>= λ p. words_read schema verb p.wanted p.filters (n + 1) words
+words_read schema verb wanted filters n (word ∷ later) = word_read schema verb wanted filters n word >>= λ p. words_read schema verb p.wanted p.filters (n + 1) later
 
 -- what all the filters of a query say, the first of whose words is word n
 unfoldable pub filters_at : Schema → Verb → ℕ → List (List ℕ) → Result Filters WordFault
-filters_at schema verb n words = words_read schema verb Name no_filters n words
+filters_at schema verb n line = words_read schema verb Name no_filters n line
+
+-- what a line says, the first of whose words is word n, where that is wanted
+abbrev pub line_read : Wanted → Schema → Verb → Filters → ℕ → List ℕ → Result Filters WordFault
+line_read wanted schema verb filters n line = words_read schema verb wanted filters n (words line)
 
 -- What is read in all is a fault that was returned, or what is read after the part that was returned
 abbrev pub ReadsOn : {X : Type 0} → Result Filters WordFault → Result X WordFault → (X → Result Filters WordFault) → Type 0
 ReadsOn whole (Ok x) after = whole ≡ after x
 ReadsOn whole (Err e) after = whole ≡ Err e
 
+-- 1 where it holds
 abbrev pub one_if : Bool → ℕ
 one_if true = 1
 one_if false = 0

@@ -72,6 +72,10 @@ pub record FiltersFit (schema : Schema) (verb : Verb) (filters : Filters) : Type
   pub none : takes_filters verb ≡ false → filters ≡ no_filters
   pub own : is_series verb ≡ true → filters.time ≡ None
 
+-- what other filters said is in order where what these said is
+abbrev pub KeepsFit : Schema → Filters → Filters → Verb → Type 0
+KeepsFit schema filters others verb = FiltersFit schema verb filters → FiltersFit schema verb others
+
 -- the query that is asked, if there is one, is valid
 abbrev pub asks_valid : Schema → Parsed → Bool
 asks_valid schema Skip = true

@@ -1,8 +1,8 @@
 //! Filters of a query.
 ghost use Rattle.std.specs.Prelude.{◌≡◌, ℕ, ◌+◌, ◌<◌, ◌≤◌, ◌^◌, ◌∷◌, None, true, false, length, IfOk};
-ghost use Rattle.query_syntax.specs.Filters.{no_filters, words_read, filters_at, ReadsOn, AddsFilter};
+ghost use Rattle.query_syntax.specs.Filters.{no_filters, line_read, words_read, filters_at, ReadsOn, AddsFilter};
 ghost use Rattle.query_syntax.specs.Filters.Wanted.{Name, Region, Item, From};
-ghost use Rattle.query_syntax.specs.Meaning.{FiltersFit};
+ghost use Rattle.query_syntax.specs.Meaning.{FiltersFit, KeepsFit};
 ghost use Rattle.query_syntax.specs.Verbs.{takes_filters, is_series};
 ghost use Rattle.query_syntax.specs.Words.{words};
 ghost use Rattle.query_syntax.specs.declared.query.Verb.{Verb};
@@ -35,7 +35,7 @@ fn no_filters_yet() -> Filters
 }
 
 /// Whether filters may follow the verb.
-fn may_have_filters(verb: Verb) -> bool
+pub(crate) fn may_have_filters(verb: Verb) -> bool
     ensures { result ≡ takes_filters verb }
 {
     match verb {
@@ -45,7 +45,7 @@ fn may_have_filters(verb: Verb) -> bool
 }
 
 /// Whether the verb has its bins by itself.
-fn has_own_bins(verb: Verb) -> bool
+pub(crate) fn has_own_bins(verb: Verb) -> bool
     ensures { result ≡ is_series verb }
 {
     matches!(verb, Verb::Series { .. })
@@ -60,10 +60,10 @@ fn region_filter<'a>(
 ) -> Result<(Filters, u32, &'a [u8]), WordFault>
     requires small { number + 1 < 2 ^ 32 }
     requires fresh { filters.now.region ≡ None }
-    ensures reads { (verb : Verb) → ReadsOn (words_read schema.now verb Region filters.now number (words line.now)) result (λ x. words_read schema.now verb Name x.0 x.1 (words x.2.now)) }
+    ensures reads { (verb : Verb) → ReadsOn (line_read Region schema.now verb filters.now number line.now) result (λ x. line_read Name schema.now verb x.0 x.1 x.2.now) }
     ensures next { IfOk result (λ x. x.1 ≡ number + 1) }
     ensures adds { IfOk result (λ x. AddsFilter filters.now x.0) }
-    ensures fits { IfOk result (λ x. (verb : Verb) → takes_filters verb ≡ true → FiltersFit schema.now verb filters.now → FiltersFit schema.now verb x.0) }
+    ensures fits { IfOk result (λ x. (verb : Verb) → takes_filters verb ≡ true → KeepsFit schema.now filters.now x.0 verb) }
 {
     let Some((word, rest)) = next_word(line) else {
         return Err(WordFault::at(QueryFault::MissingWord, number));
@@ -82,10 +82,10 @@ fn category_filter<'a>(
     line: &'a [u8],
 ) -> Result<(Filters, u32, &'a [u8]), WordFault>
     requires { number + 1 < 2 ^ 32 }
-    ensures reads { (verb : Verb) → ReadsOn (words_read schema.now verb Item filters.now number (words line.now)) result (λ x. words_read schema.now verb Name x.0 x.1 (words x.2.now)) }
+    ensures reads { (verb : Verb) → ReadsOn (line_read Item schema.now verb filters.now number line.now) result (λ x. line_read Name schema.now verb x.0 x.1 x.2.now) }
     ensures next { IfOk result (λ x. x.1 ≡ number + 1) }
     ensures adds { IfOk result (λ x. AddsFilter filters.now x.0) }
-    ensures fits { IfOk result (λ x. (verb : Verb) → takes_filters verb ≡ true → FiltersFit schema.now verb filters.now → FiltersFit schema.now verb x.0) }
+    ensures fits { IfOk result (λ x. (verb : Verb) → takes_filters verb ≡ true → KeepsFit schema.now filters.now x.0 verb) }
 {
     let Some((word, rest)) = next_word(line) else {
         return Err(WordFault::at(QueryFault::MissingWord, number));
@@ -105,10 +105,10 @@ fn time_filter<'a>(
 ) -> Result<(Filters, u32, &'a [u8]), WordFault>
     requires small { number + 2 < 2 ^ 32 }
     requires fresh { filters.now.time ≡ None }
-    ensures reads { (verb : Verb) → ReadsOn (words_read schema.now verb From filters.now number (words line.now)) result (λ x. words_read schema.now verb Name x.0 x.1 (words x.2.now)) }
+    ensures reads { (verb : Verb) → ReadsOn (line_read From schema.now verb filters.now number line.now) result (λ x. line_read Name schema.now verb x.0 x.1 x.2.now) }
     ensures next { IfOk result (λ x. x.1 ≡ number + 2) }
     ensures adds { IfOk result (λ x. AddsFilter filters.now x.0) }
-    ensures fits { IfOk result (λ x. (verb : Verb) → takes_filters verb ≡ true → is_series verb ≡ false → FiltersFit schema.now verb filters.now → FiltersFit schema.now verb x.0) }
+    ensures fits { IfOk result (λ x. (verb : Verb) → takes_filters verb ≡ true → is_series verb ≡ false → KeepsFit schema.now filters.now x.0 verb) }
 {
     let Some((word, rest)) = next_word(line) else {
         return Err(WordFault::at(QueryFault::MissingWord, number));
@@ -137,7 +137,7 @@ fn filter_of<'a>(
 ) -> Result<(Filters, u32, &'a [u8]), WordFault>
     requires small { number + 3 < 2 ^ 32 }
     requires fits { FiltersFit schema.now verb filters.now }
-    ensures reads { ReadsOn (words_read schema.now verb Name filters.now number (word.now ∷ words line.now)) result (λ x. words_read schema.now verb Name x.0 x.1 (words x.2.now)) }
+    ensures reads { ReadsOn (words_read schema.now verb Name filters.now number (word.now ∷ words line.now)) result (λ x. line_read Name schema.now verb x.0 x.1 x.2.now) }
     ensures next { IfOk result (λ x. x.1 ≤ number + 3) }
     ensures adds { IfOk result (λ x. AddsFilter filters.now x.0) }
     ensures fits { IfOk result (λ x. FiltersFit schema.now verb x.0) }

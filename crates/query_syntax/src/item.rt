@@ -122,7 +122,7 @@ fn parts_of(item: &[u8]) -> Option<(&[u8], &[u8])>
 }
 
 /// Whether the set has all of so many values.
-fn has_all(set: &ValueSet, count: usize) -> bool
+pub(crate) fn has_all(set: &ValueSet, count: usize) -> bool
     requires { count ≤ 256 }
     ensures { result ≡ is_full count set.now }
 {

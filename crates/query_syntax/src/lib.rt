@@ -1,10 +1,18 @@
 //! The query language, read and printed, and what a query asks for.
 //!
-//! [`parse`] answers the meaning of a line, which `specs/Meaning.antt` defines: a query, or the first
-//! fault from the left with the number of its word. [`print`] answers the line of a query, which
-//! `specs/Spelling.antt` defines; that line means the query. What a query counts, its box and the total
-//! of a list of points in it, is defined in `specs/Boxes.antt`, and its table in `specs/Tables.antt`.
-//! [`table_of`] counts that table row by row, for small lists and as the answer that tests compare with.
+//! [`parse`] answers the meaning of a line, which `specs/Meaning.antt` defines: a query, or the first fault from the
+//! left with the number of its word. [`print`] answers the line of a query, which `specs/Spelling.antt` defines; that
+//! line means the query. [`is_valid_query`] says which queries a schema takes. What a query counts, its box and the
+//! total of a list of points in it, is defined in `specs/Boxes.antt`, and its table in `specs/Tables.antt`.
+//! [`table_of`] counts that table row by row, for small lists and as the answer that tests compare with. Schemas and
+//! points come from `cube_view`; how a cube finds a total is left to the crates above.
+//!
+//! ```
+//! let parsed = parse(alloc, &schema, b"count  in 01/0/1")?;
+//! let Parsed::Ask(query) = parsed else { .. };
+//! assert!(is_valid_query(&schema, &query));
+//! assert_eq!(print(alloc, &schema, &query)?.as_slice(), b"count in 1/0/1");
+//! ```
 #![tactic(auto)]
 
 mod fault;
@@ -23,6 +31,7 @@ mod tables;
 mod tests;
 mod tile_word;
 mod totals;
+mod valid_query;
 mod value_set;
 mod verb_words;
 mod words;
@@ -33,4 +42,5 @@ pub use printing::print;
 pub use query::{Choice, Parsed, Query, Span, Verb};
 pub use table::{RowOut, Table};
 pub use tables::table_of;
+pub use valid_query::{has_table, is_valid_query};
 pub use value_set::ValueSet;

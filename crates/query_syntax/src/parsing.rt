@@ -29,7 +29,7 @@ fn words_of_verb(verb: Verb) -> u32
 }
 
 /// Whether the map's tiles, which are in a region of that level, are too deep.
-fn is_map_too_deep(depth: u8, z: u8, verb: Verb) -> bool
+pub(crate) fn is_map_too_deep(depth: u8, z: u8, verb: Verb) -> bool
     ensures { result ≡ is_too_deep depth z verb }
 {
     match verb {

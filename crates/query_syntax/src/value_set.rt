@@ -1,5 +1,5 @@
 //! Sets of values of one category.
-ghost use Rattle.std.specs.Prelude.{◌≡◌, ◌≤◌, true, false, take, slice_set, slice_index_or, replicate};
+ghost use Rattle.std.specs.Prelude.{length, ◌≡◌, ◌≤◌, true, false, take, drop, slice_set, slice_index_or, replicate};
 
 use std::marker::Model;
 
@@ -51,6 +51,15 @@ impl ValueSet {
         ensures { result.now ≡ take count self.now }
     {
         &self.members[..count]
+    }
+
+    /// Of each number from the count on, whether it is in the set.
+    pub fn members_from(&self, count: usize) -> &[bool]
+        requires { count ≤ 256 }
+        ensures members { result.now ≡ drop count self.now }
+        ensures size { length self.now ≡ 256 }
+    {
+        &self.members[count..]
     }
 
     /// Puts the value into the set.

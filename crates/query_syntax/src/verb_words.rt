@@ -16,6 +16,12 @@ use outer_io::decimal_of;
 /// How many bins there are.
 pub const BINS: u64 = 1 << 32;
 
+/// How many levels below the region the tiles of a map are at most.
+pub const DEEPEST_MAP: u8 = 10;
+
+/// How many rows a series has at most.
+pub const MOST_ROWS: u32 = 10_000;
+
 /// The number that the word of that number writes, which is one from low to high.
 #[tactic(auto, unfolding(crate::specs::Reading::number_of))]
 pub fn number_in(low: u64, high: u64, number: u32, word: &[u8]) -> Result<u64, WordFault>
@@ -76,7 +82,7 @@ fn map_of(line: &[u8]) -> Result<(Verb, &[u8]), WordFault>
     ensures valid { IfOk result (λ x. (count : ℕ) → IsTrue (verb_in_range count x.0)) }
     ensures read { GivesRead (λ x. (x.0, words x.1.now)) result (map_at (words line.now)) }
 {
-    let (down, rest) = next_number(0, 10, 2, line)?;
+    let (down, rest) = next_number(0, u64::from(DEEPEST_MAP), 2, line)?;
     Ok((Verb::Map(down as u8), rest))
 }
 
@@ -87,7 +93,7 @@ fn series_of(line: &[u8]) -> Result<(Verb, &[u8]), WordFault>
 {
     let (from, rest) = next_number(0, BINS - 1, 2, line)?;
     let (wide, rest) = next_number(1, BINS, 3, rest)?;
-    let (rows, rest) = next_number(1, 10_000, 4, rest)?;
+    let (rows, rest) = next_number(1, u64::from(MOST_ROWS), 4, rest)?;
     Ok((
         Verb::Series {
             from,

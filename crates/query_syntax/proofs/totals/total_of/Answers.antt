@@ -1,4 +1,4 @@
-use Rattle.std.proofs.Common.{sym, ◌∙◌, arith}
+use Rattle.std.proofs.Common.{ℕ, ◌+◌, ap, sym, ◌∙◌, arith}
 use Rattle.query_syntax.specs.Boxes.{box}
 use Rattle.query_syntax.proofs.BoxSteps.{total_nothing, total_more, total_same, total_light}
 use Rattle.query_syntax.proofs.totals.total_of.Goals.{then-is_inside, else-is_inside}
@@ -14,6 +14,6 @@ overflow_add-total c =
 
 pub loop-point-preserved : goal.loop-point-preserved
 loop-point-preserved c = elim c.if-is_inside.branch [
-  | then-is_inside w ↦ w.total-is ∙ total_more c.args.schema.now (box c.args.query.now) c.args.points.now c.loop-point.point-index _ c.loop-point.total c.loop-point-test.true c.loop-point.invariant (sym c.is_inside.ensures ∙ w.if-is_inside.true)
+  | then-is_inside w ↦ w.total-is ∙ ap (λ (n : ℕ). c.loop-point.total + n) w.from-total.ensures ∙ total_more c.args.schema.now (box c.args.query.now) c.args.points.now c.loop-point.point-index _ c.loop-point.total c.loop-point-test.true c.loop-point.invariant (sym c.is_inside.ensures ∙ w.if-is_inside.true)
   | else-is_inside w ↦ w.total-is ∙ total_same c.args.schema.now (box c.args.query.now) c.args.points.now c.loop-point.point-index _ c.loop-point.total c.loop-point-test.true c.loop-point.invariant (sym c.is_inside.ensures ∙ w.if-is_inside.false)
 ]
