@@ -1,0 +1,6 @@
+pub mod Entries
+pub mod FeederSums
+pub mod Interleavings
+pub mod Ordering
+pub mod SameTables
+pub mod Worlds

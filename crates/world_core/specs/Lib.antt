@@ -1,0 +1,6 @@
+pub mod Interleaving
+pub mod InterleavingLaws
+pub mod LaneFact
+pub mod Machine
+pub mod PairFact
+pub mod WorldLaws

@@ -1,0 +1,12 @@
+//! The loading machine.
+#![tactic(auto)]
+
+mod entry;
+mod event;
+mod laws;
+mod world;
+
+pub use entry::Entry;
+pub use event::Event;
+pub use laws::{interleaving_laws, world_laws};
+pub use world::{Shot, World};
