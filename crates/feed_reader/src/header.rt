@@ -8,10 +8,10 @@ use crate::fields::Fields;
 use crate::row::row_of_record;
 use crate::{Column, Row, RowFault};
 use cube_view::Schema;
+use ghost_values::GhostValue;
 use outer_io::{List, NoMemory};
 use std::alloc::Global;
 use std::marker::Model;
-use std::snapshot::Snapshot;
 
 /// Why a line is no header.
 #[derive(Clone, Copy, PartialEq, Eq, Debug)]
@@ -36,7 +36,7 @@ impl From<NoMemory> for HeadFault {
 #[derive(Drop)]
 pub struct Header {
     places: List<usize>,
-    schema: Snapshot<Schema>,
+    schema: GhostValue<Schema>,
 }
 
 impl Model for Header {
@@ -177,7 +177,7 @@ impl Header {
         }
         Ok(Header {
             places: places(alloc, schema, &fields)?,
-            schema: Snapshot::of(schema),
+            schema: GhostValue::of(schema),
         })
     }
 
