@@ -5,3 +5,5 @@ pub mod Parts
 pub mod Values
 pub mod FirstFault
 pub mod ValidRows
+pub mod FeedLaws
+pub mod Stepping

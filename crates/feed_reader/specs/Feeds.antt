@@ -1,8 +1,8 @@
 -- What the bytes of a feed mean: its header, the rows after it, and the points among them.
-use Rattle.std.specs.Prelude.{ℕ, List, [], ◌∷◌, map, drop, Result, Ok, Err}
+use Rattle.std.specs.Prelude.{ℕ, Bool, not, ◌||◌, nat_lt, List, [], ◌∷◌, map, drop, length, Result, Ok, Err, is_ok}
 use Rattle.cube_view.specs.declared.spot.Point.{Point}
 use Rattle.cube_view.specs.declared.schema.Schema.{Schema}
-use Rattle.outer_io.specs.Lines.{Line, Bytes, Long, lines}
+use Rattle.outer_io.specs.Lines.{Line, Bytes, Long, input_limit, lines}
 use Rattle.feed_reader.specs.Headers.{head_of}
 use Rattle.feed_reader.specs.Rows.{row_of_line}
 use Rattle.feed_reader.specs.declared.header.HeadFault.{HeadFault}
@@ -39,3 +39,7 @@ rows schema bytes = rows_under schema (feed_head schema bytes) (drop 1 (lines by
 -- the records that a cube takes from it, in order
 unfoldable pub accepted : Schema → List ℕ → List Point
 accepted schema bytes = points_in (rows schema bytes)
+
+-- the feed is refused: its first line is no header, or it has more than 2^30 bytes
+unfoldable pub is_feed_refused : Schema → List ℕ → Bool
+is_feed_refused schema feed = not (is_ok (feed_head schema feed)) || nat_lt input_limit (length feed)

@@ -4,3 +4,4 @@ pub mod Headings
 pub mod Headers
 pub mod Rows
 pub mod Feeds
+pub mod Reading

@@ -6,11 +6,13 @@
 #![tactic(auto)]
 
 mod column;
+mod feed;
 mod fields;
 mod header;
 mod row;
 
 pub use column::Column;
+pub use feed::{NoHeader, next_row, read_header};
 pub use header::{HeadFault, Header};
 pub use row::{Row, RowFault};
 

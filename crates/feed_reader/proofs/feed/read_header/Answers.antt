@@ -1,0 +1,23 @@
+use Rattle.std.proofs.Common.{ap, Ok}
+use Rattle.feed_reader.proofs.Stepping.{header_leaves, header_read, passes_one, refused_line}
+use Rattle.feed_reader.proofs.feed.read_header.Goals as goal
+
+pub returns-in-Ok-Line-clause-header : goal.returns-in-Ok-Line-clause-header
+returns-in-Ok-Line-clause-header g c =
+    let given = c.in-Ok-Line.ensures.line _ _ (ap (λ x. Ok x) c.in-Ok-Line.field-0-is) in
+    header_read _ _ c.args.schema.now _ _ _ _ _ _ c.as_slice.ensures c.header_of.ensures.places given
+
+pub returns-in-Ok-Line-clause-accepted : goal.returns-in-Ok-Line-clause-accepted
+returns-in-Ok-Line-clause-accepted g c =
+    let given = c.in-Ok-Line.ensures.line _ _ (ap (λ x. Ok x) c.in-Ok-Line.field-0-is) in
+    header_leaves _ _ c.args.schema.now _ _ _ _ _ _ c.as_slice.ensures c.header_of.ensures.places given
+
+pub returns-in-Ok-Line-clause-refused : goal.returns-in-Ok-Line-clause-refused
+returns-in-Ok-Line-clause-refused g c fault e =
+    let given = c.in-Ok-Line.ensures.line _ _ (ap (λ x. Ok x) c.in-Ok-Line.field-0-is) in
+    refused_line _ _ c.args.schema.now _ _ _ _ fault given (rw c.as_slice.ensures at c.header_of.ensures.refused fault e).1
+
+pub returns-in-Ok-Line-clause-no_memory : goal.returns-in-Ok-Line-clause-no_memory
+returns-in-Ok-Line-clause-no_memory g c e =
+    let given = c.in-Ok-Line.ensures.line _ _ (ap (λ x. Ok x) c.in-Ok-Line.field-0-is) in
+    passes_one _ _ c.args.schema.now _ _ _ _ given
