@@ -5,7 +5,7 @@ use Rattle.std.proofs.lemmas.List.{get_or_read}
 use Rattle.std.proofs.lemmas.List.Elements.{All-nil, All-cons}
 use Rattle.std.proofs.lemmas.Bool.{cases_lt, cases_eq}
 use Rattle.probe_core.specs.Bits.{bits}
-use Rattle.probe_core.specs.BitLaws.{bits-mono, bits-half}
+use Rattle.probe_core.proofs.BitLaws.{bits-mono, bits-half}
 use Rattle.probe_core.specs.Places.{RisesBy, IsPlace, item_before}
 
 -- the place is from `low` to `high`, the items just before `low` and on `high` were read, and the

@@ -16,6 +16,15 @@ pub trait Keyed {
         ensures { result ≡ key self.now };
 }
 
+/// A pair is ordered by its first part.
+impl<T> Keyed for (u8, T) {
+    ghost key = { λ pair. pair.0 };
+
+    fn key(&self) -> u64 {
+        u64::from(self.0)
+    }
+}
+
 /// A place among rows, with the items that stand around it.
 #[derive(Clone, Copy)]
 pub struct Place<T> {
