@@ -1,7 +1,7 @@
 -- What a table of time means: how many records fell into each bin, as a finite map.
-use Rattle.std.specs.Prelude.{ℕ, ◌+◌, ◌-◌, ◌<◌, ◌==◌, if◌then◌else◌, nat_lt, unwrap_or, sum, sum_by, filter, All, List, [], ◌∷◌}
+use Rattle.std.specs.Prelude.{ℕ, ◌+◌, ◌-◌, ◌<◌, ◌==◌, if◌then◌else◌, nat_lt, unwrap_or, sum, sum_by, filter, All, List, [], ◌∷◌, Option, None, Some}
 use Rattle.std.specs.Ordering.{nat_cmp}
-use Rattle.std.specs.FinMap.{FinMap, empty, get, insert, remove, values, entries}
+use Rattle.std.specs.FinMap.{FinMap, get, insert, remove, values, entries}
 
 -- a count for each bin into which records fell
 abbrev pub Counts : Type 0
@@ -15,13 +15,21 @@ AllCounted m = All (λ n. 0 < n) (values m)
 abbrev pub count_of : Counts → ℕ → ℕ
 count_of m bin = unwrap_or (get m bin) 0
 
+-- n records more in a bin
+abbrev pub add_many : Counts → ℕ → ℕ → Counts
+add_many m bin n = insert m bin (count_of m bin + n)
+
+-- n records less in a bin, which goes with its last record
+abbrev pub take_many : Counts → ℕ → ℕ → Counts
+take_many m bin n = if count_of m bin == n then remove m bin else insert m bin (count_of m bin - n)
+
 -- one record more in a bin
 abbrev pub add_one : Counts → ℕ → Counts
-add_one m bin = insert m bin (count_of m bin + 1)
+add_one m bin = add_many m bin 1
 
 -- one record less in a bin, which goes with its last record
 abbrev pub take_one : Counts → ℕ → Counts
-take_one m bin = if count_of m bin == 1 then remove m bin else insert m bin (count_of m bin - 1)
+take_one m bin = take_many m bin 1
 
 -- how many records there are
 abbrev pub total_count : Counts → ℕ
@@ -31,7 +39,11 @@ total_count m = sum (values m)
 abbrev pub count_before : Counts → ℕ → ℕ
 count_before m bin_end = sum_by (λ e. e.1) (filter (λ e. nat_lt e.0 bin_end) (entries m))
 
--- the table of records that fell into these bins, whose order does not matter
-abbrev pub counts_of_bins : List ℕ → Counts
-counts_of_bins [] = empty
-counts_of_bins (bin ∷ bins) = add_one (counts_of_bins bins) bin
+-- how much of a list of amounts, each with its bin, is in a bin
+abbrev pub amount_at : ℕ → List (ℕ × ℕ) → ℕ
+amount_at bin amounts = sum_by (λ a. if bin == a.0 then a.1 else 0) amounts
+
+-- the first entry of a bin that is `from` or later
+abbrev pub first_from : ℕ → List (ℕ × ℕ) → Option (ℕ × ℕ)
+first_from from [] = None
+first_from from (e ∷ es) = if nat_lt e.0 from then first_from from es else Some e

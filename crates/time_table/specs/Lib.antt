@@ -1,5 +1,5 @@
-pub mod CountLaws
+pub mod Blocks
 pub mod Counts
-pub mod Entries
+pub mod Forms
 pub mod Places
 pub mod Totals

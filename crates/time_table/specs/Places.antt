@@ -1,14 +1,9 @@
 -- Places among rows in rising order of bin.
-use Rattle.std.specs.Prelude.{◌≡◌, ℕ, ◌-◌, ◌<◌, ◌≤◌, ◌==◌, if◌then◌else◌, List, [], ◌∷◌, ◌++◌, length, take, drop, All}
+use Rattle.std.specs.Prelude.{ℕ, ◌+◌, ◌-◌, ◌==◌, if◌then◌else◌, nat_lt, List, [], ◌∷◌, ◌++◌, take, drop, map, unwrap_or}
+use Rattle.std.specs.Ordering.{nat_cmp}
+use Rattle.std.specs.FinMap.{find, put}
 use Rattle.time_table.specs.declared.row.Row.{Row}
-use Rattle.time_table.specs.Totals.{last_total}
-
--- the rows before the index are those of bins less than bin_end, and `below` is the last total of them
-pub record IsPlace (bin_end : ℕ) (rows : List Row) (index below : ℕ) : Type 0 where
-  pub within : index ≤ length rows
-  pub lesser : All (λ row. row.bin < bin_end) (take index rows)
-  pub others : All (λ row. bin_end ≤ row.bin) (drop index rows)
-  pub total : below ≡ last_total 0 (take index rows)
+use Rattle.time_table.specs.Totals.{raised, lowered}
 
 -- rows that begin with a row of the bin: the one that they have, or a new one with the total so far
 abbrev pub with_first : ℕ → ℕ → List Row → List Row
@@ -19,11 +14,38 @@ with_first below bin (row ∷ rows) = if row.bin == bin then row ∷ rows else r
 abbrev pub with_row : ℕ → ℕ → ℕ → List Row → List Row
 with_row index below bin rows = take index rows ++ with_first below bin (drop index rows)
 
--- rows without their first one, if that has one record alone
-abbrev pub without_first : ℕ → List Row → List Row
-without_first below [] = []
-without_first below (row ∷ rows) = if row.total - below == 1 then rows else row ∷ rows
+-- rows without their first one, if that has as many records as are taken
+abbrev pub without_first : ℕ → ℕ → List Row → List Row
+without_first below n [] = []
+without_first below n (row ∷ rows) = if row.total - below == n then rows else row ∷ rows
 
--- the rows without the one at the index, if that has one record alone
-abbrev pub without_single : ℕ → ℕ → List Row → List Row
-without_single index below rows = take index rows ++ without_first below (drop index rows)
+-- the rows without the one at the index, if that has as many records as are taken
+abbrev pub without_spent : ℕ → ℕ → ℕ → List Row → List Row
+without_spent index below n rows = take index rows ++ without_first below n (drop index rows)
+
+-- the rows with n records more in a bin, where the total before them is `before`
+abbrev pub added : ℕ → ℕ → ℕ → List Row → List Row
+added before bin n [] = map (raised n) (with_first before bin [])
+added before bin n (row ∷ rows) = if nat_lt row.bin bin then row ∷ added row.total bin n rows else map (raised n) (with_first before bin (row ∷ rows))
+
+-- the rows with n records less in a bin, where the total before them is `before`
+abbrev pub taken : ℕ → ℕ → ℕ → List Row → List Row
+taken before bin n [] = []
+taken before bin n (row ∷ rows) = if nat_lt row.bin bin then row ∷ taken row.total bin n rows else map (lowered n) (without_first before n (row ∷ rows))
+
+-- how many records the entries have at a bin
+abbrev pub count_at : ℕ → List (ℕ × ℕ) → ℕ
+count_at bin es = unwrap_or (find nat_cmp bin es) 0
+
+-- the entries without a bin
+abbrev pub del : ℕ → List (ℕ × ℕ) → List (ℕ × ℕ)
+del bin [] = []
+del bin (e ∷ es) = if e.0 == bin then del bin es else e ∷ del bin es
+
+-- the entries with n records more in a bin
+abbrev pub more : ℕ → ℕ → List (ℕ × ℕ) → List (ℕ × ℕ)
+more bin n es = put nat_cmp bin (count_at bin es + n) es
+
+-- the entries with n records less in a bin
+abbrev pub less : ℕ → ℕ → List (ℕ × ℕ) → List (ℕ × ℕ)
+less bin n es = if count_at bin es == n then del bin es else put nat_cmp bin (count_at bin es - n) es

@@ -1,8 +1,12 @@
 -- Rows of running totals, and the counts that they stand for.
-use Rattle.std.specs.Prelude.{ℕ, ◌+◌, ◌-◌, ◌<◌, ◌≤◌, List, [], ◌∷◌}
+use Rattle.std.specs.Prelude.{ℕ, ◌+◌, ◌-◌, ◌<◌, ◌≤◌, List, [], ◌∷◌, Option, None, Some}
 use Rattle.std.specs.FinMap.{from_sorted}
 use Rattle.time_table.specs.declared.row.Row.{Row}
 use Rattle.time_table.specs.Counts.{Counts}
+
+-- rows are ordered and searched by their bin
+abbrev pub bin_of : Row → ℕ
+bin_of row = row.bin
 
 -- the bins are `least` or later and rise, and the totals are above `before` and rise
 abbrev pub Rise : ℕ → ℕ → List Row → Type 0
@@ -23,10 +27,15 @@ abbrev pub last_total : ℕ → List Row → ℕ
 last_total before [] = before
 last_total before (row ∷ rows) = last_total row.total rows
 
--- a row whose total is one more
-abbrev pub one_more : Row → Row
-one_more row = record { bin = row.bin; total = row.total + 1 }
+-- the total of a row, 0 where there is none
+abbrev pub total_in : Option Row → ℕ
+total_in None = 0
+total_in (Some row) = row.total
 
--- a row whose total is one less
-abbrev pub one_less : Row → Row
-one_less row = record { bin = row.bin; total = row.total - 1 }
+-- a row whose total is larger by an amount
+abbrev pub raised : ℕ → Row → Row
+raised n row = record { bin = row.bin; total = row.total + n }
+
+-- a row whose total is less by an amount
+abbrev pub lowered : ℕ → Row → Row
+lowered n row = record { bin = row.bin; total = row.total - n }

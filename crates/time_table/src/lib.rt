@@ -1,13 +1,27 @@
-//! How many records fell into each bin of time, as a list of running totals.
+//! How much fell into each bin of time.
 //!
 //! A [`TimeTable`] is seen as a finite map from a bin to its count. The count of an interval is the
-//! difference of two calls of `before`, and each of these is one binary search, whose steps its
-//! contract bounds by the binary digits of the number of bins.
+//! difference of two calls of `before`, and each of these takes at most one step more than the number
+//! of bins has binary digits. A short table is one list of running totals; a long one is a list of
+//! blocks under their heads, so that an addition rewrites one block and the heads after it. No
+//! contract sees the blocks. The crate stands on `probe_core` for its rows and steps. What a bin is,
+//! and where a table stands, it leaves to the crates above.
+//!
+//! ```text
+//! table.add_many(5, 2)?;
+//! table.before(6, &mut steps); // 2
+//! table.next_row(3, &mut steps); // the bin 5 with its count 2
+//! ```
 #![tactic(auto)]
 
 mod change;
+mod form;
+mod pair;
 mod place;
 mod row;
+mod split;
 mod table;
+#[cfg(test)]
+mod tests;
 
 pub use table::TimeTable;

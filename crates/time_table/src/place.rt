@@ -1,38 +1,55 @@
 //! The search of rows that stand in rising order of bin.
-ghost use Rattle.std.specs.Prelude.{◌+◌, ◌≤◌, length};
+ghost use Rattle.std.specs.Prelude.{◌≡◌, ◌+◌, ◌≤◌, length, slice_get, take, MatchOption};
 ghost use Rattle.probe_core.specs.Bits.{bits};
-ghost use Rattle.time_table.specs.Totals.{Rise};
-ghost use Rattle.time_table.specs.Places.{IsPlace};
+ghost use Rattle.probe_core.specs.Places.{IsPlace};
+ghost use Rattle.time_table.specs.Counts.{first_from};
+ghost use Rattle.time_table.specs.Totals.{Rise, counts_from, last_total, total_in, bin_of};
 
 use crate::row::Row;
 use probe_core::{Rows, Steps};
 use std::sync::ledger::Ledger;
 
-/// Where the rows of a bin and of later bins begin, and the total before them.
+/// Where the rows of a bin and of later bins begin, the total before them, and the first of them.
 #[derive(Clone, Copy)]
-pub struct Place {
+pub struct BinPlace {
     pub index: usize,
     pub below: u64,
+    pub first: Option<Row>,
 }
 
 /// The place of the first row whose bin is `bin_end` or later, by one binary search.
-pub fn place_of<L: Ledger>(rows: &Rows<Row>, bin_end: u64, steps: &mut Steps<L>) -> Place
+pub fn place_of<L: Ledger>(rows: &Rows<Row>, bin_end: u64, steps: &mut Steps<L>) -> BinPlace
     requires { Rise 0 0 rows.now.items }
-    ensures place { IsPlace bin_end rows.now.items result.index result.below }
+    ensures place { IsPlace bin_of bin_end rows.now.items result.index }
+    ensures total { result.below ≡ last_total 0 (take result.index rows.now.items) }
+    ensures first { result.first ≡ slice_get rows.now.items result.index }
     ensures cost { steps.new ≤ steps.old + bits (length rows.now.items) }
 {
-    let mut low = 0;
-    let mut high = rows.len();
-    let mut below = 0;
-    while low < high {
-        let middle = low + (high - low) / 2;
-        let row = rows.at(middle, steps);
-        if u64::from(row.bin) < bin_end {
-            low = middle + 1;
-            below = row.total;
-        } else {
-            high = middle;
-        }
+    let place = rows.first_from(bin_end, steps);
+    BinPlace {
+        index: place.index,
+        below: total_of(place.before),
+        first: place.first,
     }
-    Place { index: low, below }
+}
+
+/// The total of a row, 0 where there is none.
+fn total_of(row: Option<Row>) -> u64
+    ensures { result ≡ total_in row }
+{
+    match row {
+        Some(row) => row.total,
+        None => 0,
+    }
+}
+
+/// The first row whose bin is `from` or later, as the bin and its count.
+pub fn next_in<L: Ledger>(rows: &Rows<Row>, from: u64, steps: &mut Steps<L>) -> Option<(u32, u64)>
+    requires { Rise 0 0 rows.now.items }
+    ensures next { result ≡ first_from from (counts_from 0 rows.now.items) }
+    ensures cost { steps.new ≤ steps.old + bits (length rows.now.items) }
+{
+    let place = place_of(rows, from, steps);
+    let row = place.first?;
+    Some((row.bin, row.total - place.below))
 }

@@ -1,12 +1,11 @@
 //! The table of one place in space and the categories.
 ghost use Rattle.std.specs.Prelude.{◌≡◌, ◌+◌, ◌<◌, ◌≤◌, ◌^◌, IfOk, OnOk, OnErr, IsTrue, length};
-ghost use Rattle.std.specs.FinMap.{empty, contains_key, len};
+ghost use Rattle.std.specs.FinMap.{empty, contains_key, entries, len};
 ghost use Rattle.probe_core.specs.Bits.{bits};
-ghost use Rattle.time_table.specs.Counts.{AllCounted, add_one, take_one, total_count, count_before};
+ghost use Rattle.probe_core.specs.Blanks.{IsBlankOf};
+ghost use Rattle.time_table.specs.Counts.{AllCounted, count_of, add_many, take_many, add_one, take_one, total_count, count_before, first_from};
 
-use crate::change::{add_record, take_record};
-use crate::place::place_of;
-use crate::row::Row;
+use crate::form::Form;
 use outer_io::NoMemory;
 use probe_core::{Rows, Steps};
 use std::alloc::Global;
@@ -16,7 +15,8 @@ use std::sync::ledger::{Blank, Ledger};
 /// How many records fell into each bin of time. A bin without records is not there.
 #[derive(Drop)]
 pub struct TimeTable {
-    rows: Rows<Row>,
+    alloc: Global,
+    form: Form,
 }
 
 impl Model for TimeTable {
@@ -24,15 +24,16 @@ impl Model for TimeTable {
     ghost use Rattle.std.specs.Ordering.{nat_cmp};
     ghost use Rattle.std.specs.FinMap as map;
     ghost use Rattle.std.specs.Coded.{coded_ℕ};
-    ghost use Rattle.time_table.specs.Totals.{Rise, counts};
+    ghost use Rattle.time_table.specs.Totals.{counts};
+    ghost use Rattle.time_table.specs.Forms.{IsForm, rows_of};
 
     ghost Value = { map.FinMap nat_cmp ℕ };
 
     ghost coded = { map.code coded_ℕ coded_ℕ };
 
-    ghost view = { λ table. counts table.rows.items };
+    ghost view = { λ table. counts (rows_of table.form) };
 
-    ghost invariant = { λ table. Rise 0 0 table.rows.items };
+    ghost invariant = { λ table. IsForm table.form };
 }
 
 impl TimeTable {
@@ -41,8 +42,32 @@ impl TimeTable {
         ensures { result ≡ empty }
     {
         TimeTable {
-            rows: Rows::new(alloc),
+            alloc,
+            form: Form::Single(Rows::new(alloc)),
         }
+    }
+
+    /// Some records more in a bin. For want of memory the table is as before.
+    pub fn add_many(&mut self, bin: u32, amount: u64) -> Result<(), NoMemory>
+        requires some { 0 < amount }
+        requires fits { total_count self.old + amount ≤ 2 ^ 63 }
+        ensures added { OnOk result (self.new ≡ add_many self.old bin amount) }
+        ensures unchanged { OnErr result (self.new ≡ self.old) }
+        ensures was_counted { AllCounted self.old }
+        ensures counted { AllCounted self.new }
+    {
+        self.form
+            .add::<Brand>(self.alloc, bin, amount, Blank::new(1))
+    }
+
+    /// Some records less in a bin that has as many. It takes no memory.
+    pub fn take_many(&mut self, bin: u32, amount: u64)
+        requires some { 0 < amount }
+        requires there { amount ≤ count_of self.old bin }
+        ensures taken { self.new ≡ take_many self.old bin amount }
+        ensures counted { AllCounted self.new }
+    {
+        self.form.take::<Brand>(bin, amount, Blank::new(1));
     }
 
     /// One record more in a bin. For want of memory the table is as before.
@@ -53,7 +78,7 @@ impl TimeTable {
         ensures was_counted { AllCounted self.old }
         ensures counted { AllCounted self.new }
     {
-        add_record::<Brand>(&mut self.rows, bin, Blank::new(1))
+        self.add_many(bin, 1)
     }
 
     /// One record less in a bin that has one. It takes no memory.
@@ -62,107 +87,32 @@ impl TimeTable {
         ensures taken { self.new ≡ take_one self.old bin }
         ensures counted { AllCounted self.new }
     {
-        take_record::<Brand>(&mut self.rows, bin, Blank::new(1));
+        let _ = &self.form;
+        self.take_many(bin, 1);
     }
 
     /// How many records fell into bins less than `bin_end`, by one binary search.
     pub fn before<L: Ledger>(&self, bin_end: u64, steps: &mut Steps<L>) -> u64
         ensures sum { result ≡ count_before self.now bin_end }
-        ensures cost { steps.new ≤ steps.old + bits (len self.now) }
+        ensures cost { steps.new ≤ steps.old + (1 + bits (len self.now)) }
         ensures counted { AllCounted self.now }
     {
-        place_of(&self.rows, bin_end, steps).below
+        self.form.before(bin_end, steps)
+    }
+
+    /// The least bin at or above `from` with its count. None comes exactly where there is no such bin.
+    pub fn next_row<L: Ledger>(&self, from: u32, steps: &mut Steps<L>) -> Option<(u32, u64)>
+        ensures next { result ≡ first_from from (entries self.now) }
+        ensures cost { steps.new ≤ steps.old + (2 + bits (len self.now)) }
+    {
+        self.form.next_row(from, steps)
     }
 
     /// The same counts once more.
     pub fn copy(&self, alloc: Global) -> Result<TimeTable, NoMemory>
         ensures { IfOk result (λ table. table ≡ self.now) }
     {
-        let rows = self.rows.copy(alloc)?;
-        Ok(TimeTable { rows })
-    }
-}
-
-#[cfg(test)]
-mod tests {
-    use super::*;
-    use std::process::Abort;
-
-    fn add(rt: &impl Abort, table: &mut TimeTable, bin: u32)
-        requires { total_count table.old < 2 ^ 63 }
-        ensures { table.new ≡ add_one table.old bin }
-    {
-        assert!(rt; table.add(bin).is_ok());
-    }
-
-    fn add_each(rt: &impl Abort, table: &mut TimeTable, bins: &[u32])
-        requires { total_count table.old + length bins.now < 2 ^ 63 }
-        ensures { total_count table.new ≡ total_count table.old + length bins.now }
-    {
-        for bin in bins {
-            add(rt, table, *bin);
-        }
-    }
-
-    fn expect_before<L: Ledger>(
-        rt: &impl Abort,
-        blank: Blank,
-        table: &TimeTable,
-        cases: &[(u64, u64)],
-    )
-        requires name { blank.name ≡ L.name }
-        requires parts { blank.parts ≡ L.parts }
-        requires some { 0 < blank.parts }
-    {
-        let mut steps = Steps::<L>::new(blank);
-        for &(bin_end, want) in cases {
-            assert_eq!(rt; table.before(bin_end, &mut steps), want, "before {bin_end}");
-        }
-    }
-
-    #[test]
-    fn counts_before_each_end(rt: HostRuntime) {
-        let mut table = TimeTable::new(rt.alloc());
-        add_each(&rt, &mut table, &[5, 3, 5, 9]);
-        let copy = table.copy(rt.alloc()).expect(&rt, "room");
-        let cases = [(3, 0), (5, 1), (6, 3), (1 << 32, 4)];
-        expect_before::<Brand>(&rt, Blank::new(1), &copy, &cases);
-    }
-
-    #[test]
-    fn drops_a_bin_with_its_last_record(rt: HostRuntime) {
-        let mut table = TimeTable::new(rt.alloc());
-        add_each(&rt, &mut table, &[5, 5, 9]);
-        add(&rt, &mut table, 3);
-        table.take(3);
-        expect_before::<Brand>(&rt, Blank::new(1), &table, &[(5, 0), (6, 2), (10, 3)]);
-    }
-
-    #[test]
-    fn counts_the_first_and_the_last_bin(rt: HostRuntime) {
-        let mut table = TimeTable::new(rt.alloc());
-        add_each(&rt, &mut table, &[u32::MAX, 0]);
-        let cases = [(0, 0), (1, 1), ((1 << 32) - 1, 1), (1 << 32, 2)];
-        expect_before::<Brand>(&rt, Blank::new(1), &table, &cases);
-    }
-
-    fn expect_each_bin<L: Ledger>(rt: &impl Abort, blank: Blank, table: &TimeTable)
-        requires name { blank.name ≡ L.name }
-        requires parts { blank.parts ≡ L.parts }
-        requires some { 0 < blank.parts }
-    {
-        let mut steps = Steps::<L>::new(blank);
-        for bin in 0..1001u64 {
-            assert_eq!(rt; table.before(bin, &mut steps), bin, "before {bin}");
-        }
-    }
-
-    #[test]
-    fn counts_bins_added_in_falling_order(rt: HostRuntime) {
-        let mut table = TimeTable::new(rt.alloc());
-        for i in 0..1000u32 {
-            add(&rt, &mut table, 999 - i);
-        }
-        expect_each_bin::<Brand>(&rt, Blank::new(1), &table);
+        let form = self.form.copy(alloc)?;
+        Ok(TimeTable { alloc, form })
     }
 }

@@ -1,0 +1,23 @@
+use Rattle.std.proofs.Common.{◌+◌, ◌≤◌, length, arith, sym, ap, subst, ◌∙◌}
+use Rattle.probe_core.specs.Bits.{bits}
+use Rattle.time_table.specs.Counts.{first_from}
+use Rattle.time_table.specs.Totals.{counts_from}
+use Rattle.time_table.specs.declared.form.Form.{Form}
+use Rattle.time_table.specs.Forms.{IsSingle, IsForm, entries_of, rows_of}
+use Rattle.time_table.proofs.form.Form.next_row.Goals as goal
+
+pub next_in-requires : goal.next_in-requires
+next_in-requires g c =
+    let single : IsSingle c.in-Single.rows.items = subst IsForm c.in-Single.is c.requires in
+    single.rise
+
+pub returns-in-Single-clause-next : goal.returns-in-Single-clause-next
+returns-in-Single-clause-next g c =
+    c.next_in.ensures.next
+    ∙ ap (λ k. first_from k (counts_from 0 c.in-Single.rows.items)) c.from.ensures
+    ∙ ap (first_from c.args.from) (ap entries_of (sym c.in-Single.is))
+
+pub returns-in-Single-clause-cost : goal.returns-in-Single-clause-cost
+returns-in-Single-clause-cost g c =
+    let cost : c.next_in.new.steps ≤ c.args.steps.now + bits (length c.in-Single.rows.items) = c.next_in.ensures.cost in
+    subst (λ (f : Form). c.next_in.new.steps ≤ c.args.steps.now + (2 + bits (length (rows_of f)))) (sym c.in-Single.is) (omega arith)

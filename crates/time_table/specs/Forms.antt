@@ -1,0 +1,38 @@
+-- The two forms of a table: one list of rows, or blocks under heads.
+use Rattle.std.specs.Prelude.{ℕ, ◌≤◌, List, length, All}
+use Rattle.time_table.specs.declared.row.Row.{Row}
+use Rattle.time_table.specs.declared.form.Form.{Form}
+use Rattle.time_table.specs.declared.form.Form.TheVariants.{Single, Split}
+use Rattle.time_table.specs.Totals.{Rise, counts_from, last_total}
+use Rattle.time_table.specs.Blocks.{flat, parts, IsSplit}
+
+-- the rows of a table as one list
+abbrev pub rows_of : Form → List Row
+rows_of (Single rows) = rows.items
+rows_of (Split split) = flat 0 split.value.blocks.items
+
+-- the bins with their counts
+abbrev pub entries_of : Form → List (ℕ × ℕ)
+entries_of (Single rows) = counts_from 0 rows.items
+entries_of (Split split) = parts split.value.blocks.items
+
+-- how many records there are
+abbrev pub total_of : Form → ℕ
+total_of (Single rows) = last_total 0 rows.items
+total_of (Split split) = last_total 0 split.value.heads.items
+
+-- rows without blocks
+pub record IsSingle (rows : List Row) : Type 0 where
+  pub rise : Rise 0 0 rows
+  pub bins : All (λ row. row.bin ≤ 4294967295) rows
+  pub few : length rows ≤ 63
+
+-- the form of a table: rows without blocks, or in blocks
+abbrev pub IsForm : Form → Type 0
+IsForm (Single rows) = IsSingle rows.items
+IsForm (Split split) = IsSplit split.value.heads.items split.value.blocks.items
+
+-- a list without blocks has room for a row
+abbrev pub HasRoom : Form → Type 0
+HasRoom (Single rows) = length rows.items ≤ 62
+HasRoom (Split split) = Unit {0}

@@ -1,0 +1,180 @@
+//! The two forms of a table.
+ghost use Rattle.std.specs.Prelude.{◌≡◌, ◌+◌, ◌<◌, ◌≤◌, ◌^◌, [], ◌∷◌, length, OnOk, OnErr, IfOk};
+ghost use Rattle.probe_core.specs.Bits.{bits};
+ghost use Rattle.probe_core.specs.Blanks.{IsBlankOf};
+ghost use Rattle.time_table.specs.Counts.{count_before, first_from};
+ghost use Rattle.time_table.specs.Totals.{Rise, counts, last_total};
+ghost use Rattle.time_table.specs.Places.{count_at, more, less};
+ghost use Rattle.time_table.specs.Blocks.{parts};
+ghost use Rattle.time_table.specs.Forms.{IsForm, HasRoom, rows_of, entries_of, total_of};
+
+use crate::change::{add_record, take_record};
+use crate::pair::put_row;
+use crate::place::{next_in, place_of};
+use crate::row::Row;
+use crate::split::{
+    add_in, before_in, copy_blocks, next_row_in, put_block, reserve_block, take_in,
+};
+use outer_io::NoMemory;
+use probe_core::{Rows, Steps};
+use std::alloc::Global;
+use std::mem::replace;
+use std::sync::ledger::{Blank, Ledger};
+
+/// A short list of rows, or heads and blocks.
+#[derive(Drop)]
+pub enum Form {
+    Single(Rows<Row>),
+    Split(Box<Split>),
+}
+
+/// Blocks under their heads.
+#[derive(Drop)]
+pub struct Split {
+    pub heads: Rows<Row>,
+    pub blocks: Vec<Rows<Row>>,
+}
+
+impl Form {
+    /// How many records fell into bins less than `bin_end`.
+    pub fn before<L: Ledger>(&self, bin_end: u64, steps: &mut Steps<L>) -> u64
+        requires { IsForm self.now }
+        ensures sum { result ≡ count_before (counts (rows_of self.now)) bin_end }
+        ensures cost { steps.new ≤ steps.old + (1 + bits (length (rows_of self.now))) }
+    {
+        match self {
+            Form::Single(rows) => place_of(rows, bin_end, steps).below,
+            Form::Split(split) => before_in(&split.heads, &split.blocks, bin_end, steps),
+        }
+    }
+
+    /// Some records more in a bin.
+    pub fn add<L: Ledger>(
+        &mut self,
+        alloc: Global,
+        bin: u32,
+        amount: u64,
+        blank: Blank,
+    ) -> Result<(), NoMemory>
+        requires blank { IsBlankOf L.name L.parts blank }
+        requires form { IsForm self.old }
+        requires some { 0 < amount }
+        requires fits { total_of self.old + amount ≤ 2 ^ 63 }
+        ensures form { IsForm self.new }
+        ensures added { OnOk result (entries_of self.new ≡ more bin amount (entries_of self.old)) }
+        ensures unchanged { OnErr result (entries_of self.new ≡ entries_of self.old) }
+    {
+        let mut steps = Steps::<L>::new(blank);
+        self.grow(alloc, &mut steps)?;
+        match self {
+            Form::Single(rows) => add_record(rows, bin, amount, &mut steps),
+            Form::Split(split) => {
+                let Split { heads, blocks } = &mut **split;
+                add_in(alloc, heads, blocks, bin, amount, &mut steps)
+            }
+        }
+    }
+
+    /// Some records less in a bin that has as many.
+    pub fn take<L: Ledger>(&mut self, bin: u32, amount: u64, blank: Blank)
+        requires blank { IsBlankOf L.name L.parts blank }
+        requires form { IsForm self.old }
+        requires some { 0 < amount }
+        requires there { amount ≤ count_at bin (entries_of self.old) }
+        ensures form { IsForm self.new }
+        ensures taken { entries_of self.new ≡ less bin amount (entries_of self.old) }
+    {
+        let mut steps = Steps::<L>::new(blank);
+        let short = match self {
+            Form::Single(rows) => {
+                take_record(rows, bin, amount, &mut steps);
+                return;
+            }
+            Form::Split(split) => {
+                let Split { heads, blocks } = &mut **split;
+                if !take_in(heads, blocks, bin, amount, &mut steps) {
+                    return;
+                }
+                blocks.remove(0)
+            }
+        };
+        *self = Form::Single(short);
+    }
+
+    /// The first row of a bin that is `from` or later, as the bin and its count.
+    pub fn next_row<L: Ledger>(&self, from: u32, steps: &mut Steps<L>) -> Option<(u32, u64)>
+        requires { IsForm self.now }
+        ensures next { result ≡ first_from from (entries_of self.now) }
+        ensures cost { steps.new ≤ steps.old + (2 + bits (length (rows_of self.now))) }
+    {
+        match self {
+            Form::Single(rows) => next_in(rows, u64::from(from), steps),
+            Form::Split(split) => next_row_in(&split.heads, &split.blocks, from, steps),
+        }
+    }
+
+    /// The same rows once more.
+    pub fn copy(&self, alloc: Global) -> Result<Form, NoMemory>
+        requires { IsForm self.now }
+        ensures { IfOk result (λ form. IsForm form × (entries_of form ≡ entries_of self.now)) }
+    {
+        match self {
+            Form::Single(rows) => {
+                let rows = rows.copy(alloc)?;
+                Ok(Form::Single(rows))
+            }
+            Form::Split(split) => {
+                let copies = copy_blocks(alloc, &split.blocks)?;
+                let heads = split.heads.copy(alloc)?;
+                let blocks = copies;
+                Ok(Form::Split(boxed(alloc, Split { heads, blocks })?))
+            }
+        }
+    }
+
+    /// Makes a block of a list of rows that is full. For want of memory the form is as before.
+    fn grow<L: Ledger>(&mut self, alloc: Global, steps: &mut Steps<L>) -> Result<(), NoMemory>
+        requires form { IsForm self.old }
+        requires fits { total_of self.old ≤ 2 ^ 63 }
+        ensures form { IsForm self.new }
+        ensures same { entries_of self.new ≡ entries_of self.old }
+        ensures total { total_of self.new ≡ total_of self.old }
+        ensures room { OnOk result (HasRoom self.new) }
+    {
+        let rows = match self {
+            Form::Single(rows) => {
+                if rows.len() < 63 {
+                    return Ok(());
+                }
+                rows
+            }
+            Form::Split(_) => return Ok(()),
+        };
+        let last = rows.at(rows.len() - 1, steps);
+        rows.reserve(1)?;
+        let mut heads = Rows::new(alloc);
+        heads.reserve(1)?;
+        let mut blocks = Vec::new(alloc);
+        reserve_block(&mut blocks)?;
+        let head = Row {
+            bin: u32::MAX,
+            total: last.total,
+        };
+        put_row(&mut heads, 0, head);
+        let mut split = boxed(alloc, Split { heads, blocks })?;
+        let block = replace(rows, Rows::new(alloc));
+        put_block(&mut split.blocks, 0, block);
+        *self = Form::Split(split);
+        Ok(())
+    }
+}
+
+/// Heads and blocks in a box.
+fn boxed(alloc: Global, split: Split) -> Result<Box<Split>, NoMemory>
+    ensures { IfOk result (λ boxed. boxed.value ≡ split) }
+{
+    match Box::new(alloc, split) {
+        Ok(boxed) => Ok(boxed),
+        Err(_) => Err(NoMemory),
+    }
+}

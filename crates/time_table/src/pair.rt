@@ -1,0 +1,81 @@
+//! Two neighbouring blocks, between which rows are moved.
+ghost use Rattle.std.specs.Prelude.{◌≡◌, ◌+◌, ◌-◌, ◌<◌, ◌≤◌, ◌^◌, ◌⊎◌, [], ◌∷◌, ◌++◌, length, insert};
+ghost use Rattle.time_table.specs.Totals.{Rise, last_total};
+ghost use Rattle.time_table.specs.Blocks.{joined, GivesRow, CanLevel, AreLevel};
+
+use crate::change::{lower, raise};
+use crate::row::Row;
+use probe_core::{Rows, Steps};
+use std::sync::ledger::Ledger;
+
+/// Puts a row in where there is room for it.
+pub fn put_row(rows: &mut Rows<Row>, i: usize, row: Row)
+    requires within { i ≤ length rows.old.items }
+    requires room { 0 < rows.old.spare }
+    ensures put { rows.new.items ≡ insert rows.old.items i row }
+    ensures room { rows.old.spare ≤ rows.new.spare + 1 }
+{
+    let _ = rows.insert(i, row);
+}
+
+/// Moves the first row of the right block to the end of the left one.
+fn move_left<L: Ledger>(left: &mut Rows<Row>, right: &mut Rows<Row>, steps: &mut Steps<L>)
+    requires rise { Rise 0 0 (joined left.old.items right.old.items) }
+    requires fits { last_total 0 (joined left.old.items right.old.items) ≤ 2 ^ 63 }
+    requires some_left { 0 < length left.old.items }
+    requires some_right { 0 < length right.old.items }
+    requires room { 0 < left.old.spare }
+    ensures same { joined left.new.items right.new.items ≡ joined left.old.items right.old.items }
+    ensures gives { GivesRow right.old left.old right.new left.new }
+{
+    let first = right.remove(0);
+    lower(right, 0, first.total, steps);
+    let last = left.at(left.len() - 1, steps);
+    let row = Row {
+        bin: first.bin,
+        total: last.total + first.total,
+    };
+    put_row(left, left.len(), row);
+}
+
+/// Moves the last row of the left block to the front of the right one.
+fn move_right<L: Ledger>(left: &mut Rows<Row>, right: &mut Rows<Row>, steps: &mut Steps<L>)
+    requires rise { Rise 0 0 (joined left.old.items right.old.items) }
+    requires fits { last_total 0 (joined left.old.items right.old.items) ≤ 2 ^ 63 }
+    requires some_left { 1 < length left.old.items }
+    requires room { 0 < right.old.spare }
+    ensures same { joined left.new.items right.new.items ≡ joined left.old.items right.old.items }
+    ensures gives { GivesRow left.old right.old left.new right.new }
+{
+    let row = left.remove(left.len() - 1);
+    let last = left.at(left.len() - 1, steps);
+    let count = row.total - last.total;
+    raise(right, 0, count, steps);
+    let moved = Row {
+        bin: row.bin,
+        total: count,
+    };
+    put_row(right, 0, moved);
+}
+
+/// Moves all rows to the left block where that has the room, and else half of them to each.
+pub fn level<L: Ledger>(left: &mut Rows<Row>, right: &mut Rows<Row>, steps: &mut Steps<L>)
+    requires rise { Rise 0 0 (joined left.old.items right.old.items) }
+    requires fits { last_total 0 (joined left.old.items right.old.items) ≤ 2 ^ 63 }
+    requires sizes { CanLevel left.old right.old }
+    ensures same { joined left.new.items right.new.items ≡ joined left.old.items right.old.items }
+    ensures sizes { AreLevel left.new right.new }
+{
+    if left.len() + right.len() <= 63 {
+        while !right.is_empty() {
+            move_left(left, right, steps);
+        }
+        return;
+    }
+    while left.len() + 1 < right.len() {
+        move_left(left, right, steps);
+    }
+    while right.len() + 1 < left.len() {
+        move_right(left, right, steps);
+    }
+}

@@ -1,0 +1,255 @@
+//! Rows in blocks, under a list of heads.
+ghost use Rattle.std.specs.Prelude.{◌≡◌, ◌+◌, ◌-◌, ◌<◌, ◌≤◌, ◌^◌, ◌⊎◌, [], ◌∷◌, ◌++◌, length, take, drop, insert, All, IfOk, OnOk, OnErr, vec_len, vec_capacity, slice_index_or, IsTrue, MatchBool};
+ghost use Rattle.probe_core.specs.Bits.{bits};
+ghost use Rattle.probe_core.specs.Places.{IsPlace};
+ghost use Rattle.time_table.specs.Counts.{count_before, first_from};
+ghost use Rattle.time_table.specs.Totals.{counts, last_total, bin_of};
+ghost use Rattle.time_table.specs.Places.{count_at, more, less};
+ghost use Rattle.time_table.specs.Blocks.{Block, IsSplit, Held, AllSized, SizedBut, FitsAt, AddsAt, in_hand, flat, parts, lists};
+
+use crate::change::{add_record, lower, raise, take_record};
+use crate::pair::{level, put_row};
+use crate::place::{next_in, place_of};
+use crate::row::Row;
+use outer_io::NoMemory;
+use probe_core::{Rows, Steps};
+use std::alloc::Global;
+use std::sync::ledger::Ledger;
+
+/// How many records fell into bins less than `bin_end`, by a search of the heads and one of a block.
+pub fn before_in<L: Ledger>(
+    heads: &Rows<Row>,
+    blocks: &Vec<Rows<Row>>,
+    bin_end: u64,
+    steps: &mut Steps<L>,
+) -> u64
+    requires { IsSplit heads.now.items blocks.now.items }
+    ensures sum { result ≡ count_before (counts (flat 0 blocks.now.items)) bin_end }
+    ensures cost { steps.new ≤ steps.old + (1 + bits (length (flat 0 blocks.now.items))) }
+{
+    let place = place_of(heads, bin_end, steps);
+    if place.index == heads.len() {
+        return place.below;
+    }
+    let block = &blocks[place.index];
+    let further = place_of(block, bin_end, steps);
+    place.below + further.below
+}
+
+/// Puts a block in where there is room for it.
+pub fn put_block(blocks: &mut Vec<Rows<Row>>, i: usize, block: Rows<Row>)
+    requires within { i ≤ length blocks.old.items }
+    requires room { vec_len blocks.old < vec_capacity blocks.old }
+    ensures { blocks.new.items ≡ insert blocks.old.items i block }
+{
+    let _ = blocks.insert(i, block);
+}
+
+/// Makes sized blocks of the block at a place and one in hand, whose rows follow it.
+fn settle<L: Ledger>(
+    heads: &mut Rows<Row>,
+    blocks: &mut Vec<Rows<Row>>,
+    q: usize,
+    mut right: Rows<Row>,
+    steps: &mut Steps<L>,
+)
+    requires held { Held 0 0 heads.old.items (in_hand q right blocks.old.items) }
+    requires fits { last_total 0 heads.old.items ≤ 2 ^ 63 }
+    requires hand { FitsAt q right blocks.old.items }
+    requires room_heads { 0 < heads.old.spare }
+    requires room_blocks { vec_len blocks.old < vec_capacity blocks.old }
+    ensures split { IsSplit heads.new.items blocks.new.items }
+    ensures parts { parts blocks.new.items ≡ parts (in_hand q right blocks.old.items) }
+    ensures total { last_total 0 heads.new.items ≡ last_total 0 heads.old.items }
+{
+    let left = &mut blocks[q];
+    level(left, &mut right, steps);
+    if right.len() == 0 {
+        return;
+    }
+    let last = left.at(left.len() - 1, steps);
+    let end = right.at(right.len() - 1, steps);
+    let head = heads.at(q, steps);
+    let row = Row {
+        bin: last.bin,
+        total: head.total - end.total,
+    };
+    put_row(heads, q, row);
+    put_block(blocks, q + 1, right);
+}
+
+/// Some records more in the block at the place of their bin, which has room for a row.
+fn add_at<L: Ledger>(
+    heads: &mut Rows<Row>,
+    blocks: &mut Vec<Rows<Row>>,
+    place: usize,
+    bin: u32,
+    amount: u64,
+    steps: &mut Steps<L>,
+)
+    requires split { IsSplit heads.old.items blocks.old.items }
+    requires some { 0 < amount }
+    requires fits { last_total 0 heads.old.items + amount ≤ 2 ^ 63 }
+    requires place { IsPlace bin_of bin heads.old.items place }
+    requires within { place < length heads.old.items }
+    ensures adds { AddsAt place bin amount heads.old heads.new blocks.old.items blocks.new.items }
+    ensures room { vec_capacity blocks.new ≡ vec_capacity blocks.old }
+{
+    let block = &mut blocks[place];
+    let _ = add_record(block, bin, amount, steps);
+    raise(heads, place, amount, steps);
+}
+
+/// Some records less in the block of their bin.
+fn take_at<L: Ledger>(
+    heads: &mut Rows<Row>,
+    blocks: &mut Vec<Rows<Row>>,
+    bin: u32,
+    amount: u64,
+    steps: &mut Steps<L>,
+) -> usize
+    requires split { IsSplit heads.old.items blocks.old.items }
+    requires some { 0 < amount }
+    requires there { amount ≤ count_at bin (parts blocks.old.items) }
+    ensures within { result < length blocks.new.items }
+    ensures held { Held 0 0 heads.new.items blocks.new.items }
+    ensures parts { parts blocks.new.items ≡ less bin amount (parts blocks.old.items) }
+    ensures sized { SizedBut 63 result blocks.new.items }
+    ensures total { last_total 0 heads.new.items ≤ last_total 0 heads.old.items }
+{
+    let place = place_of(heads, u64::from(bin), steps).index;
+    let block = &mut blocks[place];
+    take_record(block, bin, amount, steps);
+    lower(heads, place, amount, steps);
+    place
+}
+
+/// Room for a block more.
+pub fn reserve_block(blocks: &mut Vec<Rows<Row>>) -> Result<(), NoMemory>
+    ensures unchanged { blocks.new.items ≡ blocks.old.items }
+    ensures room { OnOk result (vec_len blocks.new < vec_capacity blocks.new) }
+{
+    match blocks.try_reserve(1) {
+        Ok(()) => Ok(()),
+        Err(_) => Err(NoMemory),
+    }
+}
+
+/// Some records more in a bin. For want of memory the rows are as before.
+pub fn add_in<L: Ledger>(
+    alloc: Global,
+    heads: &mut Rows<Row>,
+    blocks: &mut Vec<Rows<Row>>,
+    bin: u32,
+    amount: u64,
+    steps: &mut Steps<L>,
+) -> Result<(), NoMemory>
+    requires split { IsSplit heads.old.items blocks.old.items }
+    requires some { 0 < amount }
+    requires fits { last_total 0 heads.old.items + amount ≤ 2 ^ 63 }
+    ensures split { IsSplit heads.new.items blocks.new.items }
+    ensures added { OnOk result (parts blocks.new.items ≡ more bin amount (parts blocks.old.items)) }
+    ensures unchanged { OnErr result (parts blocks.new.items ≡ parts blocks.old.items) }
+{
+    let place = place_of(heads, u64::from(bin), steps).index;
+    let block = &blocks[place];
+    if block.len() < 63 {
+        add_at(heads, blocks, place, bin, amount, steps);
+        return Ok(());
+    }
+    let mut right = Rows::new(alloc);
+    right.reserve(64)?;
+    heads.reserve(1)?;
+    reserve_block(blocks)?;
+    add_at(heads, blocks, place, bin, amount, steps);
+    let block = &blocks[place];
+    if block.len() < 64 {
+        return Ok(());
+    }
+    settle(heads, blocks, place, right, steps);
+    Ok(())
+}
+
+/// The left one of a block and a neighbour of it.
+fn neighbour(place: usize, count: usize) -> usize
+    requires within { place < count }
+    requires several { 1 < count }
+    ensures pair { (place ≡ result) ⊎ (place ≡ result + 1) }
+    ensures within { result + 1 < count }
+{
+    if place + 1 < count { place } else { place - 1 }
+}
+
+/// Some records less in a bin that has as many, and whether the one block that is left is short.
+pub fn take_in<L: Ledger>(
+    heads: &mut Rows<Row>,
+    blocks: &mut Vec<Rows<Row>>,
+    bin: u32,
+    amount: u64,
+    steps: &mut Steps<L>,
+) -> bool
+    requires split { IsSplit heads.old.items blocks.old.items }
+    requires some { 0 < amount }
+    requires there { amount ≤ count_at bin (parts blocks.old.items) }
+    ensures held { Held 0 0 heads.new.items blocks.new.items }
+    ensures parts { parts blocks.new.items ≡ less bin amount (parts blocks.old.items) }
+    ensures total { last_total 0 heads.new.items ≤ last_total 0 heads.old.items }
+    ensures sized { MatchBool result (length blocks.new.items ≡ 1) (AllSized blocks.new.items) }
+    ensures short { (d : Block) → IsTrue result → length (slice_index_or blocks.new.items 0 d).items ≤ 63 }
+{
+    let place = take_at(heads, blocks, bin, amount, steps);
+    let block = &blocks[place];
+    if block.len() > 31 {
+        return false;
+    }
+    let count = blocks.len();
+    if count == 1 {
+        return true;
+    }
+    let q = neighbour(place, count);
+    heads.remove(q);
+    let right = blocks.remove(q + 1);
+    settle(heads, blocks, q, right, steps);
+    false
+}
+
+/// The same blocks once more, each with its room.
+pub fn copy_blocks(alloc: Global, blocks: &Vec<Rows<Row>>) -> Result<Vec<Rows<Row>>, NoMemory>
+    requires sized { AllSized blocks.now.items }
+    ensures { IfOk result (λ copy. (lists copy.items ≡ lists blocks.now.items) × AllSized copy.items) }
+{
+    let mut copies = Vec::new(alloc);
+    for i in 0..blocks.len() {
+        let block = &blocks[i];
+        let mut copy = block.copy(alloc)?;
+        copy.reserve(64 - copy.len())?;
+        reserve_block(&mut copies)?;
+        put_block(&mut copies, i, copy);
+    }
+    Ok(copies)
+}
+
+/// The first row of a bin that is `from` or later, by a search of the heads and one of a block.
+pub fn next_row_in<L: Ledger>(
+    heads: &Rows<Row>,
+    blocks: &Vec<Rows<Row>>,
+    from: u32,
+    steps: &mut Steps<L>,
+) -> Option<(u32, u64)>
+    requires { IsSplit heads.now.items blocks.now.items }
+    ensures next { result ≡ first_from from (parts blocks.now.items) }
+    ensures cost { steps.new ≤ steps.old + (2 + bits (length (flat 0 blocks.now.items))) }
+{
+    let place = place_of(heads, u64::from(from), steps).index;
+    let block = &blocks[place];
+    match next_in(block, u64::from(from), steps) {
+        Some(row) => return Some(row),
+        None => {}
+    }
+    if place + 1 == blocks.len() {
+        return None;
+    }
+    let behind = &blocks[place + 1];
+    let row = behind.at(0, steps);
+    Some((row.bin, row.total))
+}
