@@ -1,0 +1,248 @@
+-- Where the items of a list lie in its blocks: the item at q * 64 + r is the one at r of the block at q.
+use Rattle.std.proofs.Common.{◌≡◌, ℕ, zero, suc, ◌+◌, ◌-◌, ◌*◌, ◌/◌, ◌%◌, ◌<◌, ◌≤◌, List, [], ◌∷◌, ◌++◌, length, get_or, set, take, refl, ap, ◌∙◌, sym, arith, length-append, append_assoc, append-nil, length-set, add-zero, add-one}
+use Rattle.std.proofs.lemmas.List.{get_or_append_left, get_or-append_right, set-append_left, set-append_right, take-append-le, take_all, length-take-le, get_or-take}
+use Rattle.std.proofs.Math.Seq.{take-append-add}
+use Rattle.std.proofs.lemmas.List.Concat.{flat_map-append}
+use Rattle.std.specs.Prelude.{Bool, true, false, if◌then◌else◌, ◌≢◌, ◌^◌}
+use Rattle.block_list.specs.Blocks.{joined, AreFull, AreBlocks}
+
+pub split : (i : ℕ) → i ≡ (i / 64) * 64 + i % 64
+split i = omega arith
+
+pub small : (i : ℕ) → i % 64 < 64
+small i = omega arith
+
+module _ {T : Type 0} where
+  -- there is a block for each place ..
+  pub block_within : (bs : List (List T)) (q r i : ℕ) → i ≡ q * 64 + r → AreFull bs → i < length (joined bs) → q < length bs
+  block_within [] q r i is full within = omega arith
+  block_within (b ∷ []) q r i is full within = omega (arith, length-append b [])
+  block_within (b ∷ c ∷ bs) zero r i is full within = omega arith
+  block_within (b ∷ c ∷ bs) (suc q) r i is full within =
+      let rest = block_within (c ∷ bs) q r (i - 64) (omega arith) full.1 (omega (arith, length-append b (joined (c ∷ bs)))) in omega arith
+
+  -- .. and the place is within it
+  pub place_within : (bs : List (List T)) (q r i : ℕ) (e : List T) → i ≡ q * 64 + r → r < 64 → AreFull bs → i < length (joined bs) → r < length (get_or bs q e)
+  place_within [] q r i e is small full within = omega arith
+  place_within (b ∷ []) zero r i e is small full within = omega (arith, length-append b [])
+  place_within (b ∷ []) (suc q) r i e is small full within = omega (arith, length-append b [])
+  place_within (b ∷ c ∷ bs) zero r i e is small full within = omega arith
+  place_within (b ∷ c ∷ bs) (suc q) r i e is small full within =
+      place_within (c ∷ bs) q r (i - 64) e (omega arith) small full.1 (omega (arith, length-append b (joined (c ∷ bs))))
+
+  pub get_or-joined : (bs : List (List T)) (q r i : ℕ) (e : List T) (d : T) → i ≡ q * 64 + r → r < 64 → AreFull bs → i < length (joined bs) → get_or (joined bs) i d ≡ get_or (get_or bs q e) r d
+  get_or-joined [] q r i e d is small full within = grind arith
+  get_or-joined (b ∷ []) zero r i e d is small full within = grind (arith, get_or_append_left b [] d i, length-append b [])
+  get_or-joined (b ∷ []) (suc q) r i e d is small full within = grind (arith, length-append b [])
+  get_or-joined (b ∷ c ∷ bs) zero r i e d is small full within = grind (arith, get_or_append_left b (joined (c ∷ bs)) d i)
+  get_or-joined (b ∷ c ∷ bs) (suc q) r i e d is small full within =
+      get_or-append_right b (joined (c ∷ bs)) 64 i d full.0 (omega arith)
+      ∙ get_or-joined (c ∷ bs) q r (i - 64) e d (omega arith) small full.1 (omega (arith, length-append b (joined (c ∷ bs))))
+
+  -- a block with as many items may stand for another
+  pub AreFull-set : (bs : List (List T)) (q : ℕ) (b' e : List T) → length b' ≡ length (get_or bs q e) → AreFull bs → AreFull (set bs q b')
+  AreFull-set [] q b' e same full = full
+  AreFull-set (b ∷ []) zero b' e same full = (omega arith, omega arith)
+  AreFull-set (b ∷ []) (suc q) b' e same full = full
+  AreFull-set (b ∷ c ∷ bs) zero b' e same full = (omega arith, full.1)
+  AreFull-set (b ∷ c ∷ bs) (suc zero) b' e same full = (full.0, AreFull-set (c ∷ bs) zero b' e same full.1)
+  AreFull-set (b ∷ c ∷ bs) (suc (suc q)) b' e same full = (full.0, AreFull-set (c ∷ bs) (suc q) b' e same full.1)
+
+  pub joined-set : (bs : List (List T)) (q r i : ℕ) (e : List T) (w : T) → i ≡ q * 64 + r → r < 64 → AreFull bs → i < length (joined bs) → joined (set bs q (set (get_or bs q e) r w)) ≡ set (joined bs) i w
+  joined-set [] q r i e w is small full within = grind arith
+  joined-set (b ∷ []) zero r i e w is small full within = grind (arith, set-append_left b [] i w, length-append b [])
+  joined-set (b ∷ []) (suc q) r i e w is small full within = grind (arith, length-append b [])
+  joined-set (b ∷ c ∷ bs) zero r i e w is small full within = grind (arith, set-append_left b (joined (c ∷ bs)) i w)
+  joined-set (b ∷ c ∷ bs) (suc q) r i e w is small full within =
+      ap (λ rest. b ++ rest) (joined-set (c ∷ bs) q r (i - 64) e w (omega arith) small full.1 (omega (arith, length-append b (joined (c ∷ bs)))))
+      ∙ sym (set-append_right b (joined (c ∷ bs)) 64 i w full.0 (omega arith))
+
+  -- how many items there are, by the last block
+  pub length-joined : (bs : List (List T)) (n : ℕ) (e : List T) → length bs ≡ n + 1 → AreFull bs → length (joined bs) ≡ n * 64 + length (get_or bs n e)
+  length-joined [] n e is full = omega arith
+  length-joined (b ∷ []) zero e is full = omega (arith, length-append b [])
+  length-joined (b ∷ []) (suc n) e is full = omega arith
+  length-joined (b ∷ c ∷ bs) zero e is full = omega arith
+  length-joined (b ∷ c ∷ bs) (suc n) e is full =
+      omega (arith, length-append b (joined (c ∷ bs)), length-joined (c ∷ bs) n e (omega arith) full.1)
+
+  some_items : (b : List T) (bs : List (List T)) → AreFull (b ∷ bs) → 0 < length (joined (b ∷ bs))
+  some_items b [] full = omega (arith, length-append b [])
+  some_items b (c ∷ bs) full = omega (arith, length-append b (joined (c ∷ bs)))
+
+  -- which block is the last
+  pub last_place : (bs : List (List T)) (q r : ℕ) → length (joined bs) ≡ q * 64 + r → 0 < r → r ≤ 64 → AreFull bs → length bs ≡ q + 1
+  last_place [] q r is some small full = omega arith
+  last_place (b ∷ []) q r is some small full = omega (arith, length-append b [])
+  last_place (b ∷ c ∷ bs) zero r is some small full = omega (arith, length-append b (joined (c ∷ bs)), some_items c bs full.1)
+  last_place (b ∷ c ∷ bs) (suc q) r is some small full =
+      omega (arith, last_place (c ∷ bs) q r (omega (arith, length-append b (joined (c ∷ bs)))) some small full.1)
+
+  -- another last block
+  pub AreFull-set_last : (bs : List (List T)) (q : ℕ) (b' : List T) → length bs ≡ q + 1 → 0 < length b' → length b' ≤ 64 → AreFull bs → AreFull (set bs q b')
+  AreFull-set_last [] q b' is some small full = full
+  AreFull-set_last (b ∷ []) zero b' is some small full = (some, small)
+  AreFull-set_last (b ∷ []) (suc q) b' is some small full = full
+  AreFull-set_last (b ∷ c ∷ bs) zero b' is some small full = grind arith
+  AreFull-set_last (b ∷ c ∷ bs) (suc zero) b' is some small full = (full.0, AreFull-set_last (c ∷ bs) zero b' (omega arith) some small full.1)
+  AreFull-set_last (b ∷ c ∷ bs) (suc (suc q)) b' is some small full = (full.0, AreFull-set_last (c ∷ bs) (suc q) b' (omega arith) some small full.1)
+
+  pub joined-push_last : (bs : List (List T)) (q : ℕ) (e : List T) (x : T) → length bs ≡ q + 1 → joined (set bs q (get_or bs q e ++ x ∷ [])) ≡ joined bs ++ x ∷ []
+  joined-push_last [] q e x is = grind arith
+  joined-push_last (b ∷ []) zero e x is = grind (arith, append-nil, append_assoc)
+  joined-push_last (b ∷ []) (suc q) e x is = grind arith
+  joined-push_last (b ∷ c ∷ bs) zero e x is = grind arith
+  joined-push_last (b ∷ c ∷ bs) (suc q) e x is =
+      ap (λ rest. b ++ rest) (joined-push_last (c ∷ bs) q e x (omega arith)) ∙ sym (append_assoc b (joined (c ∷ bs)) (x ∷ []))
+
+  -- a block more, where all are full
+  pub AreFull-push : (bs : List (List T)) (q : ℕ) (x : T) → length (joined bs) ≡ q * 64 → AreFull bs → AreFull (bs ++ (x ∷ []) ∷ [])
+  AreFull-push [] q x is full = (omega arith, omega arith)
+  AreFull-push (b ∷ []) q x is full = (omega (arith, length-append b []), (omega arith, omega arith))
+  AreFull-push (b ∷ c ∷ bs) q x is full =
+      (full.0, AreFull-push (c ∷ bs) (q - 1) x (omega (arith, length-append b (joined (c ∷ bs)))) full.1)
+
+  pub joined-push : (bs : List (List T)) (x : T) → joined (bs ++ (x ∷ []) ∷ []) ≡ joined bs ++ x ∷ []
+  joined-push bs x = flat_map-append (λ b. b) bs ((x ∷ []) ∷ [])
+
+  -- the first blocks hold the first items
+  pub AreFull-take : (bs : List (List T)) (q : ℕ) → AreFull bs → AreFull (take q bs)
+  AreFull-take [] zero full = full
+  AreFull-take [] (suc q) full = full
+  AreFull-take (b ∷ []) zero full = tt
+  AreFull-take (b ∷ []) (suc zero) full = full
+  AreFull-take (b ∷ []) (suc (suc q)) full = full
+  AreFull-take (b ∷ c ∷ bs) zero full = tt
+  AreFull-take (b ∷ c ∷ bs) (suc zero) full = (omega arith, omega arith)
+  AreFull-take (b ∷ c ∷ bs) (suc (suc q)) full = (full.0, AreFull-take (c ∷ bs) (suc q) full.1)
+
+  take_block : (b rest : List T) (q n i : ℕ) → length b ≡ 64 → i ≡ suc q * 64 + n → take i (b ++ rest) ≡ b ++ take (q * 64 + n) rest
+  take_block b rest q n i full is =
+      let e : i ≡ length b + (q * 64 + n) = omega arith in
+      rw e (take-append-add b rest (q * 64 + n))
+
+  pub joined-take : (bs : List (List T)) (q : ℕ) → AreFull bs → q * 64 ≤ length (joined bs) → take (q * 64) (joined bs) ≡ joined (take q bs)
+  joined-take [] zero full within = refl
+  joined-take [] (suc q) full within = grind arith
+  joined-take (b ∷ []) zero full within = refl
+  joined-take (b ∷ []) (suc zero) full within = take_all 64 (b ++ []) (omega (arith, length-append b []))
+  joined-take (b ∷ []) (suc (suc q)) full within = grind (arith, length-append b [])
+  joined-take (b ∷ c ∷ bs) zero full within = refl
+  joined-take (b ∷ c ∷ bs) (suc q) full within =
+      take_block b (joined (c ∷ bs)) q 0 (suc q * 64) full.0 (omega arith)
+      ∙ ap (λ rest. b ++ rest) (rw (add-zero (q * 64)) (joined-take (c ∷ bs) q full.1 (omega (arith, length-append b (joined (c ∷ bs))))))
+
+  pub joined-take_part : (bs : List (List T)) (q r i : ℕ) (e : List T) → i ≡ q * 64 + r → 0 < r → r < 64 → AreFull bs → i ≤ length (joined bs) → joined (set (take (suc q) bs) q (take r (get_or bs q e))) ≡ take i (joined bs)
+  joined-take_part [] q r i e is some small full within = grind arith
+  joined-take_part (b ∷ []) zero r i e is some small full within =
+      let short : r ≤ length b = omega (arith, length-append b []) in
+      let at : i ≡ r = omega arith in
+      rw (at, take-append-le r b [] short) (append-nil (take r b))
+  joined-take_part (b ∷ []) (suc q) r i e is some small full within = grind (arith, length-append b [])
+  joined-take_part (b ∷ c ∷ bs) zero r i e is some small full within =
+      let at : i ≡ r = omega arith in
+      rw (at, take-append-le r b (joined (c ∷ bs)) (omega arith)) (append-nil (take r b))
+  joined-take_part (b ∷ c ∷ bs) (suc q) r i e is some small full within =
+      ap (λ rest. b ++ rest) (joined-take_part (c ∷ bs) q r (q * 64 + r) e refl some small full.1 (omega (arith, length-append b (joined (c ∷ bs)))))
+      ∙ sym (take_block b (joined (c ∷ bs)) q r i full.0 is)
+
+  -- the block and the place in it of the item at i
+  pub record IsHeldAt (bs : List (List T)) (v : List T) (i : ℕ) : Type 0 where
+    pub block : i / 64 < length bs
+    pub inside : (e : List T) → i % 64 < length (get_or bs (i / 64) e)
+    pub item : (e : List T) (d : T) → get_or v i d ≡ get_or (get_or bs (i / 64) e) (i % 64) d
+    pub kept : (e : List T) (w : T) → AreFull (set bs (i / 64) (set (get_or bs (i / 64) e) (i % 64) w))
+    pub written : (e : List T) (w : T) → joined (set bs (i / 64) (set (get_or bs (i / 64) e) (i % 64) w)) ≡ set v i w
+
+  pub place_at : (bs : List (List T)) (v : List T) (i : ℕ) → joined bs ≡ v → AreFull bs → i < length v → IsHeldAt bs v i
+  place_at bs v i view full within =
+      let in_bs : i < length (joined bs) = rw view within in
+      record {
+        block = block_within bs (i / 64) (i % 64) i (split i) full in_bs;
+        inside = λ e. place_within bs (i / 64) (i % 64) i e (split i) (small i) full in_bs;
+        item = λ e d. rw (← view) (get_or-joined bs (i / 64) (i % 64) i e d (split i) (small i) full in_bs);
+        kept = λ e w. AreFull-set bs (i / 64) _ e (length-set (get_or bs (i / 64) e) (i % 64) w) full;
+        written = λ e w. rw (← view) (joined-set bs (i / 64) (i % 64) i e w (split i) (small i) full in_bs);
+      }
+
+  -- room in the last block, where the items do not fill all of them
+  pub record HasRoom (bs : List (List T)) (v : List T) (x : T) : Type 0 where
+    pub block : length v / 64 < length bs
+    pub short : (e : List T) → length (get_or bs (length v / 64) e) < 64
+    pub count : (e : List T) → length v % 64 ≡ length (get_or bs (length v / 64) e)
+    pub kept : (e : List T) → AreFull (set bs (length v / 64) (get_or bs (length v / 64) e ++ x ∷ []))
+    pub pushed : (e : List T) → joined (set bs (length v / 64) (get_or bs (length v / 64) e ++ x ∷ [])) ≡ v ++ x ∷ []
+
+  pub room_at : (bs : List (List T)) (v : List T) (x : T) → joined bs ≡ v → AreFull bs → (length v % 64 ≡ 0 → ⊥) → HasRoom bs v x
+  room_at bs v x view full part =
+      let n = length v in
+      let same : length (joined bs) ≡ (n / 64) * 64 + n % 64 = ap length view ∙ split n in
+      let some : 0 < n % 64 = omega arith in
+      let last : length bs ≡ n / 64 + 1 = last_place bs (n / 64) (n % 64) same some (let s = small n in omega arith) full in
+      let held : (e : List T) → length (get_or bs (n / 64) e) ≡ n % 64 = λ e. (let l = length-joined bs (n / 64) e last full in omega arith) in
+      record {
+        block = omega arith;
+        short = λ e. (let h = held e in let s = small n in omega arith);
+        count = λ e. sym (held e);
+        kept = λ e. (let h = held e in let s = small n in AreFull-set_last bs (n / 64) _ last (omega (arith, length-append (get_or bs (n / 64) e) (x ∷ []))) (omega (arith, length-append (get_or bs (n / 64) e) (x ∷ []))) full);
+        pushed = λ e. joined-push_last bs (n / 64) e x last ∙ ap (λ xs. xs ++ x ∷ []) view;
+      }
+
+  -- the first n items, which end within a block
+  pub record IsCut (bs bs' : List (List T)) (v : List T) (n : ℕ) : Type 0 where
+    pub block : n / 64 < length bs'
+    pub few : length bs' ≤ length bs
+    pub kept : (e : List T) → AreFull (set bs' (n / 64) (take (n % 64) (get_or bs' (n / 64) e)))
+    pub cut : (e : List T) → joined (set bs' (n / 64) (take (n % 64) (get_or bs' (n / 64) e))) ≡ take n v
+
+  cut_part : (bs : List (List T)) (q r i : ℕ) → i ≡ q * 64 + r → 0 < r → r < 64 → AreFull bs → i ≤ length (joined bs) → (q < length bs) × ((e : List T) → r ≤ length (get_or bs q e))
+  cut_part bs q r i is some small full within =
+      let before : i - 1 ≡ q * 64 + (r - 1) = omega arith in (
+        block_within bs q (r - 1) (i - 1) before full (omega arith),
+        λ e. (let h = place_within bs q (r - 1) (i - 1) e before (omega arith) full (omega arith) in omega arith),
+      )
+
+  pub cut_at : (bs bs' : List (List T)) (v : List T) (n : ℕ) → bs' ≡ take (n / 64 + 1) bs → joined bs ≡ v → AreFull bs → (n % 64 ≡ 0 → ⊥) → n ≤ length v → IsCut bs bs' v n
+  cut_at bs bs' v n is view full part within =
+      let in_bs : n ≤ length (joined bs) = rw view within in
+      let some : 0 < n % 64 = omega arith in
+      let p = cut_part bs (n / 64) (n % 64) n (split n) some (small n) full in_bs in
+      let front : bs' ≡ take (suc (n / 64)) bs = is ∙ ap (λ k. take k bs) (add-one (n / 64)) in
+      let long : length bs' ≡ n / 64 + 1 = rw is (length-take-le (n / 64 + 1) bs (let h = p.0 in omega arith)) in
+      let same : (e : List T) → get_or bs' (n / 64) e ≡ get_or bs (n / 64) e = λ e. rw is (get_or-take (n / 64 + 1) bs (n / 64) e (omega arith)) in
+      let fit : (e : List T) → length (take (n % 64) (get_or bs' (n / 64) e)) ≡ n % 64 = λ e. length-take-le (n % 64) (get_or bs' (n / 64) e) (rw (same e) (p.1 e)) in
+      record {
+        block = omega arith;
+        few = let h = p.0 in omega arith;
+        kept = λ e. (let h = fit e in let s = small n in AreFull-set_last bs' (n / 64) _ long (omega arith) (omega arith) (rw is (AreFull-take bs (n / 64 + 1) full)));
+        cut = λ e. rw (same e, front) (joined-take_part bs (n / 64) (n % 64) n e (split n) some (small n) full in_bs ∙ ap (λ xs. take n xs) view);
+      }
+
+  -- the first n items, which end with a block
+  pub cut_whole : (bs : List (List T)) (v : List T) (n : ℕ) → joined bs ≡ v → AreFull bs → n % 64 ≡ 0 → n ≤ length v → joined (take (n / 64) bs) ≡ take n v
+  cut_whole bs v n view full whole within =
+      let is : n ≡ (n / 64) * 64 = omega arith in
+      let in_bs : (n / 64) * 64 ≤ length (joined bs) = rw view (omega arith) in
+      sym (joined-take bs (n / 64) full in_bs) ∙ ap (λ k. take k (joined bs)) (sym is) ∙ ap (λ xs. take n xs) view
+
+  -- how many items there are, by the last block
+  pub length_by_last : (bs xs : List (List T)) (v last : List T) → xs ≡ bs → joined bs ≡ v → AreFull bs → 0 < length xs → last ≡ get_or xs (length xs - 1) last → (length bs - 1) * 64 + length last ≡ length v
+  length_by_last bs xs v last same view full some is =
+      let same_length : length xs ≡ length bs = ap length same in
+      let at : last ≡ get_or bs (length bs - 1) last = is ∙ ap (λ ys. get_or ys (length ys - 1) last) same in
+      let long : length (joined bs) ≡ (length bs - 1) * 64 + length (get_or bs (length bs - 1) last) = length-joined bs (length bs - 1) last (omega arith) full in
+      ap (λ l. (length bs - 1) * 64 + length l) at ∙ sym long ∙ ap length view
+
+  -- a new block, or none for want of memory
+  pub pushed_blocks : (bs bs' : List (List T)) (made : Bool) (b v : List T) (x : T) → bs' ≡ (if made then bs ++ b ∷ [] else bs) → b ≡ x ∷ [] → joined bs ≡ v → length v % 64 ≡ 0 → AreBlocks bs → length bs ≢ 2 ^ 57 → AreBlocks bs'
+  pushed_blocks bs bs' false b v x is one view whole full more = rw is full
+  pushed_blocks bs bs' true b v x is one view whole full more =
+      let same = ap length view in
+      let few = full.1 in
+      rw (is, one) (AreFull-push bs (length v / 64) x (omega arith) full.0, omega (arith, length-append bs ((x ∷ []) ∷ [])))
+
+  -- how many items the blocks hold at most
+  pub length_within : (bs : List (List T)) → AreFull bs → length (joined bs) ≤ length bs * 64
+  length_within [] full = omega arith
+  length_within (b ∷ []) full = omega (arith, length-append b [])
+  length_within (b ∷ c ∷ bs) full = omega (arith, length-append b (joined (c ∷ bs)), length_within (c ∷ bs) full.1)
