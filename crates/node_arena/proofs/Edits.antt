@@ -1,15 +1,43 @@
 -- What edits at the place of a label make of the children of a node.
-use Rattle.std.proofs.Common.{◌≡◌, ℕ, zero, suc, ◌+◌, ◌-◌, ◌<◌, ◌≤◌, Bool, true, false, cond, eqb, ltb, [], ◌∷◌, Option, Some, None, length, get_or, set, refl, sym, ap, ◌∙◌, subst, arith, slice_get, insert, remove, eq-eqb, ne_eqb, ◌⊎◌, inl, inr, IsSome, OnOk, OnErr, Result, Ok, Err, true≢false}
+use Rattle.std.proofs.Common.{◌≡◌, ℕ, zero, suc, ◌+◌, ◌-◌, ◌<◌, ◌≤◌, Bool, true, false, cond, eqb, ltb, [], ◌∷◌, Option, Some, None, length, get_or, set, take, drop, All, refl, sym, ap, ◌∙◌, subst, arith, slice_get, insert, remove, eq-eqb, ne_eqb, ◌⊎◌, inl, inr, IsSome, OnOk, OnErr, Result, Ok, Err, true≢false}
 use Rattle.std.proofs.lemmas.Bool.{cases_eq, cases_lt, eqb-false}
 use Rattle.std.proofs.lemmas.Option.{slice_get-get_or, get_or_from_slice_get}
 use Rattle.std.proofs.lemmas.List.{length-set, get_or-set_same, get_or-set_other}
+use Rattle.std.proofs.lemmas.List.Elements.{All-head, All-tail}
 use Rattle.std.proofs.lemmas.List.Quantifiers.{all_pairs_remove}
 use Rattle.std.proofs.lemmas.Result.{on_ok_weaker}
 use Rattle.std.proofs.lemmas.List.Edits.{length-insert, get_or-insert_below, get_or-insert_at, get_or-insert_above}
 use Rattle.node_arena.specs.declared.link.Link.{Link}
-use Rattle.node_arena.specs.Slots.{Children, IsRising, child}
+use Rattle.node_arena.specs.Slots.{Children, IsRising, child, label_of}
 use Rattle.node_arena.specs.Calls.{with_child, with_link, without_child, child_from}
-use Rattle.node_arena.specs.Places.{IsPlace}
+use Rattle.probe_core.specs.Places.{IsPlace}
+
+-- the labels before the place are less than l, and the others are not
+pub record LiesAt (l : ℕ) (children : Children) (index : ℕ) : Type 0 where
+  pub within : index ≤ length children
+  pub lesser : (k : ℕ) (d : ℕ × Link) → k < index → (get_or children k d).0 < l
+  pub others : (k : ℕ) (d : ℕ × Link) → index ≤ k → k < length children → l ≤ (get_or children k d).0
+
+lesser_at : (l : ℕ) (children : Children) (index k : ℕ) (d : ℕ × Link) → All (λ (c : ℕ × Link). c.0 < l) (take index children) → index ≤ length children → k < index → (get_or children k d).0 < l
+lesser_at l [] index k d all within less = absurd (omega arith)
+lesser_at l (x ∷ children) zero k d all within less = absurd (omega arith)
+lesser_at l (x ∷ children) (suc index) zero d all within less = All-head (λ (c : ℕ × Link). c.0 < l) x (take index children) all
+lesser_at l (x ∷ children) (suc index) (suc k) d all within less = lesser_at l children index k d (All-tail (λ (c : ℕ × Link). c.0 < l) x (take index children) all) (omega arith) (omega arith)
+
+others_at : (l : ℕ) (children : Children) (index k : ℕ) (d : ℕ × Link) → All (λ (c : ℕ × Link). l ≤ c.0) (drop index children) → index ≤ k → k < length children → l ≤ (get_or children k d).0
+others_at l [] index k d all from within = absurd (omega arith)
+others_at l (x ∷ children) zero zero d all from within = All-head (λ (c : ℕ × Link). l ≤ c.0) x children all
+others_at l (x ∷ children) zero (suc k) d all from within = others_at l children zero k d (All-tail (λ (c : ℕ × Link). l ≤ c.0) x children all) (omega arith) (omega arith)
+others_at l (x ∷ children) (suc index) zero d all from within = absurd (omega arith)
+others_at l (x ∷ children) (suc index) (suc k) d all from within = others_at l children index k d all (omega arith) (omega arith)
+
+-- a place, said of each child
+pub lies_at : (l : ℕ) (children : Children) (index : ℕ) → IsPlace label_of l children index → LiesAt l children index
+lies_at l children index P = record {
+  within = P.within;
+  lesser = λ k d less. lesser_at l children index k d P.lesser P.within less;
+  others = λ k d from less. others_at l children index k d P.others from less;
+}
 
 cond_is : {A : Type 0} (b c : Bool) (x y : A) → b ≡ c → cond b x y ≡ cond c x y
 cond_is b c x y e = ap (λ (z : Bool). cond z x y) e
@@ -20,7 +48,7 @@ ltb-is_true m n l = grind arith
 ltb-is_false : (m n : ℕ) → n ≤ m → ltb m n ≡ false
 ltb-is_false m n l = grind arith
 
-place_after : (l : ℕ) (x : ℕ × Link) (children : Children) (index : ℕ) → IsPlace l (x ∷ children) (suc index) → IsPlace l children index
+place_after : (l : ℕ) (x : ℕ × Link) (children : Children) (index : ℕ) → LiesAt l (x ∷ children) (suc index) → LiesAt l children index
 place_after l x children index P = record {
   within = omega (arith, P.within);
   lesser = λ k d less. P.lesser (suc k) d (omega arith);
@@ -31,18 +59,18 @@ rising_after : (x : ℕ × Link) (children : Children) → IsRising (x ∷ child
 rising_after x children R i j d less within = R (suc i) (suc j) d (omega arith) (omega arith)
 
 -- the first child from the label on stands at its place
-pub child_from-place : (l : ℕ) (children : Children) (index : ℕ) → IsPlace l children index → child_from children l ≡ slice_get children index
+pub child_from-place : (l : ℕ) (children : Children) (index : ℕ) → LiesAt l children index → child_from children l ≡ slice_get children index
 child_from-place l [] index P = refl
 child_from-place l (x ∷ children) zero P = cond_is (ltb x.0 l) false (child_from children l) (Some x) (ltb-is_false x.0 l (P.others 0 x (omega arith) (omega arith)))
 child_from-place l (x ∷ children) (suc index) P =
     cond_is (ltb x.0 l) true (child_from children l) (Some x) (ltb-is_true x.0 l (P.lesser 0 x (omega arith)))
     ∙ child_from-place l children index (place_after l x children index P)
 
-passed : (l : ℕ) (x : ℕ × Link) (children : Children) (index : ℕ) → IsPlace l (x ∷ children) (suc index) → eqb x.0 l ≡ false
+passed : (l : ℕ) (x : ℕ × Link) (children : Children) (index : ℕ) → LiesAt l (x ∷ children) (suc index) → eqb x.0 l ≡ false
 passed l x children index P = let less = P.lesser 0 x (omega arith) in ne_eqb x.0 l (λ e. omega arith)
 
 -- a child at the place with that label is the label's child
-pub child-found : (l : ℕ) (children : Children) (index : ℕ) (k : Link) → IsPlace l children index → slice_get children index ≡ Some (l, k) → child children l ≡ Some k
+pub child-found : (l : ℕ) (children : Children) (index : ℕ) (k : Link) → LiesAt l children index → slice_get children index ≡ Some (l, k) → child children l ≡ Some k
 child-found l [] index k P e = absurd cc
 child-found l (x ∷ children) zero k P e =
     let is : x ≡ (l, k) = cc in
@@ -60,14 +88,14 @@ child-greater l (x ∷ children) above =
     ∙ child-greater l children (λ k d less. above (suc k) d (omega arith))
 
 -- there is no child of the label where its place is the end, or another label stands there
-pub child-past : (l : ℕ) (children : Children) (index : ℕ) → IsPlace l children index → slice_get children index ≡ None → child children l ≡ None
+pub child-past : (l : ℕ) (children : Children) (index : ℕ) → LiesAt l children index → slice_get children index ≡ None → child children l ≡ None
 child-past l [] index P e = refl
 child-past l (x ∷ children) zero P e = absurd cc
 child-past l (x ∷ children) (suc index) P e =
     cond_is (eqb x.0 l) false (Some x.1) (child children l) (passed l x children index P)
     ∙ child-past l children index (place_after l x children index P) e
 
-pub child-missed : (l : ℕ) (children : Children) (index : ℕ) (y : ℕ × Link) → IsRising children → IsPlace l children index → slice_get children index ≡ Some y → (y.0 ≡ l → ⊥) → child children l ≡ None
+pub child-missed : (l : ℕ) (children : Children) (index : ℕ) (y : ℕ × Link) → IsRising children → LiesAt l children index → slice_get children index ≡ Some y → (y.0 ≡ l → ⊥) → child children l ≡ None
 child-missed l [] index y R P e n = refl
 child-missed l (x ∷ children) zero y R P e n =
     let is : x ≡ y = cc in
@@ -81,7 +109,7 @@ child-missed l (x ∷ children) (suc index) y R P e n =
     ∙ child-missed l children index y (rising_after x children R) (place_after l x children index P) e n
 
 -- a child that is there stands at its place
-pub child_placed : (l : ℕ) (children : Children) (index : ℕ) (k : Link) → IsRising children → IsPlace l children index → child children l ≡ Some k → slice_get children index ≡ Some (l, k)
+pub child_placed : (l : ℕ) (children : Children) (index : ℕ) (k : Link) → IsRising children → LiesAt l children index → child children l ≡ Some k → slice_get children index ≡ Some (l, k)
 child_placed l children index k R P e = go (slice_get children index) refl
   where
     go : (o : Option (ℕ × Link)) → slice_get children index ≡ o → slice_get children index ≡ Some (l, k)
@@ -102,7 +130,7 @@ place_within (x ∷ children) zero y e = omega arith
 place_within (x ∷ children) (suc index) y e = let r = place_within children index y e in omega arith
 
 -- a new child is inserted at its place
-pub with_child-place : (l : ℕ) (children : Children) (index : ℕ) (k : Link) → IsPlace l children index → child children l ≡ None → with_child children l k ≡ insert children index (l, k)
+pub with_child-place : (l : ℕ) (children : Children) (index : ℕ) (k : Link) → LiesAt l children index → child children l ≡ None → with_child children l k ≡ insert children index (l, k)
 with_child-place l [] zero k P e = refl
 with_child-place l [] (suc index) k P e = let w = P.within in absurd (omega arith)
 with_child-place l (x ∷ children) zero k P e = go (eqb x.0 l) refl e
@@ -119,7 +147,7 @@ with_child-place l (x ∷ children) (suc index) k P e =
     ∙ ap (λ z. x ∷ z) (with_child-place l children index k (place_after l x children index P) (sym (cond_is (eqb x.0 l) false (Some x.1) (child children l) (passed l x children index P)) ∙ e))
 
 -- another link is written at the place
-pub with_link-place : (l : ℕ) (children : Children) (index : ℕ) (k old : Link) → IsPlace l children index → slice_get children index ≡ Some (l, old) → with_link children l k ≡ set children index (l, k)
+pub with_link-place : (l : ℕ) (children : Children) (index : ℕ) (k old : Link) → LiesAt l children index → slice_get children index ≡ Some (l, old) → with_link children l k ≡ set children index (l, k)
 with_link-place l [] index k old P e = absurd cc
 with_link-place l (x ∷ children) zero k old P e =
     let is : x ≡ (l, old) = cc in
@@ -129,7 +157,7 @@ with_link-place l (x ∷ children) (suc index) k old P e =
     ∙ ap (λ z. x ∷ z) (with_link-place l children index k old (place_after l x children index P) e)
 
 -- and a child is removed there
-pub without_child-place : (l : ℕ) (children : Children) (index : ℕ) (old : Link) → IsPlace l children index → slice_get children index ≡ Some (l, old) → without_child children l ≡ remove children index
+pub without_child-place : (l : ℕ) (children : Children) (index : ℕ) (old : Link) → LiesAt l children index → slice_get children index ≡ Some (l, old) → without_child children l ≡ remove children index
 without_child-place l [] index old P e = absurd cc
 without_child-place l (x ∷ children) zero old P e =
     let is : x ≡ (l, old) = cc in
@@ -139,7 +167,7 @@ without_child-place l (x ∷ children) (suc index) old P e =
     ∙ ap (λ z. x ∷ z) (without_child-place l children index old (place_after l x children index P) e)
 
 -- where the label has no child, the labels from its place on are greater
-above_place : (l : ℕ) (children : Children) (index : ℕ) → IsRising children → IsPlace l children index → child children l ≡ None → (k : ℕ) (d : ℕ × Link) → index ≤ k → k < length children → l < (get_or children k d).0
+above_place : (l : ℕ) (children : Children) (index : ℕ) → IsRising children → LiesAt l children index → child children l ≡ None → (k : ℕ) (d : ℕ × Link) → index ≤ k → k < length children → l < (get_or children k d).0
 above_place l children index R P none k d from less = go (cases_eq k index)
   where
     at_least : l ≤ (get_or children index d).0
@@ -156,7 +184,7 @@ above_place l children index R P none k d from less = go (cases_eq k index)
     go (inr n) = let r = R index k d (omega arith) less in let a = at_least in omega arith
 
 -- a child of a new label keeps the order
-pub rising_put : (l : ℕ) (children : Children) (index : ℕ) (k : Link) → IsRising children → IsPlace l children index → child children l ≡ None → IsRising (insert children index (l, k))
+pub rising_put : (l : ℕ) (children : Children) (index : ℕ) (k : Link) → IsRising children → LiesAt l children index → child children l ≡ None → IsRising (insert children index (l, k))
 rising_put l children index k R P none i j d less within = go (cases_lt i index) (cases_eq i index) (cases_lt j index) (cases_eq j index)
   where
     new : Children
@@ -229,7 +257,7 @@ pub record IsFound (l : ℕ) (children : Children) (index : ℕ) : Type 0 where
   pub placed : slice_get children index ≡ Some (l, link)
   pub within : index < length children
 
-pub found_child : (l : ℕ) (children : Children) (index : ℕ) → IsRising children → IsPlace l children index → IsSome (child children l) → IsFound l children index
+pub found_child : (l : ℕ) (children : Children) (index : ℕ) → IsRising children → LiesAt l children index → IsSome (child children l) → IsFound l children index
 found_child l children index R P some = go (child children l) refl some
   where
     go : (o : Option Link) → child children l ≡ o → IsSome o → IsFound l children index
@@ -245,21 +273,21 @@ child-read l children index x F e =
     F.is ∙ ap (λ (z : ℕ × Link). Some z.1) (sym same)
 
 -- the children after each edit, where it is made on `items`, which the children are
-pub put_is : (l : ℕ) (children items new : Children) (index : ℕ) (k : Link) {E : Type 0} (r : Result (Unit {0}) E) → items ≡ children → IsPlace l children index → child children l ≡ None → OnOk r (new ≡ insert items index (l, k)) → OnOk r (new ≡ with_child children l k)
+pub put_is : (l : ℕ) (children items new : Children) (index : ℕ) (k : Link) {E : Type 0} (r : Result (Unit {0}) E) → items ≡ children → LiesAt l children index → child children l ≡ None → OnOk r (new ≡ insert items index (l, k)) → OnOk r (new ≡ with_child children l k)
 put_is l children items new index k r same P none ok =
     on_ok_weaker r (λ (e : new ≡ insert items index (l, k)). e ∙ (ap (λ (z : Children). insert z index (l, k)) same ∙ sym (with_child-place l children index k P none))) ok
 
-pub put_rises : (l : ℕ) (children items new : Children) (index : ℕ) (k : Link) {E : Type 0} (r : Result (Unit {0}) E) → items ≡ children → IsRising children → IsPlace l children index → child children l ≡ None → OnOk r (new ≡ insert items index (l, k)) → OnErr r (new ≡ items) → IsRising new
+pub put_rises : (l : ℕ) (children items new : Children) (index : ℕ) (k : Link) {E : Type 0} (r : Result (Unit {0}) E) → items ≡ children → IsRising children → LiesAt l children index → child children l ≡ None → OnOk r (new ≡ insert items index (l, k)) → OnErr r (new ≡ items) → IsRising new
 put_rises l children items new index k (Ok x) same R P none ok err = subst IsRising (sym (ok ∙ ap (λ (z : Children). insert z index (l, k)) same)) (rising_put l children index k R P none)
 put_rises l children items new index k (Err x) same R P none ok err = subst IsRising (sym (err ∙ same)) R
 
-pub removed_is : (l : ℕ) (children items new : Children) (index : ℕ) → items ≡ children → IsPlace l children index → IsFound l children index → new ≡ remove items index → new ≡ without_child children l
+pub removed_is : (l : ℕ) (children items new : Children) (index : ℕ) → items ≡ children → LiesAt l children index → IsFound l children index → new ≡ remove items index → new ≡ without_child children l
 removed_is l children items new index same P F e = e ∙ (ap (λ (z : Children). remove z index) same ∙ sym (without_child-place l children index F.link P F.placed))
 
 pub removed_rises : (l : ℕ) (children items new : Children) (index : ℕ) → items ≡ children → IsRising children → IsFound l children index → new ≡ remove items index → IsRising new
 removed_rises l children items new index same R F e = subst IsRising (sym (e ∙ ap (λ (z : Children). remove z index) same)) (all_pairs_remove (λ (a b : ℕ × Link). a.0 < b.0) children index F.within R)
 
-pub replaced_is : (l : ℕ) (children items new : Children) (index : ℕ) (k : Link) → items ≡ children → IsPlace l children index → IsFound l children index → new ≡ set items index (l, k) → new ≡ with_link children l k
+pub replaced_is : (l : ℕ) (children items new : Children) (index : ℕ) (k : Link) → items ≡ children → LiesAt l children index → IsFound l children index → new ≡ set items index (l, k) → new ≡ with_link children l k
 replaced_is l children items new index k same P F e = e ∙ (ap (λ (z : Children). set z index (l, k)) same ∙ sym (with_link-place l children index k F.link P F.placed))
 
 pub replaced_rises : (l : ℕ) (children items new : Children) (index : ℕ) (k : Link) → items ≡ children → IsRising children → IsFound l children index → new ≡ set items index (l, k) → IsRising new

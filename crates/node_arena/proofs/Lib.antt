@@ -1,9 +1,7 @@
 pub mod Counting
 pub mod Edits
-pub mod Searching
 pub mod Sharing
 pub mod Viewed
 pub mod Linked
-pub mod Walking
 pub mod Reaching
 pub mod LinkTotals

@@ -3,7 +3,7 @@ use Rattle.std.proofs.Common.{◌≡◌, ℕ, zero, suc, ◌+◌, ◌<◌, ◌�
 use Rattle.std.proofs.lemmas.List.Sums.{sum_by-cons}
 use Rattle.std.proofs.lemmas.Bool.{cases_eq, cases_lt}
 use Rattle.node_arena.specs.declared.link.Link.{Link}
-use Rattle.node_arena.specs.Walks.{Step, down, across, Walk}
+use Rattle.cube_view.specs.Walks.{Step, down, across, Walk}
 use Rattle.node_arena.specs.Slots.{proper, shared, target, Children, IsRising, Slot, node, table, empty_node, is_table, children_of, child, link, slot_of, link_of}
 use Rattle.node_arena.specs.Shape.{home_of, HasHomes}
 use Rattle.node_arena.specs.Stats.{is_proper, children_that, content_that, links_that, node_count, table_count, proper_count, AllRising, TellsLinks}

@@ -3,7 +3,7 @@ use Rattle.std.proofs.Common.{◌≡◌, ℕ, zero, suc, ◌<◌, List, [], ◌�
 use Rattle.node_arena.specs.declared.link.Link.{Link}
 use Rattle.node_arena.specs.declared.link.LinkKind.{LinkKind}
 use Rattle.node_arena.specs.declared.link.LinkKind.TheVariants.{Proper, Shared}
-use Rattle.node_arena.specs.Walks.{Step, down, across}
+use Rattle.cube_view.specs.Walks.{Step, down, across}
 use Rattle.node_arena.specs.Slots.{proper, shared, target, Slot, link_of}
 
 -- a link is proper or shared

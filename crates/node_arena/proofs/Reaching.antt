@@ -1,11 +1,11 @@
 -- The shape says what each walk from the root reaches, and what a cube counts.
 use Rattle.std.proofs.Common.{◌≡◌, ℕ, zero, suc, ◌+◌, ◌<◌, true, false, List, [], ◌∷◌, Option, Some, None, Contains, length, refl, sym, ap, ◌∙◌, subst, arith, inl, inr, ◌⊎◌}
 use Rattle.node_arena.specs.declared.link.Link.{Link}
-use Rattle.node_arena.specs.Walks.{Step, down, across, Walk, SpotPath, Under, count_under, top, IsCoarser, dimension, HasSpot}
+use Rattle.cube_view.specs.Walks.{Step, down, across, Walk, SpotPath, Under, count_under, top, IsCoarser, dimension, HasSpot, down_all, whole_from, whole_of, whole}
 use Rattle.node_arena.specs.Slots.{proper, shared, target, Slot, is_table, link_of, slot_of, count, reached, follow, walk_end}
 use Rattle.node_arena.specs.Shape.{home_of, HasHomes, IsShaped}
-use Rattle.node_arena.specs.Reach.{IsWalked, down_all, whole_from, whole_of, whole, count_at, weight_at, TellsWalks, TellsWeights}
-use Rattle.node_arena.proofs.Walking.{finer-refl, finer-step, finer-trans, coarser_under, step_across_finer, under_before, count_along, count-none, dimension-finer}
+use Rattle.node_arena.specs.Reach.{IsWalked, count_at, weight_at, TellsWalks, TellsWeights}
+use Rattle.cube_view.proofs.Walking.{finer-refl, finer-step, finer-trans, coarser_under, step_across_finer, under_before, count_along, count-none, dimension-finer}
 use Rattle.node_arena.proofs.Linked.{linked-lt, link_cases}
 
 -- a link leads to a slot whose home is finer than the link's address
@@ -125,22 +125,22 @@ dimension-whole_from [] a = omega arith
 dimension-whole_from (path ∷ later) a =
     let r = dimension-whole_from later (down_all path (across ∷ a)) in let s = dimension-down_all path (across ∷ a) in omega arith
 
-pub dimension-whole : (dims : ℕ) (q : SpotPath) → length q.paths ≡ suc dims → dimension (whole q) ≡ dims
-dimension-whole dims q P = go q.paths P
+pub dimension-whole : (dims : ℕ) (q : SpotPath) → 0 < dims → length q.paths ≡ dims → dimension (whole q) ≡ dims
+dimension-whole dims q some P = go q.paths P
   where
-    go : (paths : List (List ℕ)) → length paths ≡ suc dims → dimension (whole_of paths) ≡ dims
+    go : (paths : List (List ℕ)) → length paths ≡ dims → dimension (whole_of paths) ≡ dims
     go [] e = absurd (omega arith)
     go (path ∷ later) e = let r = dimension-whole_from later (down_all path []) in let s = dimension-down_all path [] in omega arith
 
 -- what a look-up of a whole spot finds is how many of the list are that spot
-pub weight_counts : (dims : ℕ) (slots : List Slot) (homes : List Walk) (h : List SpotPath) → IsShaped dims slots homes h → (q : SpotPath) → length q.paths ≡ suc dims → weight_at slots q ≡ count_under h (whole q) q.bin
-weight_counts dims slots homes h S q P = go (walk_end slots 0 (whole q)) refl
+pub weight_counts : (dims : ℕ) (slots : List Slot) (homes : List Walk) (h : List SpotPath) → IsShaped dims slots homes h → (q : SpotPath) → 0 < dims → length q.paths ≡ dims → weight_at slots q ≡ count_under h (whole q) q.bin
+weight_counts dims slots homes h S q some P = go (walk_end slots 0 (whole q)) refl
   where
     go : (o : Option ℕ) → walk_end slots 0 (whole q) ≡ o → count_at slots o q.bin ≡ count_under h (whole q) q.bin
     go None e = sym (count-none h (whole q) q.bin (λ w. let r = walk_reaches dims slots homes h S (whole q) w in let x = r.1 in absurd cc))
     go (Some j) e =
         let l = walk-lt dims slots homes h S (whole q) j e in
-        let d : dimension (home_of homes j) ≡ dims = sym (dimension-finer (walk_coarser slots homes S.has_homes (whole q) j e)) ∙ dimension-whole dims q P in
+        let d : dimension (home_of homes j) ≡ dims = sym (dimension-finer (walk_coarser slots homes S.has_homes (whole q) j e)) ∙ dimension-whole dims q some P in
         walk_counts dims slots homes h S (whole q) j q.bin l e ((S.has_tables.tables j l).1 d)
 
 pub tells_walks : TellsWalks

@@ -1,7 +1,7 @@
 -- The changing calls of an arena, as functions on its list of slots.
 use Rattle.std.specs.Prelude.{ℕ, ◌==◌, if◌then◌else◌, nat_lt, List, [], ◌∷◌, ◌++◌, map, slice_set, Option, Some, None}
 use Rattle.std.specs.FinMap.{empty}
-use Rattle.time_table.specs.Counts.{add_one, take_one}
+use Rattle.time_table.specs.Counts.{add_many, take_many}
 use Rattle.node_arena.specs.declared.link.Link.{Link}
 use Rattle.node_arena.specs.Slots.{shared, target, Children, Slot, node, table, empty_node, slot_of}
 
@@ -65,15 +65,15 @@ abbrev pub with_content : Slot → Option Link → Slot
 with_content (node children content) c = node children c
 with_content (table counts) c = table counts
 
--- the slot with one record more in a bin
-abbrev pub with_one : Slot → ℕ → Slot
-with_one (node children content) bin = node children content
-with_one (table counts) bin = table (add_one counts bin)
+-- the slot with n records more in a bin
+abbrev pub with_many : Slot → ℕ → ℕ → Slot
+with_many (node children content) bin n = node children content
+with_many (table counts) bin n = table (add_many counts bin n)
 
--- the slot with one record less in a bin
-abbrev pub without_one : Slot → ℕ → Slot
-without_one (node children content) bin = node children content
-without_one (table counts) bin = table (take_one counts bin)
+-- the slot with n records less in a bin
+abbrev pub without_many : Slot → ℕ → ℕ → Slot
+without_many (node children content) bin n = node children content
+without_many (table counts) bin n = table (take_many counts bin n)
 
 -- a new slot at the end
 abbrev pub added : List Slot → Slot → List Slot
@@ -107,10 +107,18 @@ drop_child slots i l = slice_set slots i (unlink (slot_of slots i) l)
 abbrev pub set_content : List Slot → ℕ → Option Link → List Slot
 set_content slots i c = slice_set slots i (with_content (slot_of slots i) c)
 
+-- n records more in a bin of the time table at a place
+abbrev pub table_add_many : List Slot → ℕ → ℕ → ℕ → List Slot
+table_add_many slots i bin n = slice_set slots i (with_many (slot_of slots i) bin n)
+
+-- n records less in a bin of the time table at a place
+abbrev pub table_take_many : List Slot → ℕ → ℕ → ℕ → List Slot
+table_take_many slots i bin n = slice_set slots i (without_many (slot_of slots i) bin n)
+
 -- a record more in a bin of the time table at a place
 abbrev pub table_add : List Slot → ℕ → ℕ → List Slot
-table_add slots i bin = slice_set slots i (with_one (slot_of slots i) bin)
+table_add slots i bin = table_add_many slots i bin 1
 
 -- a record less in a bin of the time table at a place
 abbrev pub table_take : List Slot → ℕ → ℕ → List Slot
-table_take slots i bin = slice_set slots i (without_one (slot_of slots i) bin)
+table_take slots i bin = table_take_many slots i bin 1

@@ -3,6 +3,4 @@ pub mod Reach
 pub mod Shape
 pub mod Slots
 pub mod Stats
-pub mod Walks
-pub mod Places
 pub mod Stored

@@ -1,6 +1,6 @@
 -- The shape in the words of walks from the root, as laws; and what a cube counts.
 use Rattle.std.specs.Prelude.{◌≡◌, ℕ, suc, ◌<◌, List, [], ◌∷◌, length, Option, Some, None, Contains}
-use Rattle.node_arena.specs.Walks.{Step, down, across, Walk, SpotPath, count_under, HasSpot, IsCoarser, Under}
+use Rattle.cube_view.specs.Walks.{Step, down, across, Walk, SpotPath, count_under, HasSpot, IsCoarser, Under, whole}
 use Rattle.node_arena.specs.Slots.{Slot, IsTable, slot_of, count, walk_end}
 use Rattle.node_arena.specs.Shape.{home_of, IsShaped}
 
@@ -36,25 +36,6 @@ pub record IsWalked (slots : List Slot) (homes : List Walk) (h : List SpotPath) 
 abbrev pub TellsWalks : Type 0
 TellsWalks = (dims : ℕ) (slots : List Slot) (homes : List Walk) (h : List SpotPath) → IsShaped dims slots homes h → IsWalked slots homes h
 
--- down along all labels of a path
-abbrev pub down_all : List ℕ → Walk → Walk
-down_all [] a = a
-down_all (l ∷ path) a = down_all path (down l ∷ a)
-
--- on through all later dimensions
-abbrev pub whole_from : List (List ℕ) → Walk → Walk
-whole_from [] a = a
-whole_from (path ∷ later) a = whole_from later (down_all path (across ∷ a))
-
--- the walk by whole paths in all dimensions
-abbrev pub whole_of : List (List ℕ) → Walk
-whole_of [] = []
-whole_of (path ∷ later) = whole_from later (down_all path [])
-
--- the walk of a spot by its whole path in every dimension, which ends at a time table
-abbrev pub whole : SpotPath → Walk
-whole q = whole_of q.paths
-
 -- how many records the slot counts in the bin, if there is one
 abbrev pub count_at : List Slot → Option ℕ → ℕ → ℕ
 count_at slots None bin = 0
@@ -66,4 +47,4 @@ weight_at slots q = count_at slots (walk_end slots 0 (whole q)) q.bin
 
 -- a shape counts a spot as often as the list has a spot of that path and bin
 abbrev pub TellsWeights : Type 0
-TellsWeights = (dims : ℕ) (slots : List Slot) (homes : List Walk) (h : List SpotPath) → IsShaped dims slots homes h → (q : SpotPath) → length q.paths ≡ suc dims → weight_at slots q ≡ count_under h (whole q) q.bin
+TellsWeights = (dims : ℕ) (slots : List Slot) (homes : List Walk) (h : List SpotPath) → IsShaped dims slots homes h → (q : SpotPath) → 0 < dims → length q.paths ≡ dims → weight_at slots q ≡ count_under h (whole q) q.bin

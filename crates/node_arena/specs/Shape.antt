@@ -1,9 +1,9 @@
 -- The shape of a cube. It is said link by link, of the slots, of the homes of the slots in the same
 -- order, and of a list h of spots that the cube counts. The root is slot 0, and the dimension of number
 -- `dims` is time. The laws of Reach.antt say the same of walks from the root.
-use Rattle.std.specs.Prelude.{◌≡◌, ℕ, ◌<◌, ◌↔◌, List, [], ◌∷◌, length, slice_index_or, Some, Contains}
+use Rattle.std.specs.Prelude.{◌≡◌, ℕ, ◌<◌, ◌↔◌, List, [], ◌∷◌, length, map, slice_index_or, Some, Contains}
 use Rattle.node_arena.specs.declared.link.Link.{Link}
-use Rattle.node_arena.specs.Walks.{Step, down, across, Walk, SpotPath, Under, count_under, HasSpot, IsCoarser, dimension}
+use Rattle.cube_view.specs.Walks.{Step, down, across, Walk, SpotPath, Under, count_under, HasSpot, IsCoarser, dimension}
 use Rattle.node_arena.specs.Slots.{proper, shared, target, Slot, IsTable, slot_of, link_of, count}
 
 -- the home of the slot at a place: the walk along proper links that leads to it
@@ -70,37 +70,28 @@ pub record SharesContent (slots : List Slot) (i : ℕ) (child : Link) : Type 0 w
 abbrev pub SharesOnlyContent : List Slot → Type 0
 SharesOnlyContent slots = (i label : ℕ) (l : Link) → HasOneChild slots i label l → SharesContent slots i l
 
--- every link is proper
-abbrev pub IsAllProper : List Slot → Type 0
-IsAllProper slots = (i : ℕ) (e : Step) (l : Link) → link_of slots i e ≡ Some l → l ≡ proper (target l)
-
--- parts 1 to 3, which a tree and a cube with shared links have in common
+-- parts 1 to 3, which say what walks from the root reach
 pub record IsShaped (dims : ℕ) (slots : List Slot) (homes : List Walk) (h : List SpotPath) : Type 0 where
   pub has_homes : HasHomes slots homes
   pub has_tables : HasTables dims slots homes
   pub holds : HoldsSpots slots homes h h
   pub counted : CountsSpots slots homes h
 
+-- all spots have paths of the same lengths, in as many dimensions as the cube has
+pub record AreAlike (dims : ℕ) (h : List SpotPath) : Type 0 where
+  pub lengths : List ℕ
+  pub all : length lengths ≡ dims
+  pub same : (q : SpotPath) → Contains h q → map (λ path. length path) q.paths ≡ lengths
+
 -- the shape of a cube that shares what it can
 pub record HasShape (dims : ℕ) (slots : List Slot) (homes : List Walk) (h : List SpotPath) : Type 0 where
   pub shaped : IsShaped dims slots homes h
   pub open shaped use *
   pub shares : SharesOnlyContent slots
-
--- the reduced shape: a tree of proper links, in which each node has content of its own
-pub record HasTreeShape (dims : ℕ) (slots : List Slot) (homes : List Walk) (h : List SpotPath) : Type 0 where
-  pub shaped : IsShaped dims slots homes h
-  pub open shaped use *
-  pub all_proper : IsAllProper slots
+  pub alike : AreAlike dims h
 
 -- what the type of a cube keeps: there are homes and spots for which its slots have the shape
 pub record IsCube (dims : ℕ) (slots : List Slot) : Type 0 where
   pub homes : List Walk
   pub spots : List SpotPath
   pub shape : HasShape dims slots homes spots
-
--- the same of a tree of proper links
-pub record IsTree (dims : ℕ) (slots : List Slot) : Type 0 where
-  pub homes : List Walk
-  pub spots : List SpotPath
-  pub shape : HasTreeShape dims slots homes spots

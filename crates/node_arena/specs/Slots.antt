@@ -6,7 +6,7 @@ use Rattle.time_table.specs.Counts.{Counts, count_of}
 use Rattle.node_arena.specs.declared.link.SlotId.{SlotId}
 use Rattle.node_arena.specs.declared.link.Link.{Link}
 use Rattle.node_arena.specs.declared.link.LinkKind.TheVariants.{Proper, Shared}
-use Rattle.node_arena.specs.Walks.{Step, down, across, Walk}
+use Rattle.cube_view.specs.Walks.{Step, down, across, Walk}
 
 -- the name of the slot at a place
 abbrev pub id_of : ℕ → SlotId
@@ -27,6 +27,10 @@ target l = l.to.0
 -- the children of a node: their labels and links
 abbrev pub Children : Type 0
 Children = List (ℕ × Link)
+
+-- the label of a child, by which children are ordered and searched
+abbrev pub label_of : ℕ × Link → ℕ
+label_of c = c.0
 
 -- the labels rise, so no label stands twice
 abbrev pub IsRising : Children → Type 0

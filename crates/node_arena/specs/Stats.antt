@@ -4,7 +4,7 @@ use Rattle.cube_view.specs.declared.stat.Stat.{Stat}
 use Rattle.node_arena.specs.declared.link.Link.{Link}
 use Rattle.node_arena.specs.declared.link.LinkKind.{LinkKind}
 use Rattle.node_arena.specs.declared.link.LinkKind.TheVariants.{Proper, Shared}
-use Rattle.node_arena.specs.Walks.{Walk, SpotPath}
+use Rattle.cube_view.specs.Walks.{Walk, SpotPath}
 use Rattle.node_arena.specs.Slots.{Children, IsRising, Slot, children_of, content_of, is_table}
 use Rattle.node_arena.specs.Shape.{IsShaped}
 

@@ -3,10 +3,10 @@ ghost use Rattle.std.specs.Prelude.{◌≡◌, ◌+◌, ◌≤◌, ◌<◌, ◌^
 ghost use Rattle.std.specs.FinMap.{contains_key};
 ghost use Rattle.probe_core.specs.Bits.{bits};
 ghost use Rattle.time_table.specs.Counts.{AllCounted, total_count};
-ghost use Rattle.node_arena.specs.Walks.{down, across};
-ghost use Rattle.node_arena.specs.Slots.{id_of, IsNode, IsTable, IsRising, slot_of, children_of, counts_of, link_of};
+ghost use Rattle.cube_view.specs.Walks.{down, across};
+ghost use Rattle.node_arena.specs.Slots.{id_of, IsNode, IsTable, is_table, count, IsRising, slot_of, children_of, counts_of, link_of};
 ghost use Rattle.node_arena.specs.Stats.{stat_of, AllRising, TellsStat};
-ghost use Rattle.node_arena.specs.Calls.{added, add_node, add_table, copy_slot, put_child, set_child, drop_child, set_content, table_add, table_take, child_from, only_link};
+ghost use Rattle.node_arena.specs.Calls.{added, add_node, add_table, copy_slot, put_child, set_child, drop_child, set_content, table_add, table_take, table_add_many, table_take_many, child_from, only_link};
 
 use crate::children::Children;
 use crate::link::{Link, SlotId};
@@ -174,8 +174,7 @@ impl Arena {
         ensures unchanged { OnErr result (self.new ≡ self.old) }
         ensures was_counted { AllCounted (counts_of (slot_of self.old id.0)) }
     {
-        let slot = &mut self.slots[id.0];
-        slot.add_one(bin)
+        self.table_add_many(id, bin, 1)
     }
 
     /// Counts a record less in a bin of a time table that has one.
@@ -187,6 +186,40 @@ impl Arena {
     {
         let slot = &mut self.slots[id.0];
         slot.take_one(bin);
+    }
+
+    /// Counts an amount more in a bin of a time table. For want of memory the slots are as before.
+    pub fn table_add_many(&mut self, id: SlotId, bin: u32, amount: u64) -> Result<(), NoMemory>
+        requires in_range { id.0 < length self.old }
+        requires is_table { IsTable (slot_of self.old id.0) }
+        requires some { 0 < amount }
+        requires fits { total_count (counts_of (slot_of self.old id.0)) + amount ≤ 2 ^ 63 }
+        ensures added { OnOk result (self.new ≡ table_add_many self.old id.0 bin amount) }
+        ensures unchanged { OnErr result (self.new ≡ self.old) }
+        ensures was_counted { AllCounted (counts_of (slot_of self.old id.0)) }
+    {
+        let slot = &mut self.slots[id.0];
+        slot.add_many(bin, amount)
+    }
+
+    /// Counts an amount less in a bin of a time table that has as much. It takes no memory.
+    pub fn table_take_many(&mut self, id: SlotId, bin: u32, amount: u64)
+        requires in_range { id.0 < length self.old }
+        requires is_table { IsTable (slot_of self.old id.0) }
+        requires some { 0 < amount }
+        requires is_there { amount ≤ count (slot_of self.old id.0) bin }
+        ensures { self.new ≡ table_take_many self.old id.0 bin amount }
+    {
+        let slot = &mut self.slots[id.0];
+        slot.take_many(bin, amount);
+    }
+
+    /// Whether a slot is a time table.
+    pub fn is_table(&self, id: SlotId) -> bool
+        requires { id.0 < length self.now }
+        ensures { result ≡ is_table (slot_of self.now id.0) }
+    {
+        self.slots[id.0].is_table()
     }
 
     /// Takes off the slots from a place on.
@@ -203,6 +236,7 @@ impl Arena {
         requires is_node { IsNode (slot_of self.now id.0) }
         ensures link { result ≡ link_of self.now id.0 (down label) }
         ensures cost { steps.new ≤ steps.old + (1 + bits (length (children_of (slot_of self.now id.0)))) }
+        ensures a_step { steps.old + 1 ≤ steps.new }
         ensures in_order { IsRising (children_of (slot_of self.now id.0)) }
     {
         steps.tick();
@@ -220,6 +254,7 @@ impl Arena {
         requires is_node { IsNode (slot_of self.now id.0) }
         ensures child { result ≡ child_from (children_of (slot_of self.now id.0)) from }
         ensures cost { steps.new ≤ steps.old + (1 + bits (length (children_of (slot_of self.now id.0)))) }
+        ensures a_step { steps.old + 1 ≤ steps.new }
         ensures in_order { IsRising (children_of (slot_of self.now id.0)) }
     {
         steps.tick();
@@ -252,7 +287,8 @@ impl Arena {
     pub fn only_child(&self, id: SlotId) -> Option<Link>
         requires in_range { id.0 < length self.now }
         requires is_node { IsNode (slot_of self.now id.0) }
-        ensures { result ≡ only_link (children_of (slot_of self.now id.0)) }
+        ensures link { result ≡ only_link (children_of (slot_of self.now id.0)) }
+        ensures in_order { IsRising (children_of (slot_of self.now id.0)) }
     {
         self.slots[id.0].only_child()
     }

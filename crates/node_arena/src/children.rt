@@ -1,14 +1,15 @@
 //! The children of a node.
 ghost use Rattle.std.specs.Prelude.{◌≡◌, ◌+◌, ◌<◌, ◌≤◌, ◌↔◌, [], length, slice_get, slice_index_or, None, Some, IfOk, OnOk, OnErr, IsSome};
 ghost use Rattle.probe_core.specs.Bits.{bits};
-ghost use Rattle.node_arena.specs.Slots.{Children as Listed, IsRising, child};
+ghost use Rattle.probe_core.specs.Blanks.{IsBlankOf};
+ghost use Rattle.probe_core.specs.Places.{IsPlace};
+ghost use Rattle.node_arena.specs.Slots.{Children as Listed, IsRising, child, label_of};
 ghost use Rattle.node_arena.specs.Calls.{with_child, with_link, without_child, child_from, only_link, share_all};
-ghost use Rattle.node_arena.specs.Places.{IsPlace};
 ghost use Rattle.node_arena.specs.Stats.{children_that, is_proper, is_shared};
 
 use crate::link::{Link, LinkKind};
 use outer_io::NoMemory;
-use probe_core::{Rows, Steps};
+use probe_core::{Place, Rows, Steps};
 use std::alloc::Global;
 use std::marker::{Brand, Model};
 use std::sync::ledger::{Blank, Ledger};
@@ -27,13 +28,6 @@ impl Model for Children {
     ghost view = { λ c. c.rows.items };
 
     ghost invariant = { λ c. IsRising c.rows.items };
-}
-
-/// Where the children of a label and of later ones begin, and the first of these.
-#[derive(Clone, Copy)]
-pub struct Place {
-    pub index: usize,
-    pub first: Option<(u8, Link)>,
 }
 
 impl Children {
@@ -58,6 +52,7 @@ impl Children {
     pub fn child<L: Ledger>(&self, label: u8, steps: &mut Steps<L>) -> Option<Link>
         ensures link { result ≡ child self.now label }
         ensures cost { steps.new ≤ steps.old + bits (length self.now) }
+        ensures not_less { steps.old ≤ steps.new }
         ensures in_order { IsRising self.now }
     {
         match self.place_of(label, steps).first {
@@ -70,32 +65,21 @@ impl Children {
     pub fn child_from<L: Ledger>(&self, from: u8, steps: &mut Steps<L>) -> Option<(u8, Link)>
         ensures child { result ≡ child_from self.now from }
         ensures cost { steps.new ≤ steps.old + bits (length self.now) }
+        ensures not_less { steps.old ≤ steps.new }
         ensures in_order { IsRising self.now }
     {
         self.place_of(from, steps).first
     }
 
     /// The place of a label, by one binary search.
-    fn place_of<L: Ledger>(&self, label: u8, steps: &mut Steps<L>) -> Place
-        ensures place { IsPlace label self.now result.index }
+    fn place_of<L: Ledger>(&self, label: u8, steps: &mut Steps<L>) -> Place<(u8, Link)>
+        ensures place { IsPlace label_of label self.now result.index }
         ensures first { result.first ≡ slice_get self.now result.index }
         ensures cost { steps.new ≤ steps.old + bits (length self.now) }
+        ensures not_less { steps.old ≤ steps.new }
         ensures in_order { IsRising self.now }
     {
-        let mut low = 0;
-        let mut high = self.rows.len();
-        let mut first = None;
-        while low < high {
-            let middle = low + (high - low) / 2;
-            let child = self.rows.at(middle, steps);
-            if child.0 < label {
-                low = middle + 1;
-            } else {
-                high = middle;
-                first = Some(child);
-            }
-        }
-        Place { index: low, first }
+        self.rows.first_from(u64::from(label), steps)
     }
 
     /// A child of a new label. For want of memory the children are as before.
@@ -133,7 +117,8 @@ impl Children {
 
     /// The link of the only child, where there is exactly one.
     pub fn only(&self) -> Option<Link>
-        ensures { result ≡ only_link self.now }
+        ensures link { result ≡ only_link self.now }
+        ensures in_order { IsRising self.now }
     {
         if self.rows.len() == 1 {
             Some(self.item(0).1)
@@ -180,8 +165,8 @@ impl Children {
     }
 
     /// The place of a label, where nobody counts the steps.
-    fn seek(&self, label: u8) -> Place
-        ensures place { IsPlace label self.now result.index }
+    fn seek(&self, label: u8) -> Place<(u8, Link)>
+        ensures place { IsPlace label_of label self.now result.index }
         ensures first { result.first ≡ slice_get self.now result.index }
         ensures in_order { IsRising self.now }
     {
@@ -198,11 +183,9 @@ impl Children {
     }
 
     /// The place of a label, in a ledger of its own.
-    fn seek_in<L: Ledger>(&self, label: u8, blank: Blank) -> Place
-        requires name { blank.name ≡ L.name }
-        requires parts { blank.parts ≡ L.parts }
-        requires some { 0 < blank.parts }
-        ensures place { IsPlace label self.now result.index }
+    fn seek_in<L: Ledger>(&self, label: u8, blank: Blank) -> Place<(u8, Link)>
+        requires { IsBlankOf L.name L.parts blank }
+        ensures place { IsPlace label_of label self.now result.index }
         ensures first { result.first ≡ slice_get self.now result.index }
         ensures in_order { IsRising self.now }
     {
@@ -212,9 +195,7 @@ impl Children {
 
     /// The child at a place, in a ledger of its own.
     fn item_in<L: Ledger>(&self, i: usize, blank: Blank) -> (u8, Link)
-        requires name { blank.name ≡ L.name }
-        requires parts { blank.parts ≡ L.parts }
-        requires some { 0 < blank.parts }
+        requires blank { IsBlankOf L.name L.parts blank }
         requires within { i < length self.now }
         ensures item { result ≡ slice_index_or self.now i result }
         ensures in_order { IsRising self.now }

@@ -1,6 +1,6 @@
 //! Links between slots.
 ghost use Rattle.std.specs.Prelude.{◌≡◌};
-ghost use Rattle.node_arena.specs.Slots.{shared, target};
+ghost use Rattle.node_arena.specs.Slots.{proper, shared, target};
 ghost use Rattle.node_arena.specs.Stats.{is_proper};
 
 /// A slot of an arena, by its place.
@@ -22,8 +22,18 @@ pub struct Link {
 }
 
 impl Link {
+    /// A link that owns the slot that it leads to.
+    pub fn proper(to: SlotId) -> Link
+        ensures { result ≡ proper to.0 }
+    {
+        Link {
+            to,
+            kind: LinkKind::Proper,
+        }
+    }
+
     /// A shared link to the same slot.
-    pub(crate) fn shared(self) -> Link
+    pub fn shared(self) -> Link
         ensures { result ≡ shared (target self) }
     {
         Link {
@@ -33,7 +43,7 @@ impl Link {
     }
 
     /// Whether it owns the slot that it leads to.
-    pub(crate) fn is_proper(self) -> bool
+    pub fn is_proper(self) -> bool
         ensures { result ≡ is_proper self }
     {
         match self.kind {

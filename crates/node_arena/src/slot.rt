@@ -3,9 +3,9 @@ ghost use Rattle.std.specs.Prelude.{◌≡◌, ◌+◌, ◌≤◌, ◌<◌, ◌^
 ghost use Rattle.std.specs.FinMap.{contains_key};
 ghost use Rattle.probe_core.specs.Bits.{bits};
 ghost use Rattle.time_table.specs.Counts.{AllCounted, total_count};
-ghost use Rattle.node_arena.specs.Walks.{down, across};
-ghost use Rattle.node_arena.specs.Slots.{IsNode, IsTable, IsRising, children_of, counts_of, link as link_at};
-ghost use Rattle.node_arena.specs.Calls.{put, relink, unlink, with_content, with_one, without_one, copied, child_from, only_link};
+ghost use Rattle.cube_view.specs.Walks.{down, across};
+ghost use Rattle.node_arena.specs.Slots.{IsNode, IsTable, is_table, count, IsRising, children_of, counts_of, link as link_at};
+ghost use Rattle.node_arena.specs.Calls.{put, relink, unlink, with_content, with_many, without_many, copied, child_from, only_link};
 ghost use Rattle.node_arena.specs.Stats.{content_that, is_proper, is_shared, capped, with_slot};
 ghost use Rattle.node_arena.specs.Stored.{slot_from};
 
@@ -97,29 +97,53 @@ impl Stored {
         }
     }
 
-    /// A record more in a bin.
-    pub fn add_one(&mut self, bin: u32) -> Result<(), NoMemory>
+    /// Some records more in a bin.
+    pub fn add_many(&mut self, bin: u32, amount: u64) -> Result<(), NoMemory>
         requires is_table { IsTable (slot_from self.old) }
-        requires fits { total_count (counts_of (slot_from self.old)) < 2 ^ 63 }
-        ensures added { OnOk result (slot_from self.new ≡ with_one (slot_from self.old) bin) }
+        requires some { 0 < amount }
+        requires fits { total_count (counts_of (slot_from self.old)) + amount ≤ 2 ^ 63 }
+        ensures added { OnOk result (slot_from self.new ≡ with_many (slot_from self.old) bin amount) }
         ensures unchanged { OnErr result (slot_from self.new ≡ slot_from self.old) }
         ensures was_counted { AllCounted (counts_of (slot_from self.old)) }
     {
         match self {
-            Stored::Table(counts) => counts.add(bin),
+            Stored::Table(counts) => counts.add_many(bin, amount),
             Stored::Node(_, _) => unreachable!(),
         }
     }
 
-    /// A record less in a bin.
+    /// Some records less in a bin that has as many.
+    pub fn take_many(&mut self, bin: u32, amount: u64)
+        requires is_table { IsTable (slot_from self.old) }
+        requires some { 0 < amount }
+        requires is_there { amount ≤ count (slot_from self.old) bin }
+        ensures { slot_from self.new ≡ without_many (slot_from self.old) bin amount }
+    {
+        match self {
+            Stored::Table(counts) => counts.take_many(bin, amount),
+            Stored::Node(_, _) => unreachable!(),
+        }
+    }
+
+    /// A record less in a bin that has one.
     pub fn take_one(&mut self, bin: u32)
         requires is_table { IsTable (slot_from self.old) }
         requires is_there { IsTrue (contains_key (counts_of (slot_from self.old)) bin) }
-        ensures { slot_from self.new ≡ without_one (slot_from self.old) bin }
+        ensures { slot_from self.new ≡ without_many (slot_from self.old) bin 1 }
     {
         match self {
             Stored::Table(counts) => counts.take(bin),
             Stored::Node(_, _) => unreachable!(),
+        }
+    }
+
+    /// Whether it is a time table.
+    pub fn is_table(&self) -> bool
+        ensures { result ≡ is_table (slot_from self.now) }
+    {
+        match self {
+            Stored::Table(_) => true,
+            Stored::Node(_, _) => false,
         }
     }
 
@@ -128,6 +152,7 @@ impl Stored {
         requires { IsNode (slot_from self.now) }
         ensures link { result ≡ link_at (slot_from self.now) (down label) }
         ensures cost { steps.new ≤ steps.old + bits (length (children_of (slot_from self.now))) }
+        ensures not_less { steps.old ≤ steps.new }
         ensures in_order { IsRising (children_of (slot_from self.now)) }
     {
         match self {
@@ -141,6 +166,7 @@ impl Stored {
         requires { IsNode (slot_from self.now) }
         ensures child { result ≡ child_from (children_of (slot_from self.now)) from }
         ensures cost { steps.new ≤ steps.old + bits (length (children_of (slot_from self.now))) }
+        ensures not_less { steps.old ≤ steps.new }
         ensures in_order { IsRising (children_of (slot_from self.now)) }
     {
         match self {
@@ -163,7 +189,7 @@ impl Stored {
     /// The counts.
     pub fn table(&self) -> &TimeTable
         requires { IsTable (slot_from self.now) }
-        ensures { result.now ≡ counts_of (slot_from self.now) }
+        ensures counts { result.now ≡ counts_of (slot_from self.now) }
     {
         match self {
             Stored::Table(counts) => counts,
@@ -174,7 +200,8 @@ impl Stored {
     /// The link of the only child, where there is exactly one.
     pub fn only_child(&self) -> Option<Link>
         requires { IsNode (slot_from self.now) }
-        ensures { result ≡ only_link (children_of (slot_from self.now)) }
+        ensures link { result ≡ only_link (children_of (slot_from self.now)) }
+        ensures in_order { IsRising (children_of (slot_from self.now)) }
     {
         match self {
             Stored::Node(children, _) => children.only(),

@@ -45,6 +45,7 @@ impl<T: Copy + Keyed> Rows<T> {
         ensures before { result.before ≡ item_before self.now.items result.index }
         ensures first { result.first ≡ slice_get self.now.items result.index }
         ensures cost { steps.new ≤ steps.old + bits (length self.now.items) }
+        ensures not_less { steps.old ≤ steps.new }
     {
         let mut low = 0;
         let mut high = self.len();

@@ -6,7 +6,7 @@ use Rattle.time_table.specs.Counts.{total_count}
 use Rattle.node_arena.specs.declared.link.SlotId.{SlotId}
 use Rattle.node_arena.specs.declared.link.Link.{Link}
 use Rattle.node_arena.specs.declared.link.LinkKind.TheVariants.{Proper}
-use Rattle.node_arena.specs.Walks.{down}
+use Rattle.cube_view.specs.Walks.{down}
 use Rattle.node_arena.specs.Slots.{id_of, Slot, slot_of, link_of, counts_of, IsNode, IsTable}
 use Rattle.node_arena.specs.Calls.{add_node, add_table, copy_slot, table_add, set_content}
 use Rattle.node_arena.proofs.tests.fill.Goals as goal
