@@ -1,18 +1,14 @@
 -- Each change is there to be taken back, and the slots are then as before it.
-use Rattle.std.proofs.Common.{◌≡◌, ℕ, ◌+◌, ◌-◌, ◌<◌, Bool, true, false, cond, eqb, ltb, List, [], ◌∷◌, ◌++◌, Option, Some, None, All, map, set, length, refl, sym, ap, ◌∙◌, subst, arith, ap₂, eqb-true, eq-eqb, ne_eqb, unwrap_or, true≢false, IsSome, IsTrue, is_some}
+use Rattle.std.proofs.Common.{◌≡◌, ℕ, ◌+◌, ◌-◌, ◌<◌, ◌≤◌, Bool, true, false, cond, eqb, ltb, List, [], ◌∷◌, ◌++◌, Option, Some, None, All, map, set, length, refl, sym, ap, ◌∙◌, subst, arith, ap₂, eqb-true, eq-eqb, ne_eqb, unwrap_or, true≢false, IsSome, IsTrue, is_some}
 use Rattle.std.proofs.lemmas.List.{length_push, length-set, take_at, set-set, set-get_or, get_or-set_same}
-use Rattle.std.proofs.lemmas.List.Elements.{All-head, All-tail}
-use Rattle.std.specs.FinMap as fin
-use Rattle.std.proofs.lemmas.Cmp.{nat_cmp_total, eq_by_cmp_equiv}
-use Rattle.std.specs.Ordering.{nat_cmp, eq_by_cmp, is_eq}
-use Rattle.std.specs.declared.cmp.Ordering.{Ordering}
-use Rattle.std.specs.declared.cmp.Ordering.TheVariants.{Less, Equal, Greater}
-use Rattle.time_table.specs.Counts.{Counts, AllCounted, count_of, add_one, take_one}
+use Rattle.time_table.specs.Counts.{AllCounted, count_of, add_many}
+use Rattle.time_table.proofs.AddLaws.{count_of-add_many}
+use Rattle.time_table.proofs.CountLaws.{take_many-add_many}
 use Rattle.node_arena.specs.declared.link.SlotId.{SlotId}
 use Rattle.node_arena.specs.declared.link.Link.{Link}
-use Rattle.node_arena.specs.Walks.{down, across}
-use Rattle.node_arena.specs.Slots.{Children, Slot, node, table, empty_node, is_table, IsNode, IsTable, counts_of, child, link, link_of, slot_of}
-use Rattle.node_arena.specs.Calls.{with_child, with_link, without_child, put, relink, unlink, with_content, with_one, without_one, added, put_child, set_child, set_content, table_add}
+use Rattle.cube_view.specs.Walks.{down, across}
+use Rattle.node_arena.specs.Slots.{Children, Slot, node, table, empty_node, is_table, IsNode, IsTable, count, counts_of, child, link, link_of, slot_of}
+use Rattle.node_arena.specs.Calls.{with_child, with_link, without_child, put, relink, unlink, with_content, with_many, without_many, added, put_child, set_child, set_content, table_add_many}
 use Rattle.arena_undo.specs.declared.change.Change.TheVariants.{Added, Put, Relinked, Filled, Counted}
 use Rattle.arena_undo.specs.Undone.{take_back, CanTake, IsNodeAt}
 
@@ -122,89 +118,25 @@ filled_back slots id c old less e =
 pub filled_there : (slots : List Slot) (id : SlotId) (c old : Option Link) → id.0 < length slots → IsNode (slot_of slots id.0) → CanTake (Filled id old) (set_content slots id.0 c)
 filled_there slots id c old less is = node_after slots id.0 (with_content (slot_of slots id.0) c) less (is_filled (slot_of slots id.0) c is)
 
--- a count that a table has is more than 0
-found_above : (es : List (ℕ × ℕ)) (bin n : ℕ) → All (λ n. 0 < n) (map (λ (e : ℕ × ℕ). e.1) es) → fin.find nat_cmp bin es ≡ Some n → 0 < n
-found_above [] bin n all h = absurd cc
-found_above (e ∷ es) bin n all h = go (eq_by_cmp nat_cmp bin e.0) h (λ r. found_above es bin n (All-tail (λ n. 0 < n) e.1 (map (λ (e : ℕ × ℕ). e.1) es) all) r)
-  where
-    go : (b : Bool) → cond b (Some e.1) (fin.find nat_cmp bin es) ≡ Some n → (fin.find nat_cmp bin es ≡ Some n → 0 < n) → 0 < n
-    go true r f = let s : e.1 ≡ n = cc in subst (λ z. 0 < z) s (All-head (λ n. 0 < n) e.1 (map (λ (e : ℕ × ℕ). e.1) es) all)
-    go false r f = f r
+counted_slot : (s : Slot) (bin n : ℕ) → AllCounted (counts_of s) → without_many (with_many s bin n) bin n ≡ s
+counted_slot (node children content) bin n all = refl
+counted_slot (table counts) bin n all = ap table (take_many-add_many counts bin n all)
 
-above_none : (m : Counts) (bin n : ℕ) → AllCounted m → fin.get m bin ≡ Some n → 0 < n
-above_none m bin n all h = found_above (fin.entries m) bin n all (sym (fin.get-entries m bin) ∙ h)
+is_counted : (s : Slot) (bin n : ℕ) → IsTable s → IsTable (with_many s bin n) × (n ≤ count (with_many s bin n) bin)
+is_counted (node children content) bin n is = absurd (true≢false (sym is))
+is_counted (table counts) bin n is =
+    let there : count_of (add_many counts bin n) bin ≡ count_of counts bin + n = count_of-add_many counts bin n bin ∙ ap (λ (b : Bool). cond b (count_of counts bin + n) (count_of counts bin)) (eq-eqb bin bin refl) in
+    (refl, omega arith)
 
-same_counts : (m n : Counts) → ((q : ℕ) → fin.get m q ≡ fin.get n q) → m ≡ n
-same_counts m n same = fin.same_map nat_cmp_total fin.nat_cmp-IsAntisymmetric m n same
+pub counted_back : (slots : List Slot) (id : SlotId) (bin n : ℕ) → id.0 < length slots → AllCounted (counts_of (slot_of slots id.0)) → take_back (Counted id bin n) (table_add_many slots id.0 bin n) ≡ slots
+counted_back slots id bin n less all = set_back slots id.0 (with_many (slot_of slots id.0) bin n) (λ z. without_many z bin n) less (counted_slot (slot_of slots id.0) bin n all)
 
--- keys that tie are looked up alike
-tied : (m : Counts) (bin q : ℕ) → eq_by_cmp nat_cmp q bin ≡ true → fin.get m bin ≡ fin.get m q
-tied m bin q e = go (nat_cmp q bin) refl e
-  where
-    go : (r : Ordering) → nat_cmp q bin ≡ r → is_eq r ≡ true → fin.get m bin ≡ fin.get m q
-    go Less h x = absurd (true≢false (sym x))
-    go Equal h x = fin.get_tied nat_cmp_total m q bin h
-    go Greater h x = absurd (true≢false (sym x))
-
-get-insert_same : (m : Counts) (bin n : ℕ) → fin.get (fin.insert m bin n) bin ≡ Some n
-get-insert_same m bin n =
-    fin.get-insert nat_cmp_total m bin n bin ∙ ap (λ (b : Bool). cond b (Some n) (fin.get m bin)) ((eq_by_cmp_equiv nat_cmp_total).refl bin)
-
-count_back : (m : Counts) (bin : ℕ) → AllCounted m → take_one (add_one m bin) bin ≡ m
-count_back m bin all = go (fin.get m bin) refl
-  where
-    counted : count_of (fin.insert m bin (count_of m bin + 1)) bin ≡ count_of m bin + 1
-    counted = ap (λ (o : Option ℕ). unwrap_or o 0) (get-insert_same m bin (count_of m bin + 1))
-
-    taken : take_one (add_one m bin) bin ≡ cond (eqb (count_of m bin + 1) 1) (fin.remove (add_one m bin) bin) (fin.insert (add_one m bin) bin (count_of m bin + 1 - 1))
-    taken = ap (λ (z : ℕ). cond (eqb z 1) (fin.remove (add_one m bin) bin) (fin.insert (add_one m bin) bin (z - 1))) counted
-
-    removed : (q : ℕ) (t : Bool) → eq_by_cmp nat_cmp q bin ≡ t → fin.get m bin ≡ None → cond t None (cond t (Some (count_of m bin + 1)) (fin.get m q)) ≡ fin.get m q
-    removed q true e h = sym h ∙ tied m bin q e
-    removed q false e h = refl
-
-    inserted : (q n : ℕ) (t : Bool) → eq_by_cmp nat_cmp q bin ≡ t → fin.get m bin ≡ Some n → count_of m bin + 1 - 1 ≡ n → cond t (Some (count_of m bin + 1 - 1)) (cond t (Some (count_of m bin + 1)) (fin.get m q)) ≡ fin.get m q
-    inserted q n true e h c = ap (λ (z : ℕ). Some z) c ∙ (sym h ∙ tied m bin q e)
-    inserted q n false e h c = refl
-
-    go : (o : Option ℕ) → fin.get m bin ≡ o → take_one (add_one m bin) bin ≡ m
-    go None h =
-        let none : count_of m bin ≡ 0 = ap (λ (o : Option ℕ). unwrap_or o 0) h in
-        taken
-        ∙ (ap (λ (b : Bool). cond b (fin.remove (add_one m bin) bin) (fin.insert (add_one m bin) bin (count_of m bin + 1 - 1))) (eq-eqb (count_of m bin + 1) 1 (omega arith))
-        ∙ same_counts (fin.remove (add_one m bin) bin) m (λ q.
-        fin.get-remove nat_cmp_total (add_one m bin) bin q
-        ∙ (ap (λ (o : Option ℕ). cond (eq_by_cmp nat_cmp q bin) None o) (fin.get-insert nat_cmp_total m bin (count_of m bin + 1) q)
-        ∙ removed q (eq_by_cmp nat_cmp q bin) refl h)))
-    go (Some n) h =
-        let some : count_of m bin ≡ n = ap (λ (o : Option ℕ). unwrap_or o 0) h in
-        let above = above_none m bin n all h in
-        taken
-        ∙ (ap (λ (b : Bool). cond b (fin.remove (add_one m bin) bin) (fin.insert (add_one m bin) bin (count_of m bin + 1 - 1))) (ne_eqb (count_of m bin + 1) 1 (λ e. omega arith))
-        ∙ same_counts (fin.insert (add_one m bin) bin (count_of m bin + 1 - 1)) m (λ q.
-        fin.get-insert nat_cmp_total (add_one m bin) bin (count_of m bin + 1 - 1) q
-        ∙ (ap (λ (o : Option ℕ). cond (eq_by_cmp nat_cmp q bin) (Some (count_of m bin + 1 - 1)) o) (fin.get-insert nat_cmp_total m bin (count_of m bin + 1) q)
-        ∙ inserted q n (eq_by_cmp nat_cmp q bin) refl h (omega arith))))
-
-count_there : (m : Counts) (bin : ℕ) → IsTrue (fin.contains_key (add_one m bin) bin)
-count_there m bin = ap is_some (get-insert_same m bin (count_of m bin + 1))
-
-counted_slot : (s : Slot) (bin : ℕ) → AllCounted (counts_of s) → without_one (with_one s bin) bin ≡ s
-counted_slot (node children content) bin all = refl
-counted_slot (table counts) bin all = ap table (count_back counts bin all)
-
-is_counted : (s : Slot) (bin : ℕ) → IsTable s → IsTable (with_one s bin) × IsTrue (fin.contains_key (counts_of (with_one s bin)) bin)
-is_counted (node children content) bin is = absurd (true≢false (sym is))
-is_counted (table counts) bin is = (refl, count_there counts bin)
-
-pub counted_back : (slots : List Slot) (id : SlotId) (bin : ℕ) → id.0 < length slots → AllCounted (counts_of (slot_of slots id.0)) → take_back (Counted id bin) (table_add slots id.0 bin) ≡ slots
-counted_back slots id bin less all = set_back slots id.0 (with_one (slot_of slots id.0) bin) (λ z. without_one z bin) less (counted_slot (slot_of slots id.0) bin all)
-
-pub counted_there : (slots : List Slot) (id : SlotId) (bin : ℕ) → id.0 < length slots → IsTable (slot_of slots id.0) → CanTake (Counted id bin) (table_add slots id.0 bin)
-counted_there slots id bin less is =
-    let r = is_counted (slot_of slots id.0) bin is in
-    let e = slot-set slots id.0 (with_one (slot_of slots id.0) bin) less in (
-      omega (arith, length-set slots id.0 (with_one (slot_of slots id.0) bin)),
+pub counted_there : (slots : List Slot) (id : SlotId) (bin n : ℕ) → id.0 < length slots → IsTable (slot_of slots id.0) → 0 < n → CanTake (Counted id bin n) (table_add_many slots id.0 bin n)
+counted_there slots id bin n less is some =
+    let r = is_counted (slot_of slots id.0) bin n is in
+    let e = slot-set slots id.0 (with_many (slot_of slots id.0) bin n) less in (
+      omega (arith, length-set slots id.0 (with_many (slot_of slots id.0) bin n)),
       ap is_table e ∙ r.0,
-      ap (λ (z : Slot). fin.contains_key (counts_of z) bin) e ∙ r.1,
+      some,
+      subst (λ (z : Slot). n ≤ count z bin) (sym e) r.1,
     )

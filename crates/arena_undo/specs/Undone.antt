@@ -1,9 +1,8 @@
 -- Changes of an arena that are taken back, the last one first.
-use Rattle.std.specs.Prelude.{ℕ, ◌-◌, ◌<◌, List, [], ◌∷◌, length, take, IsSome, IsTrue}
-use Rattle.std.specs.FinMap.{contains_key}
-use Rattle.node_arena.specs.Walks.{down}
-use Rattle.node_arena.specs.Slots.{Slot, IsNode, IsTable, slot_of, counts_of, link_of}
-use Rattle.node_arena.specs.Calls.{drop_child, set_child, set_content, table_take}
+use Rattle.std.specs.Prelude.{ℕ, ◌-◌, ◌<◌, ◌≤◌, List, [], ◌∷◌, length, take, IsSome}
+use Rattle.cube_view.specs.Walks.{down}
+use Rattle.node_arena.specs.Slots.{Slot, IsNode, IsTable, slot_of, count, link_of}
+use Rattle.node_arena.specs.Calls.{drop_child, set_child, set_content, table_take_many}
 use Rattle.arena_undo.specs.declared.change.Change.{Change}
 use Rattle.arena_undo.specs.declared.change.Change.TheVariants.{Added, Put, Relinked, Filled, Counted}
 
@@ -13,7 +12,7 @@ take_back Added slots = take (length slots - 1) slots
 take_back (Put id label) slots = drop_child slots id.0 label
 take_back (Relinked id label old) slots = set_child slots id.0 label old
 take_back (Filled id old) slots = set_content slots id.0 old
-take_back (Counted id bin) slots = table_take slots id.0 bin
+take_back (Counted id bin amount) slots = table_take_many slots id.0 bin amount
 
 -- the slot is a node of the arena
 abbrev pub IsNodeAt : List Slot → ℕ → Type 0
@@ -25,7 +24,7 @@ CanTake Added slots = 0 < length slots
 CanTake (Put id label) slots = IsNodeAt slots id.0 × IsSome (link_of slots id.0 (down label))
 CanTake (Relinked id label old) slots = IsNodeAt slots id.0 × IsSome (link_of slots id.0 (down label))
 CanTake (Filled id old) slots = IsNodeAt slots id.0
-CanTake (Counted id bin) slots = (id.0 < length slots) × IsTable (slot_of slots id.0) × IsTrue (contains_key (counts_of (slot_of slots id.0)) bin)
+CanTake (Counted id bin amount) slots = (id.0 < length slots) × IsTable (slot_of slots id.0) × (0 < amount) × (amount ≤ count (slot_of slots id.0) bin)
 
 -- the slots before the changes, which stand in the order in which they were made
 abbrev pub undone : List Change → List Slot → List Slot

@@ -15,8 +15,8 @@ pub enum Change {
     Relinked(SlotId, u8, Link),
     /// A content was set. The old one is kept.
     Filled(SlotId, Option<Link>),
-    /// A record was counted in a bin.
-    Counted(SlotId, u32),
+    /// An amount was counted in a bin.
+    Counted(SlotId, u32, u64),
 }
 
 /// Takes the change back, where it is the last one that was made.
@@ -38,7 +38,7 @@ pub fn take_change_back(arena: &mut Arena, change: Change)
         Change::Filled(id, old) => {
             arena.set_content(id, old);
         }
-        Change::Counted(id, bin) => arena.table_take(id, bin),
+        Change::Counted(id, bin, amount) => arena.table_take_many(id, bin, amount),
     }
 }
 

@@ -37,7 +37,7 @@ fn change_by_each_call(work: &mut Work) -> Result<(), NoMemory>
     work.put_child(node, 2, child)?;
     work.set_child(node, 2, child);
     work.set_content(node, Some(child));
-    work.table_add(table, 5)
+    work.table_add_many(table, 5, 5)
 }
 
 #[test]

@@ -1,10 +1,10 @@
 //! An arena at work.
 ghost use Rattle.std.specs.Prelude.{◌≡◌, ◌+◌, ◌<◌, ◌≤◌, ◌^◌, length, None, Some, IfOk, IfErr, OnOk, OnErr, IsSome, IsTrue, ◌↔◌, []};
 ghost use Rattle.probe_core.specs.Bits.{bits};
-ghost use Rattle.time_table.specs.Counts.{total_count};
-ghost use Rattle.node_arena.specs.Walks.{down, across};
-ghost use Rattle.node_arena.specs.Slots.{id_of, IsNode, IsTable, IsRising, slot_of, children_of, counts_of, link_of};
-ghost use Rattle.node_arena.specs.Calls.{add_node, add_table, copy_slot, put_child, set_child, set_content, table_add, child_from, only_link};
+ghost use Rattle.time_table.specs.Counts.{AllCounted, total_count};
+ghost use Rattle.cube_view.specs.Walks.{down, across};
+ghost use Rattle.node_arena.specs.Slots.{id_of, IsNode, IsTable, is_table, IsRising, slot_of, children_of, counts_of, link_of};
+ghost use Rattle.node_arena.specs.Calls.{add_node, add_table, copy_slot, put_child, set_child, set_content, table_add, table_add_many, child_from, only_link};
 ghost use Rattle.node_arena.specs.Stats.{stat_of, AllRising, TellsStat};
 ghost use Rattle.arena_undo.specs.Worked.{begun, changed};
 
@@ -174,9 +174,25 @@ impl Work {
         requires fits { total_count (counts_of (slot_of self.old.slots id.0)) < 2 ^ 63 }
         ensures added { OnOk result (self.new ≡ changed self.old (table_add self.old.slots id.0 bin)) }
         ensures unchanged { OnErr result (self.new ≡ self.old) }
+        ensures was_counted { AllCounted (counts_of (slot_of self.old.slots id.0)) }
     {
-        self.arena.table_add(id, bin)?;
-        note(&mut self.changes, Change::Counted(id, bin));
+        self.table_add_many(id, bin, 1)
+    }
+
+    /// Counts an amount more in a bin of a time table, as one change. For want of memory nothing is
+    /// changed or recorded.
+    pub fn table_add_many(&mut self, id: SlotId, bin: u32, amount: u64) -> Result<(), NoMemory>
+        requires room { self.old.made < self.old.room }
+        requires in_range { id.0 < length self.old.slots }
+        requires is_table { IsTable (slot_of self.old.slots id.0) }
+        requires some { 0 < amount }
+        requires fits { total_count (counts_of (slot_of self.old.slots id.0)) + amount ≤ 2 ^ 63 }
+        ensures added { OnOk result (self.new ≡ changed self.old (table_add_many self.old.slots id.0 bin amount)) }
+        ensures unchanged { OnErr result (self.new ≡ self.old) }
+        ensures was_counted { AllCounted (counts_of (slot_of self.old.slots id.0)) }
+    {
+        self.arena.table_add_many(id, bin, amount)?;
+        note(&mut self.changes, Change::Counted(id, bin, amount));
         Ok(())
     }
 
@@ -203,12 +219,21 @@ impl Work {
         self.arena.stat()
     }
 
+    /// Whether a slot is a time table.
+    pub fn is_table(&self, id: SlotId) -> bool
+        requires { id.0 < length self.now.slots }
+        ensures { result ≡ is_table (slot_of self.now.slots id.0) }
+    {
+        self.arena.is_table(id)
+    }
+
     /// The link to the child of a label. None comes exactly where there is none.
     pub fn child<L: Ledger>(&self, id: SlotId, label: u8, steps: &mut Steps<L>) -> Option<Link>
         requires in_range { id.0 < length self.now.slots }
         requires is_node { IsNode (slot_of self.now.slots id.0) }
         ensures link { result ≡ link_of self.now.slots id.0 (down label) }
         ensures cost { steps.new ≤ steps.old + (1 + bits (length (children_of (slot_of self.now.slots id.0)))) }
+        ensures a_step { steps.old + 1 ≤ steps.new }
         ensures in_order { IsRising (children_of (slot_of self.now.slots id.0)) }
     {
         self.arena.child(id, label, steps)
@@ -225,6 +250,7 @@ impl Work {
         requires is_node { IsNode (slot_of self.now.slots id.0) }
         ensures child { result ≡ child_from (children_of (slot_of self.now.slots id.0)) from }
         ensures cost { steps.new ≤ steps.old + (1 + bits (length (children_of (slot_of self.now.slots id.0)))) }
+        ensures a_step { steps.old + 1 ≤ steps.new }
         ensures in_order { IsRising (children_of (slot_of self.now.slots id.0)) }
     {
         self.arena.next_child(id, from, steps)
@@ -254,7 +280,8 @@ impl Work {
     pub fn only_child(&self, id: SlotId) -> Option<Link>
         requires in_range { id.0 < length self.now.slots }
         requires is_node { IsNode (slot_of self.now.slots id.0) }
-        ensures { result ≡ only_link (children_of (slot_of self.now.slots id.0)) }
+        ensures link { result ≡ only_link (children_of (slot_of self.now.slots id.0)) }
+        ensures in_order { IsRising (children_of (slot_of self.now.slots id.0)) }
     {
         self.arena.only_child(id)
     }

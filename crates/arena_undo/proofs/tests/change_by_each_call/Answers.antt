@@ -1,12 +1,12 @@
-use Rattle.std.proofs.Common.{◌≡◌, ◌<◌, ◌^◌, ℕ, List, [], ◌∷◌, Some, None, length, map, sum, refl, sym, ap, ap₂, ◌∙◌, subst, subst₂, arith, IsSome}
+use Rattle.std.proofs.Common.{◌≡◌, ◌+◌, ◌<◌, ◌≤◌, ◌^◌, ℕ, List, [], ◌∷◌, Some, None, length, refl, sym, ap, ap₂, ◌∙◌, subst, subst₂, arith, IsSome}
 use Rattle.std.specs.FinMap as fin
 use Rattle.std.specs.Ordering.{nat_cmp}
-use Rattle.std.proofs.lemmas.List.{nil_from_length}
 use Rattle.time_table.specs.Counts.{total_count}
+use Rattle.time_table.proofs.AddLaws.{total_count-empty}
 use Rattle.node_arena.specs.declared.link.SlotId.{SlotId}
 use Rattle.node_arena.specs.declared.link.Link.{Link}
 use Rattle.node_arena.specs.declared.link.LinkKind.TheVariants.{Proper}
-use Rattle.node_arena.specs.Walks.{down}
+use Rattle.cube_view.specs.Walks.{down}
 use Rattle.node_arena.specs.Slots.{id_of, empty_node, slot_of, link_of, counts_of, IsNode, IsTable}
 use Rattle.node_arena.specs.Calls.{add_node, add_table, copy_slot, put_child, set_child, set_content}
 use Rattle.arena_undo.specs.Worked.{Worked, begun, changed}
@@ -33,11 +33,8 @@ w5 k = changed (w4 k) (set_child (w4 k).slots 1 2 k)
 abbrev w6 : Link → Worked
 w6 k = changed (w5 k) (set_content (w5 k).slots 1 (Some k))
 
-no_records : total_count (fin.empty {X = ℕ} {R = nat_cmp}) < 2 ^ 63
-no_records =
-    let none = nil_from_length (fin.entries (fin.empty {X = ℕ} {R = nat_cmp})) (sym (fin.len-entries (fin.empty {X = ℕ} {R = nat_cmp})) ∙ fin.len-empty nat_cmp ℕ) in
-    let zero : total_count (fin.empty {X = ℕ} {R = nat_cmp}) ≡ 0 = ap (λ (es : List (ℕ × ℕ)). sum (map (λ (e : ℕ × ℕ). e.1) es)) none in
-    omega arith
+no_records : total_count (fin.empty {X = ℕ} {R = nat_cmp}) + 5 ≤ 2 ^ 63
+no_records = omega (arith, total_count-empty)
 
 pub add_node-requires : goal.add_node-requires
 add_node-requires c =
@@ -135,8 +132,8 @@ set_content-requires-clause-in_range c =
     let e5 : c.set_child.new.self ≡ w5 (record { to = c.in_ok-copy.copy; kind = Proper }) = c.set_child.ensures.set ∙ ap₂ (λ (w : Worked) (i : SlotId). changed w (set_child w.slots i.0 2 (record { to = c.in_ok-copy.copy; kind = Proper }))) e4 n in
     subst₂ (λ (w : Worked) (i : SlotId). i.0 < length w.slots) (sym e5) (sym n) (omega arith)
 
-pub table_add-requires-clause-room : goal.table_add-requires-clause-room
-table_add-requires-clause-room c =
+pub table_add_many-requires-clause-room : goal.table_add_many-requires-clause-room
+table_add_many-requires-clause-room c =
     let e0 = c.requires in
     let e1 : c.add_node.new.self ≡ w1 = c.in_ok-node.ensures.added ∙ ap (λ (w : Worked). changed w (add_node w.slots)) e0 in
     let n : c.in_ok-node.node ≡ id_of 1 = c.in_ok-node.ensures.id ∙ ap (λ (w : Worked). id_of (length w.slots)) e0 in
@@ -148,8 +145,8 @@ table_add-requires-clause-room c =
     let e6 : c.set_content.new.self ≡ w6 (record { to = c.in_ok-copy.copy; kind = Proper }) = c.set_content.ensures.set ∙ ap₂ (λ (w : Worked) (i : SlotId). changed w (set_content w.slots i.0 (Some (record { to = c.in_ok-copy.copy; kind = Proper })))) e5 n in
     subst (λ (w : Worked). w.made < w.room) (sym e6) (omega arith)
 
-pub table_add-requires-clause-in_range : goal.table_add-requires-clause-in_range
-table_add-requires-clause-in_range c =
+pub table_add_many-requires-clause-in_range : goal.table_add_many-requires-clause-in_range
+table_add_many-requires-clause-in_range c =
     let e0 = c.requires in
     let e1 : c.add_node.new.self ≡ w1 = c.in_ok-node.ensures.added ∙ ap (λ (w : Worked). changed w (add_node w.slots)) e0 in
     let n : c.in_ok-node.node ≡ id_of 1 = c.in_ok-node.ensures.id ∙ ap (λ (w : Worked). id_of (length w.slots)) e0 in
@@ -215,8 +212,8 @@ set_child-requires-clause-is_there c =
     let e4 : c.put_child.new.self ≡ w4 (record { to = c.in_ok-copy.copy; kind = Proper }) = c.in_ok-put_child.ensures.put ∙ ap₂ (λ (w : Worked) (i : SlotId). changed w (put_child w.slots i.0 2 (record { to = c.in_ok-copy.copy; kind = Proper }))) e3 n in
     subst₂ (λ (w : Worked) (i : SlotId). IsSome (link_of w.slots i.0 (down 2))) (sym e4) (sym n) (refl)
 
-pub table_add-requires-clause-is_table : goal.table_add-requires-clause-is_table
-table_add-requires-clause-is_table c =
+pub table_add_many-requires-clause-is_table : goal.table_add_many-requires-clause-is_table
+table_add_many-requires-clause-is_table c =
     let e0 = c.requires in
     let e1 : c.add_node.new.self ≡ w1 = c.in_ok-node.ensures.added ∙ ap (λ (w : Worked). changed w (add_node w.slots)) e0 in
     let n : c.in_ok-node.node ≡ id_of 1 = c.in_ok-node.ensures.id ∙ ap (λ (w : Worked). id_of (length w.slots)) e0 in
@@ -228,8 +225,8 @@ table_add-requires-clause-is_table c =
     let e6 : c.set_content.new.self ≡ w6 (record { to = c.in_ok-copy.copy; kind = Proper }) = c.set_content.ensures.set ∙ ap₂ (λ (w : Worked) (i : SlotId). changed w (set_content w.slots i.0 (Some (record { to = c.in_ok-copy.copy; kind = Proper })))) e5 n in
     subst₂ (λ (w : Worked) (i : SlotId). IsTable (slot_of w.slots i.0)) (sym e6) (sym t) (refl)
 
-pub table_add-requires-clause-fits : goal.table_add-requires-clause-fits
-table_add-requires-clause-fits c =
+pub table_add_many-requires-clause-fits : goal.table_add_many-requires-clause-fits
+table_add_many-requires-clause-fits c =
     let e0 = c.requires in
     let e1 : c.add_node.new.self ≡ w1 = c.in_ok-node.ensures.added ∙ ap (λ (w : Worked). changed w (add_node w.slots)) e0 in
     let n : c.in_ok-node.node ≡ id_of 1 = c.in_ok-node.ensures.id ∙ ap (λ (w : Worked). id_of (length w.slots)) e0 in
@@ -239,4 +236,4 @@ table_add-requires-clause-fits c =
     let e4 : c.put_child.new.self ≡ w4 (record { to = c.in_ok-copy.copy; kind = Proper }) = c.in_ok-put_child.ensures.put ∙ ap₂ (λ (w : Worked) (i : SlotId). changed w (put_child w.slots i.0 2 (record { to = c.in_ok-copy.copy; kind = Proper }))) e3 n in
     let e5 : c.set_child.new.self ≡ w5 (record { to = c.in_ok-copy.copy; kind = Proper }) = c.set_child.ensures.set ∙ ap₂ (λ (w : Worked) (i : SlotId). changed w (set_child w.slots i.0 2 (record { to = c.in_ok-copy.copy; kind = Proper }))) e4 n in
     let e6 : c.set_content.new.self ≡ w6 (record { to = c.in_ok-copy.copy; kind = Proper }) = c.set_content.ensures.set ∙ ap₂ (λ (w : Worked) (i : SlotId). changed w (set_content w.slots i.0 (Some (record { to = c.in_ok-copy.copy; kind = Proper })))) e5 n in
-    subst₂ (λ (w : Worked) (i : SlotId). total_count (counts_of (slot_of w.slots i.0)) < 2 ^ 63) (sym e6) (sym t) (no_records)
+    subst₂ (λ (w : Worked) (i : SlotId). total_count (counts_of (slot_of w.slots i.0)) + 5 ≤ 2 ^ 63) (sym e6) (sym t) (no_records)

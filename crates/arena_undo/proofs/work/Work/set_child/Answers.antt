@@ -1,5 +1,5 @@
 use Rattle.std.proofs.Common.{List, sym, ap, ◌∙◌}
-use Rattle.node_arena.specs.Walks.{down}
+use Rattle.cube_view.specs.Walks.{down}
 use Rattle.arena_undo.specs.Worked.{Worked}
 use Rattle.node_arena.specs.Slots.{Slot, link_of}
 use Rattle.node_arena.specs.Calls.{set_child}

@@ -1,5 +1,5 @@
 use Rattle.std.proofs.Common.{List, ap, ◌∙◌}
-use Rattle.node_arena.specs.Walks.{across}
+use Rattle.cube_view.specs.Walks.{across}
 use Rattle.arena_undo.specs.Worked.{Worked}
 use Rattle.node_arena.specs.Slots.{Slot, link_of}
 use Rattle.node_arena.specs.Calls.{set_content}
