@@ -11,3 +11,4 @@ pub mod Parts
 pub mod TileOrder
 pub mod Tables
 pub mod Spelling
+pub mod Addresses

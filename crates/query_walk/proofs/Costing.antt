@@ -1,18 +1,39 @@
--- Costs of a walk, put together.
-use Rattle.std.proofs.Common.{◌≡◌, ℕ, suc, ◌+◌, ◌*◌, Bool, List, get_or, ◌∙◌, ap}
-use Rattle.cube_view.specs.Places.{next_dim}
+-- The cost of the one walk, category by category.
+use Rattle.std.proofs.Common.{◌≡◌, ℕ, suc, ◌+◌, ◌<◌, ◌≤◌, true, List, [], ◌∷◌, take, drop, length, get_or, sym, ◌∙◌, ap, arith, add-one, drop-cons}
+use Rattle.std.proofs.lemmas.Bool.{lt-ltb}
+use Rattle.std.proofs.lemmas.List.{get_or-take, length-take, drop_all}
+use Rattle.cube_view.proofs.Amounts.{amount-same}
+use Rattle.cube_view.proofs.Costing.{cost_if-true}
+use Rattle.cube_view.specs.Bag.{amount}
+use Rattle.cube_view.specs.Costs.{ViewCosts, has_spot, cost_if}
+use Rattle.cube_view.specs.Places.{is_below, is_under, longer, next_dim}
+use Rattle.cube_view.specs.Points.{Point}
 use Rattle.cube_view.specs.declared.address.Address.{Address}
+use Rattle.cube_view.specs.declared.schema.Schema.{Schema}
 use Rattle.query_syntax.specs.declared.query.Choice.{Choice}
 use Rattle.query_syntax.specs.declared.query.Choice.TheVariants.{All, Only}
 use Rattle.query_syntax.specs.declared.query.Query.{Query}
-use Rattle.query_walk.specs.Costs.{by_choice, rest_cost, value_cost, set_cost}
+use Rattle.query_walk.specs.Costs.{choices_from, rest_cost, value_cost, set_cost}
+use Rattle.query_walk.specs.Walks.{IsAtCategory}
+use Rattle.query_walk.proofs.Sets.{below_is_longer}
 
-module _ (down before : Address → ℕ) (q : Query) where
-  pub open_is : (a : Address) (k m n : ℕ) → get_or q.sets k All ≡ All → m ≡ suc n → rest_cost down before q a k m ≡ 1 + rest_cost down before q (next_dim a) (k + 1) n
-  open_is a k m n e more = ap (rest_cost down before q a k) more ∙ ap (λ (c : Choice). by_choice c (1 + rest_cost down before q (next_dim a) (k + 1) n) (value_cost down before q a k n)) e
+-- the choice of a category, and those after it
+pub next_choice : (z : Schema) (q : Query) (k : ℕ) (c : Choice) → k < length z.categories → k < length q.sets → get_or q.sets k All ≡ c → choices_from z q k ≡ c ∷ choices_from z q (k + 1)
+next_choice z q k c lt within is =
+    let n = length z.categories in
+    let long = length-take n q.sets in
+    let first = drop-cons (take n q.sets) k All (omega (arith, long, lt, within)) in
+    let here : get_or (take n q.sets) k All ≡ c = get_or-take n q.sets k All lt ∙ is in
+    first ∙ ((λ i. here i ∷ drop (suc k) (take n q.sets)) ∙ ap (λ j. c ∷ drop j (take n q.sets)) (sym (add-one k)))
 
-  pub set_is : (a : Address) (k m n : ℕ) (set : List Bool) → get_or q.sets k All ≡ Only set → m ≡ suc n → rest_cost down before q a k m ≡ set_cost down before q a k n set
-  set_is a k m n set e more = ap (rest_cost down before q a k) more ∙ ap (λ (c : Choice). by_choice c (1 + rest_cost down before q (next_dim a) (k + 1) n) (value_cost down before q a k n)) e
+-- past the categories there are none
+pub no_choices : (z : Schema) (q : Query) (k : ℕ) → k ≡ length z.categories → choices_from z q k ≡ []
+no_choices z q k end = let long = length-take (length z.categories) q.sets in drop_all k (take (length z.categories) q.sets) (omega (arith, long, end))
 
-  pub none_is : (a : Address) (k m : ℕ) → m ≡ 0 → rest_cost down before q a k m ≡ 2 * before a
-  none_is a k m e = ap (rest_cost down before q a k) e
+module _ (costs : ViewCosts) (z : Schema) (h : List Point) where
+  -- a value that is found
+  pub value_is : (cs : List Choice) (a : Address) (k v : ℕ) → k < 4 → IsAtCategory a k → 0 < amount (is_below z a v) h → value_cost costs z h cs a v ≡ costs.down_cost a + (1 + rest_cost costs z h cs (next_dim (longer a v)))
+  value_is cs a k v lt free some =
+      let same = amount-same (is_under z (longer a v)) (is_below z a v) (λ s. below_is_longer z a k v s lt free) h in
+      let has : has_spot z h (longer a v) ≡ true = lt-ltb 0 _ (omega (arith, same, some)) in
+      ap (λ (n : ℕ). costs.down_cost a + n) (cost_if-true (has_spot z h (longer a v)) (1 + rest_cost costs z h cs (next_dim (longer a v))) has)

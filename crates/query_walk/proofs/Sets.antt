@@ -4,9 +4,10 @@ use Rattle.std.proofs.Math.Bool.{and_assoc, and_comm}
 use Rattle.std.proofs.Math.Seq.{drop-nil}
 use Rattle.std.proofs.lemmas.List.{get_or-set_same, get_or-set_other, get_or_past, drop_all}
 use Rattle.std.proofs.lemmas.Bool.{and_parts, and_from, and_right, eq-eqb, ne_eqb, lt-ltb, le-ltb, cases_eq, cases_lt}
-use Rattle.cube_view.specs.Amounts.{one_if, amount_split, amount_same, none_less, amount_none, amount_within}
-use Rattle.cube_view.specs.Bag.{anywhere, amount, bag_limit}
-use Rattle.cube_view.specs.Places.{in_tile, is_under, is_below, label_of, longer, longer_tile, longer_values, next_dim, agrees, agrees_with, quadrant}
+use Rattle.cube_view.proofs.Amounts.{amount-split, amount-same, none-less, amount-none, amount-within}
+use Rattle.cube_view.proofs.OneWeight.{one_if}
+use Rattle.cube_view.specs.Bag.{anywhere, amount}
+use Rattle.cube_view.specs.Places.{in_tile, is_under, is_below, label_of, longer, longer_tile, longer_values, next_dim, agrees, agrees_with, quadrant_at, region_address}
 use Rattle.cube_view.specs.Points.{Point}
 use Rattle.cube_view.specs.declared.address.Address.{Address}
 use Rattle.cube_view.specs.declared.address.Tile.{Tile}
@@ -16,7 +17,7 @@ use Rattle.query_syntax.specs.Boxes.{chosen, are_in_sets, inside, box, total}
 use Rattle.query_syntax.specs.declared.query.Choice.{Choice}
 use Rattle.query_syntax.specs.declared.query.Choice.TheVariants.{All, Only}
 use Rattle.query_syntax.specs.declared.query.Query.{Query}
-use Rattle.query_walk.specs.Walks.{is_in_span, is_under_in, meets_from, is_left, is_left_in_set, region_address, are_walkable, IsAtCategory, HasChoicesFrom}
+use Rattle.query_walk.specs.Walks.{is_in_span, is_under_in, meets_from, is_left, is_left_in_set, are_walkable, IsAtCategory, HasChoicesFrom}
 
 abbrev in_set : List Bool → ℕ → Bool
 in_set set x = get_or set x false
@@ -113,7 +114,7 @@ dims d k e = ne_eqb d 1 (λ (is : d ≡ 1). omega (arith, e, is))
 label_is : (z : Schema) (a : Address) (s : Spot) (k : ℕ) → a.dim ≡ k + 2 → label_of z s a.dim (a.level + 1) ≡ value_of s k
 label_is z a s k dim =
     let i : a.dim - 2 ≡ k = omega (arith, dim) in
-    ap (λ b. cond b (quadrant z.depth s (a.level + 1)) (get_or s.values (a.dim - 2) 0)) (dims a.dim k dim) ∙ ap (λ j. get_or s.values j 0) i
+    ap (λ b. cond b (quadrant_at z.depth (a.level + 1) s.x s.y) (get_or s.values (a.dim - 2) 0)) (dims a.dim k dim) ∙ ap (λ j. get_or s.values j 0) i
 
 -- the tests of the values at four places, of which one is new
 first_new : (x a b c d : Bool) → a ≡ true → ((x && b) && c) && d ≡ (((a && b) && c) && d) && x
@@ -175,53 +176,57 @@ under_longer z a k v s lt free =
     ∙ (ap (λ b. in_tile z.depth a.tile s && b) (agrees_set a.values s.values v free.wide k lt (free.open_from k (omega arith)))
     ∙ sym (and_assoc (in_tile z.depth a.tile s) (agrees a.values s.values) (eqb (value_of s k) v))))
 
+-- a spot goes on by a value exactly where it lies under the address that is longer by it
+pub below_is_longer : (z : Schema) (a : Address) (k v : ℕ) (s : Spot) → k < 4 → IsAtCategory a k → is_under z (longer a v) s ≡ is_below z a v s
+below_is_longer z a k v s lt free = under_longer z a k v s lt free ∙ ap (λ l. is_under z a s && eqb l v) (sym (label_is z a s k free.dim))
+
 -- Amounts of what is left to count
 
 module _ (z : Schema) (q : Query) (a : Address) (k : ℕ) (h : List Point) where
   pub below_none : (set : List Bool) → 0 ≡ amount (is_left_below z q a k set 0) h
-  below_none set = sym (amount_none (is_left_below z q a k set 0) (λ s. and_right _ _ (ap (λ b. b && meets_from q (k + 1) s) (and_right _ _ (le-ltb (value_of s k) 0 (omega arith))))) h)
+  below_none set = sym (amount-none (is_left_below z q a k set 0) (λ s. and_right _ _ (ap (λ b. b && meets_from q (k + 1) s) (and_right _ _ (le-ltb (value_of s k) 0 (omega arith))))) h)
 
   -- the value, further on
   at_value : (v : ℕ) → k < 4 → IsAtCategory a k → amount (is_left z q (next_dim (longer a v)) (k + 1)) h ≡ amount (is_left_at z q a k v) h
-  at_value v lt free = amount_same (is_left z q (next_dim (longer a v)) (k + 1)) (is_left_at z q a k v) (λ s.
+  at_value v lt free = amount-same (is_left z q (next_dim (longer a v)) (k + 1)) (is_left_at z q a k v) (λ s.
       ap (λ b. b && meets_from q (k + 1) s) (under_longer z a k v s lt free)
       ∙ and_assoc (is_under z a s) (eqb (value_of s k) v) (meets_from q (k + 1) s)) h
 
   -- one value more, where it is in the set
   pub below_yes : (set : List Bool) (v : ℕ) → k < 4 → IsAtCategory a k → in_set set v ≡ true → amount (is_left_below z q a k set (v + 1)) h ≡ amount (is_left_below z q a k set v) h + amount (is_left z q (next_dim (longer a v)) (k + 1)) h
   below_yes set v lt free is_in =
-      let e = amount_split (is_left_below z q a k set (v + 1)) (is_left_below z q a k set v) (is_left_at z q a k v) (λ s. step_yes set (value_of s k) v (is_under z a s) (meets_from q (k + 1) s) is_in) h in
+      let e = amount-split (is_left_below z q a k set (v + 1)) (is_left_below z q a k set v) (is_left_at z q a k v) (λ s. step_yes set (value_of s k) v (is_under z a s) (meets_from q (k + 1) s) is_in) h in
       let f = at_value v lt free in
       omega (arith, e, f)
 
   -- and where it isn't
   pub below_no : (set : List Bool) (v : ℕ) → in_set set v ≡ false → amount (is_left_below z q a k set (v + 1)) h ≡ amount (is_left_below z q a k set v) h
-  below_no set v is_out = amount_same (is_left_below z q a k set (v + 1)) (is_left_below z q a k set v) (λ s. ap (λ b. is_under z a s && (b && meets_from q (k + 1) s)) (step_no set (value_of s k) v is_out)) h
+  below_no set v is_out = amount-same (is_left_below z q a k set (v + 1)) (is_left_below z q a k set v) (λ s. ap (λ b. is_under z a s && (b && meets_from q (k + 1) s)) (step_no set (value_of s k) v is_out)) h
 
   -- all values of the set
   pub below_all : (set : List Bool) (v : ℕ) → v ≡ length set → amount (is_left_below z q a k set v) h ≡ amount (is_left_in_set z q a k set) h
-  below_all set v end = amount_same (is_left_below z q a k set v) (is_left_in_set z q a k set) (λ s. ap (λ b. is_under z a s && (b && meets_from q (k + 1) s)) (all_below set (value_of s k) v end)) h
+  below_all set v end = amount-same (is_left_below z q a k set v) (is_left_in_set z q a k set) (λ s. ap (λ b. is_under z a s && (b && meets_from q (k + 1) s)) (all_below set (value_of s k) v end)) h
 
   -- the set of category k
   pub set_left : (set : List Bool) → k < length q.sets → get_or q.sets k All ≡ Only set → amount (is_left_in_set z q a k set) h ≡ amount (is_left z q a k) h
-  set_left set lt is = amount_same (is_left_in_set z q a k set) (is_left z q a k) (λ s. ap (λ b. is_under z a s && b) (sym (meets_next q k s (Only set) lt is))) h
+  set_left set lt is = amount-same (is_left_in_set z q a k set) (is_left z q a k) (λ s. ap (λ b. is_under z a s && b) (sym (meets_next q k s (Only set) lt is))) h
 
   -- any value of category k
   pub any_value : (b : Address) → b ≡ next_dim a → k < length q.sets → get_or q.sets k All ≡ All → amount (is_left z q b (k + 1)) h ≡ amount (is_left z q a k) h
   any_value b next lt is =
       ap (λ (x : Address). amount (is_left z q x (k + 1)) h) next
-      ∙ amount_same (is_left z q (next_dim a) (k + 1)) (is_left z q a k) (λ s. ap (λ b. is_under z a s && b) (sym (meets_next q k s All lt is))) h
+      ∙ amount-same (is_left z q (next_dim a) (k + 1)) (is_left z q a k) (λ s. ap (λ b. is_under z a s && b) (sym (meets_next q k s All lt is))) h
 
   -- nothing below the value
   pub none_at : (v : ℕ) → k < 4 → IsAtCategory a k → amount (is_below z a v) h ≡ 0 → 0 ≡ amount (is_left z q (next_dim (longer a v)) (k + 1)) h
-  none_at v lt free none = sym (none_less (is_left z q (next_dim (longer a v)) (k + 1)) (is_below z a v) (λ s e.
+  none_at v lt free none = sym (none-less (is_left z q (next_dim (longer a v)) (k + 1)) (is_below z a v) (λ s e.
       let parts = and_parts _ _ e in
       let under = and_parts _ _ (sym (under_longer z a k v s lt free) ∙ parts.0) in
       and_from _ _ under.0 (ap (λ l. eqb l v) (label_is z a s k free.dim) ∙ under.1)) h none)
 
   -- where no category is left
   pub time_left : HasChoicesFrom z q k → k ≡ length z.categories → amount (is_under_in z a q.time) h ≡ amount (is_left z q a k) h
-  time_left has end = amount_same (is_under_in z a q.time) (is_left z q a k) (λ s.
+  time_left has end = amount-same (is_under_in z a q.time) (is_left z q a k) (λ s.
       let gone : are_walkable [] (drop k q.sets) ≡ true = subst (λ cs. are_walkable cs (drop k q.sets) ≡ true) (drop_all k z.categories (omega (arith, end))) has.choices in
       ap (λ b. is_under z a s && (b && is_in_span q.time s.bin)) (sym (open_past (drop k q.sets) (drop k s.values) gone))) h
 
@@ -234,18 +239,18 @@ pub box_is : (z : Schema) (q : Query) (h : List Point) (a b : Address) → b ≡
 unfolding total inside
 box_is z q h a b region next =
     ap (λ (x : Address). amount (is_left z q x 0) h) (next ∙ ap next_dim region)
-    ∙ amount_same (is_left z q (next_dim (region_address q.region)) 0) (inside z (box q)) (λ s. sym (regroup (in_tile z.depth q.region s) (are_in_sets (map chosen q.sets) s.values) (leb q.time.from s.bin) (ltb s.bin q.time.to))) h
+    ∙ amount-same (is_left z q (next_dim (region_address q.region)) 0) (inside z (box q)) (λ s. sym (regroup (in_tile z.depth q.region s) (are_in_sets (map chosen q.sets) s.values) (leb q.time.from s.bin) (ltb s.bin q.time.to))) h
 
 -- a box is within its region
 pub none_in_region : (z : Schema) (q : Query) (h : List Point) → amount (is_under z (region_address q.region)) h ≡ 0 → 0 ≡ total z (box q) h
 none_in_region z q h none =
-    let within = none_less (is_left z q (next_dim (region_address q.region)) 0) (is_under z (region_address q.region)) (λ s e. (and_parts _ _ e).0) h none in
+    let within = none-less (is_left z q (next_dim (region_address q.region)) 0) (is_under z (region_address q.region)) (λ s e. (and_parts _ _ e).0) h none in
     sym within ∙ box_is z q h (next_dim (region_address q.region)) (region_address q.region) refl refl
 
 -- and within the bag
 pub none_in_bag : (z : Schema) (q : Query) (h : List Point) → amount anywhere h ≡ 0 → 0 ≡ total z (box q) h
-none_in_bag z q h none = none_in_region z q h (let le = amount_within (is_under z (region_address q.region)) h in omega (arith, le, none))
+none_in_bag z q h none = none_in_region z q h (let le = amount-within (is_under z (region_address q.region)) h in omega (arith, le, none))
 
 -- a sum of amounts of the bag is within the bag's
-pub sum_fits : (p : Spot → Bool) (h : List Point) (a b : ℕ) → amount p h ≡ a + b → amount anywhere h < bag_limit → a + b < 2 ^ 64
-sum_fits p h a b e small = let le = amount_within p h in omega (arith, le, e, small)
+pub sum_fits : (p : Spot → Bool) (h : List Point) (a b : ℕ) → amount p h ≡ a + b → amount anywhere h < 2 ^ 63 → a + b < 2 ^ 64
+sum_fits p h a b e small = let le = amount-within p h in omega (arith, le, e, small)

@@ -1,7 +1,8 @@
 -- An interval of bins.
 use Rattle.std.proofs.Common.{◌≡◌, ℕ, ◌+◌, ◌≤◌, Bool, true, false, ◌&&◌, List, ltb, leb, refl, sym, arith}
 use Rattle.std.proofs.lemmas.Bool.{ltb-true, ltb-false, lt-ltb, le-leb, lt-leb}
-use Rattle.cube_view.specs.Amounts.{one_if, amount_split}
+use Rattle.cube_view.proofs.Amounts.{amount-split}
+use Rattle.cube_view.proofs.OneWeight.{one_if}
 use Rattle.cube_view.specs.Bag.{amount}
 use Rattle.cube_view.specs.Places.{is_under, is_before}
 use Rattle.cube_view.specs.Points.{Point}
@@ -23,4 +24,4 @@ span true b from to le = elim (ltb b from) as (λ t. ltb b from ≡ t → one_if
 
 -- what stands before a span's end stands before its start or in it
 pub before_end : (z : Schema) (a : Address) (t : Span) (h : List Point) → t.from ≤ t.to → amount (is_before z a t.to) h ≡ amount (is_before z a t.from) h + amount (is_under_in z a t) h
-before_end z a t h le = amount_split (is_before z a t.to) (is_before z a t.from) (is_under_in z a t) (λ s. span (is_under z a s) s.bin t.from t.to le) h
+before_end z a t h le = amount-split (is_before z a t.to) (is_before z a t.from) (is_under_in z a t) (λ s. span (is_under z a s) s.bin t.from t.to le) h

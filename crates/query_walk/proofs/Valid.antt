@@ -1,7 +1,7 @@
 -- What a box that can be walked has: a tile of the schema, and choices for each category.
 use Rattle.std.proofs.Common.{◌≡◌, ℕ, zero, suc, ◌+◌, ◌<◌, true, List, [], ◌∷◌, length, drop, sym, ap, subst, arith, add-one}
 use Rattle.std.proofs.lemmas.Bool.{and_parts}
-use Rattle.cube_view.specs.SchemaBounds.{few_categories}
+use Rattle.cube_view.proofs.SchemaBounds.{few_categories}
 use Rattle.cube_view.specs.declared.category.Category.{Category}
 use Rattle.cube_view.specs.declared.schema.Schema.{Schema}
 use Rattle.query_syntax.specs.declared.query.Choice.{Choice}

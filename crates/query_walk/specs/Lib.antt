@@ -1,5 +1,2 @@
 pub mod Costs
 pub mod Walks
-pub mod Boxed
-pub mod Sums
-pub mod Shifts

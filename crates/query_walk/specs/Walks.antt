@@ -1,9 +1,10 @@
 -- Where a walk stands, and which spots it has still to count.
-use Rattle.std.specs.Prelude.{◌≡◌, ℕ, ◌+◌, ◌*◌, ◌≤◌, Bool, true, false, ◌&&◌, ◌==◌, nat_le, nat_lt, IsTrue, List, [], ◌∷◌, length, map, drop, None, slice_index, slice_index_or}
+use Rattle.std.specs.Prelude.{◌≡◌, ℕ, ◌+◌, ◌≤◌, Bool, true, false, ◌&&◌, ◌==◌, nat_le, nat_lt, IsTrue, List, [], ◌∷◌, length, map, drop, None, slice_index, slice_index_or}
 use Rattle.std.specs.List.{list_any}
-use Rattle.cube_view.specs.Places.{shifted, bit_at, is_under}
+use Rattle.cube_view.specs.Bag.{amount}
+use Rattle.cube_view.specs.Places.{is_under}
+use Rattle.cube_view.specs.Points.{Point}
 use Rattle.cube_view.specs.declared.address.Address.{Address}
-use Rattle.cube_view.specs.declared.address.Tile.{Tile}
 use Rattle.cube_view.specs.declared.category.Category.{Category}
 use Rattle.cube_view.specs.declared.schema.Schema.{Schema}
 use Rattle.cube_view.specs.declared.spot.Spot.{Spot}
@@ -15,17 +16,9 @@ use Rattle.query_syntax.specs.declared.query.Choice.TheVariants.{All, Only}
 use Rattle.query_syntax.specs.declared.query.Query.{Query}
 use Rattle.query_syntax.specs.declared.query.Span.{Span}
 
--- the quadrant that the way to the tile takes at a level, from 1 to the tile's
-abbrev pub tile_label : Tile → ℕ → ℕ
-tile_label t level = 2 * bit_at t.z level t.y + bit_at t.z level t.x
-
--- the tile of a level that has the tile in it
-abbrev pub tile_at : Tile → ℕ → Tile
-tile_at t level = record { z = level; x = shifted t.z level t.x; y = shifted t.z level t.y }
-
--- the address in space of a tile
-abbrev pub region_address : Tile → Address
-region_address t = record { dim = 1; level = t.z; tile = t; values = None ∷ None ∷ None ∷ None ∷ [] }
+-- the list has nothing under the address
+abbrev pub HasNone : Schema → Address → List Point → Type 0
+HasNone schema address h = amount (is_under schema address) h ≡ 0
 
 -- the bin is one of the span
 abbrev pub is_in_span : Span → ℕ → Bool

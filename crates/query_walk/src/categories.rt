@@ -1,9 +1,8 @@
 //! The walk through the categories.
-ghost use Rattle.std.specs.Prelude.{◌≡◌, ℕ, ◌+◌, ◌*◌, ◌-◌, ◌<◌, ◌≤◌, IsTrue, List, length, drop};
-ghost use Rattle.cube_view.specs.Bag.{amount, Counts};
+ghost use Rattle.std.specs.Prelude.{◌≡◌, ℕ, ◌+◌, ◌*◌, ◌-◌, ◌<◌, ◌≤◌, IsTrue, length, drop};
+ghost use Rattle.cube_view.specs.Bag.{amount, EachCounted};
 ghost use Rattle.cube_view.specs.Places.{longer, next_dim};
-ghost use Rattle.cube_view.specs.Points.{Point};
-ghost use Rattle.query_walk.specs.Costs.{rest_cost, set_cost, value_cost};
+ghost use Rattle.query_walk.specs.Costs.{choices_from, rest_cost, set_cost, value_cost};
 ghost use Rattle.query_walk.specs.Walks.{IsAtCategory, HasChoicesFrom, are_walkable, is_left, is_left_in_set};
 
 use crate::span::total_in_span;
@@ -24,8 +23,8 @@ pub fn total_from<V: CubeView, L: Ledger>(
     requires stands { V.stands view.now cursor }
     requires here { IsAtCategory (V.address view.now cursor) k }
     requires choices { HasChoicesFrom (V.schema view.now) query.now k }
-    ensures total { (h : List Point) → Counts (V.weight_at view.now) (V.seen view.now) h → result ≡ amount (is_left (V.schema view.now) query.now (V.address view.now cursor) k) h }
-    ensures cost { steps.new ≤ steps.old + rest_cost (V.down_cost view.now) (V.before_cost view.now) query.now (V.address view.now cursor) k (length (V.schema view.now).categories - k) }
+    ensures total { EachCounted (V.weight_at view.now) (V.seen view.now) (λ h. result ≡ amount (is_left (V.schema view.now) query.now (V.address view.now cursor) k) h) }
+    ensures cost { EachCounted (V.weight_at view.now) (V.seen view.now) (λ h. steps.new ≤ steps.old + rest_cost (V.costs view.now) (V.schema view.now) h (choices_from (V.schema view.now) query.now k) (V.address view.now cursor)) }
 {
     if k == view.schema().categories.len() {
         return total_in_span(view, &query.time, cursor, steps);
@@ -54,8 +53,8 @@ fn total_in_set<V: CubeView, L: Ledger>(
     requires choices { HasChoicesFrom (V.schema view.now) query.now k }
     requires category { k < length (V.schema view.now).categories }
     requires wide { length set.now ≡ 256 }
-    ensures total { (h : List Point) → Counts (V.weight_at view.now) (V.seen view.now) h → result ≡ amount (is_left_in_set (V.schema view.now) query.now (V.address view.now cursor) k set.now) h }
-    ensures cost { steps.new ≤ steps.old + set_cost (V.down_cost view.now) (V.before_cost view.now) query.now (V.address view.now cursor) k (length (V.schema view.now).categories - (k + 1)) set.now }
+    ensures total { EachCounted (V.weight_at view.now) (V.seen view.now) (λ h. result ≡ amount (is_left_in_set (V.schema view.now) query.now (V.address view.now cursor) k set.now) h) }
+    ensures cost { EachCounted (V.weight_at view.now) (V.seen view.now) (λ h. steps.new ≤ steps.old + set_cost (V.costs view.now) (V.schema view.now) h (choices_from (V.schema view.now) query.now (k + 1)) (V.address view.now cursor) set.now) }
 {
     let mut sum = 0;
     for value in 0..256u16 {
@@ -81,8 +80,8 @@ fn total_at_value<V: CubeView, L: Ledger>(
     requires here { IsAtCategory (V.address view.now cursor) k }
     requires choices { HasChoicesFrom (V.schema view.now) query.now k }
     requires category { k < length (V.schema view.now).categories }
-    ensures total { (h : List Point) → Counts (V.weight_at view.now) (V.seen view.now) h → result ≡ amount (is_left (V.schema view.now) query.now (next_dim (longer (V.address view.now cursor) value)) (k + 1)) h }
-    ensures cost { steps.new ≤ steps.old + value_cost (V.down_cost view.now) (V.before_cost view.now) query.now (V.address view.now cursor) k (length (V.schema view.now).categories - (k + 1)) value }
+    ensures total { EachCounted (V.weight_at view.now) (V.seen view.now) (λ h. result ≡ amount (is_left (V.schema view.now) query.now (next_dim (longer (V.address view.now cursor) value)) (k + 1)) h) }
+    ensures cost { EachCounted (V.weight_at view.now) (V.seen view.now) (λ h. steps.new ≤ steps.old + value_cost (V.costs view.now) (V.schema view.now) h (choices_from (V.schema view.now) query.now (k + 1)) (V.address view.now cursor) value) }
 {
     let Some(deeper) = view.down(cursor, value, steps) else {
         return 0;

@@ -1,7 +1,6 @@
 //! The total of a query.
-ghost use Rattle.std.specs.Prelude.{◌≡◌, ℕ, ◌+◌, ◌≤◌, IsTrue, List};
-ghost use Rattle.cube_view.specs.Bag.{Counts};
-ghost use Rattle.cube_view.specs.Points.{Point};
+ghost use Rattle.std.specs.Prelude.{◌≡◌, ℕ, ◌+◌, ◌≤◌, IsTrue};
+ghost use Rattle.cube_view.specs.Bag.{EachCounted};
 ghost use Rattle.query_syntax.specs.Boxes.{box, total as total_of};
 ghost use Rattle.query_syntax.specs.Queries.{is_valid_query};
 ghost use Rattle.query_walk.specs.Costs.{search_cost};
@@ -17,8 +16,8 @@ use std::sync::ledger::Ledger;
 /// How much the bag has in the query's region, sets and time. It takes no memory.
 pub fn total<V: CubeView, L: Ledger>(view: &V, query: &Query, steps: &mut Steps<L>) -> u64
     requires valid { IsTrue (is_valid_query (V.schema view.now) query.now) }
-    ensures total { (h : List Point) → Counts (V.weight_at view.now) (V.seen view.now) h → result ≡ total_of (V.schema view.now) (box query.now) h }
-    ensures cost { steps.new ≤ steps.old + search_cost (V.down_cost view.now) (V.before_cost view.now) query.now (V.schema view.now) }
+    ensures total { EachCounted (V.weight_at view.now) (V.seen view.now) (λ h. result ≡ total_of (V.schema view.now) (box query.now) h) }
+    ensures cost { EachCounted (V.weight_at view.now) (V.seen view.now) (λ h. steps.new ≤ steps.old + search_cost (V.costs view.now) (V.schema view.now) h query.now) }
 {
     total_in_box(view, query, steps)
 }
@@ -27,8 +26,8 @@ pub fn total<V: CubeView, L: Ledger>(view: &V, query: &Query, steps: &mut Steps<
 /// rows of a table ask such queries.
 pub fn total_in_box<V: CubeView, L: Ledger>(view: &V, query: &Query, steps: &mut Steps<L>) -> u64
     requires has_box { HasBox (V.schema view.now) query.now }
-    ensures total { (h : List Point) → Counts (V.weight_at view.now) (V.seen view.now) h → result ≡ total_of (V.schema view.now) (box query.now) h }
-    ensures cost { steps.new ≤ steps.old + search_cost (V.down_cost view.now) (V.before_cost view.now) query.now (V.schema view.now) }
+    ensures total { EachCounted (V.weight_at view.now) (V.seen view.now) (λ h. result ≡ total_of (V.schema view.now) (box query.now) h) }
+    ensures cost { EachCounted (V.weight_at view.now) (V.seen view.now) (λ h. steps.new ≤ steps.old + search_cost (V.costs view.now) (V.schema view.now) h query.now) }
 {
     let Some(region) = region_cursor(view, &query.region, steps) else {
         return 0;

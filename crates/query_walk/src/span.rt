@@ -1,8 +1,7 @@
 //! The end of a walk: running totals at an address of time.
-ghost use Rattle.std.specs.Prelude.{◌≡◌, ℕ, ◌+◌, ◌*◌, ◌≤◌, List};
-ghost use Rattle.cube_view.specs.Bag.{amount, Counts};
+ghost use Rattle.std.specs.Prelude.{◌≡◌, ℕ, ◌+◌, ◌*◌, ◌≤◌};
+ghost use Rattle.cube_view.specs.Bag.{amount, EachCounted};
 ghost use Rattle.cube_view.specs.Places.{time_dim};
-ghost use Rattle.cube_view.specs.Points.{Point};
 ghost use Rattle.query_walk.specs.Walks.{is_under_in};
 
 use cube_view::CubeView;
@@ -20,8 +19,8 @@ pub fn total_in_span<V: CubeView, L: Ledger>(
     requires stands { V.stands view.now cursor }
     requires time { (V.address view.now cursor).dim ≡ time_dim (V.schema view.now) }
     requires order { span.now.from ≤ span.now.to }
-    ensures total { (h : List Point) → Counts (V.weight_at view.now) (V.seen view.now) h → result ≡ amount (is_under_in (V.schema view.now) (V.address view.now cursor) span.now) h }
-    ensures cost { steps.new ≤ steps.old + 2 * V.before_cost view.now (V.address view.now cursor) }
+    ensures total { EachCounted (V.weight_at view.now) (V.seen view.now) (λ h. result ≡ amount (is_under_in (V.schema view.now) (V.address view.now cursor) span.now) h) }
+    ensures cost { steps.new ≤ steps.old + 2 * (V.costs view.now).before_cost (V.address view.now cursor) }
 {
     let until_end = view.before(cursor, span.to, steps);
     let until_start = view.before(cursor, span.from, steps);

@@ -1,7 +1,6 @@
 use Rattle.std.proofs.Common.{◌≡◌, ◌+◌, ◌*◌, ◌-◌, ◌≤◌, false, cond, get_or, length, List}
-use Rattle.cube_view.specs.Bag.{amount, Counts}
-use Rattle.cube_view.specs.Points.{Point}
-use Rattle.query_walk.specs.Costs.{sum_upto, value_cost}
+use Rattle.cube_view.specs.Bag.{amount, EachCounted}
+use Rattle.query_walk.specs.Costs.{choices_from, sum_upto, value_cost}
 use Rattle.query_walk.proofs.Sets.{is_left_below}
 use Rattle.query_walk.proofs.categories.+walk.Given as goal
 
@@ -16,7 +15,6 @@ decreases-total_at_value g l = 3 * (4 - l.k)
 
 abbrev pub invariant-total_in_set-loop-value : goal.invariant-total_in_set-loop-value
 invariant-total_in_set-loop-value g l = record {
-  total : (h : List Point) → Counts (g.V.CubeView.weight_at l.view) (g.V.CubeView.seen l.view) h
-      → l.sum ≡ amount (is_left_below (g.V.CubeView.schema l.view) l.query (g.V.CubeView.address l.view l.cursor) l.k l.set l.value) h;
-  cost : l.steps ≤ l.initial.steps + sum_upto (λ v. cond (get_or l.set v false) (value_cost (g.V.CubeView.down_cost l.view) (g.V.CubeView.before_cost l.view) l.query (g.V.CubeView.address l.view l.cursor) l.k (length (g.V.CubeView.schema l.view).categories - (l.k + 1)) v) 0) l.value;
+  total : EachCounted (g.V.CubeView.weight_at l.view) (g.V.CubeView.seen l.view) (λ h. l.sum ≡ amount (is_left_below (g.V.CubeView.schema l.view) l.query (g.V.CubeView.address l.view l.cursor) l.k l.set l.value) h);
+  cost : EachCounted (g.V.CubeView.weight_at l.view) (g.V.CubeView.seen l.view) (λ h. l.steps ≤ l.initial.steps + sum_upto (λ v. cond (get_or l.set v false) (value_cost (g.V.CubeView.costs l.view) (g.V.CubeView.schema l.view) h (choices_from (g.V.CubeView.schema l.view) l.query (l.k + 1)) (g.V.CubeView.address l.view l.cursor) v) 0) l.value);
 }
