@@ -3,7 +3,7 @@ use Rattle.std.proofs.Common.{◌≡◌, ℕ, zero, suc, ◌<◌, Bool, true, fa
 use Rattle.std.specs.List.{list_any}
 use Rattle.std.proofs.lemmas.Bool.{and_parts, and_from, eq-eqb}
 use Rattle.std.proofs.lemmas.List.{length-set, length-replicate, get_or_default}
-use Rattle.cube_view.specs.SchemaBounds.{few_categories}
+use Rattle.cube_view.proofs.SchemaBounds.{few_categories}
 use Rattle.query_syntax.specs.Boxes.{chosen}
 use Rattle.cube_view.specs.declared.category.Category.{Category}
 use Rattle.cube_view.specs.declared.schema.Schema.{Schema}

@@ -6,22 +6,22 @@ use Rattle.std.proofs.lemmas.Grind.{flat_map-append}
 use Rattle.std.proofs.lemmas.List.{append_assoc, append-nil}
 use Rattle.std.proofs.lemmas.List.Elements.{filter_map-append}
 use Rattle.std.proofs.lemmas.List.FromFn.{map-range_with_len_more}
-use Rattle.cube_view.specs.Amounts.{amount-nil, none_less}
+use Rattle.cube_view.proofs.Amounts.{amount-nil, none-less}
 use Rattle.cube_view.specs.Bag.{amount}
-use Rattle.cube_view.specs.Places.{in_tile, shifted, bit_at, is_below, is_under, longer_tile}
+use Rattle.cube_view.specs.Places.{in_tile, shifted, bit_at, is_below, is_under, longer_tile, region_address}
 use Rattle.cube_view.specs.Points.{Point}
 use Rattle.cube_view.specs.declared.address.Address.{Address}
 use Rattle.cube_view.specs.declared.address.Tile.{Tile}
 use Rattle.cube_view.specs.declared.schema.Schema.{Schema}
 use Rattle.cube_view.specs.declared.spot.Spot.{Spot}
-use Rattle.query_syntax.specs.TableLaws.{quadrant_in_tile, rows_inside}
+use Rattle.query_syntax.proofs.TableLaws.{quadrant_in_tile, rows_inside}
 use Rattle.query_syntax.specs.Tables.{area_row}
-use Rattle.query_syntax.specs.TileLaws.{all_inside}
+use Rattle.query_syntax.proofs.TileLaws.{all_inside}
 use Rattle.query_syntax.specs.TileOrder.{tiles_below, tiles_inside}
 use Rattle.query_syntax.specs.declared.query.Query.{Query}
 use Rattle.query_syntax.specs.declared.table.RowOut.{RowOut}
-use Rattle.query_walk.specs.Boxed.{region_within}
-use Rattle.query_walk.specs.Walks.{HasBox, region_address}
+use Rattle.query_walk.proofs.Boxed.{region_within}
+use Rattle.query_walk.specs.Walks.{HasBox}
 
 -- The bits of a label, by which a spot in that quadrant goes on
 
@@ -65,7 +65,7 @@ module _ (z : Schema) (q : Query) (h : List Point) (n : ℕ) where
   pub quadrant_passed_over : (l : ℕ) (a : Address) (start old : List RowOut) → l < 4 → q.region.z + suc n ≤ z.depth → a ≡ region_address q.region → amount (is_below z a l) h ≡ 0 → old ≡ start ++ so_far l → old ≡ start ++ so_far (l + 1)
   quadrant_passed_over l a start old lt deep at none before =
       let here : amount (is_below z (region_address q.region) l) h ≡ 0 = subst (λ (b : Address). amount (is_below z b l) h ≡ 0) at none in
-      let empty = none_less (λ s. in_tile z.depth (longer_tile 1 q.region l) s) (is_below z (region_address q.region) l) (λ s. below_quadrant z q.region l s (omega (arith, deep)) lt) h here in
+      let empty = none-less (λ s. in_tile z.depth (longer_tile 1 q.region l) s) (is_below z (region_address q.region) l) (λ s. below_quadrant z q.region l s (omega (arith, deep)) lt) h here in
       let no_rows = rows_inside z q h n (longer_tile 1 q.region l) (omega (arith, deep)) empty in
       quadrant_gone_through l start old old before (sym (append-nil old) ∙ ap (λ (rows : List RowOut). old ++ rows) (sym no_rows))
 
@@ -75,7 +75,7 @@ under_region z t s e = and_from _ _ e refl
 module _ (z : Schema) (q : Query) (h : List Point) where
   -- a tile that no spot of the list lies under has no rows
   pub no_rows_under : (levels : ℕ) → q.region.z + levels ≤ z.depth → amount (is_under z (region_address q.region)) h ≡ 0 → filter_map (area_row z q h) (tiles_inside levels q.region) ≡ []
-  no_rows_under levels deep none = rows_inside z q h levels q.region deep (none_less (λ s. in_tile z.depth q.region s) (is_under z (region_address q.region)) (under_region z q.region) h none)
+  no_rows_under levels deep none = rows_inside z q h levels q.region deep (none-less (λ s. in_tile z.depth q.region s) (is_under z (region_address q.region)) (under_region z q.region) h none)
 
   -- the rows of the tiles that the way down comes to are those of all tiles inside the region
   pub rows_of_way : HasBox z q → (levels : ℕ) → filter_map (area_row z q h) (tiles_inside levels q.region) ≡ filter_map (area_row z q h) (tiles_below levels q.region)

@@ -1,20 +1,19 @@
 //! The rows of a map.
-ghost use Rattle.std.specs.Prelude.{◌≡◌, ℕ, ◌+◌, ◌*◌, ◌/◌, ◌%◌, ◌^◌, ◌<◌, ◌≤◌, ◌++◌, List, IfOk, OnOk};
+ghost use Rattle.std.specs.Prelude.{◌≡◌, ℕ, ◌+◌, ◌*◌, ◌/◌, ◌%◌, ◌^◌, ◌<◌, ◌≤◌, ◌++◌, IfOk, OnOk};
 ghost use Rattle.std.specs.List.{filter_map};
-ghost use Rattle.cube_view.specs.Bag.{Counts};
-ghost use Rattle.cube_view.specs.Places.{longer_tile};
-ghost use Rattle.cube_view.specs.Points.{Point};
+ghost use Rattle.cube_view.specs.Bag.{EachCounted};
+ghost use Rattle.cube_view.specs.Places.{longer_tile, region_address};
 ghost use Rattle.query_syntax.specs.Parts.{with_region};
 ghost use Rattle.query_syntax.specs.Tables.{area_row, rows_of_verb};
 ghost use Rattle.query_syntax.specs.TileOrder.{tiles_inside};
 ghost use Rattle.query_walk.specs.Costs.{search_cost};
-ghost use Rattle.query_walk.specs.Walks.{HasBox, region_address};
+ghost use Rattle.query_walk.specs.Walks.{HasBox};
 ghost use Rattle.tile_drill.specs.Costs.{areas_cost, map_cost};
 
-use cube_view::CubeView;
+use cube_view::{CubeView, quadrant};
 use outer_io::{List, NoMemory};
 use probe_core::Steps;
-use query_syntax::{Query, RowOut, Verb, quadrant};
+use query_syntax::{Query, RowOut, Verb};
 use query_walk::{region_cursor, total_in_box};
 use std::alloc::Global;
 use std::sync::ledger::Ledger;
@@ -37,8 +36,8 @@ fn push_area<V: CubeView, L: Ledger>(
     steps: &mut Steps<L>,
 ) -> Result<(), NoMemory>
     requires has_box { HasBox (V.schema view.now) query.now }
-    ensures rows { OnOk result ((h : List Point) → Counts (V.weight_at view.now) (V.seen view.now) h → rows.new ≡ rows.old ++ filter_map (area_row (V.schema view.now) query.now h) (tiles_inside 0 query.now.region)) }
-    ensures cost { steps.new ≤ steps.old + search_cost (V.down_cost view.now) (V.before_cost view.now) query.now (V.schema view.now) }
+    ensures rows { OnOk result (EachCounted (V.weight_at view.now) (V.seen view.now) (λ h. rows.new ≡ rows.old ++ filter_map (area_row (V.schema view.now) query.now h) (tiles_inside 0 query.now.region))) }
+    ensures cost { EachCounted (V.weight_at view.now) (V.seen view.now) (λ h. steps.new ≤ steps.old + search_cost (V.costs view.now) (V.schema view.now) h query.now) }
 {
     let total = total_in_box(view, query, steps);
     if total == 0 {
@@ -60,8 +59,8 @@ fn drill<V: CubeView, L: Ledger>(
     requires deep { query.now.region.z + levels ≤ (V.schema view.now).depth }
     requires stands { V.stands view.now cursor }
     requires place { V.address view.now cursor ≡ region_address query.now.region }
-    ensures rows { OnOk result ((h : List Point) → Counts (V.weight_at view.now) (V.seen view.now) h → rows.new ≡ rows.old ++ filter_map (area_row (V.schema view.now) query.now h) (tiles_inside levels query.now.region)) }
-    ensures cost { (h : List Point) → Counts (V.weight_at view.now) (V.seen view.now) h → steps.new ≤ steps.old + areas_cost (V.down_cost view.now) (V.before_cost view.now) (V.schema view.now) query.now h levels query.now.region }
+    ensures rows { OnOk result (EachCounted (V.weight_at view.now) (V.seen view.now) (λ h. rows.new ≡ rows.old ++ filter_map (area_row (V.schema view.now) query.now h) (tiles_inside levels query.now.region))) }
+    ensures cost { EachCounted (V.weight_at view.now) (V.seen view.now) (λ h. steps.new ≤ steps.old + areas_cost (V.costs view.now) (V.schema view.now) h query.now levels query.now.region) }
 {
     if levels == 0 {
         return push_area(view, query, rows, steps);
@@ -91,8 +90,8 @@ pub fn area_rows<V: CubeView, L: Ledger>(
 ) -> Result<List<RowOut>, NoMemory>
     requires has_box { HasBox (V.schema view.now) query.now }
     requires deep { query.now.region.z + levels ≤ (V.schema view.now).depth }
-    ensures rows { IfOk result (λ rows. (h : List Point) → Counts (V.weight_at view.now) (V.seen view.now) h → rows ≡ rows_of_verb (V.schema view.now) query.now h (Verb.Map levels)) }
-    ensures cost { (h : List Point) → Counts (V.weight_at view.now) (V.seen view.now) h → steps.new ≤ steps.old + map_cost (V.down_cost view.now) (V.before_cost view.now) (V.schema view.now) query.now h levels }
+    ensures rows { IfOk result (λ rows. EachCounted (V.weight_at view.now) (V.seen view.now) (λ h. rows ≡ rows_of_verb (V.schema view.now) query.now h (Verb.Map levels))) }
+    ensures cost { EachCounted (V.weight_at view.now) (V.seen view.now) (λ h. steps.new ≤ steps.old + map_cost (V.costs view.now) (V.schema view.now) h query.now levels) }
 {
     let mut rows = List::new(alloc);
     if view.seen() == 0 {

@@ -1,7 +1,6 @@
 //! The rows of a series.
-ghost use Rattle.std.specs.Prelude.{◌≡◌, ℕ, ◌+◌, ◌*◌, ◌<◌, ◌≤◌, ◌^◌, List, IfOk};
-ghost use Rattle.cube_view.specs.Bag.{Counts};
-ghost use Rattle.cube_view.specs.Points.{Point};
+ghost use Rattle.std.specs.Prelude.{◌≡◌, ℕ, ◌+◌, ◌*◌, ◌<◌, ◌≤◌, ◌^◌, IfOk};
+ghost use Rattle.cube_view.specs.Bag.{EachCounted};
 ghost use Rattle.query_syntax.specs.Boxes.{box, total as total_of};
 ghost use Rattle.query_syntax.specs.Tables.{with_bins, rows_of_verb};
 ghost use Rattle.query_syntax.specs.Verbs.{bins, most_rows};
@@ -25,8 +24,8 @@ fn bins_total<V: CubeView, L: Ledger>(
 ) -> u64
     requires has_box { HasBox (V.schema view.now) query.now }
     requires order { span.from ≤ span.to }
-    ensures total { (h : List Point) → Counts (V.weight_at view.now) (V.seen view.now) h → result ≡ total_of (V.schema view.now) (with_bins (box query.now) span.from span.to) h }
-    ensures cost { steps.new ≤ steps.old + search_cost (V.down_cost view.now) (V.before_cost view.now) query.now (V.schema view.now) }
+    ensures total { EachCounted (V.weight_at view.now) (V.seen view.now) (λ h. result ≡ total_of (V.schema view.now) (with_bins (box query.now) span.from span.to) h) }
+    ensures cost { EachCounted (V.weight_at view.now) (V.seen view.now) (λ h. steps.new ≤ steps.old + search_cost (V.costs view.now) (V.schema view.now) h query.now) }
 {
     total_in_box(view, &query.with_span(span), steps)
 }
@@ -45,8 +44,8 @@ pub fn bins_rows<V: CubeView, L: Ledger>(
     requires first { first < bins }
     requires wide { wide ≤ bins }
     requires count { count ≤ most_rows }
-    ensures rows { IfOk result (λ rows. (h : List Point) → Counts (V.weight_at view.now) (V.seen view.now) h → rows ≡ rows_of_verb (V.schema view.now) query.now h (Verb.Series first wide count)) }
-    ensures cost { steps.new ≤ steps.old + count * search_cost (V.down_cost view.now) (V.before_cost view.now) query.now (V.schema view.now) }
+    ensures rows { IfOk result (λ rows. EachCounted (V.weight_at view.now) (V.seen view.now) (λ h. rows ≡ rows_of_verb (V.schema view.now) query.now h (Verb.Series first wide count))) }
+    ensures cost { EachCounted (V.weight_at view.now) (V.seen view.now) (λ h. steps.new ≤ steps.old + count * search_cost (V.costs view.now) (V.schema view.now) h query.now) }
 {
     let mut rows = List::new(alloc);
     for i in 0..count {

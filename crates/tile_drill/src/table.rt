@@ -1,7 +1,6 @@
 //! The table of a query.
-ghost use Rattle.std.specs.Prelude.{◌≡◌, ℕ, ◌+◌, ◌≤◌, IsTrue, List, IfOk};
-ghost use Rattle.cube_view.specs.Bag.{Counts};
-ghost use Rattle.cube_view.specs.Points.{Point};
+ghost use Rattle.std.specs.Prelude.{◌≡◌, ℕ, ◌+◌, ◌≤◌, IsTrue, IfOk};
+ghost use Rattle.cube_view.specs.Bag.{EachCounted};
 ghost use Rattle.query_syntax.specs.Queries.{is_valid_query};
 ghost use Rattle.query_syntax.specs.Tables.{has_table, table, rows_of_verb};
 ghost use Rattle.query_walk.specs.Costs.{search_cost};
@@ -26,8 +25,8 @@ fn total_row<V: CubeView, L: Ledger>(
     steps: &mut Steps<L>,
 ) -> Result<List<RowOut>, NoMemory>
     requires valid { IsTrue (is_valid_query (V.schema view.now) query.now) }
-    ensures rows { IfOk result (λ rows. (h : List Point) → Counts (V.weight_at view.now) (V.seen view.now) h → rows ≡ rows_of_verb (V.schema view.now) query.now h Verb.Count) }
-    ensures cost { steps.new ≤ steps.old + search_cost (V.down_cost view.now) (V.before_cost view.now) query.now (V.schema view.now) }
+    ensures rows { IfOk result (λ rows. EachCounted (V.weight_at view.now) (V.seen view.now) (λ h. rows ≡ rows_of_verb (V.schema view.now) query.now h Verb.Count)) }
+    ensures cost { EachCounted (V.weight_at view.now) (V.seen view.now) (λ h. steps.new ≤ steps.old + search_cost (V.costs view.now) (V.schema view.now) h query.now) }
 {
     let mut rows = List::new(alloc);
     rows.add(RowOut::One(total(view, query, steps)))?;
@@ -42,8 +41,8 @@ fn table_rows<V: CubeView, L: Ledger>(
     steps: &mut Steps<L>,
 ) -> Result<List<RowOut>, NoMemory>
     requires valid { IsTrue (is_valid_query (V.schema view.now) query.now) }
-    ensures rows { IfOk result (λ rows. (h : List Point) → Counts (V.weight_at view.now) (V.seen view.now) h → rows ≡ rows_of_verb (V.schema view.now) query.now h query.now.verb) }
-    ensures cost { (h : List Point) → Counts (V.weight_at view.now) (V.seen view.now) h → steps.new ≤ steps.old + table_cost (V.down_cost view.now) (V.before_cost view.now) (V.schema view.now) query.now h query.now.verb }
+    ensures rows { IfOk result (λ rows. EachCounted (V.weight_at view.now) (V.seen view.now) (λ h. rows ≡ rows_of_verb (V.schema view.now) query.now h query.now.verb)) }
+    ensures cost { EachCounted (V.weight_at view.now) (V.seen view.now) (λ h. steps.new ≤ steps.old + table_cost (V.costs view.now) (V.schema view.now) h query.now query.now.verb) }
 {
     match query.verb {
         Verb::Count => total_row(alloc, view, query, steps),
@@ -63,8 +62,8 @@ pub fn answer<V: CubeView, L: Ledger>(
 ) -> Result<Table, NoMemory>
     requires valid { IsTrue (is_valid_query (V.schema view.now) query.now) }
     requires verb { IsTrue (has_table query.now.verb) }
-    ensures table { (h : List Point) → Counts (V.weight_at view.now) (V.seen view.now) h → IfOk result (λ t. t ≡ table (V.schema view.now) query.now h) }
-    ensures cost { (h : List Point) → Counts (V.weight_at view.now) (V.seen view.now) h → steps.new ≤ steps.old + table_cost (V.down_cost view.now) (V.before_cost view.now) (V.schema view.now) query.now h query.now.verb }
+    ensures table { EachCounted (V.weight_at view.now) (V.seen view.now) (λ h. IfOk result (λ t. t ≡ table (V.schema view.now) query.now h)) }
+    ensures cost { EachCounted (V.weight_at view.now) (V.seen view.now) (λ h. steps.new ≤ steps.old + table_cost (V.costs view.now) (V.schema view.now) h query.now query.now.verb) }
 {
     match table_rows(alloc, view, query, steps) {
         Ok(rows) => Ok(Table {

@@ -1,7 +1,6 @@
 //! The rows of a histogram.
-ghost use Rattle.std.specs.Prelude.{◌≡◌, ℕ, ◌<◌, ◌≤◌, List, IfOk, length, ◌+◌};
-ghost use Rattle.cube_view.specs.Bag.{Counts};
-ghost use Rattle.cube_view.specs.Points.{Point};
+ghost use Rattle.std.specs.Prelude.{◌≡◌, ℕ, ◌<◌, ◌≤◌, IfOk, length, ◌+◌};
+ghost use Rattle.cube_view.specs.Bag.{EachCounted};
 ghost use Rattle.query_syntax.specs.Boxes.{box, total as total_of};
 ghost use Rattle.query_syntax.specs.Parts.{with_one_value};
 ghost use Rattle.query_syntax.specs.Tables.{with_value, value_row, rows_of_verb};
@@ -27,8 +26,8 @@ fn value_total<V: CubeView, L: Ledger>(
 ) -> u64
     requires has_box { HasBox (V.schema view.now) query.now }
     requires category { category < length (V.schema view.now).categories }
-    ensures total { (h : List Point) → Counts (V.weight_at view.now) (V.seen view.now) h → result ≡ total_of (V.schema view.now) (with_value (box query.now) category value) h }
-    ensures cost { steps.new ≤ steps.old + search_cost (V.down_cost view.now) (V.before_cost view.now) (with_one_value query.now category value) (V.schema view.now) }
+    ensures total { EachCounted (V.weight_at view.now) (V.seen view.now) (λ h. result ≡ total_of (V.schema view.now) (with_value (box query.now) category value) h) }
+    ensures cost { EachCounted (V.weight_at view.now) (V.seen view.now) (λ h. steps.new ≤ steps.old + search_cost (V.costs view.now) (V.schema view.now) h (with_one_value query.now category value)) }
 {
     if !query.sets[category].has(value) {
         return 0;
@@ -46,8 +45,8 @@ pub fn value_rows<V: CubeView, L: Ledger>(
 ) -> Result<List<RowOut>, NoMemory>
     requires has_box { HasBox (V.schema view.now) query.now }
     requires category { category < length (V.schema view.now).categories }
-    ensures rows { IfOk result (λ rows. (h : List Point) → Counts (V.weight_at view.now) (V.seen view.now) h → rows ≡ rows_of_verb (V.schema view.now) query.now h (Verb.Hist category)) }
-    ensures cost { steps.new ≤ steps.old + values_cost (V.down_cost view.now) (V.before_cost view.now) (V.schema view.now) query.now category }
+    ensures rows { IfOk result (λ rows. EachCounted (V.weight_at view.now) (V.seen view.now) (λ h. rows ≡ rows_of_verb (V.schema view.now) query.now h (Verb.Hist category))) }
+    ensures cost { EachCounted (V.weight_at view.now) (V.seen view.now) (λ h. steps.new ≤ steps.old + values_cost (V.costs view.now) (V.schema view.now) h query.now category) }
 {
     let mut rows = List::new(alloc);
     let place = usize::from(category);

@@ -14,8 +14,7 @@ loop-label-preserved g t c =
     let q = c.args.query.now in
     let n = c.args.levels - 1 in
     let old = c.loop-label.rows in
-    let down = g.V.CubeView.down_cost c.args.view.now in
-    let before = g.V.CubeView.before_cost c.args.view.now in
+    let costs = g.V.CubeView.costs c.args.view.now in
     let at = g.V.CubeView.address c.args.view.now c.args.cursor in
     record {
       rows = λ h counts. let so_far = c.loop-label.invariant.rows h counts in elim c.match-down.branch [
@@ -29,10 +28,10 @@ loop-label-preserved g t c =
       cost = λ h counts. elim c.match-down.branch [
         | in-Some+in_ok-drill w ↦
             (let deeper = w.drill.ensures.cost h counts in
-            let paid = paid_through down before z q h n c.loop-label.label at w.in_quadrant.result c.args.steps.now c.loop-label.steps c.down.new.steps w.drill.new.steps (omega (arith, c.requires.deep, c.if-levels-eq0.false)) c.requires.place w.in_quadrant.ensures (w.in-Some.ensures.found h counts) (c.loop-label.invariant.cost h counts) c.down.ensures.cost deeper in
+            let paid = paid_through costs z h q n c.loop-label.label at w.in_quadrant.result c.args.steps.now c.loop-label.steps c.down.new.steps w.drill.new.steps (omega (arith, c.requires.deep, c.if-levels-eq0.false)) c.requires.place w.in_quadrant.ensures (w.in-Some.ensures.found h counts) (c.loop-label.invariant.cost h counts) c.down.ensures.cost deeper in
             omega (arith, paid, w.steps-is))
         | in_default w ↦
-            (let paid = paid_past down before z q h n c.loop-label.label at c.args.steps.now c.loop-label.steps c.down.new.steps c.requires.place (c.loop-label.invariant.cost h counts) c.down.ensures.cost in
+            (let paid = paid_past costs z h q n c.loop-label.label at c.args.steps.now c.loop-label.steps c.down.new.steps c.requires.place (c.loop-label.invariant.cost h counts) c.down.ensures.cost in
             omega (arith, paid, w.steps-is))
       ];
     }
@@ -40,12 +39,11 @@ loop-label-preserved g t c =
 pub returns-in_err-drill-clause-cost : goal.returns-in_err-drill-clause-cost
 returns-in_err-drill-clause-cost g t c h counts =
     let z = g.V.CubeView.schema c.args.view.now in
-    let down = g.V.CubeView.down_cost c.args.view.now in
-    let before = g.V.CubeView.before_cost c.args.view.now in
+    let costs = g.V.CubeView.costs c.args.view.now in
     let n = c.args.levels - 1 in
-    let paid = paid_through down before z c.args.query.now h n c.loop-label.label (g.V.CubeView.address c.args.view.now c.args.cursor) c.in_quadrant.result c.args.steps.now c.loop-label.steps c.down.new.steps c.drill.new.steps (omega (arith, c.requires.deep, c.if-levels-eq0.false)) c.requires.place c.in_quadrant.ensures (c.in-Some.ensures.found h counts) (c.loop-label.invariant.cost h counts) c.down.ensures.cost (c.drill.ensures.cost h counts) in
-    paid_in_all down before z c.args.query.now h n c.args.levels c.loop-label.label c.args.steps.now c.drill.new.steps (omega (arith, c.if-levels-eq0.false)) c.loop-label-test.true paid
+    let paid = paid_through costs z h c.args.query.now n c.loop-label.label (g.V.CubeView.address c.args.view.now c.args.cursor) c.in_quadrant.result c.args.steps.now c.loop-label.steps c.down.new.steps c.drill.new.steps (omega (arith, c.requires.deep, c.if-levels-eq0.false)) c.requires.place c.in_quadrant.ensures (c.in-Some.ensures.found h counts) (c.loop-label.invariant.cost h counts) c.down.ensures.cost (c.drill.ensures.cost h counts) in
+    paid_in_all costs z h c.args.query.now n c.args.levels c.loop-label.label c.args.steps.now c.drill.new.steps (omega (arith, c.if-levels-eq0.false)) c.loop-label-test.true paid
 
 pub returns-clause-cost : goal.returns-clause-cost
 returns-clause-cost g t c h counts =
-    paid_whole (g.V.CubeView.down_cost c.args.view.now) (g.V.CubeView.before_cost c.args.view.now) (g.V.CubeView.schema c.args.view.now) c.args.query.now h (c.args.levels - 1) c.args.levels c.loop-label.label c.args.steps.now c.loop-label.steps (omega (arith, c.if-levels-eq0.false)) c.loop-label-test.false c.loop-label.auto.label-end (c.loop-label.invariant.cost h counts)
+    paid_whole (g.V.CubeView.costs c.args.view.now) (g.V.CubeView.schema c.args.view.now) h c.args.query.now (c.args.levels - 1) c.args.levels c.loop-label.label c.args.steps.now c.loop-label.steps (omega (arith, c.if-levels-eq0.false)) c.loop-label-test.false c.loop-label.auto.label-end (c.loop-label.invariant.cost h counts)

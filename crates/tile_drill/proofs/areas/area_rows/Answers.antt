@@ -1,12 +1,11 @@
 use Rattle.std.proofs.Common.{◌++◌, List, sym, ◌∙◌, ap, arith}
 use Rattle.std.specs.List.{filter_map}
-use Rattle.cube_view.specs.Places.{is_under}
+use Rattle.cube_view.specs.Places.{is_under, region_address}
 use Rattle.query_syntax.specs.Tables.{area_row}
 use Rattle.query_syntax.specs.TileOrder.{tiles_inside}
 use Rattle.query_syntax.specs.declared.table.RowOut.{RowOut}
-use Rattle.query_walk.specs.Walks.{region_address}
 use Rattle.tile_drill.proofs.Drilling.{no_rows_under, no_points, rows_of_way}
-use Rattle.tile_drill.proofs.Paying.{map_cost_is}
+use Rattle.tile_drill.proofs.Paying.{map_way, map_found}
 use Rattle.tile_drill.proofs.areas.area_rows.Goals as goal
 use Rattle.tile_drill.proofs.areas.area_rows.Goals.{in-Some+in_ok-drill, in_default}
 
@@ -23,13 +22,16 @@ returns-clause-rows g c h counts =
     let way = rows_of_way z c.args.query.now h c.requires.has_box c.args.levels in
     elim c.match-region_cursor.branch [
       | in-Some+in_ok-drill w ↦ (let inner = w.in_ok-drill.ensures {u = tt} in w.rows-is ∙ (inner.rows h counts ∙ (ap (λ (rows : List RowOut). rows ++ all) c.new-rows.ensures ∙ way)))
-      | in_default w ↦ (w.rows-is ∙ (c.new-rows.ensures ∙ (sym (no_rows_under z c.args.query.now h c.args.levels c.requires.deep (w.in_default.ensures.place h counts)) ∙ way)))
+      | in_default w ↦ (w.rows-is ∙ (c.new-rows.ensures ∙ (sym (no_rows_under z c.args.query.now h c.args.levels c.requires.deep (w.in_default.ensures.none h counts)) ∙ way)))
     ]
 
 pub returns-clause-cost : goal.returns-clause-cost
 returns-clause-cost g c h counts =
-    let whole = map_cost_is (g.V.CubeView.down_cost c.args.view.now) (g.V.CubeView.before_cost c.args.view.now) (g.V.CubeView.schema c.args.view.now) c.args.query.now h c.args.levels c.seen.result (c.seen.ensures ∙ counts.number) c.if-seen-eq0.false in
+    let z = g.V.CubeView.schema c.args.view.now in
+    let costs = g.V.CubeView.costs c.args.view.now in
+    let count = c.seen.ensures ∙ counts.number in
+    let space = c.region_cursor.ensures.cost h counts in
     elim c.match-region_cursor.branch [
-      | in-Some+in_ok-drill w ↦ (let inner = w.drill.ensures.cost h counts in omega (arith, whole, inner, c.region_cursor.ensures.cost, w.steps-is))
-      | in_default w ↦ omega (arith, whole, c.region_cursor.ensures.cost, w.steps-is)
+      | in-Some+in_ok-drill w ↦ (let whole = map_found costs z h c.args.query.now c.args.levels c.seen.result count c.if-seen-eq0.false (w.in-Some.ensures.found h counts) in let inner = w.drill.ensures.cost h counts in omega (arith, whole, inner, space, w.steps-is))
+      | in_default w ↦ (let way = map_way costs z h c.args.query.now c.args.levels c.seen.result count c.if-seen-eq0.false in omega (arith, way, space, w.steps-is))
     ]

@@ -10,5 +10,5 @@ loop-i-preserved g c =
     record {
       rows = λ h counts. one_row_more (bins_row z c.args.query.now h c.args.first c.args.wide) c.loop-i.i c.loop-i.rows c.add.new.self _ c.in_ok-add.ensures.added (c.loop-i.invariant.rows h counts)
           (bins_row_is z c.args.query.now h c.args.first c.args.wide c.loop-i.i c.from-place.result c.bins_total-total.result c.from-place.ensures (c.bins_total-total.ensures.total h counts));
-      cost = row_paid c.loop-i.i (search_cost (g.V.CubeView.down_cost c.args.view.now) (g.V.CubeView.before_cost c.args.view.now) c.args.query.now z) _ _ _ c.loop-i.invariant.cost c.bins_total-total.ensures.cost;
+      cost = λ h counts. row_paid c.loop-i.i (search_cost (g.V.CubeView.costs c.args.view.now) z h c.args.query.now) _ _ _ (c.loop-i.invariant.cost h counts) (c.bins_total-total.ensures.cost h counts);
     }

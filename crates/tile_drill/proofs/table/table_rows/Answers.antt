@@ -1,5 +1,5 @@
-use Rattle.query_walk.specs.Boxed.{valid_has_box}
-use Rattle.query_syntax.specs.ValidParts.{hist_known, map_above, series_small}
+use Rattle.query_walk.proofs.Boxed.{valid_has_box}
+use Rattle.query_syntax.proofs.ValidParts.{hist_known, map_above, series_small}
 use Rattle.tile_drill.proofs.table.table_rows.Goals as goal
 
 pub value_rows-requires-clause-has_box : goal.value_rows-requires-clause-has_box

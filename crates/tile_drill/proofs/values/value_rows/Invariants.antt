@@ -1,7 +1,6 @@
-use Rattle.std.proofs.Common.{◌≡◌, ◌+◌, ◌≤◌, List, map}
+use Rattle.std.proofs.Common.{◌≡◌, ◌+◌, ◌≤◌, map}
 use Rattle.std.specs.List.{range_with_len}
-use Rattle.cube_view.specs.Bag.{Counts}
-use Rattle.cube_view.specs.Points.{Point}
+use Rattle.cube_view.specs.Bag.{EachCounted}
 use Rattle.query_syntax.specs.Tables.{value_row}
 use Rattle.query_walk.specs.Costs.{search_cost, sum_upto}
 use Rattle.query_syntax.specs.Parts.{with_one_value}
@@ -9,6 +8,6 @@ use Rattle.tile_drill.proofs.values.value_rows.Given as goal
 
 abbrev pub invariant-loop-value : goal.invariant-loop-value
 invariant-loop-value g l = record {
-  rows : (h : List Point) → Counts (g.V.CubeView.weight_at l.view) (g.V.CubeView.seen l.view) h → l.rows ≡ map (value_row (g.V.CubeView.schema l.view) l.query h l.category) (range_with_len 0 l.value);
-  cost : l.steps ≤ l.initial.steps + sum_upto (λ v. search_cost (g.V.CubeView.down_cost l.view) (g.V.CubeView.before_cost l.view) (with_one_value l.query l.category v) (g.V.CubeView.schema l.view)) l.value;
+  rows : EachCounted (g.V.CubeView.weight_at l.view) (g.V.CubeView.seen l.view) (λ h. l.rows ≡ map (value_row (g.V.CubeView.schema l.view) l.query h l.category) (range_with_len 0 l.value));
+  cost : EachCounted (g.V.CubeView.weight_at l.view) (g.V.CubeView.seen l.view) (λ h. l.steps ≤ l.initial.steps + sum_upto (λ v. search_cost (g.V.CubeView.costs l.view) (g.V.CubeView.schema l.view) h (with_one_value l.query l.category v)) l.value);
 }

@@ -1,7 +1,7 @@
 use Rattle.std.proofs.Common.{true, false, sym, ◌∙◌, ap, subst, arith}
-use Rattle.cube_view.specs.SchemaBounds.{few_categories}
+use Rattle.cube_view.proofs.SchemaBounds.{few_categories}
 use Rattle.query_syntax.specs.Boxes.{box, total}
-use Rattle.query_syntax.specs.TableLaws.{box_value, box_value_out}
+use Rattle.query_syntax.proofs.TableLaws.{box_value, box_value_out}
 use Rattle.query_syntax.specs.declared.query.Query.{Query}
 use Rattle.query_walk.specs.Costs.{search_cost}
 use Rattle.query_walk.specs.Walks.{HasBox}
@@ -30,6 +30,7 @@ returns-clause-total g c h counts =
     ∙ sym (box_value z q h c.args.category c.args.value (omega (arith, few, wide, c.requires.category)) c.ranges.value.fits is_in))
 
 pub returns-clause-cost : goal.returns-clause-cost
-returns-clause-cost g c =
-    let same = ap (λ (p : Query). search_cost (g.V.CubeView.down_cost c.args.view.now) (g.V.CubeView.before_cost c.args.view.now) p (g.V.CubeView.schema c.args.view.now)) c.with_one_value.ensures in
-    omega (arith, same, c.total_in_box.ensures.cost)
+returns-clause-cost g c h counts =
+    let same = ap (λ (p : Query). search_cost (g.V.CubeView.costs c.args.view.now) (g.V.CubeView.schema c.args.view.now) h p) c.with_one_value.ensures in
+    let step = c.total_in_box.ensures.cost h counts in
+    omega (arith, same, step)
