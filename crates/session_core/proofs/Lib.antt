@@ -1,0 +1,8 @@
+pub mod LineServed
+pub mod AskedLaws
+pub mod Own
+pub mod Transcripts
+pub mod Finals
+pub mod Replying
+pub mod SoFar
+pub mod WholeScripts

@@ -1,5 +1,5 @@
--- The reply to a line of a script, over a list of points.
-use Rattle.std.specs.Prelude.{ℕ, Bool, true, false, List, [], ◌∷◌, ◌++◌, length, Option, Some, None}
+-- What a line of a script asks, and the reply to it over a list of points.
+use Rattle.std.specs.Prelude.{ℕ, Bool, true, false, not, if◌then◌else◌, List, [], ◌∷◌, ◌++◌, length, Option, Some, None}
 use Rattle.cube_view.specs.declared.spot.Point.{Point}
 use Rattle.cube_view.specs.declared.schema.Schema.{Schema}
 use Rattle.cube_view.specs.declared.stat.Stat.{Stat}
@@ -42,11 +42,6 @@ module _ (stat : Stat) (schema : Schema) (h : List Point) (told : ℕ) where
 unfoldable pub reply_line : Reply → List ℕ
 reply_line reply = reply_text reply ++ 10 ∷ []
 
--- the line of a reply, if there is one
-abbrev pub line_of : Option Reply → List ℕ
-line_of None = []
-line_of (Some reply) = reply_line reply
-
 -- the verb ends the session
 abbrev pub ends : Verb → Bool
 ends verb.Count = false
@@ -62,3 +57,20 @@ abbrev pub asks_to_end : Parsed → Bool
 asks_to_end Skip = false
 asks_to_end (Ask q) = ends q.verb
 asks_to_end (Fault fault word) = false
+
+-- the line asks for a reply
+abbrev pub asks_reply : Parsed → Bool
+asks_reply Skip = false
+asks_reply (Ask q) = not (ends q.verb)
+asks_reply (Fault fault word) = true
+
+-- what a line asks, and then what those after it ask
+abbrev pub asked_then : Parsed → List Parsed → List Parsed
+asked_then Skip later = later
+asked_then (Ask q) later = if ends q.verb then [] else (Ask q ∷ later)
+asked_then (Fault fault word) later = Fault fault word ∷ later
+
+-- what the lines of a script ask: their meanings up to the first `quit`, without those that ask nothing
+abbrev pub asked : Schema → List Line → List Parsed
+asked schema [] = []
+asked schema (line ∷ lines) = asked_then (line_meaning schema line) (asked schema lines)

@@ -1,1 +1,6 @@
+pub mod Asked
+pub mod Scripts
+pub mod Transcript
 pub mod Serving
+pub mod Answered
+pub mod Turns

@@ -1,10 +1,26 @@
 //! Sessions: scripts answered line by line over a cube view.
 //!
-//! [`serve`] answers what a line means.
+//! [`serve`] answers what one line means, and [`answer_lines`] and [`answer_script`] the lines of a script up to its
+//! first `quit`, in a sink. What a script asks is defined in `specs/Asked.antt`, and what is answered to it, its
+//! transcript, in `specs/Transcript.antt`. Lines are cut by `outer_io` and read by `query_syntax`, tables are
+//! counted by `tile_drill`, and replies printed by `reply_json`. Which script is opened, and what its end means to a
+//! program, is left to the crates above.
+//!
+//! ```
+//! let (source, answered) = answer_script(alloc, &cube, cube.seen(), source, &mut sink);
+//! assert!(answered == Ok(()));
+//! // of the script "told\nquit\n", over a cube of three points:
+//! assert_eq!(sink.bytes(), b"{\"told\":3}\n");
+//! ```
 #![tactic(auto)]
 
+mod answering;
+mod asking;
+mod fault;
 mod serving;
 #[cfg(test)]
 mod tests;
 
+pub use answering::{answer_lines, answer_script};
+pub use fault::SessionFault;
 pub use serving::{Served, serve};

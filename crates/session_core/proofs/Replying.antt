@@ -1,0 +1,116 @@
+-- Replies that a sink gains, one after another.
+use Rattle.std.proofs.Common.{◌≡◌, ℕ, ◌≤◌, Bool, true, false, if◌then◌else◌, List, [], ◌∷◌, ◌++◌, length, Option, Some, inl, refl, sym, ap, ◌∙◌, subst, arith, append-nil}
+use Rattle.std.proofs.lemmas.Grind.{flat_map-append}
+use Rattle.cube_view.specs.Points.{Point}
+use Rattle.cube_view.specs.declared.schema.Schema.{Schema}
+use Rattle.cube_view.specs.declared.stat.Stat.{Stat}
+use Rattle.outer_io.specs.Bytes.{Gains, GainsPart}
+use Rattle.outer_io.proofs.GainedLaws.{gains_none, gains_on, part_whole, part_on}
+use Rattle.query_syntax.specs.declared.query.Parsed.{Parsed}
+use Rattle.query_syntax.specs.declared.query.Parsed.TheVariants as parsed
+use Rattle.query_syntax.specs.declared.query.Query.{Query}
+use Rattle.query_syntax.specs.declared.query.Verb.{Verb}
+use Rattle.query_syntax.specs.declared.query.Verb.TheVariants as verb
+use Rattle.reply_json.specs.Types.{ReplyFits}
+use Rattle.reply_json.specs.declared.reply.Reply.{Reply}
+use Rattle.session_core.specs.Answered.{AreReplies, GainsReplies, GainsSome, GainsFront}
+use Rattle.session_core.specs.Asked.{asked_reply, asked_then, asks_to_end, ends, query_reply, reply_line}
+use Rattle.session_core.specs.Serving.{Serves}
+use Rattle.session_core.specs.Transcript.{replies_text}
+use Rattle.session_core.specs.declared.serving.Served.{Served}
+use Rattle.session_core.specs.declared.serving.Served.TheVariants as served
+use Rattle.session_core.proofs.Finals.{final_transcript}
+use Rattle.session_core.proofs.Own.{reply_own}
+use Rattle.session_core.proofs.Transcripts.{all_append}
+
+module _ (schema : Schema) (stat : Stat) (h : List Point) (told : ℕ) where
+  -- what has a reply goes on
+  verb_goes_on : (q : Query) (v : Verb) (reply : Reply) → query_reply stat schema h told q v ≡ Some reply → ends v ≡ false
+  verb_goes_on q verb.Count reply e = refl
+  verb_goes_on q (verb.Hist k) reply e = refl
+  verb_goes_on q (verb.Map down) reply e = refl
+  verb_goes_on q (verb.Series from wide rows) reply e = refl
+  verb_goes_on q verb.Stat reply e = refl
+  verb_goes_on q verb.Told reply e = refl
+  verb_goes_on q verb.Quit reply e = cc
+
+  pub goes_on : (p : Parsed) (reply : Reply) → asked_reply stat schema h told p ≡ Some reply → asks_to_end p ≡ false
+  goes_on parsed.Skip reply e = refl
+  goes_on (parsed.Ask q) reply e = verb_goes_on q q.verb reply e
+  goes_on (parsed.Fault fault word) reply e = refl
+
+  abbrev asked_if : Bool → Query → List Parsed
+  asked_if ends q = if ends then [] else (parsed.Ask q ∷ [])
+
+  -- and is asked
+  pub asks_one : (p : Parsed) (reply : Reply) → asked_reply stat schema h told p ≡ Some reply → asked_then p [] ≡ p ∷ []
+  asks_one parsed.Skip reply e = cc
+  asks_one (parsed.Ask q) reply e = ap (λ (b : Bool). asked_if b q) (verb_goes_on q q.verb reply e)
+  asks_one (parsed.Fault fault word) reply e = refl
+
+  -- a line that is skipped asks nothing, and one that ends the session asks for that
+  pub skipped_goes_on : (p : Parsed) (s : Served) → s ≡ served.Skipped → Serves stat schema h told p s → asks_to_end p ≡ false
+  skipped_goes_on p s is serves = ap asks_to_end (subst (Serves stat schema h told p) is serves)
+
+  pub quit_ends : (p : Parsed) (s : Served) → s ≡ served.Quit → Serves stat schema h told p s → asks_to_end p ≡ true
+  quit_ends p s is serves = subst (Serves stat schema h told p) is serves
+
+  pub reply_goes_on : (p : Parsed) (s : Served) (bytes : List ℕ) → s ≡ served.Reply bytes → Serves stat schema h told p s → asks_to_end p ≡ false
+  reply_goes_on p s bytes is serves = let r = subst (Serves stat schema h told p) is serves in goes_on p r.0 r.1
+
+  module _ (few : told ≤ length h) where
+    pub replies_none : AreReplies schema stat h told [] []
+    replies_none = record { each = tt; order = tt }
+
+    pub replies_one : (p : Parsed) (reply : Reply) → asked_reply stat schema h told p ≡ Some reply → ReplyFits reply → AreReplies schema stat h told (asked_then p []) (reply ∷ [])
+    replies_one p reply asked fits =
+        subst (λ (ps : List Parsed). AreReplies schema stat h told ps (reply ∷ [])) (sym (asks_one p reply asked))
+        (final_transcript schema (λ s. s ≡ stat) false h told few (p ∷ []) (reply ∷ []) (inl (reply_own schema (λ s. s ≡ stat) h told stat p reply refl asked fits), tt))
+
+    pub replies_on : (ps qs : List Parsed) (rs ss : List Reply) → AreReplies schema stat h told ps rs → AreReplies schema stat h told qs ss → AreReplies schema stat h told (ps ++ qs) (rs ++ ss)
+    replies_on ps qs rs ss first next =
+        final_transcript schema (λ s. s ≡ stat) false h told few (ps ++ qs) (rs ++ ss) (all_append schema (λ s. s ≡ stat) false true h told ps qs rs ss first.each next.each)
+
+    text_on : (rs ss : List Reply) → replies_text (rs ++ ss) ≡ replies_text rs ++ replies_text ss
+    text_on rs ss = flat_map-append reply_line rs ss
+
+    -- no replies
+    pub gained_none : (a : Option (List ℕ)) → GainsReplies schema stat h told a a []
+    gained_none a = ([], replies_none, gains_none a)
+
+    -- replies, and further ones
+    pub gained_on : (a b c : Option (List ℕ)) (ps qs : List Parsed) → GainsReplies schema stat h told a b ps → GainsReplies schema stat h told b c qs → GainsReplies schema stat h told a c (ps ++ qs)
+    gained_on a b c ps qs (rs, first, gained) (ss, next, more) =
+        (rs ++ ss, replies_on ps qs rs ss first next, subst (Gains a c) (sym (text_on rs ss)) (gains_on a b c (replies_text rs) (replies_text ss) gained more))
+
+    -- replies, and a part of further ones
+    pub some_on : (a b c : Option (List ℕ)) (ps qs : List Parsed) → GainsReplies schema stat h told a b ps → GainsSome schema stat h told b c qs → GainsSome schema stat h told a c (ps ++ qs)
+    some_on a b c ps qs (rs, first, gained) (ss, next, some) =
+        (rs ++ ss, replies_on ps qs rs ss first next, subst (GainsPart a c) (ap (λ t. replies_text rs ++ t) (append-nil (replies_text ss)) ∙ sym (text_on rs ss)) (part_on a b c (replies_text rs) (replies_text ss) [] gained some))
+
+    -- all of them are a part
+    pub some_all : (a b : Option (List ℕ)) (ps : List Parsed) → GainsReplies schema stat h told a b ps → GainsSome schema stat h told a b ps
+    some_all a b ps (rs, are, gained) = (rs, are, subst (GainsPart a b) (append-nil (replies_text rs)) (part_whole a b (replies_text rs) [] gained))
+
+    -- the line of one reply
+    pub gained_one : (a b : Option (List ℕ)) (p : Parsed) (reply : Reply) (bytes : List ℕ) → asked_reply stat schema h told p ≡ Some reply → ReplyFits reply → bytes ≡ reply_line reply → Gains a b bytes → GainsReplies schema stat h told a b (asked_then p [])
+    gained_one a b p reply bytes asked fits is gained =
+        (reply ∷ [], replies_one p reply asked fits, subst (Gains a b) (is ∙ sym (append-nil (reply_line reply))) gained)
+
+    pub some_one : (a b : Option (List ℕ)) (p : Parsed) (reply : Reply) (bytes : List ℕ) → asked_reply stat schema h told p ≡ Some reply → ReplyFits reply → bytes ≡ reply_line reply → GainsPart a b bytes → GainsSome schema stat h told a b (asked_then p [])
+    some_one a b p reply bytes asked fits is gained =
+        (reply ∷ [], replies_one p reply asked fits, subst (GainsPart a b) (is ∙ sym (append-nil (reply_line reply))) gained)
+
+    -- what is gained for a line that is served
+    pub skipped_gains : (a : Option (List ℕ)) (p : Parsed) (s : Served) → s ≡ served.Skipped → Serves stat schema h told p s → GainsReplies schema stat h told a a (asked_then p [])
+    skipped_gains a p s is serves = subst (λ (q : Parsed). GainsReplies schema stat h told a a (asked_then q [])) (sym (subst (Serves stat schema h told p) is serves)) (gained_none a)
+
+    pub reply_gains : (a b : Option (List ℕ)) (p : Parsed) (s : Served) (bytes text : List ℕ) → s ≡ served.Reply bytes → Serves stat schema h told p s → text ≡ bytes → Gains a b text → GainsReplies schema stat h told a b (asked_then p [])
+    reply_gains a b p s bytes text is serves same gained = let r = subst (Serves stat schema h told p) is serves in gained_one a b p r.0 text r.1 r.2 (same ∙ r.3) gained
+
+    pub reply_some : (a b : Option (List ℕ)) (p : Parsed) (s : Served) (bytes text : List ℕ) → s ≡ served.Reply bytes → Serves stat schema h told p s → text ≡ bytes → GainsPart a b text → GainsSome schema stat h told a b (asked_then p [])
+    reply_some a b p s bytes text is serves same some = let r = subst (Serves stat schema h told p) is serves in some_one a b p r.0 text r.1 r.2 (same ∙ r.3) some
+
+    -- replies to what was asked are such to a front of what is asked in all
+    pub front_of : (a b : Option (List ℕ)) (all front later : List Parsed) → all ≡ front ++ later → GainsSome schema stat h told a b front → GainsFront schema stat h told a b all
+    front_of a b all front later is some = (front, later, is, some)
