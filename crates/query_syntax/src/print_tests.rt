@@ -2,9 +2,9 @@
 ghost use Rattle.std.specs.Prelude.{◌≡◌, ◌∷◌, [], IfOk, IsTrue};
 ghost use Rattle.query_syntax.specs.Meaning.{asks_valid};
 
-use crate::tests::schema;
 use crate::{Choice, Parsed, Query, QueryFault, Span, ValueSet, Verb, parse, print};
 use cube_view::{Category, Schema, Tile};
+use example_schemas::schema_of_kinds;
 use outer_io::{List, NoMemory, Text};
 use std::alloc::Global;
 use std::test::Fail;
@@ -32,7 +32,7 @@ fn spaced_schema(alloc: Global) -> Result<Schema, NoMemory> {
     let mut categories = List::new(alloc);
     categories.add(category(alloc, "k", "a b", "c|d", "e")?)?;
     categories.add(category(alloc, "m", "c d", "e", "f")?)?;
-    Ok(Schema::new(3, categories, 0, 10, 1))
+    Ok(Schema::new(3, categories, 0, 10, 1, None))
 }
 
 // The line of the query that was asked, and no bytes if none was.
@@ -66,14 +66,14 @@ fn prints_each_verb_and_its_filters_in_one_order(rt: HostRuntime) -> Result<(), 
         ),
         (b"map 02", b"map 2"),
         (
-            b"series 0 10 4 with kind=\"b\"",
+            br#"series 0 10 4 with kind="b""#,
             b"series 0 10 4 with kind=b",
         ),
         (b" stat", b"stat"),
         (b"told ", b"told"),
         (b"quit", b"quit"),
     ];
-    let schema = schema(rt.alloc())?;
+    let schema = schema_of_kinds(rt.alloc())?;
     for (line, want) in cases {
         let (parsed, text) = printed(rt.alloc(), &schema, line)?;
         assert_eq!(rt; text.as_slice(), want);
@@ -85,10 +85,10 @@ fn prints_each_verb_and_its_filters_in_one_order(rt: HostRuntime) -> Result<(), 
 #[test]
 fn quotes_values_with_a_space_or_a_bar(rt: HostRuntime) -> Result<(), Fail> {
     let cases: [(&[u8], &[u8]); 3] = [
-        (b"count with k=\"e\"", b"count with k=e"),
+        (br#"count with k="e""#, b"count with k=e"),
         (
-            b"count with m=\"c d\" with k=\"c|d\"|\"a b\"",
-            b"count with k=\"a b\"|\"c|d\" with m=\"c d\"",
+            br#"count with m="c d" with k="c|d"|"a b""#,
+            br#"count with k="a b"|"c|d" with m="c d""#,
         ),
         (b"count with m=f|e", b"count with m=e|f"),
     ];
@@ -119,10 +119,10 @@ fn reads_a_space_or_a_bar_in_quotes_as_part_of_a_value(rt: HostRuntime) -> Resul
     });
     let cases: [(&[u8], Parsed); 2] = [
         (
-            b"count with k=\"a b\" with m=\"c d\" by",
+            br#"count with k="a b" with m="c d" by"#,
             Parsed::Fault(QueryFault::UnknownFilter, 6),
         ),
-        (b"count with k=\"c|d\"", bar),
+        (br#"count with k="c|d""#, bar),
     ];
     let schema = spaced_schema(rt.alloc())?;
     for (line, want) in cases {

@@ -1,11 +1,11 @@
 //! Tables of query lines over a few points, against rows that were counted by hand.
-ghost use Rattle.std.specs.Prelude.{◌≡◌, ◌∷◌, [], IfOk, IsTrue, codes};
+ghost use Rattle.std.specs.Prelude.{◌≡◌, ◌<◌, ◌^◌, ◌∷◌, [], IfOk, IsTrue, codes};
+ghost use Rattle.cube_view.specs.Bag.{amount, anywhere};
 ghost use Rattle.query_syntax.specs.Meaning.{asks_valid};
-ghost use Rattle.query_syntax.specs.Tables.{has_table};
 
-use crate::tests::schema;
-use crate::{Parsed, RowOut, Table, Verb, parse, table_of};
+use crate::{Parsed, RowOut, Table, has_table, parse, table_of};
 use cube_view::{Category, Point, Schema, Spot};
+use example_schemas::schema_of_kinds;
 use outer_io::{List, NoMemory, Text};
 use std::alloc::Global;
 use std::process::Abort;
@@ -45,15 +45,6 @@ fn are_rows(rows: &[RowOut], wants: &[Want]) -> bool {
     rows.len() == wants.len() && rows.iter().zip(wants).all(|(row, want)| is_row(row, want))
 }
 
-fn asks_table(verb: Verb) -> bool
-    ensures { result ≡ has_table verb }
-{
-    matches!(
-        verb,
-        Verb::Count | Verb::Hist(_) | Verb::Map(_) | Verb::Series { .. }
-    )
-}
-
 // The table that was asked for, if one was.
 fn table_asked(
     alloc: Global,
@@ -61,10 +52,11 @@ fn table_asked(
     parsed: &Parsed,
     points: &[Point],
 ) -> Result<Option<Table>, NoMemory>
-    requires { IsTrue (asks_valid schema.now parsed.now) }
+    requires valid { IsTrue (asks_valid schema.now parsed.now) }
+    requires light { amount anywhere points.now < 2 ^ 64 }
 {
     match parsed {
-        Parsed::Ask(query) if asks_table(query.verb) => {
+        Parsed::Ask(query) if has_table(&query.verb) => {
             let table = table_of(alloc, schema, query, points)?;
             Ok(Some(table))
         }
@@ -78,7 +70,9 @@ fn check(
     schema: &Schema,
     points: &[Point],
     case: &Case,
-) -> Result<(), NoMemory> {
+) -> Result<(), NoMemory>
+    requires { amount anywhere points.now < 2 ^ 64 }
+{
     let parsed = parse(alloc, schema, case.line.as_bytes())?;
     match table_asked(alloc, schema, &parsed, points)? {
         Some(table) => {
@@ -91,18 +85,115 @@ fn check(
     Ok(())
 }
 
-fn spot(x: u32, y: u32, value: u8, bin: u32) -> Spot {
-    Spot {
-        x,
-        y,
-        values: [value, 0, 0, 0],
-        bin,
-    }
-}
+/// Two records of value a in one corner and one of b in the other.
+const THREE: [Point; 3] = [
+    Point {
+        spot: Spot {
+            x: 0,
+            y: 0,
+            values: [0, 0, 0, 0],
+            bin: 0,
+        },
+        weight: 1,
+    },
+    Point {
+        spot: Spot {
+            x: 7,
+            y: 7,
+            values: [1, 0, 0, 0],
+            bin: 1,
+        },
+        weight: 1,
+    },
+    Point {
+        spot: Spot {
+            x: 0,
+            y: 0,
+            values: [0, 0, 0, 0],
+            bin: 1,
+        },
+        weight: 1,
+    },
+];
 
+/// A record in the second quadrant of all and one in the first.
+const TWO_TILES: [Point; 2] = [
+    Point {
+        spot: Spot {
+            x: 4,
+            y: 0,
+            values: [0, 0, 0, 0],
+            bin: 0,
+        },
+        weight: 1,
+    },
+    Point {
+        spot: Spot {
+            x: 0,
+            y: 2,
+            values: [0, 0, 0, 0],
+            bin: 0,
+        },
+        weight: 1,
+    },
+];
+
+/// Records in the last bin and in the first.
+const ENDS: [Point; 2] = [
+    Point {
+        spot: Spot {
+            x: 0,
+            y: 1,
+            values: [0, 0, 0, 0],
+            bin: 4294967295,
+        },
+        weight: 1,
+    },
+    Point {
+        spot: Spot {
+            x: 1,
+            y: 1,
+            values: [0, 0, 0, 0],
+            bin: 0,
+        },
+        weight: 1,
+    },
+];
+
+/// Records that stand for several things, two of them at one spot.
+const WEIGHTED: [Point; 3] = [
+    Point {
+        spot: Spot {
+            x: 0,
+            y: 0,
+            values: [0, 0, 0, 0],
+            bin: 0,
+        },
+        weight: 5,
+    },
+    Point {
+        spot: Spot {
+            x: 7,
+            y: 7,
+            values: [1, 0, 0, 0],
+            bin: 1,
+        },
+        weight: 2,
+    },
+    Point {
+        spot: Spot {
+            x: 7,
+            y: 7,
+            values: [1, 0, 0, 0],
+            bin: 1,
+        },
+        weight: 268435455,
+    },
+];
+
+#[tactic(auto, unfolding(cube_view::specs::Bag::amount))]
 #[test]
 fn counts_the_rows_of_three_records(rt: HostRuntime) -> Result<(), Fail> {
-    let points = [spot(0, 0, 0, 0), spot(7, 7, 1, 1), spot(0, 0, 0, 1)];
     let cases = [
         Case {
             line: "count",
@@ -141,23 +232,23 @@ fn counts_the_rows_of_three_records(rt: HostRuntime) -> Result<(), Fail> {
             rows: &[Want::Bin(1, 1), Want::Bin(4294967297, 0)],
         },
     ];
-    let schema = schema(rt.alloc())?;
+    let schema = schema_of_kinds(rt.alloc())?;
     for case in &cases {
-        check(&rt, rt.alloc(), &schema, &points, case)?;
+        check(&rt, rt.alloc(), &schema, &THREE, case)?;
     }
     Ok(())
 }
 
 // Tile 2/0/1 has the lesser label at level 1, and 2/2/0 the lesser row.
+#[tactic(auto, unfolding(cube_view::specs::Bag::amount))]
 #[test]
 fn tiles_are_in_path_order(rt: HostRuntime) -> Result<(), Fail> {
-    let points = [spot(4, 0, 0, 0), spot(0, 2, 0, 0)];
     let case = Case {
         line: "map 2",
         rows: &[Want::Area(2, 0, 1, 1), Want::Area(2, 2, 0, 1)],
     };
-    let schema = schema(rt.alloc())?;
-    check(&rt, rt.alloc(), &schema, &points, &case)?;
+    let schema = schema_of_kinds(rt.alloc())?;
+    check(&rt, rt.alloc(), &schema, &TWO_TILES, &case)?;
     Ok(())
 }
 
@@ -174,12 +265,12 @@ fn single(alloc: Global) -> Result<Category, NoMemory>
 fn schema_of_one_value(alloc: Global) -> Result<Schema, NoMemory> {
     let mut categories = List::new(alloc);
     categories.add(single(alloc)?)?;
-    Ok(Schema::new(1, categories, 0, 1, 1))
+    Ok(Schema::new(1, categories, 0, 1, 1, None))
 }
 
+#[tactic(auto, unfolding(cube_view::specs::Bag::amount))]
 #[test]
 fn a_category_of_one_value_has_one_row(rt: HostRuntime) -> Result<(), Fail> {
-    let points = [spot(0, 1, 0, 4294967295), spot(1, 1, 0, 0)];
     let hist = Case {
         line: "hist only",
         rows: &[Want::Value("a", 2)],
@@ -189,7 +280,27 @@ fn a_category_of_one_value_has_one_row(rt: HostRuntime) -> Result<(), Fail> {
         rows: &[Want::Bin(4294967295, 1), Want::Bin(8589934591, 0)],
     };
     let schema = schema_of_one_value(rt.alloc())?;
-    check(&rt, rt.alloc(), &schema, &points, &hist)?;
-    check(&rt, rt.alloc(), &schema, &points, &last_bin)?;
+    check(&rt, rt.alloc(), &schema, &ENDS, &hist)?;
+    check(&rt, rt.alloc(), &schema, &ENDS, &last_bin)?;
+    Ok(())
+}
+
+#[tactic(auto, unfolding(cube_view::specs::Bag::amount))]
+#[test]
+fn a_total_is_a_sum_of_weights(rt: HostRuntime) -> Result<(), Fail> {
+    let cases = [
+        Case {
+            line: "count in 1/0/0",
+            rows: &[Want::One(5)],
+        },
+        Case {
+            line: "hist kind",
+            rows: &[Want::Value("a", 5), Want::Value("b", 268435457)],
+        },
+    ];
+    let schema = schema_of_kinds(rt.alloc())?;
+    for case in &cases {
+        check(&rt, rt.alloc(), &schema, &WEIGHTED, case)?;
+    }
     Ok(())
 }

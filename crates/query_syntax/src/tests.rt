@@ -1,33 +1,15 @@
 //! What lines mean, by examples.
-ghost use Rattle.std.specs.Prelude.{◌≡◌, ◌∷◌, [], IfOk, codes};
-
-use crate::{Choice, Parsed, Query, QueryFault, Span, ValueSet, Verb, parse};
-use cube_view::{Category, Schema, Tile};
-use outer_io::{List, NoMemory, Text};
+use crate::{
+    Choice, Parsed, Query, QueryFault, Span, ValueSet, Verb, is_valid_query, parse, print,
+};
+use cube_view::Tile;
+use example_schemas::schema_of_kinds;
 use std::alloc::Global;
 use std::process::Abort;
 use std::test::Fail;
 
-fn kind(alloc: Global) -> Result<Category, NoMemory>
-    ensures name { IfOk result (λ category. category.name ≡ codes "kind") }
-    ensures values { IfOk result (λ category. category.values ≡ codes "a" ∷ codes "b" ∷ []) }
-{
-    let name = Text::copy_of(alloc, "kind")?;
-    let mut values = List::new(alloc);
-    values.add(Text::copy_of(alloc, "a")?)?;
-    values.add(Text::copy_of(alloc, "b")?)?;
-    Ok(Category { name, values })
-}
-
-// Depth 3, the category `kind` of a and b, and bins of 10 from 0 on.
-pub fn schema(alloc: Global) -> Result<Schema, NoMemory> {
-    let mut categories = List::new(alloc);
-    categories.add(kind(alloc)?)?;
-    Ok(Schema::new(3, categories, 0, 10, 1))
-}
-
 fn meaning(alloc: Global, line: &[u8]) -> Result<Parsed, Fail> {
-    let schema = schema(alloc)?;
+    let schema = schema_of_kinds(alloc)?;
     Ok(parse(alloc, &schema, line)?)
 }
 
@@ -69,8 +51,8 @@ fn names_the_first_fault_and_its_word(rt: HostRuntime) -> Result<(), Fail> {
             b"count time 0 1 time 0 1",
             fault(QueryFault::RepeatedFilter, 5),
         ),
-        (b"count with kind=\"a", fault(QueryFault::BadQuote, 3)),
-        (b"count with kind=a\"b\"", fault(QueryFault::BadQuote, 3)),
+        (br#"count with kind="a"#, fault(QueryFault::BadQuote, 3)),
+        (br#"count with kind=a"b""#, fault(QueryFault::BadQuote, 3)),
         (b"count with kind", fault(QueryFault::UnknownCategory, 3)),
         (b"count with kind=c", fault(QueryFault::UnknownValue, 3)),
         (
@@ -120,7 +102,7 @@ fn reads_filters_in_any_order(rt: HostRuntime) -> Result<(), Fail> {
         (b"count", counting(all, Choice::All, 0, end)),
         (b"count  with kind=a|a in 01/0/1", counting(part, a, 0, end)),
         (
-            b"count with kind=a|\"b\"",
+            br#"count with kind=a|"b""#,
             counting(all, Choice::All, 0, end),
         ),
         (
@@ -135,5 +117,80 @@ fn reads_filters_in_any_order(rt: HostRuntime) -> Result<(), Fail> {
     for (line, query) in cases {
         assert_eq!(rt; meaning(rt.alloc(), line)?, query);
     }
+    Ok(())
+}
+
+fn asking(verb: Verb, z: u8, x: u32, kind: Choice, from: u64, to: u64) -> Query {
+    Query {
+        verb,
+        region: Tile { z, x, y: 0 },
+        sets: [kind, Choice::All, Choice::All, Choice::All],
+        time: Span { from, to },
+    }
+}
+
+fn only(value: u8) -> Choice {
+    Choice::Only(ValueSet::one(value))
+}
+
+fn series(from: u64, wide: u64, rows: u32) -> Verb {
+    Verb::Series { from, wide, rows }
+}
+
+#[test]
+fn takes_queries_up_to_the_ends_of_their_ranges(rt: HostRuntime) -> Result<(), Fail> {
+    let end = 1 << 32;
+    let cases = [
+        (asking(Verb::Count, 3, 7, only(0), end, end), true),
+        (asking(Verb::Count, 4, 0, Choice::All, 0, end), false),
+        (asking(Verb::Count, 3, 8, Choice::All, 0, end), false),
+        (asking(Verb::Count, 0, 0, Choice::All, 1, 0), false),
+        (asking(Verb::Count, 0, 0, Choice::All, 0, end + 1), false),
+        (
+            asking(Verb::Count, 0, 0, Choice::Only(ValueSet::none()), 0, end),
+            false,
+        ),
+        (asking(Verb::Count, 0, 0, only(2), 0, end), false),
+        (asking(Verb::Hist(0), 0, 0, Choice::All, 0, 0), true),
+        (asking(Verb::Hist(1), 0, 0, Choice::All, 0, end), false),
+        (asking(Verb::Map(3), 0, 0, Choice::All, 0, end), true),
+        (asking(Verb::Map(0), 3, 0, Choice::All, 0, end), true),
+        (asking(Verb::Map(4), 0, 0, Choice::All, 0, end), false),
+        (asking(series(0, 1, 1), 0, 0, Choice::All, 0, end), true),
+        (
+            asking(series(end - 1, end, 10_000), 0, 0, only(0), 0, end),
+            true,
+        ),
+        (asking(series(end, 1, 1), 0, 0, Choice::All, 0, end), false),
+        (asking(series(0, 0, 1), 0, 0, Choice::All, 0, end), false),
+        (
+            asking(series(0, 1, 10_001), 0, 0, Choice::All, 0, end),
+            false,
+        ),
+        (asking(series(0, 1, 1), 0, 0, Choice::All, 0, 1), false),
+        (asking(Verb::Stat, 0, 0, Choice::All, 0, end), true),
+        (asking(Verb::Told, 0, 0, Choice::All, 0, end), true),
+        (asking(Verb::Quit, 0, 0, Choice::All, 0, end), true),
+        (asking(Verb::Quit, 1, 0, Choice::All, 0, end), false),
+    ];
+    let schema = schema_of_kinds(rt.alloc())?;
+    for (query, is_taken) in &cases {
+        assert_eq!(rt; is_valid_query(&schema, query), *is_taken);
+    }
+    Ok(())
+}
+
+// The example of the crate's page.
+#[test]
+fn prints_a_line_in_its_one_form(rt: HostRuntime) -> Result<(), Fail> {
+    let schema = schema_of_kinds(rt.alloc())?;
+    let Parsed::Ask(query) = parse(rt.alloc(), &schema, b"count  in 01/0/1")? else {
+        return Err(Fail::from("it asks for a total"));
+    };
+    if !is_valid_query(&schema, &query) {
+        return Err(Fail::from("it is valid"));
+    }
+    let line = print(rt.alloc(), &schema, &query)?;
+    assert_eq!(rt; line.as_slice(), b"count in 1/0/1".as_slice());
     Ok(())
 }

@@ -1,4 +1,4 @@
--- Final transcripts: each printed number is all there is.
+-- Laws of final transcripts: each printed number is all there is.
 use Rattle.std.proofs.Common.{◌≡◌, ℕ, ◌≤◌, Bool, true, false, List, [], ◌∷◌, length, inl, inr, sym, subst, max, arith}
 use Rattle.std.specs.Prelude.{⊤}
 use Rattle.cube_view.specs.Points.{Point}
@@ -16,6 +16,7 @@ Prints n t (Reply.Stat stat seen) = seen ≡ n
 Prints n t (Reply.Told told) = told ≡ t
 Prints n t reply = ⊤
 
+-- each of the replies does
 abbrev pub AllPrint : ℕ → ℕ → List Reply → Type 0
 AllPrint n t [] = ⊤
 AllPrint n t (reply ∷ replies) = Prints n t reply × AllPrint n t replies
@@ -38,7 +39,7 @@ module _ (schema : Schema) (is_stat : Stat → Type 0) (lacks : Bool) (l : List 
   all_print (p ∷ ps) [] all = absurd all
   all_print (p ∷ ps) (reply ∷ replies) all = (answer_prints p reply all.0, all_print ps replies all.1)
 
-  -- (d) in a final transcript each printed number is the list's length, or the told length
+  -- in a final transcript each printed number is the list's length, or the told length
   pub final_prints : (ps : List Parsed) (replies : List Reply) → IsTranscript schema is_stat true l u lacks ps replies → AllPrint (length l) u replies
   final_prints ps replies t = all_print ps replies t.each
 
@@ -59,7 +60,7 @@ module _ (schema : Schema) (is_stat : Stat → Type 0) (lacks : Bool) (l : List 
   all_final (p ∷ ps) [] all e = absurd all
   all_final (p ∷ ps) (reply ∷ replies) all e = (answer_final p reply all.0 e.0, all_final ps replies all.1 e.1)
 
-  -- (d) and a transcript in which each is so is final
+  -- and a transcript in which each is so is final
   pub final_of : (ps : List Parsed) (replies : List Reply) → IsTranscript schema is_stat false l u lacks ps replies → AllPrint (length l) u replies → IsTranscript schema is_stat true l u lacks ps replies
   final_of ps replies t e = record { each = all_final ps replies t.each e; order = t.order }
 

@@ -1,4 +1,4 @@
--- Transcripts: within longer lists, one after another, and read back from their text.
+-- Laws of transcripts: within longer lists, where memory may lack, and one after another.
 use Rattle.std.proofs.Common.{◌≡◌, ℕ, ◌≤◌, max, inl, inr, Bool, true, false, List, [], ◌∷◌, ◌++◌, length, take, ap, ◌∙◌, arith, length-append, sym, append-nil}
 use Rattle.std.proofs.lemmas.List.{take-append-le}
 use mathlib.Core.List.{IsPrefix}
@@ -37,37 +37,37 @@ prefix_same l = ([], append-nil l)
 
 module _ (schema : Schema) (is_stat : Stat → Type 0) where
   -- what a reply has seen is no more than the list
-  seen_within : (may_lack final : Bool) (l : List Point) (u : ℕ) (reply : Reply) → MayPrint schema is_stat final l u reply → seen_in reply ≤ length l
-  seen_within may_lack final l u (Reply.Table table) m = up_to_weaker final (length l) table.seen m
-  seen_within may_lack final l u (Reply.Stat stat seen) m = up_to_weaker final (length l) seen m.0
-  seen_within may_lack final l u (Reply.Told told) m = omega arith
-  seen_within may_lack final l u (Reply.Fault fault word) m = omega arith
-  seen_within may_lack final l u Reply.NoMemory m = omega arith
+  seen_within : (final : Bool) (l : List Point) (u : ℕ) (reply : Reply) → MayPrint schema is_stat final l u reply → seen_in reply ≤ length l
+  seen_within final l u (Reply.Table table) m = up_to_weaker final (length l) table.seen m
+  seen_within final l u (Reply.Stat stat seen) m = up_to_weaker final (length l) seen m.0
+  seen_within final l u (Reply.Told told) m = omega arith
+  seen_within final l u (Reply.Fault fault word) m = omega arith
+  seen_within final l u Reply.NoMemory m = omega arith
 
-  told_within : (may_lack final : Bool) (l : List Point) (u : ℕ) (reply : Reply) → MayPrint schema is_stat final l u reply → told_in reply ≤ u
-  told_within may_lack final l u (Reply.Table table) m = omega arith
-  told_within may_lack final l u (Reply.Stat stat seen) m = omega arith
-  told_within may_lack final l u (Reply.Told told) m = up_to_weaker final u told m
-  told_within may_lack final l u (Reply.Fault fault word) m = omega arith
-  told_within may_lack final l u Reply.NoMemory m = omega arith
+  told_within : (final : Bool) (l : List Point) (u : ℕ) (reply : Reply) → MayPrint schema is_stat final l u reply → told_in reply ≤ u
+  told_within final l u (Reply.Table table) m = omega arith
+  told_within final l u (Reply.Stat stat seen) m = omega arith
+  told_within final l u (Reply.Told told) m = up_to_weaker final u told m
+  told_within final l u (Reply.Fault fault word) m = omega arith
+  told_within final l u Reply.NoMemory m = omega arith
 
-  may_print_within : (lacks lacks' final : Bool) (l h : List Point) (u v : ℕ) (reply : Reply) → length l ≤ length h → u ≤ v → MayPrint schema is_stat final l u reply → MayPrint schema is_stat false h v reply
-  may_print_within lacks lacks' final l h u v (Reply.Table table) p q m = omega (arith, p, up_to_weaker final (length l) table.seen m)
-  may_print_within lacks lacks' final l h u v (Reply.Stat stat seen) p q m = (omega (arith, p, up_to_weaker final (length l) seen m.0), m.1)
-  may_print_within lacks lacks' final l h u v (Reply.Told told) p q m = omega (arith, q, up_to_weaker final u told m)
-  may_print_within lacks lacks' final l h u v (Reply.Fault fault word) p q m = tt
-  may_print_within lacks lacks' final l h u v Reply.NoMemory p q m = tt
+  may_print_within : (final : Bool) (l h : List Point) (u v : ℕ) (reply : Reply) → length l ≤ length h → u ≤ v → MayPrint schema is_stat final l u reply → MayPrint schema is_stat false h v reply
+  may_print_within final l h u v (Reply.Table table) p q m = omega (arith, p, up_to_weaker final (length l) table.seen m)
+  may_print_within final l h u v (Reply.Stat stat seen) p q m = (omega (arith, p, up_to_weaker final (length l) seen m.0), m.1)
+  may_print_within final l h u v (Reply.Told told) p q m = omega (arith, q, up_to_weaker final u told m)
+  may_print_within final l h u v (Reply.Fault fault word) p q m = tt
+  may_print_within final l h u v Reply.NoMemory p q m = tt
 
-  reply_within : (lacks lacks' final : Bool) (l h : List Point) (u v : ℕ) (p : Parsed) (reply : Reply) → IsPrefix l h → u ≤ v → IsReply schema is_stat final l u p reply → IsReply schema is_stat false h v p reply
-  reply_within lacks lacks' final l h u v p reply g q r =
+  reply_within : (final : Bool) (l h : List Point) (u v : ℕ) (p : Parsed) (reply : Reply) → IsPrefix l h → u ≤ v → IsReply schema is_stat final l u p reply → IsReply schema is_stat false h v p reply
+  reply_within final l h u v p reply g q r =
       record {
-        meant = ap (λ ps. asked_reply (stat_in reply) schema ps (told_in reply) p) (firsts_same l h (seen_in reply) g (seen_within lacks final l u reply r.numbers)) ∙ r.meant;
-        numbers = may_print_within lacks lacks' final l h u v reply (longer l h g) q r.numbers;
+        meant = ap (λ ps. asked_reply (stat_in reply) schema ps (told_in reply) p) (firsts_same l h (seen_in reply) g (seen_within final l u reply r.numbers)) ∙ r.meant;
+        numbers = may_print_within final l h u v reply (longer l h g) q r.numbers;
         fits = r.fits;
       }
 
   answers_within : (lacks lacks' final : Bool) (l h : List Point) (u v : ℕ) (p : Parsed) (reply : Reply) → (lacks ≡ true → lacks' ≡ true) → IsPrefix l h → u ≤ v → Answers schema is_stat final l u lacks p reply → Answers schema is_stat false h v lacks' p reply
-  answers_within lacks lacks' final l h u v p reply may g q (inl r) = inl (reply_within lacks lacks' final l h u v p reply g q r)
+  answers_within lacks lacks' final l h u v p reply may g q (inl r) = inl (reply_within final l h u v p reply g q r)
   answers_within lacks lacks' final l h u v p reply may g q (inr r) = inr (may r.0, r.1)
 
   all_within : (lacks lacks' final : Bool) (l h : List Point) (u v : ℕ) (ps : List Parsed) (replies : List Reply) → (lacks ≡ true → lacks' ≡ true) → IsPrefix l h → u ≤ v → AllAnswered schema is_stat final l u lacks ps replies → AllAnswered schema is_stat false h v lacks' ps replies
@@ -77,7 +77,7 @@ module _ (schema : Schema) (is_stat : Stat → Type 0) where
   all_within lacks lacks' final l h u v (p ∷ ps) (reply ∷ replies) may g q all =
       (answers_within lacks lacks' final l h u v p reply may g q all.0, all_within lacks lacks' final l h u v ps replies may g q all.1)
 
-  -- (a) within a list and a number it is within each longer list and each greater number; a final one is one that is not,
+  -- within a list and a number it is within each longer list and each greater number; a final one is one that is not,
   -- and one without the line for want of memory is one with it
   pub transcript_within : (lacks lacks' final : Bool) (l h : List Point) (u v : ℕ) (ps : List Parsed) (replies : List Reply) → (lacks ≡ true → lacks' ≡ true) → IsPrefix l h → u ≤ v → IsTranscript schema is_stat final l u lacks ps replies → IsTranscript schema is_stat false h v lacks' ps replies
   transcript_within lacks lacks' final l h u v ps replies may g q t =
@@ -85,9 +85,10 @@ module _ (schema : Schema) (is_stat : Stat → Type 0) where
 
   -- no answer prints more than there is
   pub answer_seen : (lacks final : Bool) (l : List Point) (u : ℕ) (p : Parsed) (reply : Reply) → Answers schema is_stat final l u lacks p reply → (seen_in reply ≤ length l) × (told_in reply ≤ u)
-  answer_seen lacks final l u p reply (inl r) = (seen_within lacks final l u reply r.numbers, told_within lacks final l u reply r.numbers)
+  answer_seen lacks final l u p reply (inl r) = (seen_within final l u reply r.numbers, told_within final l u reply r.numbers)
   answer_seen lacks final l u p reply (inr r) = (omega (arith, ap seen_in r.1), omega (arith, ap told_in r.1))
 
+  -- what is answered, one after another
   pub all_append : (lacks final : Bool) (l : List Point) (u : ℕ) (ps qs : List Parsed) (replies others : List Reply) → AllAnswered schema is_stat final l u lacks ps replies → AllAnswered schema is_stat final l u lacks qs others → AllAnswered schema is_stat final l u lacks (ps ++ qs) (replies ++ others)
   all_append lacks final l u [] qs [] others all more = more
   all_append lacks final l u [] qs (r ∷ replies) others all more = absurd all
@@ -102,7 +103,7 @@ module _ (schema : Schema) (is_stat : Stat → Type 0) where
       let in_reply = answer_seen lacks final l u p r all.0 in
       (order.0, falls_append lacks final l u ps replies others (max seen (seen_in r)) (max told (told_in r)) (omega (arith, s, in_reply.0)) (omega (arith, t, in_reply.1)) all.1 next order.1)
 
-  -- (b) more replies at the end, to a list that goes on, which may come after all that was seen and told
+  -- more replies at the end, to a list that goes on, which may come after all that was seen and told
   pub transcript_append : (lacks lacks' final last : Bool) (l h : List Point) (u v : ℕ) (ps qs : List Parsed) (replies others : List Reply) → (lacks ≡ true → lacks' ≡ true) → IsPrefix l h → u ≤ v → IsTranscript schema is_stat final l u lacks ps replies → IsTranscript schema is_stat last h v lacks' qs others → NeverFalls (length l) u others → IsTranscript schema is_stat false h v lacks' (ps ++ qs) (replies ++ others)
   transcript_append lacks lacks' final last l h u v ps qs replies others may g q t more follows =
       record {
@@ -110,7 +111,6 @@ module _ (schema : Schema) (is_stat : Stat → Type 0) where
         order = falls_append lacks final l u ps replies others 0 0 (omega arith) (omega arith) t.each follows t.order;
       }
 
-  -- (a) where memory may lack it is a transcript as where it may not
   all_lacking : (lacks lacks' final : Bool) (l : List Point) (u : ℕ) (ps : List Parsed) (replies : List Reply) → (lacks ≡ true → lacks' ≡ true) → AllAnswered schema is_stat final l u lacks ps replies → AllAnswered schema is_stat final l u lacks' ps replies
   all_lacking lacks lacks' final l u [] [] may all = tt
   all_lacking lacks lacks' final l u [] (reply ∷ replies) may all = absurd all
@@ -121,10 +121,11 @@ module _ (schema : Schema) (is_stat : Stat → Type 0) where
       here (inl r) = inl r
       here (inr r) = inr (may r.0, r.1)
 
+  -- where memory may lack it is a transcript as where it may not
   pub transcript_lacking : (lacks lacks' final : Bool) (l : List Point) (u : ℕ) (ps : List Parsed) (replies : List Reply) → (lacks ≡ true → lacks' ≡ true) → IsTranscript schema is_stat final l u lacks ps replies → IsTranscript schema is_stat final l u lacks' ps replies
   transcript_lacking lacks lacks' final l u ps replies may t = record { each = all_lacking lacks lacks' final l u ps replies may t.each; order = t.order }
 
-  -- (b) the same of final ones, over one list
+  -- the same of final ones, over one list
   pub final_append : (lacks lacks' : Bool) (l : List Point) (u : ℕ) (ps qs : List Parsed) (replies others : List Reply) → (lacks ≡ true → lacks' ≡ true) → IsTranscript schema is_stat true l u lacks ps replies → IsTranscript schema is_stat true l u lacks' qs others → NeverFalls (length l) u others → IsTranscript schema is_stat true l u lacks' (ps ++ qs) (replies ++ others)
   final_append lacks lacks' l u ps qs replies others may t more follows =
       record {
@@ -132,10 +133,11 @@ module _ (schema : Schema) (is_stat : Stat → Type 0) where
         order = falls_append lacks true l u ps replies others 0 0 (omega arith) (omega arith) t.each follows t.order;
       }
 
-  -- (b) one more reply at the end
+  -- one more reply at the end
   pub transcript_push : (lacks lacks' final : Bool) (l h : List Point) (u v : ℕ) (ps : List Parsed) (replies : List Reply) (p : Parsed) (reply : Reply) → (lacks ≡ true → lacks' ≡ true) → IsPrefix l h → u ≤ v → MayCome (length l) u reply → IsTranscript schema is_stat final l u lacks ps replies → Answers schema is_stat false h v lacks' p reply → IsTranscript schema is_stat false h v lacks' (ps ++ p ∷ []) (replies ++ reply ∷ [])
   transcript_push lacks lacks' final l h u v ps replies p reply may g q next t a =
       transcript_append lacks lacks' final false l h u v ps (p ∷ []) replies (reply ∷ []) may g q t (record { each = (a, tt); order = (may_come_less 0 (length l) 0 u reply (omega arith) (omega arith) next, tt) }) (next, tt)
 
+  -- where nothing was asked, no replies are a transcript
   pub transcript_none : (lacks final : Bool) (l : List Point) (u : ℕ) → IsTranscript schema is_stat final l u lacks [] []
   transcript_none lacks final l u = record { each = tt; order = tt }

@@ -22,5 +22,5 @@ Serves stat schema h told p served.Quit = asks_to_end p ≡ true
 -- how many steps the answer takes at most: those of its table, if it is one
 abbrev pub answer_cost : ViewCosts → Schema → Parsed → List Point → ℕ
 answer_cost costs schema Skip h = 0
-answer_cost costs schema (Ask q) h = table_cost costs schema q h q.verb
+answer_cost costs schema (Ask q) h = table_cost costs schema h q q.verb
 answer_cost costs schema (Fault fault word) h = 0

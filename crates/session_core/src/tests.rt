@@ -1,9 +1,11 @@
-//! Lines over a plain cube of three points, of which seven were told.
-ghost use Rattle.std.specs.Prelude.{◌≡◌, ◌<◌, ◌∷◌, [], IfOk};
+//! Lines and scripts over a plain cube of three points, and over one of none.
+ghost use Rattle.std.specs.Prelude.{◌≡◌, ◌<◌, ◌≤◌, IfOk};
+ghost use Rattle.probe_core.specs.Blanks.{IsBlankOf};
 
-use crate::{Served, serve};
-use cube_view::{Category, CubeView, Point, Schema, is_valid};
-use outer_io::{List, NoMemory, Text};
+use crate::{Served, SessionFault, answer_script, serve};
+use cube_view::{CubeView, Point, is_sound};
+use example_schemas::{point, schema_of_kinds};
+use outer_io::{List, MemSink, MemSource, NoMemory};
 use plain_cube::PlainCube;
 use probe_core::Steps;
 use query_syntax::parse;
@@ -13,39 +15,27 @@ use std::process::Abort;
 use std::sync::ledger::{Blank, Ledger};
 use std::test::Fail;
 
+/// How many points were told, of which a view may have seen fewer.
 const TOLD: u64 = 7;
 
-const POINTS: [Point; 3] = [
-    Point {
-        x: 0,
-        y: 0,
-        values: [0; 4],
-        bin: 0,
-    },
-    Point {
-        x: 7,
-        y: 7,
-        values: [1, 0, 0, 0],
-        bin: 1,
-    },
-    Point {
-        x: 0,
-        y: 0,
-        values: [0; 4],
-        bin: 1,
-    },
-];
+fn add(cube: &mut PlainCube, point: Point) -> Result<(), Fail> {
+    if !is_sound(cube.schema(), &point) {
+        return Err(Fail::from("the point is sound"));
+    }
+    if cube.seen() >= 1 << 35 {
+        return Err(Fail::from("there is room"));
+    }
+    cube.insert(point)?;
+    Ok(())
+}
 
-/// Depth 3 and the category `kind` of a and b.
-fn schema(alloc: Global) -> Result<Schema, Fail> {
-    let kind = Category {
-        name: Text::copy_of(alloc, "kind")?,
-        values: List::from_vec(vec![in alloc;
-            Text::copy_of(alloc, "a")?,
-            Text::copy_of(alloc, "b")?,
-        ]?),
-    };
-    Ok(Schema::new(3, List::from_vec(vec![in alloc; kind]?), 0, 10, 1))
+/// Two records of value a in one corner and one of b in the other.
+fn three_points(alloc: Global) -> Result<PlainCube, Fail> {
+    let mut cube = PlainCube::new(alloc, schema_of_kinds(alloc)?);
+    add(&mut cube, point(0, 0, 0, 0))?;
+    add(&mut cube, point(7, 7, 1, 1))?;
+    add(&mut cube, point(0, 0, 0, 1))?;
+    Ok(cube)
 }
 
 /// The answer to the line.
@@ -73,52 +63,31 @@ fn shown(served: &Served) -> &[u8] {
 fn check_in<L: Ledger>(
     rt: &impl Abort,
     alloc: Global,
-    schema: Schema,
+    cube: &PlainCube,
     cases: &[(&str, &str)],
     blank: Blank,
 ) -> Result<(), NoMemory>
-    requires name { blank.name ≡ L.name }
-    requires parts { blank.parts ≡ L.parts }
-    requires some { 0 < blank.parts }
+    requires { IsBlankOf L.name L.parts blank }
 {
     let mut steps = Steps::<L>::new(blank);
-    let mut cube = PlainCube::new(alloc, schema);
-    for point in POINTS {
-        assert!(rt; is_valid(cube.schema(), &point));
-        cube.insert(point)?;
-    }
     for (line, want) in cases {
-        let served = serve_line(alloc, &cube, line, &mut steps)?;
+        let served = serve_line(alloc, cube, line, &mut steps)?;
         assert_eq!(rt; shown(&served), want.as_bytes(), "at {line}");
     }
     Ok(())
 }
 
-fn check(rt: &impl Abort, alloc: Global, cases: &[(&str, &str)]) -> Result<(), Fail> {
-    check_in::<Brand>(rt, alloc, schema(alloc)?, cases, Blank::new(1))?;
-    Ok(())
+fn check(
+    rt: &impl Abort,
+    alloc: Global,
+    cube: &PlainCube,
+    cases: &[(&str, &str)],
+) -> Result<(), NoMemory> {
+    check_in::<Brand>(rt, alloc, cube, cases, Blank::new(1))
 }
 
 #[test]
-fn answers_lines_that_ask_for_no_table(rt: HostRuntime) -> Result<(), Fail> {
-    let cases = [
-        ("told", "{\"told\":7}\n"),
-        (
-            "stat",
-            "{\"nodes\":0,\"proper\":0,\"seen\":3,\"shared\":0,\"tables\":0}\n",
-        ),
-        ("sum", "{\"at\":1,\"fault\":\"UnknownVerb\"}\n"),
-        ("count near 1", "{\"at\":2,\"fault\":\"UnknownFilter\"}\n"),
-        ("map 1 in 3/0/0", "{\"at\":2,\"fault\":\"TooDeep\"}\n"),
-        ("", ""),
-        ("# count", ""),
-        ("quit", "(end)"),
-    ];
-    check(&rt, rt.alloc(), &cases)
-}
-
-#[test]
-fn answers_lines_that_ask_for_a_table(rt: HostRuntime) -> Result<(), Fail> {
+fn answers_each_verb_and_the_first_fault(rt: HostRuntime) -> Result<(), Fail> {
     let cases = [
         ("count", "{\"rows\":[[3]],\"seen\":3}\n"),
         (
@@ -126,16 +95,126 @@ fn answers_lines_that_ask_for_a_table(rt: HostRuntime) -> Result<(), Fail> {
             "{\"rows\":[[1]],\"seen\":3}\n",
         ),
         ("hist kind", "{\"rows\":[[\"a\",2],[\"b\",1]],\"seen\":3}\n"),
-        (
-            "hist kind time 1 1",
-            "{\"rows\":[[\"a\",0],[\"b\",0]],\"seen\":3}\n",
-        ),
         ("map 1", "{\"rows\":[[1,0,0,2],[1,1,1,1]],\"seen\":3}\n"),
         ("map 1 in 1/1/0", "{\"rows\":[],\"seen\":3}\n"),
         (
             "series 0 1 3",
             "{\"rows\":[[0,1],[1,2],[2,0]],\"seen\":3}\n",
         ),
+        (
+            "stat",
+            "{\"nodes\":0,\"proper\":0,\"seen\":3,\"shared\":0,\"tables\":0}\n",
+        ),
+        ("told", "{\"told\":7}\n"),
+        ("quit", "(end)"),
+        ("sum", "{\"at\":1,\"fault\":\"UnknownVerb\"}\n"),
+        ("count near 1", "{\"at\":2,\"fault\":\"UnknownFilter\"}\n"),
+        ("map 1 in 3/0/0", "{\"at\":2,\"fault\":\"TooDeep\"}\n"),
+        ("", ""),
+        ("# count", ""),
     ];
-    check(&rt, rt.alloc(), &cases)
+    check(&rt, rt.alloc(), &three_points(rt.alloc())?, &cases)?;
+    Ok(())
+}
+
+#[test]
+fn answers_over_a_view_of_no_points(rt: HostRuntime) -> Result<(), Fail> {
+    let cases = [
+        ("count", "{\"rows\":[[0]],\"seen\":0}\n"),
+        ("hist kind", "{\"rows\":[[\"a\",0],[\"b\",0]],\"seen\":0}\n"),
+        ("map 0", "{\"rows\":[],\"seen\":0}\n"),
+        ("series 0 1 1", "{\"rows\":[[0,0]],\"seen\":0}\n"),
+        (
+            "stat",
+            "{\"nodes\":0,\"proper\":0,\"seen\":0,\"shared\":0,\"tables\":0}\n",
+        ),
+    ];
+    let cube = PlainCube::new(rt.alloc(), schema_of_kinds(rt.alloc())?);
+    check(&rt, rt.alloc(), &cube, &cases)?;
+    Ok(())
+}
+
+fn bytes_of(alloc: Global, text: &str) -> Result<List<u8>, NoMemory> {
+    match Vec::from_slice(alloc, text.as_bytes()) {
+        Ok(bytes) => Ok(List::from_vec(bytes)),
+        Err(_) => Err(NoMemory),
+    }
+}
+
+/// A script that is read in pieces of 5 bytes, and calls of the source and the sink that fail.
+struct Script<'a> {
+    text: &'a str,
+    failing_read: Option<u32>,
+    failing_put: Option<u32>,
+    answer: Result<(), SessionFault>,
+    put: &'a str,
+}
+
+fn listed(alloc: Global, call: Option<u32>) -> Result<List<u32>, NoMemory> {
+    let mut calls = List::new(alloc);
+    if let Some(call) = call {
+        calls.add(call)?;
+    }
+    Ok(calls)
+}
+
+fn check_script(
+    rt: &impl Abort,
+    alloc: Global,
+    cube: &PlainCube,
+    script: &Script,
+) -> Result<(), NoMemory> {
+    let fails = listed(alloc, script.failing_read)?;
+    let mut sink = MemSink::new(alloc, listed(alloc, script.failing_put)?);
+    let source = MemSource::new(bytes_of(alloc, script.text)?, 5, fails);
+    let (_, answered) = answer_script(alloc, cube, cube.seen(), source, &mut sink);
+    assert_eq!(rt; answered, script.answer, "of {}", script.text);
+    assert_eq!(rt; sink.bytes(), script.put.as_bytes(), "of {}", script.text);
+    Ok(())
+}
+
+#[test]
+fn answers_a_script_up_to_its_quit_or_a_fault(rt: HostRuntime) -> Result<(), Fail> {
+    let scripts = [
+        Script {
+            text: "told\nquit\n",
+            failing_read: None,
+            failing_put: None,
+            answer: Ok(()),
+            put: "{\"told\":3}\n",
+        },
+        Script {
+            text: "count\n\n# none\nsum\n quit \ncount\n",
+            failing_read: None,
+            failing_put: None,
+            answer: Ok(()),
+            put: "{\"rows\":[[3]],\"seen\":3}\n{\"at\":1,\"fault\":\"UnknownVerb\"}\n",
+        },
+        Script {
+            text: "told\ncount\ntold\n",
+            failing_read: None,
+            failing_put: Some(2),
+            answer: Err(SessionFault::Write),
+            put: "{\"told\":3}\n{\"rows\":[[3]",
+        },
+        Script {
+            text: "told\ncount\n",
+            failing_read: Some(2),
+            failing_put: None,
+            answer: Err(SessionFault::Read),
+            put: "{\"told\":3}\n",
+        },
+        Script {
+            text: "",
+            failing_read: None,
+            failing_put: None,
+            answer: Ok(()),
+            put: "",
+        },
+    ];
+    let cube = three_points(rt.alloc())?;
+    for script in &scripts {
+        check_script(&rt, rt.alloc(), &cube, script)?;
+    }
+    Ok(())
 }
