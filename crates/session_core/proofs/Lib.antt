@@ -6,3 +6,4 @@ pub mod Finals
 pub mod Replying
 pub mod SoFar
 pub mod WholeScripts
+pub mod Texts
