@@ -11,12 +11,12 @@ use Rattle.feed_reader.specs.declared.header.HeadFault.{HeadFault}
 use Rattle.feed_reader.specs.declared.header.HeadFault.TheVariants as head
 
 -- how many fields are the name, byte by byte
-abbrev pub count_of : List (List ℕ) → List ℕ → ℕ
-count_of fields name = count_by (same_text name) fields
+abbrev pub count_named : List (List ℕ) → List ℕ → ℕ
+count_named fields name = count_by (same_text name) fields
 
 -- how many fields are the name of each needed column
-abbrev pub counts_of : Schema → List (List ℕ) → List ℕ
-counts_of schema fields = map (count_of fields) (needed_names schema)
+abbrev pub counts_named : Schema → List (List ℕ) → List ℕ
+counts_named schema fields = map (count_named fields) (needed_names schema)
 
 -- the needed column at the first place whose number passes the test
 abbrev pub first_column : Schema → (ℕ → Bool) → List ℕ → Option Column
@@ -39,7 +39,7 @@ unless_fault (Some f) r = Err f
 
 -- what a header's fields mean
 abbrev pub head_of_fields : Schema → List (List ℕ) → Result (List ℕ) HeadFault
-head_of_fields schema fields = unless_fault (column_fault schema (counts_of schema fields)) (Ok (map (place_in fields) (needed_names schema)))
+head_of_fields schema fields = unless_fault (column_fault schema (counts_named schema fields)) (Ok (map (place_in fields) (needed_names schema)))
 
 -- what a header means whose fields are known, or that has not one record
 abbrev pub head_of_record : Schema → Option (List (List ℕ)) → Result (List ℕ) HeadFault

@@ -1,5 +1,5 @@
 -- What a line after the header means: blank, a point, or the first fault.
-use Rattle.std.specs.Prelude.{ℕ, ◌-◌, ◌/◌, ◌^◌, Bool, false, not, nat_lt, nat_le, if◌then◌else◌, List, [], ◌∷◌, ◌++◌, map, take, length, get_or, Option, Some, None, option_map, position, IsTrue, ⊤}
+use Rattle.std.specs.Prelude.{◌≡◌, ℕ, ◌-◌, ◌/◌, ◌^◌, Bool, false, not, nat_lt, nat_le, if◌then◌else◌, List, [], ◌∷◌, ◌++◌, map, take, length, get_or, Option, Some, None, Result, option_map, position, IsTrue, MatchResult, ⊤}
 use Rattle.std.specs.List.{list_any, zip}
 use Rattle.cube_view.specs.Limits.{has_text}
 use Rattle.cube_view.specs.declared.spot.Point.{Point}
@@ -28,6 +28,10 @@ first_fault [] = None
 first_fault (None ∷ rest) = first_fault rest
 first_fault (Some f ∷ rest) = Some f
 
+-- the call answers the fault, if there is one, and else the value
+abbrev pub AnswersUnless : {A : Type 0} → Option RowFault → A → Result A RowFault → Type 0
+AnswersUnless fault value result = MatchResult result (λ x. (fault ≡ None) × (x ≡ value)) (λ f. fault ≡ Some f)
+
 -- the number that a field writes
 abbrev pub number : List ℕ → ℕ
 number field = digits_value 10 field
@@ -47,6 +51,10 @@ value_of c = place_in c.0.values c.1
 -- the first category whose field is none of its values
 abbrev pub first_unknown : List Category → List (List ℕ) → Option ℕ
 first_unknown categories fields = position is_unknown (zip categories fields)
+
+-- the fault of the first such category
+abbrev pub unknown_value : List Category → List (List ℕ) → Option RowFault
+unknown_value categories fields = option_map fault.UnknownValue (first_unknown categories fields)
 
 -- the values of a point's four categories, those that the schema lacks being 0
 abbrev pub values_of : List Category → List (List ℕ) → List ℕ
@@ -71,7 +79,7 @@ faults_of schema x y time weight fields =
     ∷ fault_if (is_weight_unread weight) (fault.BadNumber column.Weight)
     ∷ fault_if (nat_le (2 ^ schema.depth) (number x)) (fault.BadTile column.X)
     ∷ fault_if (nat_le (2 ^ schema.depth) (number y)) (fault.BadTile column.Y)
-    ∷ option_map fault.UnknownValue (first_unknown schema.categories fields)
+    ∷ unknown_value schema.categories fields
     ∷ fault_if (nat_lt (number time) schema.start) fault.EarlyTime
     ∷ fault_if (nat_le (2 ^ 32) (bin_of schema (number time))) fault.LateTime
     ∷ fault_if (not (is_weight (weight_in weight))) fault.BadWeight
@@ -88,6 +96,10 @@ point_of schema x y time weight fields = record {
 abbrev pub row_unless : Option RowFault → Point → Row
 row_unless None p = row.Point p
 row_unless (Some f) p = row.Refused f
+
+-- the call answers the point of a record with these fields, or its first fault
+abbrev pub MeansParts : Schema → List ℕ → List ℕ → List ℕ → Option (List ℕ) → List (List ℕ) → Result Point RowFault → Type 0
+MeansParts schema x y time weight fields = AnswersUnless (first_fault (faults_of schema x y time weight fields)) (point_of schema x y time weight fields)
 
 -- what the fields of x, y, time and the columns after them mean
 abbrev pub row_of_parts : Schema → List ℕ → List ℕ → List ℕ → Option (List ℕ) → List (List ℕ) → Row

@@ -1,6 +1,6 @@
 //! The fields of a line, where it is one record.
 ghost use Rattle.std.specs.Prelude.{◌≡◌, ◌<◌, [], IfOk, Some, get_or, length};
-ghost use Rattle.feed_reader.specs.Headers.{count_of, place_in};
+ghost use Rattle.feed_reader.specs.Headers.{count_named, place_in};
 ghost use Rattle.feed_reader.specs.Records.{IsReaderOf, begins_with_mark, record_of};
 ghost use Rattle.feed_reader.specs.Rows.{is_short};
 
@@ -92,7 +92,7 @@ impl Fields {
 
     /// How many fields are the name.
     pub(crate) fn count(&self, name: &[u8]) -> usize
-        ensures { result ≡ count_of self.now name.now }
+        ensures { result ≡ count_named self.now name.now }
     {
         let mut count = 0;
         for place in 0..self.len() {

@@ -1,7 +1,7 @@
 //! Headers: in which column of a feed each part of a record stands.
 ghost use Rattle.std.specs.Prelude.{◌≡◌, ◌≢◌, ◌<◌, IfOk, IfErr, IfSome, position, Ok, Err, Some, [], length, map, get_or, nat_lt, ◌==◌};
 ghost use Rattle.feed_reader.specs.Columns.{further_names, needed_names, needed_count, further_column, column_at};
-ghost use Rattle.feed_reader.specs.Headers.{column_fault, counts_of, head_of, place_in};
+ghost use Rattle.feed_reader.specs.Headers.{column_fault, counts_named, head_of, place_in};
 ghost use Rattle.feed_reader.specs.Rows.{row_of, row_of_record, IsValidRow};
 
 use crate::fields::Fields;
@@ -114,7 +114,7 @@ fn needed_name(schema: &Schema, place: usize) -> &[u8]
 
 // How many fields each needed column's name is.
 fn counts(alloc: Global, schema: &Schema, fields: &Fields) -> Result<List<usize>, NoMemory>
-    ensures { IfOk result (λ counts. counts ≡ counts_of schema.now fields.now) }
+    ensures { IfOk result (λ counts. counts ≡ counts_named schema.now fields.now) }
 {
     let mut counts = List::new(alloc);
     for place in 0..needed_count(schema) {

@@ -1,8 +1,16 @@
 //! The lines of a feed: a header, which says in which column each part of a record stands, and rows, which are points.
 //!
-//! A line is read by itself with `csv`. What its bytes mean is the definition `head_of` of
-//! `specs/Headers.antt` for a header and `row_of` of `specs/Rows.antt` for a row; [`Header::read`] and
-//! [`Header::row`] answer exactly that.
+//! A line is read by itself with `csv`. What its bytes mean is the definition `head_of` of `specs/Headers.antt` for a
+//! header and `row_of` of `specs/Rows.antt` for a row; [`Header::read`] and [`Header::row`] answer exactly that.
+//! [`read_header`] and [`next_row`] take the lines from a cutter. `accepted` of `specs/Feeds.antt` says which points a
+//! whole feed has. The crate stands on `cube_view` for schemas and points and on `outer_io` for lines; where the points
+//! go, and what is said of refused rows, is left to the crates above.
+//!
+//! ```text
+//! let header = Header::read(alloc, &schema, b"id,x,y,kind,time")?;
+//! header.row(alloc, &schema, b"2,7,7,b,12")?;  // a point at x 7, y 7, where `b` is a value of `kind` and time 12 in a bin
+//! header.row(alloc, &schema, b"2,7,7,b")?;     // Row::Refused(RowFault::ShortRow)
+//! ```
 #![tactic(auto)]
 
 mod column;

@@ -1,11 +1,11 @@
 //! What a line after the header is.
-ghost use Rattle.std.specs.Prelude.{IfSome, ◌≡◌, ◌<◌, ◌≤◌, ◌^◌, Some, None, MatchOption, MatchResult, IsTrue, nat_le, nat_lt, not, map, length, get_or, option_map, [], ◌∷◌, false, true};
+ghost use Rattle.std.specs.Prelude.{IfSome, ◌≡◌, ◌<◌, ◌≤◌, ◌-◌, ◌/◌, ◌^◌, Some, None, is_some, IsTrue, nat_le, nat_lt, not, map, length, get_or, option_map, [], ◌∷◌, false, true};
 ghost use Rattle.cube_view.specs.Limits.{has_text, category_in_range, categories_in_range};
 ghost use Rattle.feed_reader.specs.Columns.{needed_count, weight_item, category_items};
 ghost use Rattle.outer_io.specs.Decimals.{is_decimal};
 ghost use Rattle.cube_view.specs.Validity.{is_weight};
 ghost use Rattle.feed_reader.specs.Headers.{place_in};
-ghost use Rattle.feed_reader.specs.Rows.{fault_if, first_fault, number, bin_of, first_unknown, values_of, is_weight_unread, weight_in, faults_of, point_of, is_short, text_at, texts_at, row_of_record, IsValidRow};
+ghost use Rattle.feed_reader.specs.Rows.{AnswersUnless, fault_if, number, unknown_value, values_of, is_weight_unread, weight_in, MeansParts, is_short, text_at, texts_at, row_of_record, IsValidRow};
 
 use crate::Column;
 use crate::fields::Fields;
@@ -37,8 +37,7 @@ pub enum Row {
 // The number in a column's field.
 #[tactic(auto, unfolding(outer_io::specs::Decimals::decimal_value))]
 fn number(field: &[u8], column: Column) -> Result<u64, RowFault>
-    ensures { let fault = fault_if (not (is_decimal field.now)) (RowFault.BadNumber column) in
-        MatchResult result (λ n. (fault ≡ None) × (n ≡ number field.now)) (λ f. fault ≡ Some f) }
+    ensures { AnswersUnless (fault_if (not (is_decimal field.now)) (RowFault.BadNumber column)) (number field.now) result }
 {
     match decimal_of(field) {
         Some(number) => Ok(number),
@@ -50,8 +49,7 @@ fn number(field: &[u8], column: Column) -> Result<u64, RowFault>
 fn weight_number(fields: &Fields, place: Option<usize>) -> Result<u64, RowFault>
     requires { IfSome place (λ place. place < length fields.now) }
     ensures { let text = text_at fields.now place in
-        let fault = fault_if (is_weight_unread text) (RowFault.BadNumber Column.Weight) in
-        MatchResult result (λ n. (fault ≡ None) × (n ≡ weight_in text)) (λ f. fault ≡ Some f) }
+        AnswersUnless (fault_if (is_weight_unread text) (RowFault.BadNumber Column.Weight)) (weight_in text) result }
 {
     match place {
         Some(place) => number(fields.field(place), Column::Weight),
@@ -62,8 +60,7 @@ fn weight_number(fields: &Fields, place: Option<usize>) -> Result<u64, RowFault>
 // The number, where it is that of a tile of the finest level.
 fn tile(number: u64, depth: u8, column: Column) -> Result<u32, RowFault>
     requires { depth ≤ 20 }
-    ensures { let fault = fault_if (nat_le (2 ^ depth) number) (RowFault.BadTile column) in
-        MatchResult result (λ n. (fault ≡ None) × (n ≡ number)) (λ f. fault ≡ Some f) }
+    ensures { AnswersUnless (fault_if (nat_le (2 ^ depth) number) (RowFault.BadTile column)) number result }
 {
     if number < 2u64.pow(u32::from(depth)) {
         Ok(number as u32)
@@ -75,8 +72,8 @@ fn tile(number: u64, depth: u8, column: Column) -> Result<u32, RowFault>
 // The number of a value of the category, from 0.
 fn value(category: &Category, field: &[u8]) -> Option<u8>
     requires { IsTrue (category_in_range category.now) }
-    ensures { MatchOption result (has_text category.now.values field.now ≡ false)
-        (λ n. (has_text category.now.values field.now ≡ true) × (n ≡ place_in category.now.values field.now)) }
+    ensures known { IfSome result (λ n. n ≡ place_in category.now.values field.now) }
+    ensures unknown { has_text category.now.values field.now ≡ is_some result }
 {
     for (n, text) in category.values.as_slice().iter().enumerate() {
         if is_same_text(field, text.as_str().as_bytes()) {
@@ -95,9 +92,7 @@ fn values(
     requires in_range { IsTrue (categories_in_range categories.now) }
     requires each { length places.now ≡ length categories.now }
     requires within { is_short places.now fields.now ≡ false }
-    ensures { let texts = texts_at fields.now places.now in
-        let fault = option_map RowFault.UnknownValue (first_unknown categories.now texts) in
-        MatchResult result (λ values. (fault ≡ None) × (values ≡ values_of categories.now texts)) (λ f. fault ≡ Some f) }
+    ensures { AnswersUnless (unknown_value categories.now (texts_at fields.now places.now)) (values_of categories.now (texts_at fields.now places.now)) result }
 {
     let mut values = [0; 4];
     for (k, place) in places.iter().enumerate() {
@@ -109,17 +104,21 @@ fn values(
     Ok(values)
 }
 
-// The bin of a time.
-fn bin(schema: &Schema, time: u64) -> Result<u32, RowFault>
-    ensures { let early = fault_if (nat_lt time schema.now.start) RowFault.EarlyTime in
-        let late = fault_if (nat_le (2 ^ 32) (bin_of schema.now time)) RowFault.LateTime in
-        MatchResult result (λ n. (early ≡ None) × (late ≡ None) × (n ≡ bin_of schema.now time))
-        (λ f. first_fault (early ∷ late ∷ []) ≡ Some f) }
+// How long after the start a time is.
+fn since_start(schema: &Schema, time: u64) -> Result<u64, RowFault>
+    ensures { AnswersUnless (fault_if (nat_lt time schema.now.start) RowFault.EarlyTime) (time - schema.now.start) result }
 {
-    if time < schema.start {
-        return Err(RowFault::EarlyTime);
+    match time.checked_sub(schema.start) {
+        Some(since) => Ok(since),
+        None => Err(RowFault::EarlyTime),
     }
-    match u32::try_from((time - schema.start) / schema.width) {
+}
+
+// The bin of a time so long after the start.
+fn bin(schema: &Schema, since: u64) -> Result<u32, RowFault>
+    ensures { AnswersUnless (fault_if (nat_le (2 ^ 32) (since / schema.now.width)) RowFault.LateTime) (since / schema.now.width) result }
+{
+    match u32::try_from(since / schema.width) {
         Ok(bin) => Ok(bin),
         Err(_) => Err(RowFault::LateTime),
     }
@@ -127,8 +126,7 @@ fn bin(schema: &Schema, time: u64) -> Result<u32, RowFault>
 
 // The number, where it is a weight of a point.
 fn weight(number: u64) -> Result<u32, RowFault>
-    ensures { let fault = fault_if (not (is_weight number)) RowFault.BadWeight in
-        MatchResult result (λ n. (fault ≡ None) × (n ≡ number)) (λ f. fault ≡ Some f) }
+    ensures { AnswersUnless (fault_if (not (is_weight number)) RowFault.BadWeight) number result }
 {
     if number > 0 && number < 1 << 28 {
         Ok(number as u32)
@@ -150,20 +148,17 @@ fn point(
     requires each { length places.now ≡ length schema.now.categories }
     requires within { is_short places.now fields.now ≡ false }
     requires weight { IfSome weight_place (λ place. place < length fields.now) }
-    ensures { let texts = texts_at fields.now places.now in
-        let heavy = text_at fields.now weight_place in
-        let fault = first_fault (faults_of schema.now x.now y.now time.now heavy texts) in
-        MatchResult result (λ p. (fault ≡ None) × (p ≡ point_of schema.now x.now y.now time.now heavy texts)) (λ f. fault ≡ Some f) }
+    ensures { MeansParts schema.now x.now y.now time.now (text_at fields.now weight_place) (texts_at fields.now places.now) result }
 {
     let x = number(x, Column::X)?;
     let y = number(y, Column::Y)?;
     let time = number(time, Column::Time)?;
-    let heavy = weight_number(fields, weight_place)?;
+    let number = weight_number(fields, weight_place)?;
     let x = tile(x, schema.depth, Column::X)?;
     let y = tile(y, schema.depth, Column::Y)?;
     let values = values(&schema.categories, places, fields)?;
-    let bin = bin(schema, time)?;
-    let weight = weight(heavy)?;
+    let bin = bin(schema, since_start(schema, time)?)?;
+    let weight = weight(number)?;
     let spot = Spot { x, y, values, bin };
     Ok(Point { spot, weight })
 }
