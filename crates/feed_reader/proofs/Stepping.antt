@@ -13,7 +13,6 @@ use Rattle.feed_reader.specs.declared.header.HeadFault.{HeadFault}
 use Rattle.feed_reader.specs.declared.header.Header.{Header}
 use Rattle.feed_reader.proofs.FeedLaws.{head_of_lines-cons, leaves_accepted}
 
-
 module _ {S : Type 0} (left : S → Option (List ℕ)) (faults : S → ℕ) (schema : Schema) (a b : Cutter S) (number : ℕ) where
   refused_first : (line : Line) (fault : HeadFault) (rest : Option (List Line)) (all : List Line) → head_of_lines schema (line ∷ []) ≡ Err fault → IsSomeAnd rest (λ more. all ≡ line ∷ more) → head_of_lines schema all ≡ Err fault
   refused_first line fault None all bad first = absurd first

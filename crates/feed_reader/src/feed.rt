@@ -52,7 +52,9 @@ pub fn read_header<S: Source>(
 {
     match cutter.next() {
         Ok(Cut::Line(line, _)) => header_of(alloc, schema, line.as_slice()),
-        Ok(Cut::Long(_)) | Ok(Cut::End) | Err(CutFault::TooMuch) => Err(NoHeader::Refused(HeadFault::BadRow)),
+        Ok(Cut::Long(_)) | Ok(Cut::End) | Err(CutFault::TooMuch) => Err(NoHeader::Refused(
+            HeadFault::BadRow,
+        )),
         Err(CutFault::Read) => Err(NoHeader::Read),
         Err(CutFault::NoMemory) => Err(NoHeader::NoMemory),
     }

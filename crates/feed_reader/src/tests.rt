@@ -1,9 +1,10 @@
 //! What the lines of a feed mean, by examples.
 ghost use Rattle.std.specs.Prelude.{◌≡◌, ◌∷◌, [], IfOk, codes};
+ghost use Rattle.outer_io.specs.Progress.{IsGoing};
 
-use crate::{Column, HeadFault, Header, Row, RowFault};
+use crate::{Column, HeadFault, Header, NoHeader, Row, RowFault, next_row, read_header};
 use cube_view::{Category, Point, Schema, Spot};
-use outer_io::{List, NoMemory, Text};
+use outer_io::{CutFault, LineCutter, List, MemSource, NoMemory, Text};
 use std::alloc::Global;
 use std::test::Fail;
 
@@ -203,6 +204,115 @@ fn wants_the_weight_column_before_the_categories(rt: HostRuntime) -> Result<(), 
     for (line, fault) in cases {
         let found = Header::read(rt.alloc(), &schema, line.as_bytes());
         assert_eq!(rt; found.err(), Some(fault), "{line}");
+    }
+    Ok(())
+}
+
+// A source of the bytes in pieces of 7, of which the reads with these numbers fail.
+fn source(alloc: Global, bytes: &[u8], fails: &[u32]) -> Result<MemSource, Fail> {
+    let bytes = List::from_vec(Vec::from_slice(alloc, bytes)?);
+    let fails = List::from_vec(Vec::from_slice(alloc, fails)?);
+    Ok(MemSource::new(bytes, 7, fails))
+}
+
+// The rows after the header, and the fault that ended them, if one did.
+fn rows_left(
+    alloc: Global,
+    schema: &Schema,
+    cutter: &mut LineCutter<MemSource>,
+) -> Result<(List<(Row, u64)>, Option<CutFault>), Fail>
+    requires { IsGoing cutter.old }
+{
+    let header = read_header(alloc, schema, cutter)?;
+    let mut rows = List::new(alloc);
+    loop {
+        match next_row(alloc, schema, &header, cutter) {
+            Ok(Some(row)) => rows.add(row)?,
+            Ok(None) => return Ok((rows, None)),
+            Err(fault) => return Ok((rows, Some(fault))),
+        }
+    }
+}
+
+fn rows_of(
+    alloc: Global,
+    bytes: &[u8],
+    fails: &[u32],
+) -> Result<(List<(Row, u64)>, Option<CutFault>), Fail> {
+    let schema = schema(alloc, 0)?;
+    let Ok(mut cutter) = LineCutter::new(alloc, source(alloc, bytes, fails)?) else {
+        return Err(Fail::from("no room"));
+    };
+    let rows = rows_left(alloc, &schema, &mut cutter);
+    let _source = cutter.into_source();
+    rows
+}
+
+#[test]
+fn gives_each_row_with_its_line(rt: HostRuntime) -> Result<(), Fail> {
+    let feed = b"\xEF\xBB\xBFx,y,kind,time\r\n0,0,a,5\n\n8,0,a,1\r\n1,1,b,12";
+    let (rows, fault) = rows_of(rt.alloc(), feed, &[])?;
+    let wanted = [
+        (point(0, 0, 0, 0), 2),
+        (Row::Blank, 3),
+        (Row::Refused(RowFault::BadTile(Column::X)), 4),
+        (point(1, 1, 1, 1), 5),
+    ];
+    assert_eq!(rt; rows.as_slice(), wanted.as_slice());
+    assert_eq!(rt; fault, None);
+    Ok(())
+}
+
+#[test]
+fn gives_the_rows_before_a_failed_read(rt: HostRuntime) -> Result<(), Fail> {
+    let feed = b"x,y,kind,time\n0,0,a,5\n1,1,b,12\n";
+    let (rows, fault) = rows_of(rt.alloc(), feed, &[5])?;
+    assert_eq!(rt; rows.as_slice(), [(point(0, 0, 0, 0), 2)].as_slice());
+    assert_eq!(rt; fault, Some(CutFault::Read));
+    Ok(())
+}
+
+#[test]
+fn refuses_a_long_line_and_reads_on(rt: HostRuntime) -> Result<(), Fail> {
+    let alloc = rt.alloc();
+    let mut feed = Vec::from_slice(alloc, b"x,y,kind,time\n")?;
+    for _ in 0..4097 {
+        feed.push(b'x')?;
+    }
+    feed.extend_from_slice(b"\n0,0,a,5\n")?;
+    let (rows, fault) = rows_of(alloc, feed.as_slice(), &[])?;
+    let wanted = [
+        (Row::Refused(RowFault::LongLine), 2),
+        (point(0, 0, 0, 0), 3),
+    ];
+    assert_eq!(rt; rows.as_slice(), wanted.as_slice());
+    assert_eq!(rt; fault, None);
+    Ok(())
+}
+
+fn head_fault(alloc: Global, bytes: &[u8], fails: &[u32]) -> Result<Option<NoHeader>, Fail> {
+    let schema = schema(alloc, 0)?;
+    let Ok(mut cutter) = LineCutter::new(alloc, source(alloc, bytes, fails)?) else {
+        return Err(Fail::from("no room"));
+    };
+    let found = read_header(alloc, &schema, &mut cutter);
+    let _source = cutter.into_source();
+    Ok(found.err())
+}
+
+#[test]
+fn tells_why_a_feed_has_no_header(rt: HostRuntime) -> Result<(), Fail> {
+    let bad_row = NoHeader::Refused(HeadFault::BadRow);
+    let no_kind = NoHeader::Refused(HeadFault::NoColumn(Column::Category(0)));
+    let cases: [(&[u8], &[u32], Option<NoHeader>); 5] = [
+        (b"", &[], Some(bad_row)),
+        (b"\n", &[], Some(bad_row)),
+        (b"x,y,time\n0,0,5", &[], Some(no_kind)),
+        (b"x,y,kind,time\n", &[2], Some(NoHeader::Read)),
+        (b"x,y,kind,time", &[], None),
+    ];
+    for (bytes, fails, fault) in cases {
+        assert_eq!(rt; head_fault(rt.alloc(), bytes, fails)?, fault);
     }
     Ok(())
 }
