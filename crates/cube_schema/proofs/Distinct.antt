@@ -55,17 +55,17 @@ values_are_distinct (c ∷ categories) e =
     rw (distinct c.values both.0, values_are_distinct categories both.1) refl
 
 -- the columns, and the values of each category
-pub texts_are_distinct : (draft : Draft) → first_repeated draft ≡ None → texts_distinct draft.categories ≡ true
+pub texts_are_distinct : (draft : Draft) → first_repeated draft ≡ None → texts_distinct draft.categories draft.weight ≡ true
 unfolding first_repeated
 texts_are_distinct draft e =
-    let first = none_of_or (repeated_in (column_names draft.categories)) _ e in
+    let first = none_of_or (repeated_in (column_names draft.categories draft.weight)) _ e in
     let second = none_of_or (repeated_value draft.categories) _ first.1 in
-    rw (distinct (column_names draft.categories) first.0, values_are_distinct draft.categories second.0) refl
+    rw (distinct (column_names draft.categories draft.weight) first.0, values_are_distinct draft.categories second.0) refl
 
 -- the files
 pub files_are_distinct : (draft : Draft) → first_repeated draft ≡ None → all_distinct (file_names draft) ≡ true
 unfolding first_repeated
 files_are_distinct draft e =
-    let first = none_of_or (repeated_in (column_names draft.categories)) _ e in
+    let first = none_of_or (repeated_in (column_names draft.categories draft.weight)) _ e in
     let second = none_of_or (repeated_value draft.categories) _ first.1 in
     distinct (file_names draft) second.1

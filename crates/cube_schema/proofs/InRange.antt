@@ -1,11 +1,11 @@
 -- A draft of which no member is out of its range.
-use Rattle.std.proofs.Common.{◌≡◌, ℕ, ◌≤◌, Bool, true, false, cond, not, List, [], ◌∷◌, find, Some, None, refl}
+use Rattle.std.proofs.Common.{◌≡◌, ℕ, ◌≤◌, Bool, true, false, cond, not, List, [], ◌∷◌, find, Option, Some, None, refl}
 use Rattle.std.specs.Prelude.{nat_le}
 use Rattle.std.specs.List.{AllByRecursion}
 use Rattle.std.proofs.lemmas.Bool.{and_parts, leb-true, not-false}
 use Rattle.cube_view.specs.Limits.{is_between}
 use Rattle.cube_schema.specs.declared.draft.Draft.{Draft}
-use Rattle.cube_schema.specs.declared.member.Member.TheVariants.{Asks, Batch, Categories, Depth, Feeds, Finals, Journal, Version, Width}
+use Rattle.cube_schema.specs.declared.member.Member.TheVariants.{Asks, Batch, Categories, Depth, Feeds, Finals, Journal, Version, Weight, Width}
 use Rattle.cube_schema.specs.Members.{plan_members}
 use Rattle.cube_schema.specs.Ranges.{member_in_range, first_out_of_range}
 
@@ -28,6 +28,7 @@ pub record AreInRange (draft : Draft) : Type 0 where
   pub finals : member_in_range draft Finals ≡ true
   pub journal : member_in_range draft Journal ≡ true
   pub version : member_in_range draft Version ≡ true
+  pub weight : member_in_range draft Weight ≡ true
   pub width : member_in_range draft Width ≡ true
 
 pub are_in_range : (draft : Draft) → first_out_of_range draft ≡ None → AreInRange draft
@@ -43,7 +44,8 @@ are_in_range draft e =
       finals = not-false _ each.1.1.1.1.1.0;
       journal = not-false _ each.1.1.1.1.1.1.0;
       version = not-false _ each.1.1.1.1.1.1.1.1.0;
-      width = not-false _ each.1.1.1.1.1.1.1.1.1.0;
+      weight = not-false _ each.1.1.1.1.1.1.1.1.1.0;
+      width = not-false _ each.1.1.1.1.1.1.1.1.1.1.0;
     }
 
 -- a number between two bounds is from the first on

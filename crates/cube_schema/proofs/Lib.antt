@@ -5,6 +5,7 @@ pub mod Limits
 pub mod PlanFiles
 pub mod Meanings
 pub mod PrintedBack
+pub mod PrintedWeight
 pub mod PrintedSize
 pub mod RoundTrip
 pub mod SamePlan

@@ -1,5 +1,5 @@
 -- A printed draft within its ranges nests little, has no float, and is short enough to be read.
-use Rattle.std.proofs.Common.{◌≡◌, ℕ, ◌+◌, ◌*◌, ◌≤◌, ◌<◌, ◌^◌, Bool, true, false, cond, List, [], ◌∷◌, ◌++◌, length, map, None, refl, arith, rules, tests, length-append}
+use Rattle.std.proofs.Common.{◌≡◌, ℕ, ◌+◌, ◌*◌, ◌≤◌, ◌<◌, ◌^◌, Bool, true, false, cond, List, [], ◌∷◌, ◌++◌, length, map, Option, Some, None, refl, arith, rules, tests, length-append}
 use Rattle.std.specs.Prelude.{max, codes, nat_lt, nat_le, ◌/◌, ◌%◌, ◌&&◌}
 use Rattle.std.proofs.lemmas.Bool.{and_parts}
 use Rattle.std.proofs.lemmas.Fmt.{length-decimal-le}
@@ -9,15 +9,16 @@ use Rattle.json.specs.Print.{escape_letter, escape_byte, escape, quoted}
 use Rattle.serde_json.specs.Data.{Data, string, number, unsigned, array, object, Members, no_members, member, depth, items_depth, members_depth}
 use Rattle.serde_json.specs.Read.{max_depth}
 use Rattle.serde_json.specs.View.{items_of}
-use Rattle.serde_json.specs.Written.{comma_if, compact_text, items_text, members_text, has_float, items_have_float}
-use Rattle.cube_view.specs.Limits.{is_between, is_name_byte, is_value, is_category_name, category_in_range, categories_in_range}
+use Rattle.serde_json.specs.Written.{comma_if, compact_text, items_text, members_text, has_float, items_have_float, members_have_float}
+use Rattle.cube_view.specs.Limits.{is_between, is_name_byte, is_value, is_category_name, category_in_range, categories_in_range, weight_in_range}
 use Rattle.cube_view.specs.declared.category.Category.{Category}
 use Rattle.cube_schema.specs.declared.draft.Draft.{Draft}
-use Rattle.cube_schema.specs.Printed.{texts_value, category_value, categories_value, draft_members, draft_value}
+use Rattle.cube_schema.specs.Versions.{version_of}
+use Rattle.cube_schema.specs.Printed.{texts_value, category_value, categories_value, weight_member, draft_members, draft_value}
 use Rattle.cube_schema.specs.Ranges.{is_file_name, are_files, first_out_of_range}
 use Rattle.cube_schema.specs.Meaning.{longest_plan}
 use Rattle.cube_schema.proofs.InRange.{are_in_range, at_most}
-use Rattle.cube_schema.proofs.Limits.{version_one}
+use Rattle.cube_schema.proofs.Limits.{version-is}
 
 -- ---- how deep it nests
 
@@ -51,6 +52,10 @@ number_shallow n = record { levels = omega arith }
 object_shallow : (k : ℕ) (ms : Members) → AreShallow k ms → depth (object ms) ≤ k + 1
 object_shallow k ms inside = omega (arith, inside.levels)
 
+weight_shallow : {k : ℕ} {ms : Members} (weight : Option (List ℕ)) → AreShallow k ms → AreShallow k (weight_member weight ms)
+weight_shallow None rest = rest
+weight_shallow (Some name) rest = then_shallow (string_shallow name) rest
+
 texts_depth : (texts : List (List ℕ)) → depth (texts_value texts) ≤ 1
 texts_depth texts = omega (arith, items_shallow 0 string (λ _. omega arith) texts)
 
@@ -70,7 +75,7 @@ draft_shallow draft =
     let inside : AreShallow 126 (draft_members draft) =
     then_shallow (text draft.asks) (then_shallow (number_shallow draft.batch) (then_shallow table (then_shallow (number_shallow draft.depth)
     (then_shallow (text draft.feeds) (then_shallow (text draft.finals) (then_shallow (string_shallow draft.journal) (then_shallow (number_shallow draft.start)
-    (then_shallow (number_shallow draft.version) (then_shallow (number_shallow draft.width) none_shallow))))))))) in
+    (then_shallow (number_shallow draft.version) (weight_shallow draft.weight (then_shallow (number_shallow draft.width) none_shallow)))))))))) in
     object_shallow 126 (draft_members draft) inside
 
 -- ---- no float
@@ -85,9 +90,13 @@ texts_whole texts = items_whole string (λ _. refl) texts
 category_whole : (c : Category) → has_float (category_value c) ≡ false
 category_whole c = rw (texts_whole c.values) refl
 
+weight_whole : (weight : Option (List ℕ)) (ms : Members) → members_have_float (weight_member weight ms) ≡ members_have_float ms
+weight_whole None ms = refl
+weight_whole (Some name) ms = refl
+
 pub draft_whole : (draft : Draft) → has_float (draft_value draft) ≡ false
 unfolding draft_value
-draft_whole draft = rw (texts_whole draft.asks, items_whole category_value category_whole draft.categories, texts_whole draft.feeds, texts_whole draft.finals) refl
+draft_whole draft = rw (texts_whole draft.asks, items_whole category_value category_whole draft.categories, texts_whole draft.feeds, texts_whole draft.finals, weight_whole draft.weight _) refl
 
 -- ---- how long it is
 
@@ -148,6 +157,14 @@ files_len least names e =
     let few : length names ≤ 8 = at_most least 8 (length names) both.0 in
     omega (arith, array_len 386 string names (each_passes is_file_name _ file_len names both.1))
 
+-- a category's name, or a weight column's, has at most 32 bytes
+name_few : (name : List ℕ) → is_category_name name ≡ true → length name ≤ 32
+name_few name e = at_most 1 32 (length name) (and_parts (is_between 1 32 (length name)) (list_all is_name_byte name) e).0
+
+version_few : (weight : Option (List ℕ)) → version_of weight ≤ 2
+version_few None = omega arith
+version_few (Some name) = omega arith
+
 -- the text of the value is no longer
 record IsShort (n : ℕ) (d : Data) : Type 0 where
   pub bytes : length (compact_text d) ≤ n
@@ -171,6 +188,11 @@ then_short {later} {name} {d} {ms} a b this rest short fits = record {
   );
 }
 
+-- a weight column's name, where there is one, with the members after it
+weight_short : {ms : Members} (b : ℕ) (weight : Option (List ℕ)) → weight_in_range weight ≡ true → AreShort true b ms → AreShort true (258 + b) (weight_member weight ms)
+weight_short b None e rest = record { bytes = omega (arith, rest.bytes) }
+weight_short b (Some name) e rest = then_short 194 b (record { bytes = quoted_len 32 name (name_few name e) }) rest (omega arith) (omega arith)
+
 none_short : AreShort true 1 no_members
 none_short = record { bytes = omega arith }
 
@@ -182,8 +204,7 @@ unfolding category_members
 category_len c e =
     let parts = and_parts (is_category_name c.name && is_between 1 256 (length c.values)) (list_all is_value c.values) e in
     let front = and_parts (is_category_name c.name) (is_between 1 256 (length c.values)) parts.0 in
-    let length_fits = and_parts (is_between 1 32 (length c.name)) (list_all is_name_byte c.name) front.0 in
-    let name : IsShort 194 (string c.name) = record { bytes = quoted_len 32 c.name (at_most 1 32 (length c.name) length_fits.0) } in
+    let name : IsShort 194 (string c.name) = record { bytes = quoted_len 32 c.name (name_few c.name front.0) } in
     let many : length c.values ≤ 256 = at_most 1 256 (length c.values) front.1 in
     let values : IsShort 99074 (texts_value c.values) = record { bytes = omega (arith, array_len 386 string c.values (each_passes is_value _ value_len c.values parts.1)) } in
     let inside : AreShort false 99999 (category_members c) = then_short 194 99200 name (then_short 99074 1 values none_short (omega arith) (omega arith)) (omega arith) (omega arith) in
@@ -205,7 +226,8 @@ draft_short draft ranges start width =
     let r = are_in_range draft ranges in
     let depth : draft.depth ≤ 20 = at_most 1 20 draft.depth r.depth in
     let batch : draft.batch ≤ 65536 = at_most 1 65536 draft.batch r.batch in
-    let version : draft.version ≡ 1 = version_one draft ranges in
+    let version = version-is draft ranges in
+    let small_version = version_few draft.weight in
     let small : 10 ≤ 10 = omega arith in
     let asks : IsShort 3098 (texts_value draft.asks) = record { bytes = files_len 0 draft.asks r.asks } in
     let feeds : IsShort 3098 (texts_value draft.feeds) = record { bytes = files_len 1 draft.feeds r.feeds } in
@@ -213,9 +235,9 @@ draft_short draft ranges start width =
     let journal : IsShort 386 (string draft.journal) = record { bytes = file_len draft.journal r.journal } in
     let table : IsShort 400006 (categories_value draft.categories) = record { bytes = categories_len draft.categories r.categories } in
     let inside : AreShort false 1048575 (draft_members draft) =
-    then_short 3098 410300 asks (then_short 20 410000 (number_short draft.batch (omega arith)) (then_short 400006 7500 table (then_short 20 7300 (number_short draft.depth (omega arith))
-    (then_short 3098 4000 feeds (then_short 3098 800 finals (then_short 386 300 journal (then_short 20 200 (number_short draft.start start)
-    (then_short 20 100 (number_short draft.version (omega arith)) (then_short 20 1 (number_short draft.width width) none_short
-    (omega arith) (omega arith)) (omega arith) (omega arith)) (omega arith) (omega arith)) (omega arith) (omega arith)) (omega arith) (omega arith)) (omega arith) (omega arith))
+    then_short 3098 410300 asks (then_short 20 410000 (number_short draft.batch (omega arith)) (then_short 400006 7600 table (then_short 20 7500 (number_short draft.depth (omega arith))
+    (then_short 3098 4300 feeds (then_short 3098 1100 finals (then_short 386 600 journal (then_short 20 500 (number_short draft.start start)
+    (then_short 20 358 (number_short draft.version (omega arith)) (weight_short 100 draft.weight r.weight (then_short 20 1 (number_short draft.width width) none_short
+    (omega arith) (omega arith))) (omega arith) (omega arith)) (omega arith) (omega arith)) (omega arith) (omega arith)) (omega arith) (omega arith)) (omega arith) (omega arith))
     (omega arith) (omega arith)) (omega arith) (omega arith)) (omega arith) (omega arith)) (omega arith) (omega arith) in
     object_len (draft_members draft) 1048575 inside

@@ -8,11 +8,11 @@ use Rattle.cube_schema.specs.declared.plan.Plan.{Plan}
 use Rattle.cube_schema.specs.Drafts.{draft_of}
 
 abbrev AreLimits : Draft → Type 0
-AreLimits draft = IsTrue (in_limits draft.depth draft.categories draft.width draft.batch)
+AreLimits draft = IsTrue (in_limits draft.depth draft.categories draft.width draft.batch draft.weight)
 
 abbrev plan_from : (draft : Draft) → AreLimits draft → Plan
 plan_from draft h = record {
-  schema = record { depth = draft.depth; categories = draft.categories; start = draft.start; width = draft.width; batch = draft.batch; limits = h };
+  schema = record { depth = draft.depth; categories = draft.categories; start = draft.start; width = draft.width; batch = draft.batch; weight = draft.weight; limits = h };
   feeds = draft.feeds;
   journal = draft.journal;
   asks = draft.asks;
@@ -20,7 +20,7 @@ plan_from draft h = record {
 }
 
 one_proof : (draft : Draft) (h k : AreLimits draft) → h ≡ k
-one_proof draft h k = Bool-set (in_limits draft.depth draft.categories draft.width draft.batch) true h k
+one_proof draft h k = Bool-set (in_limits draft.depth draft.categories draft.width draft.batch draft.weight) true h k
 
 from_same : (a b : Draft) → a ≡ b → (h : AreLimits a) (k : AreLimits b) → plan_from a h ≡ plan_from b k
 from_same a b e h = subst (λ (d : Draft). (k : AreLimits d) → plan_from a h ≡ plan_from d k) e (λ k. ap (plan_from a) (one_proof a h k))

@@ -1,8 +1,9 @@
 -- A draft: what the members of a plan's text say, before their ranges are tested.
 use Rattle.cube_schema.specs.declared.draft.Draft.{Draft}
 use Rattle.cube_schema.specs.declared.plan.Plan.{Plan}
+use Rattle.cube_schema.specs.Versions.{version_of}
 
--- what the members of a plan's text say, of a plan; its version is 1
+-- what the members of a plan's text say, of a plan; its version is 2 where its schema names a weight column, and else 1
 abbrev pub draft_of : Plan → Draft
 draft_of plan = record {
   asks = plan.asks;
@@ -13,6 +14,7 @@ draft_of plan = record {
   finals = plan.finals;
   journal = plan.journal;
   start = plan.schema.start;
-  version = 1;
+  version = version_of plan.schema.weight;
+  weight = plan.schema.weight;
   width = plan.schema.width;
 }

@@ -1,18 +1,15 @@
 -- The kinds of a plan's members, and what a value of the right kind is read as.
-use Rattle.std.specs.Prelude.{ℕ, Bool, true, false, List, [], ◌∷◌, codes, length, ◌==◌, Option, Some, None, option_map, option_and_then, Result, Ok, Err}
+use Rattle.std.specs.Prelude.{ℕ, Bool, true, false, if◌then◌else◌, List, [], ◌∷◌, codes, length, ◌==◌, Option, Some, None, option_map, option_and_then, Result, Ok, Err}
 use Rattle.serde_json.specs.Data.{Data, Items, no_items, item}
-use Rattle.serde_json.specs.Find.{get, as_number, as_str, as_array, as_u64}
+use Rattle.serde_json.specs.Find.{get, as_str, as_array}
 use Rattle.cube_view.specs.declared.category.Category.{Category}
 use Rattle.cube_schema.specs.declared.draft.Draft.{Draft}
 use Rattle.cube_schema.specs.declared.member.Member.{Member}
-use Rattle.cube_schema.specs.declared.member.Member.TheVariants.{Asks, Batch, Categories, Depth, Feeds, Finals, Journal, Start, Version, Width}
+use Rattle.cube_schema.specs.declared.member.Member.TheVariants.{Asks, Batch, Categories, Depth, Feeds, Finals, Journal, Start, Version, Weight, Width}
 use Rattle.cube_schema.specs.declared.fault.PlanFault.{PlanFault}
 use Rattle.cube_schema.specs.declared.fault.PlanFault.TheVariants.{BadKind}
+use Rattle.cube_schema.specs.Versions.{as_whole_number, is_weighted}
 use Rattle.cube_schema.specs.Members.{member_name, names_of}
-
--- a whole number: a JSON number that `serde_json` gives as a u64
-abbrev pub as_whole_number : Data → Option ℕ
-as_whole_number d = option_and_then as_u64 (as_number d)
 
 -- the items of an array, each read as the kind; none where one of them is of another
 abbrev pub items_as : {A : Type 0} → (Data → Option A) → Items → Option (List A)
@@ -53,6 +50,10 @@ abbrev pub ◌>>=◌ : {A B : Type 0} → Result A PlanFault → (A → Result B
 (Ok a) >>= next = next a
 (Err f) >>= next = Err f
 
+-- the name of the weight column, which a weighted plan has
+abbrev pub weight_as : Data → Result (Option (List ℕ)) PlanFault
+weight_as d = if is_weighted d then member_as as_str d Weight >>= (λ name. Ok (Some name)) else Ok None
+
 -- The members of a plan, each read as its kind. They are read in the byte order of their names, so the
 -- fault names the first one of the wrong kind.
 unfoldable pub members_of : Data → Result Draft PlanFault
@@ -66,5 +67,6 @@ members_of d = do
   journal ← member_as as_str d Journal
   start ← member_as as_whole_number d Start
   version ← member_as as_whole_number d Version
+  weight ← weight_as d
   width ← member_as as_whole_number d Width
-  Ok (record { asks = asks; batch = batch; categories = categories; depth = depth; feeds = feeds; finals = finals; journal = journal; start = start; version = version; width = width })
+  Ok (record { asks = asks; batch = batch; categories = categories; depth = depth; feeds = feeds; finals = finals; journal = journal; start = start; version = version; weight = weight; width = width })

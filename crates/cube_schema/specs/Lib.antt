@@ -1,3 +1,4 @@
+pub mod Versions
 pub mod Members
 pub mod Drafts
 pub mod Kinds

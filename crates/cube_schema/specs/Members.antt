@@ -1,5 +1,5 @@
 -- The members of a plan and of a category, by their names.
-use Rattle.std.specs.Prelude.{ℕ, Bool, List, [], ◌∷◌, codes, find, filter, not, is_none, Option, Some, None}
+use Rattle.std.specs.Prelude.{ℕ, Bool, List, [], ◌∷◌, codes, find, filter, ◌&&◌, not, is_none, Option, Some, None}
 use Rattle.std.specs.List.{list_any}
 use Rattle.std.specs.Option.{option_map_or}
 use Rattle.std.specs.Ordering.{nat_cmp, match_ordering}
@@ -7,12 +7,13 @@ use Rattle.std.specs.Cmp.Lexicographic.{slice_cmp}
 use Rattle.serde_json.specs.Data.{Data, null, boolean, number, string, array, object, Members, no_members, member}
 use Rattle.serde_json.specs.Find.{get}
 use Rattle.cube_view.specs.Limits.{same_text}
+use Rattle.cube_schema.specs.Versions.{is_weighted, has_member}
 use Rattle.cube_schema.specs.declared.member.Member.{Member}
-use Rattle.cube_schema.specs.declared.member.Member.TheVariants.{Asks, Batch, Categories, Depth, Feeds, Finals, Journal, Start, Version, Width}
+use Rattle.cube_schema.specs.declared.member.Member.TheVariants.{Asks, Batch, Categories, Depth, Feeds, Finals, Journal, Start, Version, Weight, Width}
 
 -- the members of a plan, in the byte order of their names
 abbrev pub plan_members : List Member
-plan_members = Asks ∷ Batch ∷ Categories ∷ Depth ∷ Feeds ∷ Finals ∷ Journal ∷ Start ∷ Version ∷ Width ∷ []
+plan_members = Asks ∷ Batch ∷ Categories ∷ Depth ∷ Feeds ∷ Finals ∷ Journal ∷ Start ∷ Version ∷ Weight ∷ Width ∷ []
 
 -- the name of a member in the text of a plan
 abbrev pub member_name : Member → List ℕ
@@ -25,6 +26,7 @@ member_name Finals = codes "finals"
 member_name Journal = codes "journal"
 member_name Start = codes "start"
 member_name Version = codes "version"
+member_name Weight = codes "weight"
 member_name Width = codes "width"
 
 -- the names of the members of an object
@@ -41,13 +43,13 @@ names_of (string s) = []
 names_of (array ds) = []
 names_of (object ms) = names_in ms
 
--- the text is the name of a plan's member
-abbrev pub is_plan_name : List ℕ → Bool
-is_plan_name text = list_any (λ m. same_text (member_name m) text) plan_members
+-- the text is the name of a member that the plan has, where it may be weighted
+abbrev pub is_plan_name : Bool → List ℕ → Bool
+is_plan_name weighted text = list_any (λ m. has_member weighted m && same_text (member_name m) text) plan_members
 
--- the object has no such member
+-- the plan has this member, and the object lacks it
 abbrev pub is_missing : Data → Member → Bool
-is_missing d m = is_none (get (member_name m) d)
+is_missing d m = has_member (is_weighted d) m && is_none (get (member_name m) d)
 
 -- the first member of a plan that the object lacks
 abbrev pub first_missing : Data → Option Member
@@ -64,4 +66,4 @@ least_of (text ∷ texts) = Some (option_map_or (lesser text) (least_of texts) t
 
 -- the least name, by bytes, of a member of the object that is none of a plan's
 abbrev pub least_unknown : Data → Option (List ℕ)
-least_unknown d = least_of (filter (λ name. not (is_plan_name name)) (names_of d))
+least_unknown d = least_of (filter (λ name. not (is_plan_name (is_weighted d) name)) (names_of d))

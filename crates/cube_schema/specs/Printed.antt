@@ -1,5 +1,5 @@
 -- The text of a plan: the compact JSON of an object, members in byte order of their names.
-use Rattle.std.specs.Prelude.{ℕ, List, codes, map}
+use Rattle.std.specs.Prelude.{ℕ, List, codes, map, Option, Some, None}
 use Rattle.serde_json.specs.Data.{Data, number, unsigned, string, array, object, Members, no_members, member}
 use Rattle.serde_json.specs.View.{items_of}
 use Rattle.serde_json.specs.Written.{compact_text}
@@ -20,6 +20,11 @@ category_value c = object (member (codes "name") (string c.name) (member (codes 
 abbrev pub categories_value : List Category → Data
 categories_value categories = array (items_of (map category_value categories))
 
+-- the members, where there is a weight column, with its name before them
+abbrev pub weight_member : Option (List ℕ) → Members → Members
+weight_member None members = members
+weight_member (Some name) members = member (codes "weight") (string name) members
+
 -- the members of a draft's object
 abbrev pub draft_members : Draft → Members
 draft_members draft =
@@ -32,7 +37,8 @@ draft_members draft =
     (member (codes "journal") (string draft.journal)
     (member (codes "start") (number (unsigned draft.start))
     (member (codes "version") (number (unsigned draft.version))
-    (member (codes "width") (number (unsigned draft.width)) no_members)))))))))
+    (weight_member draft.weight
+    (member (codes "width") (number (unsigned draft.width)) no_members))))))))))
 
 -- a draft as an object
 unfoldable pub draft_value : Draft → Data

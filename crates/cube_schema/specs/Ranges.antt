@@ -1,10 +1,11 @@
 -- The ranges of a plan's members.
 use Rattle.std.specs.Prelude.{ℕ, Bool, true, ◌&&◌, ◌||◌, not, ◌==◌, nat_le, List, length, slice_index, find, Option}
 use Rattle.std.specs.List.{list_all}
-use Rattle.cube_view.specs.Limits.{is_between, categories_in_range}
+use Rattle.cube_view.specs.Limits.{is_between, categories_in_range, weight_in_range}
 use Rattle.cube_schema.specs.declared.draft.Draft.{Draft}
 use Rattle.cube_schema.specs.declared.member.Member.{Member}
-use Rattle.cube_schema.specs.declared.member.Member.TheVariants.{Asks, Batch, Categories, Depth, Feeds, Finals, Journal, Start, Version, Width}
+use Rattle.cube_schema.specs.declared.member.Member.TheVariants.{Asks, Batch, Categories, Depth, Feeds, Finals, Journal, Start, Version, Weight, Width}
+use Rattle.cube_schema.specs.Versions.{version_of}
 use Rattle.cube_schema.specs.Members.{plan_members}
 
 -- a letter, a digit, a dot, an underscore or a hyphen
@@ -19,7 +20,8 @@ is_file_name name = is_between 1 64 (length name) && list_all is_file_byte name 
 abbrev pub are_files : ℕ → List (List ℕ) → Bool
 are_files least names = is_between least 8 (length names) && list_all is_file_name names
 
--- the member is within its range; a category's name, number of values and values count for `categories`
+-- The member is within its range. A category's name, number of values and values count for `categories`. A version
+-- is 2 where the plan has a weight, and else 1; a weight is read exactly where the version is 2.
 abbrev pub member_in_range : Draft → Member → Bool
 member_in_range draft Asks = are_files 0 draft.asks
 member_in_range draft Batch = is_between 1 65536 draft.batch
@@ -29,7 +31,8 @@ member_in_range draft Feeds = are_files 1 draft.feeds
 member_in_range draft Finals = are_files 0 draft.finals
 member_in_range draft Journal = is_file_name draft.journal
 member_in_range draft Start = true
-member_in_range draft Version = draft.version == 1
+member_in_range draft Version = draft.version == version_of draft.weight
+member_in_range draft Weight = weight_in_range draft.weight
 member_in_range draft Width = nat_le 1 draft.width
 
 -- the first member that is out of its range

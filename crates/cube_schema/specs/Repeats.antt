@@ -29,4 +29,4 @@ file_names draft = draft.feeds ++ (draft.asks ++ (draft.finals ++ (draft.journal
 
 -- the first text that stood earlier among the columns, the values of a category, or the files
 unfoldable pub first_repeated : Draft → Option (List ℕ)
-first_repeated draft = option_or (repeated_in (column_names draft.categories)) (option_or (repeated_value draft.categories) (repeated_in (file_names draft)))
+first_repeated draft = option_or (repeated_in (column_names draft.categories draft.weight)) (option_or (repeated_value draft.categories) (repeated_in (file_names draft)))

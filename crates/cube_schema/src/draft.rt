@@ -14,5 +14,6 @@ pub(crate) struct Draft {
     pub(crate) journal: Text,
     pub(crate) start: u64,
     pub(crate) version: u64,
+    pub(crate) weight: Option<Text>,
     pub(crate) width: u64,
 }

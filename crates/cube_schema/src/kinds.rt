@@ -2,11 +2,13 @@
 ghost use Rattle.std.specs.Prelude.{◌≡◌, Some, codes, IfOk, length, option_map, option_and_then};
 ghost use Rattle.serde_json.specs.Find.{as_str, as_array, get};
 ghost use Rattle.serde_json.specs.View.{view, items_view};
-ghost use Rattle.cube_schema.specs.Kinds.{as_whole_number, texts, items_as, category_of, categories, member_as, members_of};
+ghost use Rattle.cube_schema.specs.Versions.{as_whole_number};
+ghost use Rattle.cube_schema.specs.Kinds.{texts, items_as, category_of, categories, member_as, weight_as, members_of};
 ghost use Rattle.cube_schema.specs.Meaning.{ReadsAs};
 ghost use Rattle.cube_schema.specs.Members.{names_of};
 
 use crate::draft::Draft;
+use crate::versions::is_weighted;
 use crate::{Member, PlanFault};
 use cube_view::Category;
 use outer_io::{List, NoMemory, Text};
@@ -123,6 +125,17 @@ fn categories_at(alloc: Global, value: &Value, member: Member) -> Result<List<Ca
     }
 }
 
+// The name of the weight column, which a weighted plan has.
+fn weight_at(alloc: Global, value: &Value) -> Result<Option<Text>, PlanFault>
+    ensures { ReadsAs (λ weight. weight) result (weight_as (view value.now)) }
+{
+    if is_weighted(value) {
+        Ok(Some(text_at(alloc, value, Member::Weight)?))
+    } else {
+        Ok(None)
+    }
+}
+
 /// The members of a plan, each read as its kind.
 #[tactic(auto, unfolding(crate::specs::Kinds::members_of))]
 pub(crate) fn members_of(alloc: Global, value: &Value) -> Result<Draft, PlanFault>
@@ -137,6 +150,7 @@ pub(crate) fn members_of(alloc: Global, value: &Value) -> Result<Draft, PlanFaul
     let journal = text_at(alloc, value, Member::Journal)?;
     let start = number_at(value, Member::Start)?;
     let version = number_at(value, Member::Version)?;
+    let weight = weight_at(alloc, value)?;
     let width = number_at(value, Member::Width)?;
     Ok(Draft {
         asks,
@@ -148,6 +162,7 @@ pub(crate) fn members_of(alloc: Global, value: &Value) -> Result<Draft, PlanFaul
         journal,
         start,
         version,
+        weight,
         width,
     })
 }

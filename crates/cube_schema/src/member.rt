@@ -13,11 +13,12 @@ pub enum Member {
     Journal,
     Start,
     Version,
+    Weight,
     Width,
 }
 
 /// The members in the byte order of their names.
-pub(crate) const MEMBERS: [Member; 10] = [
+pub(crate) const MEMBERS: [Member; 11] = [
     Member::Asks,
     Member::Batch,
     Member::Categories,
@@ -27,6 +28,7 @@ pub(crate) const MEMBERS: [Member; 10] = [
     Member::Journal,
     Member::Start,
     Member::Version,
+    Member::Weight,
     Member::Width,
 ];
 
@@ -47,6 +49,7 @@ impl Member {
             Member::Journal => "journal",
             Member::Start => "start",
             Member::Version => "version",
+            Member::Weight => "weight",
             Member::Width => "width",
         }
     }

@@ -1,11 +1,13 @@
 //! A plan as text.
-ghost use Rattle.std.specs.Prelude.{◌≡◌, ◌<◌, ◌^◌, Ok, None, IfOk, OnOk};
+ghost use Rattle.std.specs.Prelude.{◌≡◌, ◌<◌, ◌^◌, Ok, None, IfOk, OnOk, codes};
+ghost use Rattle.serde_json.specs.Data.{Data, Members, object, string, put};
 ghost use Rattle.serde_json.specs.View.{view};
 ghost use Rattle.cube_schema.specs.Drafts.{draft_of};
 ghost use Rattle.cube_schema.specs.Meaning.{plan_meaning, IsPrintable};
 ghost use Rattle.cube_schema.specs.Printed.{texts_value, category_value, categories_value, draft_value, plan_text};
 
 use crate::Plan;
+use crate::versions::version_of;
 use cube_view::Category;
 use outer_io::{List, NoMemory, Text};
 use serde_json::{Value, json};
@@ -38,9 +40,25 @@ fn categories_value(alloc: Global, categories: &[Category]) -> Result<Value, All
     Ok(Value::Array(items))
 }
 
+// The object with the name of the weight column among its members.
+fn with_weight_member(alloc: Global, value: Value, name: &str) -> Result<Value, AllocError>
+    ensures { IfOk result (λ made. (members : Members) → view value ≡ object members → view made ≡ object (put (codes "weight") (string name.now) members)) }
+{
+    match value {
+        Value::Object(mut members) => {
+            let text = Value::try_from_str(alloc, name)?;
+            let key = String::from_str(alloc, "weight")?;
+            members.insert(key, text)?;
+            Ok(Value::Object(members))
+        }
+        other => Ok(other),
+    }
+}
+
+// The object of the plan's members but for the weight column.
 #[tactic(auto, unfolding(crate::specs::Printed::draft_value))]
-fn plan_value(alloc: Global, plan: &Plan) -> Result<Value, AllocError>
-    ensures value { IfOk result (λ value. view value ≡ draft_value (draft_of plan.now)) }
+fn unweighted_value(alloc: Global, plan: &Plan) -> Result<Value, AllocError>
+    ensures value { IfOk result (λ value. view value ≡ draft_value (record (draft_of plan.now) { weight = None })) }
     ensures small { OnOk result ((plan.now.schema.start < 2 ^ 64) × (plan.now.schema.width < 2 ^ 64)) }
 {
     let asks = texts_value(alloc, plan.asks.as_slice())?;
@@ -56,9 +74,20 @@ fn plan_value(alloc: Global, plan: &Plan) -> Result<Value, AllocError>
         "finals": finals,
         "journal": plan.journal.as_str(),
         "start": plan.schema.start,
-        "version": 1u8,
+        "version": version_of(&plan.schema.weight),
         "width": plan.schema.width
     })
+}
+
+fn plan_value(alloc: Global, plan: &Plan) -> Result<Value, AllocError>
+    ensures value { IfOk result (λ value. view value ≡ draft_value (draft_of plan.now)) }
+    ensures small { OnOk result ((plan.now.schema.start < 2 ^ 64) × (plan.now.schema.width < 2 ^ 64)) }
+{
+    let value = unweighted_value(alloc, plan)?;
+    match &plan.schema.weight {
+        Some(name) => with_weight_member(alloc, value, name.as_str()),
+        None => Ok(value),
+    }
 }
 
 /// The text of a plan, as [`crate::read_plan`] reads it.

@@ -1,12 +1,13 @@
 //! The ranges of a plan's members.
 ghost use Rattle.std.specs.Prelude.{◌≡◌};
 ghost use Rattle.std.specs.List.{list_all};
-ghost use Rattle.cube_view.specs.Limits.{is_between, is_name_byte, is_category_name, is_value_byte, is_value, category_in_range, categories_in_range};
+ghost use Rattle.cube_view.specs.Limits.{is_between, is_name_byte, is_category_name, is_value_byte, is_value, category_in_range, categories_in_range, weight_in_range};
 ghost use Rattle.cube_schema.specs.Ranges.{is_file_byte, is_file_name, are_files, member_in_range, first_out_of_range};
 
 use crate::Member;
 use crate::draft::Draft;
 use crate::member::MEMBERS;
+use crate::versions::version_of;
 use cube_view::Category;
 use outer_io::Text;
 
@@ -110,6 +111,15 @@ fn categories_in_range(categories: &[Category]) -> bool
     categories.len() <= 4 && all_in_range(categories)
 }
 
+fn weight_in_range(weight: &Option<Text>) -> bool
+    ensures { result ≡ weight_in_range weight.now }
+{
+    match weight {
+        Some(name) => is_category_name(name.as_str()),
+        None => true,
+    }
+}
+
 fn member_in_range(draft: &Draft, member: Member) -> bool
     ensures { result ≡ member_in_range draft.now member }
 {
@@ -122,7 +132,8 @@ fn member_in_range(draft: &Draft, member: Member) -> bool
         Member::Finals => are_files(0, draft.finals.as_slice()),
         Member::Journal => is_file_name(draft.journal.as_str()),
         Member::Start => true,
-        Member::Version => draft.version == 1,
+        Member::Version => draft.version == version_of(&draft.weight),
+        Member::Weight => weight_in_range(&draft.weight),
         Member::Width => 1 <= draft.width,
     }
 }

@@ -86,10 +86,11 @@ fn plan_of(draft: Draft) -> Plan
         journal,
         start,
         version: _,
+        weight,
         width,
     } = draft;
     Plan {
-        schema: Schema::new(depth as u8, categories, start, width, batch as u32),
+        schema: Schema::new(depth as u8, categories, start, width, batch as u32, weight),
         feeds,
         journal,
         asks,

@@ -1,6 +1,6 @@
 //! Texts that stand twice in a list.
 ghost use Rattle.std.specs.Prelude.{◌≡◌, ◌∷◌, [], ◌++◌, IfOk, OnOk, map, take, codes, option_map};
-ghost use Rattle.cube_view.specs.Limits.{has_text, column_names};
+ghost use Rattle.cube_view.specs.Limits.{has_text, with_weight, column_names};
 ghost use Rattle.cube_schema.specs.Repeats.{repeated_in, repeated_value, outputs, file_names, first_repeated};
 
 use crate::draft::Draft;
@@ -64,17 +64,36 @@ fn add_outputs(alloc: Global, texts: &mut List<Text>, names: &[Text]) -> Result<
     Ok(())
 }
 
-// The columns of a feed: `x`, `y`, `time` and then the categories.
-fn column_names(alloc: Global, categories: &[Category]) -> Result<List<Text>, NoMemory>
-    ensures { IfOk result (λ names. names ≡ column_names categories.now) }
+// Adds the name of the weight column at the end, if there is one.
+fn add_weight(alloc: Global, texts: &mut List<Text>, weight: &Option<Text>) -> Result<(), NoMemory>
+    ensures { OnOk result (texts.new ≡ texts.old ++ with_weight weight.now []) }
+{
+    match weight {
+        Some(name) => add_copy(alloc, texts, name.as_str()),
+        None => Ok(()),
+    }
+}
+
+// Adds the names of the categories at the end.
+fn add_names(alloc: Global, texts: &mut List<Text>, categories: &[Category]) -> Result<(), NoMemory>
+    ensures { OnOk result (texts.new ≡ texts.old ++ map (λ c. c.name) categories.now) }
+{
+    for category in categories {
+        add_copy(alloc, texts, category.name.as_str())?;
+    }
+    Ok(())
+}
+
+// The columns of a feed: `x`, `y`, `time`, the weight's if there is one, and then the categories.
+fn column_names(alloc: Global, draft: &Draft) -> Result<List<Text>, NoMemory>
+    ensures { IfOk result (λ names. names ≡ column_names draft.now.categories draft.now.weight) }
 {
     let mut names = List::new(alloc);
     add_copy(alloc, &mut names, "x")?;
     add_copy(alloc, &mut names, "y")?;
     add_copy(alloc, &mut names, "time")?;
-    for category in categories {
-        add_copy(alloc, &mut names, category.name.as_str())?;
-    }
+    add_weight(alloc, &mut names, &draft.weight)?;
+    add_names(alloc, &mut names, draft.categories.as_slice())?;
     Ok(names)
 }
 
@@ -107,12 +126,11 @@ fn copy_of(alloc: Global, found: Option<&str>) -> Result<Option<Text>, NoMemory>
 pub(crate) fn first_repeated(alloc: Global, draft: &Draft) -> Result<Option<Text>, NoMemory>
     ensures { IfOk result (λ found. found ≡ first_repeated draft.now) }
 {
-    let categories = draft.categories.as_slice();
-    let columns = column_names(alloc, categories)?;
+    let columns = column_names(alloc, draft)?;
     if let Some(name) = repeated_in(columns.as_slice()) {
         return copy_of(alloc, Some(name));
     }
-    if let Some(value) = repeated_value(categories) {
+    if let Some(value) = repeated_value(draft.categories.as_slice()) {
         return copy_of(alloc, Some(value));
     }
     let files = file_names(alloc, draft)?;

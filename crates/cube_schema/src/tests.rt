@@ -7,11 +7,12 @@ use std::test::Fail;
 const LEAST: &str =
     r#"{"asks":[],"batch":1,"categories":[{"name":"kind","values":["a","b"]}],"depth":3,"feeds":["a.csv"],"finals":[],"journal":"j.txt","start":0,"version":1,"width":10}"#;
 
-const EXAMPLES: [&str; 4] = [
+const EXAMPLES: [&str; 5] = [
     LEAST,
     r#"{"asks":["q.txt"],"batch":1,"categories":[{"name":"kind","values":["a","b"]}],"depth":3,"feeds":["a.csv","b.csv"],"finals":["f.txt"],"journal":"j.txt","start":0,"version":1,"width":10}"#,
     r#"{"asks":[],"batch":64,"categories":[{"name":"type","values":["THEFT","MOTOR VEHICLE THEFT","BATTERY"]},{"name":"district","values":["001","002"]}],"depth":16,"feeds":["city.csv"],"finals":["f.txt"],"journal":"j.txt","start":1357016400,"version":1,"width":3600}"#,
     r#"{"asks":[],"batch":1,"categories":[{"name":"k","values":["a","b"]},{"name":"m","values":["c","d"]}],"depth":1,"feeds":["a.csv"],"finals":["f.txt"],"journal":"j.txt","start":0,"version":1,"width":1}"#,
+    r#"{"asks":[],"batch":1,"categories":[{"name":"kind","values":["a","b"]}],"depth":3,"feeds":["a.csv"],"finals":["f.txt"],"journal":"j.txt","start":0,"version":2,"weight":"n","width":10}"#,
 ];
 
 // What is read of the bytes: the fault's name, or `read`.
@@ -97,7 +98,55 @@ fn answers_the_first_fault_of_a_changed_plan(rt: HostRuntime) -> Result<(), Fail
             r#""start":18446744073709551616"#,
             "BadKind(start)",
         ),
-        (r#""version":1"#, r#""version":2"#, "OutOfRange(version)"),
+        (r#""version":1"#, r#""version":2"#, "Missing(weight)"),
+        (r#""version":1"#, r#""version":3"#, "OutOfRange(version)"),
+        (r#""version":1"#, r#""weight":"n""#, "Missing(version)"),
+        (
+            r#""version":1"#,
+            r#""version":1,"weight":"n""#,
+            "Unknown(weight)",
+        ),
+        (
+            r#""version":1"#,
+            r#""version":3,"weight":"n""#,
+            "Unknown(weight)",
+        ),
+        (
+            r#""version":1"#,
+            r#""version":2.0,"weight":"n""#,
+            "Unknown(weight)",
+        ),
+        (
+            r#""version":1"#,
+            r#""version":"2","weight":"n""#,
+            "Unknown(weight)",
+        ),
+        (r#""version":1"#, r#""version":2,"weight":"n""#, "read"),
+        (
+            r#""version":1"#,
+            r#""version":2,"weight":7"#,
+            "BadKind(weight)",
+        ),
+        (
+            r#""version":1"#,
+            r#""version":2,"weight":"""#,
+            "OutOfRange(weight)",
+        ),
+        (
+            r#""version":1"#,
+            r#""version":2,"weight":"N""#,
+            "OutOfRange(weight)",
+        ),
+        (
+            r#""version":1"#,
+            r#""version":2,"weight":"kind""#,
+            "Repeated(kind)",
+        ),
+        (
+            r#""version":1"#,
+            r#""version":2,"weight":"time""#,
+            "Repeated(time)",
+        ),
         (r#""batch":1"#, r#""batch":65537"#, "OutOfRange(batch)"),
         (r#"["a.csv"]"#, "[]", "OutOfRange(feeds)"),
         (r#"["a.csv"]"#, "[1]", "BadKind(feeds)"),

@@ -1,6 +1,6 @@
 use Rattle.std.proofs.Common.{arith}
 use Rattle.cube_schema.proofs.InRange.{are_in_range, at_most}
-use Rattle.cube_schema.proofs.Limits.{schema_in_limits, version_is}
+use Rattle.cube_schema.proofs.Limits.{schema_in_limits, draft-versioned}
 use Rattle.cube_schema.proofs.reading.plan_of.Goals as goal
 
 pub overflow_cast-depth : goal.overflow_cast-depth
@@ -13,4 +13,4 @@ pub new-requires : goal.new-requires
 new-requires c = schema_in_limits c.args.draft c.requires.in_range c.requires.distinct
 
 pub returns : goal.returns
-returns c = rw (c.new.ensures.depth, c.new.ensures.categories, c.new.ensures.time.0, c.new.ensures.time.1, c.new.ensures.batch) (version_is c.args.draft c.requires.in_range)
+returns c = rw (c.new.ensures.depth, c.new.ensures.categories, c.new.ensures.time.0, c.new.ensures.time.1, c.new.ensures.batch, c.new.ensures.weight) (draft-versioned c.args.draft c.requires.in_range)
