@@ -1,7 +1,7 @@
 use Rattle.std.proofs.Common.{◌≡◌, List, ℕ, BTreeMap, String, Global, string_bytes, string_cmp, refl, sym, ap, ◌∙◌, rules}
 use Rattle.std.specs.Prelude.{codes}
 use Rattle.std.specs.BTreeMap.{insert_entry}
-use Rattle.serde_json.specs.Data.{Data, Members, object, string, put}
+use Rattle.serde_json.specs.Data.{Members, object, string, put}
 use Rattle.serde_json.specs.View.{view, members_view}
 use Rattle.serde_json.specs.declared.value.Value.{Value, Object}
 use Rattle.serde_json.proofs.Views.{view-Object, members_view-insert_entry}
