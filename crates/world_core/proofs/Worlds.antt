@@ -11,7 +11,7 @@ use Rattle.cube_view.specs.declared.schema.Schema.{Schema}
 use Rattle.query_syntax.specs.Tables.{table}
 use Rattle.query_syntax.specs.declared.query.Query.{Query}
 use Rattle.world_core.specs.Interleaving.{numbered, entries_of, entry_points, list_of}
-use Rattle.world_core.specs.Machine.{first_world, pushed, next_entry, shot_of, is_feeder, is_possible, happens, after_event, after_events, world_of}
+use Rattle.world_core.specs.Machine.{first_world, pushed, next_entry, shot_of, is_possible, happens, after_push, after_pop, after_publish, after_tell, after_look, after_skip, after_event, after_events, world_of}
 use Rattle.world_core.specs.PairFact.{IsPrefix}
 use Rattle.world_core.specs.WorldLaws.{pushed_of, KeepsOrder, EveryWorldKeepsOrder, IsFreshLook, EveryLookIsFresh}
 use Rattle.world_core.specs.declared.entry.Entry.{Entry}
@@ -39,9 +39,9 @@ IsPrefix-take xs ys a = ap (take (length xs)) a.1 ∙ take-append_seam xs a.0
 
 module _ (schema : Schema) (room : ℕ) where
   -- what an event keeps, whether it is possible or not
-  pub event_keeps : (P : World → Type 0) (n : ℕ) (w : World) (e : Event) → (is_possible schema room w e ≡ true → P (happens schema room w e)) → P (record w { skipped = w.skipped ++ n ∷ [] }) → P (after_event schema room n w e)
+  pub event_keeps : (P : World → Type 0) (n : ℕ) (w : World) (e : Event) → (is_possible schema room w e ≡ true → P (happens schema w e)) → P (after_skip w n) → P (after_event schema room n w e)
   event_keeps P n w e possible noted =
-      elim (is_possible schema room w e) as (λ b. is_possible schema room w e ≡ b → P (if b then happens schema room w e else record w { skipped = w.skipped ++ n ∷ [] })) [
+      elim (is_possible schema room w e) as (λ b. is_possible schema room w e ≡ b → P (if b then happens schema w e else after_skip w n)) [
         | true ↦ λ is. possible is
         | false ↦ λ is. noted
       ] refl
@@ -62,7 +62,7 @@ module _ (schema : Schema) (room : ℕ) where
   event_grows : (v : World) (n : ℕ) (w : World) (e : Event) → IsPrefix v.journal w.journal × IsPrefix v.shots w.shots → let u = after_event schema room n w e in IsPrefix v.journal u.journal × IsPrefix v.shots u.shots
   event_grows v n w e h = event_keeps (λ u. IsPrefix v.journal u.journal × IsPrefix v.shots u.shots) n w e (by_event e) h
     where
-      by_event : (e : Event) → is_possible schema room w e ≡ true → let u = happens schema room w e in IsPrefix v.journal u.journal × IsPrefix v.shots u.shots
+      by_event : (e : Event) → is_possible schema room w e ≡ true → let u = happens schema w e in IsPrefix v.journal u.journal × IsPrefix v.shots u.shots
       by_event (Push f) is = h
       by_event Pop is = h
       by_event Publish is = (IsPrefix-then v.journal w.journal (w.journal ++ w.pending) h.0 (w.pending, refl), h.1)
@@ -98,7 +98,7 @@ module _ (feeds : List (List Point)) (sessions : ℕ) where
   }
 
   module _ (w : World) (kept : Kept feeds sessions w) where
-    Kept-push : (f : ℕ) → 1 ≤ f → f ≤ length w.rest → Kept feeds sessions (record w { rest = set w.rest (f - 1) (drop 1 (list_of w.rest f)); queue = w.queue ++ next_entry w f })
+    Kept-push : (f : ℕ) → 1 ≤ f → f ≤ length w.rest → Kept feeds sessions (after_push w f)
     Kept-push f low high =
         let next : list_of w.rest f ≡ take 1 (list_of w.rest f) ++ drop 1 (list_of w.rest f) = sym (take-append-drop 1 (list_of w.rest f)) in
         let rest = set w.rest (f - 1) (drop 1 (list_of w.rest f)) in
@@ -111,7 +111,7 @@ module _ (feeds : List (List Point)) (sessions : ℕ) where
           shown = kept.shown;
         }
 
-    Kept-pop : Kept feeds sessions (record w { queue = drop 1 w.queue; pending = w.pending ++ take 1 w.queue })
+    Kept-pop : Kept feeds sessions (after_pop w)
     Kept-pop =
         let front = take 1 w.queue in
         let same : pushed w ≡ w.journal ++ (w.pending ++ front) ++ drop 1 w.queue =
@@ -125,7 +125,7 @@ module _ (feeds : List (List Point)) (sessions : ℕ) where
           shown = kept.shown;
         }
 
-    Kept-publish : Kept feeds sessions (record w { pending = []; journal = w.journal ++ w.pending })
+    Kept-publish : Kept feeds sessions (after_publish w)
     Kept-publish =
         let same : pushed w ≡ w.journal ++ w.pending ++ [] ++ w.queue = ap (λ l. l ++ w.queue) (sym (append-nil (w.journal ++ w.pending))) in
         record {
@@ -136,7 +136,7 @@ module _ (feeds : List (List Point)) (sessions : ℕ) where
           shown = All-weaker (λ (shot : Shot). shot.table.seen ≤ length w.journal) (λ (shot : Shot). shot.table.seen ≤ length (w.journal ++ w.pending)) (λ shot le. let l = length-append w.journal w.pending in omega (arith, l, le)) w.shots kept.shown;
         }
 
-    Kept-tell : (s : ℕ) → Kept feeds sessions (record w { told = set w.told s (length w.journal) })
+    Kept-tell : (s : ℕ) → Kept feeds sessions (after_tell w s)
     Kept-tell s = record {
       order = kept.order;
       sizes = (kept.sizes.0, length-set w.told s (length w.journal) ∙ kept.sizes.1);
@@ -145,7 +145,7 @@ module _ (feeds : List (List Point)) (sessions : ℕ) where
       shown = kept.shown;
     }
 
-    Kept-look : (schema : Schema) (s : ℕ) (q : Query) → Kept feeds sessions (record w { seen = set w.seen s (length w.journal); shots = w.shots ++ shot_of schema s q w.journal ∷ [] })
+    Kept-look : (schema : Schema) (s : ℕ) (q : Query) → Kept feeds sessions (after_look schema w s q)
     unfolding table
     Kept-look schema s q = record {
       order = kept.order;
@@ -155,11 +155,10 @@ module _ (feeds : List (List Point)) (sessions : ℕ) where
       shown = All-push (λ (shot : Shot). shot.table.seen ≤ length w.journal) w.shots (shot_of schema s q w.journal) kept.shown (let l = length-map w.journal (λ (e : Entry). e.point) in omega (arith, l));
     }
 
-  Kept-happens : (schema : Schema) (room : ℕ) (w : World) (e : Event) → Kept feeds sessions w → is_possible schema room w e ≡ true → Kept feeds sessions (happens schema room w e)
+  Kept-happens : (schema : Schema) (room : ℕ) (w : World) (e : Event) → Kept feeds sessions w → is_possible schema room w e ≡ true → Kept feeds sessions (happens schema w e)
   Kept-happens schema room w (Push f) kept is =
-      let lists = and_parts (is_feeder w f && ltb 0 (length (list_of w.rest f))) (ltb (length w.queue) room) is in
-      let feeder = and_parts (is_feeder w f) (ltb 0 (length (list_of w.rest f))) lists.0 in
-      let range = and_parts (leb 1 f) (leb f (length w.rest)) feeder.0 in
+      let rest = and_parts (leb 1 f && leb f (length w.rest)) (ltb 0 (length (list_of w.rest f))) (and_parts _ (ltb (length w.queue) room) is).0 in
+      let range = and_parts (leb 1 f) (leb f (length w.rest)) rest.0 in
       Kept-push w kept f (leb-true 1 f range.0) (leb-true f (length w.rest) range.1)
   Kept-happens schema room w Pop kept is = Kept-pop w kept
   Kept-happens schema room w Publish kept is = Kept-publish w kept
@@ -229,18 +228,18 @@ module _ (schema : Schema) (feeds : List (List Point)) (room sessions : ℕ) whe
     last = world (before ++ Look s q ∷ after)
 
     abbrev looked : World
-    looked = happens schema room (world before) (Look s q)
+    looked = happens schema (world before) (Look s q)
 
-    after_look : last ≡ after_events schema room (0 + length before + 1) looked after
-    after_look =
+    last_from : last ≡ after_events schema room (0 + length before + 1) looked after
+    last_from =
         after_events-append schema room 0 (first_world feeds sessions) before (Look s q ∷ after)
-        ∙ ap (λ b. after_events schema room (0 + length before + 1) (if b then looked else record (world before) { skipped = (world before).skipped ++ (0 + length before) ∷ [] }) after) possible
+        ∙ ap (λ b. after_events schema room (0 + length before + 1) (if b then looked else after_skip (world before) (0 + length before)) after) possible
 
     journal_grows : IsPrefix (world before).journal last.journal
     journal_grows = grown before (Look s q ∷ after)
 
     shots_grow : IsPrefix looked.shots last.shots
-    shots_grow = subst (λ (u : World). IsPrefix looked.shots u.shots) (sym after_look) (events_grow schema room (0 + length before + 1) looked after).1
+    shots_grow = subst (λ (u : World). IsPrefix looked.shots u.shots) (sym last_from) (events_grow schema room (0 + length before + 1) looked after).1
 
     shot_stays : slice_get last.shots (length (world before).shots) ≡ Some (shot_of schema s q (take (length (world before).journal) last.journal))
     shot_stays =
@@ -257,7 +256,7 @@ module _ (schema : Schema) (feeds : List (List Point)) (room sessions : ℕ) whe
         let more = IsPrefix-length then_world.journal (world before).journal (subst (λ (l : List Event). IsPrefix then_world.journal (world l).journal) (sym split) (grown (earlier ++ Tell s ∷ []) later)) in
         omega (arith, up, more)
 
-    is_fresh : IsFreshLook schema world (before ++ Look s q ∷ after) before s q
+    is_fresh : IsFreshLook schema world before last s q
     is_fresh = record {
       shot = shot_stays;
       within = IsPrefix-length (world before).journal last.journal journal_grows;
@@ -268,4 +267,4 @@ module _ (schema : Schema) (feeds : List (List Point)) (room sessions : ℕ) whe
 -- every look is fresh
 pub every_look_is_fresh : EveryLookIsFresh
 every_look_is_fresh schema feeds room sessions events before after s q e possible =
-    subst (λ (l : List Event). IsFreshLook schema (world_of schema feeds room sessions) l before s q) (sym e) (is_fresh schema feeds room sessions before after s q possible)
+    subst (λ (l : List Event). IsFreshLook schema (world_of schema feeds room sessions) before (world_of schema feeds room sessions l) s q) (sym e) (is_fresh schema feeds room sessions before after s q possible)

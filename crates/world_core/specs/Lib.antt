@@ -3,4 +3,5 @@ pub mod InterleavingLaws
 pub mod LaneFact
 pub mod Machine
 pub mod PairFact
+pub mod Parts
 pub mod WorldLaws

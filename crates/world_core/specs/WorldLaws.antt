@@ -40,28 +40,28 @@ pub record KeepsOrder (feeds : List (List Point)) (sessions : ℕ) (w : World) :
 abbrev pub EveryWorldKeepsOrder : Type 0
 EveryWorldKeepsOrder = (schema : Schema) (feeds : List (List Point)) (room sessions : ℕ) (events : List Event) → KeepsOrder feeds sessions (world_of schema feeds room sessions events)
 
--- What holds of a look with a query, where `world` tells which world a list of events makes: of all these events,
--- those before the look, the look's session and its query
-pub record IsFreshLook (schema : Schema) (world : List Event → World) (events before : List Event) (s : ℕ) (q : Query) : Type 0 where
+-- What holds of a look of session s with the query q, where `world` tells which world a list of events makes: of the
+-- events before the look, and of the last world of all
+pub record IsFreshLook (schema : Schema) (world : List Event → World) (before : List Event) (last : World) (s : ℕ) (q : Query) : Type 0 where
   -- its shot is the table of its query over the entries of the last journal that were published by then
-  pub shot : slice_get (world events).shots (length (world before).shots) ≡ Some (shot_of schema s q (take (length (world before).journal) (world events).journal))
+  pub shot : slice_get last.shots (length (world before).shots) ≡ Some (shot_of schema s q (take (length (world before).journal) last.journal))
   -- the last journal has so many
-  pub within : length (world before).journal ≤ length (world events).journal
+  pub within : length (world before).journal ≤ length last.journal
   -- no shot before showed more of them
   pub seen : All (λ (shot : Shot). shot.table.seen ≤ length (world before).journal) (world before).shots
   -- its session was told of no more of them by any event before
   pub told : (earlier later : List Event) → before ≡ earlier ++ Tell s ∷ later → slice_index_or (world (earlier ++ Tell s ∷ [])).told s 0 ≤ length (world before).journal
 
 -- each look among the events that is possible is fresh, whatever came before it and comes after it
-abbrev pub LooksAreFresh : Schema → List (List Point) → ℕ → ℕ → List Event → Type 0
-LooksAreFresh schema feeds room sessions events =
+abbrev pub LooksAreFresh : Schema → List (List Point) → ℕ → ℕ → List Event → World → Type 0
+LooksAreFresh schema feeds room sessions events last =
     (before after : List Event) (s : ℕ) (q : Query) → events ≡ before ++ Look s q ∷ after
     → is_possible schema room (world_of schema feeds room sessions before) (Look s q) ≡ true
-    → IsFreshLook schema (world_of schema feeds room sessions) events before s q
+    → IsFreshLook schema (world_of schema feeds room sessions) before last s q
 
 -- every look is fresh, whatever the events
 abbrev pub EveryLookIsFresh : Type 0
-EveryLookIsFresh = (schema : Schema) (feeds : List (List Point)) (room sessions : ℕ) (events : List Event) → LooksAreFresh schema feeds room sessions events
+EveryLookIsFresh = (schema : Schema) (feeds : List (List Point)) (room sessions : ℕ) (events : List Event) → LooksAreFresh schema feeds room sessions events (world_of schema feeds room sessions events)
 
 -- a publication is possible in every world
 abbrev pub PublishIsAlwaysPossible : Type 0

@@ -3,10 +3,14 @@
 
 mod entry;
 mod event;
+mod asked;
 mod laws;
+mod machine;
+mod runs;
 mod world;
 
 pub use entry::Entry;
 pub use event::Event;
 pub use laws::{interleaving_laws, world_laws};
+pub use runs::run;
 pub use world::{Shot, World};
