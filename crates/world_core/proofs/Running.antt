@@ -1,5 +1,5 @@
 -- A machine that runs: what its world is after each event.
-use Rattle.std.proofs.Common.{◌≡◌, ℕ, ◌+◌, ◌-◌, ◌<◌, ◌≤◌, ◌&&◌, leb, ltb, true, IsTrue, IfOk, Result, Ok, Err, List, [], ◌∷◌, ◌++◌, length, length-append, get_or, take, drop, set, refl, sym, subst, ap, ◌∙◌, arith}
+use Rattle.std.proofs.Common.{◌≡◌, ℕ, ◌+◌, ◌-◌, ◌<◌, ◌≤◌, ◌&&◌, leb, ltb, IsTrue, IfOk, Result, Ok, Err, List, [], ◌∷◌, ◌++◌, length, length-append, get_or, take, drop, set, sym, subst, ap, ◌∙◌, arith}
 use Rattle.std.specs.declared.alloc.Global.{Global}
 use Rattle.std.specs.declared.collections.VecDeque.{VecDeque}
 use Rattle.std.proofs.lemmas.Bool.{and_parts, leb-true}
@@ -8,7 +8,7 @@ use Rattle.std.proofs.lemmas.List.{length-map, length-take, get_or-map, get_or_d
 use Rattle.cube_view.specs.Points.{Point}
 use Rattle.cube_view.specs.declared.schema.Schema.{Schema}
 use Rattle.world_core.specs.Interleaving.{entry, numbered, entries_of, list_of}
-use Rattle.world_core.specs.Machine.{first_world, pushed, has_rest, after_push, after_event, after_events, world_of}
+use Rattle.world_core.specs.Machine.{first_world, pushed, has_rest, after_push, after_event, world_of}
 use Rattle.world_core.specs.Parts.{deque_lists}
 use Rattle.world_core.specs.WorldLaws.{pushed_of, KeepsOrder, LooksAreFresh}
 use Rattle.world_core.specs.declared.entry.Entry.{Entry}

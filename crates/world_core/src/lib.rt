@@ -3,7 +3,6 @@
 
 mod entry;
 mod event;
-mod asked;
 mod laws;
 mod machine;
 mod runs;

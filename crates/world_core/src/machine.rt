@@ -1,6 +1,7 @@
 //! The machine as a program: the parts of a world, and what each event does to them.
 ghost use Rattle.std.specs.Prelude.{◌≡◌, ◌+◌, ◌<◌, ◌≤◌, ◌^◌, ◌&&◌, length, map, nat_lt, replicate, All, IfOk, OnOk, IsTrue};
 ghost use Rattle.std.specs.Vec.{vec_len};
+ghost use Rattle.cube_view.specs.Bag.{amount, anywhere};
 ghost use Rattle.query_syntax.specs.Queries.{is_valid_query as is_valid};
 ghost use Rattle.query_syntax.specs.Tables.{has_table as asks_table};
 ghost use Rattle.world_core.specs.Interleaving.{entry_points};
@@ -8,11 +9,10 @@ ghost use Rattle.world_core.specs.Machine.{first_world, has_rest as rest_is_left
 ghost use Rattle.world_core.specs.Parts.{deque_lists, world_now};
 ghost use Rattle.world_core.specs.WorldLaws.{KeepsOrder};
 
-use crate::asked::{has_table, is_valid_query};
 use crate::{Entry, Event, Shot, World};
 use cube_view::{Point, Schema};
 use outer_io::{List, NoMemory};
-use query_syntax::{Query, table_of};
+use query_syntax::{Query, has_table, is_valid_query, table_of};
 use std::alloc::Global;
 use std::collections::VecDeque;
 
@@ -106,7 +106,7 @@ impl Machine {
             Event::Look(session, query) => {
                 (*session as usize) < self.seen.len()
                     && is_valid_query(schema, query)
-                    && has_table(query.verb)
+                    && has_table(&query.verb)
             }
         }
     }
@@ -146,9 +146,7 @@ impl Machine {
     fn publish(&mut self) -> Result<(), NoMemory>
         ensures { OnOk result (world_now self.new ≡ after_publish (world_now self.old)) }
     {
-        self.journal
-            .append(&mut self.pending)
-            .map_err(|_| NoMemory)
+        self.journal.append(&mut self.pending).map_err(|_| NoMemory)
     }
 
     fn tell(&mut self, session: u32)
@@ -168,6 +166,7 @@ impl Machine {
         requires session { session < vec_len self.old.seen }
         requires query { IsTrue (is_valid schema.now query.now) }
         requires verb { IsTrue (asks_table query.now.verb) }
+        requires light { amount anywhere (entry_points self.old.journal.items) < 2 ^ 64 }
         ensures { OnOk result (world_now self.new ≡ after_look schema.now (world_now self.old) session query.now) }
     {
         let points = points_of(alloc, self.journal.as_slice())?;
@@ -188,6 +187,7 @@ impl Machine {
         requires possible { IsTrue (can_happen schema.now room (world_now self.old) event.now) }
         requires order { KeepsOrder feeds.now (length self.old.seen.items) (world_now self.old) }
         requires short { All (λ feed. length feed < 2 ^ 32) feeds.now }
+        requires light { amount anywhere (entry_points self.old.journal.items) < 2 ^ 64 }
         ensures { OnOk result (world_now self.new ≡ happens schema.now (world_now self.old) event.now) }
     {
         match event {
@@ -217,6 +217,7 @@ impl Machine {
     ) -> Result<(), NoMemory>
         requires order { KeepsOrder feeds.now (length self.old.seen.items) (world_now self.old) }
         requires short { All (λ feed. length feed < 2 ^ 32) feeds.now }
+        requires light { amount anywhere (entry_points self.old.journal.items) < 2 ^ 64 }
         ensures { OnOk result (world_now self.new ≡ after_event schema.now room number (world_now self.old) event.now) }
     {
         if self.is_possible(schema, room, event) {

@@ -1,4 +1,5 @@
-use Rattle.std.proofs.Common.{◌≡◌, IfOk, take, arith}
+use Rattle.std.proofs.Common.{◌≡◌, IfOk, take, length, arith}
+use Rattle.world_core.proofs.Lightness.{journal_light}
 use Rattle.world_core.proofs.Running.{world_of-next, keeps_order_so_far, order_if_ok, looks_if_ok, last_world}
 use Rattle.world_core.specs.Machine.{world_of}
 use Rattle.world_core.specs.Parts.{world_now}
@@ -6,6 +7,12 @@ use Rattle.world_core.proofs.runs.run.Goals as goal
 
 pub take_event-requires-clause-order : goal.take_event-requires-clause-order
 take_event-requires-clause-order c = keeps_order_so_far c.args.schema.now c.args.feeds.now c.args.room c.args.sessions (take c.loop-number.number c.args.events.now) (world_now c.loop-number.machine) c.loop-number.invariant
+
+pub take_event-requires-clause-light : goal.take_event-requires-clause-light
+take_event-requires-clause-light c =
+    let w = world_now c.loop-number.machine in
+    journal_light c.args.schema.now c.args.feeds.now (length w.seen) w c.requires.few.1 c.requires.short c.requires.valid
+    (keeps_order_so_far c.args.schema.now c.args.feeds.now c.args.room c.args.sessions (take c.loop-number.number c.args.events.now) w c.loop-number.invariant)
 
 pub loop-number-preserved : goal.loop-number-preserved
 loop-number-preserved c =
