@@ -11,11 +11,7 @@ use std::alloc::Global;
 const CHUNK_LEN: usize = 4096;
 
 /// Adds what one read gives, at most `room` bytes, at the end, and says how many there were.
-fn read_more<S: Source>(
-    source: &mut S,
-    bytes: &mut Vec<u8>,
-    room: usize,
-) -> Result<usize, IoFault>
+fn read_more<S: Source>(source: &mut S, bytes: &mut Vec<u8>, room: usize) -> Result<usize, IoFault>
     requires room { 0 < room }
     requires chunk { room ≤ 4096 }
     ensures more { IfOk result (Adds (S.left source.old) (S.left source.new) bytes.old.items bytes.new.items) }
