@@ -237,3 +237,6 @@ table_add_many-requires-clause-fits c =
     let e5 : c.set_child.new.self ≡ w5 (record { to = c.in_ok-copy.copy; kind = Proper }) = c.set_child.ensures.set ∙ ap₂ (λ (w : Worked) (i : SlotId). changed w (set_child w.slots i.0 2 (record { to = c.in_ok-copy.copy; kind = Proper }))) e4 n in
     let e6 : c.set_content.new.self ≡ w6 (record { to = c.in_ok-copy.copy; kind = Proper }) = c.set_content.ensures.set ∙ ap₂ (λ (w : Worked) (i : SlotId). changed w (set_content w.slots i.0 (Some (record { to = c.in_ok-copy.copy; kind = Proper })))) e5 n in
     subst₂ (λ (w : Worked) (i : SlotId). total_count (counts_of (slot_of w.slots i.0)) + 5 ≤ 2 ^ 63) (sym e6) (sym t) (no_records)
+
+pub table_add_many-requires-clause-some : goal.table_add_many-requires-clause-some
+table_add_many-requires-clause-some c = omega arith
