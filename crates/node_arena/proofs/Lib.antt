@@ -1,3 +1,4 @@
+pub mod Amounting
 pub mod Counting
 pub mod Edits
 pub mod Sharing

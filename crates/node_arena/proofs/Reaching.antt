@@ -1,11 +1,13 @@
 -- The shape says what each walk from the root reaches, and what a cube counts.
 use Rattle.std.proofs.Common.{◌≡◌, ℕ, zero, suc, ◌+◌, ◌<◌, true, false, List, [], ◌∷◌, Option, Some, None, Contains, length, refl, sym, ap, ◌∙◌, subst, arith, inl, inr, ◌⊎◌}
 use Rattle.node_arena.specs.declared.link.Link.{Link}
-use Rattle.cube_view.specs.Walks.{Step, down, across, Walk, SpotPath, Under, count_under, top, IsCoarser, dimension, HasSpot, down_all, whole_from, whole_of, whole}
+use Rattle.cube_view.specs.Walks.{Step, down, across, Walk, SpotPath, Under, top, IsCoarser, dimension, HasSpot, down_all, whole_from, whole_of, whole}
 use Rattle.node_arena.specs.Slots.{proper, shared, target, Slot, is_table, link_of, slot_of, count, reached, follow, walk_end}
 use Rattle.node_arena.specs.Shape.{home_of, HasHomes, IsShaped}
 use Rattle.node_arena.specs.Reach.{IsWalked, count_at, weight_at, TellsWalks, TellsWeights}
-use Rattle.cube_view.proofs.Walking.{finer-refl, finer-step, finer-trans, coarser_under, step_across_finer, under_before, count_along, count-none, dimension-finer}
+use Rattle.cube_view.proofs.Walking.{finer-refl, finer-step, finer-trans, coarser_under, step_across_finer, under_before, dimension-finer}
+use Rattle.node_arena.specs.Amounts.{Weighted, spots_in, amount_under}
+use Rattle.node_arena.proofs.Amounting.{amount_along, amount-none}
 use Rattle.node_arena.proofs.Linked.{linked-lt, link_cases}
 
 -- a link leads to a slot whose home is finer than the link's address
@@ -56,9 +58,9 @@ module _ (slots : List Slot) (homes : List Walk) (H : HasHomes slots homes) wher
       let y : o.step ≡ e = cc in
       step_on slots (walk_end slots 0 a) e o.by (proper (suc k)) (walk_home a o.by (linked-lt slots o.by o.step (proper (suc k)) o.owns) x) (subst (λ z. link_of slots o.by z ≡ Some (proper (suc k))) y o.owns)
 
-module _ (dims : ℕ) (slots : List Slot) (homes : List Walk) (h : List SpotPath) (S : IsShaped dims slots homes h) where
+module _ (dims : ℕ) (slots : List Slot) (homes : List Walk) (h : List Weighted) (S : IsShaped dims slots homes h) where
   -- agreement
-  pub walk_agrees : (a : Walk) (j : ℕ) → walk_end slots 0 a ≡ Some j → (q : SpotPath) → Contains h q → Under q a → Under q (home_of homes j)
+  pub walk_agrees : (a : Walk) (j : ℕ) → walk_end slots 0 a ≡ Some j → (q : SpotPath) → Contains (spots_in h) q → Under q a → Under q (home_of homes j)
   walk_agrees [] j w q c u = let e : 0 ≡ j = cc in subst (λ z. Under q (home_of homes z)) e (subst (Under q) (sym S.has_homes.root) u)
   walk_agrees (e ∷ a) j w q c u =
       let s = last_step slots (walk_end slots 0 a) e j w in
@@ -67,7 +69,7 @@ module _ (dims : ℕ) (slots : List Slot) (homes : List Walk) (h : List SpotPath
       subst (λ z. Under q (home_of homes z)) s.4 (S.holds.agrees s.0 e s.1 s.3 q c v)
 
   -- where a spot lies a slot is reached
-  pub walk_reaches : (a : Walk) → HasSpot h a → (i : ℕ) × (walk_end slots 0 a ≡ Some i)
+  pub walk_reaches : (a : Walk) → HasSpot (spots_in h) a → (i : ℕ) × (walk_end slots 0 a ≡ Some i)
   walk_reaches [] w = (0, refl)
   walk_reaches (e ∷ a) w =
       let r = walk_reaches a (record { spot = w.spot; is_in = w.is_in; lies = under_before w.spot e a w.lies }) in
@@ -82,16 +84,16 @@ module _ (dims : ℕ) (slots : List Slot) (homes : List Walk) (h : List SpotPath
           let s = last_step slots (walk_end slots 0 b) f i x in
           subst (λ z. z < length slots) s.4 (target-lt slots homes S.has_homes s.0 f s.1 s.3)
 
-  pub walk_only : (a : Walk) (e : Step) (j : ℕ) → walk_end slots 0 (e ∷ a) ≡ Some j → HasSpot h (e ∷ a)
+  pub walk_only : (a : Walk) (e : Step) (j : ℕ) → walk_end slots 0 (e ∷ a) ≡ Some j → HasSpot (spots_in h) (e ∷ a)
   walk_only a e j w =
       let s = last_step slots (walk_end slots 0 a) e j w in
       let r = S.holds.wanted s.0 e s.1 s.3 in
       record { spot = r.spot; is_in = r.is_in; lies = coarser_under (finer-step (walk_coarser slots homes S.has_homes a s.0 s.2) e) r.spot r.lies }
 
-  -- a time table that is reached counts the spots under the address
-  pub walk_counts : (a : Walk) (j bin : ℕ) → j < length slots → walk_end slots 0 a ≡ Some j → is_table (slot_of slots j) ≡ true → count (slot_of slots j) bin ≡ count_under h a bin
+  -- a time table that is reached counts the amounts under the address
+  pub walk_counts : (a : Walk) (j bin : ℕ) → j < length slots → walk_end slots 0 a ≡ Some j → is_table (slot_of slots j) ≡ true → count (slot_of slots j) bin ≡ amount_under h a bin
   walk_counts a j bin l w t =
-      S.counted.counts j bin l t ∙ count_along h (home_of homes j) a (λ q c u. coarser_under (walk_coarser slots homes S.has_homes a j w) q u) (λ q c u. walk_agrees a j w q c u) bin
+      S.counted.counts j bin l t ∙ amount_along h (home_of homes j) a (λ q c u. coarser_under (walk_coarser slots homes S.has_homes a j w) q u) (λ q c u. walk_agrees a j w q c u) bin
 
   walk-lt : (b : Walk) (i : ℕ) → walk_end slots 0 b ≡ Some i → i < length slots
   walk-lt [] i x = let e : 0 ≡ i = cc in subst (λ z. z < length slots) e S.has_homes.some
@@ -132,12 +134,12 @@ dimension-whole dims q some P = go q.paths P
     go [] e = absurd (omega arith)
     go (path ∷ later) e = let r = dimension-whole_from later (down_all path []) in let s = dimension-down_all path [] in omega arith
 
--- what a look-up of a whole spot finds is how many of the list are that spot
-pub weight_counts : (dims : ℕ) (slots : List Slot) (homes : List Walk) (h : List SpotPath) → IsShaped dims slots homes h → (q : SpotPath) → 0 < dims → length q.paths ≡ dims → weight_at slots q ≡ count_under h (whole q) q.bin
+-- what a look-up of a whole spot finds is how much of the list is at that spot
+pub weight_counts : (dims : ℕ) (slots : List Slot) (homes : List Walk) (h : List Weighted) → IsShaped dims slots homes h → (q : SpotPath) → 0 < dims → length q.paths ≡ dims → weight_at slots q ≡ amount_under h (whole q) q.bin
 weight_counts dims slots homes h S q some P = go (walk_end slots 0 (whole q)) refl
   where
-    go : (o : Option ℕ) → walk_end slots 0 (whole q) ≡ o → count_at slots o q.bin ≡ count_under h (whole q) q.bin
-    go None e = sym (count-none h (whole q) q.bin (λ w. let r = walk_reaches dims slots homes h S (whole q) w in let x = r.1 in absurd cc))
+    go : (o : Option ℕ) → walk_end slots 0 (whole q) ≡ o → count_at slots o q.bin ≡ amount_under h (whole q) q.bin
+    go None e = sym (amount-none h (whole q) q.bin (λ w. let r = walk_reaches dims slots homes h S (whole q) w in let x = r.1 in absurd cc))
     go (Some j) e =
         let l = walk-lt dims slots homes h S (whole q) j e in
         let d : dimension (home_of homes j) ≡ dims = sym (dimension-finer (walk_coarser slots homes S.has_homes (whole q) j e)) ∙ dimension-whole dims q some P in

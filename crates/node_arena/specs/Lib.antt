@@ -1,3 +1,4 @@
+pub mod Amounts
 pub mod Calls
 pub mod Reach
 pub mod Shape

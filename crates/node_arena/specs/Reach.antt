@@ -1,6 +1,7 @@
 -- The shape in the words of walks from the root, as laws; and what a cube counts.
 use Rattle.std.specs.Prelude.{◌≡◌, ℕ, suc, ◌<◌, List, [], ◌∷◌, length, Option, Some, None, Contains}
-use Rattle.cube_view.specs.Walks.{Step, down, across, Walk, SpotPath, count_under, HasSpot, IsCoarser, Under, whole}
+use Rattle.cube_view.specs.Walks.{Step, down, across, Walk, SpotPath, HasSpot, IsCoarser, Under, whole}
+use Rattle.node_arena.specs.Amounts.{Weighted, spots_in, amount_under}
 use Rattle.node_arena.specs.Slots.{Slot, IsTable, slot_of, count, walk_end}
 use Rattle.node_arena.specs.Shape.{home_of, IsShaped}
 
@@ -22,29 +23,29 @@ pub record ReachesSpots (slots : List Slot) (h : List SpotPath) : Type 0 where
   pub reached : (a : Walk) → HasSpot h a → IsReached slots a
   pub only : (a : Walk) (e : Step) → IsReached slots (e ∷ a) → HasSpot h (e ∷ a)
 
--- A time table that is reached at an address counts the spots under the address, bin by bin.
-pub record CountsReached (slots : List Slot) (h : List SpotPath) : Type 0 where
-  pub counts : (a : Walk) (i bin : ℕ) → walk_end slots 0 a ≡ Some i → IsTable (slot_of slots i) → count (slot_of slots i) bin ≡ count_under h a bin
+-- A time table that is reached at an address counts the amounts under the address, bin by bin.
+pub record CountsReached (slots : List Slot) (h : List Weighted) : Type 0 where
+  pub counts : (a : Walk) (i bin : ℕ) → walk_end slots 0 a ≡ Some i → IsTable (slot_of slots i) → count (slot_of slots i) bin ≡ amount_under h a bin
 
 -- the shape, said of walks
-pub record IsWalked (slots : List Slot) (homes : List Walk) (h : List SpotPath) : Type 0 where
-  pub homes_reached : ReachesHomes slots homes h
-  pub spots_reached : ReachesSpots slots h
+pub record IsWalked (slots : List Slot) (homes : List Walk) (h : List Weighted) : Type 0 where
+  pub homes_reached : ReachesHomes slots homes (spots_in h)
+  pub spots_reached : ReachesSpots slots (spots_in h)
   pub counted : CountsReached slots h
 
 -- a shape says what walks reach
 abbrev pub TellsWalks : Type 0
-TellsWalks = (dims : ℕ) (slots : List Slot) (homes : List Walk) (h : List SpotPath) → IsShaped dims slots homes h → IsWalked slots homes h
+TellsWalks = (dims : ℕ) (slots : List Slot) (homes : List Walk) (h : List Weighted) → IsShaped dims slots homes h → IsWalked slots homes h
 
 -- how many records the slot counts in the bin, if there is one
 abbrev pub count_at : List Slot → Option ℕ → ℕ → ℕ
 count_at slots None bin = 0
 count_at slots (Some i) bin = count (slot_of slots i) bin
 
--- how often the cube counts a spot: what its whole walk finds in its bin
+-- how much the cube counts at a spot: what its whole walk finds in its bin
 abbrev pub weight_at : List Slot → SpotPath → ℕ
 weight_at slots q = count_at slots (walk_end slots 0 (whole q)) q.bin
 
--- a shape counts a spot as often as the list has a spot of that path and bin
+-- a shape counts at a spot as much as the list has under its whole walk in its bin
 abbrev pub TellsWeights : Type 0
-TellsWeights = (dims : ℕ) (slots : List Slot) (homes : List Walk) (h : List SpotPath) → IsShaped dims slots homes h → (q : SpotPath) → 0 < dims → length q.paths ≡ dims → weight_at slots q ≡ count_under h (whole q) q.bin
+TellsWeights = (dims : ℕ) (slots : List Slot) (homes : List Walk) (h : List Weighted) → IsShaped dims slots homes h → (q : SpotPath) → 0 < dims → length q.paths ≡ dims → weight_at slots q ≡ amount_under h (whole q) q.bin

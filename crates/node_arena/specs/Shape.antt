@@ -1,9 +1,10 @@
 -- The shape of a cube. It is said link by link, of the slots, of the homes of the slots in the same
--- order, and of a list h of spots that the cube counts. The root is slot 0, and the dimension of number
+-- order, and of a list h of spots with amounts that the cube counts. The root is slot 0, and the dimension of number
 -- `dims` is time. The laws of Reach.antt say the same of walks from the root.
 use Rattle.std.specs.Prelude.{◌≡◌, ℕ, ◌<◌, ◌↔◌, List, [], ◌∷◌, length, map, slice_index_or, Some, Contains}
 use Rattle.node_arena.specs.declared.link.Link.{Link}
-use Rattle.cube_view.specs.Walks.{Step, down, across, Walk, SpotPath, Under, count_under, HasSpot, IsCoarser, dimension}
+use Rattle.cube_view.specs.Walks.{Step, down, across, Walk, SpotPath, Under, HasSpot, IsCoarser, dimension}
+use Rattle.node_arena.specs.Amounts.{Weighted, spots_in, amount_under}
 use Rattle.node_arena.specs.Slots.{proper, shared, target, Slot, IsTable, slot_of, link_of, count}
 
 -- the home of the slot at a place: the walk along proper links that leads to it
@@ -51,9 +52,9 @@ pub record HoldsSpots (slots : List Slot) (homes : List Walk) (sure all : List S
   pub wanted : (i : ℕ) (e : Step) (l : Link) → link_of slots i e ≡ Some l → HasSpot all (e ∷ home_of homes i)
   pub agrees : (i : ℕ) (e : Step) (l : Link) → link_of slots i e ≡ Some l → (q : SpotPath) → Contains sure q → Under q (e ∷ home_of homes i) → Under q (home_of homes (target l))
 
--- Part 3, counts. A time table counts the spots under its home, bin by bin.
-pub record CountsSpots (slots : List Slot) (homes : List Walk) (h : List SpotPath) : Type 0 where
-  pub counts : (i bin : ℕ) → i < length slots → IsTable (slot_of slots i) → count (slot_of slots i) bin ≡ count_under h (home_of homes i) bin
+-- Part 3, counts. A time table counts the amounts under its home, bin by bin.
+pub record CountsSpots (slots : List Slot) (homes : List Walk) (h : List Weighted) : Type 0 where
+  pub counts : (i bin : ℕ) → i < length slots → IsTable (slot_of slots i) → count (slot_of slots i) bin ≡ amount_under h (home_of homes i) bin
 
 -- the node at a place has one child, which is at the label
 pub record HasOneChild (slots : List Slot) (i label : ℕ) (l : Link) : Type 0 where
@@ -71,10 +72,10 @@ abbrev pub SharesOnlyContent : List Slot → Type 0
 SharesOnlyContent slots = (i label : ℕ) (l : Link) → HasOneChild slots i label l → SharesContent slots i l
 
 -- parts 1 to 3, which say what walks from the root reach
-pub record IsShaped (dims : ℕ) (slots : List Slot) (homes : List Walk) (h : List SpotPath) : Type 0 where
+pub record IsShaped (dims : ℕ) (slots : List Slot) (homes : List Walk) (h : List Weighted) : Type 0 where
   pub has_homes : HasHomes slots homes
   pub has_tables : HasTables dims slots homes
-  pub holds : HoldsSpots slots homes h h
+  pub holds : HoldsSpots slots homes (spots_in h) (spots_in h)
   pub counted : CountsSpots slots homes h
 
 -- all spots have paths of the same lengths, in as many dimensions as the cube has
@@ -84,14 +85,14 @@ pub record AreAlike (dims : ℕ) (h : List SpotPath) : Type 0 where
   pub same : (q : SpotPath) → Contains h q → map (λ path. length path) q.paths ≡ lengths
 
 -- the shape of a cube that shares what it can
-pub record HasShape (dims : ℕ) (slots : List Slot) (homes : List Walk) (h : List SpotPath) : Type 0 where
+pub record HasShape (dims : ℕ) (slots : List Slot) (homes : List Walk) (h : List Weighted) : Type 0 where
   pub shaped : IsShaped dims slots homes h
   pub open shaped use *
   pub shares : SharesOnlyContent slots
-  pub alike : AreAlike dims h
+  pub alike : AreAlike dims (spots_in h)
 
 -- what the type of a cube keeps: there are homes and spots for which its slots have the shape
 pub record IsCube (dims : ℕ) (slots : List Slot) : Type 0 where
   pub homes : List Walk
-  pub spots : List SpotPath
+  pub spots : List Weighted
   pub shape : HasShape dims slots homes spots

@@ -4,7 +4,8 @@ use Rattle.cube_view.specs.declared.stat.Stat.{Stat}
 use Rattle.node_arena.specs.declared.link.Link.{Link}
 use Rattle.node_arena.specs.declared.link.LinkKind.{LinkKind}
 use Rattle.node_arena.specs.declared.link.LinkKind.TheVariants.{Proper, Shared}
-use Rattle.cube_view.specs.Walks.{Walk, SpotPath}
+use Rattle.cube_view.specs.Walks.{Walk}
+use Rattle.node_arena.specs.Amounts.{Weighted}
 use Rattle.node_arena.specs.Slots.{Children, IsRising, Slot, children_of, content_of, is_table}
 use Rattle.node_arena.specs.Shape.{IsShaped}
 
@@ -68,8 +69,8 @@ with_slot stat s = record { nodes = capped (stat.nodes + (if is_table s then 0 e
 
 -- in a shape the numbers of nodes and tables together are one more than that of proper links
 abbrev pub TellsStat : List Slot → Stat → Type 0
-TellsStat slots stat = (dims : ℕ) (homes : List Walk) (h : List SpotPath) → IsShaped dims slots homes h → stat.nodes + stat.tables ≡ stat.proper + 1
+TellsStat slots stat = (dims : ℕ) (homes : List Walk) (h : List Weighted) → IsShaped dims slots homes h → stat.nodes + stat.tables ≡ stat.proper + 1
 
 -- in a shape every slot but the root has its one proper link
 abbrev pub TellsLinks : Type 0
-TellsLinks = (dims : ℕ) (slots : List Slot) (homes : List Walk) (h : List SpotPath) → IsShaped dims slots homes h → AllRising slots → node_count slots + table_count slots ≡ proper_count slots + 1
+TellsLinks = (dims : ℕ) (slots : List Slot) (homes : List Walk) (h : List Weighted) → IsShaped dims slots homes h → AllRising slots → node_count slots + table_count slots ≡ proper_count slots + 1

@@ -2,6 +2,7 @@
 ghost use Rattle.std.specs.Prelude.{◌≡◌, ◌+◌, ◌≤◌, ◌<◌, ◌^◌, ◌↔◌, [], length, take, None, Some, IfOk, OnOk, OnErr, IsSome, IsTrue};
 ghost use Rattle.std.specs.FinMap.{contains_key};
 ghost use Rattle.probe_core.specs.Bits.{bits};
+ghost use Rattle.probe_core.specs.Blanks.{IsBlankOf};
 ghost use Rattle.time_table.specs.Counts.{AllCounted, total_count};
 ghost use Rattle.cube_view.specs.Walks.{down, across};
 ghost use Rattle.node_arena.specs.Slots.{id_of, IsNode, IsTable, is_table, count, IsRising, slot_of, children_of, counts_of, link_of};
@@ -11,12 +12,13 @@ ghost use Rattle.node_arena.specs.Calls.{added, add_node, add_table, copy_slot, 
 use crate::children::Children;
 use crate::link::{Link, SlotId};
 use crate::slot::Stored;
+use block_list::BlockList;
 use cube_view::Stat;
 use outer_io::NoMemory;
 use probe_core::Steps;
 use std::alloc::Global;
-use std::marker::Model;
-use std::sync::ledger::Ledger;
+use std::marker::{Brand, Model};
+use std::sync::ledger::{Blank, Ledger};
 use time_table::TimeTable;
 
 /// The slots of a cube. Nodes and time tables are added at the end, and a slot keeps its place. Readers
@@ -24,7 +26,7 @@ use time_table::TimeTable;
 #[derive(Drop)]
 pub struct Arena {
     alloc: Global,
-    slots: Vec<Stored>,
+    slots: BlockList<Stored>,
 }
 
 impl Model for Arena {
@@ -37,7 +39,7 @@ impl Model for Arena {
 
     ghost coded = { Prim.hlevel (codes, counts_code) };
 
-    ghost view = { λ a. map slot_from a.slots.items };
+    ghost view = { λ a. map slot_from a.slots };
 }
 
 impl Arena {
@@ -49,7 +51,7 @@ impl Arena {
     {
         Arena {
             alloc,
-            slots: Vec::new(alloc),
+            slots: BlockList::new(alloc),
         }
     }
 
@@ -64,7 +66,7 @@ impl Arena {
     pub fn is_empty(&self) -> bool
         ensures { IsTrue result ↔ (self.now ≡ []) }
     {
-        self.slots.is_empty()
+        self.len() == 0
     }
 
     /// How many nodes and time tables there are, and how many proper and shared links. In the shape of a
@@ -81,7 +83,7 @@ impl Arena {
             shared: 0,
         };
         for i in 0..self.slots.len() {
-            stat = self.slots[i].counted_with(stat);
+            stat = self.slot(i).counted_with(stat);
         }
         stat
     }
@@ -114,7 +116,7 @@ impl Arena {
         ensures copied { OnOk result (self.new ≡ copy_slot self.old id.0) }
         ensures unchanged { OnErr result (self.new ≡ self.old) }
     {
-        let copy = self.slots[id.0].copied(self.alloc)?;
+        let copy = self.slot(id.0).copied(self.alloc)?;
         self.add(copy)
     }
 
@@ -126,7 +128,7 @@ impl Arena {
         ensures put { OnOk result (self.new ≡ put_child self.old id.0 label link) }
         ensures unchanged { OnErr result (self.new ≡ self.old) }
     {
-        let slot = &mut self.slots[id.0];
+        let slot = self.slots.get_mut(id.0);
         slot.put_child(label, link)
     }
 
@@ -138,7 +140,7 @@ impl Arena {
         ensures given { link_of self.old id.0 (down label) ≡ Some result }
         ensures set { self.new ≡ set_child self.old id.0 label link }
     {
-        let slot = &mut self.slots[id.0];
+        let slot = self.slots.get_mut(id.0);
         slot.set_child(label, link)
     }
 
@@ -150,7 +152,7 @@ impl Arena {
         ensures given { link_of self.old id.0 (down label) ≡ Some result }
         ensures dropped { self.new ≡ drop_child self.old id.0 label }
     {
-        let slot = &mut self.slots[id.0];
+        let slot = self.slots.get_mut(id.0);
         slot.drop_child(label)
     }
 
@@ -161,7 +163,7 @@ impl Arena {
         ensures given { result ≡ link_of self.old id.0 across }
         ensures set { self.new ≡ set_content self.old id.0 link }
     {
-        let slot = &mut self.slots[id.0];
+        let slot = self.slots.get_mut(id.0);
         slot.set_content(link)
     }
 
@@ -184,7 +186,7 @@ impl Arena {
         requires is_there { IsTrue (contains_key (counts_of (slot_of self.old id.0)) bin) }
         ensures { self.new ≡ table_take self.old id.0 bin }
     {
-        let slot = &mut self.slots[id.0];
+        let slot = self.slots.get_mut(id.0);
         slot.take_one(bin);
     }
 
@@ -198,7 +200,7 @@ impl Arena {
         ensures unchanged { OnErr result (self.new ≡ self.old) }
         ensures was_counted { AllCounted (counts_of (slot_of self.old id.0)) }
     {
-        let slot = &mut self.slots[id.0];
+        let slot = self.slots.get_mut(id.0);
         slot.add_many(bin, amount)
     }
 
@@ -210,7 +212,7 @@ impl Arena {
         requires is_there { amount ≤ count (slot_of self.old id.0) bin }
         ensures { self.new ≡ table_take_many self.old id.0 bin amount }
     {
-        let slot = &mut self.slots[id.0];
+        let slot = self.slots.get_mut(id.0);
         slot.take_many(bin, amount);
     }
 
@@ -219,7 +221,7 @@ impl Arena {
         requires { id.0 < length self.now }
         ensures { result ≡ is_table (slot_of self.now id.0) }
     {
-        self.slots[id.0].is_table()
+        self.slot(id.0).is_table()
     }
 
     /// Takes off the slots from a place on.
@@ -227,7 +229,7 @@ impl Arena {
         requires { len ≤ length self.old }
         ensures { self.new ≡ take len self.old }
     {
-        self.slots.truncate(len);
+        self.slots.cut(len);
     }
 
     /// The link to the child of a label. None comes exactly where there is none.
@@ -239,8 +241,7 @@ impl Arena {
         ensures a_step { steps.old + 1 ≤ steps.new }
         ensures in_order { IsRising (children_of (slot_of self.now id.0)) }
     {
-        steps.tick();
-        self.slots[id.0].child(label, steps)
+        self.counted_slot(id.0, steps).child(label, steps)
     }
 
     /// The first child whose label is `from` or later. None comes exactly where there is none.
@@ -257,8 +258,7 @@ impl Arena {
         ensures a_step { steps.old + 1 ≤ steps.new }
         ensures in_order { IsRising (children_of (slot_of self.now id.0)) }
     {
-        steps.tick();
-        self.slots[id.0].next_child(from, steps)
+        self.counted_slot(id.0, steps).next_child(from, steps)
     }
 
     /// The link to the content. None comes exactly where there is none.
@@ -268,8 +268,7 @@ impl Arena {
         ensures link { result ≡ link_of self.now id.0 across }
         ensures cost { steps.new ≡ steps.old + 1 }
     {
-        steps.tick();
-        self.slots[id.0].content()
+        self.counted_slot(id.0, steps).content()
     }
 
     /// A time table.
@@ -279,8 +278,7 @@ impl Arena {
         ensures counts { result.now ≡ counts_of (slot_of self.now id.0) }
         ensures cost { steps.new ≡ steps.old + 1 }
     {
-        steps.tick();
-        self.slots[id.0].table()
+        self.counted_slot(id.0, steps).table()
     }
 
     /// The link to the only child. None comes exactly where there is not exactly one.
@@ -290,7 +288,7 @@ impl Arena {
         ensures link { result ≡ only_link (children_of (slot_of self.now id.0)) }
         ensures in_order { IsRising (children_of (slot_of self.now id.0)) }
     {
-        self.slots[id.0].only_child()
+        self.slot(id.0).only_child()
     }
 
     /// Adds a slot at the end.
@@ -299,10 +297,36 @@ impl Arena {
         ensures added { OnOk result (self.new ≡ added self.old (slot_from slot)) }
         ensures unchanged { OnErr result (self.new ≡ self.old) }
     {
-        let place = self.slots.len();
         match self.slots.push(slot) {
-            Ok(()) => Ok(SlotId(place)),
+            Ok(place) => Ok(SlotId(place)),
             Err(_) => Err(NoMemory),
         }
+    }
+
+    /// The slot at a place, in one step.
+    fn counted_slot<L: Ledger>(&self, i: usize, steps: &mut Steps<L>) -> &Stored
+        requires { i < length self.now }
+        ensures slot { slot_from result.now ≡ slot_of self.now i }
+        ensures one_step { steps.new ≡ steps.old + 1 }
+    {
+        self.slots.get(i, steps)
+    }
+
+    /// The slot at a place, where nobody counts the steps.
+    fn slot(&self, i: usize) -> &Stored
+        requires { i < length self.now }
+        ensures { slot_from result.now ≡ slot_of self.now i }
+    {
+        self.slot_in::<Brand>(i, Blank::new(1))
+    }
+
+    /// The slot at a place, in a ledger of its own.
+    fn slot_in<L: Ledger>(&self, i: usize, blank: Blank) -> &Stored
+        requires blank { IsBlankOf L.name L.parts blank }
+        requires within { i < length self.now }
+        ensures { slot_from result.now ≡ slot_of self.now i }
+    {
+        let mut steps = Steps::<L>::new(blank);
+        self.counted_slot(i, &mut steps)
     }
 }

@@ -3,7 +3,7 @@ ghost use Rattle.node_arena.specs.Reach.{TellsWalks, TellsWeights};
 ghost use Rattle.node_arena.specs.Stats.{TellsLinks};
 
 /// From the root an address is reached exactly where a spot lies under it, and a time table that is
-/// reached counts those spots; so the cube counts each spot as often as the list has it. There is one
+/// reached counts the amounts there; so the cube counts at each spot as much as the list has at it. There is one
 /// proper link to each slot but the root. It does nothing when run.
 pub fn shape_laws()
     ensures walks { TellsWalks }

@@ -4,4 +4,4 @@ use Rattle.node_arena.proofs.Viewed.{map-slot_from-take}
 use Rattle.node_arena.proofs.arena.Arena.cut.Goals as goal
 
 pub returns : goal.returns
-returns c = ap (map slot_from) c.truncate.ensures.items ∙ map-slot_from-take c.self.inside.slots.items c.args.self.now c.args.len c.self.view_is
+returns c = ap (map slot_from) c.cut.ensures ∙ map-slot_from-take c.self.inside.slots c.args.self.now c.args.len c.self.view_is

@@ -4,4 +4,4 @@ use Rattle.node_arena.proofs.Viewed.{map-slot_from-set}
 use Rattle.node_arena.proofs.arena.Arena.set_child.Goals as goal
 
 pub returns-clause-set : goal.returns-clause-set
-returns-clause-set c = map-slot_from-set c.self.inside.slots.items c.args.self.now _ _ c.set_child.new.self (λ (s : Slot). relink s c.args.label c.args.link) c.self.view_is c.requires.in_range c.index_mut-slot.ensures.value c.set_child.ensures.set
+returns-clause-set c = map-slot_from-set c.self.inside.slots c.args.self.now _ _ c.set_child.new.self (λ (s : Slot). relink s c.args.label c.args.link) c.self.view_is c.requires.in_range c.get_mut-slot.ensures.value c.set_child.ensures.set

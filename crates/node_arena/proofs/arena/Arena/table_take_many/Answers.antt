@@ -4,4 +4,4 @@ use Rattle.node_arena.proofs.Viewed.{map-slot_from-set}
 use Rattle.node_arena.proofs.arena.Arena.table_take_many.Goals as goal
 
 pub returns : goal.returns
-returns c = map-slot_from-set c.self.inside.slots.items c.args.self.now _ _ c.take_many.new.self (λ (s : Slot). without_many s c.args.bin c.args.amount) c.self.view_is c.requires.in_range c.index_mut-slot.ensures.value c.take_many.ensures
+returns c = map-slot_from-set c.self.inside.slots c.args.self.now _ _ c.take_many.new.self (λ (s : Slot). without_many s c.args.bin c.args.amount) c.self.view_is c.requires.in_range c.get_mut-slot.ensures.value c.take_many.ensures
