@@ -1,7 +1,15 @@
 //! An arena whose changes can be taken back.
 //!
 //! A [`Work`] holds an arena and a trail of the changes that were made on it. The memory for the trail
-//! is taken at the beginning, so neither [`Work::keep`] nor [`Work::undo`] can be refused.
+//! is taken at the beginning, so neither [`Work::keep`] nor [`Work::undo`] can be refused. The crate
+//! stands on `node_arena`, whose calls it makes and notes. When to keep and when to undo it leaves to
+//! its callers.
+//!
+//! ```text
+//! let mut work = Work::begin(alloc, arena, 7)?;
+//! work.table_add_many(table, 5, 5)?;
+//! let arena = work.undo(); // as it was
+//! ```
 #![tactic(auto)]
 
 mod change;
