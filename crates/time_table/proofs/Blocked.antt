@@ -6,11 +6,11 @@ use Rattle.std.proofs.lemmas.List.Elements.{All-nil, All-cons, All-head, All-tai
 use Rattle.time_table.specs.declared.row.Row.{Row}
 use Rattle.time_table.specs.Totals.{Rise, counts_from, last_total, raised, lowered}
 use Rattle.time_table.specs.Places.{added, taken, count_at, more, less}
-use Rattle.time_table.specs.Blocks.{Block, flat, parts, IsHead, Held, IsSized, AllSized, SizedBut, joined, in_hand}
+use Rattle.time_table.specs.Blocks.{Block, flat, parts, IsHead, Held, IsSized, AllSized, SizedBut, one_list, in_hand}
 use Rattle.time_table.proofs.Adding.{counts_from-raised, last_total-raised, Rise-raised, All-raised, all_past, counts_from-added, Rise-added, All-added, last_total-added, last_total-le}
 use Rattle.time_table.proofs.Taking.{past_entries, counts_from-taken, Rise-taken, All-taken, last_total-taken, length-taken}
 use Rattle.time_table.proofs.Lessened.{count_over, count_front, more_over, more_front, less_over, less_front}
-use Rattle.time_table.proofs.Joined.{counts_from-append, last_total-append, next, Rise-least, Rise-append, next-lt, All-next, length-le-total, joined-left, joined-right, last_total-joined, counts_from-joined}
+use Rattle.time_table.proofs.Joined.{counts_from-append, last_total-append, next, Rise-least, Rise-append, next-lt, All-next, length-le-total, one_list-left, one_list-right, last_total-one_list, counts_from-one_list}
 
 pub held_len : (least before : ℕ) (hs : List Row) (bs : List Block) → Held least before hs bs → length hs ≡ length bs
 held_len least before [] [] held = refl
@@ -237,20 +237,20 @@ last_total-remove before (suc q) (h ∷ hs) within = last_total-remove h.total q
 
 -- two blocks, of which one is in hand
 
-pub Held-all_left : (least before q : ℕ) (hs : List Row) (bs : List Block) (left left' right : Block) → Held least before hs (in_hand q right bs) → q < length bs → left ≡ get_or bs q left → left'.items ≡ joined left.items right.items → Held least before hs (set bs q left')
+pub Held-all_left : (least before q : ℕ) (hs : List Row) (bs : List Block) (left left' right : Block) → Held least before hs (in_hand q right bs) → q < length bs → left ≡ get_or bs q left → left'.items ≡ one_list left.items right.items → Held least before hs (set bs q left')
 Held-all_left least before q hs [] left left' right held within read is = absurd (omega arith)
 Held-all_left least before zero [] (x ∷ bs) left left' right held within read is = absurd held
 Held-all_left least before (suc q) [] (x ∷ bs) left left' right held within read is = absurd held
 Held-all_left least before zero (h ∷ hs) (x ∷ bs) left left' right held within read is =
-    let new : left'.items ≡ joined x.items right.items = is ∙ ap (λ (y : Block). joined y.items right.items) read in
+    let new : left'.items ≡ one_list x.items right.items = is ∙ ap (λ (y : Block). one_list y.items right.items) read in
     (subst (IsHead least before h) (sym new) held.0, held.1)
 Held-all_left least before (suc q) (h ∷ hs) (x ∷ bs) left left' right held within read is =
     (held.0, Held-all_left (h.bin + 1) h.total q hs bs left left' right held.1 (omega arith) read is)
 
-pub parts-all_left : (q : ℕ) (bs : List Block) (left left' right : Block) → q < length bs → left ≡ get_or bs q left → left'.items ≡ joined left.items right.items → parts (set bs q left') ≡ parts (in_hand q right bs)
+pub parts-all_left : (q : ℕ) (bs : List Block) (left left' right : Block) → q < length bs → left ≡ get_or bs q left → left'.items ≡ one_list left.items right.items → parts (set bs q left') ≡ parts (in_hand q right bs)
 parts-all_left q [] left left' right within read is = absurd (omega arith)
 parts-all_left zero (x ∷ bs) left left' right within read is =
-    ap (λ zs. counts_from 0 zs ++ parts bs) (is ∙ ap (λ (y : Block). joined y.items right.items) read)
+    ap (λ zs. counts_from 0 zs ++ parts bs) (is ∙ ap (λ (y : Block). one_list y.items right.items) read)
 parts-all_left (suc q) (x ∷ bs) left left' right within read is =
     ap (λ zs. counts_from 0 x.items ++ zs) (parts-all_left q bs left left' right (omega arith) read is)
 
@@ -261,7 +261,7 @@ AllSized-set n (suc q) (x ∷ bs) b sized is = (sized.0, AllSized-set n q bs b s
 
 -- the two blocks after rows were moved between them, and the head between them
 pub record IsParted (left right left' right' : List Row) (head row : Row) : Type 0 where
-  pub same : joined left' right' ≡ joined left right
+  pub same : one_list left' right' ≡ one_list left right
   pub some_left : 0 < length left'
   pub some_right : 0 < length right'
   pub bin : (least : ℕ) → row.bin + 1 ≡ next least left'
@@ -280,15 +280,15 @@ first_within least from top (r ∷ rs) rise all some is =
     let within : r.bin ≤ top = All-head (λ (row : Row). row.bin ≤ top) r rs all in
     omega arith
 
-parted_head : (least before : ℕ) (h row : Row) (l r l' r' : List Row) → IsHead least before h (joined l r) → IsParted l r l' r' h row → IsHead least before row l' × IsHead (row.bin + 1) row.total h r'
+parted_head : (least before : ℕ) (h row : Row) (l r l' r' : List Row) → IsHead least before h (one_list l r) → IsParted l r l' r' h row → IsHead least before row l' × IsHead (row.bin + 1) row.total h r'
 parted_head least before h row l r l' r' head is =
-    let rise : Rise least 0 (joined l' r') = subst (Rise least 0) (sym is.same) head.rise in
-    let left : Rise least 0 l' = joined-left least l' r' rise in
-    let right : Rise (next least l') 0 r' = joined-right least l' r' rise in
+    let rise : Rise least 0 (one_list l' r') = subst (Rise least 0) (sym is.same) head.rise in
+    let left : Rise least 0 l' = one_list-left least l' r' rise in
+    let right : Rise (next least l') 0 r' = one_list-right least l' r' rise in
     let bin : row.bin + 1 ≡ next least l' = is.bin least in
-    let within : All (λ row. row.bin ≤ h.bin) (joined l' r') = subst (All (λ (row : Row). row.bin ≤ h.bin)) (sym is.same) head.within in
+    let within : All (λ row. row.bin ≤ h.bin) (one_list l' r') = subst (All (λ (row : Row). row.bin ≤ h.bin)) (sym is.same) head.within in
     let within_right : All (λ row. row.bin ≤ h.bin) r' = unraised_within (last_total 0 l') h.bin l' r' within in
-    let sum : last_total 0 (joined l r) ≡ last_total 0 l' + last_total 0 r' = ap (last_total 0) (sym is.same) ∙ last_total-joined l' r' in (
+    let sum : last_total 0 (one_list l r) ≡ last_total 0 l' + last_total 0 r' = ap (last_total 0) (sym is.same) ∙ last_total-one_list l' r' in (
       record {
         rise = left;
         within = All-weaker (λ (r : Row). r.bin < next least l') (λ (r : Row). r.bin ≤ row.bin) (λ (r : Row) (under : r.bin < next least l'). omega arith) l' (All-next least 0 l' left);
@@ -316,12 +316,12 @@ Held-parted least before zero (h ∷ hs) (x ∷ bs) left right left' right' head
 Held-parted least before (suc q) (h ∷ hs) (x ∷ bs) left right left' right' head row held within read read' is =
     (held.0, Held-parted (h.bin + 1) h.total q hs bs left right left' right' head row held.1 (omega arith) read read' is)
 
-pub parts-parted : (q : ℕ) (bs : List Block) (left right left' right' : Block) → q < length bs → left ≡ get_or bs q left → joined left'.items right'.items ≡ joined left.items right.items → parts (insert (set bs q left') (suc q) right') ≡ parts (in_hand q right bs)
+pub parts-parted : (q : ℕ) (bs : List Block) (left right left' right' : Block) → q < length bs → left ≡ get_or bs q left → one_list left'.items right'.items ≡ one_list left.items right.items → parts (insert (set bs q left') (suc q) right') ≡ parts (in_hand q right bs)
 parts-parted q [] left right left' right' within read same = absurd (omega arith)
 parts-parted zero (x ∷ bs) left right left' right' within read same =
     sym (append_assoc (counts_from 0 left'.items) (counts_from 0 right'.items) (parts bs))
-    ∙ ap (λ zs. zs ++ parts bs) (sym (counts_from-joined left'.items right'.items))
-    ∙ ap (λ zs. counts_from 0 zs ++ parts bs) (same ∙ ap (λ (y : Block). joined y.items right.items) read)
+    ∙ ap (λ zs. zs ++ parts bs) (sym (counts_from-one_list left'.items right'.items))
+    ∙ ap (λ zs. counts_from 0 zs ++ parts bs) (same ∙ ap (λ (y : Block). one_list y.items right.items) read)
 parts-parted (suc q) (x ∷ bs) left right left' right' within read same =
     ap (λ zs. counts_from 0 x.items ++ zs) (parts-parted q bs left right left' right' (omega arith) read same)
 

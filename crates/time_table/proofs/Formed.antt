@@ -17,7 +17,7 @@ use Rattle.time_table.specs.declared.form.Form.TheVariants.{Single, Split}
 use Rattle.time_table.specs.Totals.{Rise, counts, counts_from, last_total}
 use Rattle.time_table.specs.Places.{added, taken, count_at, more, less, del}
 use Rattle.time_table.specs.Blocks.{Block, flat, parts, Held, IsHead}
-use Rattle.time_table.specs.Forms.{IsSingle, IsForm, rows_of, entries_of, total_of}
+use Rattle.time_table.specs.Forms.{IsSingle, IsForm, rows_of, form_entries, total_of}
 use Rattle.time_table.specs.Blocks.{IsSplit}
 use Rattle.time_table.proofs.Adding.{Rise-added, All-added, length-added}
 use Rattle.time_table.proofs.Taking.{Rise-taken, All-taken, length-taken}
@@ -83,7 +83,7 @@ pub Rise-rows : (f : Form) → IsForm f → Rise 0 0 (rows_of f)
 Rise-rows (Single rows) is = is.rise
 Rise-rows (Split split) is = Rise-flat 0 0 split.value.heads.items split.value.blocks.items is.held
 
-pub entries-form : (f : Form) → IsForm f → entries (counts (rows_of f)) ≡ entries_of f
+pub entries-form : (f : Form) → IsForm f → entries (counts (rows_of f)) ≡ form_entries f
 entries-form (Single rows) is = entries-counts rows.items is.rise
 entries-form (Split split) is = entries-counts (flat 0 split.value.blocks.items) (Rise-flat 0 0 split.value.heads.items split.value.blocks.items is.held) ∙ counts_from-flat 0 split.value.blocks.items
 
@@ -97,31 +97,31 @@ AllCounted-form f is = AllCounted-counts (rows_of f) (Rise-rows f is)
 pub len-form : (f : Form) → IsForm f → len (counts (rows_of f)) ≡ length (rows_of f)
 len-form f is = len-counts (rows_of f) (Rise-rows f is)
 
-pub count-form : (f : Form) (bin : ℕ) → IsForm f → count_of (counts (rows_of f)) bin ≡ count_at bin (entries_of f)
+pub count-form : (f : Form) (bin : ℕ) → IsForm f → count_of (counts (rows_of f)) bin ≡ count_at bin (form_entries f)
 count-form f bin is = ap (λ o. unwrap_or o 0) (get-entries (counts (rows_of f)) bin ∙ ap (find nat_cmp bin) (entries-form f is))
 
-pub same-form : (f f' : Form) → IsForm f → IsForm f' → entries_of f' ≡ entries_of f → counts (rows_of f') ≡ counts (rows_of f)
+pub same-form : (f f' : Form) → IsForm f → IsForm f' → form_entries f' ≡ form_entries f → counts (rows_of f') ≡ counts (rows_of f)
 same-form f f' is is' same = same_entries_map (counts (rows_of f')) (counts (rows_of f)) (entries-form f' is' ∙ same ∙ sym (entries-form f is))
 
-pub added-form : (f f' : Form) (bin n : ℕ) → IsForm f → IsForm f' → entries_of f' ≡ more bin n (entries_of f) → counts (rows_of f') ≡ add_many (counts (rows_of f)) bin n
+pub added-form : (f f' : Form) (bin n : ℕ) → IsForm f → IsForm f' → form_entries f' ≡ more bin n (form_entries f) → counts (rows_of f') ≡ add_many (counts (rows_of f)) bin n
 added-form f f' bin n is is' new =
     same_entries_map (counts (rows_of f')) (add_many (counts (rows_of f)) bin n)
     (entries-form f' is'
     ∙ new
-    ∙ ap (λ k. put nat_cmp bin (k + n) (entries_of f)) (sym (count-form f bin is))
+    ∙ ap (λ k. put nat_cmp bin (k + n) (form_entries f)) (sym (count-form f bin is))
     ∙ ap (put nat_cmp bin (count_of (counts (rows_of f)) bin + n)) (sym (entries-form f is))
     ∙ sym (entries-insert nat_cmp_total (counts (rows_of f)) bin (count_of (counts (rows_of f)) bin + n)))
 
-pub taken-form : (f f' : Form) (bin n : ℕ) → IsForm f → IsForm f' → entries_of f' ≡ less bin n (entries_of f) → counts (rows_of f') ≡ take_many (counts (rows_of f)) bin n
+pub taken-form : (f f' : Form) (bin n : ℕ) → IsForm f → IsForm f' → form_entries f' ≡ less bin n (form_entries f) → counts (rows_of f') ≡ take_many (counts (rows_of f)) bin n
 taken-form f f' bin n is is' new =
-    let count : count_at bin (entries_of f) ≡ count_of (counts (rows_of f)) bin = sym (count-form f bin is) in
+    let count : count_at bin (form_entries f) ≡ count_of (counts (rows_of f)) bin = sym (count-form f bin is) in
     elim (cases_eq (count_of (counts (rows_of f)) bin) n) [
       | inl all ↦
           let gone : counts (rows_of f') ≡ remove (counts (rows_of f)) bin =
           same_map nat_cmp_total nat_cmp-IsAntisymmetric (counts (rows_of f')) (remove (counts (rows_of f)) bin) (λ q.
           get-entries (counts (rows_of f')) q
-          ∙ ap (find nat_cmp q) (entries-form f' is' ∙ new ∙ ap (λ b. cond b (del bin (entries_of f)) (put nat_cmp bin (count_at bin (entries_of f) - n) (entries_of f))) (eq-eqb (count_at bin (entries_of f)) n (count ∙ all)))
-          ∙ find-del bin q (entries_of f)
+          ∙ ap (find nat_cmp q) (entries-form f' is' ∙ new ∙ ap (λ b. cond b (del bin (form_entries f)) (put nat_cmp bin (count_at bin (form_entries f) - n) (form_entries f))) (eq-eqb (count_at bin (form_entries f)) n (count ∙ all)))
+          ∙ find-del bin q (form_entries f)
           ∙ ap (λ es. cond (eq_by_cmp nat_cmp q bin) None (find nat_cmp q es)) (sym (entries-form f is))
           ∙ ap (cond (eq_by_cmp nat_cmp q bin) None) (sym (get-entries (counts (rows_of f)) q))
           ∙ sym (get-remove nat_cmp_total (counts (rows_of f)) bin q)) in
@@ -130,8 +130,8 @@ taken-form f f' bin n is is' new =
           let left : counts (rows_of f') ≡ insert (counts (rows_of f)) bin (count_of (counts (rows_of f)) bin - n) =
           same_entries_map (counts (rows_of f')) (insert (counts (rows_of f)) bin (count_of (counts (rows_of f)) bin - n))
           (entries-form f' is' ∙ new
-          ∙ ap (λ b. cond b (del bin (entries_of f)) (put nat_cmp bin (count_at bin (entries_of f) - n) (entries_of f))) (ne_eqb (count_at bin (entries_of f)) n (λ all. some (sym count ∙ all)))
-          ∙ ap (λ k. put nat_cmp bin (k - n) (entries_of f)) count
+          ∙ ap (λ b. cond b (del bin (form_entries f)) (put nat_cmp bin (count_at bin (form_entries f) - n) (form_entries f))) (ne_eqb (count_at bin (form_entries f)) n (λ all. some (sym count ∙ all)))
+          ∙ ap (λ k. put nat_cmp bin (k - n) (form_entries f)) count
           ∙ ap (put nat_cmp bin (count_of (counts (rows_of f)) bin - n)) (sym (entries-form f is))
           ∙ sym (entries-insert nat_cmp_total (counts (rows_of f)) bin (count_of (counts (rows_of f)) bin - n))) in
           rw (ne_eqb (count_of (counts (rows_of f)) bin) n some) left

@@ -6,7 +6,7 @@ use Rattle.std.proofs.lemmas.List.Elements.{All-nil, All-cons, All-head, All-tai
 use Rattle.std.proofs.lemmas.List.Edits.{length-remove}
 use Rattle.time_table.specs.declared.row.Row.{Row}
 use Rattle.time_table.specs.Totals.{Rise, counts_from, last_total, raised, lowered}
-use Rattle.time_table.specs.Blocks.{joined}
+use Rattle.time_table.specs.Blocks.{one_list}
 use Rattle.time_table.proofs.Adding.{counts_from-raised, totals_within, last_total-raised}
 
 pub counts_from-append : (before : ℕ) (xs ys : List Row) → counts_from before (xs ++ ys) ≡ counts_from before xs ++ counts_from (last_total before xs) ys
@@ -83,26 +83,26 @@ next_at least (suc k) (r ∷ []) row is read = absurd (omega arith)
 next_at least zero (r ∷ s ∷ rs) row is read = absurd (omega arith)
 next_at least (suc k) (r ∷ s ∷ rs) row is read = next_at (r.bin + 1) k (s ∷ rs) row (omega arith) read
 
--- the two lists of a joined one
-pub joined-left : (least : ℕ) (l r : List Row) → Rise least 0 (joined l r) → Rise least 0 l
-joined-left least l r rise = (Rise-split least 0 l (map (raised (last_total 0 l)) r) rise).0
+-- the two lists of a one_list one
+pub one_list-left : (least : ℕ) (l r : List Row) → Rise least 0 (one_list l r) → Rise least 0 l
+one_list-left least l r rise = (Rise-split least 0 l (map (raised (last_total 0 l)) r) rise).0
 
-pub joined-right : (least : ℕ) (l r : List Row) → Rise least 0 (joined l r) → Rise (next least l) 0 r
-joined-right least l r rise = Rise-unraised (last_total 0 l) (next least l) (last_total 0 l) 0 r (omega arith) (Rise-split least 0 l (map (raised (last_total 0 l)) r) rise).1
+pub one_list-right : (least : ℕ) (l r : List Row) → Rise least 0 (one_list l r) → Rise (next least l) 0 r
+one_list-right least l r rise = Rise-unraised (last_total 0 l) (next least l) (last_total 0 l) 0 r (omega arith) (Rise-split least 0 l (map (raised (last_total 0 l)) r) rise).1
 
-pub last_total-joined : (l r : List Row) → last_total 0 (joined l r) ≡ last_total 0 l + last_total 0 r
-last_total-joined l r =
+pub last_total-one_list : (l r : List Row) → last_total 0 (one_list l r) ≡ last_total 0 l + last_total 0 r
+last_total-one_list l r =
     last_total-append 0 l (map (raised (last_total 0 l)) r)
     ∙ last_total-raised (last_total 0 l) (last_total 0 l) 0 r (omega arith)
     ∙ omega arith
 
-pub counts_from-joined : (l r : List Row) → counts_from 0 (joined l r) ≡ counts_from 0 l ++ counts_from 0 r
-counts_from-joined l r =
+pub counts_from-one_list : (l r : List Row) → counts_from 0 (one_list l r) ≡ counts_from 0 l ++ counts_from 0 r
+counts_from-one_list l r =
     counts_from-append 0 l (map (raised (last_total 0 l)) r)
     ∙ ap (λ zs. counts_from 0 l ++ zs) (counts_from-raised (last_total 0 l) (last_total 0 l) 0 r (omega arith))
 
-pub joined-nil : (l : List Row) → joined l [] ≡ l
-joined-nil l = append-nil l
+pub one_list-nil : (l : List Row) → one_list l [] ≡ l
+one_list-nil l = append-nil l
 
 raised-raised : (a c t : ℕ) (rows : List Row) → c + a ≡ t → map (raised a) (map (raised c) rows) ≡ map (raised t) rows
 raised-raised a c t [] is = refl
@@ -126,10 +126,10 @@ totals_past least before n (r ∷ rs) rise le =
     All-cons (λ (x : Row). n ≤ x.total) r rs (omega arith) (totals_past (r.bin + 1) r.total n rs rise.2 (omega arith))
 
 -- the totals behind the first row are at least its own
-pub rest_above : (l r rest : List Row) (first : Row) → Rise 0 0 (joined l r) → 0 < length r → first ≡ get_or r 0 first → rest ≡ remove r 0 → All (λ x. first.total ≤ x.total) (drop 0 rest)
+pub rest_above : (l r rest : List Row) (first : Row) → Rise 0 0 (one_list l r) → 0 < length r → first ≡ get_or r 0 first → rest ≡ remove r 0 → All (λ x. first.total ≤ x.total) (drop 0 rest)
 rest_above l [] rest first rise some read is = absurd (omega arith)
 rest_above l (f ∷ r) rest first rise some read is =
-    let right : Rise (next 0 l) 0 (f ∷ r) = joined-right 0 l (f ∷ r) rise in
+    let right : Rise (next 0 l) 0 (f ∷ r) = one_list-right 0 l (f ∷ r) rise in
     let all : All (λ x. f.total ≤ x.total) r = totals_past (f.bin + 1) f.total f.total r right.2 (omega arith) in
     subst (λ (x : Row). All (λ (y : Row). x.total ≤ y.total) rest) (sym read)
     (subst (λ (zs : List Row). All (λ (y : Row). f.total ≤ y.total) zs) (sym is) all)
@@ -137,10 +137,10 @@ rest_above l (f ∷ r) rest first rise some read is =
 insert_end : (xs : List Row) (x : Row) → insert xs (length xs) x ≡ xs ++ x ∷ []
 insert_end xs x = ap (λ zs. zs ++ x ∷ drop (length xs) xs) (take_all (length xs) xs (omega arith)) ∙ ap (λ zs. xs ++ x ∷ zs) (drop_all (length xs) xs (omega arith))
 
-pub moved_left : (l l' r rest r' : List Row) (first last row : Row) (k m : ℕ) → k + 1 ≡ length l → m ≡ length l → Rise 0 0 (joined l r) → 0 < length l → 0 < length r → first ≡ get_or r 0 first → rest ≡ remove r 0 → r' ≡ take 0 rest ++ map (lowered first.total) (drop 0 rest) → last ≡ get_or l k last → row ≡ record { bin = first.bin; total = last.total + first.total } → l' ≡ insert l m row → joined l' r' ≡ joined l r
+pub moved_left : (l l' r rest r' : List Row) (first last row : Row) (k m : ℕ) → k + 1 ≡ length l → m ≡ length l → Rise 0 0 (one_list l r) → 0 < length l → 0 < length r → first ≡ get_or r 0 first → rest ≡ remove r 0 → r' ≡ take 0 rest ++ map (lowered first.total) (drop 0 rest) → last ≡ get_or l k last → row ≡ record { bin = first.bin; total = last.total + first.total } → l' ≡ insert l m row → one_list l' r' ≡ one_list l r
 moved_left l l' [] rest r' first last row k m long at rise some_l some read is down read' made put = absurd (omega arith)
 moved_left l l' (f ∷ r) rest r' first last row k m long at rise some_l some read is down read' made put =
-    let right : Rise (next 0 l) 0 (f ∷ r) = joined-right 0 l (f ∷ r) rise in
+    let right : Rise (next 0 l) 0 (f ∷ r) = one_list-right 0 l (f ∷ r) rise in
     let all : All (λ x. f.total ≤ x.total) r = totals_past (f.bin + 1) f.total f.total r right.2 (omega arith) in
     let total : last.total ≡ last_total 0 l = last_total_at 0 k l last long read' in
     let row_is : row ≡ record { bin = f.bin; total = last_total 0 l + f.total } =
@@ -148,8 +148,8 @@ moved_left l l' (f ∷ r) rest r' first last row k m long at rise some_l some re
     let l_is : l' ≡ l ++ record { bin = f.bin; total = last_total 0 l + f.total } ∷ [] = put ∙ ap (λ n. insert l n row) at ∙ insert_end l row ∙ ap (λ x. l ++ x ∷ []) row_is in
     let r_is : r' ≡ map (lowered f.total) r = down ∙ ap (λ (x : Row). map (lowered x.total) rest) read ∙ ap (λ zs. map (lowered f.total) zs) is in
     let turn : last_total 0 l + f.total ≡ f.total + last_total 0 l = omega arith in
-    ap (λ zs. joined zs r') l_is
-    ∙ ap (λ zs. joined (l ++ record { bin = f.bin; total = last_total 0 l + f.total } ∷ []) zs) r_is
+    ap (λ zs. one_list zs r') l_is
+    ∙ ap (λ zs. one_list (l ++ record { bin = f.bin; total = last_total 0 l + f.total } ∷ []) zs) r_is
     ∙ ap (λ k. (l ++ record { bin = f.bin; total = last_total 0 l + f.total } ∷ []) ++ map (raised k) (map (lowered f.total) r)) (last_total-append 0 l (record { bin = f.bin; total = last_total 0 l + f.total } ∷ []))
     ∙ ap (λ zs. (l ++ record { bin = f.bin; total = last_total 0 l + f.total } ∷ []) ++ zs) (raised-lowered (last_total 0 l) f.total r all)
     ∙ append_assoc l (record { bin = f.bin; total = last_total 0 l + f.total } ∷ []) (map (raised (last_total 0 l)) r)
@@ -175,12 +175,12 @@ all_unraised n top c (x ∷ r) all le less =
     let here : x.total + n ≤ top = All-head (λ (x : Row). x.total ≤ top) (raised n x) (map (raised n) r) all in
     All-cons (λ (x : Row). x.total + c < 2 ^ 64) x r (omega arith) (all_unraised n top c r (All-tail (λ (x : Row). x.total ≤ top) (raised n x) (map (raised n) r) all) le less)
 
-pub is_last : (l l1 r : List Row) (row last : Row) (k k1 : ℕ) → k + 1 ≡ length l → k1 + 1 ≡ length l1 → Rise 0 0 (joined l r) → last_total 0 (joined l r) ≤ 2 ^ 63 → row ≡ get_or l k row → l1 ≡ remove l k → last ≡ get_or l1 k1 last → IsLast l l1 r row last
+pub is_last : (l l1 r : List Row) (row last : Row) (k k1 : ℕ) → k + 1 ≡ length l → k1 + 1 ≡ length l1 → Rise 0 0 (one_list l r) → last_total 0 (one_list l r) ≤ 2 ^ 63 → row ≡ get_or l k row → l1 ≡ remove l k → last ≡ get_or l1 k1 last → IsLast l l1 r row last
 is_last l l1 r row last k k1 long long1 rise fits read is read' =
     let rows : l ≡ l1 ++ row ∷ [] = without_last k l row long read ∙ ap (λ zs. zs ++ row ∷ []) (sym is) in
     let total : last.total ≡ last_total 0 l1 = last_total_at 0 k1 l1 last long1 read' in
     let whole : row.total ≡ last_total 0 l = last_total_at 0 k l row long read in
-    let left : Rise 0 0 (l1 ++ row ∷ []) = subst (Rise 0 0) rows (joined-left 0 l r rise) in
+    let left : Rise 0 0 (l1 ++ row ∷ []) = subst (Rise 0 0) rows (one_list-left 0 l r rise) in
     let end : Rise (next 0 l1) (last_total 0 l1) (row ∷ []) = (Rise-split 0 0 l1 (row ∷ []) left).1 in
     let above : last_total 0 l1 < row.total = end.1 in
     let back = (Rise-split 0 0 l (map (raised (last_total 0 l)) r) rise).1 in
@@ -193,27 +193,27 @@ is_last l l1 r row last k k1 long long1 rise fits read is read' =
       fits = all_unraised (last_total 0 l) _ (row.total - last.total) r tops top (omega arith);
     }
 
-pub moved_right : (l l1 r r1 r' : List Row) (row last moved : Row) → IsLast l l1 r row last → r1 ≡ take 0 r ++ map (raised (row.total - last.total)) (drop 0 r) → moved ≡ record { bin = row.bin; total = row.total - last.total } → r' ≡ insert r1 0 moved → joined l1 r' ≡ joined l r
+pub moved_right : (l l1 r r1 r' : List Row) (row last moved : Row) → IsLast l l1 r row last → r1 ≡ take 0 r ++ map (raised (row.total - last.total)) (drop 0 r) → moved ≡ record { bin = row.bin; total = row.total - last.total } → r' ≡ insert r1 0 moved → one_list l1 r' ≡ one_list l r
 moved_right l l1 r r1 r' row last moved is up made put =
     let total : last.total ≡ last_total 0 l1 = is.total in
     let above : last.total < row.total = is.above in
     let r_is : r' ≡ record { bin = row.bin; total = row.total - last.total } ∷ map (raised (row.total - last.total)) r = put ∙ ap (λ x. x ∷ r1) made ∙ ap (λ zs. record { bin = row.bin; total = row.total - last.total } ∷ zs) up in
     let back : (row.total - last.total) + last_total 0 l1 ≡ row.total = omega arith in
-    ap (joined l1) r_is
+    ap (one_list l1) r_is
     ∙ ap (λ k. l1 ++ record { bin = row.bin; total = k } ∷ map (raised (last_total 0 l1)) (map (raised (row.total - last.total)) r)) back
     ∙ ap (λ zs. l1 ++ row ∷ zs) (raised-raised (last_total 0 l1) (row.total - last.total) row.total r back)
     ∙ sym (append_assoc l1 (row ∷ []) (map (raised row.total) r))
     ∙ ap (λ k. (l1 ++ row ∷ []) ++ map (raised k) r) (sym (last_total-append 0 l1 (row ∷ [])))
-    ∙ ap (λ zs. joined zs r) (sym is.rows)
+    ∙ ap (λ zs. one_list zs r) (sym is.rows)
 
-pub sum_fits : (l r : List Row) (first last : Row) (k : ℕ) → k + 1 ≡ length l → Rise 0 0 (joined l r) → last_total 0 (joined l r) ≤ 2 ^ 63 → 0 < length r → first ≡ get_or r 0 first → last ≡ get_or l k last → last.total + first.total ≤ 2 ^ 63
+pub sum_fits : (l r : List Row) (first last : Row) (k : ℕ) → k + 1 ≡ length l → Rise 0 0 (one_list l r) → last_total 0 (one_list l r) ≤ 2 ^ 63 → 0 < length r → first ≡ get_or r 0 first → last ≡ get_or l k last → last.total + first.total ≤ 2 ^ 63
 sum_fits l [] first last k long rise fits some read read' = absurd (omega arith)
 sum_fits l (f ∷ r) first last k long rise fits some read read' =
-    let right : Rise (next 0 l) 0 (f ∷ r) = joined-right 0 l (f ∷ r) rise in
+    let right : Rise (next 0 l) 0 (f ∷ r) = one_list-right 0 l (f ∷ r) rise in
     let within : f.total ≤ last_total 0 (f ∷ r) = All-head (λ (x : Row). x.total ≤ last_total 0 (f ∷ r)) f r (totals_within (next 0 l) 0 (f ∷ r) right) in
     let total : last.total ≡ last_total 0 l = last_total_at 0 k l last long read' in
     let same : first.total ≡ f.total = ap (λ (x : Row). x.total) read in
-    omega (arith, last_total-joined l (f ∷ r))
+    omega (arith, last_total-one_list l (f ∷ r))
 
 pub shorter : (l l1 : List Row) (k k1 : ℕ) → k + 1 ≡ length l → 1 < length l → k1 ≡ length l1 - 1 → l1 ≡ remove l k → k1 + 1 ≡ length l1
 shorter l l1 k k1 long some is removed =

@@ -10,11 +10,11 @@ use Rattle.std.specs.Prelude.{Result, Ok, Err, IsOk, OnOk}
 use Rattle.time_table.specs.Places.{added, taken, count_at}
 use Rattle.time_table.proofs.Adding.{length-added}
 use Rattle.time_table.proofs.Taking.{length-taken}
-use Rattle.time_table.specs.Blocks.{Block, parts, IsHead, Held, IsSized, IsLoose, AllSized, SizedBut, joined, in_hand}
+use Rattle.time_table.specs.Blocks.{Block, parts, IsHead, Held, IsSized, IsLoose, AllSized, SizedBut, one_list, in_hand}
 use Rattle.time_table.proofs.Adding.{Rise-raised, All-raised}
-use Rattle.time_table.proofs.Joined.{Rise-append, last_total-joined, counts_from-joined, joined-nil}
+use Rattle.time_table.proofs.Joined.{Rise-append, last_total-one_list, counts_from-one_list, one_list-nil}
 
-merged_head : (least before : ℕ) (h g : Row) (x y : List Row) → IsHead least before h x → IsHead (h.bin + 1) h.total g y → IsHead least before g (joined x y)
+merged_head : (least before : ℕ) (h g : Row) (x y : List Row) → IsHead least before h x → IsHead (h.bin + 1) h.total g y → IsHead least before g (one_list x y)
 merged_head least before h g x y one two =
     let up : h.bin + 1 ≤ g.bin = two.bins in
     record {
@@ -23,8 +23,8 @@ merged_head least before h g x y one two =
           (All-weaker (λ (r : Row). r.bin ≤ h.bin) (λ (r : Row). r.bin ≤ g.bin) (λ (r : Row) (le : r.bin ≤ h.bin). omega arith) x one.within)
           (All-raised (last_total 0 x) g.bin y two.within);
       bins = omega (arith, one.bins);
-      some = omega (arith, last_total-joined x y, one.some);
-      total = omega (arith, last_total-joined x y, one.total, two.total);
+      some = omega (arith, last_total-one_list x y, one.some);
+      total = omega (arith, last_total-one_list x y, one.total, two.total);
     }
 
 pub Held-removed : (least before q : ℕ) (hs : List Row) (bs : List Block) (right : Block) → Held least before hs bs → suc q < length hs → right ≡ get_or bs (suc q) right → Held least before (remove hs q) (in_hand q right (remove bs (suc q)))
@@ -33,7 +33,7 @@ Held-removed least before q (h ∷ hs) [] right held within read = absurd held
 Held-removed least before zero (h ∷ []) (x ∷ bs) right held within read = absurd (omega arith)
 Held-removed least before zero (h ∷ g ∷ hs) (x ∷ []) right held within read = absurd held.1
 Held-removed least before zero (h ∷ g ∷ hs) (x ∷ y ∷ bs) right held within read =
-    (subst (λ (z : Block). IsHead least before g (joined x.items z.items)) (sym read) (merged_head least before h g x.items y.items held.0 held.1.0), held.1.1)
+    (subst (λ (z : Block). IsHead least before g (one_list x.items z.items)) (sym read) (merged_head least before h g x.items y.items held.0 held.1.0), held.1.1)
 Held-removed least before (suc q) (h ∷ hs) (x ∷ bs) right held within read =
     (held.0, Held-removed (h.bin + 1) h.total q hs bs right held.1 (omega arith) read)
 
@@ -41,8 +41,8 @@ pub parts-removed : (q : ℕ) (bs : List Block) (right : Block) → suc q < leng
 parts-removed q [] right within read = absurd (omega arith)
 parts-removed zero (x ∷ []) right within read = absurd (omega arith)
 parts-removed zero (x ∷ y ∷ bs) right within read =
-    ap (λ (z : Block). counts_from 0 (joined x.items z.items) ++ parts bs) read
-    ∙ ap (λ zs. zs ++ parts bs) (counts_from-joined x.items y.items)
+    ap (λ (z : Block). counts_from 0 (one_list x.items z.items) ++ parts bs) read
+    ∙ ap (λ zs. zs ++ parts bs) (counts_from-one_list x.items y.items)
     ∙ append_assoc (counts_from 0 x.items) (counts_from 0 y.items) (parts bs)
 parts-removed (suc q) (x ∷ bs) right within read = ap (λ zs. counts_from 0 x.items ++ zs) (parts-removed q bs right (omega arith) read)
 
@@ -108,17 +108,17 @@ pub Held-in_hand : (least before q : ℕ) (hs : List Row) (bs : List Block) (rig
 Held-in_hand least before q hs [] right held none = held
 Held-in_hand least before q [] (x ∷ bs) right held none = absurd held
 Held-in_hand least before zero (h ∷ hs) (x ∷ bs) right held none =
-    (subst (IsHead least before h) (sym (ap (joined x.items) none ∙ joined-nil x.items)) held.0, held.1)
+    (subst (IsHead least before h) (sym (ap (one_list x.items) none ∙ one_list-nil x.items)) held.0, held.1)
 Held-in_hand least before (suc q) (h ∷ hs) (x ∷ bs) right held none = (held.0, Held-in_hand (h.bin + 1) h.total q hs bs right held.1 none)
 
 pub parts-in_hand : (q : ℕ) (bs : List Block) (right : Block) → right.items ≡ [] → parts (in_hand q right bs) ≡ parts bs
 parts-in_hand q [] right none = refl
-parts-in_hand zero (x ∷ bs) right none = ap (λ zs. counts_from 0 zs ++ parts bs) (ap (joined x.items) none ∙ joined-nil x.items)
+parts-in_hand zero (x ∷ bs) right none = ap (λ zs. counts_from 0 zs ++ parts bs) (ap (one_list x.items) none ∙ one_list-nil x.items)
 parts-in_hand (suc q) (x ∷ bs) right none = ap (λ zs. counts_from 0 x.items ++ zs) (parts-in_hand q bs right none)
 
 -- the two blocks as one
 abbrev pub both : Block → Block → Block
-both left right = record { items = joined left.items right.items; spare = left.spare }
+both left right = record { items = one_list left.items right.items; spare = left.spare }
 
 pub in_hand_at : (q : ℕ) (bs : List Block) (left right : Block) → q < length bs → left ≡ get_or bs q left → both left right ≡ get_or (in_hand q right bs) q (both left right)
 in_hand_at q [] left right within read = absurd (omega arith)

@@ -70,13 +70,13 @@ SizedBut n zero (b ∷ bs) = IsLoose n b × AllSized bs
 SizedBut n (suc q) (b ∷ bs) = IsSized b × SizedBut n q bs
 
 -- the rows of two blocks as those of one
-abbrev pub joined : List Row → List Row → List Row
-joined left right = left ++ map (raised (last_total 0 left)) right
+abbrev pub one_list : List Row → List Row → List Row
+one_list left right = left ++ map (raised (last_total 0 left)) right
 
 -- the blocks with a block more in hand, whose rows follow those of the block at a place
 abbrev pub in_hand : ℕ → Block → List Block → List Block
 in_hand q right [] = []
-in_hand zero right (b ∷ bs) = record { items = joined b.items right.items; spare = b.spare } ∷ bs
+in_hand zero right (b ∷ bs) = record { items = one_list b.items right.items; spare = b.spare } ∷ bs
 in_hand (suc q) right (b ∷ bs) = b ∷ in_hand q right bs
 
 -- a block in hand, with which the block at a place makes one or two that are sized

@@ -12,9 +12,9 @@ rows_of (Single rows) = rows.items
 rows_of (Split split) = flat 0 split.value.blocks.items
 
 -- the bins with their counts
-abbrev pub entries_of : Form → List (ℕ × ℕ)
-entries_of (Single rows) = counts_from 0 rows.items
-entries_of (Split split) = parts split.value.blocks.items
+abbrev pub form_entries : Form → List (ℕ × ℕ)
+form_entries (Single rows) = counts_from 0 rows.items
+form_entries (Split split) = parts split.value.blocks.items
 
 -- how many records there are
 abbrev pub total_of : Form → ℕ

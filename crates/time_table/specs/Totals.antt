@@ -5,8 +5,8 @@ use Rattle.time_table.specs.declared.row.Row.{Row}
 use Rattle.time_table.specs.Counts.{Counts}
 
 -- rows are ordered and searched by their bin
-abbrev pub bin_of : Row → ℕ
-bin_of row = row.bin
+abbrev pub row_bin : Row → ℕ
+row_bin row = row.bin
 
 -- the bins are `least` or later and rise, and the totals are above `before` and rise
 abbrev pub Rise : ℕ → ℕ → List Row → Type 0

@@ -6,7 +6,7 @@ ghost use Rattle.time_table.specs.Counts.{count_before, first_from};
 ghost use Rattle.time_table.specs.Totals.{Rise, counts, last_total};
 ghost use Rattle.time_table.specs.Places.{count_at, more, less};
 ghost use Rattle.time_table.specs.Blocks.{parts};
-ghost use Rattle.time_table.specs.Forms.{IsForm, HasRoom, rows_of, entries_of, total_of};
+ghost use Rattle.time_table.specs.Forms.{IsForm, HasRoom, rows_of, form_entries, total_of};
 
 use crate::change::{add_record, take_record};
 use crate::pair::put_row;
@@ -61,8 +61,8 @@ impl Form {
         requires some { 0 < amount }
         requires fits { total_of self.old + amount ≤ 2 ^ 63 }
         ensures form { IsForm self.new }
-        ensures added { OnOk result (entries_of self.new ≡ more bin amount (entries_of self.old)) }
-        ensures unchanged { OnErr result (entries_of self.new ≡ entries_of self.old) }
+        ensures added { OnOk result (form_entries self.new ≡ more bin amount (form_entries self.old)) }
+        ensures unchanged { OnErr result (form_entries self.new ≡ form_entries self.old) }
     {
         let mut steps = Steps::<L>::new(blank);
         self.grow(alloc, &mut steps)?;
@@ -80,9 +80,9 @@ impl Form {
         requires blank { IsBlankOf L.name L.parts blank }
         requires form { IsForm self.old }
         requires some { 0 < amount }
-        requires there { amount ≤ count_at bin (entries_of self.old) }
+        requires there { amount ≤ count_at bin (form_entries self.old) }
         ensures form { IsForm self.new }
-        ensures taken { entries_of self.new ≡ less bin amount (entries_of self.old) }
+        ensures taken { form_entries self.new ≡ less bin amount (form_entries self.old) }
     {
         let mut steps = Steps::<L>::new(blank);
         let short = match self {
@@ -104,7 +104,7 @@ impl Form {
     /// The first row of a bin that is `from` or later, as the bin and its count.
     pub fn next_row<L: Ledger>(&self, from: u32, steps: &mut Steps<L>) -> Option<(u32, u64)>
         requires { IsForm self.now }
-        ensures next { result ≡ first_from from (entries_of self.now) }
+        ensures next { result ≡ first_from from (form_entries self.now) }
         ensures cost { steps.new ≤ steps.old + (2 + bits (length (rows_of self.now))) }
     {
         match self {
@@ -116,7 +116,7 @@ impl Form {
     /// The same rows once more.
     pub fn copy(&self, alloc: Global) -> Result<Form, NoMemory>
         requires { IsForm self.now }
-        ensures { IfOk result (λ form. IsForm form × (entries_of form ≡ entries_of self.now)) }
+        ensures { IfOk result (λ form. IsForm form × (form_entries form ≡ form_entries self.now)) }
     {
         match self {
             Form::Single(rows) => {
@@ -137,7 +137,7 @@ impl Form {
         requires form { IsForm self.old }
         requires fits { total_of self.old ≤ 2 ^ 63 }
         ensures form { IsForm self.new }
-        ensures same { entries_of self.new ≡ entries_of self.old }
+        ensures same { form_entries self.new ≡ form_entries self.old }
         ensures total { total_of self.new ≡ total_of self.old }
         ensures room { OnOk result (HasRoom self.new) }
     {

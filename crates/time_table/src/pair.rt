@@ -1,7 +1,7 @@
 //! Two neighbouring blocks, between which rows are moved.
 ghost use Rattle.std.specs.Prelude.{◌≡◌, ◌+◌, ◌-◌, ◌<◌, ◌≤◌, ◌^◌, ◌⊎◌, [], ◌∷◌, ◌++◌, length, insert};
 ghost use Rattle.time_table.specs.Totals.{Rise, last_total};
-ghost use Rattle.time_table.specs.Blocks.{joined, GivesRow, CanLevel, AreLevel};
+ghost use Rattle.time_table.specs.Blocks.{one_list, GivesRow, CanLevel, AreLevel};
 
 use crate::change::{lower, raise};
 use crate::row::Row;
@@ -20,12 +20,12 @@ pub fn put_row(rows: &mut Rows<Row>, i: usize, row: Row)
 
 /// Moves the first row of the right block to the end of the left one.
 fn move_left<L: Ledger>(left: &mut Rows<Row>, right: &mut Rows<Row>, steps: &mut Steps<L>)
-    requires rise { Rise 0 0 (joined left.old.items right.old.items) }
-    requires fits { last_total 0 (joined left.old.items right.old.items) ≤ 2 ^ 63 }
+    requires rise { Rise 0 0 (one_list left.old.items right.old.items) }
+    requires fits { last_total 0 (one_list left.old.items right.old.items) ≤ 2 ^ 63 }
     requires some_left { 0 < length left.old.items }
     requires some_right { 0 < length right.old.items }
     requires room { 0 < left.old.spare }
-    ensures same { joined left.new.items right.new.items ≡ joined left.old.items right.old.items }
+    ensures same { one_list left.new.items right.new.items ≡ one_list left.old.items right.old.items }
     ensures gives { GivesRow right.old left.old right.new left.new }
 {
     let first = right.remove(0);
@@ -40,11 +40,11 @@ fn move_left<L: Ledger>(left: &mut Rows<Row>, right: &mut Rows<Row>, steps: &mut
 
 /// Moves the last row of the left block to the front of the right one.
 fn move_right<L: Ledger>(left: &mut Rows<Row>, right: &mut Rows<Row>, steps: &mut Steps<L>)
-    requires rise { Rise 0 0 (joined left.old.items right.old.items) }
-    requires fits { last_total 0 (joined left.old.items right.old.items) ≤ 2 ^ 63 }
+    requires rise { Rise 0 0 (one_list left.old.items right.old.items) }
+    requires fits { last_total 0 (one_list left.old.items right.old.items) ≤ 2 ^ 63 }
     requires some_left { 1 < length left.old.items }
     requires room { 0 < right.old.spare }
-    ensures same { joined left.new.items right.new.items ≡ joined left.old.items right.old.items }
+    ensures same { one_list left.new.items right.new.items ≡ one_list left.old.items right.old.items }
     ensures gives { GivesRow left.old right.old left.new right.new }
 {
     let row = left.remove(left.len() - 1);
@@ -60,10 +60,10 @@ fn move_right<L: Ledger>(left: &mut Rows<Row>, right: &mut Rows<Row>, steps: &mu
 
 /// Moves all rows to the left block where that has the room, and else half of them to each.
 pub fn level<L: Ledger>(left: &mut Rows<Row>, right: &mut Rows<Row>, steps: &mut Steps<L>)
-    requires rise { Rise 0 0 (joined left.old.items right.old.items) }
-    requires fits { last_total 0 (joined left.old.items right.old.items) ≤ 2 ^ 63 }
+    requires rise { Rise 0 0 (one_list left.old.items right.old.items) }
+    requires fits { last_total 0 (one_list left.old.items right.old.items) ≤ 2 ^ 63 }
     requires sizes { CanLevel left.old right.old }
-    ensures same { joined left.new.items right.new.items ≡ joined left.old.items right.old.items }
+    ensures same { one_list left.new.items right.new.items ≡ one_list left.old.items right.old.items }
     ensures sizes { AreLevel left.new right.new }
 {
     if left.len() + right.len() <= 63 {

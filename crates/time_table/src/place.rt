@@ -3,7 +3,7 @@ ghost use Rattle.std.specs.Prelude.{◌≡◌, ◌+◌, ◌≤◌, length, slice
 ghost use Rattle.probe_core.specs.Bits.{bits};
 ghost use Rattle.probe_core.specs.Places.{IsPlace};
 ghost use Rattle.time_table.specs.Counts.{first_from};
-ghost use Rattle.time_table.specs.Totals.{Rise, counts_from, last_total, total_in, bin_of};
+ghost use Rattle.time_table.specs.Totals.{Rise, counts_from, last_total, total_in, row_bin};
 
 use crate::row::Row;
 use probe_core::{Rows, Steps};
@@ -20,7 +20,7 @@ pub struct BinPlace {
 /// The place of the first row whose bin is `bin_end` or later, by one binary search.
 pub fn place_of<L: Ledger>(rows: &Rows<Row>, bin_end: u64, steps: &mut Steps<L>) -> BinPlace
     requires { Rise 0 0 rows.now.items }
-    ensures place { IsPlace bin_of bin_end rows.now.items result.index }
+    ensures place { IsPlace row_bin bin_end rows.now.items result.index }
     ensures total { result.below ≡ last_total 0 (take result.index rows.now.items) }
     ensures first { result.first ≡ slice_get rows.now.items result.index }
     ensures cost { steps.new ≤ steps.old + bits (length rows.now.items) }

@@ -3,7 +3,7 @@ ghost use Rattle.std.specs.Prelude.{◌≡◌, ◌+◌, ◌-◌, ◌<◌, ◌≤
 ghost use Rattle.probe_core.specs.Bits.{bits};
 ghost use Rattle.probe_core.specs.Places.{IsPlace};
 ghost use Rattle.time_table.specs.Counts.{count_before, first_from};
-ghost use Rattle.time_table.specs.Totals.{counts, last_total, bin_of};
+ghost use Rattle.time_table.specs.Totals.{counts, last_total, row_bin};
 ghost use Rattle.time_table.specs.Places.{count_at, more, less};
 ghost use Rattle.time_table.specs.Blocks.{Block, IsSplit, Held, AllSized, SizedBut, FitsAt, AddsAt, in_hand, flat, parts, lists};
 
@@ -90,7 +90,7 @@ fn add_at<L: Ledger>(
     requires split { IsSplit heads.old.items blocks.old.items }
     requires some { 0 < amount }
     requires fits { last_total 0 heads.old.items + amount ≤ 2 ^ 63 }
-    requires place { IsPlace bin_of bin heads.old.items place }
+    requires place { IsPlace row_bin bin heads.old.items place }
     requires within { place < length heads.old.items }
     ensures adds { AddsAt place bin amount heads.old heads.new blocks.old.items blocks.new.items }
     ensures room { vec_capacity blocks.new ≡ vec_capacity blocks.old }

@@ -1,7 +1,7 @@
 use Rattle.std.proofs.Common.{ℕ, ◌+◌, ◌<◌, ◌^◌, List, All, sym, subst}
 use Rattle.time_table.specs.declared.row.Row.{Row}
 use Rattle.probe_core.specs.Places.{IsPlace}
-use Rattle.time_table.specs.Totals.{bin_of}
+use Rattle.time_table.specs.Totals.{row_bin}
 use Rattle.time_table.proofs.Adding.{added_by, fits_with_row}
 use Rattle.time_table.proofs.change.add_record.Goals as goal
 
@@ -12,5 +12,5 @@ raise-requires-clause-fits g c =
 
 pub returns-clause-added : goal.returns-clause-added
 returns-clause-added g c =
-    let place = subst (λ (e : ℕ). IsPlace bin_of e c.args.rows.now.items c.place_of-place.result.index) c.from.ensures c.place_of-place.ensures.place in
+    let place = subst (λ (e : ℕ). IsPlace row_bin e c.args.rows.now.items c.place_of-place.result.index) c.from.ensures c.place_of-place.ensures.place in
     added_by c.args.bin c.args.amount c.place_of-place.result.index c.place_of-place.result.below c.args.rows.now.items _ _ place.within place.lesser place.others c.place_of-place.ensures.total c.in_ok-make_row.ensures.made c.raise.ensures.raised

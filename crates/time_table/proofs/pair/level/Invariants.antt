@@ -1,10 +1,10 @@
 use Rattle.std.proofs.Common.{◌≡◌, ◌+◌, ◌≤◌, length}
-use Rattle.time_table.specs.Blocks.{joined}
+use Rattle.time_table.specs.Blocks.{one_list}
 use Rattle.time_table.proofs.pair.level.Given as goal
 
 abbrev pub invariant-loop-left : goal.invariant-loop-left
 invariant-loop-left g l = record {
-  same : joined l.left.items l.right.items ≡ joined l.fn.left.items l.fn.right.items;
+  same : one_list l.left.items l.right.items ≡ one_list l.fn.left.items l.fn.right.items;
   sum : length l.left.items + length l.right.items ≡ length l.fn.left.items + length l.fn.right.items;
   some : 31 ≤ length l.left.items;
   room_left : 64 ≤ length l.left.items + l.left.spare;
@@ -16,7 +16,7 @@ decreases-loop-left g l = length l.right.items
 
 abbrev pub invariant-loop-left-2 : goal.invariant-loop-left-2
 invariant-loop-left-2 g l = record {
-  same : joined l.left.items l.right.items ≡ joined l.fn.left.items l.fn.right.items;
+  same : one_list l.left.items l.right.items ≡ one_list l.fn.left.items l.fn.right.items;
   sum : length l.left.items + length l.right.items ≡ length l.fn.left.items + length l.fn.right.items;
   some : 31 ≤ length l.left.items;
   most : length l.left.items ≤ 64;
@@ -29,7 +29,7 @@ decreases-loop-left-2 g l = length l.right.items
 
 abbrev pub invariant-loop-left-3 : goal.invariant-loop-left-3
 invariant-loop-left-3 g l = record {
-  same : joined l.left.items l.right.items ≡ joined l.fn.left.items l.fn.right.items;
+  same : one_list l.left.items l.right.items ≡ one_list l.fn.left.items l.fn.right.items;
   sum : length l.left.items + length l.right.items ≡ length l.fn.left.items + length l.fn.right.items;
   most : length l.right.items ≤ length l.left.items + 1;
   room_left : 64 ≤ length l.left.items + l.left.spare;

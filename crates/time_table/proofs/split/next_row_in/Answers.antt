@@ -3,7 +3,7 @@ use Rattle.std.specs.Prelude.{None}
 use Rattle.probe_core.specs.Bits.{bits}
 use Rattle.time_table.specs.Counts.{first_from}
 use Rattle.probe_core.specs.Places.{IsPlace}
-use Rattle.time_table.specs.Totals.{bin_of}
+use Rattle.time_table.specs.Totals.{row_bin}
 use Rattle.time_table.specs.Totals.{counts_from}
 use Rattle.time_table.specs.Blocks.{flat, parts}
 use Rattle.time_table.proofs.Blocked.{held_len, Rise-heads, Rise-at, place_inside}
@@ -18,21 +18,21 @@ place_of-place-requires g c = Rise-heads 0 0 c.args.heads.now.items c.args.block
 pub index-block-requires : goal.index-block-requires
 index-block-requires g c =
     let same : length c.args.heads.now.items ≡ length c.args.blocks.now.items = held_len 0 0 c.args.heads.now.items c.args.blocks.now.items c.requires.held in
-    let place = subst (λ (e : ℕ). IsPlace bin_of e c.args.heads.now.items c.place_of-place.result.index) c.from.ensures c.place_of-place.ensures.place in
+    let place = subst (λ (e : ℕ). IsPlace row_bin e c.args.heads.now.items c.place_of-place.result.index) c.from.ensures c.place_of-place.ensures.place in
     let inside : c.place_of-place.result.index < length c.args.heads.now.items = place_inside 0 0 c.place_of-place.result.index c.args.from c.args.heads.now.items c.args.blocks.now.items c.requires.held place.lesser place.within (omega arith) (omega arith) in
     omega arith
 
 pub next_in-requires : goal.next_in-requires
 next_in-requires g c =
     let same : length c.args.heads.now.items ≡ length c.args.blocks.now.items = held_len 0 0 c.args.heads.now.items c.args.blocks.now.items c.requires.held in
-    let place = subst (λ (e : ℕ). IsPlace bin_of e c.args.heads.now.items c.place_of-place.result.index) c.from.ensures c.place_of-place.ensures.place in
+    let place = subst (λ (e : ℕ). IsPlace row_bin e c.args.heads.now.items c.place_of-place.result.index) c.from.ensures c.place_of-place.ensures.place in
     let inside : c.place_of-place.result.index < length c.args.heads.now.items = place_inside 0 0 c.place_of-place.result.index c.args.from c.args.heads.now.items c.args.blocks.now.items c.requires.held place.lesser place.within (omega arith) (omega arith) in
     Rise-at 0 0 c.place_of-place.result.index c.args.heads.now.items c.args.blocks.now.items c.index-block.result.now c.requires.held inside c.index-block.ensures
 
 pub returns-in-Some-clause-next : goal.returns-in-Some-clause-next
 returns-in-Some-clause-next g c =
     let same : length c.args.heads.now.items ≡ length c.args.blocks.now.items = held_len 0 0 c.args.heads.now.items c.args.blocks.now.items c.requires.held in
-    let place = subst (λ (e : ℕ). IsPlace bin_of e c.args.heads.now.items c.place_of-place.result.index) c.from.ensures c.place_of-place.ensures.place in
+    let place = subst (λ (e : ℕ). IsPlace row_bin e c.args.heads.now.items c.place_of-place.result.index) c.from.ensures c.place_of-place.ensures.place in
     let inside : c.place_of-place.result.index < length c.args.heads.now.items = place_inside 0 0 c.place_of-place.result.index c.args.from c.args.heads.now.items c.args.blocks.now.items c.requires.held place.lesser place.within (omega arith) (omega arith) in
     let found = first_at 0 0 c.args.from c.place_of-place.result.index c.args.heads.now.items c.args.blocks.now.items c.index-block.result.now c.requires.held place.lesser inside c.index-block.ensures in
     let some = c.in-Some.ensures.next ∙ ap (λ k. first_from k (counts_from 0 c.index-block.result.now.items)) c.from-2.ensures in
@@ -41,7 +41,7 @@ returns-in-Some-clause-next g c =
 pub returns-in-Some-clause-cost : goal.returns-in-Some-clause-cost
 returns-in-Some-clause-cost g c =
     let same : length c.args.heads.now.items ≡ length c.args.blocks.now.items = held_len 0 0 c.args.heads.now.items c.args.blocks.now.items c.requires.held in
-    let place = subst (λ (e : ℕ). IsPlace bin_of e c.args.heads.now.items c.place_of-place.result.index) c.from.ensures c.place_of-place.ensures.place in
+    let place = subst (λ (e : ℕ). IsPlace row_bin e c.args.heads.now.items c.place_of-place.result.index) c.from.ensures c.place_of-place.ensures.place in
     let inside : c.place_of-place.result.index < length c.args.heads.now.items = place_inside 0 0 c.place_of-place.result.index c.args.from c.args.heads.now.items c.args.blocks.now.items c.requires.held place.lesser place.within (omega arith) (omega arith) in
     let many : 32 * length c.args.blocks.now.items ≤ length (flat 0 c.args.blocks.now.items) = length-flat 0 c.args.blocks.now.items c.requires.sized in
     let sized = sized_at c.place_of-place.result.index c.args.blocks.now.items c.index-block.result.now c.requires.sized (omega arith) c.index-block.ensures in
@@ -52,7 +52,7 @@ returns-in-Some-clause-cost g c =
 pub returns-then-place-len-clause-next : goal.returns-then-place-len-clause-next
 returns-then-place-len-clause-next g c =
     let same : length c.args.heads.now.items ≡ length c.args.blocks.now.items = held_len 0 0 c.args.heads.now.items c.args.blocks.now.items c.requires.held in
-    let place = subst (λ (e : ℕ). IsPlace bin_of e c.args.heads.now.items c.place_of-place.result.index) c.from.ensures c.place_of-place.ensures.place in
+    let place = subst (λ (e : ℕ). IsPlace row_bin e c.args.heads.now.items c.place_of-place.result.index) c.from.ensures c.place_of-place.ensures.place in
     let inside : c.place_of-place.result.index < length c.args.heads.now.items = place_inside 0 0 c.place_of-place.result.index c.args.from c.args.heads.now.items c.args.blocks.now.items c.requires.held place.lesser place.within (omega arith) (omega arith) in
     let found = first_at 0 0 c.args.from c.place_of-place.result.index c.args.heads.now.items c.args.blocks.now.items c.index-block.result.now c.requires.held place.lesser inside c.index-block.ensures in
     let none : first_from c.args.from (counts_from 0 c.index-block.result.now.items) ≡ None = sym (c.in-None.ensures.next ∙ ap (λ k. first_from k (counts_from 0 c.index-block.result.now.items)) c.from-2.ensures) in
@@ -63,7 +63,7 @@ returns-then-place-len-clause-next g c =
 pub returns-then-place-len-clause-cost : goal.returns-then-place-len-clause-cost
 returns-then-place-len-clause-cost g c =
     let same : length c.args.heads.now.items ≡ length c.args.blocks.now.items = held_len 0 0 c.args.heads.now.items c.args.blocks.now.items c.requires.held in
-    let place = subst (λ (e : ℕ). IsPlace bin_of e c.args.heads.now.items c.place_of-place.result.index) c.from.ensures c.place_of-place.ensures.place in
+    let place = subst (λ (e : ℕ). IsPlace row_bin e c.args.heads.now.items c.place_of-place.result.index) c.from.ensures c.place_of-place.ensures.place in
     let inside : c.place_of-place.result.index < length c.args.heads.now.items = place_inside 0 0 c.place_of-place.result.index c.args.from c.args.heads.now.items c.args.blocks.now.items c.requires.held place.lesser place.within (omega arith) (omega arith) in
     let many : 32 * length c.args.blocks.now.items ≤ length (flat 0 c.args.blocks.now.items) = length-flat 0 c.args.blocks.now.items c.requires.sized in
     let sized = sized_at c.place_of-place.result.index c.args.blocks.now.items c.index-block.result.now c.requires.sized (omega arith) c.index-block.ensures in
@@ -74,28 +74,28 @@ returns-then-place-len-clause-cost g c =
 pub overflow_add-place : goal.overflow_add-place
 overflow_add-place g c =
     let same : length c.args.heads.now.items ≡ length c.args.blocks.now.items = held_len 0 0 c.args.heads.now.items c.args.blocks.now.items c.requires.held in
-    let place = subst (λ (e : ℕ). IsPlace bin_of e c.args.heads.now.items c.place_of-place.result.index) c.from.ensures c.place_of-place.ensures.place in
+    let place = subst (λ (e : ℕ). IsPlace row_bin e c.args.heads.now.items c.place_of-place.result.index) c.from.ensures c.place_of-place.ensures.place in
     let inside : c.place_of-place.result.index < length c.args.heads.now.items = place_inside 0 0 c.place_of-place.result.index c.args.from c.args.heads.now.items c.args.blocks.now.items c.requires.held place.lesser place.within (omega arith) (omega arith) in
     omega arith
 
 pub overflow_add-place-2 : goal.overflow_add-place-2
 overflow_add-place-2 g c =
     let same : length c.args.heads.now.items ≡ length c.args.blocks.now.items = held_len 0 0 c.args.heads.now.items c.args.blocks.now.items c.requires.held in
-    let place = subst (λ (e : ℕ). IsPlace bin_of e c.args.heads.now.items c.place_of-place.result.index) c.from.ensures c.place_of-place.ensures.place in
+    let place = subst (λ (e : ℕ). IsPlace row_bin e c.args.heads.now.items c.place_of-place.result.index) c.from.ensures c.place_of-place.ensures.place in
     let inside : c.place_of-place.result.index < length c.args.heads.now.items = place_inside 0 0 c.place_of-place.result.index c.args.from c.args.heads.now.items c.args.blocks.now.items c.requires.held place.lesser place.within (omega arith) (omega arith) in
     omega arith
 
 pub index-behind-requires : goal.index-behind-requires
 index-behind-requires g c =
     let same : length c.args.heads.now.items ≡ length c.args.blocks.now.items = held_len 0 0 c.args.heads.now.items c.args.blocks.now.items c.requires.held in
-    let place = subst (λ (e : ℕ). IsPlace bin_of e c.args.heads.now.items c.place_of-place.result.index) c.from.ensures c.place_of-place.ensures.place in
+    let place = subst (λ (e : ℕ). IsPlace row_bin e c.args.heads.now.items c.place_of-place.result.index) c.from.ensures c.place_of-place.ensures.place in
     let inside : c.place_of-place.result.index < length c.args.heads.now.items = place_inside 0 0 c.place_of-place.result.index c.args.from c.args.heads.now.items c.args.blocks.now.items c.requires.held place.lesser place.within (omega arith) (omega arith) in
     omega arith
 
 pub at-row-requires : goal.at-row-requires
 at-row-requires g c =
     let same : length c.args.heads.now.items ≡ length c.args.blocks.now.items = held_len 0 0 c.args.heads.now.items c.args.blocks.now.items c.requires.held in
-    let place = subst (λ (e : ℕ). IsPlace bin_of e c.args.heads.now.items c.place_of-place.result.index) c.from.ensures c.place_of-place.ensures.place in
+    let place = subst (λ (e : ℕ). IsPlace row_bin e c.args.heads.now.items c.place_of-place.result.index) c.from.ensures c.place_of-place.ensures.place in
     let inside : c.place_of-place.result.index < length c.args.heads.now.items = place_inside 0 0 c.place_of-place.result.index c.args.from c.args.heads.now.items c.args.blocks.now.items c.requires.held place.lesser place.within (omega arith) (omega arith) in
     let sized' = sized_at (c.place_of-place.result.index + 1) c.args.blocks.now.items c.index-behind.result.now c.requires.sized (omega arith) c.index-behind.ensures in
     omega (arith, sized'.least)
@@ -103,7 +103,7 @@ at-row-requires g c =
 pub returns-clause-next : goal.returns-clause-next
 returns-clause-next g c =
     let same : length c.args.heads.now.items ≡ length c.args.blocks.now.items = held_len 0 0 c.args.heads.now.items c.args.blocks.now.items c.requires.held in
-    let place = subst (λ (e : ℕ). IsPlace bin_of e c.args.heads.now.items c.place_of-place.result.index) c.from.ensures c.place_of-place.ensures.place in
+    let place = subst (λ (e : ℕ). IsPlace row_bin e c.args.heads.now.items c.place_of-place.result.index) c.from.ensures c.place_of-place.ensures.place in
     let inside : c.place_of-place.result.index < length c.args.heads.now.items = place_inside 0 0 c.place_of-place.result.index c.args.from c.args.heads.now.items c.args.blocks.now.items c.requires.held place.lesser place.within (omega arith) (omega arith) in
     let sized' = sized_at (c.place_of-place.result.index + 1) c.args.blocks.now.items c.index-behind.result.now c.requires.sized (omega arith) c.index-behind.ensures in
     let found = first_at 0 0 c.args.from c.place_of-place.result.index c.args.heads.now.items c.args.blocks.now.items c.index-block.result.now c.requires.held place.lesser inside c.index-block.ensures in
@@ -116,7 +116,7 @@ returns-clause-next g c =
 pub returns-clause-cost : goal.returns-clause-cost
 returns-clause-cost g c =
     let same : length c.args.heads.now.items ≡ length c.args.blocks.now.items = held_len 0 0 c.args.heads.now.items c.args.blocks.now.items c.requires.held in
-    let place = subst (λ (e : ℕ). IsPlace bin_of e c.args.heads.now.items c.place_of-place.result.index) c.from.ensures c.place_of-place.ensures.place in
+    let place = subst (λ (e : ℕ). IsPlace row_bin e c.args.heads.now.items c.place_of-place.result.index) c.from.ensures c.place_of-place.ensures.place in
     let inside : c.place_of-place.result.index < length c.args.heads.now.items = place_inside 0 0 c.place_of-place.result.index c.args.from c.args.heads.now.items c.args.blocks.now.items c.requires.held place.lesser place.within (omega arith) (omega arith) in
     let many : 32 * length c.args.blocks.now.items ≤ length (flat 0 c.args.blocks.now.items) = length-flat 0 c.args.blocks.now.items c.requires.sized in
     let sized = sized_at c.place_of-place.result.index c.args.blocks.now.items c.index-block.result.now c.requires.sized (omega arith) c.index-block.ensures in

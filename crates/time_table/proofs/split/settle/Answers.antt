@@ -3,9 +3,9 @@ use Rattle.std.specs.List.{insert}
 use Rattle.std.proofs.lemmas.List.{nil_from_length}
 use Rattle.time_table.specs.declared.row.Row.{Row}
 use Rattle.time_table.specs.Totals.{last_total}
-use Rattle.time_table.specs.Blocks.{Block, Held, AllSized, joined, in_hand, parts}
+use Rattle.time_table.specs.Blocks.{Block, Held, AllSized, one_list, in_hand, parts}
 use Rattle.time_table.proofs.Blocked.{held_len, Rise-at, total_at, Held-all_left, parts-all_left, AllSized-set, Held-parted, parts-parted, AllSized-parted, IsParted, last_total-insert, head_total_at}
-use Rattle.time_table.proofs.Joined.{joined-nil, last_total_at, last_total-joined, next_at}
+use Rattle.time_table.proofs.Joined.{one_list-nil, last_total_at, last_total-one_list, next_at}
 use Rattle.time_table.proofs.Merged.{both, in_hand_at, in_hand_long, but_at, at_least}
 use Rattle.time_table.proofs.split.settle.Goals as goal
 
@@ -21,7 +21,7 @@ level-requires-clause-fits g c =
     let read = in_hand_at c.args.q c.args.blocks.now.items c.index_mut-left.result.now c.args.right c.requires.hand.within c.index_mut-left.ensures.value in
     let long : length c.args.heads.now.items ≡ length c.args.blocks.now.items = held_len 0 0 c.args.heads.now.items (in_hand c.args.q c.args.right c.args.blocks.now.items) c.requires.held ∙ in_hand_long c.args.q c.args.blocks.now.items c.args.right in
     let within : c.args.q < length c.args.blocks.now.items = c.requires.hand.within in
-    let sum : last_total 0 (take c.args.q c.args.heads.now.items) + last_total 0 (joined c.index_mut-left.result.now.items c.args.right.items) ≤ last_total 0 c.args.heads.now.items =
+    let sum : last_total 0 (take c.args.q c.args.heads.now.items) + last_total 0 (one_list c.index_mut-left.result.now.items c.args.right.items) ≤ last_total 0 c.args.heads.now.items =
     total_at 0 0 c.args.q c.args.heads.now.items (in_hand c.args.q c.args.right c.args.blocks.now.items) (both c.index_mut-left.result.now c.args.right) c.requires.held (omega arith) read in
     let fits : last_total 0 c.args.heads.now.items ≤ 2 ^ 63 = c.requires.fits in
     omega arith
@@ -42,7 +42,7 @@ level-requires-clause-sizes g c =
 pub returns-then-len-eq0-clause-parts : goal.returns-then-len-eq0-clause-parts
 returns-then-len-eq0-clause-parts g c =
     let none : c.level.new.right.items ≡ [] = nil_from_length c.level.new.right.items (omega arith) in
-    let is : c.level.new.left.items ≡ joined c.index_mut-left.result.now.items c.args.right.items = sym (ap (joined c.level.new.left.items) none ∙ joined-nil c.level.new.left.items) ∙ c.level.ensures.same in
+    let is : c.level.new.left.items ≡ one_list c.index_mut-left.result.now.items c.args.right.items = sym (ap (one_list c.level.new.left.items) none ∙ one_list-nil c.level.new.left.items) ∙ c.level.ensures.same in
     parts-all_left c.args.q c.args.blocks.now.items c.index_mut-left.result.now c.level.new.left c.args.right c.requires.hand.within c.index_mut-left.ensures.value is
 
 pub at-head-requires : goal.at-head-requires
@@ -56,8 +56,8 @@ overflow_sub-row g c =
     let read = in_hand_at c.args.q c.args.blocks.now.items c.index_mut-left.result.now c.args.right c.requires.hand.within c.index_mut-left.ensures.value in
     let long : length c.args.heads.now.items ≡ length c.args.blocks.now.items = held_len 0 0 c.args.heads.now.items (in_hand c.args.q c.args.right c.args.blocks.now.items) c.requires.held ∙ in_hand_long c.args.q c.args.blocks.now.items c.args.right in
     let within : c.args.q < length c.args.blocks.now.items = c.requires.hand.within in
-    let whole : last_total 0 (joined c.index_mut-left.result.now.items c.args.right.items) ≤ c.at-head.result.total = head_total_at 0 0 c.args.q c.args.heads.now.items (in_hand c.args.q c.args.right c.args.blocks.now.items) (both c.index_mut-left.result.now c.args.right) c.at-head.result c.requires.held (omega arith) read c.at-head.ensures.item in
-    let same : last_total 0 (joined c.index_mut-left.result.now.items c.args.right.items) ≡ last_total 0 c.level.new.left.items + last_total 0 c.level.new.right.items = ap (last_total 0) (sym c.level.ensures.same) ∙ last_total-joined c.level.new.left.items c.level.new.right.items in
+    let whole : last_total 0 (one_list c.index_mut-left.result.now.items c.args.right.items) ≤ c.at-head.result.total = head_total_at 0 0 c.args.q c.args.heads.now.items (in_hand c.args.q c.args.right c.args.blocks.now.items) (both c.index_mut-left.result.now c.args.right) c.at-head.result c.requires.held (omega arith) read c.at-head.ensures.item in
+    let same : last_total 0 (one_list c.index_mut-left.result.now.items c.args.right.items) ≡ last_total 0 c.level.new.left.items + last_total 0 c.level.new.right.items = ap (last_total 0) (sym c.level.ensures.same) ∙ last_total-one_list c.level.new.left.items c.level.new.right.items in
     let end : c.at-end.result.total ≡ last_total 0 c.level.new.right.items = last_total_at 0 (c.len-3.result - 1) c.level.new.right.items c.at-end.result (omega arith) c.at-end.ensures.item in
     omega arith
 
@@ -82,7 +82,7 @@ pub returns-then-len-eq0-clause-split : goal.returns-then-len-eq0-clause-split
 returns-then-len-eq0-clause-split g c = record {
   held =
       let none : c.level.new.right.items ≡ [] = nil_from_length c.level.new.right.items (omega arith) in
-      let is : c.level.new.left.items ≡ joined c.index_mut-left.result.now.items c.args.right.items = sym (ap (joined c.level.new.left.items) none ∙ joined-nil c.level.new.left.items) ∙ c.level.ensures.same in
+      let is : c.level.new.left.items ≡ one_list c.index_mut-left.result.now.items c.args.right.items = sym (ap (one_list c.level.new.left.items) none ∙ one_list-nil c.level.new.left.items) ∙ c.level.ensures.same in
       Held-all_left 0 0 c.args.q c.args.heads.now.items c.args.blocks.now.items c.index_mut-left.result.now c.level.new.left c.args.right c.requires.held c.requires.hand.within c.index_mut-left.ensures.value is;
   sized = AllSized-set _ c.args.q c.args.blocks.now.items c.level.new.left c.requires.hand.sized c.level.ensures.sizes.sized;
   fits = c.requires.fits;
@@ -94,8 +94,8 @@ returns-clause-split g c = record {
       let read = in_hand_at c.args.q c.args.blocks.now.items c.index_mut-left.result.now c.args.right c.requires.hand.within c.index_mut-left.ensures.value in
       let long : length c.args.heads.now.items ≡ length c.args.blocks.now.items = held_len 0 0 c.args.heads.now.items (in_hand c.args.q c.args.right c.args.blocks.now.items) c.requires.held ∙ in_hand_long c.args.q c.args.blocks.now.items c.args.right in
       let within : c.args.q < length c.args.blocks.now.items = c.requires.hand.within in
-      let whole : last_total 0 (joined c.index_mut-left.result.now.items c.args.right.items) ≤ c.at-head.result.total = head_total_at 0 0 c.args.q c.args.heads.now.items (in_hand c.args.q c.args.right c.args.blocks.now.items) (both c.index_mut-left.result.now c.args.right) c.at-head.result c.requires.held (omega arith) read c.at-head.ensures.item in
-      let same : last_total 0 (joined c.index_mut-left.result.now.items c.args.right.items) ≡ last_total 0 c.level.new.left.items + last_total 0 c.level.new.right.items = ap (last_total 0) (sym c.level.ensures.same) ∙ last_total-joined c.level.new.left.items c.level.new.right.items in
+      let whole : last_total 0 (one_list c.index_mut-left.result.now.items c.args.right.items) ≤ c.at-head.result.total = head_total_at 0 0 c.args.q c.args.heads.now.items (in_hand c.args.q c.args.right c.args.blocks.now.items) (both c.index_mut-left.result.now c.args.right) c.at-head.result c.requires.held (omega arith) read c.at-head.ensures.item in
+      let same : last_total 0 (one_list c.index_mut-left.result.now.items c.args.right.items) ≡ last_total 0 c.level.new.left.items + last_total 0 c.level.new.right.items = ap (last_total 0) (sym c.level.ensures.same) ∙ last_total-one_list c.level.new.left.items c.level.new.right.items in
       let end : c.at-end.result.total ≡ last_total 0 c.level.new.right.items = last_total_at 0 (c.len-3.result - 1) c.level.new.right.items c.at-end.result (omega arith) c.at-end.ensures.item in
       let row : Row = record { bin = c.at-last.result.bin; total = c.at-head.result.total - c.at-end.result.total } in
       let many : 32 ≤ length c.level.new.left.items = c.level.ensures.sizes.sized.least in

@@ -3,7 +3,7 @@ use Rattle.time_table.specs.declared.row.Row.{Row}
 use Rattle.time_table.specs.Totals.{Rise, counts_from, last_total}
 use Rattle.probe_core.specs.Places.{IsPlace}
 use Rattle.time_table.specs.Places.{count_at}
-use Rattle.time_table.specs.Totals.{bin_of}
+use Rattle.time_table.specs.Totals.{row_bin}
 use Rattle.time_table.specs.Blocks.{Held, parts}
 use Rattle.time_table.proofs.Taking.{last_total-taken}
 use Rattle.time_table.proofs.Blocked.{held_len, Rise-heads, Rise-at, place_inside, count_in, lower_fits, Held-taken, parts-taken, total-taken_from, set_within}
@@ -16,26 +16,26 @@ place_of-place-requires g c = Rise-heads 0 0 c.args.heads.now.items c.args.block
 pub index_mut-block-requires : goal.index_mut-block-requires
 index_mut-block-requires g c =
     let same : length c.args.heads.now.items ≡ length c.args.blocks.now.items = held_len 0 0 c.args.heads.now.items c.args.blocks.now.items c.requires.split.held in
-    let place = subst (λ (e : ℕ). IsPlace bin_of e c.args.heads.now.items c.place_of-place.result.index) c.from.ensures c.place_of-place.ensures.place in
+    let place = subst (λ (e : ℕ). IsPlace row_bin e c.args.heads.now.items c.place_of-place.result.index) c.from.ensures c.place_of-place.ensures.place in
     let inside : c.place_of-place.result.index < length c.args.heads.now.items = place_inside 0 0 c.place_of-place.result.index c.args.bin c.args.heads.now.items c.args.blocks.now.items c.requires.split.held place.lesser place.within (omega arith) (omega arith) in
     omega arith
 
 pub take_record-requires-clause-rise : goal.take_record-requires-clause-rise
 take_record-requires-clause-rise g c =
-    let place = subst (λ (e : ℕ). IsPlace bin_of e c.args.heads.now.items c.place_of-place.result.index) c.from.ensures c.place_of-place.ensures.place in
+    let place = subst (λ (e : ℕ). IsPlace row_bin e c.args.heads.now.items c.place_of-place.result.index) c.from.ensures c.place_of-place.ensures.place in
     let inside : c.place_of-place.result.index < length c.args.heads.now.items = place_inside 0 0 c.place_of-place.result.index c.args.bin c.args.heads.now.items c.args.blocks.now.items c.requires.split.held place.lesser place.within (omega arith) (omega arith) in
     Rise-at 0 0 c.place_of-place.result.index c.args.heads.now.items c.args.blocks.now.items c.index_mut-block.result.now c.requires.split.held inside c.index_mut-block.ensures.value
 
 pub take_record-requires-clause-there : goal.take_record-requires-clause-there
 take_record-requires-clause-there g c =
-    let place = subst (λ (e : ℕ). IsPlace bin_of e c.args.heads.now.items c.place_of-place.result.index) c.from.ensures c.place_of-place.ensures.place in
+    let place = subst (λ (e : ℕ). IsPlace row_bin e c.args.heads.now.items c.place_of-place.result.index) c.from.ensures c.place_of-place.ensures.place in
     let inside : c.place_of-place.result.index < length c.args.heads.now.items = place_inside 0 0 c.place_of-place.result.index c.args.bin c.args.heads.now.items c.args.blocks.now.items c.requires.split.held place.lesser place.within (omega arith) (omega arith) in
     let count : count_at c.args.bin (parts c.args.blocks.now.items) ≡ count_at c.args.bin (counts_from 0 c.index_mut-block.result.now.items) = count_in 0 0 c.args.bin c.place_of-place.result.index c.args.heads.now.items c.args.blocks.now.items c.index_mut-block.result.now c.requires.split.held place.lesser place.others inside c.index_mut-block.ensures.value in
     subst (λ k. c.args.amount ≤ k) count c.requires.there
 
 pub lower-requires-clause-some : goal.lower-requires-clause-some
 lower-requires-clause-some g c =
-    let place = subst (λ (e : ℕ). IsPlace bin_of e c.args.heads.now.items c.place_of-place.result.index) c.from.ensures c.place_of-place.ensures.place in
+    let place = subst (λ (e : ℕ). IsPlace row_bin e c.args.heads.now.items c.place_of-place.result.index) c.from.ensures c.place_of-place.ensures.place in
     let inside : c.place_of-place.result.index < length c.args.heads.now.items = place_inside 0 0 c.place_of-place.result.index c.args.bin c.args.heads.now.items c.args.blocks.now.items c.requires.split.held place.lesser place.within (omega arith) (omega arith) in
     let count : count_at c.args.bin (parts c.args.blocks.now.items) ≡ count_at c.args.bin (counts_from 0 c.index_mut-block.result.now.items) = count_in 0 0 c.args.bin c.place_of-place.result.index c.args.heads.now.items c.args.blocks.now.items c.index_mut-block.result.now c.requires.split.held place.lesser place.others inside c.index_mut-block.ensures.value in
     let there : c.args.amount ≤ count_at c.args.bin (counts_from 0 c.index_mut-block.result.now.items) = subst (λ k. c.args.amount ≤ k) count c.requires.there in
@@ -46,14 +46,14 @@ lower-requires-clause-some g c =
 pub returns-clause-within : goal.returns-clause-within
 returns-clause-within g c =
     let same : length c.args.heads.now.items ≡ length c.args.blocks.now.items = held_len 0 0 c.args.heads.now.items c.args.blocks.now.items c.requires.split.held in
-    let place = subst (λ (e : ℕ). IsPlace bin_of e c.args.heads.now.items c.place_of-place.result.index) c.from.ensures c.place_of-place.ensures.place in
+    let place = subst (λ (e : ℕ). IsPlace row_bin e c.args.heads.now.items c.place_of-place.result.index) c.from.ensures c.place_of-place.ensures.place in
     let inside : c.place_of-place.result.index < length c.args.heads.now.items = place_inside 0 0 c.place_of-place.result.index c.args.bin c.args.heads.now.items c.args.blocks.now.items c.requires.split.held place.lesser place.within (omega arith) (omega arith) in
     set_within c.place_of-place.result.index c.args.blocks.now.items c.take_record.new.rows (omega arith)
 
 pub returns-clause-held : goal.returns-clause-held
 returns-clause-held g c =
     let same : length c.args.heads.now.items ≡ length c.args.blocks.now.items = held_len 0 0 c.args.heads.now.items c.args.blocks.now.items c.requires.split.held in
-    let place = subst (λ (e : ℕ). IsPlace bin_of e c.args.heads.now.items c.place_of-place.result.index) c.from.ensures c.place_of-place.ensures.place in
+    let place = subst (λ (e : ℕ). IsPlace row_bin e c.args.heads.now.items c.place_of-place.result.index) c.from.ensures c.place_of-place.ensures.place in
     let inside : c.place_of-place.result.index < length c.args.heads.now.items = place_inside 0 0 c.place_of-place.result.index c.args.bin c.args.heads.now.items c.args.blocks.now.items c.requires.split.held place.lesser place.within (omega arith) (omega arith) in
     let sized = sized_at c.place_of-place.result.index c.args.blocks.now.items c.index_mut-block.result.now c.requires.split.sized (omega arith) c.index_mut-block.ensures.value in
     let count : count_at c.args.bin (parts c.args.blocks.now.items) ≡ count_at c.args.bin (counts_from 0 c.index_mut-block.result.now.items) = count_in 0 0 c.args.bin c.place_of-place.result.index c.args.heads.now.items c.args.blocks.now.items c.index_mut-block.result.now c.requires.split.held place.lesser place.others inside c.index_mut-block.ensures.value in
@@ -63,7 +63,7 @@ returns-clause-held g c =
 
 pub returns-clause-parts : goal.returns-clause-parts
 returns-clause-parts g c =
-    let place = subst (λ (e : ℕ). IsPlace bin_of e c.args.heads.now.items c.place_of-place.result.index) c.from.ensures c.place_of-place.ensures.place in
+    let place = subst (λ (e : ℕ). IsPlace row_bin e c.args.heads.now.items c.place_of-place.result.index) c.from.ensures c.place_of-place.ensures.place in
     let inside : c.place_of-place.result.index < length c.args.heads.now.items = place_inside 0 0 c.place_of-place.result.index c.args.bin c.args.heads.now.items c.args.blocks.now.items c.requires.split.held place.lesser place.within (omega arith) (omega arith) in
     let count : count_at c.args.bin (parts c.args.blocks.now.items) ≡ count_at c.args.bin (counts_from 0 c.index_mut-block.result.now.items) = count_in 0 0 c.args.bin c.place_of-place.result.index c.args.heads.now.items c.args.blocks.now.items c.index_mut-block.result.now c.requires.split.held place.lesser place.others inside c.index_mut-block.ensures.value in
     let there : c.args.amount ≤ count_at c.args.bin (counts_from 0 c.index_mut-block.result.now.items) = subst (λ k. c.args.amount ≤ k) count c.requires.there in
@@ -72,7 +72,7 @@ returns-clause-parts g c =
 pub returns-clause-sized : goal.returns-clause-sized
 returns-clause-sized g c =
     let same : length c.args.heads.now.items ≡ length c.args.blocks.now.items = held_len 0 0 c.args.heads.now.items c.args.blocks.now.items c.requires.split.held in
-    let place = subst (λ (e : ℕ). IsPlace bin_of e c.args.heads.now.items c.place_of-place.result.index) c.from.ensures c.place_of-place.ensures.place in
+    let place = subst (λ (e : ℕ). IsPlace row_bin e c.args.heads.now.items c.place_of-place.result.index) c.from.ensures c.place_of-place.ensures.place in
     let inside : c.place_of-place.result.index < length c.args.heads.now.items = place_inside 0 0 c.place_of-place.result.index c.args.bin c.args.heads.now.items c.args.blocks.now.items c.requires.split.held place.lesser place.within (omega arith) (omega arith) in
     let sized = sized_at c.place_of-place.result.index c.args.blocks.now.items c.index_mut-block.result.now c.requires.split.sized (omega arith) c.index_mut-block.ensures.value in
     let count : count_at c.args.bin (parts c.args.blocks.now.items) ≡ count_at c.args.bin (counts_from 0 c.index_mut-block.result.now.items) = count_in 0 0 c.args.bin c.place_of-place.result.index c.args.heads.now.items c.args.blocks.now.items c.index_mut-block.result.now c.requires.split.held place.lesser place.others inside c.index_mut-block.ensures.value in

@@ -2,7 +2,7 @@ use Rattle.std.proofs.Common.{◌≡◌, ◌≤◌, length, arith, sym, ap, subs
 use Rattle.std.proofs.lemmas.Result.{on_ok_weaker}
 use Rattle.time_table.specs.Totals.{counts_from}
 use Rattle.time_table.specs.Places.{added, more}
-use Rattle.time_table.specs.Forms.{IsSingle, IsForm, HasRoom, entries_of}
+use Rattle.time_table.specs.Forms.{IsSingle, IsForm, HasRoom, form_entries}
 use Rattle.time_table.proofs.Adding.{counts_from-added}
 use Rattle.time_table.proofs.Formed.{single_either}
 use Rattle.time_table.proofs.form.Form.add.Goals as goal
@@ -20,5 +20,5 @@ returns-in-Single-clause-added g c =
     (λ (is : c.add_record.new.rows.items ≡ added 0 c.args.bin c.args.amount c.in-Single.rows.items).
     ap (counts_from 0) is
     ∙ counts_from-added 0 0 c.args.bin c.args.amount c.in-Single.rows.items single.rise
-    ∙ ap (more c.args.bin c.args.amount) (ap entries_of (sym c.in-Single.is) ∙ c.grow.ensures.same))
+    ∙ ap (more c.args.bin c.args.amount) (ap form_entries (sym c.in-Single.is) ∙ c.grow.ensures.same))
     c.add_record.ensures.added

@@ -1,7 +1,7 @@
 use Rattle.std.proofs.Common.{◌≡◌, List, sym, ap, subst, ◌∙◌}
 use Rattle.time_table.specs.declared.row.Row.{Row}
 use Rattle.time_table.specs.declared.form.Split.{Split}
-use Rattle.time_table.specs.Forms.{IsForm, entries_of}
+use Rattle.time_table.specs.Forms.{IsForm, form_entries}
 use Rattle.time_table.specs.Blocks.{IsSplit}
 use Rattle.time_table.specs.Blocks.{parts, lists}
 use Rattle.time_table.proofs.Copied.{parts-lists, Held-lists}
@@ -20,5 +20,5 @@ returns-in_ok-boxed-in-Split c =
     let done : IsSplit c.in_ok-heads-in-Split.heads.items c.in_ok-copies-in-Split.copies.items = subst (λ (hs : List Row). IsSplit hs c.in_ok-copies-in-Split.copies.items) (sym (c.in_ok-heads-in-Split.ensures ∙ ap (λ (s : Split). s.heads.items) c.deref-in-Split.ensures)) copied in (
       subst (λ (s : Split). IsSplit s.heads.items s.blocks.items) (sym c.in_ok-boxed-in-Split.ensures) done,
       ap (λ (s : Split). parts s.blocks.items) c.in_ok-boxed-in-Split.ensures
-          ∙ parts-lists c.in-Split.split.value.blocks.items c.in_ok-copies-in-Split.copies.items same ∙ ap entries_of (sym c.in-Split.is),
+          ∙ parts-lists c.in-Split.split.value.blocks.items c.in_ok-copies-in-Split.copies.items same ∙ ap form_entries (sym c.in-Split.is),
     )

@@ -3,7 +3,7 @@ use Rattle.probe_core.specs.Bits.{bits}
 use Rattle.time_table.specs.Counts.{first_from}
 use Rattle.time_table.specs.Totals.{counts_from}
 use Rattle.time_table.specs.declared.form.Form.{Form}
-use Rattle.time_table.specs.Forms.{IsSingle, IsForm, entries_of, rows_of}
+use Rattle.time_table.specs.Forms.{IsSingle, IsForm, form_entries, rows_of}
 use Rattle.time_table.proofs.form.Form.next_row.Goals as goal
 
 pub next_in-requires : goal.next_in-requires
@@ -15,7 +15,7 @@ pub returns-in-Single-clause-next : goal.returns-in-Single-clause-next
 returns-in-Single-clause-next g c =
     c.next_in.ensures.next
     ∙ ap (λ k. first_from k (counts_from 0 c.in-Single.rows.items)) c.from.ensures
-    ∙ ap (first_from c.args.from) (ap entries_of (sym c.in-Single.is))
+    ∙ ap (first_from c.args.from) (ap form_entries (sym c.in-Single.is))
 
 pub returns-in-Single-clause-cost : goal.returns-in-Single-clause-cost
 returns-in-Single-clause-cost g c =

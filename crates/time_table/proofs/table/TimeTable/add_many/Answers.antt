@@ -2,7 +2,7 @@ use Rattle.std.proofs.Common.{◌≡◌, ◌+◌, ◌≤◌, ◌^◌, subst, ap,
 use Rattle.std.proofs.lemmas.Result.{on_ok_weaker, on_err_weaker}
 use Rattle.time_table.specs.Counts.{Counts, AllCounted, add_many, total_count}
 use Rattle.time_table.specs.Places.{more}
-use Rattle.time_table.specs.Forms.{entries_of}
+use Rattle.time_table.specs.Forms.{form_entries}
 use Rattle.time_table.proofs.Formed.{total-form, added-form, same-form, AllCounted-form}
 use Rattle.time_table.proofs.table.TimeTable.add_many.Goals as goal
 
@@ -13,7 +13,7 @@ add-requires-clause-fits c =
 pub returns-clause-added : goal.returns-clause-added
 returns-clause-added c =
     on_ok_weaker c.add.result
-    (λ (is : entries_of c.add.new.self ≡ more c.args.bin c.args.amount (entries_of c.self.inside.form)).
+    (λ (is : form_entries c.add.new.self ≡ more c.args.bin c.args.amount (form_entries c.self.inside.form)).
     added-form c.self.inside.form c.add.new.self c.args.bin c.args.amount c.self.invariant c.add.ensures.form is
     ∙ ap (λ (m : Counts). add_many m c.args.bin c.args.amount) c.self.view_is)
     c.add.ensures.added
@@ -21,7 +21,7 @@ returns-clause-added c =
 pub returns-clause-unchanged : goal.returns-clause-unchanged
 returns-clause-unchanged c =
     on_err_weaker c.add.result
-    (λ (is : entries_of c.add.new.self ≡ entries_of c.self.inside.form).
+    (λ (is : form_entries c.add.new.self ≡ form_entries c.self.inside.form).
     same-form c.self.inside.form c.add.new.self c.self.invariant c.add.ensures.form is ∙ c.self.view_is)
     c.add.ensures.unchanged
 
