@@ -8,7 +8,7 @@ use Rattle.std.proofs.lemmas.List.Quantifiers.{all_pairs_remove}
 use Rattle.std.proofs.lemmas.Result.{on_ok_weaker}
 use Rattle.std.proofs.lemmas.List.Edits.{length-insert, get_or-insert_below, get_or-insert_at, get_or-insert_above}
 use Rattle.node_arena.specs.declared.link.Link.{Link}
-use Rattle.node_arena.specs.Slots.{Children, IsRising, child, label_of}
+use Rattle.node_arena.specs.Slots.{Children, IsRising, child, child_label}
 use Rattle.node_arena.specs.Calls.{with_child, with_link, without_child, child_from}
 use Rattle.probe_core.specs.Places.{IsPlace}
 
@@ -32,7 +32,7 @@ others_at l (x ∷ children) (suc index) zero d all from within = absurd (omega 
 others_at l (x ∷ children) (suc index) (suc k) d all from within = others_at l children index k d all (omega arith) (omega arith)
 
 -- a place, said of each child
-pub lies_at : (l : ℕ) (children : Children) (index : ℕ) → IsPlace label_of l children index → LiesAt l children index
+pub lies_at : (l : ℕ) (children : Children) (index : ℕ) → IsPlace child_label l children index → LiesAt l children index
 lies_at l children index P = record {
   within = P.within;
   lesser = λ k d less. lesser_at l children index k d P.lesser P.within less;

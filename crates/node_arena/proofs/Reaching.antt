@@ -4,7 +4,7 @@ use Rattle.node_arena.specs.declared.link.Link.{Link}
 use Rattle.cube_view.specs.Walks.{Step, down, across, Walk, SpotPath, Under, top, IsCoarser, dimension, HasSpot, down_all, whole_from, whole_of, whole}
 use Rattle.node_arena.specs.Slots.{proper, shared, target, Slot, is_table, link_of, slot_of, count, reached, follow, walk_end}
 use Rattle.node_arena.specs.Shape.{home_of, HasHomes, IsShaped}
-use Rattle.node_arena.specs.Reach.{IsWalked, count_at, weight_at, TellsWalks, TellsWeights}
+use Rattle.node_arena.specs.Reach.{IsWalked, count_reached, weight_at, TellsWalks, TellsWeights}
 use Rattle.cube_view.proofs.Walking.{finer-refl, finer-step, finer-trans, coarser_under, step_across_finer, under_before, dimension-finer}
 use Rattle.node_arena.specs.Amounts.{Weighted, spots_in, amount_under}
 use Rattle.node_arena.proofs.Amounting.{amount_along, amount-none}
@@ -138,7 +138,7 @@ dimension-whole dims q some P = go q.paths P
 pub weight_counts : (dims : ℕ) (slots : List Slot) (homes : List Walk) (h : List Weighted) → IsShaped dims slots homes h → (q : SpotPath) → 0 < dims → length q.paths ≡ dims → weight_at slots q ≡ amount_under h (whole q) q.bin
 weight_counts dims slots homes h S q some P = go (walk_end slots 0 (whole q)) refl
   where
-    go : (o : Option ℕ) → walk_end slots 0 (whole q) ≡ o → count_at slots o q.bin ≡ amount_under h (whole q) q.bin
+    go : (o : Option ℕ) → walk_end slots 0 (whole q) ≡ o → count_reached slots o q.bin ≡ amount_under h (whole q) q.bin
     go None e = sym (amount-none h (whole q) q.bin (λ w. let r = walk_reaches dims slots homes h S (whole q) w in let x = r.1 in absurd cc))
     go (Some j) e =
         let l = walk-lt dims slots homes h S (whole q) j e in

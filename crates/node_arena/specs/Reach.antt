@@ -38,13 +38,13 @@ abbrev pub TellsWalks : Type 0
 TellsWalks = (dims : ℕ) (slots : List Slot) (homes : List Walk) (h : List Weighted) → IsShaped dims slots homes h → IsWalked slots homes h
 
 -- how many records the slot counts in the bin, if there is one
-abbrev pub count_at : List Slot → Option ℕ → ℕ → ℕ
-count_at slots None bin = 0
-count_at slots (Some i) bin = count (slot_of slots i) bin
+abbrev pub count_reached : List Slot → Option ℕ → ℕ → ℕ
+count_reached slots None bin = 0
+count_reached slots (Some i) bin = count (slot_of slots i) bin
 
 -- how much the cube counts at a spot: what its whole walk finds in its bin
 abbrev pub weight_at : List Slot → SpotPath → ℕ
-weight_at slots q = count_at slots (walk_end slots 0 (whole q)) q.bin
+weight_at slots q = count_reached slots (walk_end slots 0 (whole q)) q.bin
 
 -- a shape counts at a spot as much as the list has under its whole walk in its bin
 abbrev pub TellsWeights : Type 0

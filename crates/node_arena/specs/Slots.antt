@@ -29,8 +29,8 @@ abbrev pub Children : Type 0
 Children = List (ℕ × Link)
 
 -- the label of a child, by which children are ordered and searched
-abbrev pub label_of : ℕ × Link → ℕ
-label_of c = c.0
+abbrev pub child_label : ℕ × Link → ℕ
+child_label c = c.0
 
 -- the labels rise, so no label stands twice
 abbrev pub IsRising : Children → Type 0

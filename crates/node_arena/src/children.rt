@@ -3,7 +3,7 @@ ghost use Rattle.std.specs.Prelude.{◌≡◌, ◌+◌, ◌<◌, ◌≤◌, ◌�
 ghost use Rattle.probe_core.specs.Bits.{bits};
 ghost use Rattle.probe_core.specs.Blanks.{IsBlankOf};
 ghost use Rattle.probe_core.specs.Places.{IsPlace};
-ghost use Rattle.node_arena.specs.Slots.{Children as Listed, IsRising, child, label_of};
+ghost use Rattle.node_arena.specs.Slots.{Children as Listed, IsRising, child, child_label};
 ghost use Rattle.node_arena.specs.Calls.{with_child, with_link, without_child, child_from, only_link, share_all};
 ghost use Rattle.node_arena.specs.Stats.{children_that, is_proper, is_shared};
 
@@ -73,7 +73,7 @@ impl Children {
 
     /// The place of a label, by one binary search.
     fn place_of<L: Ledger>(&self, label: u8, steps: &mut Steps<L>) -> Place<(u8, Link)>
-        ensures place { IsPlace label_of label self.now result.index }
+        ensures place { IsPlace child_label label self.now result.index }
         ensures first { result.first ≡ slice_get self.now result.index }
         ensures cost { steps.new ≤ steps.old + bits (length self.now) }
         ensures not_less { steps.old ≤ steps.new }
@@ -166,7 +166,7 @@ impl Children {
 
     /// The place of a label, where nobody counts the steps.
     fn seek(&self, label: u8) -> Place<(u8, Link)>
-        ensures place { IsPlace label_of label self.now result.index }
+        ensures place { IsPlace child_label label self.now result.index }
         ensures first { result.first ≡ slice_get self.now result.index }
         ensures in_order { IsRising self.now }
     {
@@ -185,7 +185,7 @@ impl Children {
     /// The place of a label, in a ledger of its own.
     fn seek_in<L: Ledger>(&self, label: u8, blank: Blank) -> Place<(u8, Link)>
         requires { IsBlankOf L.name L.parts blank }
-        ensures place { IsPlace label_of label self.now result.index }
+        ensures place { IsPlace child_label label self.now result.index }
         ensures first { result.first ≡ slice_get self.now result.index }
         ensures in_order { IsRising self.now }
     {

@@ -1,8 +1,8 @@
 use Rattle.std.proofs.Common.{◌≡◌, ◌<◌, ◌^◌, ℕ, List, [], Some, None, length, map, sum, refl, sym, ap, ap₂, ◌∙◌, subst₂, arith}
 use Rattle.std.specs.FinMap as fin
 use Rattle.std.specs.Ordering.{nat_cmp}
-use Rattle.std.proofs.lemmas.List.{nil_from_length}
 use Rattle.time_table.specs.Counts.{total_count}
+use Rattle.time_table.proofs.AddLaws.{total_count-empty}
 use Rattle.node_arena.specs.declared.link.SlotId.{SlotId}
 use Rattle.node_arena.specs.declared.link.Link.{Link}
 use Rattle.node_arena.specs.declared.link.LinkKind.TheVariants.{Proper}
@@ -27,10 +27,7 @@ abbrev s5 : Link → List Slot
 s5 k = copy_slot (s4 k) 0
 
 no_records : total_count (fin.empty {X = ℕ} {R = nat_cmp}) < 2 ^ 63
-no_records =
-    let none = nil_from_length (fin.entries (fin.empty {X = ℕ} {R = nat_cmp})) (sym (fin.len-entries (fin.empty {X = ℕ} {R = nat_cmp})) ∙ fin.len-empty nat_cmp ℕ) in
-    let zero : total_count (fin.empty {X = ℕ} {R = nat_cmp}) ≡ 0 = ap (λ (es : List (ℕ × ℕ)). sum (map (λ (e : ℕ × ℕ). e.1) es)) none in
-    omega arith
+no_records = omega (arith, total_count-empty)
 
 pub table_add-requires-clause-in_range : goal.table_add-requires-clause-in_range
 table_add-requires-clause-in_range c =
