@@ -9,8 +9,7 @@
 //!
 //! ```
 //! let parsed = parse(alloc, &schema, b"count  in 01/0/1")?;
-//! let Parsed::Ask(query) = parsed else { .. };
-//! assert!(is_valid_query(&schema, &query));
+//! // of `Parsed::Ask(query)`:
 //! assert_eq!(print(alloc, &schema, &query)?.as_slice(), b"count in 1/0/1".as_slice());
 //! ```
 #![tactic(auto)]

@@ -54,7 +54,8 @@ fn printed(alloc: Global, schema: &Schema, line: &[u8]) -> Result<(Parsed, List<
 
 #[test]
 fn prints_each_verb_and_its_filters_in_one_order(rt: HostRuntime) -> Result<(), Fail> {
-    let cases: [(&[u8], &[u8]); 8] = [
+    let cases: [(&[u8], &[u8]); 9] = [
+        (b"count  in 01/0/1", b"count in 1/0/1"),
         (
             b"count  with kind=a|a in 01/0/1",
             b"count in 1/0/1 with kind=a",

@@ -2,7 +2,7 @@
 use crate::{
     Choice, Parsed, Query, QueryFault, Span, ValueSet, Verb, is_valid_query, parse, print,
 };
-use cube_view::Tile;
+use cube_view::{Schema, Tile};
 use example_schemas::schema_of_kinds;
 use std::alloc::Global;
 use std::process::Abort;
@@ -120,77 +120,127 @@ fn reads_filters_in_any_order(rt: HostRuntime) -> Result<(), Fail> {
     Ok(())
 }
 
-fn asking(verb: Verb, z: u8, x: u32, kind: Choice, from: u64, to: u64) -> Query {
-    Query {
+/// A query of which some values count, or all, and whether a schema takes it.
+#[derive(Clone, Copy)]
+struct Asked<'a> {
+    verb: Verb,
+    z: u8,
+    x: u32,
+    values: Option<&'a [u8]>,
+    from: u64,
+    to: u64,
+    is_taken: bool,
+}
+
+const END: u64 = 1 << 32;
+
+fn asked<'a>(verb: Verb, z: u8, x: u32, is_taken: bool) -> Asked<'a> {
+    Asked {
         verb,
-        region: Tile { z, x, y: 0 },
-        sets: [kind, Choice::All, Choice::All, Choice::All],
-        time: Span { from, to },
+        z,
+        x,
+        values: None,
+        from: 0,
+        to: END,
+        is_taken,
     }
 }
 
-fn only(value: u8) -> Choice {
-    Choice::Only(ValueSet::one(value))
+fn asked_with(values: &[u8], is_taken: bool) -> Asked<'_> {
+    Asked {
+        verb: Verb::Count,
+        z: 3,
+        x: 7,
+        values: Some(values),
+        from: 0,
+        to: END,
+        is_taken,
+    }
+}
+
+fn asked_in<'a>(verb: Verb, from: u64, to: u64, is_taken: bool) -> Asked<'a> {
+    Asked {
+        verb,
+        z: 0,
+        x: 0,
+        values: None,
+        from,
+        to,
+        is_taken,
+    }
 }
 
 fn series(from: u64, wide: u64, rows: u32) -> Verb {
     Verb::Series { from, wide, rows }
 }
 
-#[test]
-fn takes_queries_up_to_the_ends_of_their_ranges(rt: HostRuntime) -> Result<(), Fail> {
-    let end = 1 << 32;
-    let cases = [
-        (asking(Verb::Count, 3, 7, only(0), end, end), true),
-        (asking(Verb::Count, 4, 0, Choice::All, 0, end), false),
-        (asking(Verb::Count, 3, 8, Choice::All, 0, end), false),
-        (asking(Verb::Count, 0, 0, Choice::All, 1, 0), false),
-        (asking(Verb::Count, 0, 0, Choice::All, 0, end + 1), false),
-        (
-            asking(Verb::Count, 0, 0, Choice::Only(ValueSet::none()), 0, end),
-            false,
-        ),
-        (asking(Verb::Count, 0, 0, only(2), 0, end), false),
-        (asking(Verb::Hist(0), 0, 0, Choice::All, 0, 0), true),
-        (asking(Verb::Hist(1), 0, 0, Choice::All, 0, end), false),
-        (asking(Verb::Map(3), 0, 0, Choice::All, 0, end), true),
-        (asking(Verb::Map(0), 3, 0, Choice::All, 0, end), true),
-        (asking(Verb::Map(4), 0, 0, Choice::All, 0, end), false),
-        (asking(series(0, 1, 1), 0, 0, Choice::All, 0, end), true),
-        (
-            asking(series(end - 1, end, 10_000), 0, 0, only(0), 0, end),
-            true,
-        ),
-        (asking(series(end, 1, 1), 0, 0, Choice::All, 0, end), false),
-        (asking(series(0, 0, 1), 0, 0, Choice::All, 0, end), false),
-        (
-            asking(series(0, 1, 10_001), 0, 0, Choice::All, 0, end),
-            false,
-        ),
-        (asking(series(0, 1, 1), 0, 0, Choice::All, 0, 1), false),
-        (asking(Verb::Stat, 0, 0, Choice::All, 0, end), true),
-        (asking(Verb::Told, 0, 0, Choice::All, 0, end), true),
-        (asking(Verb::Quit, 0, 0, Choice::All, 0, end), true),
-        (asking(Verb::Quit, 1, 0, Choice::All, 0, end), false),
-    ];
-    let schema = schema_of_kinds(rt.alloc())?;
-    for (query, is_taken) in &cases {
-        assert_eq!(rt; is_valid_query(&schema, query), *is_taken);
+fn choice_of(values: Option<&[u8]>) -> Choice {
+    match values {
+        None => Choice::All,
+        Some(values) => {
+            let mut set = ValueSet::none();
+            for value in values {
+                set.insert(*value);
+            }
+            Choice::Only(set)
+        }
     }
-    Ok(())
 }
 
-// The example of the crate's page.
-#[test]
-fn prints_a_line_in_its_one_form(rt: HostRuntime) -> Result<(), Fail> {
-    let schema = schema_of_kinds(rt.alloc())?;
-    let Parsed::Ask(query) = parse(rt.alloc(), &schema, b"count  in 01/0/1")? else {
-        return Err(Fail::from("it asks for a total"));
+fn is_taken(schema: &Schema, asked: &Asked) -> bool {
+    let query = Query {
+        verb: asked.verb,
+        region: Tile {
+            z: asked.z,
+            x: asked.x,
+            y: 0,
+        },
+        sets: [
+            choice_of(asked.values),
+            Choice::All,
+            Choice::All,
+            Choice::All,
+        ],
+        time: Span {
+            from: asked.from,
+            to: asked.to,
+        },
     };
-    if !is_valid_query(&schema, &query) {
-        return Err(Fail::from("it is valid"));
+    is_valid_query(schema, &query)
+}
+
+#[test]
+fn takes_queries_up_to_the_ends_of_their_ranges(rt: HostRuntime) -> Result<(), Fail> {
+    let cases = [
+        asked(Verb::Count, 3, 7, true),
+        asked(Verb::Count, 4, 0, false),
+        asked(Verb::Count, 3, 8, false),
+        asked_with(&[1], true),
+        asked_with(&[], false),
+        asked_with(&[0, 1], false),
+        asked_with(&[2], false),
+        asked_in(Verb::Count, END, END, true),
+        asked_in(Verb::Count, 1, 0, false),
+        asked_in(Verb::Count, 0, END + 1, false),
+        asked_in(Verb::Hist(0), 0, 0, true),
+        asked_in(Verb::Hist(1), 0, 0, false),
+        asked(Verb::Map(3), 0, 0, true),
+        asked(Verb::Map(0), 3, 0, true),
+        asked(Verb::Map(4), 0, 0, false),
+        asked(series(0, 1, 1), 0, 0, true),
+        asked(series(END - 1, END, 10_000), 0, 0, true),
+        asked(series(END, 1, 1), 0, 0, false),
+        asked(series(0, 0, 1), 0, 0, false),
+        asked(series(0, 1, 10_001), 0, 0, false),
+        asked_in(series(0, 1, 1), 0, 1, false),
+        asked(Verb::Stat, 0, 0, true),
+        asked(Verb::Told, 0, 0, true),
+        asked(Verb::Quit, 0, 0, true),
+        asked(Verb::Quit, 1, 0, false),
+    ];
+    let schema = schema_of_kinds(rt.alloc())?;
+    for case in cases {
+        assert_eq!(rt; is_taken(&schema, &case), case.is_taken);
     }
-    let line = print(rt.alloc(), &schema, &query)?;
-    assert_eq!(rt; line.as_slice(), b"count in 1/0/1".as_slice());
     Ok(())
 }

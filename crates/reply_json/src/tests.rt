@@ -46,7 +46,9 @@ fn check_printed(rt: &impl Abort, alloc: Global, reply: &Reply, text: &str) -> R
 /// The reply is printed as the text, and so is the one that is read from it.
 fn check(rt: &impl Abort, alloc: Global, reply: &Reply, text: &str) -> Result<(), Fail> {
     check_printed(rt, alloc, reply, text)?;
-    let read = read_reply(alloc, text.as_bytes()).ok().ok_or("it is a reply")?;
+    let read = read_reply(alloc, text.as_bytes())
+        .ok()
+        .ok_or("it is a reply")?;
     check_printed(rt, alloc, &read, text)
 }
 
