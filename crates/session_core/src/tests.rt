@@ -142,6 +142,7 @@ fn bytes_of(alloc: Global, text: &str) -> Result<List<u8>, NoMemory> {
 }
 
 /// A script that is read in pieces of 5 bytes, and calls of the source and the sink that fail.
+#[derive(Drop)]
 struct Script<'a> {
     text: &'a str,
     failing_read: Option<u32>,
