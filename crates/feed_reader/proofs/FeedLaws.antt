@@ -1,18 +1,18 @@
 -- Laws of a feed whose lines a cutter gives: its header, the points after it, and whether it is refused.
-use Rattle.std.proofs.Common.{◌≡◌, ℕ, ◌+◌, ◌<◌, ◌≤◌, true, false, not, ◌||◌, nat_lt, List, [], ◌∷◌, ◌++◌, map, drop, length, Option, Some, None, option_map, Ok, Err, is_ok, refl, sym, ◌∙◌, ap, subst, zero-add, append_assoc, arith, IsSomeAnd}
+use Rattle.std.proofs.Common.{◌≡◌, ℕ, ◌<◌, ◌≤◌, true, false, not, ◌||◌, nat_lt, List, [], ◌∷◌, ◌++◌, map, drop, length, Option, Ok, Err, is_ok, refl, sym, ◌∙◌, ap, append_assoc, arith, IsSomeAnd}
 use Rattle.std.proofs.Math.Bool.{or-true}
 use Rattle.std.proofs.lemmas.Bool.Decides.{nat_tests}
 use Rattle.std.proofs.lemmas.List.{map_push}
 use Rattle.cube_view.specs.declared.schema.Schema.{Schema}
 use Rattle.cube_view.specs.declared.spot.Point.{Point}
-use Rattle.outer_io.specs.Cuts.{GivesLine}
 use Rattle.outer_io.specs.Cutting.{Cutter, input_size, lines_left, rest_of}
-use Rattle.outer_io.specs.Lines.{Line, Bytes, Long, input_limit, lines, lines_from}
-use Rattle.outer_io.specs.Progress.{IsTooLarge, IsWithinLimit, Passes, PassesAll}
+use Rattle.outer_io.specs.Lines.{Line, Bytes, Long, input_limit, lines}
+use Rattle.outer_io.specs.Progress.{IsTooLarge, Passes, PassesAll}
 use Rattle.outer_io.specs.Told.{Told}
 use Rattle.outer_io.proofs.ToldLaws.{Told-both, Told-each}
+use Rattle.feed_reader.proofs.FeedStart.{lines_at_start, size_at_start, some_each, some_told}
 use Rattle.feed_reader.specs.Feeds.{accepted, feed_head, head_of_lines, is_feed_refused, points_in, rows, rows_under}
-use Rattle.feed_reader.specs.Reading.{AcceptsRows, IsAtStart, IsHeadRefused, LeavesAccepted, ReadsHeader}
+use Rattle.feed_reader.specs.Reading.{AcceptsRows, IsAtStart, IsHeadRefused, LeavesAccepted}
 use Rattle.feed_reader.specs.Rows.{row_of_line}
 use Rattle.feed_reader.specs.declared.header.HeadFault.{HeadFault}
 use Rattle.feed_reader.specs.declared.row.Row.{Row}
@@ -64,24 +64,6 @@ accepted-lines schema feed places line rest is head =
       ap (head_of_lines schema) is ∙ first,
       ap (λ ls. points_in (rows_under schema (head_of_lines schema ls) (drop 1 ls))) is ∙ ap (λ h. points_in (rows_under schema h rest)) first,
     )
-
--- what a cutter that gave nothing yet has left is all of the feed
-lines_at_start : (P : List Line → Type 0) (r : Option (List ℕ)) (taken given : ℕ) → taken ≡ 0 → given ≡ 0 → Told (option_map (lines_from taken given) r) P → Told r (λ feed. P (lines feed))
-lines_at_start P None taken given t g p = tt
-lines_at_start P (Some feed) taken given t g p = subst (λ (n : ℕ). P (lines_from 0 n feed)) g (subst (λ (n : ℕ). P (lines_from n given feed)) t p)
-
-size_at_start : (P : ℕ → Type 0) (r : Option (List ℕ)) (taken : ℕ) (size : Option ℕ) → taken ≡ 0 → Told (option_map (λ rest. taken + length rest) r) (λ n. size ≡ Some n) → Told size P → Told r (λ feed. P (length feed))
-size_at_start P None taken size t e p = tt
-size_at_start P (Some feed) taken size t e p =
-    subst P (ap (λ (n : ℕ). n + length feed) t ∙ zero-add (length feed)) (subst (λ (o : Option ℕ). Told o P) e p)
-
-some_each : {A : Type 0} (o : Option A) (P Q : A → Type 0) → ((x : A) → P x → Q x) → IsSomeAnd o P → IsSomeAnd o Q
-some_each None P Q step h = absurd h
-some_each (Some x) P Q step h = step x h
-
-some_told : {A : Type 0} (o : Option A) (x : A) (P : A → Type 0) → IsSomeAnd o P → Told o (λ y. y ≡ x) → P x
-some_told None x P h told = absurd h
-some_told (Some y) x P h told = subst P told h
 
 module _ {S : Type 0} (left : S → Option (List ℕ)) (faults : S → ℕ) (schema : Schema) where
   -- after the line that is the header, the cutter has the lines left whose points are accepted

@@ -5,5 +5,6 @@ pub mod Parts
 pub mod Values
 pub mod FirstFault
 pub mod ValidRows
+pub mod FeedStart
 pub mod FeedLaws
 pub mod Stepping

@@ -1,10 +1,10 @@
 -- From the fields of a record's needed columns to its row.
-use Rattle.std.proofs.Common.{◌≡◌, ◌∙◌, refl, sym, ap, ℕ, ◌≤◌, false, List, [], ◌∷◌, length, map, drop, get_or, Option, Some, None, arith}
+use Rattle.std.proofs.Common.{◌≡◌, ◌∙◌, sym, ap, ℕ, ◌≤◌, false, List, [], ◌∷◌, length, map, take, drop, get_or, ◌-◌, Option, Some, None, arith}
+use Rattle.std.proofs.lemmas.List.{length-drop, take_all}
 use Rattle.cube_view.specs.declared.schema.Schema.{Schema}
 use Rattle.cube_view.specs.declared.spot.Point.{Point}
 use Rattle.feed_reader.specs.Columns.{category_items, weight_item}
 use Rattle.feed_reader.specs.Rows.{is_short, row_of_parts, row_of_record, row_unless, text_at, texts_at}
-use Rattle.feed_reader.specs.declared.row.Row.{Row}
 use Rattle.feed_reader.specs.declared.row.Row.TheVariants as row
 use Rattle.feed_reader.specs.declared.row.RowFault.{RowFault}
 use Rattle.feed_reader.proofs.Columns.{category_items-map, weight_item-map}
@@ -32,3 +32,7 @@ row_of_record-parts schema (x ∷ y ∷ time ∷ rest) fields weight categories 
     ap (λ (o : Option (List ℕ)). texts o (category_items schema.weight (map field rest))) (weight_item-map field schema.weight rest ∙ ap (text_at fields) (sym w))
     ∙ ap (texts (text_at fields weight)) (category_items-map field schema.weight rest ∙ ap (texts_at fields) (sym k))
     )
+
+-- all items after the third
+pub after_third : (places : List ℕ) → take (length places - 3) (drop 3 places) ≡ drop 3 places
+after_third places = let size = length-drop 3 places in take_all (length places - 3) (drop 3 places) (omega (arith, size))

@@ -1,17 +1,16 @@
 -- From one answer of a cutter to a header or a row.
-use Rattle.std.proofs.Common.{◌≡◌, ℕ, ◌+◌, ◌≤◌, lit≤, List, [], ◌∷◌, ◌++◌, length, Option, Some, None, option_map, Result, Ok, Err, refl, sym, ◌∙◌, ap, subst, IfOk, IsSomeAnd}
+use Rattle.std.proofs.Common.{◌≡◌, ℕ, lit≤, List, [], ◌∷◌, Option, Some, None, Result, Ok, Err, ◌∙◌, ap, IfOk, IsSomeAnd}
 use Rattle.cube_view.specs.declared.schema.Schema.{Schema}
 use Rattle.outer_io.specs.Cuts.{GivesLine}
 use Rattle.outer_io.specs.Cutting.{Cutter, lines_left}
 use Rattle.outer_io.specs.Lines.{Line, Bytes}
-use Rattle.outer_io.specs.Told.{Told}
 use Rattle.outer_io.proofs.ToldLaws.{Told-each}
 use Rattle.feed_reader.specs.Feeds.{head_of_lines}
 use Rattle.feed_reader.specs.Headers.{head_of}
-use Rattle.feed_reader.specs.Reading.{IsAtStart, IsHeadRefused, LeavesAccepted, PassesOneAtMost, ReadsHeader}
+use Rattle.feed_reader.specs.Reading.{IsHeadRefused, PassesOneAtMost}
 use Rattle.feed_reader.specs.declared.header.HeadFault.{HeadFault}
 use Rattle.feed_reader.specs.declared.header.Header.{Header}
-use Rattle.feed_reader.proofs.FeedLaws.{head_of_lines-cons, leaves_accepted}
+use Rattle.feed_reader.proofs.FeedLaws.{head_of_lines-cons}
 
 module _ {S : Type 0} (left : S → Option (List ℕ)) (faults : S → ℕ) (schema : Schema) (a b : Cutter S) (number : ℕ) where
   refused_first : (line : Line) (fault : HeadFault) (rest : Option (List Line)) (all : List Line) → head_of_lines schema (line ∷ []) ≡ Err fault → IsSomeAnd rest (λ more. all ≡ line ∷ more) → head_of_lines schema all ≡ Err fault
@@ -26,14 +25,8 @@ module _ {S : Type 0} (left : S → Option (List ℕ)) (faults : S → ℕ) (sch
   pub passes_one : (line : Line) → GivesLine left faults a b line number → PassesOneAtMost left faults a b
   passes_one line given = (given.goes_on, line ∷ [], given.passed, lit≤ tt)
 
--- a header that the line is, with what the cutter did
-pub header_read : {E S : Type 0} (left : S → Option (List ℕ)) (faults : S → ℕ) (schema : Schema) (a b : Cutter S) (number : ℕ) (bytes line : List ℕ) (r : Result Header E) → line ≡ bytes → IfOk r (λ header. head_of schema line ≡ Ok header.places)
-    → GivesLine left faults a b (Bytes bytes) number → IfOk r (λ header. ReadsHeader left faults schema a b header.places)
-header_read left faults schema a b number bytes line (Ok header) e is given = (Bytes bytes, number, given, rw (← e) is)
-header_read left faults schema a b number bytes line (Err f) e is given = tt
-
--- and the lines that it has left then
-pub header_leaves : {E S : Type 0} (left : S → Option (List ℕ)) (faults : S → ℕ) (schema : Schema) (a b : Cutter S) (number : ℕ) (bytes line : List ℕ) (r : Result Header E) → line ≡ bytes → IfOk r (λ header. head_of schema line ≡ Ok header.places)
-    → GivesLine left faults a b (Bytes bytes) number → IfOk r (λ header. IsAtStart a → LeavesAccepted left schema header.places a b)
-header_leaves left faults schema a b number bytes line (Ok header) e is given = λ start. leaves_accepted left faults schema a b (Bytes bytes) header.places given.passed (rw (← e) is) start
-header_leaves left faults schema a b number bytes line (Err f) e is given = tt
+-- what is so of a header's places, where these are what the line means, is so of the header that was read
+pub header_is : {E : Type 0} (schema : Schema) (bytes line : List ℕ) (r : Result Header E) (P : List ℕ → Type 0) → ((places : List ℕ) → head_of_lines schema (Bytes bytes ∷ []) ≡ Ok places → P places) → line ≡ bytes
+    → IfOk r (λ header. head_of schema line ≡ Ok header.places) → IfOk r (λ header. P header.places)
+header_is schema bytes line (Ok header) P means e is = means header.places (rw (← e) is)
+header_is schema bytes line (Err f) P means e is = tt

@@ -1,10 +1,9 @@
 -- A row that is a point is one of the schema.
 use Rattle.std.proofs.Common.{◌≡◌, refl, ℕ, zero, suc, ◌^◌, Bool, true, false, not, nat_le, nat_lt, ◌==◌, List, [], ◌∷◌, ◌++◌, length, map, take, Option, Some, None, option_map, arith}
-use Rattle.std.specs.Prelude.{◌||◌, get_or, position}
+use Rattle.std.specs.Prelude.{get_or, position}
 use Rattle.std.specs.List.{list_any, position_or_len, zip}
 use Rattle.std.proofs.lemmas.Bool.{not-false, or_parts}
 use Rattle.std.proofs.lemmas.Bool.Decides.{nat_tests}
-use Rattle.std.proofs.lemmas.List.{length-map}
 use Rattle.cube_view.specs.Limits.{has_text, same_text}
 use Rattle.cube_view.specs.Validity.{is_weight, valid, values_fit, weight_is_told}
 use Rattle.cube_view.specs.declared.category.Category.{Category}

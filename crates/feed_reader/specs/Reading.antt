@@ -1,5 +1,5 @@
 -- What a cutter over a feed goes through as its header and its rows are read.
-use Rattle.std.specs.Prelude.{◌≡◌, ℕ, ◌≤◌, List, [], ◌∷◌, map, length, Option, Result, Ok, Err, IsSomeAnd}
+use Rattle.std.specs.Prelude.{◌≡◌, ℕ, ◌≤◌, List, [], ◌∷◌, map, length, Option, Ok, Err, IsSomeAnd}
 use Rattle.cube_view.specs.declared.schema.Schema.{Schema}
 use Rattle.outer_io.specs.Cuts.{GivesLine}
 use Rattle.outer_io.specs.Cutting.{Cutter, lines_left, rest_of}

@@ -1,4 +1,4 @@
-use Rattle.std.proofs.Common.{◌≡◌, ◌-◌}
+use Rattle.std.proofs.Common.{◌-◌}
 use Rattle.outer_io.specs.Lines.{input_limit}
 use Rattle.outer_io.specs.Progress.{IsGoing}
 use Rattle.feed_reader.proofs.tests.rows_left.Given as goal
