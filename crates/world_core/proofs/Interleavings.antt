@@ -8,8 +8,8 @@ use Rattle.std.proofs.lemmas.List.Concat.{length-flat_map}
 use Rattle.cube_view.specs.Bag.{gives, amount}
 use Rattle.cube_view.specs.Points.{Point}
 use Rattle.cube_view.specs.declared.spot.Spot.{Spot}
-use Rattle.world_core.specs.Interleaving.{entries_of, entry_points, IsInterleaving}
-use Rattle.world_core.specs.InterleavingLaws.{sum_of_feeders, lists_joined, PrefixesInterleave, CountsInterleave, ListsAreDetermined, AmountsInterleave, TablesInterleave}
+use Rattle.world_core.specs.Interleaving.{entries_of, entry_points, IsInterleaving, sum_of_feeders, lists_joined}
+use Rattle.world_core.specs.InterleavingLaws.{PrefixesInterleave, CountsInterleave, ListsAreDetermined, AmountsInterleave, TablesInterleave}
 use Rattle.world_core.specs.declared.entry.Entry.{Entry}
 use Rattle.world_core.proofs.Entries.{entries_of-append, entry_points-numbered, front_numbered, front_points}
 use Rattle.world_core.proofs.FeederSums.{range_same, sum_by_feeders}

@@ -11,9 +11,8 @@ use Rattle.cube_view.specs.Validity.{sound, valid, weight_is_told}
 use Rattle.cube_view.specs.declared.schema.Schema.{Schema}
 use Rattle.cube_view.proofs.Amounts.{amount-take}
 use Rattle.cube_view.proofs.Weighing.{amount-most}
-use Rattle.world_core.specs.Interleaving.{entry_points, list_of, IsInterleaving}
-use Rattle.world_core.specs.InterleavingLaws.{sum_of_feeders}
-use Rattle.world_core.specs.WorldLaws.{pushed_of, KeepsOrder}
+use Rattle.world_core.specs.Interleaving.{entry_points, list_of, IsInterleaving, sum_of_feeders}
+use Rattle.world_core.specs.Worlds.{pushed_of, KeepsOrder}
 use Rattle.world_core.specs.declared.world.World.{World}
 use Rattle.world_core.proofs.Interleavings.{prefixes_interleave, amounts_interleave}
 use Rattle.world_core.proofs.Worlds.{IsPrefix-then, IsPrefix-take}

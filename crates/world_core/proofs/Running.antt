@@ -10,7 +10,7 @@ use Rattle.cube_view.specs.declared.schema.Schema.{Schema}
 use Rattle.world_core.specs.Interleaving.{entry, numbered, entries_of, list_of}
 use Rattle.world_core.specs.Machine.{first_world, pushed, has_rest, after_push, after_event, world_of}
 use Rattle.world_core.specs.Parts.{deque_lists}
-use Rattle.world_core.specs.WorldLaws.{pushed_of, KeepsOrder, LooksAreFresh}
+use Rattle.world_core.specs.Worlds.{pushed_of, KeepsOrder, LooksAreFresh}
 use Rattle.world_core.specs.declared.entry.Entry.{Entry}
 use Rattle.world_core.specs.declared.event.Event.{Event}
 use Rattle.world_core.specs.declared.world.World.{World}

@@ -13,7 +13,8 @@ use Rattle.query_syntax.specs.declared.query.Query.{Query}
 use Rattle.world_core.specs.Interleaving.{numbered, entries_of, entry_points, list_of}
 use Rattle.world_core.specs.Machine.{first_world, pushed, next_entry, shot_of, is_possible, happens, after_push, after_pop, after_publish, after_tell, after_look, after_skip, after_event, after_events, world_of}
 use Rattle.world_core.specs.PairFact.{IsPrefix}
-use Rattle.world_core.specs.WorldLaws.{pushed_of, KeepsOrder, EveryWorldKeepsOrder, IsFreshLook, EveryLookIsFresh}
+use Rattle.world_core.specs.WorldLaws.{EveryWorldKeepsOrder, EveryLookIsFresh}
+use Rattle.world_core.specs.Worlds.{pushed_of, KeepsOrder, IsFreshLook}
 use Rattle.world_core.specs.declared.entry.Entry.{Entry}
 use Rattle.world_core.specs.declared.event.Event.{Event}
 use Rattle.world_core.specs.declared.event.Event.TheVariants.{Push, Pop, Publish, Tell, Look}

@@ -1,6 +1,6 @@
 -- Interleavings: lists of entries in which those of each feeder have the order of its list.
 use Rattle.std.specs.Prelude.{◌≡◌, ℕ, ◌+◌, ◌-◌, ◌≤◌, ◌==◌, List, [], ◌∷◌, All, length, map, slice_index_or}
-use Rattle.std.specs.List.{filter}
+use Rattle.std.specs.List.{filter, flat_map, range_with_len, sum_by}
 use Rattle.cube_view.specs.Points.{Point}
 use Rattle.world_core.specs.declared.entry.Entry.{Entry}
 
@@ -36,3 +36,11 @@ list_of lists f = slice_index_or lists (f - 1) []
 -- the entries are an interleaving of these lists
 abbrev pub IsInterleavingOf : List (List Point) → List Entry → Type 0
 IsInterleavingOf lists entries = IsInterleaving (length lists) (list_of lists) entries
+
+-- a sum over the feeders
+abbrev pub sum_of_feeders : ℕ → (ℕ → ℕ) → ℕ
+sum_of_feeders feeders n = sum_by n (range_with_len 1 feeders)
+
+-- the lists of the feeders, one after the other
+abbrev pub lists_joined : ℕ → (ℕ → List Point) → List Point
+lists_joined feeders lists = flat_map lists (range_with_len 1 feeders)

@@ -1,23 +1,14 @@
 -- Laws of interleavings, as statements.
 use Rattle.std.specs.Prelude.{◌≡◌, ℕ, ◌≤◌, Bool, List, ◌++◌, length}
-use Rattle.std.specs.List.{sum_by, flat_map, range_with_len}
 use Rattle.cube_view.specs.Bag.{amount}
 use Rattle.cube_view.specs.Points.{Point}
 use Rattle.cube_view.specs.declared.schema.Schema.{Schema}
 use Rattle.cube_view.specs.declared.spot.Spot.{Spot}
 use Rattle.query_syntax.specs.Tables.{table}
 use Rattle.query_syntax.specs.declared.query.Query.{Query}
-use Rattle.world_core.specs.Interleaving.{entry_points, IsInterleaving}
+use Rattle.world_core.specs.Interleaving.{entry_points, IsInterleaving, sum_of_feeders, lists_joined}
 use Rattle.world_core.specs.PairFact.{IsPrefix}
 use Rattle.world_core.specs.declared.entry.Entry.{Entry}
-
--- a sum over the feeders
-abbrev pub sum_of_feeders : ℕ → (ℕ → ℕ) → ℕ
-sum_of_feeders feeders n = sum_by n (range_with_len 1 feeders)
-
--- the lists of the feeders, one after the other
-abbrev pub lists_joined : ℕ → (ℕ → List Point) → List Point
-lists_joined feeders lists = flat_map lists (range_with_len 1 feeders)
 
 -- a prefix of an interleaving is an interleaving of prefixes
 abbrev pub PrefixesInterleave : Type 0

@@ -5,3 +5,4 @@ pub mod Machine
 pub mod PairFact
 pub mod Parts
 pub mod WorldLaws
+pub mod Worlds

@@ -7,7 +7,7 @@ ghost use Rattle.query_syntax.specs.Tables.{has_table as asks_table};
 ghost use Rattle.world_core.specs.Interleaving.{entry_points};
 ghost use Rattle.world_core.specs.Machine.{first_world, has_rest as rest_is_left, is_possible as can_happen, happens, after_push, after_pop, after_publish, after_tell, after_look, after_event};
 ghost use Rattle.world_core.specs.Parts.{deque_lists, world_now};
-ghost use Rattle.world_core.specs.WorldLaws.{KeepsOrder};
+ghost use Rattle.world_core.specs.Worlds.{KeepsOrder};
 
 use crate::{Entry, Event, Shot, World};
 use cube_view::{Point, Schema};

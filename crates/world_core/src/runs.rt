@@ -2,7 +2,7 @@
 ghost use Rattle.std.specs.Prelude.{◌≡◌, ◌<◌, ◌≤◌, ◌^◌, length, All, IfOk, IsTrue};
 ghost use Rattle.cube_view.specs.Validity.{valid};
 ghost use Rattle.world_core.specs.Machine.{world_of};
-ghost use Rattle.world_core.specs.WorldLaws.{KeepsOrder, LooksAreFresh};
+ghost use Rattle.world_core.specs.Worlds.{KeepsOrder, LooksAreFresh};
 
 use crate::machine::Machine;
 use crate::{Event, World};
