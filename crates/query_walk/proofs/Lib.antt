@@ -2,6 +2,7 @@ pub mod Addresses
 pub mod Boxed
 pub mod Costing
 pub mod Descends
+pub mod Numbers
 pub mod Sets
 pub mod Spans
 pub mod Sums

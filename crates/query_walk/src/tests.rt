@@ -1,50 +1,38 @@
-//! Totals of query lines over plain cubes, against numbers that were counted by hand.
-ghost use Rattle.std.specs.Prelude.{◌≡◌, ◌<◌, ◌∷◌, [], IfOk, codes};
+//! Totals of query lines over plain cubes, against numbers that were counted by hand, and how many steps they take.
+ghost use Rattle.std.specs.Prelude.{◌≡◌, ◌+◌, ◌^◌, ◌≤◌, ◌∷◌, [], IfOk};
+ghost use Rattle.plain_cube.specs.Kept.{points_of, schema_of};
+ghost use Rattle.probe_core.specs.Blanks.{IsBlankOf};
 
 use crate::total;
-use cube_view::{Category, CubeView, Point, Schema, Spot, is_valid};
-use outer_io::{List, NoMemory, Text};
+use cube_view::{CubeView, Point, Schema, Tile, is_sound};
+use example_schemas::{point, schema_of_kinds, schema_of_two_categories};
+use outer_io::NoMemory;
 use plain_cube::PlainCube;
 use probe_core::Steps;
-use query_syntax::{Parsed, parse};
+use query_syntax::{Choice, Parsed, Query, Span, Verb, parse};
 use std::alloc::Global;
 use std::marker::Brand;
 use std::process::Abort;
 use std::sync::ledger::{Blank, Ledger};
 use std::test::Fail;
 
-/// A category of two values.
-fn category(alloc: Global, name: &str, first: &str, second: &str) -> Result<Category, Fail>
-    ensures name { IfOk result (λ c. c.name ≡ name.now) }
-    ensures values { IfOk result (λ c. c.values ≡ first.now ∷ second.now ∷ []) }
+/// A cube of these points.
+fn cube_of(
+    rt: &impl Abort,
+    alloc: Global,
+    schema: Schema,
+    points: &[Point],
+) -> Result<PlainCube, NoMemory>
+    ensures schema { IfOk result (λ cube. schema_of cube ≡ schema) }
+    ensures points { IfOk result (λ cube. points_of cube ≡ points.now) }
 {
-    let name = Text::copy_of(alloc, name)?;
-    let first = Text::copy_of(alloc, first)?;
-    let second = Text::copy_of(alloc, second)?;
-    let values = List::from_vec(vec![in alloc; first, second]?);
-    Ok(Category { name, values })
-}
-
-/// Depth 3 and a category of a and b.
-fn schema_of_kinds(alloc: Global) -> Result<Schema, Fail> {
-    let kind = category(alloc, "kind", "a", "b")?;
-    let categories = List::from_vec(vec![in alloc; kind]?);
-    Ok(Schema::new(3, categories, 0, 10, 1))
-}
-
-/// Depth 1, a category of a and b, and one of c and d.
-fn schema_of_two_categories(alloc: Global) -> Result<Schema, Fail> {
-    let first = category(alloc, "k", "a", "b")?;
-    let second = category(alloc, "m", "c", "d")?;
-    let categories = List::from_vec(vec![in alloc; first, second]?);
-    Ok(Schema::new(1, categories, 0, 1, 1))
-}
-
-/// Points, and the totals of lines over them.
-#[derive(Drop)]
-struct Case<'a> {
-    points: &'a [Point],
-    totals: &'a [(&'a str, u64)],
+    let mut cube = PlainCube::new(alloc, schema);
+    for point in points {
+        assert!(rt; is_sound(cube.schema(), point));
+        assert!(rt; cube.seen() < 1 << 35);
+        cube.insert(*point)?;
+    }
+    Ok(cube)
 }
 
 /// The total of the query that the line asks for, if it is one.
@@ -63,88 +51,143 @@ fn total_of_line<V: CubeView, L: Ledger>(
 fn check_in<L: Ledger>(
     rt: &impl Abort,
     alloc: Global,
-    schema: Schema,
-    case: &Case,
+    cube: &PlainCube,
+    totals: &[(&str, u64)],
     blank: Blank,
 ) -> Result<(), NoMemory>
-    requires name { blank.name ≡ L.name }
-    requires parts { blank.parts ≡ L.parts }
-    requires some { 0 < blank.parts }
+    requires { IsBlankOf L.name L.parts blank }
 {
     let mut steps = Steps::<L>::new(blank);
-    let mut cube = PlainCube::new(alloc, schema);
-    for point in case.points {
-        assert!(rt; is_valid(cube.schema(), point));
-        cube.insert(*point)?;
-    }
-    for (line, want) in case.totals {
-        let got = total_of_line(alloc, &cube, line, &mut steps)?;
+    for (line, want) in totals {
+        let got = total_of_line(alloc, cube, line, &mut steps)?;
         assert_eq!(rt; got, Some(*want), "at {line}");
     }
     Ok(())
 }
 
-fn check(rt: &impl Abort, alloc: Global, schema: Schema, case: &Case) -> Result<(), NoMemory> {
-    check_in::<Brand>(rt, alloc, schema, case, Blank::new(1))
+fn check(
+    rt: &impl Abort,
+    alloc: Global,
+    cube: &PlainCube,
+    totals: &[(&str, u64)],
+) -> Result<(), NoMemory> {
+    check_in::<Brand>(rt, alloc, cube, totals, Blank::new(1))
 }
 
-fn spot(x: u32, y: u32, values: [u8; 4], bin: u32) -> Spot {
-    Spot { x, y, values, bin }
+/// Two records at (0, 0), of value a, and one at (7, 7), of value b.
+fn three_records(rt: &impl Abort, alloc: Global) -> Result<PlainCube, NoMemory> {
+    let points = [point(0, 0, 0, 0), point(7, 7, 1, 1), point(0, 0, 0, 1)];
+    cube_of(rt, alloc, schema_of_kinds(alloc)?, &points)
 }
 
 #[test]
 fn counts_three_records(rt: HostRuntime) -> Result<(), Fail> {
-    let case = Case {
-        points: &[
-            spot(0, 0, [0; 4], 0),
-            spot(7, 7, [1, 0, 0, 0], 1),
-            spot(0, 0, [0; 4], 1),
-        ],
-        totals: &[
-            ("count", 3),
-            ("count in 1/0/0", 2),
-            ("count in 3/7/7", 1),
-            ("count in 1/1/0", 0),
-            ("count with kind=a|b time 0 1", 1),
-            ("count with kind=b", 1),
-            ("count in 1/0/0 with kind=b", 0),
-            ("count with kind=a time 1 2", 1),
-        ],
-    };
-    check(&rt, rt.alloc(), schema_of_kinds(rt.alloc())?, &case)?;
+    let cube = three_records(&rt, rt.alloc())?;
+    let totals = [
+        ("count", 3),
+        ("count in 1/0/0", 2),
+        ("count in 3/7/7", 1),
+        ("count in 1/1/0", 0),
+        ("count with kind=a|b time 0 1", 1),
+        ("count with kind=b", 1),
+        ("count in 1/0/0 with kind=b", 0),
+        ("count with kind=a time 1 2", 1),
+    ];
+    check(&rt, rt.alloc(), &cube, &totals)?;
     Ok(())
 }
 
 #[test]
 fn counts_by_two_categories(rt: HostRuntime) -> Result<(), Fail> {
-    let case = Case {
-        points: &[
-            spot(0, 0, [0; 4], 0),
-            spot(1, 0, [0, 1, 0, 0], 0),
-            spot(0, 0, [0; 4], 0),
-        ],
-        totals: &[
-            ("count with m=c", 2),
-            ("count with k=a with m=d", 1),
-            ("count with k=b", 0),
-            ("count in 1/1/0 with m=d", 1),
-        ],
-    };
-    check(
-        &rt,
-        rt.alloc(),
-        schema_of_two_categories(rt.alloc())?,
-        &case,
-    )?;
+    let mut second = point(1, 0, 0, 0);
+    second.spot.values[1] = 1;
+    let points = [point(0, 0, 0, 0), second, point(0, 0, 0, 0)];
+    let schema = schema_of_two_categories(rt.alloc())?;
+    let cube = cube_of(&rt, rt.alloc(), schema, &points)?;
+    let totals = [
+        ("count with m=c", 2),
+        ("count with k=a with m=d", 1),
+        ("count with k=b", 0),
+        ("count in 1/1/0 with m=d", 1),
+    ];
+    check(&rt, rt.alloc(), &cube, &totals)?;
+    Ok(())
+}
+
+#[test]
+fn a_total_is_the_sum_of_weights(rt: HostRuntime) -> Result<(), Fail> {
+    let mut first = point(0, 0, 0, 0);
+    first.weight = 5;
+    let mut second = point(7, 7, 1, 1);
+    second.weight = 2;
+    let schema = schema_of_kinds(rt.alloc())?;
+    let cube = cube_of(&rt, rt.alloc(), schema, &[first, second])?;
+    let totals = [
+        ("count", 7),
+        ("count in 1/0/0", 5),
+        ("count with kind=b", 2),
+    ];
+    check(&rt, rt.alloc(), &cube, &totals)?;
     Ok(())
 }
 
 #[test]
 fn a_cube_of_no_points_has_no_total(rt: HostRuntime) -> Result<(), Fail> {
-    let case = Case {
-        points: &[],
-        totals: &[("count", 0), ("count in 3/0/0 with kind=a", 0)],
-    };
-    check(&rt, rt.alloc(), schema_of_kinds(rt.alloc())?, &case)?;
+    let cube = PlainCube::new(rt.alloc(), schema_of_kinds(rt.alloc())?);
+    let totals = [("count", 0), ("count in 3/0/0 with kind=a", 0)];
+    check(&rt, rt.alloc(), &cube, &totals)?;
+    Ok(())
+}
+
+/// The count of a tile, of all values and bins.
+fn count_of(region: Tile) -> Query
+    ensures { result ≡ record { verb = Verb.Count; region = region; sets = Choice.All ∷ Choice.All ∷ Choice.All ∷ Choice.All ∷ []; time = record { from = 0; to = 2 ^ 32 } } }
+{
+    Query {
+        verb: Verb::Count,
+        region,
+        sets: [Choice::All; 4],
+        time: Span {
+            from: 0,
+            to: 1 << 32,
+        },
+    }
+}
+
+/// Each of three points is looked at once: the first down of the way to the tile finds nothing.
+fn counts_a_corner<L: Ledger>(
+    rt: &impl Abort,
+    alloc: Global,
+    steps: &mut Steps<L>,
+) -> Result<u64, NoMemory>
+    ensures { steps.new ≤ steps.old + 3 }
+{
+    let points = [point(0, 0, 0, 0), point(7, 7, 1, 1), point(0, 0, 0, 1)];
+    let cube = cube_of(rt, alloc, schema_of_kinds(alloc)?, &points)?;
+    let corner = count_of(Tile { z: 3, x: 0, y: 7 });
+    Ok(total(&cube, &corner, steps))
+}
+
+/// The step across finds nothing.
+fn counts_no_points<L: Ledger>(alloc: Global, steps: &mut Steps<L>) -> Result<u64, NoMemory>
+    ensures { steps.new ≤ steps.old + 1 }
+{
+    let cube = PlainCube::new(alloc, schema_of_kinds(alloc)?);
+    let all = count_of(Tile { z: 0, x: 0, y: 0 });
+    Ok(total(&cube, &all, steps))
+}
+
+fn few_steps<L: Ledger>(rt: &impl Abort, alloc: Global, blank: Blank) -> Result<(), NoMemory>
+    requires { IsBlankOf L.name L.parts blank }
+{
+    let mut steps = Steps::<L>::new(blank);
+    assert_eq!(rt; counts_a_corner(rt, alloc, &mut steps)?, 0);
+    assert_eq!(rt; counts_no_points(alloc, &mut steps)?, 0);
+    Ok(())
+}
+
+#[test]
+fn a_search_that_finds_nothing_ends_there(rt: HostRuntime) -> Result<(), Fail> {
+    few_steps::<Brand>(&rt, rt.alloc(), Blank::new(1))?;
     Ok(())
 }
