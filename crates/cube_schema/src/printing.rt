@@ -42,7 +42,7 @@ fn categories_value(alloc: Global, categories: &[Category]) -> Result<Value, All
 
 // The object with the name of the weight column among its members.
 fn with_weight_member(alloc: Global, value: Value, name: &str) -> Result<Value, AllocError>
-    ensures { IfOk result (λ made. (members : Members) → view value ≡ object members → view made ≡ object (put (codes "weight") (string name.now) members)) }
+    ensures { IfOk result (λ made. (ms : Members) → view value ≡ object ms → view made ≡ object (put (codes "weight") (string name.now) ms)) }
 {
     match value {
         Value::Object(mut members) => {
