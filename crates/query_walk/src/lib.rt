@@ -1,9 +1,14 @@
 //! The total of a query over any cube view.
 //!
-//! [`total`] walks from all of space to the query's region, through each category, by the values of its
-//! set where it has one, and to time, where it reads two running totals. So its steps are bounded by the
-//! number of addresses that the query asks for, not by the number of points: `specs/Costs.antt`.
-//! [`total_in_box`] does so for each query whose box can be walked, as the rows of a table ask them.
+//! [`total`] walks from all of space to the query's region, through each category, by the values of its set where it
+//! has one, and to time, where it reads two running totals. So its steps are bounded by what the query's addresses
+//! cost, one by one, and a walk that finds nothing ends there: `specs/Costs.antt`. [`total_in_box`] does so for each
+//! query whose box can be walked, as the rows of a table ask them. The crate stands on `cube_view` and `query_syntax`;
+//! which rows a table has is left to `tile_drill`.
+//!
+//! ```text
+//! total(&view, &query, &mut steps)     // of `count in 3/0/7`: what the bag weighs in that tile
+//! ```
 #![tactic(auto)]
 
 mod categories;

@@ -1,0 +1,43 @@
+-- The bound of the map of the tests, as a number.
+use Rattle.std.proofs.Common.{◌≡◌, ℕ, ◌≤◌, ◌^◌, IsTrue, List, [], ◌∷◌, refl, sym, subst, lit≤}
+use Rattle.cube_view.specs.Bag.{amount}
+use Rattle.cube_view.specs.Points.{Point, point_at}
+use Rattle.cube_view.specs.declared.schema.Schema.{Schema}
+use Rattle.example_schemas.specs.Examples.{kinds}
+use Rattle.plain_cube.specs.Listed.{scan_costs}
+use Rattle.query_syntax.specs.Queries.{is_valid_query}
+use Rattle.query_syntax.specs.Tables.{has_table}
+use Rattle.query_syntax.specs.declared.query.Choice.TheVariants.{All}
+use Rattle.query_syntax.specs.declared.query.Query.{Query}
+use Rattle.query_syntax.specs.declared.query.Verb.TheVariants.{Map}
+use Rattle.tile_drill.specs.Costs.{table_cost}
+
+-- the map one level below the tile 1/1/0, of all values and bins
+abbrev pub empty_map : Query
+empty_map = record { verb = Map 1; region = record { z = 1; x = 1; y = 0 }; sets = All ∷ All ∷ All ∷ All ∷ []; time = record { from = 0; to = 2 ^ 32 } }
+
+-- two points at (0, 0), of value a, and one at (7, 7), of value b
+abbrev pub three : List Point
+three = point_at (record { x = 0; y = 0; values = 0 ∷ 0 ∷ 0 ∷ 0 ∷ []; bin = 0 })
+    ∷ point_at (record { x = 7; y = 7; values = 1 ∷ 0 ∷ 0 ∷ 0 ∷ []; bin = 1 })
+    ∷ point_at (record { x = 0; y = 0; values = 0 ∷ 0 ∷ 0 ∷ 0 ∷ []; bin = 1 })
+    ∷ []
+
+valid_is : IsTrue (is_valid_query kinds empty_map)
+unfolding is_valid_query
+valid_is = refl
+
+cost_is : table_cost (scan_costs three) kinds three empty_map empty_map.verb ≤ 3
+unfolding amount
+cost_is = lit≤ tt
+
+module _ (z : Schema) (q : Query) (same : z ≡ kinds) (is : q ≡ empty_map) where
+  pub map_valid : IsTrue (is_valid_query z q)
+  map_valid = subst (λ (y : Schema). IsTrue (is_valid_query y q)) (sym same) (subst (λ (p : Query). IsTrue (is_valid_query kinds p)) (sym is) valid_is)
+
+  pub map_has_table : IsTrue (has_table q.verb)
+  map_has_table = subst (λ (p : Query). IsTrue (has_table p.verb)) (sym is) refl
+
+  pub map_few : (h : List Point) → h ≡ three → table_cost (scan_costs h) z h q q.verb ≤ 3
+  map_few h points =
+      subst (λ (y : Schema). table_cost (scan_costs h) y h q q.verb ≤ 3) (sym same) (subst (λ (p : Query). table_cost (scan_costs h) kinds h p p.verb ≤ 3) (sym is) (subst (λ (k : List Point). table_cost (scan_costs k) kinds k empty_map empty_map.verb ≤ 3) (sym points) cost_is))
