@@ -1,14 +1,13 @@
 -- Laws of the costs of a walk.
-use Rattle.std.proofs.Common.{◌≡◌, ℕ, zero, suc, ◌+◌, ◌-◌, ◌<◌, ◌≤◌, Bool, true, false, cond, List, refl, sym, ap, ◌∙◌, arith, add-one, add-zero, add-suc}
+use Rattle.std.proofs.Common.{◌≡◌, ℕ, zero, suc, ◌+◌, ◌-◌, ◌<◌, ◌≤◌, Bool, true, false, List, sym, ap, ◌∙◌, arith, add-one, add-zero, add-suc}
 use Rattle.std.proofs.lemmas.Bool.{lt-ltb, or_right}
 use Rattle.cube_view.specs.Bag.{amount}
 use Rattle.cube_view.specs.Costs.{ViewCosts, has_spot, is_found, cost_if, down_in_space, space_cost}
-use Rattle.cube_view.specs.Places.{is_below, is_under, longer_tile, tile_at, tile_label, region_address, longer}
+use Rattle.cube_view.specs.Places.{is_below, is_under, longer_tile, tile_at, tile_label, region_address}
 use Rattle.cube_view.specs.Points.{Point}
 use Rattle.cube_view.specs.declared.address.Address.{Address}
 use Rattle.cube_view.specs.declared.address.Tile.{Tile}
 use Rattle.cube_view.specs.declared.schema.Schema.{Schema}
-use Rattle.cube_view.specs.declared.spot.Spot.{Spot}
 use Rattle.cube_view.proofs.Amounts.{amount-less}
 use Rattle.cube_view.proofs.TileWays.{longer-tile_label, is_under-quadrant}
 
