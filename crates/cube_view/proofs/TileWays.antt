@@ -8,10 +8,6 @@ use Rattle.cube_view.specs.declared.schema.Schema.{Schema}
 use Rattle.cube_view.specs.declared.spot.Spot.{Spot}
 use Rattle.cube_view.proofs.Shifting.{bit_more, shifted_up, low_bit, high_bit, bits_of_label, by_one}
 
--- a coordinate at the next level is twice that of the level, and its bit
-pub shifted-suc : (z i n : ℕ) → i < z → 2 * shifted z i n + bit_at z (i + 1) n ≡ shifted z (i + 1) n
-shifted-suc = bit_more
-
 -- the tile of the next level is longer by its label
 pub longer-tile_label : (t : Tile) (i : ℕ) → i < t.z → longer (region_address (tile_at t i)) (tile_label t (i + 1)) ≡ region_address (tile_at t (i + 1))
 longer-tile_label t i lt =
