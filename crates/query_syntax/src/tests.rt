@@ -122,7 +122,7 @@ fn reads_filters_in_any_order(rt: HostRuntime) -> Result<(), Fail> {
 
 /// A query of which some values count, or all, and whether a schema takes it.
 #[derive(Clone, Copy)]
-struct Asked<'a> {
+struct TriedQuery<'a> {
     verb: Verb,
     z: u8,
     x: u32,
@@ -134,8 +134,8 @@ struct Asked<'a> {
 
 const END: u64 = 1 << 32;
 
-fn asked<'a>(verb: Verb, z: u8, x: u32, is_taken: bool) -> Asked<'a> {
-    Asked {
+fn tried<'a>(verb: Verb, z: u8, x: u32, is_taken: bool) -> TriedQuery<'a> {
+    TriedQuery {
         verb,
         z,
         x,
@@ -146,8 +146,8 @@ fn asked<'a>(verb: Verb, z: u8, x: u32, is_taken: bool) -> Asked<'a> {
     }
 }
 
-fn asked_with(values: &[u8], is_taken: bool) -> Asked<'_> {
-    Asked {
+fn tried_with(values: &[u8], is_taken: bool) -> TriedQuery<'_> {
+    TriedQuery {
         verb: Verb::Count,
         z: 3,
         x: 7,
@@ -158,8 +158,8 @@ fn asked_with(values: &[u8], is_taken: bool) -> Asked<'_> {
     }
 }
 
-fn asked_in<'a>(verb: Verb, from: u64, to: u64, is_taken: bool) -> Asked<'a> {
-    Asked {
+fn tried_in<'a>(verb: Verb, from: u64, to: u64, is_taken: bool) -> TriedQuery<'a> {
+    TriedQuery {
         verb,
         z: 0,
         x: 0,
@@ -187,23 +187,23 @@ fn choice_of(values: Option<&[u8]>) -> Choice {
     }
 }
 
-fn is_taken(schema: &Schema, asked: &Asked) -> bool {
+fn is_taken(schema: &Schema, tried: &TriedQuery) -> bool {
     let query = Query {
-        verb: asked.verb,
+        verb: tried.verb,
         region: Tile {
-            z: asked.z,
-            x: asked.x,
+            z: tried.z,
+            x: tried.x,
             y: 0,
         },
         sets: [
-            choice_of(asked.values),
+            choice_of(tried.values),
             Choice::All,
             Choice::All,
             Choice::All,
         ],
         time: Span {
-            from: asked.from,
-            to: asked.to,
+            from: tried.from,
+            to: tried.to,
         },
     };
     is_valid_query(schema, &query)
@@ -212,31 +212,31 @@ fn is_taken(schema: &Schema, asked: &Asked) -> bool {
 #[test]
 fn takes_queries_up_to_the_ends_of_their_ranges(rt: HostRuntime) -> Result<(), Fail> {
     let cases = [
-        asked(Verb::Count, 3, 7, true),
-        asked(Verb::Count, 4, 0, false),
-        asked(Verb::Count, 3, 8, false),
-        asked_with(&[1], true),
-        asked_with(&[], false),
-        asked_with(&[0, 1], false),
-        asked_with(&[2], false),
-        asked_in(Verb::Count, END, END, true),
-        asked_in(Verb::Count, 1, 0, false),
-        asked_in(Verb::Count, 0, END + 1, false),
-        asked_in(Verb::Hist(0), 0, 0, true),
-        asked_in(Verb::Hist(1), 0, 0, false),
-        asked(Verb::Map(3), 0, 0, true),
-        asked(Verb::Map(0), 3, 0, true),
-        asked(Verb::Map(4), 0, 0, false),
-        asked(series(0, 1, 1), 0, 0, true),
-        asked(series(END - 1, END, 10_000), 0, 0, true),
-        asked(series(END, 1, 1), 0, 0, false),
-        asked(series(0, 0, 1), 0, 0, false),
-        asked(series(0, 1, 10_001), 0, 0, false),
-        asked_in(series(0, 1, 1), 0, 1, false),
-        asked(Verb::Stat, 0, 0, true),
-        asked(Verb::Told, 0, 0, true),
-        asked(Verb::Quit, 0, 0, true),
-        asked(Verb::Quit, 1, 0, false),
+        tried(Verb::Count, 3, 7, true),
+        tried(Verb::Count, 4, 0, false),
+        tried(Verb::Count, 3, 8, false),
+        tried_with(&[1], true),
+        tried_with(&[], false),
+        tried_with(&[0, 1], false),
+        tried_with(&[2], false),
+        tried_in(Verb::Count, END, END, true),
+        tried_in(Verb::Count, 1, 0, false),
+        tried_in(Verb::Count, 0, END + 1, false),
+        tried_in(Verb::Hist(0), 0, 0, true),
+        tried_in(Verb::Hist(1), 0, 0, false),
+        tried(Verb::Map(3), 0, 0, true),
+        tried(Verb::Map(0), 3, 0, true),
+        tried(Verb::Map(4), 0, 0, false),
+        tried(series(0, 1, 1), 0, 0, true),
+        tried(series(END - 1, END, 10_000), 0, 0, true),
+        tried(series(END, 1, 1), 0, 0, false),
+        tried(series(0, 0, 1), 0, 0, false),
+        tried(series(0, 1, 10_001), 0, 0, false),
+        tried_in(series(0, 1, 1), 0, 1, false),
+        tried(Verb::Stat, 0, 0, true),
+        tried(Verb::Told, 0, 0, true),
+        tried(Verb::Quit, 0, 0, true),
+        tried(Verb::Quit, 1, 0, false),
     ];
     let schema = schema_of_kinds(rt.alloc())?;
     for case in cases {
