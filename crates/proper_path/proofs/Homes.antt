@@ -1,0 +1,113 @@
+-- The homes of the slots, as the arena grows.
+use Rattle.std.proofs.Common.{◌≡◌, ℕ, zero, suc, ◌<◌, ◌≤◌, ◌⊎◌, inl, inr, List, [], ◌∷◌, ◌++◌, Some, length, sym, ap, ◌∙◌, subst, arith, ap₂, subst₂}
+use Rattle.std.proofs.lemmas.List.{get_or_append_left, get_or_push, length_push}
+use Rattle.std.proofs.lemmas.Bool.{cases_lt}
+use Rattle.cube_view.specs.Walks.{Step, Walk, IsCoarser}
+use Rattle.node_arena.specs.Slots.{target, proper, shared, Slot, link, link_of}
+use Rattle.node_arena.specs.Shape.{home_of, HasHomes, IsOwned}
+use Rattle.proper_path.specs.Changes.{IsGrown, Came, of_new, of_set, of_old, of_none}
+use Rattle.node_arena.proofs.Linked.{linked-lt}
+use Rattle.proper_path.proofs.Links.{proper≢shared}
+
+pub home-push_old : (homes : List Walk) (a : Walk) (i : ℕ) → i < length homes → home_of (homes ++ a ∷ []) i ≡ home_of homes i
+home-push_old homes a i l = get_or_append_left homes (a ∷ []) [] i l
+
+pub home-push_new : (homes : List Walk) (a : Walk) (n : ℕ) → length homes ≡ n → home_of (homes ++ a ∷ []) n ≡ a
+home-push_new homes a n e = get_or_push homes a [] n e
+
+-- the link at i and e is no proper one
+abbrev pub IsFree : List Slot → ℕ → Step → Type 0
+IsFree slots i e = (j : ℕ) → link_of slots i e ≡ Some (proper j) → ⊥
+
+-- so no slot has its home at the link's address
+pub home_free : (slots : List Slot) (homes : List Walk) → HasHomes slots homes → (i : ℕ) (e : Step) → i < length slots → IsFree slots i e → (j : ℕ) → j < length slots → home_of homes j ≡ e ∷ home_of homes i → ⊥
+home_free slots homes H i e l free zero lt eq = let r : [] ≡ e ∷ home_of homes i = sym H.root ∙ eq in absurd cc
+home_free slots homes H i e l free (suc k) lt eq =
+    let o = H.owner (suc k) (omega arith) lt in
+    let a = H.at_home o.by (suc k) o.step o.owns in
+    let same : o.step ∷ home_of homes o.by ≡ e ∷ home_of homes i = sym a.1 ∙ eq in
+    let s : o.step ≡ e = cc in
+    let b : home_of homes o.by ≡ home_of homes i = cc in
+    let i' : o.by ≡ i = H.distinct o.by i (linked-lt slots o.by o.step (proper (suc k)) o.owns) l b in
+    free (suc k) (subst (λ x. link_of slots x e ≡ Some (proper (suc k))) i' (subst (λ x. link_of slots o.by x ≡ Some (proper (suc k))) s o.owns))
+
+-- a slot whose links are shared, and lead to slots that are finer than their address
+pub record FitsAt (slots : List Slot) (homes : List Walk) (a : Walk) (s : Slot) : Type 0 where
+  pub no_proper : (f : Step) (j : ℕ) → link s f ≡ Some (proper j) → ⊥
+  pub finer : (f : Step) (j : ℕ) → link s f ≡ Some (shared j) → (j < length slots) × IsCoarser (f ∷ a) (home_of homes j)
+
+-- an index of the new arena is an old one or the added one
+pub cases_grown : (n j m : ℕ) → m ≡ suc n → j < m → (j < n) ⊎ (j ≡ n)
+cases_grown n j m e l = go (cases_lt j n)
+  where
+    go : (j < n) ⊎ (n ≤ j) → (j < n) ⊎ (j ≡ n)
+    go (inl x) = inl x
+    go (inr x) = inr (omega arith)
+
+pub homes_grown : (old new : List Slot) (homes : List Walk) (i : ℕ) (e : Step) (s : Slot) → IsGrown old new i e s → HasHomes old homes → IsFree old i e → FitsAt old homes (e ∷ home_of homes i) s → HasHomes new (homes ++ (e ∷ home_of homes i) ∷ [])
+homes_grown old new homes i e s G H free fits = record {
+  owned = record {
+    size = omega (arith, length_push homes A, H.size, G.size);
+    some = omega (arith, G.size);
+    root = was 0 H.some ∙ H.root;
+    distinct = λ j k lj lk eq. distinct j k eq (cases_grown n j (length new) G.size lj) (cases_grown n k (length new) G.size lk);
+    owner = λ j p l. owner j p (cases_grown n j (length new) G.size l);
+    at_home = λ j k f h. at_home j k f h (G.came j f);
+  };
+  finer = λ j k f h. finer j k f h (G.came j f);
+}
+  where
+    A : Walk
+    A = e ∷ home_of homes i
+
+    homes' : List Walk
+    homes' = homes ++ A ∷ []
+
+    n : ℕ
+    n = length old
+
+    was : (j : ℕ) → j < length old → home_of homes' j ≡ home_of homes j
+    was j l = home-push_old homes A j (omega (arith, H.size))
+
+    is_new : home_of homes' (length old) ≡ A
+    is_new = home-push_new homes A (length old) H.size
+
+    distinct : (j k : ℕ) → home_of homes' j ≡ home_of homes' k → (j < n) ⊎ (j ≡ n) → (k < n) ⊎ (k ≡ n) → j ≡ k
+    distinct j k eq (inl a) (inl b) = H.distinct j k a b (sym (was j a) ∙ (eq ∙ was k b))
+    distinct j k eq (inl a) (inr b) = absurd (home_free old homes H i e G.place free j a (sym (was j a) ∙ (eq ∙ (ap (home_of homes') b ∙ is_new))))
+    distinct j k eq (inr a) (inl b) = absurd (home_free old homes H i e G.place free k b (sym (was k b) ∙ (sym eq ∙ (ap (home_of homes') a ∙ is_new))))
+    distinct j k eq (inr a) (inr b) = a ∙ sym b
+
+    owner : (j : ℕ) → 0 < j → (j < n) ⊎ (j ≡ n) → IsOwned new j
+    owner j p (inl l) =
+        let o = H.owner j p l in
+        record { by = o.by; step = o.step; owns = G.old_link o.by o.step (linked-lt old o.by o.step (proper j) o.owns) (λ x y. free j (subst (λ z. link_of old z e ≡ Some (proper j)) x (subst (λ z. link_of old o.by z ≡ Some (proper j)) y o.owns))) ∙ o.owns }
+    owner j p (inr x) = record { by = i; step = e; owns = G.set_link ∙ ap (λ z. Some (proper z)) (sym x) }
+
+    at_home : (j k : ℕ) (f : Step) → link_of new j f ≡ Some (proper k) → Came old i e s (Some (proper (length old))) j f (link_of new j f) → (k < length new) × (home_of homes' k ≡ f ∷ home_of homes' j)
+    at_home j k f h (of_new en el) = absurd (fits.no_proper f k (sym el ∙ h))
+    at_home j k f h (of_set ei ee el) =
+        let kp : proper k ≡ proper (length old) = cc in let kn : k ≡ length old = ap target kp in
+        (omega (arith, G.size), ap (home_of homes') kn ∙ (is_new ∙ ap₂ ◌∷◌ (sym ee) (ap (home_of homes) (sym ei) ∙ sym (was j (subst (λ z. z < length old) (sym ei) G.place)))))
+    at_home j k f h (of_old l ne el) =
+        let r = H.at_home j k f (sym el ∙ h) in
+        (omega (arith, G.size), was k r.0 ∙ (r.1 ∙ ap (λ z. f ∷ z) (sym (was j l))))
+    at_home j k f h (of_none el) = absurd cc
+
+    finer : (j k : ℕ) (f : Step) → link_of new j f ≡ Some (shared k) → Came old i e s (Some (proper (length old))) j f (link_of new j f) → (k < length new) × IsCoarser (f ∷ home_of homes' j) (home_of homes' k)
+    finer j k f h (of_new en el) =
+        let r = fits.finer f k (sym el ∙ h) in
+        (omega (arith, G.size), subst₂ (λ x y. IsCoarser (f ∷ x) y) (sym is_new ∙ ap (home_of homes') (sym en)) (sym (was k r.0)) r.1)
+    finer j k f h (of_set ei ee el) = absurd (proper≢shared (length old) k (let m : Some (proper (length old)) ≡ Some (shared k) = sym el ∙ h in cc))
+    finer j k f h (of_old l ne el) =
+        let r = H.finer j k f (sym el ∙ h) in
+        (omega (arith, G.size), subst₂ (λ x y. IsCoarser (f ∷ x) y) (sym (was j l)) (sym (was k r.0)) r.1)
+    finer j k f h (of_none el) = absurd cc
+
+-- (i): a slot has one proper link at most
+pub one_owner : (slots : List Slot) (homes : List Walk) → HasHomes slots homes → (i k j : ℕ) (e f : Step) → link_of slots i e ≡ Some (proper j) → link_of slots k f ≡ Some (proper j) → (i ≡ k) × (e ≡ f)
+one_owner slots homes H i k j e f a b =
+    let s : e ∷ home_of homes i ≡ f ∷ home_of homes k = sym (H.at_home i j e a).1 ∙ (H.at_home k j f b).1 in
+    let h : home_of homes i ≡ home_of homes k = cc in
+    let g : e ≡ f = cc in
+    (H.distinct i k (linked-lt slots i e (proper j) a) (linked-lt slots k f (proper j) b) h, g)

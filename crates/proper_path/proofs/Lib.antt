@@ -1,0 +1,14 @@
+pub mod Above
+pub mod Between
+pub mod Calls
+pub mod Dims
+pub mod Grow
+pub mod Homes
+pub mod Links
+pub mod Order
+pub mod Shares
+pub mod Stepping
+pub mod Steps
+pub mod Stacks
+pub mod Trailing
+pub mod Labels
