@@ -1,0 +1,10 @@
+pub mod Stacked
+pub mod Cases
+pub mod Entering
+pub mod Filling
+pub mod Light
+pub mod Spending
+pub mod Totals
+pub mod Visiting
+pub mod Visits
+pub mod Whole

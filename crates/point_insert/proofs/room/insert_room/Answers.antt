@@ -1,0 +1,34 @@
+use Rattle.std.proofs.Common.{◌≡◌, ◌+◌, ◌*◌, ◌^◌, length, ap, ◌∙◌, arith}
+use Rattle.point_insert.proofs.Spending.{below_small, visits-doubled, visits_small}
+use Rattle.point_insert.proofs.room.insert_room.Goals as goal
+
+pub overflow_mul-below : goal.overflow_mul-below
+overflow_mul-below c =
+    let t = c.loop-test.true in
+    let e = c.loop.invariant.end in
+    let b = below_small c.args.schema.now c.loop.below c.loop.counter (omega (arith, t, e)) c.loop.invariant.doubled in
+    omega (arith, b)
+
+pub overflow_mul-result : goal.overflow_mul-result
+overflow_mul-result c =
+    let w = c.loop.auto.counter-end in
+    let e = c.loop.invariant.end in
+    let b = below_small c.args.schema.now c.loop.below c.loop.counter (omega (arith, w, e)) c.loop.invariant.doubled in
+    let v = visits_small c.args.schema.now c.loop.below b in
+    omega (arith, v)
+
+pub overflow_mul-result-2 : goal.overflow_mul-result-2
+overflow_mul-result-2 c =
+    let w = c.loop.auto.counter-end in
+    let e = c.loop.invariant.end in
+    let b = below_small c.args.schema.now c.loop.below c.loop.counter (omega (arith, w, e)) c.loop.invariant.doubled in
+    let v = visits_small c.args.schema.now c.loop.below b in
+    omega (arith, v)
+
+pub returns : goal.returns
+returns c =
+    let w = c.loop.auto.counter-end in
+    let t = c.loop-test.false in
+    let e = c.loop.invariant.end in
+    let n : c.loop.counter ≡ length c.args.schema.now.categories = omega (arith, w, t, e) in
+    ap (λ k. 5 * k) (visits-doubled c.args.schema.now c.loop.below (c.loop.invariant.doubled ∙ ap (λ k. 2 ^ (k + 1)) n))

@@ -1,0 +1,4 @@
+pub mod Ending
+pub mod Known
+pub mod Room
+pub mod Visited
