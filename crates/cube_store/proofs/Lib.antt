@@ -1,0 +1,4 @@
+pub mod Empty
+pub mod Inserted
+pub mod Listing
+pub mod Rooting

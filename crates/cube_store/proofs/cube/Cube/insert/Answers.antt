@@ -1,0 +1,38 @@
+use Rattle.std.proofs.Common.{◌≡◌, List, sym, ◌∙◌, subst, arith, rules}
+use Rattle.cube_view.specs.Places.{time_dim}
+use Rattle.node_arena.specs.Slots.{Slot}
+use Rattle.proper_path.specs.Paths.{path_of}
+use Rattle.cube_store.specs.Counted.{HasPoints}
+use Rattle.cube_store.specs.Inserting.{CanInsert, Inserts}
+use Rattle.cube_store.proofs.Listing.{can_insert, counts_more, has_more}
+use Rattle.cube_store.proofs.cube.Cube.insert.Goals as goal
+
+pub insert_into-requires-clause-known : goal.insert_into-requires-clause-known
+insert_into-requires-clause-known c =
+    let old : c.replace-arena.result ≡ c.args.self.now.arena = search rules in
+    subst (λ (a : List Slot). ∥ CanInsert (time_dim c.args.self.now.schema) (path_of c.args.self.now.schema c.args.point) a ∥₁) (sym old)
+    (can_insert c.args.self.now.schema c.args.point c.args.self.now.arena c.args.self.now.root.0 c.args.self.now.size c.requires.sound c.requires.room c.args.self.now.counted)
+
+pub invariant_of-self : goal.invariant_of-self
+invariant_of-self c =
+    let old : c.replace-arena.result ≡ c.args.self.now.arena = search rules in
+    let I : Inserts (time_dim c.args.self.now.schema) (path_of c.args.self.now.schema c.args.point) c.args.self.now.arena c.in-Ok.arena =
+    subst (λ (a : List Slot). Inserts (time_dim c.args.self.now.schema) (path_of c.args.self.now.schema c.args.point) a c.in-Ok.arena) old c.in-Ok.ensures.inserted in
+    record {
+      counted = has_more c.args.self.now.schema c.args.point c.args.self.now.arena c.in-Ok.arena c.args.self.now.root.0 c.args.self.now.size c.requires.sound c.requires.room I c.args.self.now.counted;
+      few = let r = c.requires.room in omega (arith, r);
+    }
+
+pub invariant_of-self-in-Err : goal.invariant_of-self-in-Err
+invariant_of-self-in-Err c =
+    let old : c.replace-arena.result ≡ c.args.self.now.arena = search rules in
+    record {
+      counted = subst (λ (a : List Slot). HasPoints c.args.self.now.schema a c.args.self.now.root.0 c.args.self.now.size) (sym (c.in-Err.ensures.back ∙ old)) c.args.self.now.counted;
+      few = c.args.self.now.few;
+    }
+
+pub returns-in-Ok-clause-counted : goal.returns-in-Ok-clause-counted
+returns-in-Ok-clause-counted c h C =
+    let old : c.replace-arena.result ≡ c.args.self.now.arena = search rules in
+    counts_more c.args.self.now.schema c.args.point c.args.self.now.arena c.in-Ok.arena c.args.self.now.root.0 c.args.self.now.size h c.requires.sound c.requires.room
+    (subst (λ (a : List Slot). Inserts (time_dim c.args.self.now.schema) (path_of c.args.self.now.schema c.args.point) a c.in-Ok.arena) old c.in-Ok.ensures.inserted) C

@@ -1,0 +1,30 @@
+-- Which lists of points a cube counts.
+use Rattle.std.specs.Prelude.{◌≡◌, ℕ, IsTrue, List, All, length, map}
+use Rattle.cube_view.specs.Places.{time_dim}
+use Rattle.cube_view.specs.Points.{Point}
+use Rattle.cube_view.specs.Validity.{sound}
+use Rattle.cube_view.specs.Walks.{Walk}
+use Rattle.cube_view.specs.declared.schema.Schema.{Schema}
+use Rattle.node_arena.specs.Amounts.{Weighted}
+use Rattle.node_arena.specs.Shape.{HasShape}
+use Rattle.node_arena.specs.Slots.{Slot}
+use Rattle.proper_path.specs.Paths.{path_of}
+
+-- the points of a list, as walks see them
+abbrev pub paths_of : Schema → List Point → List Weighted
+paths_of schema h = map (λ p. path_of schema p) h
+
+-- The slots count the points of a list h.
+pub record CountsPoints (schema : Schema) (slots : List Slot) (root size : ℕ) (h : List Point) : Type 0 where
+  -- there are homes with which the slots have the shape of a cube of these points
+  pub homes : List Walk
+  pub shape : HasShape (time_dim schema) slots homes (paths_of schema h)
+  -- the root is the first slot
+  pub at_top : root ≡ 0
+  -- each point is sound for the schema, and there are as many as the size says
+  pub all_sound : All (λ p. IsTrue (sound schema p)) h
+  pub number : size ≡ length h
+
+-- some list is counted
+abbrev pub HasPoints : Schema → List Slot → ℕ → ℕ → Type 0
+HasPoints schema slots root size = ∥ ((h : List Point) × CountsPoints schema slots root size h) ∥₁

@@ -1,0 +1,109 @@
+//! The cube, and how it takes a point.
+ghost use Rattle.std.specs.Prelude.{◌≡◌, ◌+◌, ◌*◌, ◌<◌, ◌≤◌, [], ◌∷◌, ◌++◌, List, IsTrue, IfOk, IfErr, OnOk, OnErr};
+ghost use Rattle.cube_view.specs.Bag.{most_points};
+ghost use Rattle.cube_view.specs.Places.{time_dim};
+ghost use Rattle.cube_view.specs.Points.{Point as Counted};
+ghost use Rattle.cube_view.specs.Validity.{sound};
+ghost use Rattle.arena_undo.specs.Worked.{Worked};
+ghost use Rattle.point_insert.specs.Room.{visits};
+ghost use Rattle.proper_path.specs.Paths.{path_of};
+ghost use Rattle.cube_store.specs.Counted.{CountsPoints, HasPoints};
+ghost use Rattle.cube_store.specs.Inserting.{CanInsert, Inserts};
+
+use arena_undo::Work;
+use cube_view::{Point, Schema};
+use node_arena::{Arena, SlotId};
+use outer_io::NoMemory;
+use point_insert::{Updated, add, insert_room};
+use std::alloc::Global;
+use std::mem::replace;
+
+/// Points of a schema, at most 2^35, as an arena of nodes and time tables that counts them.
+#[derive(Drop)]
+pub struct Cube {
+    pub schema: Schema,
+    pub arena: Arena,
+    pub root: SlotId,
+    pub size: u64,
+    ghost counted: { HasPoints schema arena root.0 size },
+    ghost few: { size ≤ most_points },
+}
+
+impl Cube {
+    /// A cube of no points: one root.
+    pub fn new(alloc: Global, schema: Schema) -> Result<Cube, NoMemory>
+        ensures schema { IfOk result (λ cube. cube.schema ≡ schema) }
+        ensures empty { IfOk result (λ cube. CountsPoints cube.schema cube.arena cube.root.0 cube.size []) }
+    {
+        let mut arena = Arena::new(alloc);
+        let root = arena.add_node()?;
+        Ok(Cube {
+            schema,
+            arena,
+            root,
+            size: 0,
+        })
+    }
+
+    /// Adds a sound point. After want of memory the arena, the root and the size are as before.
+    pub fn insert(&mut self, alloc: Global, point: Point) -> Result<(), NoMemory>
+        requires sound { IsTrue (sound self.old.schema point) }
+        requires room { self.old.size < most_points }
+        ensures counted { (h : List Counted) → CountsPoints self.old.schema self.old.arena self.old.root.0 self.old.size h → OnOk result (CountsPoints self.new.schema self.new.arena self.new.root.0 self.new.size (h ++ point ∷ [])) }
+        ensures unchanged { OnErr result ((self.new.arena ≡ self.old.arena) × (self.new.root ≡ self.old.root) × (self.new.size ≡ self.old.size)) }
+        ensures schema { self.new.schema ≡ self.old.schema }
+    {
+        let arena = replace(&mut self.arena, Arena::new(alloc));
+        match insert_into(alloc, arena, &self.schema, &point, self.root) {
+            Ok(arena) => {
+                self.arena = arena;
+                self.size += 1;
+                Ok(())
+            }
+            Err(arena) => {
+                self.arena = arena;
+                Err(NoMemory)
+            }
+        }
+    }
+}
+
+/// The arena with the point, or the arena as it was where memory is wanted.
+fn insert_into(
+    alloc: Global,
+    arena: Arena,
+    schema: &Schema,
+    point: &Point,
+    root: SlotId,
+) -> Result<Arena, Arena>
+    requires sound { IsTrue (sound schema.now point.now) }
+    requires root { root.0 ≡ 0 }
+    requires known { ∥ CanInsert (time_dim schema.now) (path_of schema.now point.now) arena ∥₁ }
+    ensures inserted { IfOk result (λ again. Inserts (time_dim schema.now) (path_of schema.now point.now) arena again) }
+    ensures back { IfErr result (λ again. again ≡ arena) }
+{
+    let mut work = Work::begin(alloc, arena, insert_room(schema))?;
+    match add_at_root(alloc, &mut work, schema, point, root) {
+        Ok(()) => Ok(work.keep()),
+        Err(_) => Err(work.undo()),
+    }
+}
+
+/// Adds the point to the first dimension at the root, with an updated set of its own.
+fn add_at_root(
+    alloc: Global,
+    work: &mut Work,
+    schema: &Schema,
+    point: &Point,
+    root: SlotId,
+) -> Result<(), NoMemory>
+    requires sound { IsTrue (sound schema.now point.now) }
+    requires root { root.0 ≡ 0 }
+    requires known { ∥ CanInsert (time_dim schema.now) (path_of schema.now point.now) work.old.slots ∥₁ }
+    requires room { work.old.made + 5 * visits schema.now ≤ work.old.room }
+    ensures inserted { OnOk result (Inserts (time_dim schema.now) (path_of schema.now point.now) work.old.slots work.new.slots) }
+    ensures start { work.new.start ≡ work.old.start }
+{
+    let mut updated = Updated::with_room(alloc, 64)?;
+    add(alloc, work, schema, point, 1, root, &mut updated)
+}
