@@ -14,5 +14,7 @@
 #![tactic(auto)]
 
 mod cube;
+#[cfg(test)]
+mod tests;
 
 pub use cube::Cube;

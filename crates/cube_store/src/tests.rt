@@ -1,0 +1,78 @@
+//! Cubes of a few points against numbers that were counted by hand.
+use crate::Cube;
+use cube_view::{Point, Schema, Stat, is_sound};
+use example_schemas::{point, schema_of_kinds};
+use outer_io::{List, NoMemory};
+use std::alloc::Global;
+use std::process::Abort;
+use std::test::Fail;
+
+/// A point, and the numbers of nodes, proper links, shared links and tables after it.
+#[derive(Clone, Copy)]
+struct Added {
+    point: Point,
+    stat: [u64; 4],
+}
+
+fn check(rt: &impl Abort, alloc: Global, schema: Schema, steps: &[Added]) -> Result<(), NoMemory> {
+    let mut cube = Cube::new(alloc, schema)?;
+    for added in steps {
+        assert!(rt; is_sound(&cube.schema, &added.point));
+        assert!(rt; cube.size < 1 << 35);
+        cube.insert(alloc, added.point)?;
+        let [nodes, proper, shared, tables] = added.stat;
+        let want = Stat {
+            nodes,
+            tables,
+            proper,
+            shared,
+        };
+        assert_eq!(rt; cube.arena.stat(), want);
+    }
+    assert_eq!(rt; cube.size, steps.len() as u64);
+    Ok(())
+}
+
+fn after(point: Point, stat: [u64; 4]) -> Added {
+    Added { point, stat }
+}
+
+#[test]
+fn shares_contents_until_two_points_part(rt: HostRuntime) -> Result<(), Fail> {
+    let schema = schema_of_kinds(rt.alloc())?;
+    let steps = [
+        after(point(0, 0, 0, 0), [6, 6, 4, 1]),
+        after(point(7, 7, 1, 0), [13, 16, 7, 4]),
+        after(point(0, 0, 0, 1), [14, 17, 7, 4]),
+    ];
+    check(&rt, rt.alloc(), schema, &steps)?;
+    Ok(())
+}
+
+#[test]
+fn counts_a_point_again_in_the_slots_that_it_has(rt: HostRuntime) -> Result<(), Fail> {
+    let schema = schema_of_kinds(rt.alloc())?;
+    let once = point(5, 2, 1, 7);
+    let heaviest = Point {
+        spot: once.spot,
+        weight: 268_435_455,
+    };
+    let steps = [
+        after(once, [6, 6, 4, 1]),
+        after(once, [6, 6, 4, 1]),
+        after(heaviest, [6, 6, 4, 1]),
+    ];
+    check(&rt, rt.alloc(), schema, &steps)?;
+    Ok(())
+}
+
+#[test]
+fn gives_tables_to_tiles_where_there_is_no_category(rt: HostRuntime) -> Result<(), Fail> {
+    let schema = Schema::new(1, List::new(rt.alloc()), 0, 1, 1, None);
+    let steps = [
+        after(point(0, 0, 0, 0), [2, 2, 1, 1]),
+        after(point(1, 0, 0, 0), [3, 5, 0, 3]),
+    ];
+    check(&rt, rt.alloc(), schema, &steps)?;
+    Ok(())
+}
