@@ -8,14 +8,14 @@ use Rattle.node_arena.specs.declared.link.SlotId.{SlotId}
 use Rattle.node_arena.specs.declared.link.Link.{Link}
 use Rattle.cube_view.specs.Walks.{down, across}
 use Rattle.node_arena.specs.Slots.{Children, Slot, node, table, empty_node, is_table, IsNode, IsTable, count, counts_of, child, link, link_of, slot_of}
-use Rattle.node_arena.specs.Calls.{with_child, with_link, without_child, put, relink, unlink, with_content, with_many, without_many, added, put_child, set_child, set_content, table_add_many}
+use Rattle.node_arena.specs.Calls.{with_child, with_link, without_child, put, relink, unlink, with_content, with_many, without_many, with_slot, put_child, set_child, set_content, table_add_many}
 use Rattle.arena_undo.specs.declared.change.Change.TheVariants.{Added, Put, Relinked, Filled, Counted}
 use Rattle.arena_undo.specs.Undone.{take_back, CanTake, IsNodeAt}
 
-pub added_back : (slots : List Slot) (s : Slot) → take_back Added (added slots s) ≡ slots
+pub added_back : (slots : List Slot) (s : Slot) → take_back Added (with_slot slots s) ≡ slots
 added_back slots s = take_at slots (s ∷ []) (length (slots ++ s ∷ []) - 1) (omega (arith, length_push slots s))
 
-pub added_there : (slots : List Slot) (s : Slot) → CanTake Added (added slots s)
+pub added_there : (slots : List Slot) (s : Slot) → CanTake Added (with_slot slots s)
 added_there slots s = omega (arith, length_push slots s)
 
 slot-set : (slots : List Slot) (i : ℕ) (s : Slot) → i < length slots → slot_of (set slots i s) i ≡ s

@@ -1,10 +1,4 @@
-mod Serving
-mod Passing
-mod Written
-mod Answering
-mod Told
 mod Points
-mod Heading
 mod Loaded
-mod Demoed
-mod InputLimit
+mod Answered
+mod Ended

@@ -1,9 +1,7 @@
+pub mod Answering
 pub mod BuiltIn
-pub mod Feeds
-pub mod Progress
-pub mod Replies
-pub mod Served
-pub mod Scripts
-pub mod Statuses
-pub mod Turns
 pub mod Demo
+pub mod LoadFaults
+pub mod Loading
+pub mod Outside
+pub mod Statuses

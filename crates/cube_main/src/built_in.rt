@@ -34,5 +34,5 @@ pub(crate) fn built_in_schema(alloc: Global) -> Result<Schema, NoMemory>
     let kind = kind_category(alloc)?;
     let mut categories = List::new(alloc);
     categories.add(kind)?;
-    Ok(Schema::new(3, categories, 0, 10, 1))
+    Ok(Schema::new(3, categories, 0, 10, 1, None))
 }

@@ -1,19 +1,56 @@
 //! The form `demo FEED SCRIPT`.
-ghost use Rattle.std.specs.Prelude.{◌≡◌, ◌≢◌, ℕ, List, [], ◌∷◌, ◌++◌, take, true, false, Some};
-ghost use Rattle.cube_main.specs.BuiltIn.{built_in};
-ghost use Rattle.cube_main.specs.Demo.{demo_text, is_refused};
-ghost use Rattle.cube_main.specs.Feeds.{is_feed_refused};
-ghost use Rattle.outer_io.specs.Bytes.{Gains, GainsPart};
-ghost use Rattle.outer_io.specs.Faults.{Rose};
-ghost use Rattle.outer_io.specs.Files.{Files, file_or_empty};
+ghost use Rattle.std.specs.Prelude.{◌≡◌};
+ghost use Rattle.cube_main.specs.Answering.{status_of_script, AnswersFile};
+ghost use Rattle.cube_main.specs.Demo.{DemoEnds};
+ghost use Rattle.cube_main.specs.Outside.{Keeps, seen_place, seen_sink};
+ghost use Rattle.plain_cube.specs.Kept.{points_of, schema_of};
+
+mod loading;
 
 use crate::built_in::built_in_schema;
-use crate::loading::load;
-use crate::script::answer;
+use crate::demo::loading::load;
 use crate::status::Status;
-use outer_io::{NoMemory, Place, Sink};
+use cube_view::CubeView;
+use outer_io::{IoFault, NoMemory, Place, Sink};
 use plain_cube::PlainCube;
+use session_core::{SessionFault, answer_script};
 use std::alloc::Global;
+
+/// How a run ends by the answer to its script.
+fn status_of(answered: Result<(), SessionFault>) -> Status
+    ensures { result ≡ status_of_script answered }
+{
+    match answered {
+        Ok(()) => Status::Done,
+        Err(SessionFault::Read) => Status::ReadFault,
+        Err(SessionFault::Write) => Status::WriteFault,
+        Err(SessionFault::TooMuch) => Status::FeedRefused,
+        Err(SessionFault::NoMemory) => Status::NoMemory,
+    }
+}
+
+/// Answers the named script over the cube, each point of which was told, and says how the run ends. The script's
+/// source is given back.
+fn run_script<P: Place, O: Sink>(
+    alloc: Global,
+    cube: &PlainCube,
+    script: &str,
+    place: &mut P,
+    out: &mut O,
+) -> Status
+    ensures answers { AnswersFile (seen_place P.files P.read_faults P.write_faults P.opened P.created) (seen_sink O.held O.faults O.name) place.old place.new out.old out.new (schema_of cube.now) (points_of cube.now) script.now result }
+    ensures keeps { Keeps (seen_place P.files P.read_faults P.write_faults P.opened P.created) (seen_sink O.held O.faults O.name) place.old place.new out.old out.new result }
+{
+    match place.open(script) {
+        Ok(source) => {
+            let (source, answered) = answer_script(alloc, cube, cube.seen(), source, out);
+            place.give_back_in(source);
+            status_of(answered)
+        }
+        Err(IoFault::Failed) => Status::ReadFault,
+        Err(IoFault::NoMemory) => Status::NoMemory,
+    }
+}
 
 /// Loads the feed and then answers the script over its points.
 pub(crate) fn demo<P: Place, O: Sink>(
@@ -23,26 +60,8 @@ pub(crate) fn demo<P: Place, O: Sink>(
     place: &mut P,
     out: &mut O,
 ) -> Status
-    // What is written, where the place tells its files
-    ensures done { (files : Files) → P.files place.old ≡ Some files → result ≡ Status.Done → Gains (O.held out.old) (O.held out.new) (demo_text (file_or_empty files feed.now) (file_or_empty files script.now)) }
-    ensures part { (files : Files) → P.files place.old ≡ Some files → GainsPart (O.held out.old) (O.held out.new) (demo_text (file_or_empty files feed.now) (file_or_empty files script.now)) }
-    ensures all_before_too_much { (files : Files) → P.files place.old ≡ Some files → result ≡ Status.FeedRefused → is_feed_refused built_in (file_or_empty files feed.now) ≡ false → Gains (O.held out.old) (O.held out.new) (demo_text (file_or_empty files feed.now) (file_or_empty files script.now)) }
-
-    // Why each status comes
-    ensures no_usage { result ≢ Status.Usage }
-    ensures read { result ≡ Status.ReadFault → Rose (P.read_faults place.old) (P.read_faults place.new) }
-    ensures write { result ≡ Status.WriteFault → Rose (O.faults out.old) (O.faults out.new) }
-    ensures refused { (files : Files) → P.files place.old ≡ Some files → result ≡ Status.FeedRefused → is_refused (file_or_empty files feed.now) (file_or_empty files script.now) ≡ true }
-    ensures accepted { (files : Files) → P.files place.old ≡ Some files → result ≡ Status.Done → is_refused (file_or_empty files feed.now) (file_or_empty files script.now) ≡ false }
-    ensures quiet_place { result ≢ Status.ReadFault → P.read_faults place.new ≡ P.read_faults place.old }
-    ensures quiet_sink { result ≢ Status.WriteFault → O.faults out.new ≡ O.faults out.old }
-
-    // What is opened, and what stays
-    ensures opened { (k : ℕ) × (P.opened place.new ≡ P.opened place.old ++ take k (feed.now ∷ script.now ∷ [])) }
-    ensures opened_both { result ≡ Status.Done → P.opened place.new ≡ P.opened place.old ++ feed.now ∷ script.now ∷ [] }
-    ensures untouched { P.opened place.new ≡ P.opened place.old ++ feed.now ∷ [] → out.new ≡ out.old }
-    ensures files { P.files place.new ≡ P.files place.old }
-    ensures name { O.name out.new ≡ O.name out.old }
+    ensures ends { DemoEnds (seen_place P.files P.read_faults P.write_faults P.opened P.created) (seen_sink O.held O.faults O.name) place.old place.new out.old out.new result feed.now script.now }
+    ensures keeps { Keeps (seen_place P.files P.read_faults P.write_faults P.opened P.created) (seen_sink O.held O.faults O.name) place.old place.new out.old out.new result }
 {
     let schema = match built_in_schema(alloc) {
         Ok(schema) => schema,
@@ -50,7 +69,7 @@ pub(crate) fn demo<P: Place, O: Sink>(
     };
     let mut cube = PlainCube::new(alloc, schema);
     match load(alloc, feed, place, &mut cube) {
-        Ok(()) => answer(alloc, &cube, script, place, out),
+        Ok(()) => run_script(alloc, &cube, script, place, out),
         Err(status) => status,
     }
 }

@@ -1,15 +1,18 @@
 //! The program. [`nanocube::nanocube`] does what the words of the command line say over a place and a sink.
 //!
 //! `main` makes both for the real files and standard output, and ends with the status that the call gives.
-//! It prints nothing by itself.
+//! It prints nothing by itself. The crate stands on all others that the program uses, and leaves to them what a feed,
+//! a script and a reply are; it decides which words are a form, what each form reads and writes, and why a status comes.
+//!
+//! ```text
+//! let mut place = MemPlace::new(alloc);                        // or FilePlace::new(alloc, &rt)
+//! let status = nanocube(&rt, &words, &mut place, &mut out);    // words: demo a.csv q.txt
+//! ```
 #![tactic(auto)]
 
 mod built_in;
 mod demo;
-mod loading;
 mod nanocube;
-mod replies;
-mod script;
 mod status;
 #[cfg(test)]
 mod tests;

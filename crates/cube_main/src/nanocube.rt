@@ -1,12 +1,7 @@
 //! The top call.
-ghost use Rattle.std.specs.Prelude.{◌≡◌, ◌≢◌, ◌↔◌, ℕ, List, [], ◌∷◌, ◌++◌, map, take, true, false, Some, None, option_map, string_bytes};
-ghost use Rattle.cube_main.specs.BuiltIn.{built_in};
-ghost use Rattle.cube_main.specs.Demo.{demo_names, demo_text, is_refused};
-ghost use Rattle.cube_main.specs.Feeds.{is_feed_refused};
-ghost use Rattle.cube_main.specs.Statuses.{IsRefusedOrEarlier, IsDoneOrNoMemory};
-ghost use Rattle.outer_io.specs.Bytes.{Gains, GainsPart};
-ghost use Rattle.outer_io.specs.Faults.{Rose};
-ghost use Rattle.outer_io.specs.Files.{Files, file_or_empty};
+ghost use Rattle.std.specs.Prelude.{◌≡◌, ◌↔◌, map, None, option_map, string_bytes};
+ghost use Rattle.cube_main.specs.Demo.{demo_names, DemoEnds, IfDemo};
+ghost use Rattle.cube_main.specs.Outside.{Keeps, seen_place, seen_sink};
 
 use crate::demo::demo;
 use crate::status::Status;
@@ -37,26 +32,9 @@ pub fn nanocube<R: AllocGlobal, P: Place, O: Sink>(
     ensures usage { (result ≡ Status.Usage) ↔ (demo_names (map string_bytes words.now) ≡ None) }
     ensures usage_leaves_all { result ≡ Status.Usage → (place.new ≡ place.old) × (out.new ≡ out.old) }
 
-    // What is written, where the place tells its files: the replies, or with another status than `Done` a part of them from the front.
-    ensures done { (feed script : List ℕ) (files : Files) → demo_names (map string_bytes words.now) ≡ Some (feed, script) → P.files place.old ≡ Some files → result ≡ Status.Done → Gains (O.held out.old) (O.held out.new) (demo_text (file_or_empty files feed) (file_or_empty files script)) }
-    ensures part { (feed script : List ℕ) (files : Files) → demo_names (map string_bytes words.now) ≡ Some (feed, script) → P.files place.old ≡ Some files → GainsPart (O.held out.old) (O.held out.new) (demo_text (file_or_empty files feed) (file_or_empty files script)) }
-    ensures all_before_too_much { (feed script : List ℕ) (files : Files) → demo_names (map string_bytes words.now) ≡ Some (feed, script) → P.files place.old ≡ Some files → result ≡ Status.FeedRefused → is_feed_refused built_in (file_or_empty files feed) ≡ false → Gains (O.held out.old) (O.held out.new) (demo_text (file_or_empty files feed) (file_or_empty files script)) }
-
-    // Why each status comes.
-    ensures read { result ≡ Status.ReadFault → Rose (P.read_faults place.old) (P.read_faults place.new) }
-    ensures write { result ≡ Status.WriteFault → Rose (O.faults out.old) (O.faults out.new) }
-    ensures refused { (feed script : List ℕ) (files : Files) → demo_names (map string_bytes words.now) ≡ Some (feed, script) → P.files place.old ≡ Some files → result ≡ Status.FeedRefused → is_refused (file_or_empty files feed) (file_or_empty files script) ≡ true }
-    ensures refused_or_earlier { (feed script : List ℕ) (files : Files) → demo_names (map string_bytes words.now) ≡ Some (feed, script) → P.files place.old ≡ Some files → is_refused (file_or_empty files feed) (file_or_empty files script) ≡ true → IsRefusedOrEarlier result }
-    ensures complete { (feed script : List ℕ) (files : Files) → demo_names (map string_bytes words.now) ≡ Some (feed, script) → P.files place.old ≡ Some files → is_refused (file_or_empty files feed) (file_or_empty files script) ≡ false → ¬ (Rose (P.read_faults place.old) (P.read_faults place.new)) → ¬ (Rose (O.faults out.old) (O.faults out.new)) → IsDoneOrNoMemory result }
-    ensures quiet_place { result ≢ Status.ReadFault → P.read_faults place.new ≡ P.read_faults place.old }
-    ensures quiet_sink { result ≢ Status.WriteFault → O.faults out.new ≡ O.faults out.old }
-
-    // What is opened, each once and in order, and what stays.
-    ensures opened { (feed script : List ℕ) → demo_names (map string_bytes words.now) ≡ Some (feed, script) → (k : ℕ) × (P.opened place.new ≡ P.opened place.old ++ take k (feed ∷ script ∷ [])) }
-    ensures opened_both { (feed script : List ℕ) → demo_names (map string_bytes words.now) ≡ Some (feed, script) → result ≡ Status.Done → P.opened place.new ≡ P.opened place.old ++ feed ∷ script ∷ [] }
-    ensures untouched { (feed script : List ℕ) → demo_names (map string_bytes words.now) ≡ Some (feed, script) → P.opened place.new ≡ P.opened place.old ++ feed ∷ [] → out.new ≡ out.old }
-    ensures files { P.files place.new ≡ P.files place.old }
-    ensures name { O.name out.new ≡ O.name out.old }
+    // How each form ends, and what all of them keep.
+    ensures demo { IfDemo (map string_bytes words.now) (DemoEnds (seen_place P.files P.read_faults P.write_faults P.opened P.created) (seen_sink O.held O.faults O.name) place.old place.new out.old out.new result) }
+    ensures keeps { Keeps (seen_place P.files P.read_faults P.write_faults P.opened P.created) (seen_sink O.held O.faults O.name) place.old place.new out.old out.new result }
 {
     match demo_files(words) {
         Some((feed, script)) => demo(rt.alloc(), feed, script, place, out),

@@ -3,6 +3,7 @@ use Rattle.std.specs.Prelude.{ℕ, Bool, true, false, if◌then◌else◌, List,
 use Rattle.serde_json.specs.Data.{Data, Items, no_items, item}
 use Rattle.serde_json.specs.Find.{get, as_str, as_array}
 use Rattle.cube_view.specs.declared.category.Category.{Category}
+use Rattle.cube_view.specs.Results.{◌>>=◌}
 use Rattle.cube_schema.specs.declared.draft.Draft.{Draft}
 use Rattle.cube_schema.specs.declared.member.Member.{Member}
 use Rattle.cube_schema.specs.declared.member.Member.TheVariants.{Asks, Batch, Categories, Depth, Feeds, Finals, Journal, Start, Version, Weight, Width}
@@ -43,12 +44,6 @@ found_or fault (Some a) = Ok a
 -- the member of the object, read as its kind
 abbrev pub member_as : {A : Type 0} → (Data → Option A) → Data → Member → Result A PlanFault
 member_as kind d m = found_or (BadKind m) (option_and_then kind (get (member_name m) d))
-
-infixl 10 ◌>>=◌
--- what comes of the next step, or the fault of this one
-abbrev pub ◌>>=◌ : {A B : Type 0} → Result A PlanFault → (A → Result B PlanFault) → Result B PlanFault
-(Ok a) >>= next = next a
-(Err f) >>= next = Err f
 
 -- the name of the weight column, which a weighted plan has
 abbrev pub weight_as : Data → Result (Option (List ℕ)) PlanFault

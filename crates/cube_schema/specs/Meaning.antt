@@ -4,13 +4,14 @@ use Rattle.std.specs.Str.{is_utf8}
 use Rattle.serde_json.specs.Data.{Data}
 use Rattle.serde_json.specs.Find.{as_object}
 use Rattle.serde_json.specs.Read.{read}
+use Rattle.cube_view.specs.Results.{◌>>=◌}
 use Rattle.cube_schema.specs.declared.draft.Draft.{Draft}
 use Rattle.cube_schema.specs.declared.plan.Plan.{Plan}
 use Rattle.cube_schema.specs.declared.fault.PlanFault.{PlanFault}
 use Rattle.cube_schema.specs.declared.fault.PlanFault.TheVariants.{NotJson, NotObject, Missing, Unknown, OutOfRange, Repeated, NoMemory, TooLong}
 use Rattle.cube_schema.specs.Members.{first_missing, least_unknown}
 use Rattle.cube_schema.specs.Drafts.{draft_of}
-use Rattle.cube_schema.specs.Kinds.{◌>>=◌, found_or, members_of}
+use Rattle.cube_schema.specs.Kinds.{found_or, members_of}
 use Rattle.cube_schema.specs.Ranges.{first_out_of_range}
 use Rattle.cube_schema.specs.Repeats.{first_repeated}
 

@@ -10,7 +10,7 @@
 
 ghost use Rattle.std.specs.Prelude.{◌≡◌, IfOk, ◌∷◌, []};
 ghost use Rattle.cube_view.specs.Points.{point_at};
-ghost use Rattle.example_schemas.specs.Examples.{category_of, kinds, two_categories};
+ghost use Rattle.example_schemas.specs.Examples.{named_category, kinds, two_categories};
 
 use cube_view::{Category, Point, Schema, Spot};
 use outer_io::{List, NoMemory, Text};
@@ -18,7 +18,7 @@ use std::alloc::Global;
 
 /// The category of that name and of two values.
 fn category(alloc: Global, name: &str, first: &str, second: &str) -> Result<Category, NoMemory>
-    ensures { IfOk result (λ category. category ≡ category_of name.now first.now second.now) }
+    ensures { IfOk result (λ category. category ≡ named_category name.now first.now second.now) }
 {
     let name = Text::copy_of(alloc, name)?;
     let mut values = List::new(alloc);

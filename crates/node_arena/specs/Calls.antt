@@ -76,20 +76,20 @@ without_many (node children content) bin n = node children content
 without_many (table counts) bin n = table (take_many counts bin n)
 
 -- a new slot at the end
-abbrev pub added : List Slot → Slot → List Slot
-added slots s = slots ++ s ∷ []
+abbrev pub with_slot : List Slot → Slot → List Slot
+with_slot slots s = slots ++ s ∷ []
 
 -- an empty node more
 abbrev pub add_node : List Slot → List Slot
-add_node slots = added slots empty_node
+add_node slots = with_slot slots empty_node
 
 -- an empty time table more
 abbrev pub add_table : List Slot → List Slot
-add_table slots = added slots (table empty)
+add_table slots = with_slot slots (table empty)
 
 -- a shallow copy of the slot at a place more
 abbrev pub copy_slot : List Slot → ℕ → List Slot
-copy_slot slots i = added slots (copied (slot_of slots i))
+copy_slot slots i = with_slot slots (copied (slot_of slots i))
 
 -- a child more at a place
 abbrev pub put_child : List Slot → ℕ → ℕ → Link → List Slot

@@ -2,7 +2,7 @@
 use Rattle.std.specs.Prelude.{◌≡◌, ℕ, ◌<◌, Bool, true, false, ◌==◌, if◌then◌else◌, List, [], ◌∷◌, slice_index_or, Option, Some, None, AllPairs}
 use Rattle.std.specs.Coded.{Coded, coded_ℕ}
 use Rattle.std.specs.FinMap.{empty, code}
-use Rattle.time_table.specs.Counts.{Counts, count_of}
+use Rattle.time_table.specs.Counts.{BinCounts, count_of}
 use Rattle.node_arena.specs.declared.link.SlotId.{SlotId}
 use Rattle.node_arena.specs.declared.link.Link.{Link}
 use Rattle.node_arena.specs.declared.link.LinkKind.TheVariants.{Proper, Shared}
@@ -39,10 +39,10 @@ IsRising children = AllPairs (λ (a b : ℕ × Link). a.0 < b.0) children
 -- a node has children and perhaps a content; a time table has its counts
 pub data Slot : Type 0 where
   node : Children → Option Link → Slot
-  table : Counts → Slot
+  table : BinCounts → Slot
 
 -- counts are stored as their entries
-abbrev pub counts_code : Coded Counts
+abbrev pub counts_code : Coded BinCounts
 counts_code = code coded_ℕ coded_ℕ
 
 -- a node without children or content
@@ -73,7 +73,7 @@ content_of (node children content) = content
 content_of (table counts) = None
 
 -- the counts of a time table; a node has none
-abbrev pub counts_of : Slot → Counts
+abbrev pub counts_of : Slot → BinCounts
 counts_of (node children content) = empty
 counts_of (table counts) = counts
 

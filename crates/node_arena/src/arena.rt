@@ -7,7 +7,7 @@ ghost use Rattle.time_table.specs.Counts.{AllCounted, total_count};
 ghost use Rattle.cube_view.specs.Walks.{down, across};
 ghost use Rattle.node_arena.specs.Slots.{id_of, IsNode, IsTable, is_table, count, IsRising, slot_of, children_of, counts_of, link_of};
 ghost use Rattle.node_arena.specs.Stats.{stat_of, AllRising, TellsStat};
-ghost use Rattle.node_arena.specs.Calls.{added, add_node, add_table, copy_slot, put_child, set_child, drop_child, set_content, table_add, table_take, table_add_many, table_take_many, child_from, only_link};
+ghost use Rattle.node_arena.specs.Calls.{with_slot, add_node, add_table, copy_slot, put_child, set_child, drop_child, set_content, table_add, table_take, table_add_many, table_take_many, child_from, only_link};
 
 use crate::children::Children;
 use crate::link::{Link, SlotId};
@@ -294,7 +294,7 @@ impl Arena {
     /// Adds a slot at the end.
     fn add(&mut self, slot: Stored) -> Result<SlotId, NoMemory>
         ensures id { IfOk result (λ id. id ≡ id_of (length self.old)) }
-        ensures added { OnOk result (self.new ≡ added self.old (slot_from slot)) }
+        ensures added { OnOk result (self.new ≡ with_slot self.old (slot_from slot)) }
         ensures unchanged { OnErr result (self.new ≡ self.old) }
     {
         match self.slots.push(slot) {

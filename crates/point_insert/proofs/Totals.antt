@@ -6,7 +6,7 @@ use Rattle.std.specs.FinMap.Entries.{below_all}
 use Rattle.std.proofs.lemmas.Bool.{cases_order, le-ltb, eq-eqb, ne_eqb, eqb-true}
 use Rattle.std.proofs.lemmas.Cmp.{tied_itself}
 use Rattle.std.proofs.lemmas.List.Sums.{sum_by-cons, sum-map}
-use Rattle.time_table.specs.Counts.{Counts, count_of, total_count}
+use Rattle.time_table.specs.Counts.{BinCounts, count_of, total_count}
 use Rattle.time_table.proofs.Entries.{find_here, find_later, find_before}
 
 first_part : (a b : Bool) → T (a && b) → T a
@@ -110,7 +110,7 @@ module _ {X : Type 0} (key w : X → ℕ) where
       later q (inr (inr x)) = sym (ap (λ o. unwrap_or o 0) (find_later q e.0 e.1 es x)) ∙ (same q ∙ sym (others_stay e.0 q xs (λ y. omega (arith, x, y))))
 
   -- the total of a table whose counts are the sums of a list's items
-  pub total_count-sums : (m : Counts) (xs : List X) → ((q : ℕ) → count_of m q ≡ sum_by (adds_at q) xs) → total_count m ≡ sum_by w xs
+  pub total_count-sums : (m : BinCounts) (xs : List X) → ((q : ℕ) → count_of m q ≡ sum_by (adds_at q) xs) → total_count m ≡ sum_by w xs
   total_count-sums m xs same =
       sum-map (λ (e : ℕ × ℕ). e.1) (entries m)
       ∙ all_at (entries m) xs (entries_sorted m) (λ q. sym (ap (λ o. unwrap_or o 0) (get-entries m q)) ∙ same q)

@@ -8,7 +8,7 @@ use Rattle.node_arena.specs.Slots.{proper, shared, Slot, node, table, empty_node
 use Rattle.proper_path.specs.Changes.{IsGrown, Came, of_new, of_set, of_old, of_none, IsRelinked, IsCounted}
 use Rattle.node_arena.specs.Calls.{with_child, with_link, put, relink, with_content, with_many, put_child, set_child, set_content, table_add_many}
 use Rattle.proper_path.proofs.Links.{same_place, slot-set_same, slot-set_other, slot-push_old, slot-push_new}
-use Rattle.time_table.specs.Counts.{Counts, count_of, add_many}
+use Rattle.time_table.specs.Counts.{BinCounts, count_of, add_many}
 use Rattle.time_table.proofs.AddLaws.{count_of-add_many}
 
 -- one look at a step: the link was set there, and is as it was elsewhere
@@ -185,7 +185,7 @@ relinks slots i e new l lt S = record {
     old_kind j (inl x) = ap (λ z. is_table (slot_of next z)) x ∙ (ap is_table at_i ∙ (S.kind ∙ ap (λ z. is_table (slot_of slots z)) (sym x)))
     old_kind j (inr m) = ap is_table (slot-set_other slots i j new m)
 
-row-added : (m : Counts) (bin n b : ℕ) → count_of (add_many m bin n) b ≡ count_of m b + cond (eqb bin b) n 0
+row-added : (m : BinCounts) (bin n b : ℕ) → count_of (add_many m bin n) b ≡ count_of m b + cond (eqb bin b) n 0
 row-added m bin n b = count_of-add_many m bin n b ∙ go (cases_eq b bin)
   where
     go : (b ≡ bin) ⊎ (b ≡ bin → ⊥) → cond (eqb b bin) (count_of m bin + n) (count_of m b) ≡ count_of m b + cond (eqb bin b) n 0

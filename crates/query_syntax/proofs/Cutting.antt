@@ -8,7 +8,7 @@ use Rattle.std.proofs.lemmas.Bool.{false≢true}
 use Rattle.std.proofs.lemmas.Bool.Decides.{nat_tests}
 use Rattle.outer_io.specs.Lines.{onto_first}
 use Rattle.query_syntax.specs.Tiles.{tile_of_pieces}
-use Rattle.query_syntax.specs.Words.{pieces, pieces_from, cuts, quoted_after, words, is_some_text, space}
+use Rattle.query_syntax.specs.Words.{cut_pieces, pieces_from, cuts, quoted_after, words, is_some_text, space}
 
 -- the bytes go in front of the first piece
 abbrev pub before_first_piece : List ℕ → List (List ℕ) → List (List ℕ)
@@ -39,8 +39,8 @@ pieces_at-step mark quoted bytes i h uncut =
     ∙ ap (λ (n : ℕ). before_first_piece (take i bytes ++ b ∷ []) (pieces_from mark after (drop n bytes))) (sym (add-one i))
     ∙ ap (λ (xs : List ℕ). before_first_piece xs (pieces_from mark after (drop (i + 1) bytes))) (sym (take_more bytes i 0 h))
 
-pub pieces_at-cut : (mark : ℕ) (quoted : Bool) (bytes : List ℕ) (i : ℕ) → i < length bytes → cuts mark quoted (get_or bytes i 0) ≡ true → pieces_at mark quoted bytes i ≡ take i bytes ∷ pieces mark (drop (i + 1) bytes)
-unfolding pieces
+pub pieces_at-cut : (mark : ℕ) (quoted : Bool) (bytes : List ℕ) (i : ℕ) → i < length bytes → cuts mark quoted (get_or bytes i 0) ≡ true → pieces_at mark quoted bytes i ≡ take i bytes ∷ cut_pieces mark (drop (i + 1) bytes)
+unfolding cut_pieces
 pieces_at-cut mark quoted bytes i h cut =
     ap (λ (xs : List ℕ). before_first_piece (take i bytes) (pieces_from mark quoted xs)) (drop-cons bytes i 0 h)
     ∙ ap (before_first_piece (take i bytes)) (pieces_from-cut mark quoted (get_or bytes i 0) (drop (suc i) bytes) cut)
@@ -82,17 +82,17 @@ is_empty-from_length : (p : List ℕ) (empty : Bool) → empty ≡ eqb (length p
 is_empty-from_length [] empty e h = refl
 is_empty-from_length (b ∷ p) empty e h = absurd (grind (arith, nat_tests, e, h))
 
-pub words-more : (line p rest : List ℕ) (empty : Bool) → pieces space line ≡ p ∷ pieces space rest → empty ≡ eqb (length p) 0 → empty ≡ false → words line ≡ p ∷ words rest
+pub words-more : (line p rest : List ℕ) (empty : Bool) → cut_pieces space line ≡ p ∷ cut_pieces space rest → empty ≡ eqb (length p) 0 → empty ≡ false → words line ≡ p ∷ words rest
 unfolding words
 words-more line p rest empty e h some =
-    ap (filter is_some_text) e ∙ ap (λ (v : Bool). cond v (p ∷ filter is_some_text (pieces space rest)) (filter is_some_text (pieces space rest))) (is_some_text-from_length p empty h some)
+    ap (filter is_some_text) e ∙ ap (λ (v : Bool). cond v (p ∷ filter is_some_text (cut_pieces space rest)) (filter is_some_text (cut_pieces space rest))) (is_some_text-from_length p empty h some)
 
-pub words-skip : (line p rest : List ℕ) (empty : Bool) → pieces space line ≡ p ∷ pieces space rest → empty ≡ eqb (length p) 0 → empty ≡ true → words line ≡ words rest
+pub words-skip : (line p rest : List ℕ) (empty : Bool) → cut_pieces space line ≡ p ∷ cut_pieces space rest → empty ≡ eqb (length p) 0 → empty ≡ true → words line ≡ words rest
 unfolding words
 words-skip line p rest empty e h none =
-    ap (filter is_some_text) e ∙ ap (λ (v : Bool). cond v (p ∷ filter is_some_text (pieces space rest)) (filter is_some_text (pieces space rest))) (is_empty-from_length p empty h none)
+    ap (filter is_some_text) e ∙ ap (λ (v : Bool). cond v (p ∷ filter is_some_text (cut_pieces space rest)) (filter is_some_text (cut_pieces space rest))) (is_empty-from_length p empty h none)
 
-pub words-last : (line p : List ℕ) → pieces space line ≡ p ∷ [] → words line ≡ filter is_some_text (p ∷ [])
+pub words-last : (line p : List ℕ) → cut_pieces space line ≡ p ∷ [] → words line ≡ filter is_some_text (p ∷ [])
 unfolding words
 words-last line p e = ap (filter is_some_text) e
 
@@ -110,8 +110,8 @@ toggles_at b quoted e = rw e refl
 pub keeps_at : (b : ℕ) (quoted : Bool) → b ≢ 34 → quoted_after quoted b ≡ quoted
 keeps_at b quoted n = grind (arith, nat_tests, n)
 
-pub pieces-some : (mark : ℕ) (bytes : List ℕ) → pieces mark bytes ≢ []
-unfolding pieces
+pub pieces-some : (mark : ℕ) (bytes : List ℕ) → cut_pieces mark bytes ≢ []
+unfolding cut_pieces
 pieces-some mark bytes = pieces_from-some mark false bytes
 
 -- more than three pieces write no tile

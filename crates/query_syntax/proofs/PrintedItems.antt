@@ -12,7 +12,7 @@ use Rattle.cube_view.specs.declared.category.Category.{Category}
 use Rattle.query_syntax.specs.Items.{item_at, item_parts, is_equals_sign, bare, in_quotes, is_well_quoted, are_well_quoted, has_even_quotes, category_number, value_number, no_values, with_values, set_of, is_full, has_item}
 use Rattle.query_syntax.specs.Queries.{is_choice}
 use Rattle.query_syntax.specs.Spelling.{needs_quotes, value_text, value_texts, item_text}
-use Rattle.query_syntax.specs.Words.{space, bar, pieces, is_some_text}
+use Rattle.query_syntax.specs.Words.{space, bar, cut_pieces, is_some_text}
 use Rattle.query_syntax.specs.declared.query.Choice.{Choice}
 use Rattle.query_syntax.specs.declared.query.Choice.TheVariants.{Only}
 use Rattle.query_syntax.proofs.Places.{position_at, position_of, values_at-seam, has_item-seam}
@@ -60,11 +60,11 @@ texts_some (b ∷ set) [] h k = absurd (false≢true (sym k ∙ h))
 texts_some (true ∷ set) (v ∷ values) h k = (value_text v, value_texts set values, refl)
 texts_some (false ∷ set) (v ∷ values) h k = texts_some set values h k
 
-pub pieces_of_values : (set : List Bool) (values : List (List ℕ)) → are_unquoted values ≡ true → list_any (λ b. b) set ≡ true → list_any (λ b. b) (drop (length values) set) ≡ false → pieces bar (join_with_byte bar (value_texts set values)) ≡ value_texts set values
+pub pieces_of_values : (set : List Bool) (values : List (List ℕ)) → are_unquoted values ≡ true → list_any (λ b. b) set ≡ true → list_any (λ b. b) (drop (length values) set) ≡ false → cut_pieces bar (join_with_byte bar (value_texts set values)) ≡ value_texts set values
 pieces_of_values set values h some none =
     let listed : (w : List ℕ) × (ws : List (List ℕ)) × (value_texts set values ≡ w ∷ ws) = texts_some set values some none in
     let whole : list_all (stays_whole bar false) (listed.0 ∷ listed.1) ≡ true = ap (list_all (stays_whole bar false)) (sym listed.2) ∙ texts_all (stays_whole bar false) value_whole_in_item set values h in
-    ap (λ (ts : List (List ℕ)). pieces bar (join_with_byte bar ts)) listed.2 ∙ pieces_joined bar listed.0 listed.1 whole ∙ sym listed.2
+    ap (λ (ts : List (List ℕ)). cut_pieces bar (join_with_byte bar ts)) listed.2 ∙ pieces_joined bar listed.0 listed.1 whole ∙ sym listed.2
 
 abbrev falses : List Bool → List Bool
 falses set = replicate (length set) false

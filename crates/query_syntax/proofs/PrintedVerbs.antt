@@ -16,7 +16,7 @@ use Rattle.query_syntax.specs.Queries.{verb_in_range}
 use Rattle.query_syntax.specs.Spelling.{name_at, verb_name, verb_texts, tile_text}
 use Rattle.query_syntax.specs.Tiles.{is_tile, tile_value, tile_of_pieces}
 use Rattle.query_syntax.specs.Verbs.{bins, deepest_map, most_rows, verb_at, hist_at, map_at, series_at}
-use Rattle.query_syntax.specs.Words.{space, slash, pieces, pieces_from, is_some_text}
+use Rattle.query_syntax.specs.Words.{space, slash, cut_pieces, pieces_from, is_some_text}
 use Rattle.query_syntax.specs.declared.query.Verb.{Verb}
 use Rattle.query_syntax.specs.declared.query.Verb.TheVariants.{Count, Hist, Map, Series, Stat, Told, Quit}
 use Rattle.query_syntax.proofs.Places.{position_of}
@@ -116,7 +116,7 @@ small_tile depth t few h =
     record { z = shallow; column = column; row = row; x = omega (arith, wide, column); y = omega (arith, wide, row) }
 
 pub tile_reads : (depth : ℕ) (t : Tile) → depth ≤ 20 → is_tile depth t ≡ true → tile_value depth (tile_text t) ≡ Some t
-unfolding tile_value pieces
+unfolding tile_value cut_pieces
 tile_reads depth t few h =
     let small = small_tile depth t few h in
     let level : t.z < 2 ^ 64 = omega (arith, small.z) in

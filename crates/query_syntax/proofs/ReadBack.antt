@@ -14,7 +14,7 @@ use Rattle.query_syntax.specs.Filters.{words_read, no_filters, filters_at}
 use Rattle.query_syntax.specs.Filters.Wanted.{Name}
 use Rattle.query_syntax.specs.Meaning.{meaning, query_of, query_after_verb, query_if_fits, query_with, parsed_of, is_comment}
 use Rattle.query_syntax.specs.Queries.{is_all, is_all_bins, is_whole_space, is_too_deep, is_valid_query, has_no_filters}
-use Rattle.query_syntax.specs.Reading.{◌>>=◌}
+use Rattle.cube_view.specs.Results.{◌>>=◌}
 use Rattle.query_syntax.specs.Spelling.{verb_name, verb_texts, region_texts, choices_texts, span_texts, further_texts, spaced, query_text}
 use Rattle.query_syntax.specs.Verbs.{verb_words, takes_filters, is_series}
 use Rattle.query_syntax.specs.Words.{words}

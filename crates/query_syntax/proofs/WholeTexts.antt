@@ -8,7 +8,7 @@ use Rattle.std.proofs.lemmas.List.Sums.{sum_by-cons}
 use Rattle.outer_io.specs.Lines.{onto_first}
 use Rattle.query_syntax.specs.Items.{is_quote, in_quotes}
 use Rattle.query_syntax.specs.Spelling.{needs_quotes, value_text, spaced}
-use Rattle.query_syntax.specs.Words.{quote, space, bar, cuts, quoted_after, pieces, pieces_from, words, is_some_text}
+use Rattle.query_syntax.specs.Words.{quote, space, bar, cuts, quoted_after, cut_pieces, pieces_from, words, is_some_text}
 use Rattle.query_syntax.proofs.Cutting.{pieces_from-uncut, pieces_from-cut, is_cut}
 use Rattle.query_syntax.proofs.Quoting.{no_quote, filter_same}
 
@@ -61,8 +61,8 @@ join_is mark w [] = sym (append-nil w)
 join_is mark w (x ∷ ws) = ap (λ (r : List ℕ). w ++ mark ∷ r) (join_is mark x ws)
 
 -- whole texts with marks between them are the pieces
-pub pieces_joined : (mark : ℕ) (w : List ℕ) (ws : List (List ℕ)) → list_all (stays_whole mark false) (w ∷ ws) ≡ true → pieces mark (join_with_byte mark (w ∷ ws)) ≡ w ∷ ws
-unfolding pieces
+pub pieces_joined : (mark : ℕ) (w : List ℕ) (ws : List (List ℕ)) → list_all (stays_whole mark false) (w ∷ ws) ≡ true → cut_pieces mark (join_with_byte mark (w ∷ ws)) ≡ w ∷ ws
+unfolding cut_pieces
 pieces_joined mark w ws h = ap (pieces_from mark false) (join_is mark w ws) ∙ pieces_listed mark w ws ((and_parts (stays_whole mark false w) _ h).0) ((and_parts (stays_whole mark false w) _ h).1)
 
 -- what stays whole
@@ -132,7 +132,7 @@ abbrev pub is_word : List ℕ → Bool
 is_word w = is_some_text w && stays_whole space false w
 
 pub words_listed : (w : List ℕ) (ws : List (List ℕ)) → list_all is_word (w ∷ ws) ≡ true → words (w ++ spaced ws) ≡ w ∷ ws
-unfolding words pieces
+unfolding words cut_pieces
 words_listed w ws h =
     let whole : list_all (stays_whole space false) (w ∷ ws) ≡ true = all_weaker is_word (stays_whole space false) (λ x k. (and_parts (is_some_text x) _ k).1) (w ∷ ws) h in
     let some : list_all is_some_text (w ∷ ws) ≡ true = all_weaker is_word is_some_text (λ x k. (and_parts (is_some_text x) _ k).0) (w ∷ ws) h in

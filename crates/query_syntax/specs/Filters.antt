@@ -2,8 +2,9 @@
 use Rattle.std.specs.Prelude.{◌≡◌, ℕ, ◌+◌, Bool, true, false, count_by, length, not, nat_lt, if◌then◌else◌, List, [], ◌∷◌, slice_set, replicate, is_some, Some, None, Result, Ok, Err, codes}
 use Rattle.std.specs.Str.{bytes_eq}
 use Rattle.cube_view.specs.declared.schema.Schema.{Schema}
+use Rattle.cube_view.specs.Results.{◌>>=◌}
 use Rattle.query_syntax.specs.Items.{item_at}
-use Rattle.query_syntax.specs.Reading.{◌>>=◌, fault_at, or_fault, number_of}
+use Rattle.query_syntax.specs.Reading.{fault_at, or_fault, number_of}
 use Rattle.query_syntax.specs.Tiles.{tile_value}
 use Rattle.query_syntax.specs.Verbs.{bins, takes_filters, is_series}
 use Rattle.query_syntax.specs.Words.{words}

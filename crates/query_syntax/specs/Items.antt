@@ -5,8 +5,9 @@ use Rattle.std.specs.Prelude.{◌≡◌, ℕ, zero, suc, ◌+◌, ◌%◌, Bool,
 use Rattle.std.specs.List.{list_all, list_any}
 use Rattle.std.specs.Str.{bytes_eq}
 use Rattle.cube_view.specs.declared.category.Category.{Category}
-use Rattle.query_syntax.specs.Words.{quote, bar, pieces}
-use Rattle.query_syntax.specs.Reading.{◌>>=◌, fault_at, or_fault}
+use Rattle.cube_view.specs.Results.{◌>>=◌}
+use Rattle.query_syntax.specs.Words.{quote, bar, cut_pieces}
+use Rattle.query_syntax.specs.Reading.{fault_at, or_fault}
 use Rattle.query_syntax.specs.declared.fault.QueryFault.TheVariants.{BadQuote, UnknownCategory, UnknownValue, RepeatedFilter}
 use Rattle.query_syntax.specs.declared.fault.WordFault.{WordFault}
 use Rattle.query_syntax.specs.declared.query.Choice.{Choice}
@@ -40,7 +41,7 @@ has_even_quotes item = count_by is_quote item % 2 == 0
 
 -- each piece between bars is well quoted
 unfoldable pub are_well_quoted : List ℕ → Bool
-are_well_quoted text = list_all is_well_quoted (pieces bar text)
+are_well_quoted text = list_all is_well_quoted (cut_pieces bar text)
 
 -- the number of the category of that name
 unfoldable pub category_number : List Category → List ℕ → Option ℕ
@@ -60,7 +61,7 @@ with_values values set (piece ∷ rest) = option_and_then (λ v. with_values val
 
 -- the set of the values that the pieces between bars write, if each writes one
 unfoldable pub set_of : List (List ℕ) → List ℕ → Option (List Bool)
-set_of values text = with_values values no_values (pieces bar text)
+set_of values text = with_values values no_values (cut_pieces bar text)
 
 -- a category of so many values has all of them in the set
 abbrev pub is_full : ℕ → List Bool → Bool

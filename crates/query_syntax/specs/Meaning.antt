@@ -2,9 +2,10 @@
 use Rattle.std.specs.Prelude.{◌≡◌, ℕ, length, None, ◌+◌, Bool, true, false, not, ◌==◌, if◌then◌else◌, List, [], ◌∷◌, map, unwrap_or, Result, Ok, Err}
 use Rattle.std.specs.Str.{is_utf8}
 use Rattle.cube_view.specs.declared.schema.Schema.{Schema}
+use Rattle.cube_view.specs.Results.{◌>>=◌}
 use Rattle.query_syntax.specs.Filters.{filters_at, no_filters}
 use Rattle.query_syntax.specs.Queries.{whole_space, all_bins, is_too_deep, are_choices, is_span, is_valid_query}
-use Rattle.query_syntax.specs.Reading.{◌>>=◌, fault_at}
+use Rattle.query_syntax.specs.Reading.{fault_at}
 use Rattle.query_syntax.specs.Tiles.{is_tile}
 use Rattle.query_syntax.specs.Verbs.{verb_at, verb_words, takes_filters, is_series}
 use Rattle.query_syntax.specs.Words.{words}

@@ -1,15 +1,11 @@
 -- Reading words from left to right: a value, or the first fault and the number of its word.
 use Rattle.std.specs.Prelude.{◌≡◌, ℕ, if◌then◌else◌, List, [], ◌∷◌, Option, Some, None, Result, Ok, Err}
 use Rattle.cube_view.specs.Limits.{is_between}
+use Rattle.cube_view.specs.Results.{◌>>=◌}
 use Rattle.outer_io.specs.Decimals.{decimal_value}
 use Rattle.query_syntax.specs.declared.fault.QueryFault.{QueryFault}
 use Rattle.query_syntax.specs.declared.fault.QueryFault.TheVariants.{MissingWord, BadNumber, OutOfRange}
 use Rattle.query_syntax.specs.declared.fault.WordFault.{WordFault}
-
-infixl 10 ◌>>=◌
-abbrev pub ◌>>=◌ : {A B : Type 0} → Result A WordFault → (A → Result B WordFault) → Result B WordFault
-(Ok x) >>= f = f x
-(Err e) >>= f = Err e
 
 -- the fault, at the word of that number
 abbrev pub fault_at : {A : Type 0} → QueryFault → ℕ → Result A WordFault

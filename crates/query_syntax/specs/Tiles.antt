@@ -2,7 +2,7 @@
 use Rattle.std.specs.Prelude.{ℕ, ◌^◌, Bool, ◌&&◌, nat_le, nat_lt, if◌then◌else◌, List, [], ◌∷◌, Option, Some, None, option_and_then}
 use Rattle.cube_view.specs.declared.address.Tile.{Tile}
 use Rattle.outer_io.specs.Decimals.{decimal_value}
-use Rattle.query_syntax.specs.Words.{pieces, slash}
+use Rattle.query_syntax.specs.Words.{cut_pieces, slash}
 
 -- of a level down to the depth, and within the columns and rows of its level
 abbrev pub is_tile : ℕ → Tile → Bool
@@ -23,4 +23,4 @@ tile_of_pieces depth (z ∷ x ∷ y ∷ more ∷ rest) = None
 
 -- the tile that a word writes: level, column and row, with slashes between
 unfoldable pub tile_value : ℕ → List ℕ → Option Tile
-tile_value depth word = tile_of_pieces depth (pieces slash word)
+tile_value depth word = tile_of_pieces depth (cut_pieces slash word)

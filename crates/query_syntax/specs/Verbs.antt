@@ -2,8 +2,9 @@
 use Rattle.std.specs.Prelude.{ℕ, ◌-◌, ◌^◌, Bool, true, false, if◌then◌else◌, List, Result, Ok, codes}
 use Rattle.std.specs.Str.{bytes_eq}
 use Rattle.cube_view.specs.declared.category.Category.{Category}
+use Rattle.cube_view.specs.Results.{◌>>=◌}
 use Rattle.query_syntax.specs.Items.{category_number}
-use Rattle.query_syntax.specs.Reading.{◌>>=◌, fault_at, or_fault, word_at, number_at}
+use Rattle.query_syntax.specs.Reading.{fault_at, or_fault, word_at, number_at}
 use Rattle.query_syntax.specs.declared.fault.QueryFault.TheVariants.{UnknownVerb, UnknownCategory}
 use Rattle.query_syntax.specs.declared.fault.WordFault.{WordFault}
 use Rattle.query_syntax.specs.declared.query.Verb.{Verb}

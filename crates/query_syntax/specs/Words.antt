@@ -31,8 +31,8 @@ pieces_from mark quoted [] = [] ∷ []
 pieces_from mark quoted (b ∷ bytes) = if cuts mark quoted b then [] ∷ pieces_from mark false bytes else onto_first b (pieces_from mark (quoted_after quoted b) bytes)
 
 -- the pieces between the marks that aren't in quotes
-unfoldable pub pieces : ℕ → List ℕ → List (List ℕ)
-pieces mark bytes = pieces_from mark false bytes
+unfoldable pub cut_pieces : ℕ → List ℕ → List (List ℕ)
+cut_pieces mark bytes = pieces_from mark false bytes
 
 -- the text has a byte
 abbrev pub is_some_text : List ℕ → Bool
@@ -41,9 +41,9 @@ is_some_text (b ∷ bytes) = true
 
 -- the words of a line: the pieces between spaces that aren't empty
 unfoldable pub words : List ℕ → List (List ℕ)
-words line = filter is_some_text (pieces space line)
+words line = filter is_some_text (cut_pieces space line)
 
 -- the pieces of what comes after a mark, where there is one
 abbrev pub pieces_after : ℕ → Option (List ℕ) → List (List ℕ)
 pieces_after mark None = []
-pieces_after mark (Some bytes) = pieces mark bytes
+pieces_after mark (Some bytes) = cut_pieces mark bytes

@@ -4,7 +4,7 @@ ghost use Rattle.std.specs.List.{list_all};
 ghost use Rattle.std.specs.Str.{bytes_eq};
 ghost use Rattle.query_syntax.specs.Items.{is_quote, is_equals_sign, item_parts, has_even_quotes, are_well_quoted, is_well_quoted, bare, in_quotes, no_values, value_number, set_of, is_full, choice_of, values_at, has_item, IsSetOf, item_at};
 ghost use Rattle.query_syntax.specs.Queries.{is_choice};
-ghost use Rattle.query_syntax.specs.Words.{pieces, bar};
+ghost use Rattle.query_syntax.specs.Words.{cut_pieces, bar};
 
 use crate::fault::{QueryFault, WordFault};
 use crate::verb_words::category_named;

@@ -3,15 +3,15 @@ ghost use Rattle.std.specs.Prelude.{◌≡◌, ℕ, ◌+◌, ◌<◌, ◌≤◌,
 ghost use Rattle.std.specs.Str.{bytes_eq};
 ghost use Rattle.std.specs.Option.{option_copied};
 ghost use Rattle.query_syntax.specs.Reading.{GivesRead, word_at};
-ghost use Rattle.query_syntax.specs.Words.{pieces, pieces_from, pieces_after, words, is_some_text};
+ghost use Rattle.query_syntax.specs.Words.{cut_pieces, pieces_from, pieces_after, words, is_some_text};
 
 use crate::fault::{QueryFault, WordFault};
 
 /// Where the first of the pieces ends that the mark cuts outside quotes.
 fn piece_len(bytes: &[u8], mark: u8) -> usize
     ensures within { result ≤ length bytes.now }
-    ensures whole { result ≡ length bytes.now → pieces mark bytes.now ≡ bytes.now ∷ [] }
-    ensures cut { result < length bytes.now → pieces mark bytes.now ≡ take result bytes.now ∷ pieces mark (drop (result + 1) bytes.now) }
+    ensures whole { result ≡ length bytes.now → cut_pieces mark bytes.now ≡ bytes.now ∷ [] }
+    ensures cut { result < length bytes.now → cut_pieces mark bytes.now ≡ take result bytes.now ∷ cut_pieces mark (drop (result + 1) bytes.now) }
 {
     let mut quoted = false;
     for (i, &b) in bytes.iter().enumerate() {
@@ -27,7 +27,7 @@ fn piece_len(bytes: &[u8], mark: u8) -> usize
 
 /// The first of the pieces that the mark cuts outside quotes, and what comes after the mark that ends it.
 pub fn next_piece(bytes: &[u8], mark: u8) -> (&[u8], Option<&[u8]>)
-    ensures pieces { pieces mark bytes.now ≡ result.0.now ∷ pieces_after mark (option_copied result.1) }
+    ensures pieces { cut_pieces mark bytes.now ≡ result.0.now ∷ pieces_after mark (option_copied result.1) }
     ensures shorter { IfSome result.1 (λ rest. length rest.now < length bytes.now) }
 {
     let len = piece_len(bytes, mark);
@@ -60,7 +60,7 @@ pub fn next_word(line: &[u8]) -> Option<(&[u8], &[u8])>
 }
 
 /// The piece, if it is a word.
-#[tactic(auto, unfolding(crate::specs::Words::words, crate::specs::Words::pieces))]
+#[tactic(auto, unfolding(crate::specs::Words::words, crate::specs::Words::cut_pieces))]
 fn last_word(piece: &[u8]) -> Option<(&[u8], &[u8])>
     ensures some { IfSome result (λ found. filter is_some_text (piece.now ∷ []) ≡ found.0.now ∷ words found.1.now) }
     ensures none { IfNone result (filter is_some_text (piece.now ∷ []) ≡ []) }

@@ -5,18 +5,18 @@ use Rattle.std.specs.Ordering.{nat_cmp, eq_by_cmp}
 use Rattle.std.specs.Cmp.{nat_cmp_total, unsigned_tied}
 use Rattle.std.specs.FinMap.{get, insert, remove, contains_key, entries, get-entries, get-insert, get-remove, same_map, nat_cmp-IsAntisymmetric}
 use Rattle.std.proofs.lemmas.Bool.{cases_eq, eq-eqb, ne_eqb, eqb-true}
-use Rattle.time_table.specs.Counts.{Counts, AllCounted, count_of, add_many, take_many, total_count, count_before, amount_at, first_from}
+use Rattle.time_table.specs.Counts.{BinCounts, AllCounted, count_of, add_many, take_many, total_count, count_before, amount_at, first_from}
 use Rattle.time_table.proofs.AddLaws.{count_of-add_many, total_count-add_many, count_before-add_many}
 use Rattle.time_table.proofs.Nexts.{found_at}
 use Rattle.time_table.proofs.Passing.{counted_at, got, got_some, got_count, put_back, put_again, same_got}
 use Rattle.time_table.proofs.Summed.{gathered, count_of-gathered, total_count-gathered, AllCounted-gathered}
 
 -- a bin that is there has a record
-pub count_of-some : (m : Counts) (bin : ℕ) → AllCounted m → contains_key m bin ≡ true → 0 < count_of m bin
+pub count_of-some : (m : BinCounts) (bin : ℕ) → AllCounted m → contains_key m bin ≡ true → 0 < count_of m bin
 count_of-some m bin counted there = got_some (get m bin) (λ n is. counted_at bin n (entries m) counted (sym (get-entries m bin) ∙ is)) there
 
 -- two tables that have as much in each bin are one
-pub same_counts : (m n : Counts) → AllCounted m → AllCounted n → ((bin : ℕ) → count_of m bin ≡ count_of n bin) → m ≡ n
+pub same_counts : (m n : BinCounts) → AllCounted m → AllCounted n → ((bin : ℕ) → count_of m bin ≡ count_of n bin) → m ≡ n
 same_counts m n counted counted' same =
     same_map nat_cmp_total nat_cmp-IsAntisymmetric m n (λ q.
     same_got (get m q) (get n q)
@@ -25,7 +25,7 @@ same_counts m n counted counted' same =
     (same q))
 
 -- an amount more and then as much less is no change ..
-pub take_many-add_many : (m : Counts) (bin n : ℕ) → AllCounted m → take_many (add_many m bin n) bin n ≡ m
+pub take_many-add_many : (m : BinCounts) (bin n : ℕ) → AllCounted m → take_many (add_many m bin n) bin n ≡ m
 take_many-add_many m bin n counted =
     let count : count_of (add_many m bin n) bin ≡ count_of m bin + n = count_of-add_many m bin n bin ∙ ap (λ b. cond b (count_of m bin + n) (count_of m bin)) (eq-eqb bin bin refl) in
     let at : (q : ℕ) → eq_by_cmp nat_cmp q bin ≡ true → get m bin ≡ get m q = λ q e. ap (get m) (sym (eqb-true q bin (sym (unsigned_tied q bin) ∙ e))) in
@@ -49,7 +49,7 @@ take_many-add_many m bin n counted =
     ]
 
 -- .. and so is an amount less and then as much more
-pub add_many-take_many : (m : Counts) (bin n : ℕ) → 0 < n → n ≤ count_of m bin → add_many (take_many m bin n) bin n ≡ m
+pub add_many-take_many : (m : BinCounts) (bin n : ℕ) → 0 < n → n ≤ count_of m bin → add_many (take_many m bin n) bin n ≡ m
 add_many-take_many m bin n some there = elim (cases_eq (count_of m bin) n) [ inl all ↦ whole all | inr more ↦ part more ]
   where
     held : get m bin ≡ Some (count_of m bin)
@@ -82,20 +82,20 @@ add_many-take_many m bin n some there = elim (cases_eq (count_of m bin) n) [ inl
         rw (ne_eqb (count_of m bin) n more) back
 
 -- an amount less is as much less in all ..
-pub total_count-take_many : (m : Counts) (bin n : ℕ) → 0 < n → n ≤ count_of m bin → total_count (take_many m bin n) + n ≡ total_count m
+pub total_count-take_many : (m : BinCounts) (bin n : ℕ) → 0 < n → n ≤ count_of m bin → total_count (take_many m bin n) + n ≡ total_count m
 total_count-take_many m bin n some there = sym (total_count-add_many (take_many m bin n) bin n) ∙ ap total_count (add_many-take_many m bin n some there)
 
 -- .. and as much less before each later end
-pub count_before-take_many : (m : Counts) (bin n bin_end : ℕ) → 0 < n → n ≤ count_of m bin → count_before (take_many m bin n) bin_end + cond (nat_lt bin bin_end) n 0 ≡ count_before m bin_end
+pub count_before-take_many : (m : BinCounts) (bin n bin_end : ℕ) → 0 < n → n ≤ count_of m bin → count_before (take_many m bin n) bin_end + cond (nat_lt bin bin_end) n 0 ≡ count_before m bin_end
 count_before-take_many m bin n bin_end some there =
-    sym (count_before-add_many (take_many m bin n) bin n bin_end) ∙ ap (λ (k : Counts). count_before k bin_end) (add_many-take_many m bin n some there)
+    sym (count_before-add_many (take_many m bin n) bin n bin_end) ∙ ap (λ (k : BinCounts). count_before k bin_end) (add_many-take_many m bin n some there)
 
 -- a table that has in each bin what amounts come to has as much in all as they do
-pub total_count-same : (m : Counts) (amounts : List (ℕ × ℕ)) → AllCounted m → All (λ (a : ℕ × ℕ). 0 < a.1) amounts → ((q : ℕ) → count_of m q ≡ amount_at q amounts) → total_count m ≡ sum_by (λ (a : ℕ × ℕ). a.1) amounts
+pub total_count-same : (m : BinCounts) (amounts : List (ℕ × ℕ)) → AllCounted m → All (λ (a : ℕ × ℕ). 0 < a.1) amounts → ((q : ℕ) → count_of m q ≡ amount_at q amounts) → total_count m ≡ sum_by (λ (a : ℕ × ℕ). a.1) amounts
 total_count-same m amounts counted some same =
     ap total_count (same_counts m (gathered amounts) counted (AllCounted-gathered amounts some) (λ q. same q ∙ sym (count_of-gathered amounts q)))
     ∙ total_count-gathered amounts
 
 -- where the first bin from a bin on is itself, its count is the one that is told
-pub count_of-first_from : (m : Counts) (bin n : ℕ) → first_from bin (entries m) ≡ Some (bin, n) → count_of m bin ≡ n
+pub count_of-first_from : (m : BinCounts) (bin n : ℕ) → first_from bin (entries m) ≡ Some (bin, n) → count_of m bin ≡ n
 count_of-first_from m bin n is = ap (λ o. unwrap_or o 0) (get-entries m bin ∙ found_at bin n (entries m) is)

@@ -9,7 +9,7 @@ use Rattle.std.proofs.lemmas.Bool.{cases_order, le-ltb, ne_eqb}
 use Rattle.std.proofs.lemmas.Cmp.{tied_itself}
 use Rattle.std.proofs.lemmas.List.Elements.{All-cons, All-head, All-tail}
 use Rattle.std.proofs.lemmas.List.Sums.{sum_by-cons, sum-map}
-use Rattle.time_table.specs.Counts.{Counts, count_of, add_many, total_count}
+use Rattle.time_table.specs.Counts.{BinCounts, count_of, add_many, total_count}
 use Rattle.time_table.specs.Places.{count_at}
 use Rattle.time_table.proofs.Entries.{put_first, put_here, put_later, find_here, find_later, find_before}
 
@@ -85,7 +85,7 @@ passing-put p bin m (e ∷ es) sorted =
           ∙ ap (λ n. n + cond (p bin) m 0) (sym (passing-cons p e.0 e.1 es))
     ]
 
-pub passing-add_many : (p : ℕ → Bool) (m : Counts) (bin n : ℕ) → passing p (entries (add_many m bin n)) ≡ passing p (entries m) + cond (p bin) n 0
+pub passing-add_many : (p : ℕ → Bool) (m : BinCounts) (bin n : ℕ) → passing p (entries (add_many m bin n)) ≡ passing p (entries m) + cond (p bin) n 0
 passing-add_many p m bin n =
     ap (passing p) (entries-insert nat_cmp_total m bin (count_of m bin + n))
     ∙ ap (λ o. passing p (put nat_cmp bin (unwrap_or o 0 + n) (entries m))) (get-entries m bin)
@@ -95,7 +95,7 @@ filter-all : (es : List (ℕ × ℕ)) → filter (λ (e : ℕ × ℕ). true) es 
 filter-all [] = refl
 filter-all (e ∷ es) = ap (λ zs. e ∷ zs) (filter-all es)
 
-pub total_count-passing : (m : Counts) → total_count m ≡ passing (λ _. true) (entries m)
+pub total_count-passing : (m : BinCounts) → total_count m ≡ passing (λ _. true) (entries m)
 total_count-passing m = sum-map (λ (e : ℕ × ℕ). e.1) (entries m) ∙ ap (sum_by (λ (e : ℕ × ℕ). e.1)) (sym (filter-all (entries m)))
 
 pub nothing : (es : List (ℕ × ℕ)) → length es ≡ 0 → es ≡ []

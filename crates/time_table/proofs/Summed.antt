@@ -5,11 +5,11 @@ use Rattle.std.specs.FinMap.{empty}
 use Rattle.std.proofs.lemmas.Bool.{eqb-true}
 use Rattle.std.proofs.lemmas.List.Elements.{All-head, All-tail}
 use Rattle.std.proofs.lemmas.List.Sums.{sum_by-cons}
-use Rattle.time_table.specs.Counts.{Counts, AllCounted, add_many, count_of, total_count, amount_at}
+use Rattle.time_table.specs.Counts.{BinCounts, AllCounted, add_many, count_of, total_count, amount_at}
 use Rattle.time_table.proofs.AddLaws.{count_of-add_many, total_count-add_many, total_count-empty, count_of-empty, AllCounted-empty, AllCounted-add_many}
 
 -- the table of the amounts
-abbrev pub gathered : List (ℕ × ℕ) → Counts
+abbrev pub gathered : List (ℕ × ℕ) → BinCounts
 gathered [] = empty
 gathered (a ∷ rest) = add_many (gathered rest) a.0 a.1
 

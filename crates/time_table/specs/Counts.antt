@@ -4,39 +4,39 @@ use Rattle.std.specs.Ordering.{nat_cmp}
 use Rattle.std.specs.FinMap.{FinMap, get, insert, remove, values, entries}
 
 -- a count for each bin into which records fell
-abbrev pub Counts : Type 0
-Counts = FinMap nat_cmp ℕ
+abbrev pub BinCounts : Type 0
+BinCounts = FinMap nat_cmp ℕ
 
 -- no bin is there without a record
-abbrev pub AllCounted : Counts → Type 0
+abbrev pub AllCounted : BinCounts → Type 0
 AllCounted m = All (λ n. 0 < n) (values m)
 
 -- how many records fell into a bin, 0 where it is not there
-abbrev pub count_of : Counts → ℕ → ℕ
+abbrev pub count_of : BinCounts → ℕ → ℕ
 count_of m bin = unwrap_or (get m bin) 0
 
 -- n records more in a bin
-abbrev pub add_many : Counts → ℕ → ℕ → Counts
+abbrev pub add_many : BinCounts → ℕ → ℕ → BinCounts
 add_many m bin n = insert m bin (count_of m bin + n)
 
 -- n records less in a bin, which goes with its last record
-abbrev pub take_many : Counts → ℕ → ℕ → Counts
+abbrev pub take_many : BinCounts → ℕ → ℕ → BinCounts
 take_many m bin n = if count_of m bin == n then remove m bin else insert m bin (count_of m bin - n)
 
 -- one record more in a bin
-abbrev pub add_one : Counts → ℕ → Counts
+abbrev pub add_one : BinCounts → ℕ → BinCounts
 add_one m bin = add_many m bin 1
 
 -- one record less in a bin, which goes with its last record
-abbrev pub take_one : Counts → ℕ → Counts
+abbrev pub take_one : BinCounts → ℕ → BinCounts
 take_one m bin = take_many m bin 1
 
 -- how many records there are
-abbrev pub total_count : Counts → ℕ
+abbrev pub total_count : BinCounts → ℕ
 total_count m = sum (values m)
 
 -- how many records fell into bins less than bin_end
-abbrev pub count_before : Counts → ℕ → ℕ
+abbrev pub count_before : BinCounts → ℕ → ℕ
 count_before m bin_end = sum_by (λ e. e.1) (filter (λ e. nat_lt e.0 bin_end) (entries m))
 
 -- how much of a list of amounts, each with its bin, is in a bin

@@ -2,7 +2,7 @@
 use Rattle.std.specs.Prelude.{ℕ, ◌+◌, ◌-◌, ◌<◌, ◌≤◌, List, [], ◌∷◌, Option, None, Some}
 use Rattle.std.specs.FinMap.{from_sorted}
 use Rattle.time_table.specs.declared.row.Row.{Row}
-use Rattle.time_table.specs.Counts.{Counts}
+use Rattle.time_table.specs.Counts.{BinCounts}
 
 -- rows are ordered and searched by their bin
 abbrev pub row_bin : Row → ℕ
@@ -19,7 +19,7 @@ counts_from before [] = []
 counts_from before (row ∷ rows) = (row.bin, row.total - before) ∷ counts_from row.total rows
 
 -- the counts of rows that rise
-unfoldable pub counts : List Row → Counts
+unfoldable pub counts : List Row → BinCounts
 counts rows = from_sorted (counts_from 0 rows)
 
 -- the total of the last row, or the one before the rows where there is none

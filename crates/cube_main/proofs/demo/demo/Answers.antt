@@ -1,51 +1,32 @@
-use Rattle.std.proofs.Common.{sym, ◌∙◌, ap, Err, List, ℕ, subst}
-use Rattle.outer_io.specs.Bytes.{Gains, GainsPart}
-use Rattle.outer_io.specs.Files.{file_or_empty}
-use Rattle.cube_main.specs.Feeds.{is_feed_refused}
-use Rattle.feed_reader.specs.Feeds.{accepted}
+use Rattle.std.proofs.Common.{◌∙◌, Ok, Err, Result, subst, ap, sym}
+use Rattle.cube_main.proofs.Ended.{ended_at_once, ended_by_feed, ended_by_script}
+use Rattle.cube_main.specs.Answering.{AnswersFile}
+use Rattle.cube_main.specs.BuiltIn.{built_in}
+use Rattle.cube_main.specs.Loading.{Loads}
+use Rattle.cube_main.specs.Outside.{seen_place, seen_sink}
+use Rattle.cube_view.specs.declared.schema.Schema.{Schema}
 use Rattle.plain_cube.specs.Kept.{points_of, schema_of}
-use Rattle.cube_main.proofs.Demoed.{text_is, refused_feed, refused_script, taken_both, opened_feed, opened_both}
 use Rattle.cube_main.proofs.demo.demo.Goals as goal
 
-pub returns-in-Ok-load-clause-done : goal.returns-in-Ok-load-clause-done
-returns-in-Ok-load-clause-done g c files told e =
-    let loaded = c.in-Ok-load.ensures.points files told in
-    let written = c.answer.ensures.done files (c.in-Ok-load.ensures.files ∙ told) e in
-    subst (λ (t : List ℕ). Gains (g.O.Sink.held c.args.out.now) (g.O.Sink.held c.answer.new.out) t)
-    (text_is (schema_of c.load.new.cube) (file_or_empty files c.args.feed.now) (file_or_empty files c.args.script.now) (points_of c.load.new.cube) (c.in-Ok-load.ensures.schema ∙ c.new-cube.ensures.schema ∙ c.in-Ok.ensures) (loaded.1 ∙ ap (λ s. accepted s (file_or_empty files c.args.feed.now)) (sym c.in-Ok-load.ensures.schema)))
-    written.0
+pub returns-in-Err-clause-ends : goal.returns-in-Err-clause-ends
+returns-in-Err-clause-ends g c =
+    ended_at_once (seen_place g.P.Place.files g.P.Place.read_faults g.P.Place.write_faults g.P.Place.opened g.P.Place.created) (seen_sink g.O.Sink.held g.O.Sink.faults g.O.Sink.name)
+    c.args.feed.now c.args.script.now c.args.place.now c.args.out.now
 
-pub returns-in-Ok-load-clause-part : goal.returns-in-Ok-load-clause-part
-returns-in-Ok-load-clause-part g c files told =
-    let loaded = c.in-Ok-load.ensures.points files told in
-    let written = c.answer.ensures.part files (c.in-Ok-load.ensures.files ∙ told) in
-    subst (λ (t : List ℕ). GainsPart (g.O.Sink.held c.args.out.now) (g.O.Sink.held c.answer.new.out) t)
-    (text_is (schema_of c.load.new.cube) (file_or_empty files c.args.feed.now) (file_or_empty files c.args.script.now) (points_of c.load.new.cube) (c.in-Ok-load.ensures.schema ∙ c.new-cube.ensures.schema ∙ c.in-Ok.ensures) (loaded.1 ∙ ap (λ s. accepted s (file_or_empty files c.args.feed.now)) (sym c.in-Ok-load.ensures.schema)))
-    written
+pub returns-in-Ok-load-clause-ends : goal.returns-in-Ok-load-clause-ends
+returns-in-Ok-load-clause-ends g c =
+    let p = seen_place g.P.Place.files g.P.Place.read_faults g.P.Place.write_faults g.P.Place.opened g.P.Place.created in
+    let s = seen_sink g.O.Sink.held g.O.Sink.faults g.O.Sink.name in
+    let made = c.new-cube.ensures.schema ∙ c.in-Ok.ensures in
+    ended_by_script p s c.args.feed.now c.args.script.now c.args.place.now c.load.new.place c.run_script.new.place c.args.out.now c.run_script.new.out (points_of c.load.new.cube) c.run_script.result
+    (subst (λ (z : Schema). Loads p c.args.place.now c.load.new.place c.args.feed.now z (points_of c.load.new.cube) (Ok _)) made c.in-Ok-load.ensures.loads)
+    (subst (λ (z : Schema). AnswersFile p s c.load.new.place c.run_script.new.place c.args.out.now c.run_script.new.out z (points_of c.load.new.cube) c.args.script.now c.run_script.result) (c.in-Ok-load.ensures.schema ∙ made) c.run_script.ensures.answers)
+    c.run_script.ensures.keeps
 
-pub returns-in-Ok-load-clause-all_before_too_much : goal.returns-in-Ok-load-clause-all_before_too_much
-returns-in-Ok-load-clause-all_before_too_much g c files told e _ =
-    let loaded = c.in-Ok-load.ensures.points files told in
-    let written = c.answer.ensures.refused files (c.in-Ok-load.ensures.files ∙ told) e in
-    subst (λ (t : List ℕ). Gains (g.O.Sink.held c.args.out.now) (g.O.Sink.held c.answer.new.out) t)
-    (text_is (schema_of c.load.new.cube) (file_or_empty files c.args.feed.now) (file_or_empty files c.args.script.now) (points_of c.load.new.cube) (c.in-Ok-load.ensures.schema ∙ c.new-cube.ensures.schema ∙ c.in-Ok.ensures) (loaded.1 ∙ ap (λ s. accepted s (file_or_empty files c.args.feed.now)) (sym c.in-Ok-load.ensures.schema)))
-    written.0
-
-pub returns-in-Ok-load-clause-refused : goal.returns-in-Ok-load-clause-refused
-returns-in-Ok-load-clause-refused g c files told e =
-    refused_script (schema_of c.load.new.cube) (file_or_empty files c.args.feed.now) (file_or_empty files c.args.script.now) (c.in-Ok-load.ensures.schema ∙ c.new-cube.ensures.schema ∙ c.in-Ok.ensures) (c.answer.ensures.refused files (c.in-Ok-load.ensures.files ∙ told) e).1
-
-pub returns-in-Ok-load-clause-accepted : goal.returns-in-Ok-load-clause-accepted
-returns-in-Ok-load-clause-accepted g c files told e =
-    let loaded = c.in-Ok-load.ensures.points files told in
-    taken_both (schema_of c.load.new.cube) (file_or_empty files c.args.feed.now) (file_or_empty files c.args.script.now) (c.in-Ok-load.ensures.schema ∙ c.new-cube.ensures.schema ∙ c.in-Ok.ensures) (ap (λ s. is_feed_refused s (file_or_empty files c.args.feed.now)) c.in-Ok-load.ensures.schema ∙ loaded.0) (c.answer.ensures.done files (c.in-Ok-load.ensures.files ∙ told) e).1
-
-pub returns-in-Ok-load-clause-opened : goal.returns-in-Ok-load-clause-opened
-returns-in-Ok-load-clause-opened g c = opened_both _ _ _ _ _ c.in-Ok-load.ensures.opened c.answer.ensures.opened_once
-
-pub returns-clause-refused : goal.returns-clause-refused
-returns-clause-refused g c files told e =
-    refused_feed (schema_of c.new-cube.result) (file_or_empty files c.args.feed.now) (file_or_empty files c.args.script.now) (c.new-cube.ensures.schema ∙ c.in-Ok.ensures) (c.in-Err-load.ensures.refused files told (ap (λ s. Err s) e))
-
-pub returns-clause-opened : goal.returns-clause-opened
-returns-clause-opened g c = opened_feed _ _ _ _ c.in-Err-load.ensures.opened_once
+pub returns-clause-ends : goal.returns-clause-ends
+returns-clause-ends g c =
+    let p = seen_place g.P.Place.files g.P.Place.read_faults g.P.Place.write_faults g.P.Place.opened g.P.Place.created in
+    let s = seen_sink g.O.Sink.held g.O.Sink.faults g.O.Sink.name in
+    let made = c.new-cube.ensures.schema ∙ c.in-Ok.ensures in
+    ended_by_feed p s c.args.feed.now c.args.script.now c.args.place.now c.load.new.place c.args.out.now (points_of c.load.new.cube) c.in-Err-load.status
+    (subst (λ (z : Schema). Loads p c.args.place.now c.load.new.place c.args.feed.now z (points_of c.load.new.cube) (Err c.in-Err-load.status)) made c.in-Err-load.ensures.loads)

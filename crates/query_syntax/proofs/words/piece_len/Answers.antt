@@ -1,5 +1,5 @@
 use Rattle.std.proofs.Common.{◌≡◌, ◌+◌, ℕ, Bool, false, get_or, inl, inr, sym, ◌∙◌, ap, arith}
-use Rattle.query_syntax.specs.Words.{pieces, cuts, quoted_after}
+use Rattle.query_syntax.specs.Words.{cut_pieces, cuts, quoted_after}
 use Rattle.query_syntax.proofs.Cutting.{pieces_at, is_cut, is_uncut, toggles_at, keeps_at, pieces_at-start, pieces_at-step, pieces_at-cut, pieces_at-end}
 use Rattle.query_syntax.proofs.words.piece_len.Goals as goal
 use Rattle.query_syntax.proofs.words.piece_len.Goals.{then-b-eq34, else-b-eq34}
@@ -16,10 +16,10 @@ loop-i-preserved c =
     ∙ sym (pieces_at-step c.args.mark c.loop-i.quoted c.args.bytes.now c.loop-i.i (omega arith) uncut) ∙ c.loop-i.invariant
 
 pub returns-then-not-quoted-clause-cut : goal.returns-then-not-quoted-clause-cut
-unfolding pieces
+unfolding cut_pieces
 returns-then-not-quoted-clause-cut c = λ h.
     sym c.loop-i.invariant ∙ pieces_at-cut c.args.mark c.loop-i.quoted c.args.bytes.now c.loop-i.i h (is_cut c.args.mark (get_or c.args.bytes.now c.loop-i.i 0) c.loop-i.quoted c.if-b-mark.true c.if-not-quoted.true)
 
 pub returns-clause-whole : goal.returns-clause-whole
-unfolding pieces
+unfolding cut_pieces
 returns-clause-whole c = λ _. sym c.loop-i.invariant ∙ pieces_at-end c.args.mark c.loop-i.quoted c.args.bytes.now c.loop-i.i (omega arith)

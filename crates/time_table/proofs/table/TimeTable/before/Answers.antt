@@ -1,13 +1,13 @@
 use Rattle.std.proofs.Common.{◌+◌, ◌≤◌, subst, ap, ◌∙◌, sym}
 use Rattle.std.specs.FinMap.{len}
 use Rattle.probe_core.specs.Bits.{bits}
-use Rattle.time_table.specs.Counts.{Counts, AllCounted}
+use Rattle.time_table.specs.Counts.{BinCounts, AllCounted}
 use Rattle.time_table.proofs.Formed.{len-form, AllCounted-form}
 use Rattle.time_table.proofs.table.TimeTable.before.Goals as goal
 
 pub returns-clause-cost : goal.returns-clause-cost
 returns-clause-cost g c =
-    subst (λ n. c.before-2.new.steps ≤ c.args.steps.now + (1 + bits n)) (sym (len-form c.self.inside.form c.self.invariant) ∙ ap (λ (m : Counts). len m) c.self.view_is)
+    subst (λ n. c.before-2.new.steps ≤ c.args.steps.now + (1 + bits n)) (sym (len-form c.self.inside.form c.self.invariant) ∙ ap (λ (m : BinCounts). len m) c.self.view_is)
     c.before-2.ensures.cost
 
 pub returns-clause-counted : goal.returns-clause-counted

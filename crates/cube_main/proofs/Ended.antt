@@ -1,0 +1,167 @@
+-- How a run of the form `demo` ends, by how its feed was loaded and its script answered.
+use Rattle.std.proofs.Common.{◌≡◌, ◌≢◌, ◌≤◌, ℕ, zero, suc, ◌+◌, Bool, true, false, ◌||◌, List, [], ◌∷◌, ◌++◌, take, length, Option, Some, Result, Ok, Err, ◌⊎◌, inl, inr, refl, sym, ◌∙◌, ap, subst, arith, length-append, append_assoc}
+use Rattle.std.proofs.Math.Bool.{or-true}
+use Rattle.std.proofs.lemmas.List.{append-nil}
+use Rattle.cube_main.proofs.Answered.{nothing_gained}
+use Rattle.cube_main.specs.Answering.{AnswersFile}
+use Rattle.cube_main.specs.BuiltIn.{built_in}
+use Rattle.cube_main.specs.Demo.{is_refused, DemoEnds}
+use Rattle.cube_main.specs.Loading.{Loads}
+use Rattle.cube_main.specs.Outside.{PlaceSeen, SinkSeen, Keeps, WritesNoFile}
+use Rattle.cube_main.specs.Statuses.{IsRefusedOrEarlier, IsDoneOrNoMemory}
+use Rattle.cube_main.specs.declared.status.Status.{Status}
+use Rattle.cube_main.specs.declared.status.Status.TheVariants.{Done, Usage, NoMemory, ReadFault, WriteFault, FeedRefused}
+use Rattle.cube_view.specs.Points.{Point}
+use Rattle.feed_reader.specs.Feeds.{accepted, is_feed_refused}
+use Rattle.outer_io.specs.Faults.{Rose}
+use Rattle.outer_io.specs.Files.{Files, file_or_empty}
+use Rattle.outer_io.specs.Lines.{lines}
+use Rattle.plain_cube.specs.Listed.{no_structure}
+use Rattle.session_core.specs.Answered.{GainsReplies, GainsFront}
+use Rattle.session_core.specs.Asked.{asked}
+use Rattle.session_core.specs.Scripts.{is_script_refused}
+
+both_ways : {P : Type 0} (b : Bool) → b ≡ true → b ≡ false → P
+both_ways b t f = absurd (apart (sym t ∙ f))
+  where
+    apart : true ≡ false → ⊥
+    apart e = cc
+
+refused_feed : (feed script : List ℕ) → is_feed_refused built_in feed ≡ true → is_refused feed script ≡ true
+unfolding is_refused
+refused_feed feed script bad = ap (λ b. b || is_script_refused built_in script) bad
+
+refused_script : (feed script : List ℕ) → is_script_refused built_in script ≡ true → is_refused feed script ≡ true
+unfolding is_refused
+refused_script feed script bad = ap (λ b. is_feed_refused built_in feed || b) bad ∙ or-true (is_feed_refused built_in feed)
+
+taken_both : (feed script : List ℕ) → is_feed_refused built_in feed ≡ false → is_script_refused built_in script ≡ false → is_refused feed script ≡ false
+unfolding is_refused
+taken_both feed script good small = ap (λ b. b || is_script_refused built_in script) good ∙ small
+
+-- a run that is not done ended early
+ends_early : (status : Status) → status ≢ Done → status ≢ Usage → IsRefusedOrEarlier status
+ends_early Done done usage = absurd (done refl)
+ends_early Usage done usage = absurd (usage refl)
+ends_early NoMemory done usage = inr (inl refl)
+ends_early ReadFault done usage = inr (inr (inl refl))
+ends_early WriteFault done usage = inr (inr (inr refl))
+ends_early FeedRefused done usage = inl refl
+
+-- one that has no other cause is done, or memory was wanted
+ends_well : (status : Status) → status ≢ Usage → status ≢ ReadFault → status ≢ WriteFault → status ≢ FeedRefused → IsDoneOrNoMemory status
+ends_well Done usage read write refused = inl refl
+ends_well Usage usage read write refused = absurd (usage refl)
+ends_well NoMemory usage read write refused = inr refl
+ends_well ReadFault usage read write refused = absurd (read refl)
+ends_well WriteFault usage read write refused = absurd (write refl)
+ends_well FeedRefused usage read write refused = absurd (refused refl)
+
+take_none : {A : Type 0} (n : ℕ) → take {A = A} n [] ≡ []
+take_none zero = refl
+take_none (suc n) = refl
+
+-- what was opened, the feed at most
+opened_feed : (before after : List (List ℕ)) (feed script : List ℕ) → (n : ℕ) × (after ≡ before ++ take n (feed ∷ [])) → (k : ℕ) × (after ≡ before ++ take k (feed ∷ script ∷ []))
+opened_feed before after feed script (zero, e) = (0, e)
+opened_feed before after feed script (suc n, e) = (1, e ∙ ap (λ ns. before ++ (feed ∷ ns)) (take_none n))
+
+-- what was opened, the feed and then the script at most
+opened_script : (before then after : List (List ℕ)) (feed script : List ℕ) → then ≡ before ++ feed ∷ [] → (n : ℕ) × (after ≡ then ++ take n (script ∷ [])) → (k : ℕ) × (after ≡ before ++ take k (feed ∷ script ∷ []))
+opened_script before then after feed script first (n, e) =
+    (suc n, e ∙ ap (λ ns. ns ++ take n (script ∷ [])) first ∙ append_assoc before (feed ∷ []) (take n (script ∷ [])))
+
+one_name : (n : ℕ) (name : List ℕ) → length (take n (name ∷ [])) ≤ 1
+one_name zero name = omega arith
+one_name (suc n) name = let e = ap (λ (ns : List (List ℕ)). length ns) (take_none {A = List ℕ} n) in omega (arith, e)
+
+-- one name is not two
+not_two : {P : Type 0} (before after : List (List ℕ)) (feed script : List ℕ) → (n : ℕ) × (after ≡ before ++ take n (feed ∷ [])) → after ≡ before ++ feed ∷ script ∷ [] → P
+not_two before after feed script (n, one) two =
+    let a = ap (λ (ns : List (List ℕ)). length ns) one ∙ length-append before (take n (feed ∷ [])) in
+    let b = ap (λ (ns : List (List ℕ)). length ns) two ∙ length-append before (feed ∷ script ∷ []) in
+    let c = one_name n feed in
+    absurd (omega (arith, a, b, c))
+
+module _ {P O : Type 0} (p : PlaceSeen P) (s : SinkSeen O) (feed script : List ℕ) where
+  -- a run that ended with its feed, which was not loaded
+  pub ended_by_feed : (place place' : P) (out : O) (points : List Point) (status : Status) → Loads p place place' feed built_in points (Err status) → DemoEnds p s place place' out out status feed script
+  ended_by_feed place place' out points status loads =
+      record {
+        form = loads.status.1;
+        done = λ fs told e. absurd (loads.status.0 e);
+        part = λ fs told. nothing_gained built_in _ _ (s.held out) _;
+        all_before_too_much = λ fs told e good. both_ways (is_feed_refused built_in (file_or_empty fs feed)) (loads.refused fs told (ap (λ st. Err st) e)) good;
+        refused = λ fs told e. refused_feed (file_or_empty fs feed) (file_or_empty fs script) (loads.refused fs told (ap (λ st. Err st) e));
+        refused_or_earlier = λ fs told bad. ends_early status loads.status.0 loads.status.1;
+        refused_feed = λ fs told bad. refl;
+        complete = λ fs told good read write. ends_well status loads.status.1 (λ e. read (loads.read.rose (ap (λ st. Err st) e))) loads.status.2
+            (λ e. both_ways (is_refused (file_or_empty fs feed) (file_or_empty fs script)) (refused_feed (file_or_empty fs feed) (file_or_empty fs script) (loads.refused fs told (ap (λ st. Err st) e))) good);
+        opened = opened_feed (p.opened place) (p.opened place') feed script loads.opened_once;
+        opened_both = λ e. absurd (loads.status.0 e);
+        read_before = λ fs told two. not_two (p.opened place) (p.opened place') feed script loads.opened_once two;
+        untouched = λ e. refl;
+        no_file = loads.no_file;
+      }
+
+  -- a run that found no memory for its schema
+  pub ended_at_once : (place : P) (out : O) → DemoEnds p s place place out out NoMemory feed script
+  ended_at_once place out =
+      record {
+        form = λ e. cc;
+        done = λ fs told e. cc;
+        part = λ fs told. nothing_gained built_in _ _ (s.held out) _;
+        all_before_too_much = λ fs told e good. cc;
+        refused = λ fs told e. cc;
+        refused_or_earlier = λ fs told bad. inr (inl refl);
+        refused_feed = λ fs told bad. refl;
+        complete = λ fs told good read write. inr refl;
+        opened = (0, sym (append-nil (p.opened place)));
+        opened_both = λ e. cc;
+        read_before = λ fs told two. not_two (p.opened place) (p.opened place) feed script (0, sym (append-nil (p.opened place))) two;
+        untouched = λ e. refl;
+        no_file = record { files = refl; created = refl; write_faults = refl };
+      }
+
+  -- a run that came to its script
+  module _ (place mid place' : P) (out out' : O) (points : List Point) (status : Status) (loads : Loads p place mid feed built_in points (Ok tt)) (answers : AnswersFile p s mid place' out out' built_in points script status) (keeps : Keeps p s mid place' out out' status) where
+    told_mid : (fs : Files) → p.files place ≡ Some fs → p.files mid ≡ Some fs
+    told_mid fs told = loads.no_file.files ∙ told
+
+    all_gained : (fs : Files) → p.files place ≡ Some fs → GainsReplies built_in no_structure points (length points) (s.held out) (s.held out') (asked built_in (lines (file_or_empty fs script))) → let h = accepted built_in (file_or_empty fs feed) in GainsReplies built_in no_structure h (length h) (s.held out) (s.held out') (asked built_in (lines (file_or_empty fs script)))
+    all_gained fs told gained = subst (λ (h : List Point). GainsReplies built_in no_structure h (length h) (s.held out) (s.held out') (asked built_in (lines (file_or_empty fs script)))) (loads.loaded fs told).1 gained
+
+    some_gained : (fs : Files) → p.files place ≡ Some fs → let h = accepted built_in (file_or_empty fs feed) in GainsFront built_in no_structure h (length h) (s.held out) (s.held out') (asked built_in (lines (file_or_empty fs script)))
+    some_gained fs told = subst (λ (h : List Point). GainsFront built_in no_structure h (length h) (s.held out) (s.held out') (asked built_in (lines (file_or_empty fs script)))) (loads.loaded fs told).1 (answers.part fs (told_mid fs told))
+
+    none_refused : (fs : Files) → p.files place ≡ Some fs → status ≡ Done → is_refused (file_or_empty fs feed) (file_or_empty fs script) ≡ false
+    none_refused fs told e = taken_both (file_or_empty fs feed) (file_or_empty fs script) (loads.loaded fs told).0 (answers.done fs (told_mid fs told) e).1
+
+    script_refused : (fs : Files) → p.files place ≡ Some fs → status ≡ FeedRefused → is_refused (file_or_empty fs feed) (file_or_empty fs script) ≡ true
+    script_refused fs told e = refused_script (file_or_empty fs feed) (file_or_empty fs script) (answers.refused fs (told_mid fs told) e).1
+
+    read_quiet : p.read_faults mid ≡ p.read_faults place
+    read_quiet = loads.read.quiet (λ e. cc)
+
+    pub ended_by_script : DemoEnds p s place place' out out' status feed script
+    ended_by_script =
+        record {
+          form = answers.form;
+          done = λ fs told e. (all_gained fs told (answers.done fs (told_mid fs told) e).0, none_refused fs told e);
+          part = some_gained;
+          all_before_too_much = λ fs told e good. all_gained fs told (answers.refused fs (told_mid fs told) e).0;
+          refused = script_refused;
+          refused_or_earlier = λ fs told bad. ends_early status (λ e. both_ways (is_refused (file_or_empty fs feed) (file_or_empty fs script)) bad (none_refused fs told e)) answers.form;
+          refused_feed = λ fs told bad. both_ways (is_feed_refused built_in (file_or_empty fs feed)) bad (loads.loaded fs told).0;
+          complete = λ fs told good read write. ends_well status answers.form (λ e. read (subst (λ (n : ℕ). Rose n (p.read_faults place')) read_quiet (keeps.read e))) (λ e. write (keeps.write e))
+              (λ e. both_ways (is_refused (file_or_empty fs feed) (file_or_empty fs script)) (script_refused fs told e) good);
+          opened = opened_script (p.opened place) (p.opened mid) (p.opened place') feed script loads.opened_it answers.opened_once;
+          opened_both = λ e. answers.opened_it e ∙ ap (λ ns. ns ++ script ∷ []) loads.opened_it ∙ append_assoc (p.opened place) (feed ∷ []) (script ∷ []);
+          read_before = λ fs told two. (loads.loaded fs told).0;
+          untouched = λ e. answers.untouched (e ∙ sym loads.opened_it);
+          no_file = record {
+            files = answers.no_file.files ∙ loads.no_file.files;
+            created = answers.no_file.created ∙ loads.no_file.created;
+            write_faults = answers.no_file.write_faults ∙ loads.no_file.write_faults;
+          };
+        }

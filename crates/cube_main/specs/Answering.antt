@@ -1,0 +1,47 @@
+-- What answering a script leaves.
+use Rattle.std.specs.Prelude.{◌≡◌, ◌≢◌, ℕ, Bool, true, false, List, [], ◌∷◌, ◌++◌, length, take, Option, Some, Result, Ok, Err}
+use Rattle.cube_main.specs.Outside.{PlaceSeen, SinkSeen, WritesNoFile}
+use Rattle.cube_main.specs.declared.status.Status.{Status}
+use Rattle.cube_main.specs.declared.status.Status.TheVariants.{Done, Usage, NoMemory, ReadFault, WriteFault, FeedRefused}
+use Rattle.cube_view.specs.Points.{Point}
+use Rattle.cube_view.specs.declared.schema.Schema.{Schema}
+use Rattle.outer_io.specs.Files.{Files, file_or_empty}
+use Rattle.outer_io.specs.Lines.{lines}
+use Rattle.plain_cube.specs.Listed.{no_structure}
+use Rattle.session_core.specs.Answered.{GainsReplies, GainsFront}
+use Rattle.session_core.specs.Asked.{asked}
+use Rattle.session_core.specs.Scripts.{is_script_refused}
+use Rattle.session_core.specs.declared.fault.SessionFault.{SessionFault}
+use Rattle.session_core.specs.declared.fault.SessionFault.TheVariants as fault
+
+-- how a run ends by the answer to its script
+abbrev pub status_of_fault : SessionFault → Status
+status_of_fault fault.Read = ReadFault
+status_of_fault fault.Write = WriteFault
+status_of_fault fault.TooMuch = FeedRefused
+status_of_fault fault.NoMemory = NoMemory
+
+abbrev pub status_of_script : Result (Unit {0}) SessionFault → Status
+status_of_script (Ok answered) = Done
+status_of_script (Err fault) = status_of_fault fault
+
+-- what answering the named script over a list of points, each of which was told, leaves of a place and a sink
+pub record AnswersFile {P O : Type 0} (p : PlaceSeen P) (s : SinkSeen O) (place place' : P) (out out' : O) (schema : Schema) (h : List Point) (name : List ℕ) (status : Status) : Type 0 where
+  -- the words are a form
+  pub form : status ≢ Usage
+  -- with status 0 the sink gained all answers, and the script is not refused
+  pub done : (files : Files) → p.files place ≡ Some files → status ≡ Done
+      → GainsReplies schema no_structure h (length h) (s.held out) (s.held out') (asked schema (lines (file_or_empty files name))) × (is_script_refused schema (file_or_empty files name) ≡ false)
+  -- with status 7 too, and it is refused
+  pub refused : (files : Files) → p.files place ≡ Some files → status ≡ FeedRefused
+      → GainsReplies schema no_structure h (length h) (s.held out) (s.held out') (asked schema (lines (file_or_empty files name))) × (is_script_refused schema (file_or_empty files name) ≡ true)
+  -- with any status it gained some of them
+  pub part : (files : Files) → p.files place ≡ Some files → GainsFront schema no_structure h (length h) (s.held out) (s.held out') (asked schema (lines (file_or_empty files name)))
+  -- the script was opened, once at most
+  pub opened_once : (k : ℕ) × (p.opened place' ≡ p.opened place ++ take k (name ∷ []))
+  -- and with status 0 it was
+  pub opened_it : status ≡ Done → p.opened place' ≡ p.opened place ++ name ∷ []
+  -- where it was not, nothing was written
+  pub untouched : p.opened place' ≡ p.opened place → out' ≡ out
+  -- no file is written
+  pub no_file : WritesNoFile p place place'
