@@ -4,7 +4,7 @@ use Rattle.std.proofs.lemmas.List.{length_push}
 use Rattle.node_arena.specs.Slots.{Slot}
 use Rattle.arena_undo.specs.declared.change.Change.{Change}
 use Rattle.arena_undo.specs.Undone.{take_back, CanTake, undone, CanUndo}
-use Rattle.arena_undo.specs.Trail.{IsTrail}
+use Rattle.arena_undo.specs.Trail.{IsChangeTrail}
 use Rattle.arena_undo.specs.Worked.{Worked, changed}
 
 -- the last change is taken back first
@@ -28,7 +28,7 @@ pub record IsNoted (slots next : List Slot) (changes noted : List Change) (c : C
   pub there : CanTake c next
   pub back : take_back c next ≡ slots
 
-pub noted_trail : (slots next : List Slot) (changes noted : List Change) (c : Change) (room capacity more : ℕ) → IsTrail slots changes room capacity → IsNoted slots next changes noted c → length changes < room → capacity ≤ more → IsTrail next noted room more
+pub noted_trail : (slots next : List Slot) (changes noted : List Change) (c : Change) (room capacity more : ℕ) → IsChangeTrail slots changes room capacity → IsNoted slots next changes noted c → length changes < room → capacity ≤ more → IsChangeTrail next noted room more
 noted_trail slots next changes noted c room capacity more T N left grown =
     let size : length noted ≡ length changes + 1 = ap length N.is ∙ length_push changes c in
     record {
@@ -37,8 +37,8 @@ noted_trail slots next changes noted c room capacity more T N left grown =
       undoable = subst (λ z. CanUndo z next) (sym N.is) (can_push changes c next N.there (subst (CanUndo changes) (sym N.back) T.undoable));
     }
 
-pub kept_trail : (slots next : List Slot) (changes : List Change) (room capacity : ℕ) → IsTrail slots changes room capacity → next ≡ slots → IsTrail next changes room capacity
-kept_trail slots next changes room capacity T e = subst (λ z. IsTrail z changes room capacity) (sym e) T
+pub kept_trail : (slots next : List Slot) (changes : List Change) (room capacity : ℕ) → IsChangeTrail slots changes room capacity → next ≡ slots → IsChangeTrail next changes room capacity
+kept_trail slots next changes room capacity T e = subst (λ z. IsChangeTrail z changes room capacity) (sym e) T
 
 abbrev worked : List Slot → List Slot → ℕ → ℕ → Worked
 worked slots start made room = record { slots = slots; start = start; made = made; room = room }
@@ -56,7 +56,7 @@ noted_view slots next called changes noted c room w v N e =
         ∙ ap (λ (k : ℕ). worked called (undone changes slots) k room) n
 
 -- a call that changes the slots by f, and is noted
-pub step_made : (f : List Slot → List Slot) (slots next : List Slot) (changes noted : List Change) (c : Change) (room capacity more : ℕ) (w : Worked) → IsTrail slots changes room capacity → worked slots (undone changes slots) (length changes) room ≡ w → w.made < w.room → noted ≡ changes ++ c ∷ [] → capacity ≤ more → next ≡ f slots → CanTake c (f w.slots) → take_back c (f w.slots) ≡ w.slots → IsTrail next noted room more × (worked next (undone noted next) (length noted) room ≡ changed w (f w.slots))
+pub step_made : (f : List Slot → List Slot) (slots next : List Slot) (changes noted : List Change) (c : Change) (room capacity more : ℕ) (w : Worked) → IsChangeTrail slots changes room capacity → worked slots (undone changes slots) (length changes) room ≡ w → w.made < w.room → noted ≡ changes ++ c ∷ [] → capacity ≤ more → next ≡ f slots → CanTake c (f w.slots) → take_back c (f w.slots) ≡ w.slots → IsChangeTrail next noted room more × (worked next (undone noted next) (length noted) room ≡ changed w (f w.slots))
 step_made f slots next changes noted c room capacity more w T v left is grown called there back =
     (noted_trail slots next changes noted c room capacity more T made less grown, noted_view slots next (f w.slots) changes noted c room w v made now)
   where

@@ -38,11 +38,11 @@ impl Model for Work {
     ghost coded = { Prim.hlevel (codes, counts_code) };
 
     ghost use Rattle.arena_undo.specs.Undone.{undone};
-    ghost use Rattle.arena_undo.specs.Trail.{IsTrail};
+    ghost use Rattle.arena_undo.specs.Trail.{IsChangeTrail};
 
     ghost view = { λ w. record { slots = w.arena; start = undone w.changes.items w.arena; made = length w.changes.items; room = w.room } };
 
-    ghost invariant = { λ w. IsTrail w.arena w.changes.items w.room (vec_capacity w.changes) };
+    ghost invariant = { λ w. IsChangeTrail w.arena w.changes.items w.room (vec_capacity w.changes) };
 }
 
 impl Work {

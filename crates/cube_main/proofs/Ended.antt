@@ -7,7 +7,7 @@ use Rattle.cube_main.specs.Answering.{AnswersFile}
 use Rattle.cube_main.specs.BuiltIn.{built_in}
 use Rattle.cube_main.specs.Demo.{is_refused, DemoEnds}
 use Rattle.cube_main.specs.Loading.{Loads}
-use Rattle.cube_main.specs.Outside.{PlaceSeen, SinkSeen, Keeps, WritesNoFile}
+use Rattle.cube_main.specs.Outside.{PlaceSeen, SinkSeen, KeepsOutside, WritesNoFile}
 use Rattle.cube_main.specs.Statuses.{IsRefusedOrEarlier, IsDoneOrNoMemory}
 use Rattle.cube_main.specs.declared.status.Status.{Status}
 use Rattle.cube_main.specs.declared.status.Status.TheVariants.{Done, Usage, NoMemory, ReadFault, WriteFault, FeedRefused}
@@ -124,7 +124,7 @@ module _ {P O : Type 0} (p : PlaceSeen P) (s : SinkSeen O) (feed script : List �
       }
 
   -- a run that came to its script
-  module _ (place mid place' : P) (out out' : O) (points : List Point) (status : Status) (loads : Loads p place mid feed built_in points (Ok tt)) (answers : AnswersFile p s mid place' out out' built_in points script status) (keeps : Keeps p s mid place' out out' status) where
+  module _ (place mid place' : P) (out out' : O) (points : List Point) (status : Status) (loads : Loads p place mid feed built_in points (Ok tt)) (answers : AnswersFile p s mid place' out out' built_in points script status) (keeps : KeepsOutside p s mid place' out out' status) where
     told_mid : (fs : Files) → p.files place ≡ Some fs → p.files mid ≡ Some fs
     told_mid fs told = loads.no_file.files ∙ told
 

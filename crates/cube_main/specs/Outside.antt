@@ -32,7 +32,7 @@ abbrev pub seen_sink : {O : Type 0} → (O → Option (List ℕ)) → (O → ℕ
 seen_sink held faults name = record { held = held; faults = faults; name = name }
 
 -- What every form of words keeps of a place and a sink, which are as they are behind the call, where they have a prime
-pub record Keeps {P O : Type 0} (p : PlaceSeen P) (s : SinkSeen O) (place place' : P) (out out' : O) (status : Status) : Type 0 where
+pub record KeepsOutside {P O : Type 0} (p : PlaceSeen P) (s : SinkSeen O) (place place' : P) (out out' : O) (status : Status) : Type 0 where
   -- a read fault comes only where the place's count rose
   pub read : status ≡ ReadFault → Rose (p.read_faults place) (p.read_faults place')
   -- a write fault comes only where the sink's count rose

@@ -2,7 +2,7 @@
 ghost use Rattle.std.specs.Prelude.{◌≡◌};
 ghost use Rattle.cube_main.specs.Answering.{status_of_script, AnswersFile};
 ghost use Rattle.cube_main.specs.Demo.{DemoEnds};
-ghost use Rattle.cube_main.specs.Outside.{Keeps, seen_place, seen_sink};
+ghost use Rattle.cube_main.specs.Outside.{KeepsOutside, seen_place, seen_sink};
 ghost use Rattle.plain_cube.specs.Kept.{points_of, schema_of};
 
 mod loading;
@@ -39,7 +39,7 @@ fn run_script<P: Place, O: Sink>(
     out: &mut O,
 ) -> Status
     ensures answers { AnswersFile (seen_place P.files P.read_faults P.write_faults P.opened P.created) (seen_sink O.held O.faults O.name) place.old place.new out.old out.new (schema_of cube.now) (points_of cube.now) script.now result }
-    ensures keeps { Keeps (seen_place P.files P.read_faults P.write_faults P.opened P.created) (seen_sink O.held O.faults O.name) place.old place.new out.old out.new result }
+    ensures keeps { KeepsOutside (seen_place P.files P.read_faults P.write_faults P.opened P.created) (seen_sink O.held O.faults O.name) place.old place.new out.old out.new result }
 {
     match place.open(script) {
         Ok(source) => {
@@ -61,7 +61,7 @@ pub(crate) fn demo<P: Place, O: Sink>(
     out: &mut O,
 ) -> Status
     ensures ends { DemoEnds (seen_place P.files P.read_faults P.write_faults P.opened P.created) (seen_sink O.held O.faults O.name) place.old place.new out.old out.new result feed.now script.now }
-    ensures keeps { Keeps (seen_place P.files P.read_faults P.write_faults P.opened P.created) (seen_sink O.held O.faults O.name) place.old place.new out.old out.new result }
+    ensures keeps { KeepsOutside (seen_place P.files P.read_faults P.write_faults P.opened P.created) (seen_sink O.held O.faults O.name) place.old place.new out.old out.new result }
 {
     let schema = match built_in_schema(alloc) {
         Ok(schema) => schema,

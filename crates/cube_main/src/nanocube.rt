@@ -1,7 +1,7 @@
 //! The top call.
 ghost use Rattle.std.specs.Prelude.{◌≡◌, ◌↔◌, map, None, option_map, string_bytes};
 ghost use Rattle.cube_main.specs.Demo.{demo_names, DemoEnds, IfDemo};
-ghost use Rattle.cube_main.specs.Outside.{Keeps, seen_place, seen_sink};
+ghost use Rattle.cube_main.specs.Outside.{KeepsOutside, seen_place, seen_sink};
 
 use crate::demo::demo;
 use crate::status::Status;
@@ -34,7 +34,7 @@ pub fn nanocube<R: AllocGlobal, P: Place, O: Sink>(
 
     // How each form ends, and what all of them keep.
     ensures demo { IfDemo (map string_bytes words.now) (DemoEnds (seen_place P.files P.read_faults P.write_faults P.opened P.created) (seen_sink O.held O.faults O.name) place.old place.new out.old out.new result) }
-    ensures keeps { Keeps (seen_place P.files P.read_faults P.write_faults P.opened P.created) (seen_sink O.held O.faults O.name) place.old place.new out.old out.new result }
+    ensures keeps { KeepsOutside (seen_place P.files P.read_faults P.write_faults P.opened P.created) (seen_sink O.held O.faults O.name) place.old place.new out.old out.new result }
 {
     match demo_files(words) {
         Some((feed, script)) => demo(rt.alloc(), feed, script, place, out),

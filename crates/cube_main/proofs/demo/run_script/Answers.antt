@@ -15,14 +15,14 @@ returns-in-Ok-clause-answers g c =
     subst (λ (status : Status). AnswersFile p s c.args.place.now c.give_back_in.new.self c.args.out.now c.answer_script-source.new.out (schema_of c.args.cube.now) (points_of c.args.cube.now) c.args.script.now status)
     (sym c.status_of.ensures)
     (answered_file p s c.args.place.now c.give_back_in.new.self c.args.out.now c.answer_script-source.new.out (schema_of c.args.cube.now) (points_of c.args.cube.now) c.args.script.now
-      _ _ c.seen.result (g.P.In.Source.left c.in-Ok.source) (Counts-own (points_of c.args.cube.now)) c.seen.ensures c.in-Ok.ensures.left
-      _ c.answer_script-source.ensures.all c.answer_script-source.ensures.too_much c.answer_script-source.ensures.part
-      (c.give_back_in.ensures.opened ∙ c.in-Ok.ensures.opened.noted (λ e. cc))
-      (record {
-        files = c.give_back_in.ensures.files ∙ c.in-Ok.ensures.files;
-        created = c.give_back_in.ensures.writing.1 ∙ c.in-Ok.ensures.writing.1;
-        write_faults = c.give_back_in.ensures.writing.0 ∙ c.in-Ok.ensures.writing.0;
-      }))
+    _ _ c.seen.result (g.P.In.Source.left c.in-Ok.source) (Counts-own (points_of c.args.cube.now)) c.seen.ensures c.in-Ok.ensures.left
+    _ c.answer_script-source.ensures.all c.answer_script-source.ensures.too_much c.answer_script-source.ensures.part
+    (c.give_back_in.ensures.opened ∙ c.in-Ok.ensures.opened.noted (λ e. cc))
+    (record {
+      files = c.give_back_in.ensures.files ∙ c.in-Ok.ensures.files;
+      created = c.give_back_in.ensures.writing.1 ∙ c.in-Ok.ensures.writing.1;
+      write_faults = c.give_back_in.ensures.writing.0 ∙ c.in-Ok.ensures.writing.0;
+    }))
 
 pub returns-in-Err-Failed-clause-answers : goal.returns-in-Err-Failed-clause-answers
 returns-in-Err-Failed-clause-answers g c =

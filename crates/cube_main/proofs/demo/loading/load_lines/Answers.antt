@@ -10,7 +10,7 @@ pub returns-in_err-header-clause-refused : goal.returns-in_err-header-clause-ref
 returns-in_err-header-clause-refused g c bad =
     head_of_refused c.from_residual.result c.in_err-header.field-0.0 _ c.from_residual.ensures.1 bad
     (λ fault is. head_refused g.S.Source.left g.S.Source.faults (schema_of c.args.cube.now) c.args.cutter.now fault c.requires.start
-      (subst (λ (s : Schema). IsHeadRefused g.S.Source.left s c.args.cutter.now fault) c.schema.ensures (c.in_err-header.ensures.refused fault (ap (λ f. Err f) is))))
+    (subst (λ (s : Schema). IsHeadRefused g.S.Source.left s c.args.cutter.now fault) c.schema.ensures (c.in_err-header.ensures.refused fault (ap (λ f. Err f) is))))
 
 pub returns-clause-points : goal.returns-clause-points
 returns-clause-points g c =
