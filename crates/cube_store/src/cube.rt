@@ -7,7 +7,7 @@ ghost use Rattle.cube_view.specs.Validity.{sound};
 ghost use Rattle.arena_undo.specs.Worked.{Worked};
 ghost use Rattle.point_insert.specs.Room.{visits};
 ghost use Rattle.proper_path.specs.Paths.{path_of};
-ghost use Rattle.cube_store.specs.Counted.{CountsPoints, HasPoints};
+ghost use Rattle.cube_store.specs.Counted.{HasPoints};
 ghost use Rattle.cube_store.specs.Inserting.{CanInsert, Inserts};
 
 use arena_undo::Work;
@@ -30,10 +30,12 @@ pub struct Cube {
 }
 
 impl Cube {
+    ghost use Rattle.cube_store.specs.Holding.{CubeCounts};
+
     /// A cube of no points: one root.
     pub fn new(alloc: Global, schema: Schema) -> Result<Cube, NoMemory>
         ensures schema { IfOk result (λ cube. cube.schema ≡ schema) }
-        ensures empty { IfOk result (λ cube. CountsPoints cube.schema cube.arena cube.root.0 cube.size []) }
+        ensures empty { IfOk result (λ cube. CubeCounts cube []) }
     {
         let mut arena = Arena::new(alloc);
         let root = arena.add_node()?;
@@ -49,7 +51,7 @@ impl Cube {
     pub fn insert(&mut self, alloc: Global, point: Point) -> Result<(), NoMemory>
         requires sound { IsTrue (sound self.old.schema point) }
         requires room { self.old.size < most_points }
-        ensures counted { (h : List Counted) → CountsPoints self.old.schema self.old.arena self.old.root.0 self.old.size h → OnOk result (CountsPoints self.new.schema self.new.arena self.new.root.0 self.new.size (h ++ point ∷ [])) }
+        ensures counted { (h : List Counted) → CubeCounts self.old h → OnOk result (CubeCounts self.new (h ++ point ∷ [])) }
         ensures unchanged { OnErr result ((self.new.arena ≡ self.old.arena) × (self.new.root ≡ self.old.root) × (self.new.size ≡ self.old.size)) }
         ensures schema { self.new.schema ≡ self.old.schema }
     {

@@ -76,6 +76,14 @@ pub data IsFilled (dims next : ℕ) (updated : List ℕ) (old : List Slot) (i : 
   adds : {j : ℕ} (s : Slot) → link_of old i across ≡ None → ((f : Step) → link s f ≡ None) → ((bin : ℕ) → count s bin ≡ 0) → ((is_table s ≡ true) ↔ (next ≡ dims)) → j ≡ length old → IsGrown old new i across s → IsFilled dims next updated old i new (Some j)
   skips : (t : ℕ) → link_of old i across ≡ Some (shared t) → Contains updated t → new ≡ old → IsFilled dims next updated old i new None
 
+-- the content is the node's own, whatever was updated
+abbrev pub Fills : ℕ → ℕ → List Slot → ℕ → List Slot → ℕ → Type 0
+Fills dims next old i new j = (updated : List ℕ) → IsFilled dims next updated old i new (Some j)
+
+-- the content is a copy of the node's own, if the original was not updated
+abbrev pub FillsByCopy : ℕ → List Slot → ℕ → List Slot → ℕ → Type 0
+FillsByCopy from old i new j = (dims next : ℕ) (updated : List ℕ) → (Contains updated from → ⊥) → IsFilled dims next updated old i new (Some j)
+
 -- the rest of a trail, its last node next: all is visited, or the last node can be
 pub data IsLeft (dims : ℕ) (h : List Weighted) (p : Weighted) (old : State) (dim root : ℕ) (new : List Slot) (updated : List ℕ) (stack : List ℕ) : Type 0 where
   none_left : stack ≡ [] → HasVisited dims h p old root new updated → IsLeft dims h p old dim root new updated stack

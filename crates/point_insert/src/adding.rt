@@ -147,7 +147,7 @@ fn update<L: Ledger>(
     requires dim { (2 ≤ dim) × (dim ≤ time_dim schema.now) }
     requires known { ∥ CanEnter (time_dim schema.now) (path_of schema.now point.now) work.old.slots updated.old dim content.0 ∥₁ }
     requires room { work.old.made + allowance schema.now dim ≤ work.old.room }
-    ensures entered { OnOk result (Enters (time_dim schema.now) (path_of schema.now point.now) work.old.slots work.new.slots updated.old updated.new dim content.0) }
+    ensures done { OnOk result (Enters (time_dim schema.now) (path_of schema.now point.now) work.old.slots work.new.slots updated.old updated.new dim content.0) }
     ensures changes { KeepsRoom (allowance schema.now dim) work.old work.new }
 {
     fill(alloc, work, schema, point, dim, content, updated, steps)?;
@@ -170,7 +170,7 @@ fn fill<L: Ledger>(
     requires dim { (2 ≤ dim) × (dim ≤ time_dim schema.now) }
     requires known { ∥ CanEnter (time_dim schema.now) (path_of schema.now point.now) work.old.slots updated.old dim content.0 ∥₁ }
     requires room { work.old.made + allowance schema.now dim ≤ work.old.room }
-    ensures filled { OnOk result (VisitsAll (time_dim schema.now) (path_of schema.now point.now) work.old.slots work.new.slots updated.old updated.new dim content.0) }
+    ensures all { OnOk result (VisitsAll (time_dim schema.now) (path_of schema.now point.now) work.old.slots work.new.slots updated.old updated.new dim content.0) }
     ensures changes { KeepsRoom (allowance schema.now dim) work.old work.new }
 {
     if is_time(schema, dim) {

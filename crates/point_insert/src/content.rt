@@ -4,7 +4,7 @@ ghost use Rattle.cube_view.specs.Places.{time_dim};
 ghost use Rattle.cube_view.specs.Walks.{across};
 ghost use Rattle.node_arena.specs.Slots.{IsNode, slot_of, link_of, target, shared};
 ghost use Rattle.proper_path.specs.Stepped.{KeepsRoom, LeadsInside};
-ghost use Rattle.point_insert.specs.Visited.{IsFilled, SharesOf, TellsOnlyChild, place_of};
+ghost use Rattle.point_insert.specs.Visited.{IsFilled, Fills, FillsByCopy, SharesOf, TellsOnlyChild, place_of};
 
 use crate::updated::Updated;
 use arena_undo::Work;
@@ -54,7 +54,7 @@ fn make_content(work: &mut Work, schema: &Schema, dim: u8, at: SlotId) -> Result
     requires in_range { at.0 < length work.old.slots }
     requires is_node { IsNode (slot_of work.old.slots at.0) }
     requires none { link_of work.old.slots at.0 across ≡ None }
-    ensures filled { (updated : List ℕ) → IfOk result (λ content. IsFilled (time_dim schema.now) (dim + 1) updated work.old.slots at.0 work.new.slots (Some content.0)) }
+    ensures filled { IfOk result (λ content. Fills (time_dim schema.now) (dim + 1) work.old.slots at.0 work.new.slots content.0) }
     ensures changes { KeepsRoom 2 work.old work.new }
 {
     if is_time(schema, dim + 1) {
@@ -75,7 +75,7 @@ fn copy_content(work: &mut Work, at: SlotId, from: SlotId) -> Result<SlotId, NoM
     requires is_node { IsNode (slot_of work.old.slots at.0) }
     requires from { link_of work.old.slots at.0 across ≡ Some (shared from.0) }
     requires from_in { from.0 < length work.old.slots }
-    ensures filled { (dims next : ℕ) (updated : List ℕ) → (Contains updated from.0 → ⊥) → IfOk result (λ content. IsFilled dims next updated work.old.slots at.0 work.new.slots (Some content.0)) }
+    ensures filled { IfOk result (λ content. FillsByCopy from.0 work.old.slots at.0 work.new.slots content.0) }
     ensures changes { KeepsRoom 2 work.old work.new }
 {
     let copy = work.copy_slot(from)?;

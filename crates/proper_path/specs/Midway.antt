@@ -29,6 +29,7 @@ pub record HasUpdated (slots : List Slot) (homes : List Walk) (done : Walk → T
   pub listed : (i : ℕ) → Contains updated i → (i < length slots) × done (home_of homes i) × IsContentHome (home_of homes i)
   pub lists : (i : ℕ) → i < length slots → done (home_of homes i) → IsContentHome (home_of homes i) → Contains updated i
 
+-- the node has children at two labels
 pub record HasTwoChildren (slots : List Slot) (i : ℕ) : Type 0 where
   pub one : ℕ
   pub other : ℕ

@@ -55,15 +55,15 @@ fill-table_add_many-requires-clause-fits g t c =
     point_fits (time_dim c.args.schema.now) (path_of c.args.schema.now c.args.point.now) c.args.work.now.slots c.args.updated.now c.args.dim c.args.content.0 c.requires.known
     (is_table_there _ _ _ _ _ _ c.requires.known (c.is_time.ensures.0 c.if-is_time.true)).1
 
-pub fill-returns-then-is_time-clause-filled : goal.fill-returns-then-is_time-clause-filled
-fill-returns-then-is_time-clause-filled g t c =
+pub fill-returns-then-is_time-clause-all : goal.fill-returns-then-is_time-clause-all
+fill-returns-then-is_time-clause-all g t c =
     on_ok_weaker c.table_add_many.result
     (λ n. table_visits (time_dim c.args.schema.now) (path_of c.args.schema.now c.args.point.now) _ _ c.args.updated.now c.args.dim c.args.content.0 (c.is_time.ensures.0 c.if-is_time.true) (ap (λ (w : Worked). w.slots) n))
     c.table_add_many.ensures.added
 
-pub update-returns-clause-entered : goal.update-returns-clause-entered
-update-returns-clause-entered g t c =
-    on_ok_weaker c.put.result (λ J. enters_content _ _ _ _ _ _ _ c.args.dim c.args.content.0 c.requires.dim.0 J c.in_ok-fill.ensures.filled) c.put.ensures.joined
+pub update-returns-clause-done : goal.update-returns-clause-done
+update-returns-clause-done g t c =
+    on_ok_weaker c.put.result (λ J. enters_content _ _ _ _ _ _ _ c.args.dim c.args.content.0 c.requires.dim.0 J c.in_ok-fill.ensures.all) c.put.ensures.joined
 
 pub visit-share_content-requires-clause-child_in :
     goal.visit-share_content-requires-clause-child_in
@@ -85,7 +85,7 @@ visit-update-requires g t c κs within =
 
 pub visit-returns-in-Some-2-clause-visited : goal.visit-returns-in-Some-2-clause-visited
 visit-returns-in-Some-2-clause-visited g t c =
-    on_ok_weaker c.update.result (λ E. visited_updates _ _ _ _ _ _ _ _ _ _ c.in_default.ensures (rw c.in-Some-2.is at c.in_ok-content.ensures.filled) E) c.update.ensures.entered
+    on_ok_weaker c.update.result (λ E. visited_updates _ _ _ _ _ _ _ _ _ _ c.in_default.ensures (rw c.in-Some-2.is at c.in_ok-content.ensures.filled) E) c.update.ensures.done
 
 pub visit-returns-in-None-clause-visited : goal.visit-returns-in-None-clause-visited
 visit-returns-in-None-clause-visited g t c = visited_skips _ _ _ _ _ _ _ _ c.in_default.ensures (rw c.in-None.is at c.in_ok-content.ensures.filled)
