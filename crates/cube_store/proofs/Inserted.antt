@@ -10,16 +10,16 @@ use Rattle.proper_path.specs.Midway.{SharesBetween, HasTwoChildren, DoneBefore, 
 use Rattle.proper_path.specs.Making.{State, home, AllOfShape}
 use Rattle.cube_view.proofs.Walking.{under_before}
 use Rattle.node_arena.proofs.Linked.{linked-lt}
-use Rattle.point_insert.proofs.Cases.{starts, ends, next_label}
+use Rattle.point_insert.proofs.Cases.{starts, shape_ends, next_label}
 use Rattle.proper_path.proofs.Steps.{Between}
 use Rattle.point_insert.specs.Visited.{IsEntered}
 use Rattle.proper_path.proofs.Links.{proper≢shared}
 use Rattle.node_arena.specs.Amounts.{Weighted, spots_in}
 
 -- among children there is one label alone or there are two
-pub data Children (slots : List Slot) (i label : ℕ) : Type 0 where
-  alone : ((m : ℕ) (l : Link) → link_of slots i (down m) ≡ Some l → m ≡ label) → Children slots i label
-  more : (m : ℕ) (l : Link) → link_of slots i (down m) ≡ Some l → (m ≡ label → ⊥) → Children slots i label
+pub data OneOrMore (slots : List Slot) (i label : ℕ) : Type 0 where
+  alone : ((m : ℕ) (l : Link) → link_of slots i (down m) ≡ Some l → m ≡ label) → OneOrMore slots i label
+  more : (m : ℕ) (l : Link) → link_of slots i (down m) ≡ Some l → (m ≡ label → ⊥) → OneOrMore slots i label
 
 other_child : (kids : List (ℕ × Link)) (label : ℕ) → ((m : ℕ) (l : Link) → child kids m ≡ Some l → m ≡ label) ⊎ ((m : ℕ) × (l : Link) × (child kids m ≡ Some l) × (m ≡ label → ⊥))
 other_child [] label = inl (λ m l h. absurd cc)
@@ -44,10 +44,10 @@ children_of : (s : Slot) (label : ℕ) → ((m : ℕ) (l : Link) → link s (dow
 children_of (node kids content) label = other_child kids label
 children_of (table rows) label = inl (λ m l h. absurd cc)
 
-pub children : (slots : List Slot) (i label : ℕ) → Children slots i label
+pub children : (slots : List Slot) (i label : ℕ) → OneOrMore slots i label
 children slots i label = go (children_of (slot_of slots i) label)
   where
-    go : ((m : ℕ) (l : Link) → link_of slots i (down m) ≡ Some l → m ≡ label) ⊎ ((m : ℕ) × (l : Link) × (link_of slots i (down m) ≡ Some l) × (m ≡ label → ⊥)) → Children slots i label
+    go : ((m : ℕ) (l : Link) → link_of slots i (down m) ≡ Some l → m ≡ label) ⊎ ((m : ℕ) × (l : Link) × (link_of slots i (down m) ≡ Some l) × (m ≡ label → ⊥)) → OneOrMore slots i label
     go (inl f) = alone f
     go (inr r) = more r.0 r.1 r.2 r.3
 
@@ -67,7 +67,7 @@ shares_start dims slots homes h p done S shape = record { shares = λ i label l 
         c : IsLinked slots i (down m.0)
         c = S.holds.needed i (down m.0) (linked-lt slots i across (proper to) is) (record { spot = w.spot; is_in = w.is_in; lies = m.1 })
 
-        go : Children slots i m.0 → HasTwoChildren slots i
+        go : OneOrMore slots i m.0 → HasTwoChildren slots i
         go (alone f) = let s = S.shares i m.0 c.link (record { is = c.is; only = f }) in let x = s.of_node in absurd (proper≢shared to (target s.content) (let m : Some (proper to) ≡ Some (shared (target s.content)) = sym is ∙ x in cc))
         go (more k l x n) = record { one = k; other = m.0; differ = n; first = l; second = c.link; is_first = x; is_second = c.is }
 
@@ -98,7 +98,7 @@ shape_after dims h p a b root R A = record { shaped = X; shares = shares; alike 
     all i u = (u, inr (subst (λ z. IsAbove z (home b i)) (sym root) (below_top (home b i))))
 
     X : IsShaped dims b.slots b.homes (p ∷ h)
-    X = ends dims b.slots b.homes h p (DoneAfter p (home a 0)) R.between.midway.growing (λ i l u. all i u)
+    X = shape_ends dims b.slots b.homes h p (DoneAfter p (home a 0)) R.between.midway.growing (λ i l u. all i u)
 
     shares : SharesOnlyContent b.slots
     shares i label l O = go (under p.spot (home b i)) refl

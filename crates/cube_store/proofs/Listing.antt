@@ -101,8 +101,8 @@ pub can_insert : (z : Schema) (p : Point) (slots : List Slot) (root size : ℕ) 
 can_insert z p slots root size is few R = ∥∥₁_map R (λ C. record { homes = C.1.homes; points = paths_of z C.0; known = insertable z p slots root size C.0 is few C.1 })
 
 -- after an insertion the list with the point at its end is counted
-pub counts_more : (z : Schema) (p : Point) (old new : List Slot) (root size : ℕ) (h : List Point) → IsTrue (sound z p) → size < most_points → Inserts (time_dim z) (path_of z p) old new → CountsPoints z old root size h → CountsPoints z new root (size + 1) (h ++ p ∷ [])
-counts_more z p old new root size h is few I C = record {
+pub counts_joined : (z : Schema) (p : Point) (old new : List Slot) (root size : ℕ) (h : List Point) → IsTrue (sound z p) → size < most_points → Inserts (time_dim z) (path_of z p) old new → CountsPoints z old root size h → CountsPoints z new root (size + 1) (h ++ p ∷ [])
+counts_joined z p old new root size h is few I C = record {
   homes = r.homes;
   shape = subst (HasShape (time_dim z) new r.homes) (sym (map-append (λ (x : Point). path_of z x) h (p ∷ []))) (shape_moved (time_dim z) new r.homes (paths_of z h) (path_of z p) r.shape);
   at_top = C.at_top;
@@ -114,4 +114,4 @@ counts_more z p old new root size h is few I C = record {
     r = I C.homes (paths_of z h) (insertable z p old root size h is few C)
 
 pub has_more : (z : Schema) (p : Point) (old new : List Slot) (root size : ℕ) → IsTrue (sound z p) → size < most_points → Inserts (time_dim z) (path_of z p) old new → HasPoints z old root size → HasPoints z new root (size + 1)
-has_more z p old new root size is few I R = ∥∥₁_map R (λ C. (C.0 ++ p ∷ [], counts_more z p old new root size C.0 is few I C.1))
+has_more z p old new root size is few I R = ∥∥₁_map R (λ C. (C.0 ++ p ∷ [], counts_joined z p old new root size C.0 is few I C.1))

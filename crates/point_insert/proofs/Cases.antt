@@ -174,8 +174,8 @@ amount_under-less h p a bin u =
     ∙ (ap (λ (b : Bool). cond (b && eqb p.spot.bin bin) p.amount 0 + amount_under h a bin) u ∙ omega arith)
 
 -- the end: all homes that hold p are visited
-pub ends : (dims : ℕ) (slots : List Slot) (homes : List Walk) (h : List Weighted) (p : Weighted) (done : Walk → Type 0) → IsGrowing dims slots homes h p done → ((i : ℕ) → i < length slots → Under p.spot (home_of homes i) → done (home_of homes i)) → IsShaped dims slots homes (p ∷ h)
-ends dims slots homes h p done M all = record {
+pub shape_ends : (dims : ℕ) (slots : List Slot) (homes : List Walk) (h : List Weighted) (p : Weighted) (done : Walk → Type 0) → IsGrowing dims slots homes h p done → ((i : ℕ) → i < length slots → Under p.spot (home_of homes i) → done (home_of homes i)) → IsShaped dims slots homes (p ∷ h)
+shape_ends dims slots homes h p done M all = record {
   has_homes = M.has_homes;
   has_tables = M.has_tables;
   holds = record { needed = needed; wanted = M.holds.wanted; agrees = agrees };

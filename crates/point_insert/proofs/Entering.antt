@@ -13,7 +13,7 @@ use Rattle.proper_path.specs.Midway.{IsContentHome, IsBetween, DoneAfter, Joins,
 use Rattle.node_arena.specs.Calls.{table_add_many}
 use Rattle.proper_path.specs.Changes.{IsCounted}
 use Rattle.proper_path.specs.Making.{State, home, Keeps}
-use Rattle.proper_path.specs.Trails.{IsTrail, IsTrailLink}
+use Rattle.proper_path.specs.Trails.{IsOnTrail, IsTrailLink}
 use Rattle.cube_view.proofs.Walking.{under-some}
 use Rattle.proper_path.proofs.Calls.{counts_more}
 use Rattle.proper_path.proofs.Dims.{dimension-before}
@@ -30,7 +30,7 @@ use Rattle.node_arena.specs.Amounts.{Weighted}
 keeps_with : (old new : List Slot) (homes homes' : List Walk) (updated after : List ℕ) (x : Walk) → Keeps (state old homes []) (state new homes' []) x → Keeps (state old homes updated) (state new homes' after) x
 keeps_with old new homes homes' updated after x k = record { size = k.size; homes = k.homes; links = k.links; kinds = k.kinds }
 
-trail_with : (slots : List Slot) (homes : List Walk) (updated : List ℕ) (p : Weighted) (root : ℕ) (stack : List ℕ) → IsTrail (state slots homes []) p root stack → IsTrail (state slots homes updated) p root stack
+trail_with : (slots : List Slot) (homes : List Walk) (updated : List ℕ) (p : Weighted) (root : ℕ) (stack : List ℕ) → IsOnTrail (state slots homes []) p root stack → IsOnTrail (state slots homes updated) p root stack
 trail_with slots homes updated p root stack T = record {
   first = T.first;
   inside = T.inside;
@@ -102,7 +102,7 @@ entered_inner dims h p old at new updated l x lt e v = go (home_of v.homes' at) 
         let z : across ∷ y ≡ down l ∷ x = sym f ∙ (r.keeps.homes at lt ∙ e) in absurd cc
 
 -- a trail without its last node
-trail_front : (a : State) (p : Weighted) (root at : ℕ) (stack : List ℕ) → 0 < length stack → IsTrail a p root (stack ++ at ∷ []) → IsTrail a p root stack
+trail_front : (a : State) (p : Weighted) (root at : ℕ) (stack : List ℕ) → 0 < length stack → IsOnTrail a p root (stack ++ at ∷ []) → IsOnTrail a p root stack
 trail_front a p root at stack some T = record {
   first = sym (old 0 some) ∙ T.first;
   inside = λ n l. subst (λ z. z < length a.slots) (old n l) (T.inside n (more n l));
@@ -118,7 +118,7 @@ trail_front a p root at stack some T = record {
     more n l = omega (arith, length_push stack at)
 
 -- the root stands above each node of its trail
-trail_above : (a : State) (p : Weighted) (root : ℕ) (stack : List ℕ) → HasHomes a.slots a.homes → IsTrail a p root stack → (n : ℕ) → n < length stack → IsAbove (home a root) (home a (get_or stack n 0))
+trail_above : (a : State) (p : Weighted) (root : ℕ) (stack : List ℕ) → HasHomes a.slots a.homes → IsOnTrail a p root stack → (n : ℕ) → n < length stack → IsAbove (home a root) (home a (get_or stack n 0))
 trail_above a p root stack H T zero l = subst (λ z. IsAbove (home a root) (home a z)) (sym T.first) itself
 trail_above a p root stack H T (suc n) l =
     let t = T.links n l in
@@ -137,7 +137,7 @@ leaves_more dims p old mid new before after last dim root at stack L V homes h K
     size : length (stack ++ at ∷ []) ≡ length stack + 1
     size = length_push stack at
 
-    done : (homes' : List Walk) → Keeps (state old homes before) (state mid homes' after) (home_of homes root) → IsTrail (state mid homes' after) p root (stack ++ at ∷ []) → IsVisitableIn dims p mid after dim at homes' h → stack ≡ [] → IsLeft dims h p (state old homes before) dim root new last stack
+    done : (homes' : List Walk) → Keeps (state old homes before) (state mid homes' after) (home_of homes root) → IsOnTrail (state mid homes' after) p root (stack ++ at ∷ []) → IsVisitableIn dims p mid after dim at homes' h → stack ≡ [] → IsLeft dims h p (state old homes before) dim root new last stack
     done homes' keeps T W e = none_left e (record { homes' = v.homes'; entered = entered })
       where
         v : HasVisited dims h p (state mid homes' after) at new last
@@ -157,7 +157,7 @@ leaves_more dims p old mid new before after last dim root at stack L V homes h K
               keeps = keeps-trans keeps (subst (λ z. Keeps (state mid homes' after) (state new v.homes' j) z) same_home r.keeps);
             }
 
-    next : (homes' : List Walk) → Keeps (state old homes before) (state mid homes' after) (home_of homes root) → IsTrail (state mid homes' after) p root (stack ++ at ∷ []) → IsVisitableIn dims p mid after dim at homes' h → 0 < length stack → IsLeft dims h p (state old homes before) dim root new last stack
+    next : (homes' : List Walk) → Keeps (state old homes before) (state mid homes' after) (home_of homes root) → IsOnTrail (state mid homes' after) p root (stack ++ at ∷ []) → IsVisitableIn dims p mid after dim at homes' h → 0 < length stack → IsLeft dims h p (state old homes before) dim root new last stack
     next homes' keeps T W some = some_left v.homes' y (keeps-trans keeps (keeps_less above e.keeps)) T' some (λ n x. ap (λ z. get_or stack z 0) (omega arith)) (record {
       between = R.between;
       in_range = R.in_range;
@@ -200,13 +200,13 @@ leaves_more dims p old mid new before after last dim root at stack L V homes h K
         above : IsAbove (home_of homes root) (home_of homes' at)
         above = subst₂ (λ a b. IsAbove a (home_of homes' b)) root_mid at_end (trail_above (state mid homes' after) p root (stack ++ at ∷ []) W.between.midway.has_homes T (length stack) (omega (arith, size)))
 
-        F : IsTrail (state mid homes' after) p root stack
+        F : IsOnTrail (state mid homes' after) p root stack
         F = trail_front (state mid homes' after) p root at stack some T
 
         deep : length (home_of homes' at) ≡ length (home_of homes' root) + length stack
         deep = ap (λ z. length (home_of homes' z)) (sym at_end) ∙ T.deep (length stack) (omega (arith, size))
 
-        T' : IsTrail (state new v.homes' last) p root stack
+        T' : IsOnTrail (state new v.homes' last) p root stack
         T' = trail_kept (state mid homes' after) (state new v.homes' last) p root stack (home_of homes' at) e.keeps some F (omega (arith, deep))
 
         y_in : get_or stack (length stack - 1) 0 < length mid
@@ -285,8 +285,8 @@ pub root_of : (dims : ℕ) (p : Weighted) (slots : List Slot) (updated : List �
 root_of dims p slots updated dim root R = ∥∥₁_map R (λ C. record { homes = C.homes; known = C.known.rooted })
 
 -- the two lemmas of a loop that pops the stack
-pub can_pop : (dims : ℕ) (p : Weighted) (old new : List Slot) (before after : List ℕ) (dim root at : ℕ) (stack rest : List ℕ) → ∥ CanEnter dims p old before dim root ∥₁ → Leaves dims p old new before after dim root stack → stack ≡ rest ++ at ∷ [] → ∥ CanVisit dims p new after dim at ∥₁
-can_pop dims p old new before after dim root at stack rest R L e =
+pub can_visit_last : (dims : ℕ) (p : Weighted) (old new : List Slot) (before after : List ℕ) (dim root at : ℕ) (stack rest : List ℕ) → ∥ CanEnter dims p old before dim root ∥₁ → Leaves dims p old new before after dim root stack → stack ≡ rest ++ at ∷ [] → ∥ CanVisit dims p new after dim at ∥₁
+can_visit_last dims p old new before after dim root at stack rest R L e =
     ∥∥₁_map R (λ C. can_visit dims p old new before after dim root at rest C (subst (λ z. Leaves dims p old new before after dim root z) e L))
 
 pub leaves_pop : (dims : ℕ) (p : Weighted) (old mid new : List Slot) (before after last : List ℕ) (dim root at : ℕ) (stack rest : List ℕ) → Leaves dims p old mid before after dim root stack → stack ≡ rest ++ at ∷ [] → Visits dims p mid new after last dim at → Leaves dims p old new before last dim root rest

@@ -10,7 +10,7 @@ use Rattle.proper_path.specs.Changes.{IsGrown}
 use Rattle.proper_path.specs.Midway.{IsBetween, HasTwoChildren, DoneBefore, DoneAfter, Joins}
 use Rattle.proper_path.specs.Making.{State, home, IsSpotOf, AllOfShape, Keeps}
 use Rattle.proper_path.specs.Rooted.{state}
-use Rattle.proper_path.specs.Trails.{IsTrail}
+use Rattle.proper_path.specs.Trails.{IsOnTrail}
 use Rattle.point_insert.specs.Known.{total_weight, IsEnterable}
 use Rattle.node_arena.specs.Amounts.{Weighted, spots_in}
 
@@ -87,7 +87,7 @@ FillsByCopy from old i new j = (dims next : ℕ) (updated : List ℕ) → (Conta
 -- the rest of a trail, its last node next: all is visited, or the last node can be
 pub data IsLeft (dims : ℕ) (h : List Weighted) (p : Weighted) (old : State) (dim root : ℕ) (new : List Slot) (updated : List ℕ) (stack : List ℕ) : Type 0 where
   none_left : stack ≡ [] → HasVisited dims h p old root new updated → IsLeft dims h p old dim root new updated stack
-  some_left : (homes' : List Walk) (at : ℕ) → Keeps old (state new homes' updated) (home old root) → IsTrail (state new homes' updated) p root stack → 0 < length stack → ((n : ℕ) → suc n ≡ length stack → get_or stack n 0 ≡ at) → IsVisitableIn dims p new updated dim at homes' h → IsLeft dims h p old dim root new updated stack
+  some_left : (homes' : List Walk) (at : ℕ) → Keeps old (state new homes' updated) (home old root) → IsOnTrail (state new homes' updated) p root stack → 0 < length stack → ((n : ℕ) → suc n ≡ length stack → get_or stack n 0 ≡ at) → IsVisitableIn dims p new updated dim at homes' h → IsLeft dims h p old dim root new updated stack
 
 -- so much of a trail is left, for all homes and points that fitted
 abbrev pub Leaves : ℕ → Weighted → List Slot → List Slot → List ℕ → List ℕ → ℕ → ℕ → List ℕ → Type 0

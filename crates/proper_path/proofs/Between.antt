@@ -10,7 +10,7 @@ use Rattle.proper_path.specs.Changes.{IsGrown}
 use Rattle.cube_view.proofs.Walking.{dimension-finer, coarser_under, Contains-head}
 use Rattle.node_arena.proofs.Amounting.{amount-none, amount_along}
 use Rattle.proper_path.proofs.Links.{count-copied, is_table-copied}
-use Rattle.proper_path.proofs.Homes.{home-push_old, home-push_new, cases_grown, FitsAt, IsFree, homes_grown}
+use Rattle.proper_path.proofs.Homes.{home-push_old, home-push_new, cases_grown, FitsUnder, IsFree, homes_grown}
 use Rattle.proper_path.proofs.Grow.{HoldsAt, holds_grown, IsAlike, alike, copy_holds, copy_fits, IsEmpty, empty_holds, empty_fits}
 use Rattle.node_arena.proofs.Reaching.{target-lt}
 use Rattle.node_arena.specs.Amounts.{Weighted, spots_in, amount_under}
@@ -118,7 +118,7 @@ updates_grown old new homes i e s done updated G H U fresh = record {
 
 -- the invariant is kept where a slot that stands well at its address is added
 pub record StandsAt (dims : ℕ) (slots : List Slot) (homes : List Walk) (a : Walk) (s : Slot) (h : List Weighted) (p : Weighted) : Type 0 where
-  pub fits : FitsAt slots homes a s
+  pub fits : FitsUnder slots homes a s
   pub holds : HoldsAt homes a s (spots_in h) (spots_in (p ∷ h))
   pub counted : CountsAt dims a s h
 

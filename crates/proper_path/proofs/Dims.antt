@@ -26,7 +26,7 @@ dimension-before [] = refl
 dimension-before (down l ∷ a) = dimension-before a
 dimension-before (across ∷ a) = ap suc (dimension-before a)
 
-pub record IsLeft (p : SpotPath) (a : Walk) (c : Cursor) : Type 0 where
+pub record IsRestOf (p : SpotPath) (a : Walk) (c : Cursor) : Type 0 where
   pub later : c.later ≡ drop (suc (before_of a)) p.paths
   pub rest : length c.rest ≤ length (get_or p.paths (before_of a) [])
   pub inside : before_of a < length p.paths
@@ -49,13 +49,13 @@ opened : (later : List (List ℕ)) (c : Cursor) → after_across later ≡ Some 
 opened [] c h = absurd cc
 opened (x ∷ later) c h = let e : record { rest = x; later = later } ≡ c = cc in ap (λ (z : Cursor). z.rest ∷ z.later) e
 
-pub is_left : (p : SpotPath) (a : Walk) (c : Cursor) → cursor p a ≡ Some c → IsLeft p a c
-is_left p [] c h = let r = left_at_start p.paths c h in record { later = r.0; rest = r.1; inside = r.2 }
-is_left p (down l ∷ a) c h =
-    let b = begun (cursor p a) (down l) c h in let r = is_left p a b.0 b.1 in let s = shorter l b.0.rest b.0.later c b.2 in
+pub cursor_left : (p : SpotPath) (a : Walk) (c : Cursor) → cursor p a ≡ Some c → IsRestOf p a c
+cursor_left p [] c h = let r = left_at_start p.paths c h in record { later = r.0; rest = r.1; inside = r.2 }
+cursor_left p (down l ∷ a) c h =
+    let b = begun (cursor p a) (down l) c h in let r = cursor_left p a b.0 b.1 in let s = shorter l b.0.rest b.0.later c b.2 in
     record { later = s.0 ∙ r.later; rest = omega (arith, r.rest, s.1); inside = r.inside }
-is_left p (across ∷ a) c h =
-    let b = begun (cursor p a) across c h in let r = is_left p a b.0 b.1 in
+cursor_left p (across ∷ a) c h =
+    let b = begun (cursor p a) across c h in let r = cursor_left p a b.0 b.1 in
     let s = drop_next p.paths c.later c.rest [] (suc (before_of a)) (sym r.later ∙ opened b.0.later c b.2) in
     record { later = sym s.1; rest = subst (λ z. length c.rest ≤ length z) (sym s.0) (omega arith); inside = s.2 }
 
@@ -66,8 +66,8 @@ goes_across dims p P a u n = ap (λ (o : Option Cursor). is_some (then_step o ac
     c : (c : Cursor) × (cursor p a ≡ Some c)
     c = under-some p a u
 
-    r : IsLeft p a c.0
-    r = is_left p a c.0 c.1
+    r : IsRestOf p a c.0
+    r = cursor_left p a c.0 c.1
 
     s : (y : List ℕ) × (ys : List (List ℕ)) × (drop (suc (before_of a)) p.paths ≡ y ∷ ys)
     s = drop_some p.paths (suc (before_of a)) (let i = r.inside in let e = P.size in let b = dimension-before a in omega arith)
@@ -75,14 +75,14 @@ goes_across dims p P a u n = ap (λ (o : Option Cursor). is_some (then_step o ac
 -- at time it goes nowhere
 pub stops_at_time : (dims : ℕ) (p : SpotPath) → IsSpotOf dims p → (a : Walk) → dimension a ≡ dims → (e : Step) → Under p (e ∷ a) → ⊥
 stops_at_time dims p P a d (down l) u =
-    let c = under-some p (down l ∷ a) u in let b = begun (cursor p a) (down l) c.0 c.1 in let r = is_left p a b.0 b.1 in
+    let c = under-some p (down l ∷ a) u in let b = begun (cursor p a) (down l) c.0 c.1 in let r = cursor_left p a b.0 b.1 in
     let s = shorter l b.0.rest b.0.later c.0 b.2 in
     let b = dimension-before a in
     let n : before_of a ≡ dims - 1 = omega arith in
     let t : length (get_or p.paths (before_of a) []) ≡ 0 = ap (λ z. length (get_or p.paths z [])) n ∙ ap length P.time in
     omega (arith, r.rest, s.1)
 stops_at_time dims p P a d across u =
-    let c = under-some p (across ∷ a) u in let r = is_left p (across ∷ a) c.0 c.1 in
+    let c = under-some p (across ∷ a) u in let r = cursor_left p (across ∷ a) c.0 c.1 in
     let i = r.inside in let e = P.size in let b = dimension-before a in omega arith
 
 first_of_drop : (xs ys : List (List ℕ)) (y : List ℕ) (n : ℕ) → drop n xs ≡ y ∷ ys → get_or xs n [] ≡ y
@@ -94,5 +94,5 @@ first_of_drop (x ∷ xs) ys y (suc n) e = first_of_drop xs ys y n e
 -- at a content's home the point's whole path of the dimension is left
 pub content_rest : (p : SpotPath) (a : Walk) (c : Cursor) → cursor p (across ∷ a) ≡ Some c → c.rest ≡ get_or p.paths (dimension a) []
 content_rest p a c e =
-    let b = begun (cursor p a) across c e in let l = is_left p a b.0 b.1 in
+    let b = begun (cursor p a) across c e in let l = cursor_left p a b.0 b.1 in
     sym (first_of_drop p.paths c.later c.rest (suc (before_of a)) (sym l.later ∙ opened b.0.later c b.2)) ∙ ap (λ z. get_or p.paths z []) (sym (dimension-before a))

@@ -12,7 +12,7 @@ use Rattle.std.specs.FinMap.{empty, get-empty}
 use Rattle.std.specs.Ordering.{nat_cmp}
 use Rattle.std.proofs.Common.{unwrap_or}
 use Rattle.proper_path.proofs.Links.{link-copied, share-some, proper≢shared, same_place}
-use Rattle.proper_path.proofs.Homes.{home-push_old, home-push_new, cases_grown, FitsAt}
+use Rattle.proper_path.proofs.Homes.{home-push_old, home-push_new, cases_grown, FitsUnder}
 
 -- what the added slot has to be at its address, among the homes of the old ones
 pub record HoldsAt (homes : List Walk) (a : Walk) (s : Slot) (sure all : List SpotPath) : Type 0 where
@@ -119,7 +119,7 @@ copy_holds slots homes sure all H S a t lt A = record { needed = needed; wanted 
         let r = came f l h in let w = target-lt slots homes H t f r.0 r.1 in
         subst (λ z. target z < length homes) (sym r.2) (omega (arith, H.size))
 
-pub copy_fits : (slots : List Slot) (homes : List Walk) → HasHomes slots homes → (a : Walk) (t : ℕ) → IsCoarser a (home_of homes t) → FitsAt slots homes a (copied (slot_of slots t))
+pub copy_fits : (slots : List Slot) (homes : List Walk) → HasHomes slots homes → (a : Walk) (t : ℕ) → IsCoarser a (home_of homes t) → FitsUnder slots homes a (copied (slot_of slots t))
 copy_fits slots homes H a t co = record { no_proper = no_proper; finer = finer }
   where
     came : (f : Step) (l : Link) → link (copied (slot_of slots t)) f ≡ Some l → (k : Link) × (link_of slots t f ≡ Some k) × (l ≡ shared (target k))
@@ -159,5 +159,5 @@ empty_holds homes a s sure all E none = record {
   in_range = λ f l h. let k = E.no_link f in absurd cc;
 }
 
-pub empty_fits : (slots : List Slot) (homes : List Walk) (a : Walk) (s : Slot) → IsEmpty s → FitsAt slots homes a s
+pub empty_fits : (slots : List Slot) (homes : List Walk) (a : Walk) (s : Slot) → IsEmpty s → FitsUnder slots homes a s
 empty_fits slots homes a s E = record { no_proper = λ f j h. let k = E.no_link f in absurd cc; finer = λ f j h. let k = E.no_link f in absurd cc }

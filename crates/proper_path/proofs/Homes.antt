@@ -32,7 +32,7 @@ home_free slots homes H i e l free (suc k) lt eq =
     free (suc k) (subst (λ x. link_of slots x e ≡ Some (proper (suc k))) i' (subst (λ x. link_of slots o.by x ≡ Some (proper (suc k))) s o.owns))
 
 -- a slot whose links are shared, and lead to slots that are finer than their address
-pub record FitsAt (slots : List Slot) (homes : List Walk) (a : Walk) (s : Slot) : Type 0 where
+pub record FitsUnder (slots : List Slot) (homes : List Walk) (a : Walk) (s : Slot) : Type 0 where
   pub no_proper : (f : Step) (j : ℕ) → link s f ≡ Some (proper j) → ⊥
   pub finer : (f : Step) (j : ℕ) → link s f ≡ Some (shared j) → (j < length slots) × IsCoarser (f ∷ a) (home_of homes j)
 
@@ -44,7 +44,7 @@ cases_grown n j m e l = go (cases_lt j n)
     go (inl x) = inl x
     go (inr x) = inr (omega arith)
 
-pub homes_grown : (old new : List Slot) (homes : List Walk) (i : ℕ) (e : Step) (s : Slot) → IsGrown old new i e s → HasHomes old homes → IsFree old i e → FitsAt old homes (e ∷ home_of homes i) s → HasHomes new (homes ++ (e ∷ home_of homes i) ∷ [])
+pub homes_grown : (old new : List Slot) (homes : List Walk) (i : ℕ) (e : Step) (s : Slot) → IsGrown old new i e s → HasHomes old homes → IsFree old i e → FitsUnder old homes (e ∷ home_of homes i) s → HasHomes new (homes ++ (e ∷ home_of homes i) ∷ [])
 homes_grown old new homes i e s G H free fits = record {
   owned = record {
     size = omega (arith, length_push homes A, H.size, G.size);

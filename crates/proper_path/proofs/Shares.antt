@@ -11,7 +11,7 @@ use Rattle.proper_path.proofs.Above.{comes_before}
 use Rattle.cube_view.proofs.Walking.{coarser_under, under_before}
 use Rattle.node_arena.proofs.Linked.{linked-lt}
 use Rattle.proper_path.proofs.Links.{cases_step, same_place}
-use Rattle.proper_path.proofs.Homes.{IsFree, FitsAt, home-push_old, home-push_new}
+use Rattle.proper_path.proofs.Homes.{IsFree, FitsUnder, home-push_old, home-push_new}
 use Rattle.proper_path.proofs.Grow.{still_linked}
 use Rattle.node_arena.proofs.Reaching.{target-lt, link_coarser}
 use Rattle.proper_path.proofs.Order.{before_down}
@@ -46,7 +46,7 @@ child_settled slots homes p done H closed j label l is d u = pick d (cases_addre
     pick (inl x) (inr n) = closed (home_of homes j) (home_of homes (target l)) x u (inr (before_down (comes_before (down label ∷ home_of homes j) (home_of homes (target l)) co n)))
 
 -- the arena grows at a link of a node on p's path that isn't visited yet
-pub shares_grown : (old new : List Slot) (homes : List Walk) (i : ℕ) (e : Step) (s : Slot) (p : Weighted) (done : Walk → Type 0) → IsGrown old new i e s → HasHomes old homes → FitsAt old homes (e ∷ home_of homes i) s → IsClosed p done → Under p.spot (e ∷ home_of homes i) → (done (home_of homes i) → ⊥) → (done (e ∷ home_of homes i) → ⊥) → (e ≡ across → (label : ℕ) → Under p.spot (down label ∷ home_of homes i) → HasTwoChildren old i) → SharesBetween old homes p done → SharesBetween new (homes ++ (e ∷ home_of homes i) ∷ []) p done
+pub shares_grown : (old new : List Slot) (homes : List Walk) (i : ℕ) (e : Step) (s : Slot) (p : Weighted) (done : Walk → Type 0) → IsGrown old new i e s → HasHomes old homes → FitsUnder old homes (e ∷ home_of homes i) s → IsClosed p done → Under p.spot (e ∷ home_of homes i) → (done (home_of homes i) → ⊥) → (done (e ∷ home_of homes i) → ⊥) → (e ≡ across → (label : ℕ) → Under p.spot (down label ∷ home_of homes i) → HasTwoChildren old i) → SharesBetween old homes p done → SharesBetween new (homes ++ (e ∷ home_of homes i) ∷ []) p done
 shares_grown old new homes i e s p done G H F closed u here there two S = record {
   shares = λ j label l d O. shares j label l d O (G.came j (down label));
   many = λ j to label is v. many j to label is v (G.came j across);

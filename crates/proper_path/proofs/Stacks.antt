@@ -5,13 +5,13 @@ use Rattle.std.proofs.lemmas.Bool.{cases_lt}
 use Rattle.cube_view.specs.Walks.{down, Walk, Under}
 use Rattle.node_arena.specs.Slots.{slot_of, is_table}
 use Rattle.proper_path.specs.Making.{State, home, Keeps}
-use Rattle.proper_path.specs.Trails.{IsTrailLink, IsTrail}
+use Rattle.proper_path.specs.Trails.{IsTrailLink, IsOnTrail}
 use Rattle.proper_path.proofs.Order.{above-length}
 use Rattle.proper_path.proofs.Steps.{IsPlaced}
 use Rattle.node_arena.specs.Amounts.{Weighted}
 
 -- the root alone
-pub trail_starts : (a : State) (p : Weighted) (root : ℕ) → root < length a.slots → is_table (slot_of a.slots root) ≡ false → IsTrail a p root (root ∷ [])
+pub trail_starts : (a : State) (p : Weighted) (root : ℕ) → root < length a.slots → is_table (slot_of a.slots root) ≡ false → IsOnTrail a p root (root ∷ [])
 trail_starts a p root lt nd = record {
   first = refl;
   inside = λ n l. at n l (λ k. k < length a.slots) lt;
@@ -29,7 +29,7 @@ trail_starts a p root lt nd = record {
     deep (suc n) l = absurd (omega arith)
 
 -- what keeps everything outside an address keeps the part of a trail above it
-pub trail_kept : (a b : State) (p : Weighted) (root : ℕ) (stack : List ℕ) (x : Walk) → Keeps a b x → 0 < length stack → IsTrail a p root stack → length (home a root) + length stack ≤ length x → IsTrail b p root stack
+pub trail_kept : (a b : State) (p : Weighted) (root : ℕ) (stack : List ℕ) (x : Walk) → Keeps a b x → 0 < length stack → IsOnTrail a p root stack → length (home a root) + length stack ≤ length x → IsOnTrail b p root stack
 trail_kept a b p root stack x K some T short = record {
   first = T.first;
   inside = λ n l. omega (arith, T.inside n l, K.size);
@@ -53,7 +53,7 @@ trail_kept a b p root stack x K some T short = record {
         }
 
 -- one step further down
-pub trail_steps : (dims : ℕ) (p : Weighted) (a b : State) (root i l j : ℕ) (stack : List ℕ) → IsTrail a p root stack → 0 < length stack → (n : ℕ) → suc n ≡ length stack → get_or stack n 0 ≡ i → Under p.spot (down l ∷ home a i) → IsPlaced dims a i (down l) j b → is_table (slot_of b.slots j) ≡ false → IsTrail b p root (stack ++ j ∷ [])
+pub trail_steps : (dims : ℕ) (p : Weighted) (a b : State) (root i l j : ℕ) (stack : List ℕ) → IsOnTrail a p root stack → 0 < length stack → (n : ℕ) → suc n ≡ length stack → get_or stack n 0 ≡ i → Under p.spot (down l ∷ home a i) → IsPlaced dims a i (down l) j b → is_table (slot_of b.slots j) ≡ false → IsOnTrail b p root (stack ++ j ∷ [])
 trail_steps dims p a b root i l j stack T some n e at u m nd = record {
   first = get_or_append_left stack (j ∷ []) 0 0 some ∙ T.first;
   inside = λ k lt. inside k (cases k lt);

@@ -7,9 +7,9 @@ use Rattle.node_arena.specs.Calls.{copied}
 use Rattle.node_arena.specs.Shape.{home_of, HasHomes, HasTables}
 use Rattle.proper_path.specs.Midway.{IsContentHome, IsGrowing, IsMidway, SharesBetween, HasTwoChildren, IsClosed, IsBetween, DoneBefore}
 use Rattle.proper_path.specs.Changes.{IsGrown}
-use Rattle.proper_path.specs.Making.{State, home, Adds, Makes, has, copies, adds, Keeps}
+use Rattle.proper_path.specs.Making.{State, home, AddsSlot, Makes, has, copies, adds, Keeps}
 use Rattle.node_arena.proofs.Linked.{linked-lt}
-use Rattle.proper_path.proofs.Homes.{IsFree, FitsAt, home_free, home-push_old, home-push_new, homes_grown}
+use Rattle.proper_path.proofs.Homes.{IsFree, FitsUnder, home_free, home-push_old, home-push_new, homes_grown}
 use Rattle.proper_path.proofs.Between.{StandsAt, midway_grown, tables_grown, copy_kind, copy_stands, empty_stands}
 use Rattle.proper_path.proofs.Grow.{copy_fits, empty_fits}
 use Rattle.cube_view.proofs.Walking.{dimension-finer}
@@ -93,7 +93,7 @@ pub record IsPlaced (dims : ℕ) (a : State) (i : ℕ) (e : Step) (j : ℕ) (b :
   pub at_home : home b j ≡ e ∷ home a i
   pub updated : b.updated ≡ a.updated
 
-placed : (dims : ℕ) (a b : State) (i j : ℕ) (e : Step) (s : Slot) → HasHomes a.slots a.homes → HasTables dims a.slots a.homes → IsFree a.slots i e → FitsAt a.slots a.homes (e ∷ home a i) s → (is_table s ≡ true) ↔ (dimension (e ∷ home a i) ≡ dims) → Adds a i e s j b → IsPlaced dims a i e j b
+placed : (dims : ℕ) (a b : State) (i j : ℕ) (e : Step) (s : Slot) → HasHomes a.slots a.homes → HasTables dims a.slots a.homes → IsFree a.slots i e → FitsUnder a.slots a.homes (e ∷ home a i) s → (is_table s ≡ true) ↔ (dimension (e ∷ home a i) ≡ dims) → AddsSlot a i e s j b → IsPlaced dims a i e j b
 placed dims a b i j e s H T free fits kind D = record {
   has_homes = subst (λ x. HasHomes b.slots x) (sym D.homes) (homes_grown a.slots b.slots a.homes i e s G H free fits);
   has_tables = subst (λ x. HasTables dims b.slots x) (sym D.homes) (tables_grown dims a.slots b.slots a.homes i e s G H T kind);
@@ -150,7 +150,7 @@ pub record IsMade (dims : ℕ) (h : List Weighted) (p : Weighted) (done : Walk �
   pub at_home : home b j ≡ e ∷ home a i
   pub updated : b.updated ≡ a.updated
 
-added : (dims : ℕ) (h : List Weighted) (p : Weighted) (done : Walk → Type 0) (a b : State) (i j : ℕ) (e : Step) (s : Slot) → Between dims h p done a → IsClosed p done → Under p.spot (e ∷ home a i) → (done (home a i) → ⊥) → (done (e ∷ home a i) → ⊥) → (e ≡ across → (label : ℕ) → Under p.spot (down label ∷ home a i) → HasTwoChildren a.slots i) → IsFree a.slots i e → StandsAt dims a.slots a.homes (e ∷ home a i) s h p → Adds a i e s j b → IsMade dims h p done a i e j b
+added : (dims : ℕ) (h : List Weighted) (p : Weighted) (done : Walk → Type 0) (a b : State) (i j : ℕ) (e : Step) (s : Slot) → Between dims h p done a → IsClosed p done → Under p.spot (e ∷ home a i) → (done (home a i) → ⊥) → (done (e ∷ home a i) → ⊥) → (e ≡ across → (label : ℕ) → Under p.spot (down label ∷ home a i) → HasTwoChildren a.slots i) → IsFree a.slots i e → StandsAt dims a.slots a.homes (e ∷ home a i) s h p → AddsSlot a i e s j b → IsMade dims h p done a i e j b
 added dims h p done a b i j e s B closed u here there two free st D = record {
   between = subst₂ (λ x y. IsBetween dims b.slots x h p done y) (sym D.homes) (sym D.updated) grown;
   keeps = record {

@@ -27,7 +27,7 @@ abbrev pub home : State → ℕ → Walk
 home a i = home_of a.homes i
 
 -- slot s was added for the link at i and e
-pub record Adds (a : State) (i : ℕ) (e : Step) (s : Slot) (j : ℕ) (b : State) : Type 0 where
+pub record AddsSlot (a : State) (i : ℕ) (e : Step) (s : Slot) (j : ℕ) (b : State) : Type 0 where
   pub is : j ≡ length a.slots
   pub grown : IsGrown a.slots b.slots i e s
   pub homes : b.homes ≡ a.homes ++ (e ∷ home a i) ∷ []
@@ -36,8 +36,8 @@ pub record Adds (a : State) (i : ℕ) (e : Step) (s : Slot) (j : ℕ) (b : State
 -- the link at i and e is made to lead properly to a slot j: it does, or its shared target is copied, or an empty slot is added
 pub data Makes (dims : ℕ) (a : State) (i : ℕ) (e : Step) (j : ℕ) (b : State) : Type 0 where
   has : link_of a.slots i e ≡ Some (proper j) → b ≡ a → Makes dims a i e j b
-  copies : (t : ℕ) → link_of a.slots i e ≡ Some (shared t) → (e ≡ across → Contains a.updated t → ⊥) → Adds a i e (copied (slot_of a.slots t)) j b → Makes dims a i e j b
-  adds : (s : Slot) → link_of a.slots i e ≡ None → ((f : Step) → link s f ≡ None) → ((bin : ℕ) → count s bin ≡ 0) → ((is_table s ≡ true) ↔ (dimension (e ∷ home a i) ≡ dims)) → Adds a i e s j b → Makes dims a i e j b
+  copies : (t : ℕ) → link_of a.slots i e ≡ Some (shared t) → (e ≡ across → Contains a.updated t → ⊥) → AddsSlot a i e (copied (slot_of a.slots t)) j b → Makes dims a i e j b
+  adds : (s : Slot) → link_of a.slots i e ≡ None → ((f : Step) → link s f ≡ None) → ((bin : ℕ) → count s bin ≡ 0) → ((is_table s ≡ true) ↔ (dimension (e ∷ home a i) ≡ dims)) → AddsSlot a i e s j b → Makes dims a i e j b
 
 -- what stands outside x keeps its links
 pub record Keeps (a b : State) (x : Walk) : Type 0 where

@@ -7,7 +7,7 @@ use Rattle.node_arena.specs.Shape.{home_of, HasHomes, HasTables}
 use Rattle.proper_path.specs.Order.{IsAbove}
 use Rattle.proper_path.specs.Midway.{IsBetween, DoneBefore}
 use Rattle.proper_path.specs.Making.{State, IsSpotOf, AllOfShape, Keeps}
-use Rattle.proper_path.specs.Trails.{IsTrail}
+use Rattle.proper_path.specs.Trails.{IsOnTrail}
 use Rattle.node_arena.specs.Amounts.{Weighted, spots_in}
 
 -- slots with their homes and an updated set
@@ -46,7 +46,7 @@ pub record HasTrail (dims : ℕ) (p : Weighted) (old : List Slot) (homes : List 
   -- links outside the root's part are as before
   pub keeps : Keeps (state old homes []) (state new homes' []) (home_of homes root)
   -- the stack is a trail of proper links from the root to `at`
-  pub trail : IsTrail (state new homes' []) p root stack
+  pub trail : IsOnTrail (state new homes' []) p root stack
   pub some : 0 < length stack
   pub size : length stack ≡ gone + 1
   pub last : (n : ℕ) → suc n ≡ length stack → get_or stack n 0 ≡ at

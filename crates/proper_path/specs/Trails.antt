@@ -12,7 +12,7 @@ pub record IsTrailLink (a : State) (p : Weighted) (x y : ℕ) : Type 0 where
   pub is : link_of a.slots x (down label) ≡ Some (proper y)
 
 -- the stack lies on proper links along p's labels, the root at place 0
-pub record IsTrail (a : State) (p : Weighted) (root : ℕ) (stack : List ℕ) : Type 0 where
+pub record IsOnTrail (a : State) (p : Weighted) (root : ℕ) (stack : List ℕ) : Type 0 where
   pub first : get_or stack 0 0 ≡ root
   pub inside : (n : ℕ) → n < length stack → get_or stack n 0 < length a.slots
   pub nodes : (n : ℕ) → n < length stack → is_table (slot_of a.slots (get_or stack n 0)) ≡ false

@@ -6,7 +6,7 @@ use Rattle.proper_path.specs.Rooted.{places_of}
 use Rattle.arena_undo.specs.Worked.{Worked}
 use Rattle.proper_path.proofs.Stepping.{places-push}
 use Rattle.point_insert.proofs.Stacked.{stack_size, taken_size}
-use Rattle.point_insert.proofs.Entering.{leaves_trail, visits_all, can_pop, leaves_pop, table_visits, is_table_there, enters_content, root_of}
+use Rattle.point_insert.proofs.Entering.{leaves_trail, visits_all, can_visit_last, leaves_pop, table_visits, is_table_there, enters_content, root_of}
 use Rattle.point_insert.proofs.Light.{point_fits}
 use Rattle.point_insert.proofs.Spending.{spending_starts, spending_room, spending_more, keeps_within, trail_within, update_room}
 use Rattle.point_insert.proofs.Visiting.{visited_shared, child_in, child_node, visited_skips, can_enter, visited_updates, content_in, visit_node}
@@ -34,7 +34,7 @@ pub add_in-visit-requires : goal.add_in-visit-requires
 add_in-visit-requires g t c κs within =
     let e = ap places_of c.in-Some.ensures.taken ∙ places-push c.pop.new.self c.in-Some.at in
     let size = taken_size c.loop-at.stack c.pop.new.self c.in-Some.at c.in-Some.ensures.taken in
-    (search rules, (search rules, (c.requires.sound, (c.requires.dim, (can_pop _ _ _ _ _ _ _ _ _ _ _ c.requires.known c.loop-at.invariant.left e, spending_room c.args.schema.now c.args.dim _ (length c.pop.new.self) c.args.work.now c.loop-at.work c.loop-at.invariant.spending size c.requires.room)))))
+    (search rules, (search rules, (c.requires.sound, (c.requires.dim, (can_visit_last _ _ _ _ _ _ _ _ _ _ _ c.requires.known c.loop-at.invariant.left e, spending_room c.args.schema.now c.args.dim _ (length c.pop.new.self) c.args.work.now c.loop-at.work c.loop-at.invariant.spending size c.requires.room)))))
 
 pub add_in-loop-at-preserved : goal.add_in-loop-at-preserved
 add_in-loop-at-preserved g t c =

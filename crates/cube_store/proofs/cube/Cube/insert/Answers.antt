@@ -4,7 +4,7 @@ use Rattle.node_arena.specs.Slots.{Slot}
 use Rattle.proper_path.specs.Paths.{path_of}
 use Rattle.cube_store.specs.Counted.{HasPoints}
 use Rattle.cube_store.specs.Inserting.{CanInsert, Inserts}
-use Rattle.cube_store.proofs.Listing.{can_insert, counts_more, has_more}
+use Rattle.cube_store.proofs.Listing.{can_insert, counts_joined, has_more}
 use Rattle.cube_store.proofs.cube.Cube.insert.Goals as goal
 
 pub insert_into-requires-clause-known : goal.insert_into-requires-clause-known
@@ -34,5 +34,5 @@ invariant_of-self-in-Err c =
 pub returns-in-Ok-clause-counted : goal.returns-in-Ok-clause-counted
 returns-in-Ok-clause-counted c h C =
     let old : c.replace-arena.result ≡ c.args.self.now.arena = search rules in
-    counts_more c.args.self.now.schema c.args.point c.args.self.now.arena c.in-Ok.arena c.args.self.now.root.0 c.args.self.now.size h c.requires.sound c.requires.room
+    counts_joined c.args.self.now.schema c.args.point c.args.self.now.arena c.in-Ok.arena c.args.self.now.root.0 c.args.self.now.size h c.requires.sound c.requires.room
     (subst (λ (a : List Slot). Inserts (time_dim c.args.self.now.schema) (path_of c.args.self.now.schema c.args.point) a c.in-Ok.arena) old c.in-Ok.ensures.inserted) C
