@@ -17,8 +17,8 @@ use Rattle.node_arena.specs.Shape.{home_of, HasShape}
 use Rattle.node_arena.specs.Slots.{Slot}
 use Rattle.proper_path.specs.Making.{AllOfShape}
 use Rattle.proper_path.specs.Order.{shape_of}
-use Rattle.proper_path.specs.Paths.{path_of}
-use Rattle.proper_path.proofs.Labels.{spot_of_schema, shape-path_of}
+use Rattle.proper_path.specs.Paths.{point_path}
+use Rattle.proper_path.proofs.Labels.{spot_of_schema, shape-point_path}
 use Rattle.point_insert.specs.Known.{total_weight}
 use Rattle.cube_store.specs.Counted.{paths_of, CountsPoints, HasPoints}
 use Rattle.cube_store.specs.Inserting.{IsInsertable, CanInsert, HasInserted, Inserts}
@@ -74,44 +74,44 @@ weight_within z [] all = omega arith
 weight_within z (p ∷ h) all =
     let r = weight_within z h (λ i d lt. all (suc i) d (omega (arith, lt))) in
     let l = sound-light z p (all 0 p (omega arith)) in
-    let c = sum_by-cons (λ (w : Weighted). w.amount) (path_of z p) (paths_of z h) in
+    let c = sum_by-cons (λ (w : Weighted). w.amount) (point_path z p) (paths_of z h) in
     omega (arith, r, l, c)
 
-paths_alike : (z : Schema) (p : Point) (h : List Point) → AllOfShape (spots_in (paths_of z h)) (path_of z p).spot
+paths_alike : (z : Schema) (p : Point) (h : List Point) → AllOfShape (spots_in (paths_of z h)) (point_path z p).spot
 paths_alike z p [] q c = absurd (let l = c.1 in omega (arith, l))
-paths_alike z p (x ∷ h) q c = go (Contains-cases (spots_in (paths_of z h)) (path_of z x).spot q c) (λ d. paths_alike z p h q d)
+paths_alike z p (x ∷ h) q c = go (Contains-cases (spots_in (paths_of z h)) (point_path z x).spot q c) (λ d. paths_alike z p h q d)
   where
-    go : ((path_of z x).spot ≡ q) ⊎ Contains (spots_in (paths_of z h)) q → (Contains (spots_in (paths_of z h)) q → shape_of q ≡ shape_of (path_of z p).spot) → shape_of q ≡ shape_of (path_of z p).spot
-    go (inl e) f = ap shape_of (sym e) ∙ shape-path_of z x p
+    go : ((point_path z x).spot ≡ q) ⊎ Contains (spots_in (paths_of z h)) q → (Contains (spots_in (paths_of z h)) q → shape_of q ≡ shape_of (point_path z p).spot) → shape_of q ≡ shape_of (point_path z p).spot
+    go (inl e) f = ap shape_of (sym e) ∙ shape-point_path z x p
     go (inr d) f = f d
 
 -- a sound point may join the points that are counted
-insertable : (z : Schema) (p : Point) (slots : List Slot) (root size : ℕ) (h : List Point) → IsTrue (sound z p) → size < most_points → (C : CountsPoints z slots root size h) → IsInsertable (time_dim z) (path_of z p) slots C.homes (paths_of z h)
+insertable : (z : Schema) (p : Point) (slots : List Slot) (root size : ℕ) (h : List Point) → IsTrue (sound z p) → size < most_points → (C : CountsPoints z slots root size h) → IsInsertable (time_dim z) (point_path z p) slots C.homes (paths_of z h)
 insertable z p slots root size h is few C = record { shape = C.shape; alike = paths_alike z p h; spot = spot_of_schema z p; light = light }
   where
-    light : total_weight (path_of z p ∷ paths_of z h) < 2 ^ 63
+    light : total_weight (point_path z p ∷ paths_of z h) < 2 ^ 63
     light =
         let w = weight_within z h C.all_sound in
         let l = sound-light z p is in
-        let c = sum_by-cons (λ (w : Weighted). w.amount) (path_of z p) (paths_of z h) in
+        let c = sum_by-cons (λ (w : Weighted). w.amount) (point_path z p) (paths_of z h) in
         let n = C.number in
         omega (arith, w, l, c, n, few)
 
-pub can_insert : (z : Schema) (p : Point) (slots : List Slot) (root size : ℕ) → IsTrue (sound z p) → size < most_points → HasPoints z slots root size → ∥ CanInsert (time_dim z) (path_of z p) slots ∥₁
+pub can_insert : (z : Schema) (p : Point) (slots : List Slot) (root size : ℕ) → IsTrue (sound z p) → size < most_points → HasPoints z slots root size → ∥ CanInsert (time_dim z) (point_path z p) slots ∥₁
 can_insert z p slots root size is few R = ∥∥₁_map R (λ C. record { homes = C.1.homes; points = paths_of z C.0; known = insertable z p slots root size C.0 is few C.1 })
 
 -- after an insertion the list with the point at its end is counted
-pub counts_joined : (z : Schema) (p : Point) (old new : List Slot) (root size : ℕ) (h : List Point) → IsTrue (sound z p) → size < most_points → Inserts (time_dim z) (path_of z p) old new → CountsPoints z old root size h → CountsPoints z new root (size + 1) (h ++ p ∷ [])
+pub counts_joined : (z : Schema) (p : Point) (old new : List Slot) (root size : ℕ) (h : List Point) → IsTrue (sound z p) → size < most_points → Inserts (time_dim z) (point_path z p) old new → CountsPoints z old root size h → CountsPoints z new root (size + 1) (h ++ p ∷ [])
 counts_joined z p old new root size h is few I C = record {
   homes = r.homes;
-  shape = subst (HasShape (time_dim z) new r.homes) (sym (map-append (λ (x : Point). path_of z x) h (p ∷ []))) (shape_moved (time_dim z) new r.homes (paths_of z h) (path_of z p) r.shape);
+  shape = subst (HasShape (time_dim z) new r.homes) (sym (map-append (λ (x : Point). point_path z x) h (p ∷ []))) (shape_moved (time_dim z) new r.homes (paths_of z h) (point_path z p) r.shape);
   at_top = C.at_top;
   all_sound = All-push (λ x. IsTrue (sound z x)) h p C.all_sound is;
   number = let n = C.number in let m = length_push h p in omega (arith, n, m);
 }
   where
-    r : HasInserted (time_dim z) (path_of z p ∷ paths_of z h) new
+    r : HasInserted (time_dim z) (point_path z p ∷ paths_of z h) new
     r = I C.homes (paths_of z h) (insertable z p old root size h is few C)
 
-pub has_more : (z : Schema) (p : Point) (old new : List Slot) (root size : ℕ) → IsTrue (sound z p) → size < most_points → Inserts (time_dim z) (path_of z p) old new → HasPoints z old root size → HasPoints z new root (size + 1)
+pub has_more : (z : Schema) (p : Point) (old new : List Slot) (root size : ℕ) → IsTrue (sound z p) → size < most_points → Inserts (time_dim z) (point_path z p) old new → HasPoints z old root size → HasPoints z new root (size + 1)
 has_more z p old new root size is few I R = ∥∥₁_map R (λ C. (C.0 ++ p ∷ [], counts_joined z p old new root size C.0 is few I C.1))

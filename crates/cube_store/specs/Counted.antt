@@ -8,11 +8,11 @@ use Rattle.cube_view.specs.declared.schema.Schema.{Schema}
 use Rattle.node_arena.specs.Amounts.{Weighted}
 use Rattle.node_arena.specs.Shape.{HasShape}
 use Rattle.node_arena.specs.Slots.{Slot}
-use Rattle.proper_path.specs.Paths.{path_of}
+use Rattle.proper_path.specs.Paths.{point_path}
 
 -- the points of a list, as walks see them
 abbrev pub paths_of : Schema → List Point → List Weighted
-paths_of schema h = map (λ p. path_of schema p) h
+paths_of schema h = map (λ p. point_path schema p) h
 
 -- The slots count the points of a list h.
 pub record CountsPoints (schema : Schema) (slots : List Slot) (root size : ℕ) (h : List Point) : Type 0 where

@@ -6,7 +6,7 @@ ghost use Rattle.cube_view.specs.Points.{Point as Counted};
 ghost use Rattle.cube_view.specs.Validity.{sound};
 ghost use Rattle.arena_undo.specs.Worked.{Worked};
 ghost use Rattle.point_insert.specs.Room.{visits};
-ghost use Rattle.proper_path.specs.Paths.{path_of};
+ghost use Rattle.proper_path.specs.Paths.{point_path};
 ghost use Rattle.cube_store.specs.Counted.{HasPoints};
 ghost use Rattle.cube_store.specs.Inserting.{CanInsert, Inserts};
 
@@ -80,8 +80,8 @@ fn insert_into(
 ) -> Result<Arena, Arena>
     requires sound { IsTrue (sound schema.now point.now) }
     requires root { root.0 ≡ 0 }
-    requires known { ∥ CanInsert (time_dim schema.now) (path_of schema.now point.now) arena ∥₁ }
-    ensures inserted { IfOk result (λ again. Inserts (time_dim schema.now) (path_of schema.now point.now) arena again) }
+    requires known { ∥ CanInsert (time_dim schema.now) (point_path schema.now point.now) arena ∥₁ }
+    ensures inserted { IfOk result (λ again. Inserts (time_dim schema.now) (point_path schema.now point.now) arena again) }
     ensures back { IfErr result (λ again. again ≡ arena) }
 {
     let mut work = Work::begin(alloc, arena, insert_room(schema))?;
@@ -101,9 +101,9 @@ fn add_at_root(
 ) -> Result<(), NoMemory>
     requires sound { IsTrue (sound schema.now point.now) }
     requires root { root.0 ≡ 0 }
-    requires known { ∥ CanInsert (time_dim schema.now) (path_of schema.now point.now) work.old.slots ∥₁ }
+    requires known { ∥ CanInsert (time_dim schema.now) (point_path schema.now point.now) work.old.slots ∥₁ }
     requires room { work.old.made + 5 * visits schema.now ≤ work.old.room }
-    ensures inserted { OnOk result (Inserts (time_dim schema.now) (path_of schema.now point.now) work.old.slots work.new.slots) }
+    ensures inserted { OnOk result (Inserts (time_dim schema.now) (point_path schema.now point.now) work.old.slots work.new.slots) }
     ensures start { work.new.start ≡ work.old.start }
 {
     let mut updated = Updated::with_room(alloc, 64)?;

@@ -3,7 +3,7 @@ ghost use Rattle.std.specs.Prelude.{◌≡◌, ◌+◌, ◌*◌, ◌<◌, ◌≤
 ghost use Rattle.cube_view.specs.Places.{time_dim};
 ghost use Rattle.cube_view.specs.Validity.{sound};
 ghost use Rattle.probe_core.specs.Blanks.{IsBlankOf};
-ghost use Rattle.proper_path.specs.Paths.{path_of};
+ghost use Rattle.proper_path.specs.Paths.{point_path};
 ghost use Rattle.proper_path.specs.Stepped.{KeepsRoom};
 ghost use Rattle.point_insert.specs.Known.{CanEnter};
 ghost use Rattle.point_insert.specs.Room.{visits_from, allowance};
@@ -35,9 +35,9 @@ pub fn add(
 ) -> Result<(), NoMemory>
     requires sound { IsTrue (sound schema.now point.now) }
     requires dim { (1 ≤ dim) × (dim < time_dim schema.now) }
-    requires known { ∥ CanEnter (time_dim schema.now) (path_of schema.now point.now) work.old.slots updated.old dim root.0 ∥₁ }
+    requires known { ∥ CanEnter (time_dim schema.now) (point_path schema.now point.now) work.old.slots updated.old dim root.0 ∥₁ }
     requires room { work.old.made + 5 * visits_from schema.now dim ≤ work.old.room }
-    ensures added { OnOk result (VisitsAll (time_dim schema.now) (path_of schema.now point.now) work.old.slots work.new.slots updated.old updated.new dim root.0) }
+    ensures added { OnOk result (VisitsAll (time_dim schema.now) (point_path schema.now point.now) work.old.slots work.new.slots updated.old updated.new dim root.0) }
     ensures changes { KeepsRoom (5 * visits_from schema.now dim) work.old work.new }
 {
     add_counted::<Brand>(
@@ -66,9 +66,9 @@ fn add_counted<L: Ledger>(
     requires blank { IsBlankOf L.name L.parts blank }
     requires sound { IsTrue (sound schema.now point.now) }
     requires dim { (1 ≤ dim) × (dim < time_dim schema.now) }
-    requires known { ∥ CanEnter (time_dim schema.now) (path_of schema.now point.now) work.old.slots updated.old dim root.0 ∥₁ }
+    requires known { ∥ CanEnter (time_dim schema.now) (point_path schema.now point.now) work.old.slots updated.old dim root.0 ∥₁ }
     requires room { work.old.made + 5 * visits_from schema.now dim ≤ work.old.room }
-    ensures added { OnOk result (VisitsAll (time_dim schema.now) (path_of schema.now point.now) work.old.slots work.new.slots updated.old updated.new dim root.0) }
+    ensures added { OnOk result (VisitsAll (time_dim schema.now) (point_path schema.now point.now) work.old.slots work.new.slots updated.old updated.new dim root.0) }
     ensures changes { KeepsRoom (5 * visits_from schema.now dim) work.old work.new }
 {
     let mut steps = Steps::<L>::new(blank);
@@ -89,9 +89,9 @@ fn add_in<L: Ledger>(
 ) -> Result<(), NoMemory>
     requires sound { IsTrue (sound schema.now point.now) }
     requires dim { (1 ≤ dim) × (dim < time_dim schema.now) }
-    requires known { ∥ CanEnter (time_dim schema.now) (path_of schema.now point.now) work.old.slots updated.old dim root.0 ∥₁ }
+    requires known { ∥ CanEnter (time_dim schema.now) (point_path schema.now point.now) work.old.slots updated.old dim root.0 ∥₁ }
     requires room { work.old.made + 5 * visits_from schema.now dim ≤ work.old.room }
-    ensures added { OnOk result (VisitsAll (time_dim schema.now) (path_of schema.now point.now) work.old.slots work.new.slots updated.old updated.new dim root.0) }
+    ensures added { OnOk result (VisitsAll (time_dim schema.now) (point_path schema.now point.now) work.old.slots work.new.slots updated.old updated.new dim root.0) }
     ensures changes { KeepsRoom (5 * visits_from schema.now dim) work.old work.new }
 {
     let mut stack = List::new(alloc);
@@ -116,9 +116,9 @@ fn visit<L: Ledger>(
 ) -> Result<(), NoMemory>
     requires sound { IsTrue (sound schema.now point.now) }
     requires dim { (1 ≤ dim) × (dim < time_dim schema.now) }
-    requires known { ∥ CanVisit (time_dim schema.now) (path_of schema.now point.now) work.old.slots updated.old dim at.0 ∥₁ }
+    requires known { ∥ CanVisit (time_dim schema.now) (point_path schema.now point.now) work.old.slots updated.old dim at.0 ∥₁ }
     requires room { work.old.made + (3 + 5 * visits_from schema.now (dim + 1)) ≤ work.old.room }
-    ensures visited { OnOk result (Visits (time_dim schema.now) (path_of schema.now point.now) work.old.slots work.new.slots updated.old updated.new dim at.0) }
+    ensures visited { OnOk result (Visits (time_dim schema.now) (point_path schema.now point.now) work.old.slots work.new.slots updated.old updated.new dim at.0) }
     ensures changes { KeepsRoom (3 + 5 * visits_from schema.now (dim + 1)) work.old work.new }
 {
     if let Some(child) = only_child(work, at) {
@@ -145,9 +145,9 @@ fn update<L: Ledger>(
 ) -> Result<(), NoMemory>
     requires sound { IsTrue (sound schema.now point.now) }
     requires dim { (2 ≤ dim) × (dim ≤ time_dim schema.now) }
-    requires known { ∥ CanEnter (time_dim schema.now) (path_of schema.now point.now) work.old.slots updated.old dim content.0 ∥₁ }
+    requires known { ∥ CanEnter (time_dim schema.now) (point_path schema.now point.now) work.old.slots updated.old dim content.0 ∥₁ }
     requires room { work.old.made + allowance schema.now dim ≤ work.old.room }
-    ensures done { OnOk result (Enters (time_dim schema.now) (path_of schema.now point.now) work.old.slots work.new.slots updated.old updated.new dim content.0) }
+    ensures done { OnOk result (Enters (time_dim schema.now) (point_path schema.now point.now) work.old.slots work.new.slots updated.old updated.new dim content.0) }
     ensures changes { KeepsRoom (allowance schema.now dim) work.old work.new }
 {
     fill(alloc, work, schema, point, dim, content, updated, steps)?;
@@ -168,9 +168,9 @@ fn fill<L: Ledger>(
 ) -> Result<(), NoMemory>
     requires sound { IsTrue (sound schema.now point.now) }
     requires dim { (2 ≤ dim) × (dim ≤ time_dim schema.now) }
-    requires known { ∥ CanEnter (time_dim schema.now) (path_of schema.now point.now) work.old.slots updated.old dim content.0 ∥₁ }
+    requires known { ∥ CanEnter (time_dim schema.now) (point_path schema.now point.now) work.old.slots updated.old dim content.0 ∥₁ }
     requires room { work.old.made + allowance schema.now dim ≤ work.old.room }
-    ensures all { OnOk result (VisitsAll (time_dim schema.now) (path_of schema.now point.now) work.old.slots work.new.slots updated.old updated.new dim content.0) }
+    ensures all { OnOk result (VisitsAll (time_dim schema.now) (point_path schema.now point.now) work.old.slots work.new.slots updated.old updated.new dim content.0) }
     ensures changes { KeepsRoom (allowance schema.now dim) work.old work.new }
 {
     if is_time(schema, dim) {

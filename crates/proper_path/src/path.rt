@@ -3,7 +3,7 @@ ghost use Rattle.std.specs.Prelude.{◌≡◌, ◌<◌, ◌+◌, ◌*◌, ◌≤
 ghost use Rattle.cube_view.specs.Places.{deepest, time_dim};
 ghost use Rattle.cube_view.specs.Validity.{sound};
 ghost use Rattle.probe_core.specs.Blanks.{IsBlankOf};
-ghost use Rattle.proper_path.specs.Paths.{path_of};
+ghost use Rattle.proper_path.specs.Paths.{point_path};
 ghost use Rattle.proper_path.specs.Rooted.{HasRoot, MadeTrail, places_of};
 ghost use Rattle.proper_path.specs.Stepped.{KeepsRoom};
 
@@ -44,9 +44,9 @@ pub fn trail(
 ) -> Result<(), NoMemory>
     requires sound { IsTrue (sound schema.now point.now) }
     requires dim { (1 ≤ dim) × (dim < time_dim schema.now) }
-    requires root { ∥ HasRoot (time_dim schema.now) (path_of schema.now point.now) work.old.slots dim root.0 ∥₁ }
+    requires root { ∥ HasRoot (time_dim schema.now) (point_path schema.now point.now) work.old.slots dim root.0 ∥₁ }
     requires room { work.old.made + 2 * deepest schema.now dim ≤ work.old.room }
-    ensures trail { OnOk result (MadeTrail (time_dim schema.now) (path_of schema.now point.now) work.old.slots work.new.slots dim root.0 (places_of stack.new)) }
+    ensures trail { OnOk result (MadeTrail (time_dim schema.now) (point_path schema.now point.now) work.old.slots work.new.slots dim root.0 (places_of stack.new)) }
     ensures changes { KeepsRoom (2 * deepest schema.now dim) work.old work.new }
 {
     clear(stack);
@@ -66,10 +66,10 @@ fn trail_in<L: Ledger>(
     requires blank { IsBlankOf L.name L.parts blank }
     requires sound { IsTrue (sound schema.now point.now) }
     requires dim { (1 ≤ dim) × (dim < time_dim schema.now) }
-    requires root { ∥ HasRoot (time_dim schema.now) (path_of schema.now point.now) work.old.slots dim root.0 ∥₁ }
+    requires root { ∥ HasRoot (time_dim schema.now) (point_path schema.now point.now) work.old.slots dim root.0 ∥₁ }
     requires room { work.old.made + 2 * deepest schema.now dim ≤ work.old.room }
     requires empty { stack.old ≡ [] }
-    ensures trail { OnOk result (MadeTrail (time_dim schema.now) (path_of schema.now point.now) work.old.slots work.new.slots dim root.0 (places_of stack.new)) }
+    ensures trail { OnOk result (MadeTrail (time_dim schema.now) (point_path schema.now point.now) work.old.slots work.new.slots dim root.0 (places_of stack.new)) }
     ensures changes { KeepsRoom (2 * deepest schema.now dim) work.old work.new }
 {
     let mut steps = Steps::<L>::new(blank);

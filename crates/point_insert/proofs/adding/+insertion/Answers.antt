@@ -1,7 +1,7 @@
 use Rattle.std.proofs.Common.{◌≡◌, ◌+◌, [], length, ap, ◌∙◌, arith, rules}
 use Rattle.std.proofs.lemmas.Result.{on_ok_weaker}
 use Rattle.cube_view.specs.Places.{time_dim}
-use Rattle.proper_path.specs.Paths.{path_of}
+use Rattle.proper_path.specs.Paths.{point_path}
 use Rattle.proper_path.specs.Rooted.{places_of}
 use Rattle.arena_undo.specs.Worked.{Worked}
 use Rattle.proper_path.proofs.Stepping.{places-push}
@@ -52,13 +52,13 @@ add_in-returns-clause-added g t c =
 
 pub fill-table_add_many-requires-clause-fits : goal.fill-table_add_many-requires-clause-fits
 fill-table_add_many-requires-clause-fits g t c =
-    point_fits (time_dim c.args.schema.now) (path_of c.args.schema.now c.args.point.now) c.args.work.now.slots c.args.updated.now c.args.dim c.args.content.0 c.requires.known
+    point_fits (time_dim c.args.schema.now) (point_path c.args.schema.now c.args.point.now) c.args.work.now.slots c.args.updated.now c.args.dim c.args.content.0 c.requires.known
     (is_table_there _ _ _ _ _ _ c.requires.known (c.is_time.ensures.0 c.if-is_time.true)).1
 
 pub fill-returns-then-is_time-clause-all : goal.fill-returns-then-is_time-clause-all
 fill-returns-then-is_time-clause-all g t c =
     on_ok_weaker c.table_add_many.result
-    (λ n. table_visits (time_dim c.args.schema.now) (path_of c.args.schema.now c.args.point.now) _ _ c.args.updated.now c.args.dim c.args.content.0 (c.is_time.ensures.0 c.if-is_time.true) (ap (λ (w : Worked). w.slots) n))
+    (λ n. table_visits (time_dim c.args.schema.now) (point_path c.args.schema.now c.args.point.now) _ _ c.args.updated.now c.args.dim c.args.content.0 (c.is_time.ensures.0 c.if-is_time.true) (ap (λ (w : Worked). w.slots) n))
     c.table_add_many.ensures.added
 
 pub update-returns-clause-done : goal.update-returns-clause-done

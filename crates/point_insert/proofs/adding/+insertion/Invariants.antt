@@ -1,6 +1,6 @@
 use Rattle.std.proofs.Common.{◌+◌, ◌-◌, ◌*◌, length}
 use Rattle.cube_view.specs.Places.{time_dim}
-use Rattle.proper_path.specs.Paths.{path_of}
+use Rattle.proper_path.specs.Paths.{point_path}
 use Rattle.proper_path.specs.Rooted.{places_of}
 use Rattle.point_insert.specs.Visited.{Leaves}
 use Rattle.point_insert.proofs.Spending.{IsSpending}
@@ -20,7 +20,7 @@ decreases-visit g l = 4 * (time_dim l.schema.now - l.dim)
 
 abbrev pub invariant-add_in-loop-at : goal.invariant-add_in-loop-at
 invariant-add_in-loop-at g l = record {
-  left : Leaves (time_dim l.schema) (path_of l.schema l.point) l.fn.work.slots l.work.slots l.fn.updated l.updated l.dim l.fn.root.0 (places_of l.stack);
+  left : Leaves (time_dim l.schema) (point_path l.schema l.point) l.fn.work.slots l.work.slots l.fn.updated l.updated l.dim l.fn.root.0 (places_of l.stack);
   spending : IsSpending l.schema l.dim (length l.stack) l.fn.work l.work;
 }
 

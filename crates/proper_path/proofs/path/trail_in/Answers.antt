@@ -2,9 +2,10 @@ use Rattle.std.proofs.Common.{◌<◌, ◌+◌, [], ◌∷◌, ◌++◌, length,
 use Rattle.cube_view.specs.Places.{deepest, time_dim}
 use Rattle.cube_view.specs.Points.{spot_of}
 use Rattle.cube_view.specs.Walks.{down}
-use Rattle.proper_path.specs.Paths.{path_in, path_of}
+use Rattle.cube_view.specs.Paths.{path_of}
+use Rattle.proper_path.specs.Paths.{point_path}
 use Rattle.proper_path.specs.Rooted.{MakesTrail, places_of}
-use Rattle.proper_path.proofs.Labels.{length-path_in, get_or-path_in, path_at-path_of}
+use Rattle.proper_path.proofs.Labels.{length-path_of, get_or-path_of, path_at-point_path}
 use Rattle.proper_path.proofs.Stepping.{places-push}
 use Rattle.proper_path.proofs.Trailing.{makes_start, makes_more, can_step, made_trail}
 use Rattle.proper_path.proofs.path.trail_in.Goals as goal
@@ -12,8 +13,8 @@ use Rattle.proper_path.proofs.path.trail_in.Goals as goal
 pub loop-above-init : goal.loop-above-init
 loop-above-init g c =
     let z = c.args.schema.now in
-    let p = path_of z c.args.point.now in
-    let path = path_at-path_of z c.args.point.now c.args.dim c.requires.dim.0 (omega (arith, c.requires.dim.1)) in
+    let p = point_path z c.args.point.now in
+    let path = path_at-point_path z c.args.point.now c.args.dim c.requires.dim.0 (omega (arith, c.requires.dim.1)) in
     let stack = ap places_of (c.in_ok-add.ensures.added ∙ ap (λ s. s ++ c.args.root ∷ []) c.requires.empty) in
     record {
       made = subst₂ (λ x y. MakesTrail (time_dim z) p c.args.work.now.slots c.args.work.now.slots c.args.dim c.args.root.0 c.args.root.0 0 x y) (sym path) (sym stack)
@@ -38,11 +39,11 @@ loop-above-preserved g c =
     let i = c.loop-above.invariant in
     let test = c.loop-above-test.true in
     let less : c.loop-above.above < deepest z c.args.dim = omega (arith, test, i.levels) in
-    let long : c.loop-above.above < length (path_in z s c.args.dim) = omega (arith, less, length-path_in z s c.args.dim) in
+    let long : c.loop-above.above < length (path_of z s c.args.dim) = omega (arith, less, length-path_of z s c.args.dim) in
     let stack = ap places_of c.in_ok-add-2.ensures.added ∙ places-push c.loop-above.stack c.in_ok-at.at in
     record {
-      made = subst (λ y. MakesTrail (time_dim z) (path_of z c.args.point.now) c.args.work.now.slots c.step_down.new.work.slots c.args.dim c.args.root.0 c.in_ok-at.at.0 (c.loop-above.above + 1) (path_in z s c.args.dim) y) (sym stack)
-          (makes_more _ _ _ _ _ _ _ _ _ _ _ _ _ i.made long (c.label-next.ensures ∙ get_or-path_in z s c.args.dim c.loop-above.above less) c.in_ok-at.ensures.stepped);
+      made = subst (λ y. MakesTrail (time_dim z) (point_path z c.args.point.now) c.args.work.now.slots c.step_down.new.work.slots c.args.dim c.args.root.0 c.in_ok-at.at.0 (c.loop-above.above + 1) (path_of z s c.args.dim) y) (sym stack)
+          (makes_more _ _ _ _ _ _ _ _ _ _ _ _ _ i.made long (c.label-next.ensures ∙ get_or-path_of z s c.args.dim c.loop-above.above less) c.in_ok-at.ensures.stepped);
       changes = let d = c.in_ok-at.ensures.changes in record { start = d.start ∙ i.changes.start; room = d.room ∙ i.changes.room; made = omega (arith, d.made, i.changes.made) };
       levels = i.levels;
     }
@@ -54,4 +55,4 @@ returns-clause-trail g c =
     let i = c.loop-above.invariant in
     let past = c.loop-above-test.false in
     let within = c.loop-above.auto.above-end in
-    made_trail _ _ _ _ _ _ _ _ _ _ i.made (path_at-path_of z c.args.point.now c.args.dim c.requires.dim.0 (omega (arith, c.requires.dim.1))) (omega (arith, past, within, i.levels, length-path_in z s c.args.dim))
+    made_trail _ _ _ _ _ _ _ _ _ _ i.made (path_at-point_path z c.args.point.now c.args.dim c.requires.dim.0 (omega (arith, c.requires.dim.1))) (omega (arith, past, within, i.levels, length-path_of z s c.args.dim))

@@ -1,7 +1,7 @@
 use Rattle.std.proofs.Common.{◌≡◌, List, sym, ◌∙◌, subst, arith, rules}
 use Rattle.cube_view.specs.Places.{time_dim}
 use Rattle.node_arena.specs.Slots.{Slot}
-use Rattle.proper_path.specs.Paths.{path_of}
+use Rattle.proper_path.specs.Paths.{point_path}
 use Rattle.cube_store.specs.Counted.{HasPoints}
 use Rattle.cube_store.specs.Inserting.{CanInsert, Inserts}
 use Rattle.cube_store.proofs.Listing.{can_insert, counts_joined, has_more}
@@ -10,14 +10,14 @@ use Rattle.cube_store.proofs.cube.Cube.insert.Goals as goal
 pub insert_into-requires-clause-known : goal.insert_into-requires-clause-known
 insert_into-requires-clause-known c =
     let old : c.replace-arena.result ≡ c.args.self.now.arena = search rules in
-    subst (λ (a : List Slot). ∥ CanInsert (time_dim c.args.self.now.schema) (path_of c.args.self.now.schema c.args.point) a ∥₁) (sym old)
+    subst (λ (a : List Slot). ∥ CanInsert (time_dim c.args.self.now.schema) (point_path c.args.self.now.schema c.args.point) a ∥₁) (sym old)
     (can_insert c.args.self.now.schema c.args.point c.args.self.now.arena c.args.self.now.root.0 c.args.self.now.size c.requires.sound c.requires.room c.args.self.now.counted)
 
 pub invariant_of-self : goal.invariant_of-self
 invariant_of-self c =
     let old : c.replace-arena.result ≡ c.args.self.now.arena = search rules in
-    let I : Inserts (time_dim c.args.self.now.schema) (path_of c.args.self.now.schema c.args.point) c.args.self.now.arena c.in-Ok.arena =
-    subst (λ (a : List Slot). Inserts (time_dim c.args.self.now.schema) (path_of c.args.self.now.schema c.args.point) a c.in-Ok.arena) old c.in-Ok.ensures.inserted in
+    let I : Inserts (time_dim c.args.self.now.schema) (point_path c.args.self.now.schema c.args.point) c.args.self.now.arena c.in-Ok.arena =
+    subst (λ (a : List Slot). Inserts (time_dim c.args.self.now.schema) (point_path c.args.self.now.schema c.args.point) a c.in-Ok.arena) old c.in-Ok.ensures.inserted in
     record {
       counted = has_more c.args.self.now.schema c.args.point c.args.self.now.arena c.in-Ok.arena c.args.self.now.root.0 c.args.self.now.size c.requires.sound c.requires.room I c.args.self.now.counted;
       few = let r = c.requires.room in omega (arith, r);
@@ -35,4 +35,4 @@ pub returns-in-Ok-clause-counted : goal.returns-in-Ok-clause-counted
 returns-in-Ok-clause-counted c h C =
     let old : c.replace-arena.result ≡ c.args.self.now.arena = search rules in
     counts_joined c.args.self.now.schema c.args.point c.args.self.now.arena c.in-Ok.arena c.args.self.now.root.0 c.args.self.now.size h c.requires.sound c.requires.room
-    (subst (λ (a : List Slot). Inserts (time_dim c.args.self.now.schema) (path_of c.args.self.now.schema c.args.point) a c.in-Ok.arena) old c.in-Ok.ensures.inserted) C
+    (subst (λ (a : List Slot). Inserts (time_dim c.args.self.now.schema) (point_path c.args.self.now.schema c.args.point) a c.in-Ok.arena) old c.in-Ok.ensures.inserted) C
