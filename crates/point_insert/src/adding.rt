@@ -37,7 +37,7 @@ pub fn add(
     requires dim { (1 ≤ dim) × (dim < time_dim schema.now) }
     requires known { ∥ CanEnter (time_dim schema.now) (point_path schema.now point.now) work.old.slots updated.old dim root.0 ∥₁ }
     requires room { work.old.made + 5 * visits_from schema.now dim ≤ work.old.room }
-    ensures added { OnOk result (VisitsAll (time_dim schema.now) (point_path schema.now point.now) work.old.slots work.new.slots updated.old updated.new dim root.0) }
+    ensures all { OnOk result (VisitsAll (time_dim schema.now) (point_path schema.now point.now) work.old.slots work.new.slots updated.old updated.new dim root.0) }
     ensures changes { KeepsRoom (5 * visits_from schema.now dim) work.old work.new }
 {
     add_counted::<Brand>(
@@ -68,7 +68,7 @@ fn add_counted<L: Ledger>(
     requires dim { (1 ≤ dim) × (dim < time_dim schema.now) }
     requires known { ∥ CanEnter (time_dim schema.now) (point_path schema.now point.now) work.old.slots updated.old dim root.0 ∥₁ }
     requires room { work.old.made + 5 * visits_from schema.now dim ≤ work.old.room }
-    ensures added { OnOk result (VisitsAll (time_dim schema.now) (point_path schema.now point.now) work.old.slots work.new.slots updated.old updated.new dim root.0) }
+    ensures all { OnOk result (VisitsAll (time_dim schema.now) (point_path schema.now point.now) work.old.slots work.new.slots updated.old updated.new dim root.0) }
     ensures changes { KeepsRoom (5 * visits_from schema.now dim) work.old work.new }
 {
     let mut steps = Steps::<L>::new(blank);
@@ -91,7 +91,7 @@ fn add_in<L: Ledger>(
     requires dim { (1 ≤ dim) × (dim < time_dim schema.now) }
     requires known { ∥ CanEnter (time_dim schema.now) (point_path schema.now point.now) work.old.slots updated.old dim root.0 ∥₁ }
     requires room { work.old.made + 5 * visits_from schema.now dim ≤ work.old.room }
-    ensures added { OnOk result (VisitsAll (time_dim schema.now) (point_path schema.now point.now) work.old.slots work.new.slots updated.old updated.new dim root.0) }
+    ensures all { OnOk result (VisitsAll (time_dim schema.now) (point_path schema.now point.now) work.old.slots work.new.slots updated.old updated.new dim root.0) }
     ensures changes { KeepsRoom (5 * visits_from schema.now dim) work.old work.new }
 {
     let mut stack = List::new(alloc);
@@ -139,19 +139,19 @@ fn update<L: Ledger>(
     schema: &Schema,
     point: &Point,
     dim: u8,
-    content: SlotId,
+    slot: SlotId,
     updated: &mut Updated,
     steps: &mut Steps<L>,
 ) -> Result<(), NoMemory>
     requires sound { IsTrue (sound schema.now point.now) }
     requires dim { (2 ≤ dim) × (dim ≤ time_dim schema.now) }
-    requires known { ∥ CanEnter (time_dim schema.now) (point_path schema.now point.now) work.old.slots updated.old dim content.0 ∥₁ }
+    requires known { ∥ CanEnter (time_dim schema.now) (point_path schema.now point.now) work.old.slots updated.old dim slot.0 ∥₁ }
     requires room { work.old.made + allowance schema.now dim ≤ work.old.room }
-    ensures done { OnOk result (Enters (time_dim schema.now) (point_path schema.now point.now) work.old.slots work.new.slots updated.old updated.new dim content.0) }
+    ensures done { OnOk result (Enters (time_dim schema.now) (point_path schema.now point.now) work.old.slots work.new.slots updated.old updated.new dim slot.0) }
     ensures changes { KeepsRoom (allowance schema.now dim) work.old work.new }
 {
-    fill(alloc, work, schema, point, dim, content, updated, steps)?;
-    updated.put(content)
+    fill(alloc, work, schema, point, dim, slot, updated, steps)?;
+    updated.put(slot)
 }
 
 /// The point's weight is added to a time table, or the point to the next dimension.
@@ -162,20 +162,20 @@ fn fill<L: Ledger>(
     schema: &Schema,
     point: &Point,
     dim: u8,
-    content: SlotId,
+    slot: SlotId,
     updated: &mut Updated,
     steps: &mut Steps<L>,
 ) -> Result<(), NoMemory>
     requires sound { IsTrue (sound schema.now point.now) }
     requires dim { (2 ≤ dim) × (dim ≤ time_dim schema.now) }
-    requires known { ∥ CanEnter (time_dim schema.now) (point_path schema.now point.now) work.old.slots updated.old dim content.0 ∥₁ }
+    requires known { ∥ CanEnter (time_dim schema.now) (point_path schema.now point.now) work.old.slots updated.old dim slot.0 ∥₁ }
     requires room { work.old.made + allowance schema.now dim ≤ work.old.room }
-    ensures all { OnOk result (VisitsAll (time_dim schema.now) (point_path schema.now point.now) work.old.slots work.new.slots updated.old updated.new dim content.0) }
+    ensures all { OnOk result (VisitsAll (time_dim schema.now) (point_path schema.now point.now) work.old.slots work.new.slots updated.old updated.new dim slot.0) }
     ensures changes { KeepsRoom (allowance schema.now dim) work.old work.new }
 {
     if is_time(schema, dim) {
-        work.table_add_many(content, point.spot.bin, point.weight as u64)
+        work.table_add_many(slot, point.spot.bin, point.weight as u64)
     } else {
-        add_in(alloc, work, schema, point, dim, content, updated, steps)
+        add_in(alloc, work, schema, point, dim, slot, updated, steps)
     }
 }

@@ -6,4 +6,4 @@ pub add-requires-clause-known : goal.add-requires-clause-known
 add-requires-clause-known c = can_enter_root _ _ _ c.in_ok-updated.updated c.args.root.0 c.in_ok-updated.ensures c.requires.root c.requires.known
 
 pub returns-clause-inserted : goal.returns-clause-inserted
-returns-clause-inserted c = on_ok_weaker c.add.result (λ V. inserts _ _ _ _ _ _ c.args.root.0 c.in_ok-updated.ensures c.requires.root V) c.add.ensures.added
+returns-clause-inserted c = on_ok_weaker c.add.result (λ V. inserts _ _ _ _ _ _ c.args.root.0 c.in_ok-updated.ensures c.requires.root V) c.add.ensures.all

@@ -45,25 +45,25 @@ add_in-loop-at-preserved g t c =
       spending = spending_more c.args.schema.now c.args.dim _ (length c.pop.new.self) c.args.work.now c.loop-at.work c.visit.new.work c.loop-at.invariant.spending size c.in_ok-visit.ensures.changes;
     }
 
-pub add_in-returns-clause-added : goal.add_in-returns-clause-added
-add_in-returns-clause-added g t c =
+pub add_in-returns-clause-all : goal.add_in-returns-clause-all
+add_in-returns-clause-all g t c =
     let empty : c.loop-at.stack ≡ [] = search rules in
     visits_all _ _ _ _ _ _ _ _ _ (ap places_of empty) c.loop-at.invariant.left
 
 pub fill-table_add_many-requires-clause-fits : goal.fill-table_add_many-requires-clause-fits
 fill-table_add_many-requires-clause-fits g t c =
-    point_fits (time_dim c.args.schema.now) (point_path c.args.schema.now c.args.point.now) c.args.work.now.slots c.args.updated.now c.args.dim c.args.content.0 c.requires.known
+    point_fits (time_dim c.args.schema.now) (point_path c.args.schema.now c.args.point.now) c.args.work.now.slots c.args.updated.now c.args.dim c.args.slot.0 c.requires.known
     (is_table_there _ _ _ _ _ _ c.requires.known (c.is_time.ensures.0 c.if-is_time.true)).1
 
 pub fill-returns-then-is_time-clause-all : goal.fill-returns-then-is_time-clause-all
 fill-returns-then-is_time-clause-all g t c =
     on_ok_weaker c.table_add_many.result
-    (λ n. table_visits (time_dim c.args.schema.now) (point_path c.args.schema.now c.args.point.now) _ _ c.args.updated.now c.args.dim c.args.content.0 (c.is_time.ensures.0 c.if-is_time.true) (ap (λ (w : Worked). w.slots) n))
+    (λ n. table_visits (time_dim c.args.schema.now) (point_path c.args.schema.now c.args.point.now) _ _ c.args.updated.now c.args.dim c.args.slot.0 (c.is_time.ensures.0 c.if-is_time.true) (ap (λ (w : Worked). w.slots) n))
     c.table_add_many.ensures.added
 
 pub update-returns-clause-done : goal.update-returns-clause-done
 update-returns-clause-done g t c =
-    on_ok_weaker c.put.result (λ J. enters_content _ _ _ _ _ _ _ c.args.dim c.args.content.0 c.requires.dim.0 J c.in_ok-fill.ensures.all) c.put.ensures.joined
+    on_ok_weaker c.put.result (λ J. enters_content _ _ _ _ _ _ _ c.args.dim c.args.slot.0 c.requires.dim.0 J c.in_ok-fill.ensures.all) c.put.ensures.joined
 
 pub visit-share_content-requires-clause-child_in :
     goal.visit-share_content-requires-clause-child_in
