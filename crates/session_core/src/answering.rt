@@ -50,8 +50,7 @@ fn put_answer<V: CubeView, O: Sink>(
     parsed: &Parsed,
     out: &mut O,
 ) -> Result<bool, SessionFault>
-    requires valid { IsTrue (asks_valid (V.schema view.now) parsed.now) }
-    requires told { told ≤ V.seen view.now }
+    requires { IsTrue (asks_valid (V.schema view.now) parsed.now) × (told ≤ V.seen view.now) }
     ensures goes_on { result ≡ Ok true → (asks_to_end parsed.now ≡ false) × PutsReplies V.weight_at V.seen V.schema V.numbers view.now told (O.held out.old) (O.held out.new) (asked_then parsed.now []) }
     ensures stops { result ≡ Ok false → (asks_to_end parsed.now ≡ true) × (O.held out.new ≡ O.held out.old) }
     ensures breaks_off { IsErrOf result SessionFault.Write → (asks_to_end parsed.now ≡ false) × PutsSome V.weight_at V.seen V.schema V.numbers view.now told (O.held out.old) (O.held out.new) (asked_then parsed.now []) }
@@ -80,15 +79,13 @@ fn answer_next<V: CubeView, S: Source, O: Sink>(
     cutter: &mut LineCutter<S>,
     out: &mut O,
 ) -> Result<bool, SessionFault>
-    requires going { IsGoing cutter.old }
-    requires told { told ≤ V.seen view.now }
+    requires { IsGoing cutter.old × (told ≤ V.seen view.now) }
     ensures goes_on { result ≡ Ok true → GoesOn S.left S.faults (V.schema view.now) cutter.old cutter.new (PutsAll V.weight_at V.seen V.schema V.numbers view.now told (O.held out.old) (O.held out.new)) }
     ensures stops { result ≡ Ok false → Stops S.left S.faults (V.schema view.now) cutter.old cutter.new × (O.held out.new ≡ O.held out.old) }
     ensures breaks_off { IsErrOf result SessionFault.Write → GoesOn S.left S.faults (V.schema view.now) cutter.old cutter.new (PutsSomeOf V.weight_at V.seen V.schema V.numbers view.now told (O.held out.old) (O.held out.new)) }
     ensures nothing { (fault : SessionFault) → result ≡ Err fault → fault ≢ SessionFault.Write → O.held out.new ≡ O.held out.old }
     ensures too_much { IsErrOf result SessionFault.TooMuch → IsTooMuch S.left cutter.old }
-    ensures read { HasCause (S.faults cutter.old.source) (S.faults cutter.new.source) result SessionFault.Read }
-    ensures write { HasCause (O.faults out.old) (O.faults out.new) result SessionFault.Write }
+    ensures causes { HasCause (S.faults cutter.old.source) (S.faults cutter.new.source) result SessionFault.Read × HasCause (O.faults out.old) (O.faults out.new) result SessionFault.Write }
     ensures name { O.name out.new ≡ O.name out.old }
 {
     match next_asked(alloc, view.schema(), cutter) {
@@ -109,13 +106,11 @@ pub fn answer_lines<V: CubeView, S: Source, O: Sink>(
     cutter: &mut LineCutter<S>,
     out: &mut O,
 ) -> Result<(), SessionFault>
-    requires going { IsGoing cutter.old }
-    requires told { told ≤ V.seen view.now }
+    requires { IsGoing cutter.old × (told ≤ V.seen view.now) }
     ensures all { OnOk result (Told (lines_left S.left cutter.old) (PutsAll V.weight_at V.seen V.schema V.numbers view.now told (O.held out.old) (O.held out.new))) }
     ensures ended { OnOk result (IsWithinLimit S.left cutter.old ⊎ Told (lines_left S.left cutter.old) (λ all. has_quit (V.schema view.now) all ≡ true)) }
     ensures part { Told (lines_left S.left cutter.old) (PutsFront V.weight_at V.seen V.schema V.numbers view.now told (O.held out.old) (O.held out.new)) }
-    ensures too_much { IsErrOf result SessionFault.TooMuch → Told (lines_left S.left cutter.old) (PutsAll V.weight_at V.seen V.schema V.numbers view.now told (O.held out.old) (O.held out.new)) }
-    ensures large { IsErrOf result SessionFault.TooMuch → IsTooLarge S.left cutter.old × Told (lines_left S.left cutter.old) (λ all. has_quit (V.schema view.now) all ≡ false) }
+    ensures too_much { IsErrOf result SessionFault.TooMuch → Told (lines_left S.left cutter.old) (PutsAll V.weight_at V.seen V.schema V.numbers view.now told (O.held out.old) (O.held out.new)) × IsTooLarge S.left cutter.old × Told (lines_left S.left cutter.old) (λ all. has_quit (V.schema view.now) all ≡ false) }
     ensures read { HasCause (S.faults cutter.old.source) (S.faults cutter.new.source) result SessionFault.Read }
     ensures write { HasCause (O.faults out.old) (O.faults out.new) result SessionFault.Write }
     ensures name { O.name out.new ≡ O.name out.old }

@@ -21,10 +21,10 @@ returns-in-Ok-clause-part g c =
 
 pub returns-in-Ok-clause-too_much : goal.returns-in-Ok-clause-too_much
 returns-in-Ok-clause-too_much g c e =
-    let stopped = c.answer_lines-answered.ensures.large e in
+    let stopped = c.answer_lines-answered.ensures.too_much e in
     told_by (g.S.Source.left c.args.source) _ (λ script told. (
-      of_lines g.S.Source.left c.args.source c.in-Ok.cutter script (PutsAll g.V.CubeView.weight_at g.V.CubeView.seen g.V.CubeView.schema g.V.CubeView.numbers c.args.view.now c.args.told (g.O.Sink.held c.args.out.now) (g.O.Sink.held c.answer_lines-answered.new.out)) c.in-Ok.ensures.made told (c.answer_lines-answered.ensures.too_much e),
-      script_refused g.S.Source.left c.args.source c.in-Ok.cutter script (g.V.CubeView.schema c.args.view.now) c.in-Ok.ensures.made told stopped.0 stopped.1,
+      of_lines g.S.Source.left c.args.source c.in-Ok.cutter script (PutsAll g.V.CubeView.weight_at g.V.CubeView.seen g.V.CubeView.schema g.V.CubeView.numbers c.args.view.now c.args.told (g.O.Sink.held c.args.out.now) (g.O.Sink.held c.answer_lines-answered.new.out)) c.in-Ok.ensures.made told stopped.0,
+      script_refused g.S.Source.left c.args.source c.in-Ok.cutter script (g.V.CubeView.schema c.args.view.now) c.in-Ok.ensures.made told stopped.1 stopped.2,
     ))
 
 pub returns-in-Err-clause-part : goal.returns-in-Err-clause-part

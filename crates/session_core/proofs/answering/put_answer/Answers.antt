@@ -11,7 +11,7 @@ returns-in-Ok-Skipped-clause-goes_on g c =
     let stat = g.V.CubeView.numbers c.args.view.now in
     λ _. (
       ∥∥₁_elim (g.met.V.CubeView.bag c.args.view.now).counted (Bool-set _ _) (λ p. skipped_goes_on schema stat p.0 c.args.told c.args.parsed.now _ c.in-Ok-Skipped.field-0-is (c.in-Ok-Skipped.ensures p.0 p.1)),
-      λ h counts. skipped_gains schema stat h c.args.told (omega (arith, c.requires.told, counts.number)) _ c.args.parsed.now _ c.in-Ok-Skipped.field-0-is (c.in-Ok-Skipped.ensures h counts),
+      λ h counts. skipped_gains schema stat h c.args.told (omega (arith, c.requires.1, counts.number)) _ c.args.parsed.now _ c.in-Ok-Skipped.field-0-is (c.in-Ok-Skipped.ensures h counts),
     )
 
 pub returns-in-Ok-Quit-clause-stops : goal.returns-in-Ok-Quit-clause-stops
@@ -29,7 +29,7 @@ returns-in-Ok-clause-goes_on g c =
     let stat = g.V.CubeView.numbers c.args.view.now in
     λ _. (
       ∥∥₁_elim (g.met.V.CubeView.bag c.args.view.now).counted (Bool-set _ _) (λ p. reply_goes_on schema stat p.0 c.args.told c.args.parsed.now _ _ c.in-Ok-Reply.field-0-is (c.in-Ok-Reply.ensures p.0 p.1)),
-      λ h counts. reply_gains schema stat h c.args.told (omega (arith, c.requires.told, counts.number)) _ _ c.args.parsed.now _ _ c.as_slice.result.now c.in-Ok-Reply.field-0-is (c.in-Ok-Reply.ensures h counts) c.as_slice.ensures c.in-Ok.ensures.put,
+      λ h counts. reply_gains schema stat h c.args.told (omega (arith, c.requires.1, counts.number)) _ _ c.args.parsed.now _ _ c.as_slice.result.now c.in-Ok-Reply.field-0-is (c.in-Ok-Reply.ensures h counts) c.as_slice.ensures c.in-Ok.ensures.put,
     )
 
 pub returns-in-Err-Failed-clause-breaks_off : goal.returns-in-Err-Failed-clause-breaks_off
@@ -38,5 +38,5 @@ returns-in-Err-Failed-clause-breaks_off g c =
     let stat = g.V.CubeView.numbers c.args.view.now in
     λ _. (
       ∥∥₁_elim (g.met.V.CubeView.bag c.args.view.now).counted (Bool-set _ _) (λ p. reply_goes_on schema stat p.0 c.args.told c.args.parsed.now _ _ c.in-Ok-Reply.field-0-is (c.in-Ok-Reply.ensures p.0 p.1)),
-      λ h counts. reply_some schema stat h c.args.told (omega (arith, c.requires.told, counts.number)) _ _ c.args.parsed.now _ _ c.as_slice.result.now c.in-Ok-Reply.field-0-is (c.in-Ok-Reply.ensures h counts) c.as_slice.ensures (c.in-Err-Failed.ensures.failed (ap (λ e. Err e) c.in-Err-Failed.field-0-is)),
+      λ h counts. reply_some schema stat h c.args.told (omega (arith, c.requires.1, counts.number)) _ _ c.args.parsed.now _ _ c.as_slice.result.now c.in-Ok-Reply.field-0-is (c.in-Ok-Reply.ensures h counts) c.as_slice.ensures (c.in-Err-Failed.ensures.failed (ap (λ e. Err e) c.in-Err-Failed.field-0-is)),
     )
