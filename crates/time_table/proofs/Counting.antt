@@ -97,13 +97,10 @@ bits_blocks n some =
     omega (arith, ap bits same)
 
 -- the two searches together
-pub steps_in_blocks : (heads rows n : ℕ) → 0 < heads → rows ≤ 63 → 32 * heads ≤ n → bits heads + bits rows ≤ 1 + bits n
-steps_in_blocks heads rows n some most le =
-    let block : bits rows ≤ 6 = bits-least rows 6 (omega arith) in
+pub steps_in_blocks : (heads size n : ℕ) → 0 < heads → size ≤ 63 → 32 * heads ≤ n → bits heads + bits size ≤ 1 + bits n
+steps_in_blocks heads size n some most le =
+    let block : bits size ≤ 6 = bits-least size 6 (omega arith) in
     omega (arith, bits_blocks heads some, bits-mono (32 * heads) n le)
 
 pub steps_in_heads : (heads n : ℕ) → 32 * heads ≤ n → bits heads ≤ 1 + bits n
 steps_in_heads heads n le = omega (arith, bits-mono heads n (omega arith))
-
-pub steps_next : (heads rows n : ℕ) → 0 < heads → rows ≤ 63 → 32 * heads ≤ n → bits heads + bits rows ≤ 1 + bits n
-steps_next heads rows n some most le = steps_in_blocks heads rows n some most le

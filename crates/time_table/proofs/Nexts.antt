@@ -74,7 +74,7 @@ first_at least before from (suc p) (h ∷ hs) (x ∷ bs) b held lesser within re
     first_over from (counts_from 0 x.items) (parts bs) (below_entries from h.bin 0 x.items held.0.within under)
     ∙ first_at (h.bin + 1) h.total from p hs bs b held.1 (All-tail (λ (h : Row). h.bin < from) h (take p hs) lesser) (omega arith) read
 
-first_of_rows : (from least : ℕ) (rows : List Row) (row : Row) (ys : List (ℕ × ℕ)) → Rise least 0 rows → from ≤ least → row ≡ get_or rows 0 row → 0 < length rows → first_from from (counts_from 0 rows ++ ys) ≡ Some (row.bin, row.total)
+first_of_rows : (from least : ℕ) (block : List Row) (row : Row) (ys : List (ℕ × ℕ)) → Rise least 0 block → from ≤ least → row ≡ get_or block 0 row → 0 < length block → first_from from (counts_from 0 block ++ ys) ≡ Some (row.bin, row.total)
 first_of_rows from least [] row ys rise le read some = absurd (omega arith)
 first_of_rows from least (r ∷ rs) row ys rise le read some =
     let first : least ≤ r.bin = rise.0 in

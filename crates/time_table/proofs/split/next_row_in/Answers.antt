@@ -7,7 +7,7 @@ use Rattle.time_table.specs.Totals.{row_bin}
 use Rattle.time_table.specs.Totals.{counts_from}
 use Rattle.time_table.specs.Blocks.{flat, parts}
 use Rattle.time_table.proofs.Blocked.{held_len, Rise-heads, Rise-at, place_inside}
-use Rattle.time_table.proofs.Counting.{length-flat, steps_next}
+use Rattle.time_table.proofs.Counting.{length-flat, steps_in_blocks}
 use Rattle.time_table.proofs.Merged.{sized_at}
 use Rattle.time_table.proofs.Nexts.{or_else, first_at, first_behind, none_behind}
 use Rattle.time_table.proofs.split.next_row_in.Goals as goal
@@ -47,7 +47,7 @@ returns-in-Some-clause-cost g c =
     let sized = sized_at c.place_of-place.result.index c.args.blocks.now.items c.index-block.result.now c.requires.sized (omega arith) c.index-block.ensures in
     let one : c.place_of-place.new.steps ≤ c.args.steps.now + bits (length c.args.heads.now.items) = c.place_of-place.ensures.cost in
     let two : c.next_in.new.steps ≤ c.place_of-place.new.steps + bits (length c.index-block.result.now.items) = c.in-Some.ensures.cost in
-    omega (arith, steps_next (length c.args.heads.now.items) (length c.index-block.result.now.items) (length (flat 0 c.args.blocks.now.items)) (omega arith) sized.most (omega arith))
+    omega (arith, steps_in_blocks (length c.args.heads.now.items) (length c.index-block.result.now.items) (length (flat 0 c.args.blocks.now.items)) (omega arith) sized.most (omega arith))
 
 pub returns-then-place-len-clause-next : goal.returns-then-place-len-clause-next
 returns-then-place-len-clause-next g c =
@@ -69,7 +69,7 @@ returns-then-place-len-clause-cost g c =
     let sized = sized_at c.place_of-place.result.index c.args.blocks.now.items c.index-block.result.now c.requires.sized (omega arith) c.index-block.ensures in
     let one : c.place_of-place.new.steps ≤ c.args.steps.now + bits (length c.args.heads.now.items) = c.place_of-place.ensures.cost in
     let two : c.next_in.new.steps ≤ c.place_of-place.new.steps + bits (length c.index-block.result.now.items) = c.in-None.ensures.cost in
-    omega (arith, steps_next (length c.args.heads.now.items) (length c.index-block.result.now.items) (length (flat 0 c.args.blocks.now.items)) (omega arith) sized.most (omega arith))
+    omega (arith, steps_in_blocks (length c.args.heads.now.items) (length c.index-block.result.now.items) (length (flat 0 c.args.blocks.now.items)) (omega arith) sized.most (omega arith))
 
 pub overflow_add-place : goal.overflow_add-place
 overflow_add-place g c =
@@ -122,4 +122,4 @@ returns-clause-cost g c =
     let sized = sized_at c.place_of-place.result.index c.args.blocks.now.items c.index-block.result.now c.requires.sized (omega arith) c.index-block.ensures in
     let one : c.place_of-place.new.steps ≤ c.args.steps.now + bits (length c.args.heads.now.items) = c.place_of-place.ensures.cost in
     let two : c.next_in.new.steps ≤ c.place_of-place.new.steps + bits (length c.index-block.result.now.items) = c.in-None.ensures.cost in
-    omega (arith, steps_next (length c.args.heads.now.items) (length c.index-block.result.now.items) (length (flat 0 c.args.blocks.now.items)) (omega arith) sized.most (omega arith))
+    omega (arith, steps_in_blocks (length c.args.heads.now.items) (length c.index-block.result.now.items) (length (flat 0 c.args.blocks.now.items)) (omega arith) sized.most (omega arith))
