@@ -114,11 +114,10 @@ impl<T: Drop> BlockList<T> {
         ensures { self.new ≡ take n self.old }
     {
         let whole = n / BLOCK;
+        self.len = n;
         if n % BLOCK == 0 {
-            self.len = n;
             self.blocks.truncate(whole);
         } else {
-            self.len = n;
             self.blocks.truncate(whole + 1);
             let last = &mut self.blocks[whole];
             last.cut(n % BLOCK);

@@ -47,7 +47,7 @@ impl Cube {
         })
     }
 
-    /// AddsSlot a sound point. After want of memory the arena, the root and the size are as before.
+    /// Adds a sound point. After want of memory the arena, the root and the size are as before.
     pub fn insert(&mut self, alloc: Global, point: Point) -> Result<(), NoMemory>
         requires sound { IsTrue (sound self.old.schema point) }
         requires room { self.old.size < most_points }
@@ -91,7 +91,7 @@ fn insert_into(
     }
 }
 
-/// AddsSlot the point to the first dimension at the root, with an updated set of its own.
+/// Adds the point to the first dimension at the root, with an updated set of its own.
 fn add_at_root(
     alloc: Global,
     work: &mut Work,

@@ -1,9 +1,9 @@
 //! The records that a cube counts, the schema that says what they may be, and a cube as its readers see it.
 //!
 //! A [`Schema`] names the dimensions; a [`Point`] is a record at a [`Spot`] of them, with a weight. A [`CubeView`] is a
-//! bag of spots that is read by cursors: each stands at an [`Address`], and its calls count their steps. The crate
-//! stands on `outer_io` for texts and lists, and on `probe_core` for steps. How a cube keeps its points, how a schema
-//! is written, and what queries ask of a view are left to the crates above.
+//! bag of spots that is read by cursors: each stands at an [`Address`], and its calls count their steps; a view that
+//! takes points is [`Grow`]. The crate stands on `outer_io` for texts and lists, and on `probe_core` for steps. How a
+//! cube keeps its points, how a schema is written, and what queries ask of a view are left to the crates above.
 //!
 //! ```text
 //! let at_edge = Point { spot: Spot { x: 8, y: 0, values: [0; 4], bin: 0 }, weight: 1 };
@@ -36,4 +36,4 @@ pub use stat::Stat;
 pub use texts::is_same_text;
 pub use tiles::{lies_in, quadrant, tile_label};
 pub use validity::{is_sound, is_valid};
-pub use view::CubeView;
+pub use view::{CubeView, Grow};

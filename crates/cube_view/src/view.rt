@@ -1,15 +1,17 @@
 //! A cube as its readers see it.
-ghost use Rattle.std.specs.Prelude.{◌≡◌, ℕ, ◌+◌, ◌<◌, ◌≤◌, ◌≢◌, IfSome};
-ghost use Rattle.cube_view.specs.Bag.{amount, anywhere, EachCounted, IsBag};
+ghost use Rattle.std.specs.Prelude.{◌≡◌, ℕ, ◌+◌, ◌<◌, ◌≤◌, ◌≢◌, [], ◌∷◌, ◌++◌, IsTrue, IfSome, OnOk, OnErr};
+ghost use Rattle.cube_view.specs.Bag.{amount, anywhere, most_points, Counts, EachCounted, IsBag};
 ghost use Rattle.cube_view.specs.Costs.{ViewCosts};
 ghost use Rattle.cube_view.specs.Found.{SomeIfAny, IsNextLabel};
 ghost use Rattle.cube_view.specs.Places.{time_dim, deepest, is_below, is_before, top_address, longer, next_dim};
+ghost use Rattle.cube_view.specs.Validity.{sound};
 ghost use Rattle.cube_view.specs.declared.address.Address.{Address};
 ghost use Rattle.cube_view.specs.declared.schema.Schema.{Schema};
 ghost use Rattle.cube_view.specs.declared.spot.Spot.{Spot};
 ghost use Rattle.cube_view.specs.declared.stat.Stat.{Stat};
 
-use crate::{Schema, Stat};
+use crate::{Point, Schema, Stat};
+use outer_io::NoMemory;
 use probe_core::Steps;
 use std::sync::ledger::Ledger;
 
@@ -104,4 +106,15 @@ pub trait CubeView: Drop {
 
     /// The structure's numbers meet the test.
     ghost structure: { (v : Self) → is_stat (numbers v) };
+}
+
+/// A view that takes points.
+pub trait Grow: CubeView {
+    /// Adds a sound point to a bag of fewer points than a bag may have. For want of memory the bag is as before.
+    fn insert(&mut self, point: Point) -> Result<(), NoMemory>
+        requires sound { IsTrue (sound (Self.schema self.old) point) }
+        requires room { Self.seen self.old < most_points }
+        ensures counted { EachCounted (Self.weight_at self.old) (Self.seen self.old) (λ h. OnOk result (Counts (Self.weight_at self.new) (Self.seen self.new) (h ++ point ∷ []))) }
+        ensures unchanged { EachCounted (Self.weight_at self.old) (Self.seen self.old) (λ h. OnErr result (Counts (Self.weight_at self.new) (Self.seen self.new) h)) }
+        ensures schema { Self.schema self.new ≡ Self.schema self.old };
 }

@@ -90,9 +90,3 @@ pub record HasShape (dims : ℕ) (slots : List Slot) (homes : List Walk) (h : Li
   pub open shaped use *
   pub shares : SharesOnlyContent slots
   pub alike : AreAlike dims (spots_in h)
-
--- what the type of a cube keeps: there are homes and spots for which its slots have the shape
-pub record IsCube (dims : ℕ) (slots : List Slot) : Type 0 where
-  pub homes : List Walk
-  pub spots : List Weighted
-  pub shape : HasShape dims slots homes spots

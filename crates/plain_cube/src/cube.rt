@@ -5,7 +5,7 @@ ghost use Rattle.cube_view.specs.Places.{deepest, longer as longer_address, IsAd
 ghost use Rattle.cube_view.specs.Validity.{sound};
 
 use crate::scans::{any_below, count_before, least_below};
-use cube_view::{Address, CubeView, Point, Schema, Stat, Tile, quadrant};
+use cube_view::{Address, CubeView, Grow, Point, Schema, Stat, Tile, quadrant};
 use outer_io::NoMemory;
 use probe_core::Steps;
 use std::alloc::Global;
@@ -134,6 +134,12 @@ impl CubeView for PlainCube {
             bin_end,
             steps,
         )
+    }
+}
+
+impl Grow for PlainCube {
+    fn insert(&mut self, point: Point) -> Result<(), NoMemory> {
+        PlainCube::insert(self, point)
     }
 }
 

@@ -21,7 +21,7 @@ use std::alloc::Global;
 use std::marker::Brand;
 use std::sync::ledger::{Blank, Ledger};
 
-/// AddsSlot a sound point to a dimension. `root` is a node at the dimension's level 0 whose home holds the point, and the
+/// Adds a sound point to a dimension. `root` is a node at the dimension's level 0 whose home holds the point, and the
 /// insertion invariant holds of all that comes before it. Afterwards it holds of all that is at or below the root too.
 /// For want of memory the arena holds the changes that were recorded.
 pub fn add(

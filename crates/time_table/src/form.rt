@@ -124,9 +124,8 @@ impl Form {
                 Ok(Form::Single(rows))
             }
             Form::Split(split) => {
-                let copies = copy_blocks(alloc, &split.blocks)?;
+                let blocks = copy_blocks(alloc, &split.blocks)?;
                 let heads = split.heads.copy(alloc)?;
-                let blocks = copies;
                 Ok(Form::Split(boxed(alloc, Split { heads, blocks })?))
             }
         }

@@ -87,7 +87,6 @@ impl TimeTable {
         ensures taken { self.new ≡ take_one self.old bin }
         ensures counted { AllCounted self.new }
     {
-        let _ = &self.form;
         self.take_many(bin, 1);
     }
 

@@ -33,10 +33,6 @@ pub record IsInterleaving (feeders : ℕ) (lists : ℕ → List Point) (entries 
 abbrev pub list_of : List (List Point) → ℕ → List Point
 list_of lists f = slice_index_or lists (f - 1) []
 
--- the entries are an interleaving of these lists
-abbrev pub IsInterleavingOf : List (List Point) → List Entry → Type 0
-IsInterleavingOf lists entries = IsInterleaving (length lists) (list_of lists) entries
-
 -- a sum over the feeders
 abbrev pub sum_of_feeders : ℕ → (ℕ → ℕ) → ℕ
 sum_of_feeders feeders n = sum_by n (range_with_len 1 feeders)
