@@ -87,6 +87,8 @@ impl TimeTable {
         ensures taken { self.new ≡ take_one self.old bin }
         ensures counted { AllCounted self.new }
     {
+        // A bin that is there has a record: contracts learn it where a field is used.
+        let _ = &self.form;
         self.take_many(bin, 1);
     }
 

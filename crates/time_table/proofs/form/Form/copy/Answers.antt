@@ -10,15 +10,15 @@ use Rattle.time_table.proofs.form.Form.copy.Goals as goal
 pub returns-in_ok-boxed-in-Split : goal.returns-in_ok-boxed-in-Split
 returns-in_ok-boxed-in-Split c =
     let split : IsSplit c.in-Split.split.value.heads.items c.in-Split.split.value.blocks.items = subst IsForm c.in-Split.is c.requires in
-    let copies = c.in_ok-copies-in-Split.ensures in
-    let same : lists c.in_ok-copies-in-Split.copies.items ≡ lists c.in-Split.split.value.blocks.items = copies.0 ∙ ap (λ (s : Split). lists s.blocks.items) c.deref.ensures in
-    let copied : IsSplit c.in-Split.split.value.heads.items c.in_ok-copies-in-Split.copies.items = record {
-      held = Held-lists 0 0 c.in-Split.split.value.heads.items c.in-Split.split.value.blocks.items c.in_ok-copies-in-Split.copies.items same split.held;
+    let copies = c.in_ok-blocks-in-Split.ensures in
+    let same : lists c.in_ok-blocks-in-Split.blocks.items ≡ lists c.in-Split.split.value.blocks.items = copies.0 ∙ ap (λ (s : Split). lists s.blocks.items) c.deref.ensures in
+    let copied : IsSplit c.in-Split.split.value.heads.items c.in_ok-blocks-in-Split.blocks.items = record {
+      held = Held-lists 0 0 c.in-Split.split.value.heads.items c.in-Split.split.value.blocks.items c.in_ok-blocks-in-Split.blocks.items same split.held;
       sized = copies.1;
       fits = split.fits;
     } in
-    let done : IsSplit c.in_ok-heads-in-Split.heads.items c.in_ok-copies-in-Split.copies.items = subst (λ (hs : List Row). IsSplit hs c.in_ok-copies-in-Split.copies.items) (sym (c.in_ok-heads-in-Split.ensures ∙ ap (λ (s : Split). s.heads.items) c.deref-in-Split.ensures)) copied in (
+    let done : IsSplit c.in_ok-heads-in-Split.heads.items c.in_ok-blocks-in-Split.blocks.items = subst (λ (hs : List Row). IsSplit hs c.in_ok-blocks-in-Split.blocks.items) (sym (c.in_ok-heads-in-Split.ensures ∙ ap (λ (s : Split). s.heads.items) c.deref-in-Split.ensures)) copied in (
       subst (λ (s : Split). IsSplit s.heads.items s.blocks.items) (sym c.in_ok-boxed-in-Split.ensures) done,
       ap (λ (s : Split). parts s.blocks.items) c.in_ok-boxed-in-Split.ensures
-          ∙ parts-lists c.in-Split.split.value.blocks.items c.in_ok-copies-in-Split.copies.items same ∙ ap form_entries (sym c.in-Split.is),
+          ∙ parts-lists c.in-Split.split.value.blocks.items c.in_ok-blocks-in-Split.blocks.items same ∙ ap form_entries (sym c.in-Split.is),
     )
