@@ -1,5 +1,5 @@
 -- What edits at the place of a label make of the children of a node.
-use Rattle.std.proofs.Common.{◌≡◌, ℕ, zero, suc, ◌+◌, ◌-◌, ◌<◌, ◌≤◌, Bool, true, false, cond, eqb, ltb, [], ◌∷◌, Option, Some, None, length, get_or, set, take, drop, All, refl, sym, ap, ◌∙◌, subst, arith, slice_get, insert, remove, eq-eqb, ne_eqb, ◌⊎◌, inl, inr, IsSome, OnOk, OnErr, Result, Ok, Err, true≢false}
+use Rattle.std.proofs.Common.{◌≡◌, ℕ, zero, suc, ◌+◌, ◌-◌, ◌<◌, ◌≤◌, Bool, true, false, cond, eqb, ltb, [], ◌∷◌, Option, Some, None, length, get_or, set, take, drop, All, refl, sym, ap, ◌∙◌, subst, arith, ap₂, slice_get, insert, remove, eq-eqb, ne_eqb, ◌⊎◌, inl, inr, IsSome, OnOk, OnErr, Result, Ok, Err, true≢false}
 use Rattle.std.proofs.lemmas.Bool.{cases_eq, cases_lt, eqb-false}
 use Rattle.std.proofs.lemmas.Option.{slice_get-get_or, get_or_from_slice_get}
 use Rattle.std.proofs.lemmas.List.{length-set, get_or-set_same, get_or-set_other}
@@ -273,13 +273,13 @@ child-read l children index x F e =
     F.is ∙ ap (λ (z : ℕ × Link). Some z.1) (sym same)
 
 -- the children after each edit, where it is made on `items`, which the children are
-pub put_is : (l : ℕ) (children items new : Children) (index : ℕ) (k : Link) {E : Type 0} (r : Result (Unit {0}) E) → items ≡ children → LiesAt l children index → child children l ≡ None → OnOk r (new ≡ insert items index (l, k)) → OnOk r (new ≡ with_child children l k)
-put_is l children items new index k r same P none ok =
-    on_ok_weaker r (λ (e : new ≡ insert items index (l, k)). e ∙ (ap (λ (z : Children). insert z index (l, k)) same ∙ sym (with_child-place l children index k P none))) ok
+pub put_is : (l : ℕ) (children items new : Children) (index : ℕ) (k : Link) (x : ℕ × Link) {E : Type 0} (r : Result (Unit {0}) E) → x ≡ (l, k) → items ≡ children → LiesAt l children index → child children l ≡ None → OnOk r (new ≡ insert items index x) → OnOk r (new ≡ with_child children l k)
+put_is l children items new index k x r is same P none ok =
+    on_ok_weaker r (λ (e : new ≡ insert items index x). e ∙ (ap₂ (λ (z : Children) (y : ℕ × Link). insert z index y) same is ∙ sym (with_child-place l children index k P none))) ok
 
-pub put_rises : (l : ℕ) (children items new : Children) (index : ℕ) (k : Link) {E : Type 0} (r : Result (Unit {0}) E) → items ≡ children → IsRising children → LiesAt l children index → child children l ≡ None → OnOk r (new ≡ insert items index (l, k)) → OnErr r (new ≡ items) → IsRising new
-put_rises l children items new index k (Ok x) same R P none ok err = subst IsRising (sym (ok ∙ ap (λ (z : Children). insert z index (l, k)) same)) (rising_put l children index k R P none)
-put_rises l children items new index k (Err x) same R P none ok err = subst IsRising (sym (err ∙ same)) R
+pub put_rises : (l : ℕ) (children items new : Children) (index : ℕ) (k : Link) (x : ℕ × Link) {E : Type 0} (r : Result (Unit {0}) E) → x ≡ (l, k) → items ≡ children → IsRising children → LiesAt l children index → child children l ≡ None → OnOk r (new ≡ insert items index x) → OnErr r (new ≡ items) → IsRising new
+put_rises l children items new index k x (Ok u) is same R P none ok err = subst IsRising (sym (ok ∙ ap₂ (λ (z : Children) (y : ℕ × Link). insert z index y) same is)) (rising_put l children index k R P none)
+put_rises l children items new index k x (Err u) is same R P none ok err = subst IsRising (sym (err ∙ same)) R
 
 pub removed_is : (l : ℕ) (children items new : Children) (index : ℕ) → items ≡ children → LiesAt l children index → IsFound l children index → new ≡ remove items index → new ≡ without_child children l
 removed_is l children items new index same P F e = e ∙ (ap (λ (z : Children). remove z index) same ∙ sym (without_child-place l children index F.link P F.placed))
@@ -287,8 +287,8 @@ removed_is l children items new index same P F e = e ∙ (ap (λ (z : Children).
 pub removed_rises : (l : ℕ) (children items new : Children) (index : ℕ) → items ≡ children → IsRising children → IsFound l children index → new ≡ remove items index → IsRising new
 removed_rises l children items new index same R F e = subst IsRising (sym (e ∙ ap (λ (z : Children). remove z index) same)) (all_pairs_remove (λ (a b : ℕ × Link). a.0 < b.0) children index F.within R)
 
-pub replaced_is : (l : ℕ) (children items new : Children) (index : ℕ) (k : Link) → items ≡ children → LiesAt l children index → IsFound l children index → new ≡ set items index (l, k) → new ≡ with_link children l k
-replaced_is l children items new index k same P F e = e ∙ (ap (λ (z : Children). set z index (l, k)) same ∙ sym (with_link-place l children index k F.link P F.placed))
+pub replaced_is : (l : ℕ) (children items new : Children) (index : ℕ) (k : Link) (x : ℕ × Link) → x ≡ (l, k) → items ≡ children → LiesAt l children index → IsFound l children index → new ≡ set items index x → new ≡ with_link children l k
+replaced_is l children items new index k x is same P F e = e ∙ (ap₂ (λ (z : Children) (y : ℕ × Link). set z index y) same is ∙ sym (with_link-place l children index k F.link P F.placed))
 
-pub replaced_rises : (l : ℕ) (children items new : Children) (index : ℕ) (k : Link) → items ≡ children → IsRising children → IsFound l children index → new ≡ set items index (l, k) → IsRising new
-replaced_rises l children items new index k same R F e = subst IsRising (sym (e ∙ ap (λ (z : Children). set z index (l, k)) same)) (rising_set l children index k F.link R F.placed)
+pub replaced_rises : (l : ℕ) (children items new : Children) (index : ℕ) (k : Link) (x : ℕ × Link) → x ≡ (l, k) → items ≡ children → IsRising children → IsFound l children index → new ≡ set items index x → IsRising new
+replaced_rises l children items new index k x is same R F e = subst IsRising (sym (e ∙ ap₂ (λ (z : Children) (y : ℕ × Link). set z index y) same is)) (rising_set l children index k F.link R F.placed)

@@ -1,5 +1,6 @@
 pub mod Amounts
 pub mod Calls
+pub mod Packed
 pub mod Reach
 pub mod Shape
 pub mod Slots

@@ -11,6 +11,7 @@ ghost use Rattle.node_arena.specs.Calls.{with_slot, add_node, add_table, copy_sl
 
 use crate::children::Children;
 use crate::link::{Link, SlotId};
+use crate::packed::Content;
 use crate::slot::Stored;
 use block_list::BlockList;
 use cube_view::Stat;
@@ -21,8 +22,9 @@ use std::marker::{Brand, Model};
 use std::sync::ledger::{Blank, Ledger};
 use time_table::TimeTable;
 
-/// The slots of a cube. Nodes and time tables are added at the end, and a slot keeps its place. Readers
-/// count a step for each slot that they visit and for each child that they probe.
+/// The slots of a cube. Nodes and time tables are added at the end, and a slot keeps its place; where
+/// there are 2^32 slots, an addition answers want of memory. Readers count a step for each slot that they
+/// visit and for each child that they probe.
 #[derive(Drop)]
 pub struct Arena {
     alloc: Global,
@@ -94,7 +96,7 @@ impl Arena {
         ensures added { OnOk result (self.new ≡ add_node self.old) }
         ensures unchanged { OnErr result (self.new ≡ self.old) }
     {
-        let node = Stored::Node(Children::new(self.alloc), None);
+        let node = Stored::Node(Children::new(self.alloc), Content::new(None));
         self.add(node)
     }
 
@@ -116,7 +118,7 @@ impl Arena {
         ensures copied { OnOk result (self.new ≡ copy_slot self.old id.0) }
         ensures unchanged { OnErr result (self.new ≡ self.old) }
     {
-        let copy = self.slot(id.0).copied(self.alloc)?;
+        let copy = self.slot(id.0 as usize).copied(self.alloc)?;
         self.add(copy)
     }
 
@@ -128,7 +130,7 @@ impl Arena {
         ensures put { OnOk result (self.new ≡ put_child self.old id.0 label link) }
         ensures unchanged { OnErr result (self.new ≡ self.old) }
     {
-        let slot = self.slots.get_mut(id.0);
+        let slot = self.slots.get_mut(id.0 as usize);
         slot.put_child(label, link)
     }
 
@@ -140,7 +142,7 @@ impl Arena {
         ensures given { link_of self.old id.0 (down label) ≡ Some result }
         ensures set { self.new ≡ set_child self.old id.0 label link }
     {
-        let slot = self.slots.get_mut(id.0);
+        let slot = self.slots.get_mut(id.0 as usize);
         slot.set_child(label, link)
     }
 
@@ -152,7 +154,7 @@ impl Arena {
         ensures given { link_of self.old id.0 (down label) ≡ Some result }
         ensures dropped { self.new ≡ drop_child self.old id.0 label }
     {
-        let slot = self.slots.get_mut(id.0);
+        let slot = self.slots.get_mut(id.0 as usize);
         slot.drop_child(label)
     }
 
@@ -163,7 +165,7 @@ impl Arena {
         ensures given { result ≡ link_of self.old id.0 across }
         ensures set { self.new ≡ set_content self.old id.0 link }
     {
-        let slot = self.slots.get_mut(id.0);
+        let slot = self.slots.get_mut(id.0 as usize);
         slot.set_content(link)
     }
 
@@ -186,7 +188,7 @@ impl Arena {
         requires is_there { IsTrue (contains_key (counts_of (slot_of self.old id.0)) bin) }
         ensures { self.new ≡ table_take self.old id.0 bin }
     {
-        let slot = self.slots.get_mut(id.0);
+        let slot = self.slots.get_mut(id.0 as usize);
         slot.take_one(bin);
     }
 
@@ -200,7 +202,7 @@ impl Arena {
         ensures unchanged { OnErr result (self.new ≡ self.old) }
         ensures was_counted { AllCounted (counts_of (slot_of self.old id.0)) }
     {
-        let slot = self.slots.get_mut(id.0);
+        let slot = self.slots.get_mut(id.0 as usize);
         slot.add_many(bin, amount)
     }
 
@@ -212,7 +214,7 @@ impl Arena {
         requires is_there { amount ≤ count (slot_of self.old id.0) bin }
         ensures { self.new ≡ table_take_many self.old id.0 bin amount }
     {
-        let slot = self.slots.get_mut(id.0);
+        let slot = self.slots.get_mut(id.0 as usize);
         slot.take_many(bin, amount);
     }
 
@@ -221,7 +223,7 @@ impl Arena {
         requires { id.0 < length self.now }
         ensures { result ≡ is_table (slot_of self.now id.0) }
     {
-        self.slot(id.0).is_table()
+        self.slot(id.0 as usize).is_table()
     }
 
     /// Takes off the slots from a place on.
@@ -241,7 +243,7 @@ impl Arena {
         ensures a_step { steps.old + 1 ≤ steps.new }
         ensures in_order { IsRising (children_of (slot_of self.now id.0)) }
     {
-        self.counted_slot(id.0, steps).child(label, steps)
+        self.counted_slot(id.0 as usize, steps).child(label, steps)
     }
 
     /// The first child whose label is `from` or later. None comes exactly where there is none.
@@ -258,7 +260,8 @@ impl Arena {
         ensures a_step { steps.old + 1 ≤ steps.new }
         ensures in_order { IsRising (children_of (slot_of self.now id.0)) }
     {
-        self.counted_slot(id.0, steps).next_child(from, steps)
+        self.counted_slot(id.0 as usize, steps)
+            .next_child(from, steps)
     }
 
     /// The link to the content. None comes exactly where there is none.
@@ -268,7 +271,7 @@ impl Arena {
         ensures link { result ≡ link_of self.now id.0 across }
         ensures cost { steps.new ≡ steps.old + 1 }
     {
-        self.counted_slot(id.0, steps).content()
+        self.counted_slot(id.0 as usize, steps).content()
     }
 
     /// A time table.
@@ -278,7 +281,7 @@ impl Arena {
         ensures counts { result.now ≡ counts_of (slot_of self.now id.0) }
         ensures cost { steps.new ≡ steps.old + 1 }
     {
-        self.counted_slot(id.0, steps).table()
+        self.counted_slot(id.0 as usize, steps).table()
     }
 
     /// The link to the only child. None comes exactly where there is not exactly one.
@@ -288,17 +291,20 @@ impl Arena {
         ensures link { result ≡ only_link (children_of (slot_of self.now id.0)) }
         ensures in_order { IsRising (children_of (slot_of self.now id.0)) }
     {
-        self.slot(id.0).only_child()
+        self.slot(id.0 as usize).only_child()
     }
 
-    /// Adds a slot at the end.
+    /// Adds a slot at the end, unless there are 2^32 of them, as if there were no memory for more.
     fn add(&mut self, slot: Stored) -> Result<SlotId, NoMemory>
         ensures id { IfOk result (λ id. id ≡ id_of (length self.old)) }
         ensures added { OnOk result (self.new ≡ with_slot self.old (slot_from slot)) }
         ensures unchanged { OnErr result (self.new ≡ self.old) }
     {
+        let Ok(place) = u32::try_from(self.slots.len()) else {
+            return Err(NoMemory);
+        };
         match self.slots.push(slot) {
-            Ok(place) => Ok(SlotId(place)),
+            Ok(_) => Ok(SlotId(place)),
             Err(_) => Err(NoMemory),
         }
     }

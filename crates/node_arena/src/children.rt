@@ -7,7 +7,8 @@ ghost use Rattle.node_arena.specs.Slots.{Children as Listed, IsRising, child, ch
 ghost use Rattle.node_arena.specs.Calls.{with_child, with_link, without_child, child_from, only_link, share_all};
 ghost use Rattle.node_arena.specs.Stats.{children_that, is_proper, is_shared};
 
-use crate::link::{Link, LinkKind};
+use crate::link::Link;
+use crate::packed::Child;
 use outer_io::NoMemory;
 use probe_core::{Place, Rows, Steps};
 use std::alloc::Global;
@@ -17,7 +18,7 @@ use std::sync::ledger::{Blank, Ledger};
 /// Labels with links, in rising order of label. A link is found by one binary search.
 #[derive(Drop)]
 pub struct Children {
-    rows: Rows<(u8, Link)>,
+    rows: Rows<Child>,
 }
 
 impl Model for Children {
@@ -56,7 +57,7 @@ impl Children {
         ensures in_order { IsRising self.now }
     {
         match self.place_of(label, steps).first {
-            Some((found, link)) if found == label => Some(link),
+            Some(child) if child.label() == label => Some(child.link()),
             _ => None,
         }
     }
@@ -68,11 +69,14 @@ impl Children {
         ensures not_less { steps.old ≤ steps.new }
         ensures in_order { IsRising self.now }
     {
-        self.place_of(from, steps).first
+        match self.place_of(from, steps).first {
+            Some(child) => Some((child.label(), child.link())),
+            None => None,
+        }
     }
 
     /// The place of a label, by one binary search.
-    fn place_of<L: Ledger>(&self, label: u8, steps: &mut Steps<L>) -> Place<(u8, Link)>
+    fn place_of<L: Ledger>(&self, label: u8, steps: &mut Steps<L>) -> Place<Child>
         ensures place { IsPlace child_label label self.now result.index }
         ensures first { result.first ≡ slice_get self.now result.index }
         ensures cost { steps.new ≤ steps.old + bits (length self.now) }
@@ -89,7 +93,7 @@ impl Children {
         ensures unchanged { OnErr result (self.new ≡ self.old) }
     {
         let place = self.seek(label);
-        self.rows.insert(place.index, (label, link))
+        self.rows.insert(place.index, Child::new(label, link))
     }
 
     /// Another link at a label that has one. The old link is given.
@@ -99,9 +103,9 @@ impl Children {
         ensures replaced { self.new ≡ with_link self.old label link }
     {
         let place = self.seek(label);
-        let (_, old) = self.item(place.index);
-        self.rows.set(place.index, (label, link));
-        old
+        let old = self.item(place.index);
+        self.rows.set(place.index, Child::new(label, link));
+        old.link()
     }
 
     /// Takes the child of a label off, where there is one. Its link is given.
@@ -111,8 +115,7 @@ impl Children {
         ensures removed { self.new ≡ without_child self.old label }
     {
         let place = self.seek(label);
-        let (_, old) = self.rows.remove(place.index);
-        old
+        self.rows.remove(place.index).link()
     }
 
     /// The link of the only child, where there is exactly one.
@@ -121,7 +124,7 @@ impl Children {
         ensures in_order { IsRising self.now }
     {
         if self.rows.len() == 1 {
-            Some(self.item(0).1)
+            Some(self.item(0).link())
         } else {
             None
         }
@@ -133,8 +136,8 @@ impl Children {
     {
         let mut rows = self.rows.copy(alloc)?;
         for i in 0..self.rows.len() {
-            let (label, link) = self.item(i);
-            rows.set(i, (label, link.shared()));
+            let child = self.item(i);
+            rows.set(i, Child::new(child.label(), child.link().shared()));
         }
         Ok(Children { rows })
     }
@@ -147,7 +150,7 @@ impl Children {
     {
         let mut count = 0;
         for i in 0..self.rows.len() {
-            if self.item(i).1.is_proper() {
+            if self.item(i).link().is_proper() {
                 count += 1;
             }
         }
@@ -165,7 +168,7 @@ impl Children {
     }
 
     /// The place of a label, where nobody counts the steps.
-    fn seek(&self, label: u8) -> Place<(u8, Link)>
+    fn seek(&self, label: u8) -> Place<Child>
         ensures place { IsPlace child_label label self.now result.index }
         ensures first { result.first ≡ slice_get self.now result.index }
         ensures in_order { IsRising self.now }
@@ -174,7 +177,7 @@ impl Children {
     }
 
     /// The child at a place, where nobody counts the steps.
-    fn item(&self, i: usize) -> (u8, Link)
+    fn item(&self, i: usize) -> Child
         requires { i < length self.now }
         ensures item { result ≡ slice_index_or self.now i result }
         ensures in_order { IsRising self.now }
@@ -183,7 +186,7 @@ impl Children {
     }
 
     /// The place of a label, in a ledger of its own.
-    fn seek_in<L: Ledger>(&self, label: u8, blank: Blank) -> Place<(u8, Link)>
+    fn seek_in<L: Ledger>(&self, label: u8, blank: Blank) -> Place<Child>
         requires { IsBlankOf L.name L.parts blank }
         ensures place { IsPlace child_label label self.now result.index }
         ensures first { result.first ≡ slice_get self.now result.index }
@@ -194,7 +197,7 @@ impl Children {
     }
 
     /// The child at a place, in a ledger of its own.
-    fn item_in<L: Ledger>(&self, i: usize, blank: Blank) -> (u8, Link)
+    fn item_in<L: Ledger>(&self, i: usize, blank: Blank) -> Child
         requires blank { IsBlankOf L.name L.parts blank }
         requires within { i < length self.now }
         ensures item { result ≡ slice_index_or self.now i result }

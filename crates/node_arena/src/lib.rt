@@ -18,6 +18,7 @@ mod arena;
 mod children;
 mod laws;
 mod link;
+mod packed;
 mod slot;
 #[cfg(test)]
 mod tests;

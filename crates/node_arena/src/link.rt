@@ -3,9 +3,9 @@ ghost use Rattle.std.specs.Prelude.{◌≡◌};
 ghost use Rattle.node_arena.specs.Slots.{proper, shared, target};
 ghost use Rattle.node_arena.specs.Stats.{is_proper};
 
-/// A slot of an arena, by its place.
+/// A slot of an arena, by its place. An arena has at most 2^32 slots, so that links are small.
 #[derive(Clone, Copy, PartialEq, Eq, Debug)]
-pub struct SlotId(pub usize);
+pub struct SlotId(pub u32);
 
 /// Whether a link owns the slot that it leads to, or shares it.
 #[derive(Clone, Copy, PartialEq, Eq, Debug)]

@@ -11,6 +11,7 @@ ghost use Rattle.node_arena.specs.Stored.{slot_from};
 
 use crate::children::Children;
 use crate::link::Link;
+use crate::packed::Content;
 use cube_view::Stat;
 use outer_io::NoMemory;
 use probe_core::Steps;
@@ -18,12 +19,16 @@ use std::alloc::Global;
 use std::sync::ledger::Ledger;
 use time_table::TimeTable;
 
-/// A node has children and perhaps a content, a time table its counts.
+/// A node has children and perhaps a content, a time table its counts. An empty list of children and an
+/// empty table take no memory besides the slot's.
 #[derive(Drop)]
 pub enum Stored {
-    Node(Children, Option<Link>),
+    Node(Children, Content),
     Table(TimeTable),
 }
+
+// There are hundreds of thousands of slots, and most of a cube's memory is theirs.
+const _: () = prove!(size_of::<Stored>() == 40);
 
 impl Stored {
     /// A shallow copy: all links of the copy are shared.
@@ -32,11 +37,11 @@ impl Stored {
     {
         match self {
             Stored::Node(children, content) => {
-                let content = match content {
+                let content = match content.link() {
                     Some(link) => Some(link.shared()),
                     None => None,
                 };
-                Ok(Stored::Node(children.shared(alloc)?, content))
+                Ok(Stored::Node(children.shared(alloc)?, Content::new(content)))
             }
             Stored::Table(counts) => Ok(Stored::Table(counts.copy(alloc)?)),
         }
@@ -89,8 +94,8 @@ impl Stored {
     {
         match self {
             Stored::Node(_, content) => {
-                let old = *content;
-                *content = link;
+                let old = content.link();
+                *content = Content::new(link);
                 old
             }
             Stored::Table(_) => unreachable!(),
@@ -181,7 +186,7 @@ impl Stored {
         ensures { result ≡ link_at (slot_from self.now) across }
     {
         match self {
-            Stored::Node(_, content) => *content,
+            Stored::Node(_, content) => content.link(),
             Stored::Table(_) => unreachable!(),
         }
     }
@@ -217,7 +222,7 @@ impl Stored {
         match self {
             Stored::Node(children, content) => {
                 let (proper, shared) = children.link_counts();
-                let (more_proper, more_shared) = content_counts(content);
+                let (more_proper, more_shared) = content_counts(content.link());
                 Stat {
                     nodes: stat.nodes.saturating_add(1),
                     tables: stat.tables,
@@ -234,9 +239,9 @@ impl Stored {
 }
 
 /// How many of the links to a content are proper, and how many are shared.
-fn content_counts(content: &Option<Link>) -> (u64, u64)
-    ensures proper { result.0 ≡ content_that is_proper content.now }
-    ensures shared { result.1 ≡ content_that is_shared content.now }
+fn content_counts(content: Option<Link>) -> (u64, u64)
+    ensures proper { result.0 ≡ content_that is_proper content }
+    ensures shared { result.1 ≡ content_that is_shared content }
 {
     match content {
         Some(link) if link.is_proper() => (1, 0),

@@ -10,7 +10,7 @@ use std::marker::Model;
 /// A set of slots, which contracts see as a list of their places.
 #[derive(Drop)]
 pub struct Updated {
-    places: Vec<usize>,
+    places: Vec<u32>,
 }
 
 impl Model for Updated {
