@@ -4,13 +4,13 @@ use Rattle.std.specs.List.{insert, remove}
 use Rattle.std.proofs.lemmas.List.{length-set}
 use Rattle.std.proofs.lemmas.List.Elements.{All-nil, All-cons, All-head, All-tail, All-append, All-weaker}
 use Rattle.time_table.specs.declared.row.Row.{Row}
-use Rattle.time_table.specs.Totals.{Rise, counts_from, last_total, raised, lowered}
+use Rattle.time_table.specs.Totals.{Rise, counts_from, last_total, bin_after, raised, lowered}
 use Rattle.time_table.specs.Places.{added, taken, count_at, more, less}
 use Rattle.time_table.specs.Blocks.{Block, flat, parts, IsHead, Held, IsSized, AllSized, SizedBut, one_list, in_hand}
 use Rattle.time_table.proofs.Adding.{counts_from-raised, last_total-raised, Rise-raised, All-raised, all_past, counts_from-added, Rise-added, All-added, last_total-added, last_total-le}
 use Rattle.time_table.proofs.Taking.{past_entries, counts_from-taken, Rise-taken, All-taken, last_total-taken, length-taken}
 use Rattle.time_table.proofs.Lessened.{count_over, count_front, more_over, more_front, less_over, less_front}
-use Rattle.time_table.proofs.Joined.{counts_from-append, last_total-append, next, Rise-least, Rise-append, next-lt, All-next, length-le-total, one_list-left, one_list-right, last_total-one_list, counts_from-one_list}
+use Rattle.time_table.proofs.Joined.{counts_from-append, last_total-append, Rise-least, Rise-append, bin_after-lt, All-bin_after, length-le-total, one_list-left, one_list-right, last_total-one_list, counts_from-one_list}
 
 pub held_len : (least before : ℕ) (hs : List Row) (bs : List Block) → Held least before hs bs → length hs ≡ length bs
 held_len least before [] [] held = refl
@@ -264,7 +264,7 @@ pub record IsParted (left right left' right' : List Row) (head row : Row) : Type
   pub same : one_list left' right' ≡ one_list left right
   pub some_left : 0 < length left'
   pub some_right : 0 < length right'
-  pub bin : (least : ℕ) → row.bin + 1 ≡ next least left'
+  pub bin : (least : ℕ) → row.bin + 1 ≡ bin_after least left'
   pub total : row.total + last_total 0 right' ≡ head.total
 
 unraised_within : (n top : ℕ) (l r : List Row) → All (λ row. row.bin ≤ top) (l ++ map (raised n) r) → All (λ row. row.bin ≤ top) r
@@ -284,23 +284,23 @@ parted_head : (least before : ℕ) (h row : Row) (l r l' r' : List Row) → IsHe
 parted_head least before h row l r l' r' head is =
     let rise : Rise least 0 (one_list l' r') = subst (Rise least 0) (sym is.same) head.rise in
     let left : Rise least 0 l' = one_list-left least l' r' rise in
-    let right : Rise (next least l') 0 r' = one_list-right least l' r' rise in
-    let bin : row.bin + 1 ≡ next least l' = is.bin least in
+    let right : Rise (bin_after least l') 0 r' = one_list-right least l' r' rise in
+    let bin : row.bin + 1 ≡ bin_after least l' = is.bin least in
     let within : All (λ row. row.bin ≤ h.bin) (one_list l' r') = subst (All (λ (row : Row). row.bin ≤ h.bin)) (sym is.same) head.within in
     let within_right : All (λ row. row.bin ≤ h.bin) r' = unraised_within (last_total 0 l') h.bin l' r' within in
     let sum : last_total 0 (one_list l r) ≡ last_total 0 l' + last_total 0 r' = ap (last_total 0) (sym is.same) ∙ last_total-one_list l' r' in (
       record {
         rise = left;
-        within = All-weaker (λ (r : Row). r.bin < next least l') (λ (r : Row). r.bin ≤ row.bin) (λ (r : Row) (under : r.bin < next least l'). omega arith) l' (All-next least 0 l' left);
-        bins = omega (arith, next-lt least 0 l' left is.some_left);
+        within = All-weaker (λ (r : Row). r.bin < bin_after least l') (λ (r : Row). r.bin ≤ row.bin) (λ (r : Row) (under : r.bin < bin_after least l'). omega arith) l' (All-bin_after least 0 l' left);
+        bins = omega (arith, bin_after-lt least 0 l' left is.some_left);
         some = omega (arith, length-le-total least 0 l' left, is.some_left);
         total = omega (arith, head.total, is.total);
       },
       record {
         rise = subst (λ k. Rise k 0 r') (sym bin) right;
         within = within_right;
-        bins = first_within (next least l') (row.bin + 1) h.bin r' right within_right is.some_right bin;
-        some = omega (arith, length-le-total (next least l') 0 r' right, is.some_right);
+        bins = first_within (bin_after least l') (row.bin + 1) h.bin r' right within_right is.some_right bin;
+        some = omega (arith, length-le-total (bin_after least l') 0 r' right, is.some_right);
         total = sym is.total;
       },
     )

@@ -36,7 +36,7 @@ one_block rows heads blocks b h single many fits is is' items room bin total =
       total = omega arith;
     } in
     let last : h.bin + 1 ≡ 2 ^ 32 = omega arith in
-    let split : IsSplit (h ∷ []) (b ∷ []) = record { held = (head, last); sized = (record { least = omega arith; most = omega (arith, single.few); room = room }, tt); fits = omega arith } in
+    let split : IsSplit (h ∷ []) (b ∷ []) = record { heads_held = record { held = (head, last); last = (λ some. absurd (omega (arith, some)), tt) }; sized = (record { least = omega arith; most = omega (arith, single.few); room = room }, tt); fits = omega arith } in
     subst (λ (hs : List Row). IsSplit hs blocks) (sym is) (subst (λ (bs : List Block). IsSplit (h ∷ []) bs) (sym is') split)
 
 pub single_added : (bin n : ℕ) (rows new : List Row) → IsSingle rows → length rows ≤ 62 → 0 < n → bin ≤ 4294967295 → new ≡ added 0 bin n rows → IsSingle new

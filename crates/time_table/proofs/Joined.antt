@@ -5,7 +5,7 @@ use Rattle.std.proofs.lemmas.List.{append-nil, take_all, drop_all}
 use Rattle.std.proofs.lemmas.List.Elements.{All-nil, All-cons, All-head, All-tail}
 use Rattle.std.proofs.lemmas.List.Edits.{length-remove}
 use Rattle.time_table.specs.declared.row.Row.{Row}
-use Rattle.time_table.specs.Totals.{Rise, counts_from, last_total, raised, lowered}
+use Rattle.time_table.specs.Totals.{Rise, counts_from, last_total, bin_after, raised, lowered}
 use Rattle.time_table.specs.Blocks.{one_list}
 use Rattle.time_table.proofs.Adding.{counts_from-raised, totals_within, last_total-raised}
 
@@ -17,12 +17,7 @@ pub last_total-append : (before : ℕ) (xs ys : List Row) → last_total before 
 last_total-append before [] ys = refl
 last_total-append before (x ∷ xs) ys = last_total-append x.total xs ys
 
--- the bin after the last row's, or the least one where there is none
-abbrev pub next : ℕ → List Row → ℕ
-next least [] = least
-next least (r ∷ rs) = next (r.bin + 1) rs
-
-pub Rise-split : (least before : ℕ) (xs ys : List Row) → Rise least before (xs ++ ys) → Rise least before xs × Rise (next least xs) (last_total before xs) ys
+pub Rise-split : (least before : ℕ) (xs ys : List Row) → Rise least before (xs ++ ys) → Rise least before xs × Rise (bin_after least xs) (last_total before xs) ys
 Rise-split least before [] ys rise = (tt, rise)
 Rise-split least before (x ∷ xs) ys rise =
     let rest = Rise-split (x.bin + 1) x.total xs ys rise.2 in
@@ -44,23 +39,23 @@ Rise-unraised n least from before (r ∷ rs) is rise =
     let up : from < r.total + n = rise.1 in
     (rise.0, omega arith, Rise-unraised n (r.bin + 1) (r.total + n) r.total rs refl rise.2)
 
-pub next-le : (least before : ℕ) (rows : List Row) → Rise least before rows → least ≤ next least rows
-next-le least before [] rise = omega arith
-next-le least before (r ∷ rs) rise =
+pub bin_after-le : (least before : ℕ) (rows : List Row) → Rise least before rows → least ≤ bin_after least rows
+bin_after-le least before [] rise = omega arith
+bin_after-le least before (r ∷ rs) rise =
     let first : least ≤ r.bin = rise.0 in
-    omega (arith, next-le (r.bin + 1) r.total rs rise.2)
+    omega (arith, bin_after-le (r.bin + 1) r.total rs rise.2)
 
-pub next-lt : (least before : ℕ) (rows : List Row) → Rise least before rows → 0 < length rows → least < next least rows
-next-lt least before [] rise some = absurd (omega arith)
-next-lt least before (r ∷ rs) rise some =
+pub bin_after-lt : (least before : ℕ) (rows : List Row) → Rise least before rows → 0 < length rows → least < bin_after least rows
+bin_after-lt least before [] rise some = absurd (omega arith)
+bin_after-lt least before (r ∷ rs) rise some =
     let first : least ≤ r.bin = rise.0 in
-    omega (arith, next-le (r.bin + 1) r.total rs rise.2)
+    omega (arith, bin_after-le (r.bin + 1) r.total rs rise.2)
 
-pub All-next : (least before : ℕ) (rows : List Row) → Rise least before rows → All (λ r. r.bin < next least rows) rows
-All-next least before [] rise = All-nil (λ (r : Row). r.bin < least)
-All-next least before (r ∷ rs) rise =
-    let first : r.bin < next (r.bin + 1) rs = omega (arith, next-le (r.bin + 1) r.total rs rise.2) in
-    All-cons (λ (x : Row). x.bin < next (r.bin + 1) rs) r rs first (All-next (r.bin + 1) r.total rs rise.2)
+pub All-bin_after : (least before : ℕ) (rows : List Row) → Rise least before rows → All (λ r. r.bin < bin_after least rows) rows
+All-bin_after least before [] rise = All-nil (λ (r : Row). r.bin < least)
+All-bin_after least before (r ∷ rs) rise =
+    let first : r.bin < bin_after (r.bin + 1) rs = omega (arith, bin_after-le (r.bin + 1) r.total rs rise.2) in
+    All-cons (λ (x : Row). x.bin < bin_after (r.bin + 1) rs) r rs first (All-bin_after (r.bin + 1) r.total rs rise.2)
 
 -- rows that rise have a record each
 pub length-le-total : (least before : ℕ) (rows : List Row) → Rise least before rows → before + length rows ≤ last_total before rows
@@ -76,19 +71,19 @@ last_total_at before (suc k) (r ∷ []) row is read = absurd (omega arith)
 last_total_at before zero (r ∷ s ∷ rs) row is read = absurd (omega arith)
 last_total_at before (suc k) (r ∷ s ∷ rs) row is read = last_total_at r.total k (s ∷ rs) row (omega arith) read
 
-pub next_at : (least k : ℕ) (rows : List Row) (row : Row) → k + 1 ≡ length rows → row ≡ get_or rows k row → row.bin + 1 ≡ next least rows
-next_at least k [] row is read = absurd (omega arith)
-next_at least zero (r ∷ []) row is read = ap (λ (x : Row). x.bin + 1) read
-next_at least (suc k) (r ∷ []) row is read = absurd (omega arith)
-next_at least zero (r ∷ s ∷ rs) row is read = absurd (omega arith)
-next_at least (suc k) (r ∷ s ∷ rs) row is read = next_at (r.bin + 1) k (s ∷ rs) row (omega arith) read
+pub bin_after_at : (least k : ℕ) (rows : List Row) (row : Row) → k + 1 ≡ length rows → row ≡ get_or rows k row → row.bin + 1 ≡ bin_after least rows
+bin_after_at least k [] row is read = absurd (omega arith)
+bin_after_at least zero (r ∷ []) row is read = ap (λ (x : Row). x.bin + 1) read
+bin_after_at least (suc k) (r ∷ []) row is read = absurd (omega arith)
+bin_after_at least zero (r ∷ s ∷ rs) row is read = absurd (omega arith)
+bin_after_at least (suc k) (r ∷ s ∷ rs) row is read = bin_after_at (r.bin + 1) k (s ∷ rs) row (omega arith) read
 
 -- the two lists of a one_list one
 pub one_list-left : (least : ℕ) (l r : List Row) → Rise least 0 (one_list l r) → Rise least 0 l
 one_list-left least l r rise = (Rise-split least 0 l (map (raised (last_total 0 l)) r) rise).0
 
-pub one_list-right : (least : ℕ) (l r : List Row) → Rise least 0 (one_list l r) → Rise (next least l) 0 r
-one_list-right least l r rise = Rise-unraised (last_total 0 l) (next least l) (last_total 0 l) 0 r (omega arith) (Rise-split least 0 l (map (raised (last_total 0 l)) r) rise).1
+pub one_list-right : (least : ℕ) (l r : List Row) → Rise least 0 (one_list l r) → Rise (bin_after least l) 0 r
+one_list-right least l r rise = Rise-unraised (last_total 0 l) (bin_after least l) (last_total 0 l) 0 r (omega arith) (Rise-split least 0 l (map (raised (last_total 0 l)) r) rise).1
 
 pub last_total-one_list : (l r : List Row) → last_total 0 (one_list l r) ≡ last_total 0 l + last_total 0 r
 last_total-one_list l r =
@@ -129,7 +124,7 @@ totals_past least before n (r ∷ rs) rise le =
 pub rest_above : (l r rest : List Row) (first : Row) → Rise 0 0 (one_list l r) → 0 < length r → first ≡ get_or r 0 first → rest ≡ remove r 0 → All (λ x. first.total ≤ x.total) (drop 0 rest)
 rest_above l [] rest first rise some read is = absurd (omega arith)
 rest_above l (f ∷ r) rest first rise some read is =
-    let right : Rise (next 0 l) 0 (f ∷ r) = one_list-right 0 l (f ∷ r) rise in
+    let right : Rise (bin_after 0 l) 0 (f ∷ r) = one_list-right 0 l (f ∷ r) rise in
     let all : All (λ x. f.total ≤ x.total) r = totals_past (f.bin + 1) f.total f.total r right.2 (omega arith) in
     subst (λ (x : Row). All (λ (y : Row). x.total ≤ y.total) rest) (sym read)
     (subst (λ (zs : List Row). All (λ (y : Row). f.total ≤ y.total) zs) (sym is) all)
@@ -140,7 +135,7 @@ insert_end xs x = ap (λ zs. zs ++ x ∷ drop (length xs) xs) (take_all (length 
 pub moved_left : (l l' r rest r' : List Row) (first last row : Row) (k m : ℕ) → k + 1 ≡ length l → m ≡ length l → Rise 0 0 (one_list l r) → 0 < length l → 0 < length r → first ≡ get_or r 0 first → rest ≡ remove r 0 → r' ≡ take 0 rest ++ map (lowered first.total) (drop 0 rest) → last ≡ get_or l k last → row ≡ record { bin = first.bin; total = last.total + first.total } → l' ≡ insert l m row → one_list l' r' ≡ one_list l r
 moved_left l l' [] rest r' first last row k m long at rise some_l some read is down read' made put = absurd (omega arith)
 moved_left l l' (f ∷ r) rest r' first last row k m long at rise some_l some read is down read' made put =
-    let right : Rise (next 0 l) 0 (f ∷ r) = one_list-right 0 l (f ∷ r) rise in
+    let right : Rise (bin_after 0 l) 0 (f ∷ r) = one_list-right 0 l (f ∷ r) rise in
     let all : All (λ x. f.total ≤ x.total) r = totals_past (f.bin + 1) f.total f.total r right.2 (omega arith) in
     let total : last.total ≡ last_total 0 l = last_total_at 0 k l last long read' in
     let row_is : row ≡ record { bin = f.bin; total = last_total 0 l + f.total } =
@@ -181,10 +176,10 @@ is_last l l1 r row last k k1 long long1 rise fits read is read' =
     let total : last.total ≡ last_total 0 l1 = last_total_at 0 k1 l1 last long1 read' in
     let whole : row.total ≡ last_total 0 l = last_total_at 0 k l row long read in
     let left : Rise 0 0 (l1 ++ row ∷ []) = subst (Rise 0 0) rows (one_list-left 0 l r rise) in
-    let end : Rise (next 0 l1) (last_total 0 l1) (row ∷ []) = (Rise-split 0 0 l1 (row ∷ []) left).1 in
+    let end : Rise (bin_after 0 l1) (last_total 0 l1) (row ∷ []) = (Rise-split 0 0 l1 (row ∷ []) left).1 in
     let above : last_total 0 l1 < row.total = end.1 in
     let back = (Rise-split 0 0 l (map (raised (last_total 0 l)) r) rise).1 in
-    let tops = totals_within (next 0 l) (last_total 0 l) (map (raised (last_total 0 l)) r) back in
+    let tops = totals_within (bin_after 0 l) (last_total 0 l) (map (raised (last_total 0 l)) r) back in
     let top : last_total (last_total 0 l) (map (raised (last_total 0 l)) r) ≤ 2 ^ 63 = subst (λ k. k ≤ 2 ^ 63) (last_total-append 0 l (map (raised (last_total 0 l)) r)) fits in
     record {
       rows = rows;
@@ -209,8 +204,8 @@ moved_right l l1 r r1 r' row last moved is up made put =
 pub sum_fits : (l r : List Row) (first last : Row) (k : ℕ) → k + 1 ≡ length l → Rise 0 0 (one_list l r) → last_total 0 (one_list l r) ≤ 2 ^ 63 → 0 < length r → first ≡ get_or r 0 first → last ≡ get_or l k last → last.total + first.total ≤ 2 ^ 63
 sum_fits l [] first last k long rise fits some read read' = absurd (omega arith)
 sum_fits l (f ∷ r) first last k long rise fits some read read' =
-    let right : Rise (next 0 l) 0 (f ∷ r) = one_list-right 0 l (f ∷ r) rise in
-    let within : f.total ≤ last_total 0 (f ∷ r) = All-head (λ (x : Row). x.total ≤ last_total 0 (f ∷ r)) f r (totals_within (next 0 l) 0 (f ∷ r) right) in
+    let right : Rise (bin_after 0 l) 0 (f ∷ r) = one_list-right 0 l (f ∷ r) rise in
+    let within : f.total ≤ last_total 0 (f ∷ r) = All-head (λ (x : Row). x.total ≤ last_total 0 (f ∷ r)) f r (totals_within (bin_after 0 l) 0 (f ∷ r) right) in
     let total : last.total ≡ last_total 0 l = last_total_at 0 k l last long read' in
     let same : first.total ≡ f.total = ap (λ (x : Row). x.total) read in
     omega (arith, last_total-one_list l (f ∷ r))

@@ -8,6 +8,7 @@ pub mod Counting
 pub mod Entries
 pub mod Formed
 pub mod Joined
+pub mod Lasts
 pub mod Lessened
 pub mod Mapped
 pub mod Merged

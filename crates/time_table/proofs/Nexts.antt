@@ -1,12 +1,12 @@
 -- The first row of a bin that is a given one or later.
 use Rattle.std.proofs.Common.{◌≡◌, ℕ, zero, suc, ◌+◌, ◌-◌, ◌<◌, ◌≤◌, List, [], ◌∷◌, ◌++◌, length, take, drop, get_or, Option, Some, None, All, slice_get, refl, sym, ap, subst, inl, inr, ◌∙◌, arith}
 use Rattle.std.proofs.lemmas.Bool.{lt-ltb, le-ltb, cases_lt}
-use Rattle.std.proofs.lemmas.List.{drop_all}
+use Rattle.std.proofs.lemmas.List.{append-nil}
 use Rattle.std.proofs.lemmas.List.Elements.{All-head, All-tail}
 use Rattle.time_table.specs.declared.row.Row.{Row}
 use Rattle.time_table.specs.Counts.{first_from}
-use Rattle.time_table.specs.Totals.{Rise, counts_from, last_total}
-use Rattle.time_table.specs.Blocks.{Block, parts, Held}
+use Rattle.time_table.specs.Totals.{Rise, counts_from, last_total, bin_after}
+use Rattle.time_table.specs.Blocks.{Block, parts, Held, AreLast}
 use Rattle.time_table.proofs.Blocked.{below_entries}
 use Rattle.time_table.proofs.Entries.{find_here, find_later}
 use Rattle.std.specs.FinMap.{find}
@@ -50,54 +50,33 @@ first_over from (x ∷ xs) ys all =
     first_later from x (xs ++ ys) (All-head (λ (e : ℕ × ℕ). e.0 < from) x xs all)
     ∙ first_over from xs ys (All-tail (λ (e : ℕ × ℕ). e.0 < from) x xs all)
 
--- what is found in two lists
-abbrev pub or_else : Option (ℕ × ℕ) → Option (ℕ × ℕ) → Option (ℕ × ℕ)
-or_else None p = p
-or_else (Some e) p = Some e
-
-first_two : (from : ℕ) (xs ys : List (ℕ × ℕ)) → first_from from (xs ++ ys) ≡ or_else (first_from from xs) (first_from from ys)
-first_two from [] ys = refl
-first_two from (x ∷ xs) ys =
-    elim (cases_lt x.0 from) [
-      | inl under ↦ first_later from x (xs ++ ys) under ∙ first_two from xs ys ∙ ap (λ o. or_else o (first_from from ys)) (sym (first_later from x xs under))
-      | inr over ↦ first_here from x (xs ++ ys) over ∙ ap (λ o. or_else o (first_from from ys)) (sym (first_here from x xs over))
+-- an entry of the first rows is found, if the last of them is late enough
+first_reached : (from least before : ℕ) (rows : List Row) (ys : List (ℕ × ℕ)) → from < bin_after least rows → least ≤ from → first_from from (counts_from before rows ++ ys) ≡ first_from from (counts_from before rows)
+first_reached from least before [] ys under le = absurd (omega arith)
+first_reached from least before (r ∷ rs) ys under le =
+    elim (cases_lt r.bin from) [
+      | inl less ↦
+          first_later from (r.bin, r.total - before) (counts_from r.total rs ++ ys) less
+          ∙ first_reached from (r.bin + 1) r.total rs ys under (omega arith)
+          ∙ sym (first_later from (r.bin, r.total - before) (counts_from r.total rs) less)
+      | inr over ↦ first_here from (r.bin, r.total - before) (counts_from r.total rs ++ ys) over ∙ sym (first_here from (r.bin, r.total - before) (counts_from r.total rs) over)
     ]
 
-pub first_at : (least before from p : ℕ) (hs : List Row) (bs : List Block) (b : Block) → Held least before hs bs → All (λ h. h.bin < from) (take p hs) → p < length hs → b ≡ get_or bs p b → first_from from (parts bs) ≡ or_else (first_from from (counts_from 0 b.items)) (first_from from (parts (drop (suc p) bs)))
-first_at least before from p [] bs b held lesser within read = absurd (omega arith)
-first_at least before from p (h ∷ hs) [] b held lesser within read = absurd held
-first_at least before from zero (h ∷ hs) (x ∷ bs) b held lesser within read =
-    first_two from (counts_from 0 x.items) (parts bs)
-    ∙ ap (λ (y : Block). or_else (first_from from (counts_from 0 y.items)) (first_from from (parts bs))) (sym read)
-first_at least before from (suc p) (h ∷ hs) (x ∷ bs) b held lesser within read =
+-- the first entry from a bin on is in the block of the first head from there on
+pub first_in : (least before from p : ℕ) (hs : List Row) (bs : List Block) (b : Block) → Held least before hs bs → AreLast hs bs → All (λ h. h.bin < from) (take p hs) → All (λ h. from ≤ h.bin) (drop p hs) → p < length hs → b ≡ get_or bs p b → first_from from (parts bs) ≡ first_from from (counts_from 0 b.items)
+first_in least before from p [] bs b held last lesser others within read = absurd (omega arith)
+first_in least before from p (h ∷ hs) [] b held last lesser others within read = absurd held
+first_in least before from zero (h ∷ []) (x ∷ []) b held last lesser others within read =
+    ap (first_from from) (append-nil (counts_from 0 x.items)) ∙ ap (λ (y : Block). first_from from (counts_from 0 y.items)) (sym read)
+first_in least before from zero (h ∷ []) (x ∷ y ∷ bs) b held last lesser others within read = absurd held.1
+first_in least before from zero (h ∷ g ∷ hs) (x ∷ bs) b held last lesser others within read =
+    let at : from ≤ h.bin = All-head (λ (h : Row). from ≤ h.bin) h (g ∷ hs) others in
+    let end : bin_after 0 x.items ≡ h.bin + 1 = last.0 (omega arith) in
+    first_reached from 0 0 x.items (parts bs) (omega arith) (omega arith) ∙ ap (λ (y : Block). first_from from (counts_from 0 y.items)) (sym read)
+first_in least before from (suc p) (h ∷ hs) (x ∷ bs) b held last lesser others within read =
     let under : h.bin < from = All-head (λ (h : Row). h.bin < from) h (take p hs) lesser in
     first_over from (counts_from 0 x.items) (parts bs) (below_entries from h.bin 0 x.items held.0.within under)
-    ∙ first_at (h.bin + 1) h.total from p hs bs b held.1 (All-tail (λ (h : Row). h.bin < from) h (take p hs) lesser) (omega arith) read
-
-first_of_rows : (from least : ℕ) (block : List Row) (row : Row) (ys : List (ℕ × ℕ)) → Rise least 0 block → from ≤ least → row ≡ get_or block 0 row → 0 < length block → first_from from (counts_from 0 block ++ ys) ≡ Some (row.bin, row.total)
-first_of_rows from least [] row ys rise le read some = absurd (omega arith)
-first_of_rows from least (r ∷ rs) row ys rise le read some =
-    let first : least ≤ r.bin = rise.0 in
-    let same : r.total - 0 ≡ r.total = omega arith in
-    first_here from (r.bin, r.total - 0) (counts_from r.total rs ++ ys) (omega arith)
-    ∙ ap (λ k. Some (r.bin, k)) same
-    ∙ ap (λ (x : Row). Some (x.bin, x.total)) (sym read)
-
--- the first row of the block behind
-pub first_behind : (least before from p : ℕ) (hs : List Row) (bs : List Block) (b : Block) (row : Row) → Held least before hs bs → All (λ h. from ≤ h.bin) (drop p hs) → suc p < length hs → b ≡ get_or bs (suc p) b → row ≡ get_or b.items 0 row → 0 < length b.items → first_from from (parts (drop (suc p) bs)) ≡ Some (row.bin, row.total)
-first_behind least before from p [] bs b row held others within read read' some = absurd (omega arith)
-first_behind least before from p (h ∷ hs) [] b row held others within read read' some = absurd held
-first_behind least before from zero (h ∷ []) (x ∷ bs) b row held others within read read' some = absurd (omega arith)
-first_behind least before from zero (h ∷ g ∷ hs) (x ∷ []) b row held others within read read' some = absurd held.1
-first_behind least before from zero (h ∷ g ∷ hs) (x ∷ y ∷ bs) b row held others within read read' some =
-    let at : from ≤ h.bin = All-head (λ (h : Row). from ≤ h.bin) h (g ∷ hs) others in
-    ap (λ (z : Block). first_from from (counts_from 0 z.items ++ parts bs)) (sym read)
-    ∙ first_of_rows from (h.bin + 1) b.items row (parts bs) (subst (λ (z : Block). Rise (h.bin + 1) 0 z.items) (sym read) held.1.0.rise) (omega arith) read' some
-first_behind least before from (suc p) (h ∷ hs) (x ∷ bs) b row held others within read read' some =
-    first_behind (h.bin + 1) h.total from p hs bs b row held.1 others (omega arith) read read' some
-
-pub none_behind : (p : ℕ) (bs : List Block) → length bs ≤ suc p → parts (drop (suc p) bs) ≡ []
-none_behind p bs le = ap parts (drop_all (suc p) bs le)
+    ∙ first_in (h.bin + 1) h.total from p hs bs b held.1 last.1 (All-tail (λ (h : Row). h.bin < from) h (take p hs) lesser) others (omega arith) read
 
 -- where the first entry from a key on is at that key, it is the one that is found there
 pub found_at : (k n : ℕ) (es : List (ℕ × ℕ)) → first_from k es ≡ Some (k, n) → find nat_cmp k es ≡ Some n

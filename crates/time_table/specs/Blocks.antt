@@ -2,7 +2,7 @@
 use Rattle.std.specs.Prelude.{◌≡◌, ℕ, zero, suc, ◌+◌, ◌<◌, ◌≤◌, ◌^◌, ◌⊎◌, slice_index_or, List, [], ◌∷◌, ◌++◌, length, map, All}
 use Rattle.probe_core.specs.Roomy.{Roomy}
 use Rattle.time_table.specs.declared.row.Row.{Row}
-use Rattle.time_table.specs.Totals.{Rise, counts_from, last_total, raised}
+use Rattle.time_table.specs.Totals.{Rise, counts_from, last_total, bin_after, raised}
 use Rattle.time_table.specs.Places.{more}
 
 -- rows, and room for some more
@@ -39,6 +39,24 @@ Held least before [] (b ∷ bs) = ⊥
 Held least before (h ∷ hs) [] = ⊥
 Held least before (h ∷ hs) (b ∷ bs) = IsHead least before h b.items × Held (h.bin + 1) h.total hs bs
 
+-- each head but the last has the bin of its block's last row
+abbrev pub AreLast : List Row → List Block → Type 0
+AreLast [] bs = Unit {0}
+AreLast (h ∷ hs) [] = Unit {0}
+AreLast (h ∷ hs) (b ∷ bs) = (0 < length hs → bin_after 0 b.items ≡ h.bin + 1) × AreLast hs bs
+
+-- the same of all heads but the one at a place
+abbrev pub AreLastBut : ℕ → List Row → List Block → Type 0
+AreLastBut q [] bs = Unit {0}
+AreLastBut q (h ∷ hs) [] = Unit {0}
+AreLastBut zero (h ∷ hs) (b ∷ bs) = AreLast hs bs
+AreLastBut (suc q) (h ∷ hs) (b ∷ bs) = (0 < length hs → bin_after 0 b.items ≡ h.bin + 1) × AreLastBut q hs bs
+
+-- blocks under their heads
+pub record IsHeld (heads : List Row) (blocks : List Block) : Type 0 where
+  pub held : Held 0 0 heads blocks
+  pub last : AreLast heads blocks
+
 -- a block of a split table has 32 to 63 rows, and room for 64
 pub record IsSized (b : Block) : Type 0 where
   pub least : 32 ≤ length b.items
@@ -51,7 +69,8 @@ AllSized (b ∷ bs) = IsSized b × AllSized bs
 
 -- rows in blocks under their heads
 pub record IsSplit (heads : List Row) (blocks : List Block) : Type 0 where
-  pub held : Held 0 0 heads blocks
+  pub heads_held : IsHeld heads blocks
+  pub open heads_held use *
   pub sized : AllSized blocks
   pub fits : last_total 0 heads ≤ 2 ^ 63
 
@@ -88,7 +107,8 @@ pub record FitsAt (q : ℕ) (right : Block) (blocks : List Block) : Type 0 where
 
 -- heads and blocks with n records more in a bin of the block at a place, which is not split yet
 pub record AddsAt (place bin n : ℕ) (heads heads' : Block) (blocks blocks' : List Block) : Type 0 where
-  pub held : Held 0 0 heads'.items blocks'
+  pub heads_held : IsHeld heads'.items blocks'
+  pub open heads_held use *
   pub parts : parts blocks' ≡ more bin n (parts blocks)
   pub sized : SizedBut 0 place blocks'
   pub total : last_total 0 heads'.items ≡ last_total 0 heads.items + n

@@ -27,6 +27,11 @@ abbrev pub last_total : ℕ → List Row → ℕ
 last_total before [] = before
 last_total before (row ∷ rows) = last_total row.total rows
 
+-- the bin after the last row's, or the least one where there is none
+abbrev pub bin_after : ℕ → List Row → ℕ
+bin_after least [] = least
+bin_after least (row ∷ rows) = bin_after (row.bin + 1) rows
+
 -- the total of a row, 0 where there is none
 abbrev pub total_in : Option Row → ℕ
 total_in None = 0

@@ -105,7 +105,7 @@ impl Form {
     pub fn next_row<L: Ledger>(&self, from: u32, steps: &mut Steps<L>) -> Option<(u32, u64)>
         requires { IsForm self.now }
         ensures next { result ≡ first_from from (form_entries self.now) }
-        ensures cost { steps.new ≤ steps.old + (2 + bits (length (rows_of self.now))) }
+        ensures cost { steps.new ≤ steps.old + (1 + bits (length (rows_of self.now))) }
     {
         match self {
             Form::Single(rows) => next_in(rows, u64::from(from), steps),

@@ -5,7 +5,7 @@ ghost use Rattle.probe_core.specs.Places.{IsPlace};
 ghost use Rattle.time_table.specs.Counts.{count_before, first_from};
 ghost use Rattle.time_table.specs.Totals.{counts, last_total, row_bin};
 ghost use Rattle.time_table.specs.Places.{count_at, more, less};
-ghost use Rattle.time_table.specs.Blocks.{Block, IsSplit, Held, AllSized, SizedBut, FitsAt, AddsAt, in_hand, flat, parts, lists};
+ghost use Rattle.time_table.specs.Blocks.{Block, IsSplit, IsHeld, Held, AreLastBut, AllSized, SizedBut, FitsAt, AddsAt, in_hand, flat, parts, lists};
 
 use crate::change::{add_record, lower, raise, take_record};
 use crate::pair::{level, put_row};
@@ -53,7 +53,7 @@ fn settle<L: Ledger>(
     mut right: Rows<Row>,
     steps: &mut Steps<L>,
 )
-    requires held { Held 0 0 heads.old.items (in_hand q right blocks.old.items) }
+    requires held { IsHeld heads.old.items (in_hand q right blocks.old.items) }
     requires fits { last_total 0 heads.old.items ≤ 2 ^ 63 }
     requires hand { FitsAt q right blocks.old.items }
     requires room_heads { 0 < heads.old.spare }
@@ -112,7 +112,7 @@ fn take_at<L: Ledger>(
     requires some { 0 < amount }
     requires there { amount ≤ count_at bin (parts blocks.old.items) }
     ensures within { result < length blocks.new.items }
-    ensures held { Held 0 0 heads.new.items blocks.new.items }
+    ensures held { IsHeld heads.new.items blocks.new.items }
     ensures parts { parts blocks.new.items ≡ less bin amount (parts blocks.old.items) }
     ensures sized { SizedBut 63 result blocks.new.items }
     ensures total { last_total 0 heads.new.items ≤ last_total 0 heads.old.items }
@@ -121,7 +121,34 @@ fn take_at<L: Ledger>(
     let block = &mut blocks[place];
     take_record(block, bin, amount, steps);
     lower(heads, place, amount, steps);
+    fit_head(heads, blocks, place, steps);
     place
+}
+
+/// Gives a head the bin of its block's last row, unless it is the last head.
+fn fit_head<L: Ledger>(
+    heads: &mut Rows<Row>,
+    blocks: &Vec<Rows<Row>>,
+    place: usize,
+    steps: &mut Steps<L>,
+)
+    requires held { Held 0 0 heads.old.items blocks.now.items }
+    requires last { AreLastBut place heads.old.items blocks.now.items }
+    requires within { place < length heads.old.items }
+    ensures held { IsHeld heads.new.items blocks.now.items }
+    ensures total { last_total 0 heads.new.items ≡ last_total 0 heads.old.items }
+{
+    if place + 1 == heads.len() {
+        return;
+    }
+    let block = &blocks[place];
+    let last = block.at(block.len() - 1, steps);
+    let head = heads.at(place, steps);
+    let fitted = Row {
+        bin: last.bin,
+        total: head.total,
+    };
+    heads.set(place, fitted);
 }
 
 /// Room for a block more.
@@ -191,7 +218,7 @@ pub fn take_in<L: Ledger>(
     requires split { IsSplit heads.old.items blocks.old.items }
     requires some { 0 < amount }
     requires there { amount ≤ count_at bin (parts blocks.old.items) }
-    ensures held { Held 0 0 heads.new.items blocks.new.items }
+    ensures held { IsHeld heads.new.items blocks.new.items }
     ensures parts { parts blocks.new.items ≡ less bin amount (parts blocks.old.items) }
     ensures total { last_total 0 heads.new.items ≤ last_total 0 heads.old.items }
     ensures sized { MatchBool result (length blocks.new.items ≡ 1) (AllSized blocks.new.items) }
@@ -229,7 +256,8 @@ pub fn copy_blocks(alloc: Global, blocks: &Vec<Rows<Row>>) -> Result<Vec<Rows<Ro
     Ok(copies)
 }
 
-/// The first row of a bin that is `from` or later, by a search of the heads and one of a block.
+/// The first row of a bin that is `from` or later, by a search of the heads and one of a block. It is in
+/// the block of the first head from there on, which has the bin of its block's last row or is the last.
 pub fn next_row_in<L: Ledger>(
     heads: &Rows<Row>,
     blocks: &Vec<Rows<Row>>,
@@ -238,18 +266,9 @@ pub fn next_row_in<L: Ledger>(
 ) -> Option<(u32, u64)>
     requires { IsSplit heads.now.items blocks.now.items }
     ensures next { result ≡ first_from from (parts blocks.now.items) }
-    ensures cost { steps.new ≤ steps.old + (2 + bits (length (flat 0 blocks.now.items))) }
+    ensures cost { steps.new ≤ steps.old + (1 + bits (length (flat 0 blocks.now.items))) }
 {
     let place = place_of(heads, u64::from(from), steps).index;
     let block = &blocks[place];
-    match next_in(block, u64::from(from), steps) {
-        Some(row) => return Some(row),
-        None => {}
-    }
-    if place + 1 == blocks.len() {
-        return None;
-    }
-    let behind = &blocks[place + 1];
-    let row = behind.at(0, steps);
-    Some((row.bin, row.total))
+    next_in(block, u64::from(from), steps)
 }

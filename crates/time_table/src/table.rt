@@ -104,7 +104,7 @@ impl TimeTable {
     /// The least bin at or above `from` with its count. None comes exactly where there is no such bin.
     pub fn next_row<L: Ledger>(&self, from: u32, steps: &mut Steps<L>) -> Option<(u32, u64)>
         ensures next { result ≡ first_from from (entries self.now) }
-        ensures cost { steps.new ≤ steps.old + (2 + bits (len self.now)) }
+        ensures cost { steps.new ≤ steps.old + (1 + bits (len self.now)) }
     {
         self.form.next_row(from, steps)
     }

@@ -2,9 +2,10 @@ use Rattle.std.proofs.Common.{◌≡◌, ◌+◌, ◌<◌, ◌≤◌, ◌^◌, L
 use Rattle.time_table.specs.declared.row.Row.{Row}
 use Rattle.time_table.specs.Totals.{last_total}
 use Rattle.time_table.specs.Places.{added}
-use Rattle.time_table.specs.Blocks.{Held}
+use Rattle.time_table.specs.Blocks.{Held, AreLast}
 use Rattle.time_table.proofs.Adding.{fits_all}
 use Rattle.time_table.proofs.Blocked.{held_len, Rise-heads, Rise-at, total_at, Held-added, parts-added, last_total-raised_from}
+use Rattle.time_table.proofs.Lasts.{AreLast-added}
 use Rattle.time_table.proofs.Merged.{sized_at, SizedBut-set, added_loose, ok_gives, with_room, longer_at}
 use Rattle.time_table.proofs.split.add_at.Goals as goal
 
@@ -33,8 +34,12 @@ returns-clause-adds g c =
     let sized = sized_at c.args.place c.args.blocks.now.items c.index_mut-block.result.now c.requires.split.sized (omega arith) c.index_mut-block.ensures.value in
     let new : c.add_record.new.rows.items ≡ added 0 c.args.bin c.args.amount c.index_mut-block.result.now.items = ok_gives c.add_record.result _ (c.add_record.ensures.not_refused (with_room c.index_mut-block.result.now sized)) c.add_record.ensures.added in
     record {
-      held = subst (λ (hs : List Row). Held 0 0 hs (set c.args.blocks.now.items c.args.place c.add_record.new.rows)) (sym c.raise.ensures.raised)
-          (Held-added 0 0 c.args.bin c.args.amount c.args.place c.args.heads.now.items c.args.blocks.now.items c.index_mut-block.result.now c.add_record.new.rows c.requires.split.held (omega arith) c.requires.place.lesser c.requires.place.others c.requires.within c.index_mut-block.ensures.value new c.requires.some);
+      heads_held = record {
+        held = subst (λ (hs : List Row). Held 0 0 hs (set c.args.blocks.now.items c.args.place c.add_record.new.rows)) (sym c.raise.ensures.raised)
+            (Held-added 0 0 c.args.bin c.args.amount c.args.place c.args.heads.now.items c.args.blocks.now.items c.index_mut-block.result.now c.add_record.new.rows c.requires.split.held (omega arith) c.requires.place.lesser c.requires.place.others c.requires.within c.index_mut-block.ensures.value new c.requires.some);
+        last = subst (λ (hs : List Row). AreLast hs (set c.args.blocks.now.items c.args.place c.add_record.new.rows)) (sym c.raise.ensures.raised)
+            (AreLast-added c.args.bin c.args.amount c.args.place c.args.heads.now.items c.args.blocks.now.items c.index_mut-block.result.now c.add_record.new.rows c.requires.split.last c.requires.place.others c.requires.within c.index_mut-block.ensures.value new);
+      };
       parts = parts-added 0 0 c.args.bin c.args.amount c.args.place c.args.heads.now.items c.args.blocks.now.items c.index_mut-block.result.now c.add_record.new.rows c.requires.split.held c.requires.place.lesser c.requires.place.others c.requires.within c.index_mut-block.ensures.value new;
       sized = SizedBut-set 0 c.args.place c.args.blocks.now.items c.add_record.new.rows c.requires.split.sized (omega arith) (added_loose c.args.bin c.args.amount c.index_mut-block.result.now c.add_record.new.rows sized new c.add_record.ensures.room);
       total = ap (last_total 0) c.raise.ensures.raised ∙ last_total-raised_from c.args.amount 0 c.args.place c.args.heads.now.items c.requires.within;

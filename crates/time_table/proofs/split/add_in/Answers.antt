@@ -5,6 +5,7 @@ use Rattle.time_table.specs.Places.{more}
 use Rattle.time_table.specs.Totals.{last_total, row_bin}
 use Rattle.time_table.specs.Blocks.{Block, SizedBut, parts}
 use Rattle.time_table.proofs.Blocked.{held_len, Rise-heads, place_inside}
+use Rattle.time_table.proofs.Lasts.{AreLast-in_hand}
 use Rattle.time_table.proofs.Merged.{tighten_all, read_length, Held-in_hand, parts-in_hand}
 use Rattle.time_table.proofs.split.add_in.Goals as goal
 
@@ -40,7 +41,10 @@ index-block-requires-2 g c =
 pub settle-requires-clause-held : goal.settle-requires-clause-held
 settle-requires-clause-held g c =
     let none : c.reserve.new.self.items ≡ [] = c.reserve.ensures.unchanged ∙ c.new-right.ensures in
-    Held-in_hand 0 0 c.place_of-place.result.index c.add_at-2.new.heads.items c.add_at-2.new.blocks.items c.reserve.new.self c.add_at-2.ensures.adds.held none
+    record {
+      held = Held-in_hand 0 0 c.place_of-place.result.index c.add_at-2.new.heads.items c.add_at-2.new.blocks.items c.reserve.new.self c.add_at-2.ensures.adds.held none;
+      last = AreLast-in_hand c.place_of-place.result.index c.add_at-2.new.heads.items c.add_at-2.new.blocks.items c.reserve.new.self none c.add_at-2.ensures.adds.last;
+    }
 
 pub returns-clause-added : goal.returns-clause-added
 returns-clause-added g c =
@@ -52,7 +56,7 @@ returns-clause-added g c =
 
 pub returns-then-len-lt63-clause-split : goal.returns-then-len-lt63-clause-split
 returns-then-len-lt63-clause-split g c = record {
-  held = c.add_at.ensures.adds.held;
+  heads_held = c.add_at.ensures.adds.heads_held;
   sized =
       let same : length c.args.heads.now.items ≡ length c.args.blocks.now.items = held_len 0 0 c.args.heads.now.items c.args.blocks.now.items c.requires.split.held in
       let place = subst (λ (e : ℕ). IsPlace row_bin e c.args.heads.now.items c.place_of-place.result.index) c.from.ensures c.place_of-place.ensures.place in
@@ -68,7 +72,7 @@ returns-then-len-lt63-clause-split g c = record {
 
 pub returns-then-len-lt64-clause-split : goal.returns-then-len-lt64-clause-split
 returns-then-len-lt64-clause-split g c = record {
-  held = c.add_at-2.ensures.adds.held;
+  heads_held = c.add_at-2.ensures.adds.heads_held;
   sized =
       let same : length c.args.heads.now.items ≡ length c.args.blocks.now.items = held_len 0 0 c.args.heads.now.items c.args.blocks.now.items c.requires.split.held in
       let place = subst (λ (e : ℕ). IsPlace row_bin e c.args.heads.now.items c.place_of-place.result.index) c.from.ensures c.place_of-place.ensures.place in

@@ -3,26 +3,27 @@ use Rattle.std.specs.List.{insert}
 use Rattle.std.proofs.lemmas.List.{nil_from_length}
 use Rattle.time_table.specs.declared.row.Row.{Row}
 use Rattle.time_table.specs.Totals.{last_total}
-use Rattle.time_table.specs.Blocks.{Block, Held, AllSized, one_list, in_hand, parts}
+use Rattle.time_table.specs.Blocks.{Block, Held, AreLast, AllSized, one_list, in_hand, parts}
 use Rattle.time_table.proofs.Blocked.{held_len, Rise-at, total_at, Held-all_left, parts-all_left, AllSized-set, Held-parted, parts-parted, AllSized-parted, IsParted, last_total-insert, head_total_at}
-use Rattle.time_table.proofs.Joined.{one_list-nil, last_total_at, last_total-one_list, next_at}
+use Rattle.time_table.proofs.Joined.{one_list-nil, last_total_at, last_total-one_list, bin_after_at}
+use Rattle.time_table.proofs.Lasts.{AreLast-all_left, AreLast-parted}
 use Rattle.time_table.proofs.Merged.{both, in_hand_at, in_hand_long, but_at, at_least}
 use Rattle.time_table.proofs.split.settle.Goals as goal
 
 pub level-requires-clause-rise : goal.level-requires-clause-rise
 level-requires-clause-rise g c =
     let read = in_hand_at c.args.q c.args.blocks.now.items c.index_mut-left.result.now c.args.right c.requires.hand.within c.index_mut-left.ensures.value in
-    let long : length c.args.heads.now.items ≡ length c.args.blocks.now.items = held_len 0 0 c.args.heads.now.items (in_hand c.args.q c.args.right c.args.blocks.now.items) c.requires.held ∙ in_hand_long c.args.q c.args.blocks.now.items c.args.right in
+    let long : length c.args.heads.now.items ≡ length c.args.blocks.now.items = held_len 0 0 c.args.heads.now.items (in_hand c.args.q c.args.right c.args.blocks.now.items) c.requires.held.held ∙ in_hand_long c.args.q c.args.blocks.now.items c.args.right in
     let within : c.args.q < length c.args.blocks.now.items = c.requires.hand.within in
-    Rise-at 0 0 c.args.q c.args.heads.now.items (in_hand c.args.q c.args.right c.args.blocks.now.items) (both c.index_mut-left.result.now c.args.right) c.requires.held (omega arith) read
+    Rise-at 0 0 c.args.q c.args.heads.now.items (in_hand c.args.q c.args.right c.args.blocks.now.items) (both c.index_mut-left.result.now c.args.right) c.requires.held.held (omega arith) read
 
 pub level-requires-clause-fits : goal.level-requires-clause-fits
 level-requires-clause-fits g c =
     let read = in_hand_at c.args.q c.args.blocks.now.items c.index_mut-left.result.now c.args.right c.requires.hand.within c.index_mut-left.ensures.value in
-    let long : length c.args.heads.now.items ≡ length c.args.blocks.now.items = held_len 0 0 c.args.heads.now.items (in_hand c.args.q c.args.right c.args.blocks.now.items) c.requires.held ∙ in_hand_long c.args.q c.args.blocks.now.items c.args.right in
+    let long : length c.args.heads.now.items ≡ length c.args.blocks.now.items = held_len 0 0 c.args.heads.now.items (in_hand c.args.q c.args.right c.args.blocks.now.items) c.requires.held.held ∙ in_hand_long c.args.q c.args.blocks.now.items c.args.right in
     let within : c.args.q < length c.args.blocks.now.items = c.requires.hand.within in
     let sum : last_total 0 (take c.args.q c.args.heads.now.items) + last_total 0 (one_list c.index_mut-left.result.now.items c.args.right.items) ≤ last_total 0 c.args.heads.now.items =
-    total_at 0 0 c.args.q c.args.heads.now.items (in_hand c.args.q c.args.right c.args.blocks.now.items) (both c.index_mut-left.result.now c.args.right) c.requires.held (omega arith) read in
+    total_at 0 0 c.args.q c.args.heads.now.items (in_hand c.args.q c.args.right c.args.blocks.now.items) (both c.index_mut-left.result.now c.args.right) c.requires.held.held (omega arith) read in
     let fits : last_total 0 c.args.heads.now.items ≤ 2 ^ 63 = c.requires.fits in
     omega arith
 
@@ -47,23 +48,23 @@ returns-then-len-eq0-clause-parts g c =
 
 pub at-head-requires : goal.at-head-requires
 at-head-requires g c =
-    let long : length c.args.heads.now.items ≡ length c.args.blocks.now.items = held_len 0 0 c.args.heads.now.items (in_hand c.args.q c.args.right c.args.blocks.now.items) c.requires.held ∙ in_hand_long c.args.q c.args.blocks.now.items c.args.right in
+    let long : length c.args.heads.now.items ≡ length c.args.blocks.now.items = held_len 0 0 c.args.heads.now.items (in_hand c.args.q c.args.right c.args.blocks.now.items) c.requires.held.held ∙ in_hand_long c.args.q c.args.blocks.now.items c.args.right in
     let within : c.args.q < length c.args.blocks.now.items = c.requires.hand.within in
     omega arith
 
 pub overflow_sub-row : goal.overflow_sub-row
 overflow_sub-row g c =
     let read = in_hand_at c.args.q c.args.blocks.now.items c.index_mut-left.result.now c.args.right c.requires.hand.within c.index_mut-left.ensures.value in
-    let long : length c.args.heads.now.items ≡ length c.args.blocks.now.items = held_len 0 0 c.args.heads.now.items (in_hand c.args.q c.args.right c.args.blocks.now.items) c.requires.held ∙ in_hand_long c.args.q c.args.blocks.now.items c.args.right in
+    let long : length c.args.heads.now.items ≡ length c.args.blocks.now.items = held_len 0 0 c.args.heads.now.items (in_hand c.args.q c.args.right c.args.blocks.now.items) c.requires.held.held ∙ in_hand_long c.args.q c.args.blocks.now.items c.args.right in
     let within : c.args.q < length c.args.blocks.now.items = c.requires.hand.within in
-    let whole : last_total 0 (one_list c.index_mut-left.result.now.items c.args.right.items) ≤ c.at-head.result.total = head_total_at 0 0 c.args.q c.args.heads.now.items (in_hand c.args.q c.args.right c.args.blocks.now.items) (both c.index_mut-left.result.now c.args.right) c.at-head.result c.requires.held (omega arith) read c.at-head.ensures.item in
+    let whole : last_total 0 (one_list c.index_mut-left.result.now.items c.args.right.items) ≤ c.at-head.result.total = head_total_at 0 0 c.args.q c.args.heads.now.items (in_hand c.args.q c.args.right c.args.blocks.now.items) (both c.index_mut-left.result.now c.args.right) c.at-head.result c.requires.held.held (omega arith) read c.at-head.ensures.item in
     let same : last_total 0 (one_list c.index_mut-left.result.now.items c.args.right.items) ≡ last_total 0 c.level.new.left.items + last_total 0 c.level.new.right.items = ap (last_total 0) (sym c.level.ensures.same) ∙ last_total-one_list c.level.new.left.items c.level.new.right.items in
     let end : c.at-end.result.total ≡ last_total 0 c.level.new.right.items = last_total_at 0 (c.len-3.result - 1) c.level.new.right.items c.at-end.result (omega arith) c.at-end.ensures.item in
     omega arith
 
 pub put_row-requires-clause-within : goal.put_row-requires-clause-within
 put_row-requires-clause-within g c =
-    let long : length c.args.heads.now.items ≡ length c.args.blocks.now.items = held_len 0 0 c.args.heads.now.items (in_hand c.args.q c.args.right c.args.blocks.now.items) c.requires.held ∙ in_hand_long c.args.q c.args.blocks.now.items c.args.right in
+    let long : length c.args.heads.now.items ≡ length c.args.blocks.now.items = held_len 0 0 c.args.heads.now.items (in_hand c.args.q c.args.right c.args.blocks.now.items) c.requires.held.held ∙ in_hand_long c.args.q c.args.blocks.now.items c.args.right in
     let within : c.args.q < length c.args.blocks.now.items = c.requires.hand.within in
     omega arith
 
@@ -74,42 +75,59 @@ returns-clause-parts g c =
 
 pub returns-clause-total : goal.returns-clause-total
 returns-clause-total g c =
-    let long : length c.args.heads.now.items ≡ length c.args.blocks.now.items = held_len 0 0 c.args.heads.now.items (in_hand c.args.q c.args.right c.args.blocks.now.items) c.requires.held ∙ in_hand_long c.args.q c.args.blocks.now.items c.args.right in
+    let long : length c.args.heads.now.items ≡ length c.args.blocks.now.items = held_len 0 0 c.args.heads.now.items (in_hand c.args.q c.args.right c.args.blocks.now.items) c.requires.held.held ∙ in_hand_long c.args.q c.args.blocks.now.items c.args.right in
     let within : c.args.q < length c.args.blocks.now.items = c.requires.hand.within in
     ap (last_total 0) c.put_row.ensures.put ∙ last_total-insert 0 c.args.q c.args.heads.now.items _ (omega arith)
 
 pub returns-then-len-eq0-clause-split : goal.returns-then-len-eq0-clause-split
 returns-then-len-eq0-clause-split g c = record {
-  held =
-      let none : c.level.new.right.items ≡ [] = nil_from_length c.level.new.right.items (omega arith) in
-      let is : c.level.new.left.items ≡ one_list c.index_mut-left.result.now.items c.args.right.items = sym (ap (one_list c.level.new.left.items) none ∙ one_list-nil c.level.new.left.items) ∙ c.level.ensures.same in
-      Held-all_left 0 0 c.args.q c.args.heads.now.items c.args.blocks.now.items c.index_mut-left.result.now c.level.new.left c.args.right c.requires.held c.requires.hand.within c.index_mut-left.ensures.value is;
+  heads_held = record {
+    held =
+        let none : c.level.new.right.items ≡ [] = nil_from_length c.level.new.right.items (omega arith) in
+        let is : c.level.new.left.items ≡ one_list c.index_mut-left.result.now.items c.args.right.items = sym (ap (one_list c.level.new.left.items) none ∙ one_list-nil c.level.new.left.items) ∙ c.level.ensures.same in
+        Held-all_left 0 0 c.args.q c.args.heads.now.items c.args.blocks.now.items c.index_mut-left.result.now c.level.new.left c.args.right c.requires.held.held c.requires.hand.within c.index_mut-left.ensures.value is;
+    last =
+        let none : c.level.new.right.items ≡ [] = nil_from_length c.level.new.right.items (omega arith) in
+        let is : c.level.new.left.items ≡ one_list c.index_mut-left.result.now.items c.args.right.items = sym (ap (one_list c.level.new.left.items) none ∙ one_list-nil c.level.new.left.items) ∙ c.level.ensures.same in
+        AreLast-all_left c.args.q c.args.heads.now.items c.args.blocks.now.items c.index_mut-left.result.now c.level.new.left c.args.right c.requires.held.last c.index_mut-left.ensures.value is;
+  };
   sized = AllSized-set _ c.args.q c.args.blocks.now.items c.level.new.left c.requires.hand.sized c.level.ensures.sizes.sized;
   fits = c.requires.fits;
 }
 
 pub returns-clause-split : goal.returns-clause-split
 returns-clause-split g c = record {
-  held =
-      let read = in_hand_at c.args.q c.args.blocks.now.items c.index_mut-left.result.now c.args.right c.requires.hand.within c.index_mut-left.ensures.value in
-      let long : length c.args.heads.now.items ≡ length c.args.blocks.now.items = held_len 0 0 c.args.heads.now.items (in_hand c.args.q c.args.right c.args.blocks.now.items) c.requires.held ∙ in_hand_long c.args.q c.args.blocks.now.items c.args.right in
-      let within : c.args.q < length c.args.blocks.now.items = c.requires.hand.within in
-      let whole : last_total 0 (one_list c.index_mut-left.result.now.items c.args.right.items) ≤ c.at-head.result.total = head_total_at 0 0 c.args.q c.args.heads.now.items (in_hand c.args.q c.args.right c.args.blocks.now.items) (both c.index_mut-left.result.now c.args.right) c.at-head.result c.requires.held (omega arith) read c.at-head.ensures.item in
-      let same : last_total 0 (one_list c.index_mut-left.result.now.items c.args.right.items) ≡ last_total 0 c.level.new.left.items + last_total 0 c.level.new.right.items = ap (last_total 0) (sym c.level.ensures.same) ∙ last_total-one_list c.level.new.left.items c.level.new.right.items in
-      let end : c.at-end.result.total ≡ last_total 0 c.level.new.right.items = last_total_at 0 (c.len-3.result - 1) c.level.new.right.items c.at-end.result (omega arith) c.at-end.ensures.item in
-      let row : Row = record { bin = c.at-last.result.bin; total = c.at-head.result.total - c.at-end.result.total } in
-      let many : 32 ≤ length c.level.new.left.items = c.level.ensures.sizes.sized.least in
-      let last : c.len-2.result - 1 + 1 ≡ length c.level.new.left.items = omega arith in
-      let parted : IsParted c.index_mut-left.result.now.items c.args.right.items c.level.new.left.items c.level.new.right.items c.at-head.result row = record {
-        same = c.level.ensures.same;
-        some_left = omega arith;
-        some_right = omega arith;
-        bin = λ least. next_at least (c.len-2.result - 1) c.level.new.left.items c.at-last.result last c.at-last.ensures.item;
-        total = omega arith;
-      } in
-      subst (λ (hs : List Row). Held 0 0 hs c.put_block.new.blocks.items) (sym c.put_row.ensures.put)
-      (subst (λ (bs : List Block). Held 0 0 (insert c.args.heads.now.items c.args.q row) bs) (sym (c.put_block.ensures ∙ ap (λ k. insert (set c.args.blocks.now.items c.args.q c.level.new.left) k c.level.new.right) (add-one c.args.q)))
-      (Held-parted 0 0 c.args.q c.args.heads.now.items c.args.blocks.now.items c.index_mut-left.result.now c.args.right c.level.new.left c.level.new.right c.at-head.result row c.requires.held c.requires.hand.within c.index_mut-left.ensures.value c.at-head.ensures.item parted));
+  heads_held = record {
+    held =
+        let read = in_hand_at c.args.q c.args.blocks.now.items c.index_mut-left.result.now c.args.right c.requires.hand.within c.index_mut-left.ensures.value in
+        let long : length c.args.heads.now.items ≡ length c.args.blocks.now.items = held_len 0 0 c.args.heads.now.items (in_hand c.args.q c.args.right c.args.blocks.now.items) c.requires.held.held ∙ in_hand_long c.args.q c.args.blocks.now.items c.args.right in
+        let within : c.args.q < length c.args.blocks.now.items = c.requires.hand.within in
+        let whole : last_total 0 (one_list c.index_mut-left.result.now.items c.args.right.items) ≤ c.at-head.result.total = head_total_at 0 0 c.args.q c.args.heads.now.items (in_hand c.args.q c.args.right c.args.blocks.now.items) (both c.index_mut-left.result.now c.args.right) c.at-head.result c.requires.held.held (omega arith) read c.at-head.ensures.item in
+        let same : last_total 0 (one_list c.index_mut-left.result.now.items c.args.right.items) ≡ last_total 0 c.level.new.left.items + last_total 0 c.level.new.right.items = ap (last_total 0) (sym c.level.ensures.same) ∙ last_total-one_list c.level.new.left.items c.level.new.right.items in
+        let end : c.at-end.result.total ≡ last_total 0 c.level.new.right.items = last_total_at 0 (c.len-3.result - 1) c.level.new.right.items c.at-end.result (omega arith) c.at-end.ensures.item in
+        let row : Row = record { bin = c.at-last.result.bin; total = c.at-head.result.total - c.at-end.result.total } in
+        let many : 32 ≤ length c.level.new.left.items = c.level.ensures.sizes.sized.least in
+        let last : c.len-2.result - 1 + 1 ≡ length c.level.new.left.items = omega arith in
+        let parted : IsParted c.index_mut-left.result.now.items c.args.right.items c.level.new.left.items c.level.new.right.items c.at-head.result row = record {
+          same = c.level.ensures.same;
+          some_left = omega arith;
+          some_right = omega arith;
+          bin = λ least. bin_after_at least (c.len-2.result - 1) c.level.new.left.items c.at-last.result last c.at-last.ensures.item;
+          total = omega arith;
+        } in
+        subst (λ (hs : List Row). Held 0 0 hs c.put_block.new.blocks.items) (sym c.put_row.ensures.put)
+        (subst (λ (bs : List Block). Held 0 0 (insert c.args.heads.now.items c.args.q row) bs) (sym (c.put_block.ensures ∙ ap (λ k. insert (set c.args.blocks.now.items c.args.q c.level.new.left) k c.level.new.right) (add-one c.args.q)))
+        (Held-parted 0 0 c.args.q c.args.heads.now.items c.args.blocks.now.items c.index_mut-left.result.now c.args.right c.level.new.left c.level.new.right c.at-head.result row c.requires.held.held c.requires.hand.within c.index_mut-left.ensures.value c.at-head.ensures.item parted));
+    last =
+        let long : length c.args.heads.now.items ≡ length c.args.blocks.now.items = held_len 0 0 c.args.heads.now.items (in_hand c.args.q c.args.right c.args.blocks.now.items) c.requires.held.held ∙ in_hand_long c.args.q c.args.blocks.now.items c.args.right in
+        let within : c.args.q < length c.args.blocks.now.items = c.requires.hand.within in
+        let row : Row = record { bin = c.at-last.result.bin; total = c.at-head.result.total - c.at-end.result.total } in
+        let many : 32 ≤ length c.level.new.left.items = c.level.ensures.sizes.sized.least in
+        let end : c.len-2.result - 1 + 1 ≡ length c.level.new.left.items = omega arith in
+        subst (λ (hs : List Row). AreLast hs c.put_block.new.blocks.items) (sym c.put_row.ensures.put)
+        (subst (λ (bs : List Block). AreLast (insert c.args.heads.now.items c.args.q row) bs) (sym (c.put_block.ensures ∙ ap (λ k. insert (set c.args.blocks.now.items c.args.q c.level.new.left) k c.level.new.right) (add-one c.args.q)))
+        (AreLast-parted c.args.q c.args.heads.now.items c.args.blocks.now.items c.index_mut-left.result.now c.args.right c.level.new.left c.level.new.right row c.requires.held.last (omega arith) long c.index_mut-left.ensures.value c.level.ensures.same (omega arith) (sym (bin_after_at 0 (c.len-2.result - 1) c.level.new.left.items c.at-last.result end c.at-last.ensures.item))));
+  };
   sized =
       let most : length c.level.new.right.items ≤ 63 = c.level.ensures.sizes.right_most in
       let least : 32 ≤ length c.level.new.right.items = at_least c.level.new.right.items c.level.ensures.sizes.either (omega arith) in
@@ -117,7 +135,7 @@ returns-clause-split g c = record {
       (AllSized-parted _ c.args.q c.args.blocks.now.items c.level.new.left c.level.new.right c.requires.hand.sized c.level.ensures.sizes.sized (record { least = least; most = most; room = c.level.ensures.sizes.right_room }));
   fits =
       let total : last_total 0 c.put_row.new.rows.items ≡ last_total 0 c.args.heads.now.items =
-      let long : length c.args.heads.now.items ≡ length c.args.blocks.now.items = held_len 0 0 c.args.heads.now.items (in_hand c.args.q c.args.right c.args.blocks.now.items) c.requires.held ∙ in_hand_long c.args.q c.args.blocks.now.items c.args.right in
+      let long : length c.args.heads.now.items ≡ length c.args.blocks.now.items = held_len 0 0 c.args.heads.now.items (in_hand c.args.q c.args.right c.args.blocks.now.items) c.requires.held.held ∙ in_hand_long c.args.q c.args.blocks.now.items c.args.right in
       let within : c.args.q < length c.args.blocks.now.items = c.requires.hand.within in
       ap (last_total 0) c.put_row.ensures.put ∙ last_total-insert 0 c.args.q c.args.heads.now.items _ (omega arith) in
       let fits : last_total 0 c.args.heads.now.items ≤ 2 ^ 63 = c.requires.fits in

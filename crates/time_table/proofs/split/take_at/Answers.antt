@@ -1,12 +1,13 @@
-use Rattle.std.proofs.Common.{ℕ, ◌≡◌, ◌<◌, ◌≤◌, List, length, set, arith, sym, subst}
+use Rattle.std.proofs.Common.{ℕ, ◌≡◌, ◌<◌, ◌≤◌, List, length, set, arith, refl, sym, subst}
 use Rattle.time_table.specs.declared.row.Row.{Row}
-use Rattle.time_table.specs.Totals.{Rise, counts_from, last_total}
+use Rattle.time_table.specs.Totals.{Rise, counts_from, last_total, lowered}
 use Rattle.probe_core.specs.Places.{IsPlace}
 use Rattle.time_table.specs.Places.{count_at}
 use Rattle.time_table.specs.Totals.{row_bin}
-use Rattle.time_table.specs.Blocks.{Held, parts}
+use Rattle.time_table.specs.Blocks.{Held, AreLastBut, parts}
 use Rattle.time_table.proofs.Taking.{last_total-taken}
 use Rattle.time_table.proofs.Blocked.{held_len, Rise-heads, Rise-at, place_inside, count_in, lower_fits, Held-taken, parts-taken, total-taken_from, set_within}
+use Rattle.time_table.proofs.Lasts.{AreLast-changed, length-mapped_from}
 use Rattle.time_table.proofs.Merged.{sized_at, SizedBut-set, taken_loose}
 use Rattle.time_table.proofs.split.take_at.Goals as goal
 
@@ -50,8 +51,8 @@ returns-clause-within g c =
     let inside : c.place_of-place.result.index < length c.args.heads.now.items = place_inside 0 0 c.place_of-place.result.index c.args.bin c.args.heads.now.items c.args.blocks.now.items c.requires.split.held place.lesser place.within (omega arith) (omega arith) in
     set_within c.place_of-place.result.index c.args.blocks.now.items c.take_record.new.rows (omega arith)
 
-pub returns-clause-held : goal.returns-clause-held
-returns-clause-held g c =
+pub fit_head-requires-clause-held : goal.fit_head-requires-clause-held
+fit_head-requires-clause-held g c =
     let same : length c.args.heads.now.items ≡ length c.args.blocks.now.items = held_len 0 0 c.args.heads.now.items c.args.blocks.now.items c.requires.split.held in
     let place = subst (λ (e : ℕ). IsPlace row_bin e c.args.heads.now.items c.place_of-place.result.index) c.from.ensures c.place_of-place.ensures.place in
     let inside : c.place_of-place.result.index < length c.args.heads.now.items = place_inside 0 0 c.place_of-place.result.index c.args.bin c.args.heads.now.items c.args.blocks.now.items c.requires.split.held place.lesser place.within (omega arith) (omega arith) in
@@ -80,5 +81,19 @@ returns-clause-sized g c =
     let rise : Rise 0 0 c.index_mut-block.result.now.items = Rise-at 0 0 c.place_of-place.result.index c.args.heads.now.items c.args.blocks.now.items c.index_mut-block.result.now c.requires.split.held inside c.index_mut-block.ensures.value in
     SizedBut-set 63 c.place_of-place.result.index c.args.blocks.now.items c.take_record.new.rows c.requires.split.sized (omega arith) (taken_loose c.args.bin c.args.amount c.index_mut-block.result.now c.take_record.new.rows sized rise c.requires.some there c.take_record.ensures.taken c.take_record.ensures.room)
 
+pub fit_head-requires-clause-last : goal.fit_head-requires-clause-last
+fit_head-requires-clause-last g c =
+    subst (λ (hs : List Row). AreLastBut c.place_of-place.result.index hs (set c.args.blocks.now.items c.place_of-place.result.index c.take_record.new.rows)) (sym c.lower.ensures.lowered)
+    (AreLast-changed (lowered c.args.amount) (λ _. refl) c.place_of-place.result.index c.args.heads.now.items c.args.blocks.now.items c.take_record.new.rows c.requires.split.last)
+
+pub fit_head-requires-clause-within : goal.fit_head-requires-clause-within
+fit_head-requires-clause-within g c =
+    let same : length c.args.heads.now.items ≡ length c.args.blocks.now.items = held_len 0 0 c.args.heads.now.items c.args.blocks.now.items c.requires.split.held in
+    let place = subst (λ (e : ℕ). IsPlace row_bin e c.args.heads.now.items c.place_of-place.result.index) c.from.ensures c.place_of-place.ensures.place in
+    let inside : c.place_of-place.result.index < length c.args.heads.now.items = place_inside 0 0 c.place_of-place.result.index c.args.bin c.args.heads.now.items c.args.blocks.now.items c.requires.split.held place.lesser place.within (omega arith) (omega arith) in
+    subst (λ (hs : List Row). c.place_of-place.result.index < length hs) (sym c.lower.ensures.lowered) (omega (arith, length-mapped_from (lowered c.args.amount) c.place_of-place.result.index c.args.heads.now.items))
+
 pub returns-clause-total : goal.returns-clause-total
-returns-clause-total g c = subst (λ (hs : List Row). last_total 0 hs ≤ last_total 0 c.args.heads.now.items) (sym c.lower.ensures.lowered) (total-taken_from c.args.amount 0 c.place_of-place.result.index c.args.heads.now.items)
+returns-clause-total g c =
+    let less = subst (λ (hs : List Row). last_total 0 hs ≤ last_total 0 c.args.heads.now.items) (sym c.lower.ensures.lowered) (total-taken_from c.args.amount 0 c.place_of-place.result.index c.args.heads.now.items) in
+    omega (arith, less, c.fit_head.ensures.total)

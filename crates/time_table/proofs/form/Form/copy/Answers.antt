@@ -5,6 +5,7 @@ use Rattle.time_table.specs.Forms.{IsForm, form_entries}
 use Rattle.time_table.specs.Blocks.{IsSplit}
 use Rattle.time_table.specs.Blocks.{parts, lists}
 use Rattle.time_table.proofs.Copied.{parts-lists, Held-lists}
+use Rattle.time_table.proofs.Lasts.{AreLast-lists}
 use Rattle.time_table.proofs.form.Form.copy.Goals as goal
 
 pub returns-in_ok-boxed-in-Split : goal.returns-in_ok-boxed-in-Split
@@ -13,7 +14,10 @@ returns-in_ok-boxed-in-Split c =
     let copies = c.in_ok-blocks-in-Split.ensures in
     let same : lists c.in_ok-blocks-in-Split.blocks.items ≡ lists c.in-Split.split.value.blocks.items = copies.0 ∙ ap (λ (s : Split). lists s.blocks.items) c.deref.ensures in
     let copied : IsSplit c.in-Split.split.value.heads.items c.in_ok-blocks-in-Split.blocks.items = record {
-      held = Held-lists 0 0 c.in-Split.split.value.heads.items c.in-Split.split.value.blocks.items c.in_ok-blocks-in-Split.blocks.items same split.held;
+      heads_held = record {
+        held = Held-lists 0 0 c.in-Split.split.value.heads.items c.in-Split.split.value.blocks.items c.in_ok-blocks-in-Split.blocks.items same split.held;
+        last = AreLast-lists c.in-Split.split.value.heads.items c.in-Split.split.value.blocks.items c.in_ok-blocks-in-Split.blocks.items same split.last;
+      };
       sized = copies.1;
       fits = split.fits;
     } in

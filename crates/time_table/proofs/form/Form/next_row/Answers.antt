@@ -20,4 +20,4 @@ returns-in-Single-clause-next g c =
 pub returns-in-Single-clause-cost : goal.returns-in-Single-clause-cost
 returns-in-Single-clause-cost g c =
     let cost : c.next_in.new.steps ≤ c.args.steps.now + bits (length c.in-Single.rows.items) = c.next_in.ensures.cost in
-    subst (λ (f : Form). c.next_in.new.steps ≤ c.args.steps.now + (2 + bits (length (rows_of f)))) (sym c.in-Single.is) (omega arith)
+    subst (λ (f : Form). c.next_in.new.steps ≤ c.args.steps.now + (1 + bits (length (rows_of f)))) (sym c.in-Single.is) (omega arith)

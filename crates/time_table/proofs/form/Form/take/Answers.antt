@@ -24,4 +24,4 @@ returns-in-Single-clause-taken g c =
 pub returns-clause-form : goal.returns-clause-form
 returns-clause-form g c =
     let one : length c.take_in.new.blocks.items ≡ 1 = c.if-not-take_in.ensures.sized in
-    (sole c.take_in.new.heads.items c.take_in.new.blocks.items c.remove-short.result c.take_in.ensures.held one c.remove-short.ensures.value (subst (λ (b : Block). length b.items ≤ 63) (sym c.remove-short.ensures.value) (c.take_in.ensures.short c.remove-short.result c.if-not-take_in.false))).0
+    (sole c.take_in.new.heads.items c.take_in.new.blocks.items c.remove-short.result c.take_in.ensures.held.held one c.remove-short.ensures.value (subst (λ (b : Block). length b.items ≤ 63) (sym c.remove-short.ensures.value) (c.take_in.ensures.short c.remove-short.result c.if-not-take_in.false))).0
