@@ -5,7 +5,7 @@ ghost use Rattle.arena_undo.specs.Worked.{begun};
 
 use crate::Work;
 use cube_view::Stat;
-use node_arena::{Arena, Link, LinkKind};
+use node_arena::{Arena, Link, SlotId};
 use outer_io::NoMemory;
 use std::alloc::Global;
 use std::test::Fail;
@@ -22,21 +22,18 @@ fn work_on_one_node(alloc: Global) -> Result<Work, NoMemory>
     }
 }
 
-/// One change of each kind.
+/// One change of each kind, of the node that is there where it can be.
 #[tactic(none)]
 fn change_by_each_call(work: &mut Work) -> Result<(), NoMemory>
     requires { work.old ≡ begun (empty_node ∷ []) 7 }
 {
-    let node = work.add_node()?;
-    let table = work.add_table()?;
-    let copy = work.copy_slot(node)?;
-    let child = Link {
-        to: copy,
-        kind: LinkKind::Proper,
-    };
-    work.put_child(node, 2, child)?;
-    work.set_child(node, 2, child);
-    work.set_content(node, Some(child));
+    let (root, node, table) = (SlotId(0), SlotId(1), SlotId(2));
+    work.add_node()?;
+    work.add_table()?;
+    work.copy_slot(root)?;
+    work.put_child(root, 2, Link::proper(node))?;
+    work.set_child(root, 2, Link::proper(table));
+    work.set_content(root, Some(Link::proper(node)));
     work.table_add_many(table, 5, 5)
 }
 

@@ -1,35 +1,23 @@
 //! Slots that are added, linked and taken off.
 ghost use Rattle.std.specs.Prelude.{◌≡◌, []};
 
-use crate::{Arena, Link, LinkKind};
+use crate::{Arena, Link, SlotId};
 use cube_view::Stat;
 use outer_io::NoMemory;
 use std::test::Fail;
 
-/// A node with a child and a content, which is a time table of one record, and a copy of each.
+/// A node with a child and a content, which is a time table of one record. The child is a copy of the node.
 #[tactic(none)]
 fn fill(arena: &mut Arena) -> Result<(), NoMemory>
     requires { arena.old ≡ [] }
 {
-    let node = arena.add_node()?;
-    let table = arena.add_table()?;
+    let (node, table, child) = (SlotId(0), SlotId(1), SlotId(2));
+    arena.add_node()?;
+    arena.add_table()?;
     arena.table_add(table, 5)?;
-    arena.set_content(
-        node,
-        Some(Link {
-            to: table,
-            kind: LinkKind::Proper,
-        }),
-    );
-    let child = arena.copy_slot(node)?;
-    arena.put_child(
-        node,
-        2,
-        Link {
-            to: child,
-            kind: LinkKind::Proper,
-        },
-    )
+    arena.set_content(node, Some(Link::proper(table)));
+    arena.copy_slot(node)?;
+    arena.put_child(node, 2, Link::proper(child))
 }
 
 #[test]
