@@ -1,13 +1,28 @@
-ghost use Rattle.std.specs.Prelude.{◌≡◌, ◌+◌, ◌*◌, ◌<◌, ◌≤◌, ◌^◌, length};
+//! Tables that grow, are split and shrink, each test a list of cases.
+ghost use Rattle.std.specs.Prelude.{◌≡◌, ◌+◌, ◌<◌, ◌≤◌, ◌^◌};
 ghost use Rattle.probe_core.specs.Blanks.{IsBlankOf};
 ghost use Rattle.time_table.specs.Counts.{total_count};
 
 use crate::TimeTable;
 use probe_core::Steps;
-use std::alloc::Global;
+use std::alloc::{AllocError, Global};
 use std::marker::Brand;
 use std::process::Abort;
 use std::sync::ledger::{Blank, Ledger};
+use std::test::Fail;
+
+/// What is done to a table, or what it has to tell.
+#[derive(Clone, Copy)]
+enum Case {
+    /// An amount more in a bin.
+    Add(u32, u64),
+    /// An amount less in a bin.
+    Take(u32, u64),
+    /// How much there is before an end.
+    Before(u64, u64),
+    /// The first row from a bin on.
+    Next(u32, Option<(u32, u64)>),
+}
 
 /// A table without records.
 fn empty(alloc: Global) -> TimeTable
@@ -25,131 +40,188 @@ fn add(rt: &impl Abort, table: &mut TimeTable, bin: u32, amount: u64)
     table.add_many(bin, amount).expect(rt, "room");
 }
 
-/// One record more in each bin, in order.
-fn add_each(rt: &impl Abort, table: &mut TimeTable, bins: &[u32])
-    requires { total_count table.old + length bins.now ≤ 2 ^ 63 }
-    ensures { total_count table.new ≡ total_count table.old + length bins.now }
-{
-    for bin in bins {
-        add(rt, table, *bin, 1);
-    }
-}
-
 /// Takes an amount from a bin, which has to have as much.
-fn take<L: Ledger>(rt: &impl Abort, blank: Blank, table: &mut TimeTable, bin: u32, amount: u64)
-    requires blank { IsBlankOf L.name L.parts blank }
-    requires some { 0 < amount }
+fn take<L: Ledger>(
+    rt: &impl Abort,
+    table: &mut TimeTable,
+    bin: u32,
+    amount: u64,
+    steps: &mut Steps<L>,
+)
+    requires { 0 < amount }
     ensures { total_count table.new ≤ total_count table.old }
 {
-    let mut steps = Steps::<L>::new(blank);
-    match table.next_row(bin, &mut steps) {
+    match table.next_row(bin, steps) {
         Some((found, count)) if found == bin && amount <= count => table.take_many(bin, amount),
         _ => panic!(rt; "nothing in {bin}"),
     }
 }
 
-fn expect_before<L: Ledger>(rt: &impl Abort, blank: Blank, table: &TimeTable, cases: &[(u64, u64)])
-    requires { IsBlankOf L.name L.parts blank }
+/// One case. `room` is how much may still be added.
+fn expect_case<L: Ledger>(
+    rt: &impl Abort,
+    table: &mut TimeTable,
+    room: u64,
+    case: Case,
+    steps: &mut Steps<L>,
+) -> u64
+    requires { total_count table.old + room ≤ 2 ^ 63 }
+    ensures { total_count table.new + result ≤ 2 ^ 63 }
+{
+    match case {
+        Case::Add(bin, amount) => {
+            assert!(rt; 0 < amount && amount <= room);
+            add(rt, table, bin, amount);
+            return room - amount;
+        }
+        Case::Take(bin, amount) => {
+            assert!(rt; 0 < amount);
+            take(rt, table, bin, amount, steps);
+        }
+        Case::Before(end, want) => {
+            assert_eq!(rt; table.before(end, steps), want, "before {end}");
+        }
+        Case::Next(from, want) => {
+            assert!(rt; table.next_row(from, steps) == want, "from {from}");
+        }
+    }
+    room
+}
+
+/// The cases in order.
+fn expect<L: Ledger>(
+    rt: &impl Abort,
+    blank: Blank,
+    table: &mut TimeTable,
+    room: u64,
+    cases: &[Case],
+)
+    requires blank { IsBlankOf L.name L.parts blank }
+    requires fits { total_count table.old + room ≤ 2 ^ 63 }
+    ensures { total_count table.new ≤ 2 ^ 63 }
 {
     let mut steps = Steps::<L>::new(blank);
-    for &(bin_end, want) in cases {
-        assert_eq!(rt; table.before(bin_end, &mut steps), want, "before {bin_end}");
+    let mut room = room;
+    for &case in cases {
+        room = expect_case(rt, table, room, case, &mut steps);
     }
 }
 
 #[test]
 fn counts_before_each_end(rt: HostRuntime) {
+    let cases = [
+        Case::Add(5, 1),
+        Case::Add(3, 1),
+        Case::Add(5, 1),
+        Case::Add(9, 1),
+        Case::Before(3, 0),
+        Case::Before(5, 1),
+        Case::Before(6, 3),
+        Case::Before(1 << 32, 4),
+        Case::Take(3, 1),
+        Case::Before(5, 0),
+        Case::Before(6, 2),
+        Case::Before(10, 3),
+    ];
     let mut table = empty(rt.alloc());
-    add_each(&rt, &mut table, &[5, 3, 5, 9]);
-    let copy = table.copy(rt.alloc()).expect(&rt, "room");
-    let cases = [(3, 0), (5, 1), (6, 3), (1 << 32, 4)];
-    expect_before::<Brand>(&rt, Blank::new(1), &copy, &cases);
-    take::<Brand>(&rt, Blank::new(1), &mut table, 3, 1);
-    expect_before::<Brand>(&rt, Blank::new(1), &table, &[(5, 0), (6, 2), (10, 3)]);
+    expect::<Brand>(&rt, Blank::new(1), &mut table, 4, &cases);
 }
 
 #[test]
 fn counts_large_amounts_in_the_first_and_the_last_bin(rt: HostRuntime) {
-    let mut table = empty(rt.alloc());
     let large = 1 << 62;
-    add(&rt, &mut table, u32::MAX, large);
-    add(&rt, &mut table, 0, large - 1);
     let cases = [
-        (0, 0),
-        (1, large - 1),
-        ((1 << 32) - 1, large - 1),
-        (1 << 32, 2 * large - 1),
+        Case::Add(u32::MAX, large),
+        Case::Add(0, large - 1),
+        Case::Before(0, 0),
+        Case::Before(1, large - 1),
+        Case::Before((1 << 32) - 1, large - 1),
+        Case::Before(1 << 32, 2 * large - 1),
+        Case::Take(0, large - 1),
+        Case::Take(u32::MAX, 1),
+        Case::Before((1 << 32) - 1, 0),
+        Case::Before(1 << 32, large - 1),
     ];
-    expect_before::<Brand>(&rt, Blank::new(1), &table, &cases);
-    take::<Brand>(&rt, Blank::new(1), &mut table, 0, large - 1);
-    take::<Brand>(&rt, Blank::new(1), &mut table, u32::MAX, 1);
-    expect_before::<Brand>(
-        &rt,
-        Blank::new(1),
-        &table,
-        &[((1 << 32) - 1, 0), (1 << 32, large - 1)],
-    );
+    let mut table = empty(rt.alloc());
+    expect::<Brand>(&rt, Blank::new(1), &mut table, 1 << 63, &cases);
 }
 
-/// A table with a record in each bin below 1,000, added in falling order.
-fn thousand(rt: &impl Abort, table: &mut TimeTable)
-    requires { total_count table.old + 1000 ≤ 2 ^ 63 }
-{
+/// A record in each bin below 1,000, added in falling order.
+fn push_added(cases: &mut Vec<Case>) -> Result<(), AllocError> {
     for i in 0..1000u32 {
-        add(rt, table, 999 - i, 1);
+        cases.push(Case::Add(999 - i, 1))?;
     }
+    Ok(())
 }
 
-fn expect_each<L: Ledger>(rt: &impl Abort, blank: Blank, table: &TimeTable)
-    requires { IsBlankOf L.name L.parts blank }
-{
-    let mut steps = Steps::<L>::new(blank);
-    for bin in 0..1001u32 {
-        assert_eq!(rt; table.before(u64::from(bin), &mut steps), u64::from(bin));
-        let row = table.next_row(bin, &mut steps);
-        assert!(rt; row == if bin == 1000 { None } else { Some((bin, 1)) });
+/// What such a table tells of each bin.
+fn push_told(cases: &mut Vec<Case>) -> Result<(), AllocError> {
+    for bin in 0..1000u32 {
+        cases.push(Case::Before(u64::from(bin), u64::from(bin)))?;
+        cases.push(Case::Next(bin, Some((bin, 1))))?;
     }
+    cases.push(Case::Before(1000, 1000))?;
+    cases.push(Case::Next(1000, None))?;
+    Ok(())
+}
+
+/// Takes the record of every other bin, from one on.
+fn push_taken(cases: &mut Vec<Case>, from: u32) -> Result<(), AllocError>
+    requires { from < 2 }
+{
+    for i in 0..499u32 {
+        cases.push(Case::Take(2 * i + from, 1))?;
+    }
+    Ok(())
+}
+
+/// A table of 1,000 rows that shrinks to one row.
+fn shrinking(alloc: Global) -> Result<Vec<Case>, AllocError> {
+    let mut cases = Vec::new(alloc);
+    push_taken(&mut cases, 0)?;
+    cases.push(Case::Take(998, 1))?;
+    for (end, want) in [(1, 0), (2, 1), (500, 250), (1000, 500)] {
+        cases.push(Case::Before(end, want))?;
+    }
+    push_taken(&mut cases, 1)?;
+    cases.push(Case::Before(999, 0))?;
+    cases.push(Case::Before(1000, 1))?;
+    cases.push(Case::Next(0, Some((999, 1))))?;
+    Ok(cases)
 }
 
 #[test]
-fn splits_into_blocks_and_back(rt: HostRuntime) {
+fn splits_into_blocks_and_back(rt: HostRuntime) -> Result<(), Fail> {
     let mut table = empty(rt.alloc());
-    thousand(&rt, &mut table);
-    expect_each::<Brand>(&rt, Blank::new(1), &table);
-    let copy = table.copy(rt.alloc()).expect(&rt, "room");
-    for i in 0..500u32 {
-        take::<Brand>(&rt, Blank::new(1), &mut table, 2 * i, 1);
-    }
-    expect_before::<Brand>(
-        &rt,
-        Blank::new(1),
-        &table,
-        &[(1, 0), (2, 1), (500, 250), (1000, 500)],
-    );
-    for i in 0..499u32 {
-        take::<Brand>(&rt, Blank::new(1), &mut table, 2 * i + 1, 1);
-    }
-    expect_before::<Brand>(&rt, Blank::new(1), &table, &[(999, 0), (1000, 1)]);
-    expect_each::<Brand>(&rt, Blank::new(1), &copy);
+    let mut cases = Vec::new(rt.alloc());
+    push_added(&mut cases)?;
+    push_told(&mut cases)?;
+    expect::<Brand>(&rt, Blank::new(1), &mut table, 1000, cases.as_slice());
+    let mut copy = table.copy(rt.alloc())?;
+    let shrinking = shrinking(rt.alloc())?;
+    expect::<Brand>(&rt, Blank::new(1), &mut table, 0, shrinking.as_slice());
+    let mut told = Vec::new(rt.alloc());
+    push_told(&mut told)?;
+    expect::<Brand>(&rt, Blank::new(1), &mut copy, 0, told.as_slice());
+    Ok(())
 }
 
-/// Whether the rows of the table are those counts above 0, bin after bin.
-fn has_rows<L: Ledger>(blank: Blank, table: &TimeTable, counts: &[u64]) -> bool
-    requires { IsBlankOf L.name L.parts blank }
-{
-    let mut steps = Steps::<L>::new(blank);
-    let mut below = 0u64;
+/// What a walk from row to row finds where the bins have those counts, and how much is before each bin.
+fn push_rows(cases: &mut Vec<Case>, counts: &[u64; 300]) -> Result<(), AllocError> {
+    let mut from = 0u32;
     let mut bin = 0u32;
-    for count in counts {
-        let found = table.before(u64::from(bin), &mut steps) == below;
-        let row = table.next_row(bin, &mut steps);
-        if !found || *count > 0 && row != Some((bin, *count)) {
-            return false;
+    let mut below = 0u64;
+    for &count in counts {
+        cases.push(Case::Before(u64::from(bin), below))?;
+        if count > 0 {
+            cases.push(Case::Next(from, Some((bin, count))))?;
+            from = bin.wrapping_add(1);
         }
-        below = below.wrapping_add(*count);
+        below = below.wrapping_add(count);
         bin = bin.wrapping_add(1);
     }
-    table.next_row(bin, &mut steps).is_none()
+    cases.push(Case::Next(from, None))?;
+    Ok(())
 }
 
 /// The next of a series of numbers that look drawn by chance.
@@ -159,36 +231,101 @@ fn next_number(number: u64) -> u64 {
         .wrapping_add(1442695040888963407)
 }
 
-/// One change of the table and of the plain counts, more or less as the number says.
-fn change(rt: &impl Abort, table: &mut TimeTable, counts: &mut [u64; 300], number: u64)
-    requires { total_count table.old + 16 ≤ 2 ^ 63 }
-    ensures { total_count table.new ≤ total_count table.old + 16 }
-{
+/// One change of the plain counts, more or less as the number says, and the case of it.
+fn change(counts: &mut [u64; 300], number: u64) -> Case {
     let bin = (number >> 33) % 300;
     let amount = (number >> 60) % 16;
     let place = bin as usize;
     let had = counts[place];
-    if amount % 2 == 0 {
-        add(rt, table, bin as u32, amount + 1);
+    if amount % 2 == 0 || had == 0 {
         counts[place] = had.wrapping_add(amount + 1);
-    } else if had > 0 {
-        let taken = if amount < had { amount } else { had };
-        take::<Brand>(rt, Blank::new(1), table, bin as u32, taken);
-        counts[place] = had - taken;
+        return Case::Add(bin as u32, amount + 1);
     }
+    let taken = if amount < had { amount } else { had };
+    counts[place] = had - taken;
+    Case::Take(bin as u32, taken)
 }
 
-#[test]
-fn agrees_with_plain_counts_after_random_changes(rt: HostRuntime) {
-    let mut table = empty(rt.alloc());
+/// 20,000 changes, and after each 2,000 of them what the plain counts say.
+fn random_cases(alloc: Global) -> Result<Vec<Case>, AllocError> {
+    let mut cases = Vec::new(alloc);
     let mut counts = [0u64; 300];
     let mut number = 1u64;
     for i in 0..20_000u32 {
         number = next_number(number);
-        change(&rt, &mut table, &mut counts, number);
-        if i % 2_000 == 0 {
-            assert!(rt; has_rows::<Brand>(Blank::new(1), &table, &counts));
+        cases.push(change(&mut counts, number))?;
+        if i % 2_000 == 1_999 {
+            push_rows(&mut cases, &counts)?;
         }
     }
-    assert!(rt; has_rows::<Brand>(Blank::new(1), &table, &counts));
+    Ok(cases)
+}
+
+#[test]
+fn agrees_with_plain_counts_after_random_changes(rt: HostRuntime) -> Result<(), Fail> {
+    let cases = random_cases(rt.alloc())?;
+    let mut table = empty(rt.alloc());
+    expect::<Brand>(&rt, Blank::new(1), &mut table, 1 << 63, cases.as_slice());
+    Ok(())
+}
+
+/// Whether a table counts what plain counts of its bins count.
+fn agrees<L: Ledger>(table: &TimeTable, counts: &[u64; 300], steps: &mut Steps<L>) -> bool {
+    let mut bin = 0u32;
+    for &count in counts {
+        let row = table.next_row(bin, steps);
+        let found = match row {
+            Some((found, count)) if found == bin => count,
+            _ => 0,
+        };
+        if found != count {
+            return false;
+        }
+        bin = bin.wrapping_add(1);
+    }
+    table.next_row(bin, steps).is_none()
+}
+
+/// A record more in a bin. Where that is refused, the table is as before, and the next try isn't refused.
+fn add_again<L: Ledger>(
+    rt: &impl Abort,
+    table: &mut TimeTable,
+    counts: &[u64; 300],
+    bin: u32,
+    steps: &mut Steps<L>,
+)
+    requires { total_count table.old < 2 ^ 63 }
+    ensures { total_count table.new ≡ total_count table.old + 1 }
+{
+    match table.add_many(bin, 1) {
+        Ok(()) => {}
+        Err(_) => {
+            assert!(rt; agrees(table, counts, steps), "{bin} was refused");
+            add(rt, table, bin, 1);
+        }
+    }
+}
+
+/// 1,000 records in 300 bins, one after another.
+fn add_thousand<L: Ledger>(rt: &impl Abort, blank: Blank, table: &mut TimeTable)
+    requires blank { IsBlankOf L.name L.parts blank }
+    requires none { total_count table.old ≡ 0 }
+{
+    let mut steps = Steps::<L>::new(blank);
+    let mut counts = [0u64; 300];
+    let mut number = 1u64;
+    for i in 0..1_000u32 {
+        number = next_number(number);
+        let bin = (number >> 33) % 300;
+        add_again(rt, table, &counts, bin as u32, &mut steps);
+        counts[bin as usize] = counts[bin as usize].wrapping_add(1);
+    }
+    assert!(rt; agrees(table, &counts, &mut steps));
+}
+
+/// With memory for all this shows little. CONTRIBUTING.md says how each allocation is made to fail.
+#[test]
+fn keeps_its_counts_where_an_addition_is_refused(rt: HostRuntime) {
+    let mut table = empty(rt.alloc());
+    add_thousand::<Brand>(&rt, Blank::new(1), &mut table);
 }

@@ -1,7 +1,4 @@
 use Rattle.time_table.proofs.tests.counts_before_each_end.Given as goal
 
-abbrev pub ghosts-expect_before : goal.ghosts-expect_before
-ghosts-expect_before g a = record { name = a.blank.name; parts = a.blank.parts }
-
-abbrev pub ghosts-take : goal.ghosts-take
-ghosts-take g a = record { name = a.blank.name; parts = a.blank.parts }
+abbrev pub ghosts-expect : goal.ghosts-expect
+ghosts-expect g a = record { name = a.blank.name; parts = a.blank.parts }

@@ -14,4 +14,4 @@ returns g c =
     let is : first_from c.args.bin (entries c.args.table.now) ≡ Some (c.args.bin, c.in-Some.count) = sym c.in-Some.ensures.next ∙ ap (λ k. Some (k, c.in-Some.count)) c.if-found-bin.true in
     let there : c.args.amount ≤ count_of c.args.table.now c.args.bin = omega (arith, count_of-first_from c.args.table.now c.args.bin c.in-Some.count is) in
     let new : total_count c.take_many.new.self ≡ total_count (take_many c.args.table.now c.args.bin c.args.amount) = ap total_count c.take_many.ensures.taken in
-    omega (arith, new, total_count-take_many c.args.table.now c.args.bin c.args.amount c.requires.some there)
+    omega (arith, new, total_count-take_many c.args.table.now c.args.bin c.args.amount c.requires there)
