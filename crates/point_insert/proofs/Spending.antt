@@ -136,8 +136,11 @@ visits-doubled z below e =
 pub below_small : (z : Schema) (below i : ℕ) → i ≤ length z.categories → below + 2 ≡ 2 ^ (i + 1) → below ≤ 30
 below_small z below i le e = let f = few_categories z in let m : 2 ^ (i + 1) ≤ 2 ^ 5 = pow_mono {i = i + 1} {j = 5} (omega (arith, le, f)) in omega (arith, e, m)
 
-pub visits_small : (z : Schema) (below : ℕ) → below ≤ 30 → (z.depth + 1) * (1 + below) ≤ 651
+visits_small : (z : Schema) (below : ℕ) → below ≤ 30 → (z.depth + 1) * (1 + below) ≤ 651
 visits_small z below le =
     let d = (depth_bounds z).1 in
     let a : (z.depth + 1) * (1 + below) ≤ 21 * (1 + below) = mul-le-mul_right {m = z.depth + 1} {n = 21} (1 + below) (omega (arith, d)) in
     omega (arith, a, le)
+
+pub visits_within : (z : Schema) (below i : ℕ) → i ≤ length z.categories → below + 2 ≡ 2 ^ (i + 1) → (z.depth + 1) * (1 + below) ≤ 651
+visits_within z below i le e = visits_small z below (below_small z below i le e)

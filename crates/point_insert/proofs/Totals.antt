@@ -8,28 +8,7 @@ use Rattle.std.proofs.lemmas.Cmp.{tied_itself}
 use Rattle.std.proofs.lemmas.List.Sums.{sum_by-cons, sum-map}
 use Rattle.time_table.specs.Counts.{BinCounts, count_of, total_count}
 use Rattle.time_table.proofs.Entries.{find_here, find_later, find_before}
-
-first_part : (a b : Bool) → T (a && b) → T a
-first_part true b p = tt
-first_part false b p = p
-
-second_part : (a b : Bool) → T (a && b) → T b
-second_part true b p = p
-second_part false b p = absurd p
-
-below : (x y : ℕ) → T (is_lt (nat_cmp x y)) → x < y
-below x y h =
-    elim (cases_order x y) [
-      | inl same ↦ absurd (subst (λ b. T (is_lt b)) (tied_itself nat_cmp_total y) (subst (λ n. T (is_lt (nat_cmp n y))) same h))
-      | inr (inl less) ↦ less
-      | inr (inr more) ↦ absurd (rw (le-ltb x y (omega arith), ne_eqb x y (omega arith)) at h)
-    ]
-
-find_below : (k x : ℕ) (es : List (ℕ × ℕ)) → T (below_all nat_cmp x es) → k < x → find nat_cmp k es ≡ None
-find_below k x [] h less = refl
-find_below k x (e ∷ es) h less =
-    let next : x < e.0 = below x e.0 (first_part _ _ h) in
-    find_before k e.0 e.1 es (omega arith) ∙ find_below k x es (second_part _ _ h) less
+use Rattle.time_table.proofs.Passing.{first_part, second_part, below}
 
 abbrev count_at : ℕ → List (ℕ × ℕ) → ℕ
 count_at k es = unwrap_or (find nat_cmp k es) 0

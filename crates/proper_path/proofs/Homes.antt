@@ -103,11 +103,3 @@ homes_grown old new homes i e s G H free fits = record {
         let r = H.finer j k f (sym el ∙ h) in
         (omega (arith, G.size), subst₂ (λ x y. IsCoarser (f ∷ x) y) (sym (was j l)) (sym (was k r.0)) r.1)
     finer j k f h (of_none el) = absurd cc
-
--- a slot has one proper link at most
-pub one_owner : (slots : List Slot) (homes : List Walk) → HasHomes slots homes → (i k j : ℕ) (e f : Step) → link_of slots i e ≡ Some (proper j) → link_of slots k f ≡ Some (proper j) → (i ≡ k) × (e ≡ f)
-one_owner slots homes H i k j e f a b =
-    let s : e ∷ home_of homes i ≡ f ∷ home_of homes k = sym (H.at_home i j e a).1 ∙ (H.at_home k j f b).1 in
-    let h : home_of homes i ≡ home_of homes k = cc in
-    let g : e ≡ f = cc in
-    (H.distinct i k (linked-lt slots i e (proper j) a) (linked-lt slots k f (proper j) b) h, g)

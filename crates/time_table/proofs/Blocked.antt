@@ -3,14 +3,15 @@ use Rattle.std.proofs.Common.{◌≡◌, ℕ, zero, suc, ◌+◌, ◌-◌, ◌<�
 use Rattle.std.specs.List.{insert, remove}
 use Rattle.std.proofs.lemmas.List.{length-set}
 use Rattle.std.proofs.lemmas.List.Elements.{All-nil, All-cons, All-head, All-tail, All-append, All-weaker}
+use Rattle.probe_core.specs.Places.{IsPlace}
 use Rattle.time_table.specs.declared.row.Row.{Row}
-use Rattle.time_table.specs.Totals.{Rise, counts_from, last_total, bin_after, raised, lowered}
+use Rattle.time_table.specs.Totals.{Rise, counts_from, last_total, bin_after, raised, lowered, row_bin}
 use Rattle.time_table.specs.Places.{added, taken, count_at, more, less}
 use Rattle.time_table.specs.Blocks.{Block, flat, parts, IsHead, Held, IsSized, AllSized, SizedBut, one_list, in_hand}
 use Rattle.time_table.proofs.Adding.{counts_from-raised, last_total-raised, Rise-raised, All-raised, all_past, counts_from-added, Rise-added, All-added, last_total-added, last_total-le}
 use Rattle.time_table.proofs.Taking.{past_entries, counts_from-taken, Rise-taken, All-taken, last_total-taken, length-taken}
 use Rattle.time_table.proofs.Lessened.{count_over, count_front, more_over, more_front, less_over, less_front}
-use Rattle.time_table.proofs.Joined.{counts_from-append, last_total-append, Rise-least, Rise-append, bin_after-lt, All-bin_after, length-le-total, one_list-left, one_list-right, last_total-one_list, counts_from-one_list}
+use Rattle.time_table.proofs.Joined.{counts_from-append, last_total-append, Rise-least, Rise-append, bin_after-lt, All-bin_after, length-le-total, totals_past, one_list-left, one_list-right, last_total-one_list, counts_from-one_list}
 
 pub held_len : (least before : ℕ) (hs : List Row) (bs : List Block) → Held least before hs bs → length hs ≡ length bs
 held_len least before [] [] held = refl
@@ -47,6 +48,20 @@ place_inside least before (suc p) bin (h ∷ hs) (b ∷ bs) held lesser le fits 
     let under : h.bin < bin = All-head (λ (h : Row). h.bin < bin) h (take p hs) lesser in
     let rest : p < length hs = place_inside (h.bin + 1) h.total p bin hs bs held.1 (All-tail (λ (h : Row). h.bin < bin) h (take p hs) lesser) (omega arith) fits (omega arith) in
     omega arith
+
+-- the place of a bin among heads: a head and its block are there
+pub record IsPlaced (bin place : ℕ) (hs : List Row) (bs : List Block) : Type 0 where
+  pub lesser : All (λ h. h.bin < bin) (take place hs)
+  pub others : All (λ h. bin ≤ h.bin) (drop place hs)
+  pub inside : place < length hs
+  pub within : place < length bs
+
+pub placed : (key bin place : ℕ) (hs : List Row) (bs : List Block) → Held 0 0 hs bs → key ≡ bin → IsPlace row_bin key hs place → bin < 2 ^ 32 → IsPlaced bin place hs bs
+placed key bin place hs bs held is found fits =
+    let at : IsPlace row_bin bin hs place = subst (λ k. IsPlace row_bin k hs place) is found in
+    let inside : place < length hs = place_inside 0 0 place bin hs bs held at.lesser at.within fits (omega arith) in
+    let same : length hs ≡ length bs = held_len 0 0 hs bs held in
+    record { lesser = at.lesser; others = at.others; inside = inside; within = omega arith }
 
 pub counts_from-flat : (before : ℕ) (bs : List Block) → counts_from before (flat before bs) ≡ parts bs
 counts_from-flat before [] = refl
@@ -208,12 +223,6 @@ pub last_total-raised_from : (n before p : ℕ) (hs : List Row) → p < length h
 last_total-raised_from n before p [] within = absurd (omega arith)
 last_total-raised_from n before zero (h ∷ hs) within = last_total-raised n (h.total + n) h.total hs refl
 last_total-raised_from n before (suc p) (h ∷ hs) within = last_total-raised_from n h.total p hs (omega arith)
-
-totals_past : (least before n : ℕ) (rows : List Row) → Rise least before rows → n ≤ before → All (λ r. n ≤ r.total) rows
-totals_past least before n [] rise le = All-nil (λ (r : Row). n ≤ r.total)
-totals_past least before n (r ∷ rs) rise le =
-    let up : before < r.total = rise.1 in
-    All-cons (λ (x : Row). n ≤ x.total) r rs (omega arith) (totals_past (r.bin + 1) r.total n rs rise.2 (omega arith))
 
 pub lower_fits : (least before n p : ℕ) (hs : List Row) (bs : List Block) (b : Block) → Held least before hs bs → p < length hs → b ≡ get_or bs p b → n ≤ last_total 0 b.items → All (λ h. n ≤ h.total) (drop p hs)
 lower_fits least before n p [] bs b held within read le = absurd (omega arith)

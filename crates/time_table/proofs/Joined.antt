@@ -114,7 +114,8 @@ raised-lowered a n (r ∷ rs) all =
     ap (λ k. record { bin = r.bin; total = k } ∷ map (raised (a + n)) (map (lowered n) rs)) same
     ∙ ap (λ zs. raised a r ∷ zs) (raised-lowered a n rs (All-tail (λ (r : Row). n ≤ r.total) r rs all))
 
-totals_past : (least before n : ℕ) (rows : List Row) → Rise least before rows → n ≤ before → All (λ r. n ≤ r.total) rows
+-- the totals of rows that rise are above the one before them
+pub totals_past : (least before n : ℕ) (rows : List Row) → Rise least before rows → n ≤ before → All (λ r. n ≤ r.total) rows
 totals_past least before n [] rise le = All-nil (λ (r : Row). n ≤ r.total)
 totals_past least before n (r ∷ rs) rise le =
     let up : before < r.total = rise.1 in

@@ -5,7 +5,7 @@ use Rattle.std.proofs.lemmas.Bool.{cases_order}
 use Rattle.std.proofs.lemmas.List.{length-map, length-set}
 use Rattle.std.proofs.lemmas.List.Elements.{All-head, All-tail, All-weaker}
 use Rattle.time_table.specs.declared.row.Row.{Row}
-use Rattle.time_table.specs.Totals.{Rise, last_total, bin_after, raised}
+use Rattle.time_table.specs.Totals.{last_total, bin_after, raised}
 use Rattle.time_table.specs.Places.{added}
 use Rattle.time_table.specs.Blocks.{Block, Held, AreLast, AreLastBut, IsHead, one_list, in_hand, lists}
 use Rattle.time_table.proofs.Adding.{added_here, added_new, added_later}

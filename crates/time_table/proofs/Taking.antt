@@ -11,6 +11,7 @@ use Rattle.time_table.specs.Places.{without_first, without_spent, taken, count_a
 use Rattle.time_table.proofs.Mapped.{map_second}
 use Rattle.time_table.proofs.Entries.{put_here}
 use Rattle.time_table.proofs.Adding.{find_none, all_past, IsLonger}
+use Rattle.time_table.proofs.Joined.{Rise-least}
 use Rattle.time_table.proofs.Lessened.{less_later, count_later, count_here, del_here, del_past}
 
 -- rows lowered by an amount count as before from a total that is less by it
@@ -123,10 +124,6 @@ counts_from-taken least before bin n (r ∷ rs) rise some there =
           ∙ sym (put_here bin r.bin (count_at bin (counts_from before (r ∷ rs)) - n) (r.total - before) (counts_from r.total rs) is.same)
           ∙ ap (λ b. cond b (del bin (counts_from before (r ∷ rs))) (put nat_cmp bin (count_at bin (counts_from before (r ∷ rs)) - n) (counts_from before (r ∷ rs)))) (sym (ne_eqb (count_at bin (counts_from before (r ∷ rs))) n (λ e. omega arith)))
     ]
-
-Rise-least : (least least' before : ℕ) (rows : List Row) → least' ≤ least → Rise least before rows → Rise least' before rows
-Rise-least least least' before [] le rise = tt
-Rise-least least least' before (r ∷ rs) le rise = let first : least ≤ r.bin = rise.0 in (omega arith, rise.1, rise.2)
 
 pub Rise-taken : (least before bin n : ℕ) (rows : List Row) → Rise least before rows → 0 < n → n ≤ count_at bin (counts_from before rows) → Rise least before (taken before bin n rows)
 Rise-taken least before bin n [] rise some there = tt

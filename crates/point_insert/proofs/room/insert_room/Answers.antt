@@ -1,5 +1,5 @@
 use Rattle.std.proofs.Common.{◌≡◌, ◌+◌, ◌*◌, ◌^◌, length, ap, ◌∙◌, arith}
-use Rattle.point_insert.proofs.Spending.{below_small, visits-doubled, visits_small}
+use Rattle.point_insert.proofs.Spending.{below_small, visits-doubled, visits_within}
 use Rattle.point_insert.proofs.room.insert_room.Goals as goal
 
 pub overflow_mul-below : goal.overflow_mul-below
@@ -10,20 +10,10 @@ overflow_mul-below c =
     omega (arith, b)
 
 pub overflow_mul-result : goal.overflow_mul-result
-overflow_mul-result c =
-    let w = c.loop.auto.counter-end in
-    let e = c.loop.invariant.end in
-    let b = below_small c.args.schema.now c.loop.below c.loop.counter (omega (arith, w, e)) c.loop.invariant.doubled in
-    let v = visits_small c.args.schema.now c.loop.below b in
-    omega (arith, v)
+overflow_mul-result c = omega (arith, visits_within c.args.schema.now c.loop.below c.loop.counter (omega (arith, c.loop.auto.counter-end, c.loop.invariant.end)) c.loop.invariant.doubled)
 
 pub overflow_mul-result-2 : goal.overflow_mul-result-2
-overflow_mul-result-2 c =
-    let w = c.loop.auto.counter-end in
-    let e = c.loop.invariant.end in
-    let b = below_small c.args.schema.now c.loop.below c.loop.counter (omega (arith, w, e)) c.loop.invariant.doubled in
-    let v = visits_small c.args.schema.now c.loop.below b in
-    omega (arith, v)
+overflow_mul-result-2 c = omega (arith, visits_within c.args.schema.now c.loop.below c.loop.counter (omega (arith, c.loop.auto.counter-end, c.loop.invariant.end)) c.loop.invariant.doubled)
 
 pub returns : goal.returns
 returns c =

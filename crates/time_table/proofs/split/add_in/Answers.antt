@@ -1,10 +1,9 @@
-use Rattle.std.proofs.Common.{ℕ, ◌≡◌, ◌+◌, ◌<◌, ◌≤◌, ◌^◌, List, [], length, arith, sym, ap, subst, ◌∙◌}
+use Rattle.std.proofs.Common.{◌≡◌, ◌+◌, ◌<◌, ◌≤◌, ◌^◌, List, [], length, arith, sym, ap, subst, ◌∙◌}
 use Rattle.time_table.specs.declared.row.Row.{Row}
-use Rattle.probe_core.specs.Places.{IsPlace}
 use Rattle.time_table.specs.Places.{more}
-use Rattle.time_table.specs.Totals.{last_total, row_bin}
+use Rattle.time_table.specs.Totals.{last_total}
 use Rattle.time_table.specs.Blocks.{Block, SizedBut, parts}
-use Rattle.time_table.proofs.Blocked.{held_len, Rise-heads, place_inside}
+use Rattle.time_table.proofs.Blocked.{Rise-heads, placed}
 use Rattle.time_table.proofs.Lasts.{AreLast-in_hand}
 use Rattle.time_table.proofs.Merged.{tighten_all, read_length, Held-in_hand, parts-in_hand}
 use Rattle.time_table.proofs.split.add_in.Goals as goal
@@ -14,27 +13,22 @@ place_of-place-requires g c = Rise-heads 0 0 c.args.heads.now.items c.args.block
 
 pub index-block-requires : goal.index-block-requires
 index-block-requires g c =
-    let same : length c.args.heads.now.items ≡ length c.args.blocks.now.items = held_len 0 0 c.args.heads.now.items c.args.blocks.now.items c.requires.split.held in
-    let place = subst (λ (e : ℕ). IsPlace row_bin e c.args.heads.now.items c.place_of-place.result.index) c.from.ensures c.place_of-place.ensures.place in
-    let inside : c.place_of-place.result.index < length c.args.heads.now.items = place_inside 0 0 c.place_of-place.result.index c.args.bin c.args.heads.now.items c.args.blocks.now.items c.requires.split.held place.lesser place.within (omega arith) (omega arith) in
+    let at = placed _ c.args.bin c.place_of-place.result.index c.args.heads.now.items c.args.blocks.now.items c.requires.split.held c.from.ensures c.place_of-place.ensures.place (omega arith) in
     omega arith
 
 pub add_at-requires-clause-within : goal.add_at-requires-clause-within
 add_at-requires-clause-within g c =
-    let place = subst (λ (e : ℕ). IsPlace row_bin e c.args.heads.now.items c.place_of-place.result.index) c.from.ensures c.place_of-place.ensures.place in
-    place_inside 0 0 c.place_of-place.result.index c.args.bin c.args.heads.now.items c.args.blocks.now.items c.requires.split.held place.lesser place.within (omega arith) (omega arith)
+    let at = placed _ c.args.bin c.place_of-place.result.index c.args.heads.now.items c.args.blocks.now.items c.requires.split.held c.from.ensures c.place_of-place.ensures.place (omega arith) in
+    at.inside
 
 pub add_at-requires-2-clause-within : goal.add_at-requires-2-clause-within
 add_at-requires-2-clause-within g c =
-    let place = subst (λ (e : ℕ). IsPlace row_bin e c.args.heads.now.items c.place_of-place.result.index) c.from.ensures c.place_of-place.ensures.place in
-    let inside : c.place_of-place.result.index < length c.args.heads.now.items = place_inside 0 0 c.place_of-place.result.index c.args.bin c.args.heads.now.items c.args.blocks.now.items c.requires.split.held place.lesser place.within (omega arith) (omega arith) in
-    subst (λ (hs : List Row). c.place_of-place.result.index < length hs) (sym c.reserve-2.ensures.unchanged) inside
+    let at = placed _ c.args.bin c.place_of-place.result.index c.args.heads.now.items c.args.blocks.now.items c.requires.split.held c.from.ensures c.place_of-place.ensures.place (omega arith) in
+    subst (λ (hs : List Row). c.place_of-place.result.index < length hs) (sym c.reserve-2.ensures.unchanged) at.inside
 
 pub index-block-requires-2 : goal.index-block-requires-2
 index-block-requires-2 g c =
-    let same : length c.args.heads.now.items ≡ length c.args.blocks.now.items = held_len 0 0 c.args.heads.now.items c.args.blocks.now.items c.requires.split.held in
-    let place = subst (λ (e : ℕ). IsPlace row_bin e c.args.heads.now.items c.place_of-place.result.index) c.from.ensures c.place_of-place.ensures.place in
-    let inside : c.place_of-place.result.index < length c.args.heads.now.items = place_inside 0 0 c.place_of-place.result.index c.args.bin c.args.heads.now.items c.args.blocks.now.items c.requires.split.held place.lesser place.within (omega arith) (omega arith) in
+    let at = placed _ c.args.bin c.place_of-place.result.index c.args.heads.now.items c.args.blocks.now.items c.requires.split.held c.from.ensures c.place_of-place.ensures.place (omega arith) in
     let kept : length c.reserve_block.new.blocks.items ≡ length c.args.blocks.now.items = ap length c.reserve_block.ensures.unchanged in
     omega arith
 
@@ -58,9 +52,7 @@ pub returns-then-len-lt63-clause-split : goal.returns-then-len-lt63-clause-split
 returns-then-len-lt63-clause-split g c = record {
   heads_held = c.add_at.ensures.adds.heads_held;
   sized =
-      let same : length c.args.heads.now.items ≡ length c.args.blocks.now.items = held_len 0 0 c.args.heads.now.items c.args.blocks.now.items c.requires.split.held in
-      let place = subst (λ (e : ℕ). IsPlace row_bin e c.args.heads.now.items c.place_of-place.result.index) c.from.ensures c.place_of-place.ensures.place in
-      let inside : c.place_of-place.result.index < length c.args.heads.now.items = place_inside 0 0 c.place_of-place.result.index c.args.bin c.args.heads.now.items c.args.blocks.now.items c.requires.split.held place.lesser place.within (omega arith) (omega arith) in
+      let at = placed _ c.args.bin c.place_of-place.result.index c.args.heads.now.items c.args.blocks.now.items c.requires.split.held c.from.ensures c.place_of-place.ensures.place (omega arith) in
       tighten_all c.place_of-place.result.index c.add_at.new.blocks.items c.add_at.ensures.adds.sized
       (λ (d : Block). let less = read_length c.place_of-place.result.index c.args.blocks.now.items c.index-block.result.now (omega arith) c.index-block.ensures d in
       omega (arith, less, c.add_at.ensures.adds.longer d));
@@ -74,9 +66,7 @@ pub returns-then-len-lt64-clause-split : goal.returns-then-len-lt64-clause-split
 returns-then-len-lt64-clause-split g c = record {
   heads_held = c.add_at-2.ensures.adds.heads_held;
   sized =
-      let same : length c.args.heads.now.items ≡ length c.args.blocks.now.items = held_len 0 0 c.args.heads.now.items c.args.blocks.now.items c.requires.split.held in
-      let place = subst (λ (e : ℕ). IsPlace row_bin e c.args.heads.now.items c.place_of-place.result.index) c.from.ensures c.place_of-place.ensures.place in
-      let inside : c.place_of-place.result.index < length c.args.heads.now.items = place_inside 0 0 c.place_of-place.result.index c.args.bin c.args.heads.now.items c.args.blocks.now.items c.requires.split.held place.lesser place.within (omega arith) (omega arith) in
+      let at = placed _ c.args.bin c.place_of-place.result.index c.args.heads.now.items c.args.blocks.now.items c.requires.split.held c.from.ensures c.place_of-place.ensures.place (omega arith) in
       let kept : length c.reserve_block.new.blocks.items ≡ length c.args.blocks.now.items = ap length c.reserve_block.ensures.unchanged in
       tighten_all c.place_of-place.result.index c.add_at-2.new.blocks.items c.add_at-2.ensures.adds.sized
       (λ (d : Block). let less = read_length c.place_of-place.result.index c.add_at-2.new.blocks.items c.index-block-2.result.now (omega arith) c.index-block-2.ensures d in
@@ -91,9 +81,7 @@ returns-then-len-lt64-clause-split g c = record {
 pub settle-requires-clause-hand : goal.settle-requires-clause-hand
 settle-requires-clause-hand g c = record {
   within =
-      let same : length c.args.heads.now.items ≡ length c.args.blocks.now.items = held_len 0 0 c.args.heads.now.items c.args.blocks.now.items c.requires.split.held in
-      let place = subst (λ (e : ℕ). IsPlace row_bin e c.args.heads.now.items c.place_of-place.result.index) c.from.ensures c.place_of-place.ensures.place in
-      let inside : c.place_of-place.result.index < length c.args.heads.now.items = place_inside 0 0 c.place_of-place.result.index c.args.bin c.args.heads.now.items c.args.blocks.now.items c.requires.split.held place.lesser place.within (omega arith) (omega arith) in
+      let at = placed _ c.args.bin c.place_of-place.result.index c.args.heads.now.items c.args.blocks.now.items c.requires.split.held c.from.ensures c.place_of-place.ensures.place (omega arith) in
       let kept : length c.reserve_block.new.blocks.items ≡ length c.args.blocks.now.items = ap length c.reserve_block.ensures.unchanged in
       omega arith;
   sized =

@@ -1,12 +1,10 @@
-use Rattle.std.proofs.Common.{ℕ, ◌≡◌, ◌<◌, ◌≤◌, List, length, set, arith, refl, sym, subst}
+use Rattle.std.proofs.Common.{◌≡◌, ◌<◌, ◌≤◌, List, length, set, arith, refl, sym, subst}
 use Rattle.time_table.specs.declared.row.Row.{Row}
 use Rattle.time_table.specs.Totals.{Rise, counts_from, last_total, lowered}
-use Rattle.probe_core.specs.Places.{IsPlace}
 use Rattle.time_table.specs.Places.{count_at}
-use Rattle.time_table.specs.Totals.{row_bin}
 use Rattle.time_table.specs.Blocks.{Held, AreLastBut, parts}
 use Rattle.time_table.proofs.Taking.{last_total-taken}
-use Rattle.time_table.proofs.Blocked.{held_len, Rise-heads, Rise-at, place_inside, count_in, lower_fits, Held-taken, parts-taken, total-taken_from, set_within}
+use Rattle.time_table.proofs.Blocked.{Rise-heads, Rise-at, placed, count_in, lower_fits, Held-taken, parts-taken, total-taken_from, set_within}
 use Rattle.time_table.proofs.Lasts.{AreLast-changed, length-mapped_from}
 use Rattle.time_table.proofs.Merged.{sized_at, SizedBut-set, taken_loose}
 use Rattle.time_table.proofs.split.take_at.Goals as goal
@@ -16,69 +14,57 @@ place_of-place-requires g c = Rise-heads 0 0 c.args.heads.now.items c.args.block
 
 pub index_mut-block-requires : goal.index_mut-block-requires
 index_mut-block-requires g c =
-    let same : length c.args.heads.now.items ≡ length c.args.blocks.now.items = held_len 0 0 c.args.heads.now.items c.args.blocks.now.items c.requires.split.held in
-    let place = subst (λ (e : ℕ). IsPlace row_bin e c.args.heads.now.items c.place_of-place.result.index) c.from.ensures c.place_of-place.ensures.place in
-    let inside : c.place_of-place.result.index < length c.args.heads.now.items = place_inside 0 0 c.place_of-place.result.index c.args.bin c.args.heads.now.items c.args.blocks.now.items c.requires.split.held place.lesser place.within (omega arith) (omega arith) in
+    let at = placed _ c.args.bin c.place_of-place.result.index c.args.heads.now.items c.args.blocks.now.items c.requires.split.held c.from.ensures c.place_of-place.ensures.place (omega arith) in
     omega arith
 
 pub take_record-requires-clause-rise : goal.take_record-requires-clause-rise
 take_record-requires-clause-rise g c =
-    let place = subst (λ (e : ℕ). IsPlace row_bin e c.args.heads.now.items c.place_of-place.result.index) c.from.ensures c.place_of-place.ensures.place in
-    let inside : c.place_of-place.result.index < length c.args.heads.now.items = place_inside 0 0 c.place_of-place.result.index c.args.bin c.args.heads.now.items c.args.blocks.now.items c.requires.split.held place.lesser place.within (omega arith) (omega arith) in
-    Rise-at 0 0 c.place_of-place.result.index c.args.heads.now.items c.args.blocks.now.items c.index_mut-block.result.now c.requires.split.held inside c.index_mut-block.ensures.value
+    let at = placed _ c.args.bin c.place_of-place.result.index c.args.heads.now.items c.args.blocks.now.items c.requires.split.held c.from.ensures c.place_of-place.ensures.place (omega arith) in
+    Rise-at 0 0 c.place_of-place.result.index c.args.heads.now.items c.args.blocks.now.items c.index_mut-block.result.now c.requires.split.held at.inside c.index_mut-block.ensures.value
 
 pub take_record-requires-clause-there : goal.take_record-requires-clause-there
 take_record-requires-clause-there g c =
-    let place = subst (λ (e : ℕ). IsPlace row_bin e c.args.heads.now.items c.place_of-place.result.index) c.from.ensures c.place_of-place.ensures.place in
-    let inside : c.place_of-place.result.index < length c.args.heads.now.items = place_inside 0 0 c.place_of-place.result.index c.args.bin c.args.heads.now.items c.args.blocks.now.items c.requires.split.held place.lesser place.within (omega arith) (omega arith) in
-    let count : count_at c.args.bin (parts c.args.blocks.now.items) ≡ count_at c.args.bin (counts_from 0 c.index_mut-block.result.now.items) = count_in 0 0 c.args.bin c.place_of-place.result.index c.args.heads.now.items c.args.blocks.now.items c.index_mut-block.result.now c.requires.split.held place.lesser place.others inside c.index_mut-block.ensures.value in
+    let at = placed _ c.args.bin c.place_of-place.result.index c.args.heads.now.items c.args.blocks.now.items c.requires.split.held c.from.ensures c.place_of-place.ensures.place (omega arith) in
+    let count : count_at c.args.bin (parts c.args.blocks.now.items) ≡ count_at c.args.bin (counts_from 0 c.index_mut-block.result.now.items) = count_in 0 0 c.args.bin c.place_of-place.result.index c.args.heads.now.items c.args.blocks.now.items c.index_mut-block.result.now c.requires.split.held at.lesser at.others at.inside c.index_mut-block.ensures.value in
     subst (λ k. c.args.amount ≤ k) count c.requires.there
 
 pub lower-requires-clause-some : goal.lower-requires-clause-some
 lower-requires-clause-some g c =
-    let place = subst (λ (e : ℕ). IsPlace row_bin e c.args.heads.now.items c.place_of-place.result.index) c.from.ensures c.place_of-place.ensures.place in
-    let inside : c.place_of-place.result.index < length c.args.heads.now.items = place_inside 0 0 c.place_of-place.result.index c.args.bin c.args.heads.now.items c.args.blocks.now.items c.requires.split.held place.lesser place.within (omega arith) (omega arith) in
-    let count : count_at c.args.bin (parts c.args.blocks.now.items) ≡ count_at c.args.bin (counts_from 0 c.index_mut-block.result.now.items) = count_in 0 0 c.args.bin c.place_of-place.result.index c.args.heads.now.items c.args.blocks.now.items c.index_mut-block.result.now c.requires.split.held place.lesser place.others inside c.index_mut-block.ensures.value in
+    let at = placed _ c.args.bin c.place_of-place.result.index c.args.heads.now.items c.args.blocks.now.items c.requires.split.held c.from.ensures c.place_of-place.ensures.place (omega arith) in
+    let count : count_at c.args.bin (parts c.args.blocks.now.items) ≡ count_at c.args.bin (counts_from 0 c.index_mut-block.result.now.items) = count_in 0 0 c.args.bin c.place_of-place.result.index c.args.heads.now.items c.args.blocks.now.items c.index_mut-block.result.now c.requires.split.held at.lesser at.others at.inside c.index_mut-block.ensures.value in
     let there : c.args.amount ≤ count_at c.args.bin (counts_from 0 c.index_mut-block.result.now.items) = subst (λ k. c.args.amount ≤ k) count c.requires.there in
-    let rise : Rise 0 0 c.index_mut-block.result.now.items = Rise-at 0 0 c.place_of-place.result.index c.args.heads.now.items c.args.blocks.now.items c.index_mut-block.result.now c.requires.split.held inside c.index_mut-block.ensures.value in
-    lower_fits 0 0 c.args.amount c.place_of-place.result.index c.args.heads.now.items c.args.blocks.now.items c.index_mut-block.result.now c.requires.split.held inside c.index_mut-block.ensures.value
+    let rise : Rise 0 0 c.index_mut-block.result.now.items = Rise-at 0 0 c.place_of-place.result.index c.args.heads.now.items c.args.blocks.now.items c.index_mut-block.result.now c.requires.split.held at.inside c.index_mut-block.ensures.value in
+    lower_fits 0 0 c.args.amount c.place_of-place.result.index c.args.heads.now.items c.args.blocks.now.items c.index_mut-block.result.now c.requires.split.held at.inside c.index_mut-block.ensures.value
     (omega (arith, last_total-taken 0 0 c.args.bin c.args.amount c.index_mut-block.result.now.items rise c.requires.some there))
 
 pub returns-clause-within : goal.returns-clause-within
 returns-clause-within g c =
-    let same : length c.args.heads.now.items ≡ length c.args.blocks.now.items = held_len 0 0 c.args.heads.now.items c.args.blocks.now.items c.requires.split.held in
-    let place = subst (λ (e : ℕ). IsPlace row_bin e c.args.heads.now.items c.place_of-place.result.index) c.from.ensures c.place_of-place.ensures.place in
-    let inside : c.place_of-place.result.index < length c.args.heads.now.items = place_inside 0 0 c.place_of-place.result.index c.args.bin c.args.heads.now.items c.args.blocks.now.items c.requires.split.held place.lesser place.within (omega arith) (omega arith) in
+    let at = placed _ c.args.bin c.place_of-place.result.index c.args.heads.now.items c.args.blocks.now.items c.requires.split.held c.from.ensures c.place_of-place.ensures.place (omega arith) in
     set_within c.place_of-place.result.index c.args.blocks.now.items c.take_record.new.rows (omega arith)
 
 pub fit_head-requires-clause-held : goal.fit_head-requires-clause-held
 fit_head-requires-clause-held g c =
-    let same : length c.args.heads.now.items ≡ length c.args.blocks.now.items = held_len 0 0 c.args.heads.now.items c.args.blocks.now.items c.requires.split.held in
-    let place = subst (λ (e : ℕ). IsPlace row_bin e c.args.heads.now.items c.place_of-place.result.index) c.from.ensures c.place_of-place.ensures.place in
-    let inside : c.place_of-place.result.index < length c.args.heads.now.items = place_inside 0 0 c.place_of-place.result.index c.args.bin c.args.heads.now.items c.args.blocks.now.items c.requires.split.held place.lesser place.within (omega arith) (omega arith) in
+    let at = placed _ c.args.bin c.place_of-place.result.index c.args.heads.now.items c.args.blocks.now.items c.requires.split.held c.from.ensures c.place_of-place.ensures.place (omega arith) in
     let sized = sized_at c.place_of-place.result.index c.args.blocks.now.items c.index_mut-block.result.now c.requires.split.sized (omega arith) c.index_mut-block.ensures.value in
-    let count : count_at c.args.bin (parts c.args.blocks.now.items) ≡ count_at c.args.bin (counts_from 0 c.index_mut-block.result.now.items) = count_in 0 0 c.args.bin c.place_of-place.result.index c.args.heads.now.items c.args.blocks.now.items c.index_mut-block.result.now c.requires.split.held place.lesser place.others inside c.index_mut-block.ensures.value in
+    let count : count_at c.args.bin (parts c.args.blocks.now.items) ≡ count_at c.args.bin (counts_from 0 c.index_mut-block.result.now.items) = count_in 0 0 c.args.bin c.place_of-place.result.index c.args.heads.now.items c.args.blocks.now.items c.index_mut-block.result.now c.requires.split.held at.lesser at.others at.inside c.index_mut-block.ensures.value in
     let there : c.args.amount ≤ count_at c.args.bin (counts_from 0 c.index_mut-block.result.now.items) = subst (λ k. c.args.amount ≤ k) count c.requires.there in
     subst (λ (hs : List Row). Held 0 0 hs (set c.args.blocks.now.items c.place_of-place.result.index c.take_record.new.rows)) (sym c.lower.ensures.lowered)
-    (Held-taken 0 0 c.args.bin c.args.amount c.place_of-place.result.index c.args.heads.now.items c.args.blocks.now.items c.index_mut-block.result.now c.take_record.new.rows c.requires.split.held place.lesser inside c.index_mut-block.ensures.value c.take_record.ensures.taken c.requires.some there (omega (arith, sized.least)))
+    (Held-taken 0 0 c.args.bin c.args.amount c.place_of-place.result.index c.args.heads.now.items c.args.blocks.now.items c.index_mut-block.result.now c.take_record.new.rows c.requires.split.held at.lesser at.inside c.index_mut-block.ensures.value c.take_record.ensures.taken c.requires.some there (omega (arith, sized.least)))
 
 pub returns-clause-parts : goal.returns-clause-parts
 returns-clause-parts g c =
-    let place = subst (λ (e : ℕ). IsPlace row_bin e c.args.heads.now.items c.place_of-place.result.index) c.from.ensures c.place_of-place.ensures.place in
-    let inside : c.place_of-place.result.index < length c.args.heads.now.items = place_inside 0 0 c.place_of-place.result.index c.args.bin c.args.heads.now.items c.args.blocks.now.items c.requires.split.held place.lesser place.within (omega arith) (omega arith) in
-    let count : count_at c.args.bin (parts c.args.blocks.now.items) ≡ count_at c.args.bin (counts_from 0 c.index_mut-block.result.now.items) = count_in 0 0 c.args.bin c.place_of-place.result.index c.args.heads.now.items c.args.blocks.now.items c.index_mut-block.result.now c.requires.split.held place.lesser place.others inside c.index_mut-block.ensures.value in
+    let at = placed _ c.args.bin c.place_of-place.result.index c.args.heads.now.items c.args.blocks.now.items c.requires.split.held c.from.ensures c.place_of-place.ensures.place (omega arith) in
+    let count : count_at c.args.bin (parts c.args.blocks.now.items) ≡ count_at c.args.bin (counts_from 0 c.index_mut-block.result.now.items) = count_in 0 0 c.args.bin c.place_of-place.result.index c.args.heads.now.items c.args.blocks.now.items c.index_mut-block.result.now c.requires.split.held at.lesser at.others at.inside c.index_mut-block.ensures.value in
     let there : c.args.amount ≤ count_at c.args.bin (counts_from 0 c.index_mut-block.result.now.items) = subst (λ k. c.args.amount ≤ k) count c.requires.there in
-    parts-taken 0 0 c.args.bin c.args.amount c.place_of-place.result.index c.args.heads.now.items c.args.blocks.now.items c.index_mut-block.result.now c.take_record.new.rows c.requires.split.held place.lesser place.others inside c.index_mut-block.ensures.value c.take_record.ensures.taken c.requires.some there
+    parts-taken 0 0 c.args.bin c.args.amount c.place_of-place.result.index c.args.heads.now.items c.args.blocks.now.items c.index_mut-block.result.now c.take_record.new.rows c.requires.split.held at.lesser at.others at.inside c.index_mut-block.ensures.value c.take_record.ensures.taken c.requires.some there
 
 pub returns-clause-sized : goal.returns-clause-sized
 returns-clause-sized g c =
-    let same : length c.args.heads.now.items ≡ length c.args.blocks.now.items = held_len 0 0 c.args.heads.now.items c.args.blocks.now.items c.requires.split.held in
-    let place = subst (λ (e : ℕ). IsPlace row_bin e c.args.heads.now.items c.place_of-place.result.index) c.from.ensures c.place_of-place.ensures.place in
-    let inside : c.place_of-place.result.index < length c.args.heads.now.items = place_inside 0 0 c.place_of-place.result.index c.args.bin c.args.heads.now.items c.args.blocks.now.items c.requires.split.held place.lesser place.within (omega arith) (omega arith) in
+    let at = placed _ c.args.bin c.place_of-place.result.index c.args.heads.now.items c.args.blocks.now.items c.requires.split.held c.from.ensures c.place_of-place.ensures.place (omega arith) in
     let sized = sized_at c.place_of-place.result.index c.args.blocks.now.items c.index_mut-block.result.now c.requires.split.sized (omega arith) c.index_mut-block.ensures.value in
-    let count : count_at c.args.bin (parts c.args.blocks.now.items) ≡ count_at c.args.bin (counts_from 0 c.index_mut-block.result.now.items) = count_in 0 0 c.args.bin c.place_of-place.result.index c.args.heads.now.items c.args.blocks.now.items c.index_mut-block.result.now c.requires.split.held place.lesser place.others inside c.index_mut-block.ensures.value in
+    let count : count_at c.args.bin (parts c.args.blocks.now.items) ≡ count_at c.args.bin (counts_from 0 c.index_mut-block.result.now.items) = count_in 0 0 c.args.bin c.place_of-place.result.index c.args.heads.now.items c.args.blocks.now.items c.index_mut-block.result.now c.requires.split.held at.lesser at.others at.inside c.index_mut-block.ensures.value in
     let there : c.args.amount ≤ count_at c.args.bin (counts_from 0 c.index_mut-block.result.now.items) = subst (λ k. c.args.amount ≤ k) count c.requires.there in
-    let rise : Rise 0 0 c.index_mut-block.result.now.items = Rise-at 0 0 c.place_of-place.result.index c.args.heads.now.items c.args.blocks.now.items c.index_mut-block.result.now c.requires.split.held inside c.index_mut-block.ensures.value in
+    let rise : Rise 0 0 c.index_mut-block.result.now.items = Rise-at 0 0 c.place_of-place.result.index c.args.heads.now.items c.args.blocks.now.items c.index_mut-block.result.now c.requires.split.held at.inside c.index_mut-block.ensures.value in
     SizedBut-set 63 c.place_of-place.result.index c.args.blocks.now.items c.take_record.new.rows c.requires.split.sized (omega arith) (taken_loose c.args.bin c.args.amount c.index_mut-block.result.now c.take_record.new.rows sized rise c.requires.some there c.take_record.ensures.taken c.take_record.ensures.room)
 
 pub fit_head-requires-clause-last : goal.fit_head-requires-clause-last
@@ -88,9 +74,7 @@ fit_head-requires-clause-last g c =
 
 pub fit_head-requires-clause-within : goal.fit_head-requires-clause-within
 fit_head-requires-clause-within g c =
-    let same : length c.args.heads.now.items ≡ length c.args.blocks.now.items = held_len 0 0 c.args.heads.now.items c.args.blocks.now.items c.requires.split.held in
-    let place = subst (λ (e : ℕ). IsPlace row_bin e c.args.heads.now.items c.place_of-place.result.index) c.from.ensures c.place_of-place.ensures.place in
-    let inside : c.place_of-place.result.index < length c.args.heads.now.items = place_inside 0 0 c.place_of-place.result.index c.args.bin c.args.heads.now.items c.args.blocks.now.items c.requires.split.held place.lesser place.within (omega arith) (omega arith) in
+    let at = placed _ c.args.bin c.place_of-place.result.index c.args.heads.now.items c.args.blocks.now.items c.requires.split.held c.from.ensures c.place_of-place.ensures.place (omega arith) in
     subst (λ (hs : List Row). c.place_of-place.result.index < length hs) (sym c.lower.ensures.lowered) (omega (arith, length-mapped_from (lowered c.args.amount) c.place_of-place.result.index c.args.heads.now.items))
 
 pub returns-clause-total : goal.returns-clause-total
