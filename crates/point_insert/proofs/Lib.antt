@@ -5,6 +5,7 @@ pub mod Filling
 pub mod Light
 pub mod Spending
 pub mod Totals
+pub mod Updating
 pub mod Visiting
 pub mod Visits
 pub mod Whole

@@ -1,16 +1,17 @@
 //! The contents to which a point was added.
-ghost use Rattle.std.specs.Prelude.{◌≡◌, ◌↔◌, [], ◌∷◌, ◌++◌, Contains, IsTrue, IfOk, OnOk, OnErr};
+ghost use Rattle.std.specs.Prelude.{◌≡◌, ◌↔◌, [], Contains, IsTrue, IfOk, OnOk, OnErr};
 ghost use Rattle.proper_path.specs.Midway.{IsJoined};
 
 use node_arena::SlotId;
 use outer_io::NoMemory;
 use std::alloc::Global;
+use std::collections::HashSet;
 use std::marker::Model;
 
 /// A set of slots, which contracts see as a list of their places.
 #[derive(Drop)]
 pub struct Updated {
-    places: Vec<u32>,
+    places: HashSet<u32>,
 }
 
 impl Model for Updated {
@@ -18,7 +19,7 @@ impl Model for Updated {
 
     ghost Value = { List ℕ };
 
-    ghost view = { λ u. u.places.items };
+    ghost view = { λ u. u.places.keys };
 }
 
 impl Updated {
@@ -26,7 +27,7 @@ impl Updated {
     pub fn with_room(alloc: Global, n: usize) -> Result<Updated, NoMemory>
         ensures { IfOk result (λ updated. updated ≡ []) }
     {
-        match Vec::with_capacity(alloc, n) {
+        match HashSet::with_capacity(alloc, n) {
             Ok(places) => Ok(Updated { places }),
             Err(_) => Err(NoMemory),
         }
@@ -44,8 +45,8 @@ impl Updated {
         ensures joined { OnOk result (IsJoined self.old id.0 self.new) }
         ensures unchanged { OnErr result (self.new ≡ self.old) }
     {
-        match self.places.push(id.0) {
-            Ok(()) => Ok(()),
+        match self.places.insert(id.0) {
+            Ok(_) => Ok(()),
             Err(_) => Err(NoMemory),
         }
     }
