@@ -2,6 +2,7 @@
 use Rattle.std.proofs.Common.{◌≡◌, ℕ, zero, suc, ◌<◌, true, ◌↔◌, IsTrue, List, [], ◌∷◌, length, Some, None, Contains, refl, sym, ap, ◌∙◌, subst, arith, true≢false}
 use Rattle.std.proofs.lemmas.List.Elements.{All-nil}
 use Rattle.cube_view.specs.Places.{time_dim}
+use Rattle.cube_view.specs.Points.{spot_of}
 use Rattle.cube_view.specs.Validity.{sound}
 use Rattle.cube_view.specs.Walks.{Step, down, SpotPath, dimension}
 use Rattle.cube_view.specs.declared.schema.Schema.{Schema}
@@ -70,5 +71,6 @@ counts_none z slots root e top = record {
   shape = subst (λ s. HasShape (time_dim z) s ([] ∷ []) []) (sym e) (empty_shape (time_dim z) (omega arith) (zeros (time_dim z)) (length-zeros (time_dim z)));
   at_top = top;
   all_sound = All-nil (λ p. IsTrue (sound z p));
+  all_four = All-nil (λ p. length (spot_of p).values ≡ 4);
   number = refl;
 }

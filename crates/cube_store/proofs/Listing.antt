@@ -1,12 +1,13 @@
 -- Lists of points that a cube counts: in any order, and of few points.
 use Rattle.std.proofs.Common.{◌≡◌, ℕ, suc, ◌+◌, ◌*◌, ◌<◌, ◌≤◌, ◌^◌, cond, ◌&&◌, eqb, IsTrue, All, List, [], ◌∷◌, ◌++◌, length, Contains, sym, ap, ◌∙◌, subst, arith, ◌⊎◌, inl, inr}
-use Rattle.std.proofs.Math.Logic.{∥∥₁_map}
+use Rattle.std.proofs.Math.Logic.{∥∥₁_elim, ∥∥₁_map}
+use Rattle.std.proofs.Math.Nat.{ℕ_set}
 use Rattle.std.proofs.lemmas.List.{map-append, length_push}
 use Rattle.std.proofs.lemmas.List.Elements.{Contains-append_left, Contains-push, Contains-push_cases, All-push}
 use Rattle.std.proofs.lemmas.List.Sums.{sum_by-cons, sum_by_push}
 use Rattle.cube_view.specs.Bag.{most_points}
 use Rattle.cube_view.specs.Places.{time_dim}
-use Rattle.cube_view.specs.Points.{Point, heaviest}
+use Rattle.cube_view.specs.Points.{Point, spot_of, heaviest}
 use Rattle.cube_view.specs.Validity.{sound}
 use Rattle.cube_view.specs.Walks.{Walk, SpotPath, under}
 use Rattle.cube_view.specs.declared.schema.Schema.{Schema}
@@ -101,17 +102,22 @@ pub can_insert : (z : Schema) (p : Point) (slots : List Slot) (root size : ℕ) 
 can_insert z p slots root size is few R = ∥∥₁_map R (λ C. record { homes = C.1.homes; points = paths_of z C.0; known = insertable z p slots root size C.0 is few C.1 })
 
 -- after an insertion the list with the point at its end is counted
-pub counts_joined : (z : Schema) (p : Point) (old new : List Slot) (root size : ℕ) (h : List Point) → IsTrue (sound z p) → size < most_points → Inserts (time_dim z) (point_path z p) old new → CountsPoints z old root size h → CountsPoints z new root (size + 1) (h ++ p ∷ [])
-counts_joined z p old new root size h is few I C = record {
+pub counts_joined : (z : Schema) (p : Point) (old new : List Slot) (root size : ℕ) (h : List Point) → IsTrue (sound z p) → length (spot_of p).values ≡ 4 → size < most_points → Inserts (time_dim z) (point_path z p) old new → CountsPoints z old root size h → CountsPoints z new root (size + 1) (h ++ p ∷ [])
+counts_joined z p old new root size h is four few I C = record {
   homes = r.homes;
   shape = subst (HasShape (time_dim z) new r.homes) (sym (map-append (λ (x : Point). point_path z x) h (p ∷ []))) (shape_moved (time_dim z) new r.homes (paths_of z h) (point_path z p) r.shape);
   at_top = C.at_top;
   all_sound = All-push (λ x. IsTrue (sound z x)) h p C.all_sound is;
+  all_four = All-push (λ x. length (spot_of x).values ≡ 4) h p C.all_four four;
   number = let n = C.number in let m = length_push h p in omega (arith, n, m);
 }
   where
     r : HasInserted (time_dim z) (point_path z p ∷ paths_of z h) new
     r = I C.homes (paths_of z h) (insertable z p old root size h is few C)
 
-pub has_more : (z : Schema) (p : Point) (old new : List Slot) (root size : ℕ) → IsTrue (sound z p) → size < most_points → Inserts (time_dim z) (point_path z p) old new → HasPoints z old root size → HasPoints z new root (size + 1)
-has_more z p old new root size is few I R = ∥∥₁_map R (λ C. (C.0 ++ p ∷ [], counts_joined z p old new root size C.0 is few I C.1))
+pub has_more : (z : Schema) (p : Point) (old new : List Slot) (root size : ℕ) → IsTrue (sound z p) → length (spot_of p).values ≡ 4 → size < most_points → Inserts (time_dim z) (point_path z p) old new → HasPoints z old root size → HasPoints z new root (size + 1)
+has_more z p old new root size is four few I R = ∥∥₁_map R (λ C. (C.0 ++ p ∷ [], counts_joined z p old new root size C.0 is four few I C.1))
+
+-- the root of a cube is its first slot
+pub root_of_points : (z : Schema) (slots : List Slot) (root size : ℕ) → HasPoints z slots root size → root ≡ 0
+root_of_points z slots root size has = ∥∥₁_elim has (ℕ_set _ _) (λ C. C.1.at_top)

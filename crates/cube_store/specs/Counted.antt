@@ -1,7 +1,7 @@
 -- Which lists of points a cube counts.
 use Rattle.std.specs.Prelude.{◌≡◌, ℕ, IsTrue, List, All, length, map}
 use Rattle.cube_view.specs.Places.{time_dim}
-use Rattle.cube_view.specs.Points.{Point}
+use Rattle.cube_view.specs.Points.{Point, spot_of}
 use Rattle.cube_view.specs.Validity.{sound}
 use Rattle.cube_view.specs.Walks.{Walk}
 use Rattle.cube_view.specs.declared.schema.Schema.{Schema}
@@ -21,8 +21,9 @@ pub record CountsPoints (schema : Schema) (slots : List Slot) (root size : ℕ) 
   pub shape : HasShape (time_dim schema) slots homes (paths_of schema h)
   -- the root is the first slot
   pub at_top : root ≡ 0
-  -- each point is sound for the schema, and there are as many as the size says
+  -- each point is sound for the schema and has four values, and there are as many as the size says
   pub all_sound : All (λ p. IsTrue (sound schema p)) h
+  pub all_four : All (λ p. length (spot_of p).values ≡ 4) h
   pub number : size ≡ length h
 
 -- some list is counted

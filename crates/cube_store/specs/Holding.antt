@@ -1,9 +1,16 @@
--- Which lists of points the cube's type holds.
+-- What a cube counts, and what its calls cost, said of the list that it counts.
 use Rattle.std.specs.Prelude.{List}
+use Rattle.cube_view.specs.Bag.{EachCounted}
 use Rattle.cube_view.specs.Points.{Point}
+use Rattle.cube_store.specs.BagCosts.{AreBagCosts}
 use Rattle.cube_store.specs.Counted.{CountsPoints}
+use Rattle.cube_store.specs.Reading.{spot_weight, cube_costs}
 use Rattle.cube_store.specs.declared.cube.Cube.{Cube}
 
 -- the cube counts the points of the list
 abbrev pub CubeCounts : Cube → List Point → Type 0
 CubeCounts cube h = CountsPoints cube.schema cube.arena cube.root.0 cube.size h
+
+-- the costs of a cube are numbers of each list that its bag counts
+abbrev pub TellsCosts : Type 0
+TellsCosts = (cube : Cube) → EachCounted (spot_weight cube.schema cube.arena) cube.size (AreBagCosts cube.schema (cube_costs cube.arena))

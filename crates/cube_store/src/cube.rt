@@ -1,6 +1,6 @@
 //! The cube, and how it takes a point.
-ghost use Rattle.std.specs.Prelude.{◌≡◌, ◌+◌, ◌*◌, ◌<◌, ◌≤◌, [], ◌∷◌, ◌++◌, List, IsTrue, IfOk, IfErr, OnOk, OnErr};
-ghost use Rattle.cube_view.specs.Bag.{most_points};
+ghost use Rattle.std.specs.Prelude.{◌≡◌, ◌+◌, ◌*◌, ◌<◌, ◌≤◌, [], ◌∷◌, ◌++◌, List, length, IsTrue, IfOk, IfErr, OnOk, OnErr};
+ghost use Rattle.cube_view.specs.Bag.{most_points, IsBag};
 ghost use Rattle.cube_view.specs.Places.{time_dim};
 ghost use Rattle.cube_view.specs.Points.{Point as Counted};
 ghost use Rattle.cube_view.specs.Validity.{sound};
@@ -9,33 +9,40 @@ ghost use Rattle.point_insert.specs.Room.{visits};
 ghost use Rattle.proper_path.specs.Paths.{point_path};
 ghost use Rattle.cube_store.specs.Counted.{HasPoints};
 ghost use Rattle.cube_store.specs.Inserting.{CanInsert, Inserts};
+ghost use Rattle.cube_store.specs.Numbers.{cube_numbers, OwnsAllButRoot};
+ghost use Rattle.cube_store.specs.Reading.{spot_weight};
 
 use arena_undo::Work;
-use cube_view::{Point, Schema};
+use cube_view::{CubeView, Point, Schema};
 use node_arena::{Arena, SlotId};
 use outer_io::NoMemory;
 use point_insert::{Updated, add, insert_room};
 use std::alloc::Global;
 use std::mem::replace;
 
-/// Points of a schema, at most 2^35, as an arena of nodes and time tables that counts them.
+/// Points of a schema, at most 2^35, as an arena of nodes and time tables that counts them. What they weigh together is
+/// at least their number and at most so many of the heaviest, and each slot but the root has one proper link to it.
 #[derive(Drop)]
 pub struct Cube {
     pub schema: Schema,
     pub arena: Arena,
     pub root: SlotId,
     pub size: u64,
+    alloc: Global,
     ghost counted: { HasPoints schema arena root.0 size },
-    ghost few: { size ≤ most_points },
+    ghost bag: { IsBag (spot_weight schema arena) size },
+    ghost owned: { OwnsAllButRoot (cube_numbers arena) },
 }
 
 impl Cube {
+    ghost use Rattle.cube_view.specs.Bag.{Counts};
     ghost use Rattle.cube_store.specs.Holding.{CubeCounts};
 
     /// A cube of no points: one root.
     pub fn new(alloc: Global, schema: Schema) -> Result<Cube, NoMemory>
         ensures schema { IfOk result (λ cube. cube.schema ≡ schema) }
         ensures empty { IfOk result (λ cube. CubeCounts cube []) }
+        ensures counted { IfOk result (λ cube. Counts (⟦<Cube as CubeView>⟧.weight_at cube) (⟦<Cube as CubeView>⟧.seen cube) []) }
     {
         let mut arena = Arena::new(alloc);
         let root = arena.add_node()?;
@@ -44,19 +51,21 @@ impl Cube {
             arena,
             root,
             size: 0,
+            alloc,
         })
     }
 
     /// Adds a sound point. After want of memory the arena, the root and the size are as before.
-    pub fn insert(&mut self, alloc: Global, point: Point) -> Result<(), NoMemory>
+    pub fn insert(&mut self, point: Point) -> Result<(), NoMemory>
         requires sound { IsTrue (sound self.old.schema point) }
         requires room { self.old.size < most_points }
         ensures counted { (h : List Counted) → CubeCounts self.old h → OnOk result (CubeCounts self.new (h ++ point ∷ [])) }
         ensures unchanged { OnErr result ((self.new.arena ≡ self.old.arena) × (self.new.root ≡ self.old.root) × (self.new.size ≡ self.old.size)) }
         ensures schema { self.new.schema ≡ self.old.schema }
     {
-        let arena = replace(&mut self.arena, Arena::new(alloc));
-        match insert_into(alloc, arena, &self.schema, &point, self.root) {
+        tell_length(&point.spot.values);
+        let arena = replace(&mut self.arena, Arena::new(self.alloc));
+        match insert_into(self.alloc, arena, &self.schema, &point, self.root) {
             Ok(arena) => {
                 self.arena = arena;
                 self.size += 1;
@@ -69,6 +78,11 @@ impl Cube {
         }
     }
 }
+
+/// Contracts learn that a spot has four values. It does nothing when run.
+fn tell_length(values: &[u8; 4])
+    ensures { length values.now ≡ 4 }
+{}
 
 /// The arena with the point, or the arena as it was where memory is wanted.
 fn insert_into(

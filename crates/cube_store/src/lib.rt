@@ -8,13 +8,17 @@
 //!
 //! ```text
 //! let mut cube = Cube::new(alloc, schema)?;
-//! cube.insert(alloc, point)?;
+//! cube.insert(point)?;
 //! cube.arena.stat()      // nodes + tables = proper + 1
 //! ```
 #![tactic(auto)]
 
 mod cube;
+mod laws;
 #[cfg(test)]
 mod tests;
+mod view;
 
 pub use cube::Cube;
+pub use laws::cost_laws;
+pub use view::CubeCursor;

@@ -19,7 +19,7 @@ fn check(rt: &impl Abort, alloc: Global, schema: Schema, steps: &[Added]) -> Res
     for added in steps {
         assert!(rt; is_sound(&cube.schema, &added.point));
         assert!(rt; cube.size < 1 << 35);
-        cube.insert(alloc, added.point)?;
+        cube.insert(added.point)?;
         let [nodes, proper, shared, tables] = added.stat;
         let want = Stat {
             nodes,

@@ -1,0 +1,144 @@
+//! The cube as its readers see it: cursors go along the links of the arena.
+ghost use Rattle.std.specs.Prelude.{◌≡◌, ◌≢◌, ◌<◌};
+ghost use Rattle.cube_view.specs.Places.{deepest, longer as longer_address, next_dim as next_address, time_dim, IsAddress};
+
+use crate::cube::Cube;
+use cube_view::{Address, CubeView, Grow, Point, Schema, Stat, Tile, quadrant};
+use node_arena::SlotId;
+use outer_io::NoMemory;
+use probe_core::Steps;
+use std::sync::ledger::Ledger;
+
+/// Where a walk stands in a cube: at a slot, and at an address, since a shared slot has many.
+#[derive(Clone, Copy)]
+pub struct CubeCursor {
+    slot: SlotId,
+    address: Address,
+}
+
+impl CubeView for Cube {
+    ghost use Rattle.cube_store.specs.Numbers.{cube_numbers, OwnsAllButRoot};
+    ghost use Rattle.cube_store.specs.Reading.{StandsAt, spot_weight, cube_costs};
+
+    type Cursor = CubeCursor;
+
+    ghost weight_at = { λ c. spot_weight c.schema c.arena };
+
+    ghost seen = { λ c. c.size };
+
+    ghost schema = { λ c. c.schema };
+
+    ghost stands = { λ c d. StandsAt c.schema c.arena d.slot.0 d.address };
+
+    ghost address = { λ c d. d.address };
+
+    ghost costs = { λ c. cube_costs c.arena };
+
+    ghost numbers = { λ c. cube_numbers c.arena };
+
+    ghost is_stat = { OwnsAllButRoot };
+
+    ghost bag = { λ c. c.bag };
+
+    ghost structure = { λ c. c.owned };
+
+    fn schema(&self) -> &Schema {
+        &self.schema
+    }
+
+    fn seen(&self) -> u64 {
+        self.size
+    }
+
+    fn top(&self) -> CubeCursor {
+        let address = Address {
+            dim: 1,
+            level: 0,
+            tile: Tile { z: 0, x: 0, y: 0 },
+            values: [None; 4],
+        };
+        CubeCursor {
+            slot: self.root,
+            address,
+        }
+    }
+
+    fn stat(&self) -> Stat {
+        // The number of slots is one of 64 bits: contracts learn it where they are counted.
+        let _slots = self.arena.len();
+        self.arena.stat()
+    }
+
+    fn down<L: Ledger>(
+        &self,
+        cursor: CubeCursor,
+        label: u8,
+        steps: &mut Steps<L>,
+    ) -> Option<CubeCursor> {
+        let link = self.arena.child(cursor.slot, label, steps)?;
+        Some(CubeCursor {
+            slot: link.to,
+            address: longer(&self.schema, &cursor.address, label),
+        })
+    }
+
+    fn next_label<L: Ledger>(
+        &self,
+        cursor: CubeCursor,
+        from: u8,
+        steps: &mut Steps<L>,
+    ) -> Option<u8> {
+        let (label, _) = self.arena.next_child(cursor.slot, from, steps)?;
+        Some(label)
+    }
+
+    fn across<L: Ledger>(&self, cursor: CubeCursor, steps: &mut Steps<L>) -> Option<CubeCursor> {
+        let link = self.arena.content(cursor.slot, steps)?;
+        Some(CubeCursor {
+            slot: link.to,
+            address: next_dim(&self.schema, &cursor.address),
+        })
+    }
+
+    fn before<L: Ledger>(&self, cursor: CubeCursor, bin_end: u64, steps: &mut Steps<L>) -> u64 {
+        let table = self.arena.table(cursor.slot, steps);
+        table.before(bin_end, steps)
+    }
+}
+
+impl Grow for Cube {
+    fn insert(&mut self, point: Point) -> Result<(), NoMemory> {
+        Cube::insert(self, point)
+    }
+}
+
+/// The address that is longer by a label.
+fn longer(schema: &Schema, address: &Address, label: u8) -> Address
+    requires placed { IsAddress schema.now address.now }
+    requires above { address.now.level < deepest schema.now address.now.dim }
+    requires quadrant { address.now.dim ≡ 1 → label < 4 }
+    ensures place { result ≡ longer_address address.now label }
+    ensures placed { IsAddress schema.now result }
+{
+    let mut next = *address;
+    next.level += 1;
+    if address.dim == 1 {
+        next.tile = quadrant(&address.tile, label);
+    } else {
+        next.values[address.dim as usize - 2] = Some(label);
+    }
+    next
+}
+
+/// The same tile and values, at level 0 of the next dimension.
+fn next_dim(schema: &Schema, address: &Address) -> Address
+    requires placed { IsAddress schema.now address.now }
+    requires before_time { address.now.dim ≢ time_dim schema.now }
+    ensures place { result ≡ next_address address.now }
+    ensures placed { IsAddress schema.now result }
+{
+    let mut next = *address;
+    next.dim += 1;
+    next.level = 0;
+    next
+}
