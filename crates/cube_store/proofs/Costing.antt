@@ -3,7 +3,7 @@ use Rattle.std.proofs.Common.{◌≡◌, ℕ, ◌+◌, ◌<◌, Bool, true, ltb,
 use Rattle.std.proofs.Math.Logic.{∥∥₁_elim}
 use Rattle.std.proofs.Math.Nat.{ℕ_set}
 use Rattle.std.specs.FinMap.{entries}
-use Rattle.std.proofs.lemmas.Bool.{and_parts, lt-ltb}
+use Rattle.std.proofs.lemmas.Bool.{and_parts, lt-ltb, false_from_ne_true}
 use Rattle.probe_core.specs.Bits.{bits}
 use Rattle.cube_view.specs.Bag.{amount, Counts}
 use Rattle.cube_view.specs.Paths.{steps_of}
@@ -12,7 +12,6 @@ use Rattle.cube_view.specs.Points.{Point, spot_of}
 use Rattle.cube_view.specs.declared.address.Address.{Address}
 use Rattle.cube_view.specs.declared.schema.Schema.{Schema}
 use Rattle.cube_view.specs.declared.spot.Spot.{Spot}
-use Rattle.cube_view.proofs.Alike.{Counts-same}
 use Rattle.time_table.specs.Counts.{count_of}
 use Rattle.time_table.proofs.AddLaws.{count_of-empty}
 use Rattle.node_arena.specs.Slots.{Slot, child, child_label, children_of, slot_of}
@@ -21,17 +20,14 @@ use Rattle.cube_store.specs.BagCosts.{weighing_under, labels_below, bins_under}
 use Rattle.cube_store.specs.Counted.{CountsPoints}
 use Rattle.cube_store.specs.Holding.{TellsCosts}
 use Rattle.cube_store.specs.Reading.{IsWalkAddress, slot_under, children_in, counts_in, label_count, bin_count, spot_weight}
-use Rattle.cube_store.proofs.Bagging.{Counts-points, points_of_schema}
+use Rattle.cube_store.proofs.Bagging.{points_of_schema}
 use Rattle.cube_store.proofs.Differing.{distinct_count-same, member-weighing, member-children, member-bins}
-use Rattle.cube_store.proofs.Finding.{not_true, under-steps, fits-contained, reached_there, counts_here, below_some, below_none}
+use Rattle.cube_store.proofs.Finding.{same_amount, under-steps, fits-contained, reached_there, counts_here, below_some, below_none}
 use Rattle.cube_store.proofs.Labelled.{link_down}
 use Rattle.cube_store.proofs.Listed.{amount-failing}
 use Rattle.cube_store.proofs.Totalling.{is_under_at, amount_steps}
 
 module _ (z : Schema) (slots : List Slot) (root size : ℕ) (k : List Point) (C : CountsPoints z slots root size k) (h : List Point) (counts : Counts (spot_weight z slots) size h) (a : Address) (W : IsWalkAddress z a) where
-  same : (q : Spot → Bool) → amount q h ≡ amount q k
-  same q = Counts-same (spot_weight z slots) size h k counts (Counts-points z slots root size k C) q
-
   -- where the address isn't reached no spot lies
   unreached : slot_under slots a ≡ None → (p : Point) → Contains k p → is_under z a (spot_of p) ≡ true → ⊥
   unreached none p c u =
@@ -40,7 +36,7 @@ module _ (z : Schema) (slots : List Slot) (root size : ℕ) (k : List Point) (C 
       cc
 
   empty_there : slot_under slots a ≡ None → (q : Spot → Bool) → ((s : Spot) → q s ≡ true → is_under z a s ≡ true) → 0 ≡ amount q h
-  empty_there none q less = sym (same q ∙ amount-failing q k (λ p c. not_true _ (λ e. unreached none p c (less (spot_of p) e))))
+  empty_there none q less = sym (same_amount z slots root size k C h counts q ∙ amount-failing q k (λ p c. false_from_ne_true _ (λ e. unreached none p c (less (spot_of p) e))))
 
   label_there : a.level < deepest z a.dim → (l : ℕ) → is_some (child (children_in slots (slot_under slots a)) l) ≡ ltb 0 (amount (is_below z a l) h)
   label_there above l = go (slot_under slots a) refl
@@ -67,7 +63,7 @@ module _ (z : Schema) (slots : List Slot) (root size : ℕ) (k : List Point) (C 
       go None e = count_of-empty bin ∙ empty_there e (is_under_at z a bin) (λ s b. (and_parts _ _ b).0)
       go (Some i) e =
           counts_here z slots root size k C a i (record { walked = W; reached = e }) time bin
-          ∙ (amount_steps z a W k (points_of_schema z slots root size k C) bin ∙ sym (same (is_under_at z a bin)))
+          ∙ (amount_steps z a W k (points_of_schema z slots root size k C) bin ∙ sym (same_amount z slots root size k C h counts (is_under_at z a bin)))
 
   pub bins_same : a.dim ≡ time_dim z → bin_count (counts_in slots (slot_under slots a)) ≡ bins_under z a h
   bins_same time =

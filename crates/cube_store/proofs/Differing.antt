@@ -6,7 +6,7 @@ use Rattle.std.specs.Cmp.{unsigned_tied}
 use Rattle.std.specs.List.{IsDistinct}
 use Rattle.std.specs.Ordering.{nat_cmp}
 use Rattle.std.specs.Set.{distinct_count, is_member, unique_keys}
-use Rattle.std.proofs.lemmas.Bool.{or_parts, eq-eqb, eqb-true, lt-ltb, ltb-true, ltb-false, ne_eqb}
+use Rattle.std.proofs.lemmas.Bool.{or_parts, eqb-true, lt-ltb, ltb-true, ltb-false, ne_eqb}
 use Rattle.std.proofs.lemmas.Cmp.{nat_eq_equiv}
 use Rattle.std.proofs.lemmas.List.Elements.{All-nil, All-cons, recursion_from_All}
 use Rattle.std.proofs.lemmas.Map.Keys.{IsDistinct-cons}
@@ -15,13 +15,10 @@ use Rattle.cube_view.specs.Bag.{amount, gives}
 use Rattle.cube_view.specs.Points.{Point, spot_of, weight_of_point}
 use Rattle.cube_view.specs.declared.spot.Spot.{Spot}
 use Rattle.cube_view.proofs.Amounts.{amount-nil, amount-cons}
-use Rattle.cube_view.proofs.Walking.{iff_same}
 use Rattle.time_table.specs.Counts.{BinCounts, count_of}
 use Rattle.node_arena.specs.Slots.{Children, child, child_label}
+use Rattle.cube_store.proofs.Leaving.{turned}
 use Rattle.cube_store.proofs.Rising.{from_T, Rises, rises_from_test}
-
-pub turned : (a b : ℕ) → eqb a b ≡ eqb b a
-turned a b = iff_same (eqb a b) (eqb b a) (λ e. eq-eqb b a (sym (eqb-true a b e))) (λ e. eq-eqb a b (sym (eqb-true b a e)))
 
 -- Lists with the same numbers have as many different ones
 

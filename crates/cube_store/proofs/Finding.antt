@@ -1,6 +1,6 @@
 -- The links of a cube's slot tell what the cube counts under the addresses of the slot.
 use Rattle.std.proofs.Common.{◌≡◌, ◌≢◌, ℕ, ◌+◌, ◌<◌, ◌≤◌, Bool, true, false, ◌&&◌, eqb, IsTrue, All, List, [], ◌∷◌, length, Option, Some, None, Contains, refl, sym, ◌∙◌, ap, ap₂, subst, arith, true≢false}
-use Rattle.std.proofs.lemmas.Bool.{and_parts, and_from, eq-eqb, leb-true}
+use Rattle.std.proofs.lemmas.Bool.{and_parts, and_from, eq-eqb, leb-true, false_from_ne_true}
 use Rattle.cube_view.specs.Bag.{amount, anywhere, Counts}
 use Rattle.cube_view.specs.Found.{IsNextLabel}
 use Rattle.cube_view.specs.Paths.{spot_path, steps_of}
@@ -30,10 +30,6 @@ use Rattle.cube_store.proofs.Listed.{amount-contained, amount-failing, point_of_
 use Rattle.cube_store.proofs.Placing.{dimension-steps_of, level-steps_of}
 use Rattle.cube_store.proofs.Telling.{IsOfSchema}
 
-pub not_true : (b : Bool) → (b ≡ true → ⊥) → b ≡ false
-not_true true n = absurd (n refl)
-not_true false n = refl
-
 -- a step from an address that is reached
 pub step_on : (slots : List Slot) (w : Walk) (i : ℕ) (e : Step) (o : Option Link) → walk_end slots 0 w ≡ Some i → link_of slots i e ≡ o → walk_end slots 0 (e ∷ w) ≡ reached o
 step_on slots w i e o at is = ap (λ (r : Option ℕ). follow slots r e) at ∙ ap reached is
@@ -58,7 +54,7 @@ module _ (z : Schema) (a : Address) (W : IsWalkAddress z a) (s : Spot) (fit : Is
         let n = level-steps_of z a W above in
         let lt : level_of (steps_of a) < deepest z (dimension (steps_of a)) = subst (λ (k : ℕ). level_of (steps_of a) < deepest z k) (sym d) (subst (λ (k : ℕ). k < deepest z a.dim) (sym n) above) in
         under-down z s (steps_of a) l (under-steps ∙ e) lt ∙ ap₂ (λ (j k : ℕ). eqb (label_of z s j (k + 1)) l) d n
-    | false ↦ λ e. not_true _ (λ u. true≢false (sym (under_before (spot_path z s) (down l) (steps_of a) u) ∙ (under-steps ∙ e)))
+    | false ↦ λ e. false_from_ne_true _ (λ u. true≢false (sym (under_before (spot_path z s) (down l) (steps_of a) u) ∙ (under-steps ∙ e)))
   ] refl
 
 -- What links tell of the list that is counted
@@ -81,6 +77,10 @@ module _ (z : Schema) (slots : List Slot) (root size : ℕ) (k : List Point) (C 
   inside (e ∷ w) i at =
       let s = last_step slots (walk_end slots 0 w) e i at in
       subst (λ j. j < length slots) s.4 (target-lt slots C.homes shaped.has_homes s.0 e s.1 s.3)
+
+  -- each counted list has the amounts of this one
+  pub same_amount : (h : List Point) → Counts (spot_weight z slots) size h → (q : Spot → Bool) → amount q h ≡ amount q k
+  same_amount h counts q = Counts-same (spot_weight z slots) size h k counts (Counts-points z slots root size k C) q
 
   -- where a walk of a step or more is reached a point lies
   pub point_there : (e : Step) (w : Walk) (j : ℕ) → walk_end slots 0 (e ∷ w) ≡ Some j → (p : Point) × Contains k p × Under (spot_path z (spot_of p)) (e ∷ w)
@@ -106,7 +106,7 @@ module _ (z : Schema) (slots : List Slot) (root size : ℕ) (k : List Point) (C 
     home_dim = sym (dimension-finer (walk_coarser slots C.homes shaped.has_homes (steps_of a) slot S.reached)) ∙ dimension-steps_of z a S.walked
 
     pub node_before_time : a.dim ≢ time_dim z → is_table (slot_of slots slot) ≡ false
-    node_before_time other = not_true _ (λ t. other (sym home_dim ∙ (shaped.has_tables.tables slot in_range).0 t))
+    node_before_time other = false_from_ne_true _ (λ t. other (sym home_dim ∙ (shaped.has_tables.tables slot in_range).0 t))
 
     pub table_at_time : a.dim ≡ time_dim z → is_table (slot_of slots slot) ≡ true
     table_at_time e = (shaped.has_tables.tables slot in_range).1 (home_dim ∙ e)
@@ -125,25 +125,22 @@ module _ (z : Schema) (slots : List Slot) (root size : ℕ) (k : List Point) (C 
         cc
 
     module _ (h : List Point) (counts : Counts (spot_weight z slots) size h) where
-      pub same_amount : (q : Spot → Bool) → amount q h ≡ amount q k
-      same_amount q = Counts-same (spot_weight z slots) size h k counts (Counts-points z slots root size k C) q
-
       -- down: the label of a child has a spot, and no other label
       pub below_some : a.level < deepest z a.dim → (m : ℕ) (l : Link) → link_of slots slot (down m) ≡ Some l → 0 < amount (is_below z a m) h
       below_some above m l is =
           let p = step_some (down m) l is in
           let e = sym (under-below z a S.walked (spot_of p.0) (fits-contained p.0 p.1) m above) ∙ p.2 in
-          subst (λ n. 0 < n) (sym (same_amount (is_below z a m))) (amount-contained (is_below z a m) k p.0 p.1 (weighs-contained p.0 p.1) e)
+          subst (λ n. 0 < n) (sym (same_amount h counts (is_below z a m))) (amount-contained (is_below z a m) k p.0 p.1 (weighs-contained p.0 p.1) e)
 
       pub below_none : a.level < deepest z a.dim → (m : ℕ) → link_of slots slot (down m) ≡ None → amount (is_below z a m) h ≡ 0
       below_none above m is =
-          same_amount (is_below z a m)
-          ∙ amount-failing (is_below z a m) k (λ p c. not_true _ (λ e. step_none (down m) is p c (under-below z a S.walked (spot_of p) (fits-contained p c) m above ∙ e)))
+          same_amount h counts (is_below z a m)
+          ∙ amount-failing (is_below z a m) k (λ p c. false_from_ne_true _ (λ e. step_none (down m) is p c (under-below z a S.walked (spot_of p) (fits-contained p c) m above ∙ e)))
 
       pub below_from_none : a.level < deepest z a.dim → (from : ℕ) → ((m : ℕ) → from ≤ m → link_of slots slot (down m) ≡ None) → amount (is_below_from z a from) h ≡ 0
       below_from_none above from none =
-          same_amount (is_below_from z a from)
-          ∙ amount-failing (is_below_from z a from) k (λ p c. not_true _ (λ e.
+          same_amount h counts (is_below_from z a from)
+          ∙ amount-failing (is_below_from z a from) k (λ p c. false_from_ne_true _ (λ e.
           let parts = and_parts (is_under z a (spot_of p)) _ e in
           let m = label_of z (spot_of p) a.dim (a.level + 1) in
           let below : is_below z a m (spot_of p) ≡ true = and_from _ _ parts.0 (eq-eqb m m refl) in
@@ -153,11 +150,11 @@ module _ (z : Schema) (slots : List Slot) (root size : ℕ) (k : List Point) (C 
       pub across_some : (l : Link) → link_of slots slot across ≡ Some l → 0 < amount anywhere h
       across_some l is =
           let p = step_some across l is in
-          subst (λ n. 0 < n) (sym (same_amount anywhere)) (amount-contained anywhere k p.0 p.1 (weighs-contained p.0 p.1) refl)
+          subst (λ n. 0 < n) (sym (same_amount h counts anywhere)) (amount-contained anywhere k p.0 p.1 (weighs-contained p.0 p.1) refl)
 
       pub across_none : a.dim ≢ time_dim z → link_of slots slot across ≡ None → amount anywhere h ≡ 0
       across_none time is =
-          same_amount anywhere
+          same_amount h counts anywhere
           ∙ amount-failing anywhere k (λ p c.
           let r = point_at_walk (steps_of a) slot S.reached p c in
           let d = dimension-steps_of z a S.walked in

@@ -6,7 +6,7 @@ use Rattle.node_arena.specs.Calls.{child_from}
 use Rattle.node_arena.specs.Slots.{Children, Slot, proper, node, table, child, children_of, link, IsRising}
 use Rattle.node_arena.specs.declared.link.Link.{Link}
 use Rattle.cube_store.specs.Reading.{label_count}
-use Rattle.cube_store.proofs.Rising.{distinct-rising}
+use Rattle.cube_store.proofs.Rising.{rises-tail, distinct-rising}
 
 pub link_down : (s : Slot) (m : ℕ) → link s (down m) ≡ child (children_of s) m
 link_down (node children content) m = refl
@@ -22,18 +22,12 @@ pub record IsFirstFrom (children : Children) (from : ℕ) (x : ℕ × Link) : Ty
 child_past : (x : ℕ × Link) (children : Children) (m : ℕ) → (x.0 ≡ m → ⊥) → child (x ∷ children) m ≡ child children m
 child_past x children m other = ap (λ (b : Bool). cond b (Some x.1) (child children m)) (ne_eqb x.0 m other)
 
-child_here : (x : ℕ × Link) (children : Children) → child (x ∷ children) x.0 ≡ Some x.1
-child_here x children = ap (λ (b : Bool). cond b (Some x.1) (child children x.0)) (eq-eqb x.0 x.0 refl)
-
 -- before the first label there is no child
 child_before : (children : Children) (m : ℕ) → ((i : ℕ) (d : ℕ × Link) → i < length children → m < (get_or children i d).0) → child children m ≡ None
 child_before [] m all = refl
 child_before (x ∷ children) m all =
     let first = all 0 x (omega arith) in
     child_past x children m (λ e. omega (arith, e, first)) ∙ child_before children m (λ i d lt. all (suc i) d (omega (arith, lt)))
-
-pub rising-tail : (x : ℕ × Link) (children : Children) → IsRising (x ∷ children) → IsRising children
-rising-tail x children R i j d lt lj = R (suc i) (suc j) d (omega (arith, lt)) (omega (arith, lj))
 
 pub child_from-none : (children : Children) (from : ℕ) → child_from children from ≡ None → (m : ℕ) → from ≤ m → child children m ≡ None
 child_from-none [] from is m le = refl
@@ -45,7 +39,7 @@ child_from-none (x ∷ children) from is m le = go (ltb x.0 from) refl is (λ r.
 
 pub child_from-some : (children : Children) (from : ℕ) (x : ℕ × Link) → IsRising children → child_from children from ≡ Some x → IsFirstFrom children from x
 child_from-some [] from x R is = absurd cc
-child_from-some (y ∷ children) from x R is = go (ltb y.0 from) refl is (λ r. child_from-some children from x (rising-tail y children R) r)
+child_from-some (y ∷ children) from x R is = go (ltb y.0 from) refl is (λ r. child_from-some children from x (rises-tail y children R) r)
   where
     go : (b : Bool) → ltb y.0 from ≡ b → cond b (child_from children from) (Some y) ≡ Some x → (child_from children from ≡ Some x → IsFirstFrom children from x) → IsFirstFrom (y ∷ children) from x
     go true e r rest =
@@ -62,7 +56,7 @@ child_from-some (y ∷ children) from x R is = go (ltb y.0 from) refl is (λ r. 
         let le = ltb-false y.0 from e in
         subst (λ (k : ℕ × Link). IsFirstFrom (y ∷ children) from k) same (record {
           low = le;
-          there = child_here y children;
+          there = ap (λ (b : Bool). cond b (Some y.1) (child children y.0)) (eq-eqb y.0 y.0 refl);
           least = λ m low less. child_before (y ∷ children) m (above m less);
         })
       where

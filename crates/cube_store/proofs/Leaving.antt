@@ -79,7 +79,8 @@ left z s (across ∷ w) c h =
     let b = begun (cursor (spot_path z s) w) across c h in
     left_across z s w b.0 c (left z s w b.0 b.1) b.2 (time_dim z - dimension w) refl
 
-turned : (a b : ℕ) → eqb a b ≡ eqb b a
+-- a test for equality either way
+pub turned : (a b : ℕ) → eqb a b ≡ eqb b a
 turned a b = iff_same (eqb a b) (eqb b a) (λ e. eq-eqb b a (sym (eqb-true a b e))) (λ e. eq-eqb a b (sym (eqb-true b a e)))
 
 -- a step down from above the deepest level goes to the spot where it is by the spot's label

@@ -29,7 +29,8 @@ less_to : (a b : ℕ) → a < b → is_lt (nat_cmp a b) ≡ true
 less_to a b lt = rw (lt-ltb a b lt) refl
 
 module _ {X : Type 0} where
-  rises-tail : (e : ℕ × X) (es : List (ℕ × X)) → Rises (e ∷ es) → Rises es
+  -- the others rise too
+  pub rises-tail : (e : ℕ × X) (es : List (ℕ × X)) → Rises (e ∷ es) → Rises es
   rises-tail e es R i j d lt lj = R (suc i) (suc j) d (omega (arith, lt)) (omega (arith, lj))
 
   all_above : (n : ℕ) (es : List (ℕ × X)) → below_all nat_cmp n es ≡ true → All (λ (e : ℕ × X). n < e.0) es

@@ -109,7 +109,7 @@ module _ (z : Schema) (slots : List Slot) (root size : ℕ) (has : HasPoints z s
   finds_total time m is counted end h counts = ∥∥₁_elim has (ℕ_set _ _) (λ C.
       let all = points_of_schema z slots root size C.0 C.1 in
       let in_bins : (bin : ℕ) → count_of m bin ≡ amount (is_under_at z a bin) C.0 = λ bin. ap (λ (n : BinCounts). count_of n bin) is ∙ (counts_here z slots root size C.0 C.1 a slot S time bin ∙ amount_steps z a S.walked C.0 all bin) in
-      before_total z a m C.0 counted (all-weigh z C.0 C.1.all_sound) in_bins end ∙ sym (same_amount z slots root size C.0 C.1 a slot S h counts (is_before z a end)))
+      before_total z a m C.0 counted (all-weigh z C.0 C.1.all_sound) in_bins end ∙ sym (same_amount z slots root size C.0 C.1 h counts (is_before z a end)))
 
 -- What the calls cost where a cursor stands
 

@@ -1,6 +1,5 @@
 -- What a time table of a cube counts, bin by bin and before an end.
 use Rattle.std.proofs.Common.{◌≡◌, ℕ, suc, ◌+◌, ◌<◌, Bool, true, false, cond, ◌&&◌, eqb, ltb, All, List, [], ◌∷◌, refl, sym, ◌∙◌, ap, arith}
-use Rattle.std.proofs.lemmas.Bool.{eq-eqb, eqb-true}
 use Rattle.std.proofs.lemmas.List.Elements.{All-nil, All-cons}
 use Rattle.std.proofs.lemmas.List.Sums.{sum_by-cons}
 use Rattle.cube_view.specs.Bag.{amount, gives}
@@ -12,7 +11,6 @@ use Rattle.cube_view.specs.declared.address.Address.{Address}
 use Rattle.cube_view.specs.declared.schema.Schema.{Schema}
 use Rattle.cube_view.specs.declared.spot.Spot.{Spot}
 use Rattle.cube_view.proofs.Amounts.{amount-nil, amount-cons}
-use Rattle.cube_view.proofs.Walking.{iff_same}
 use Rattle.time_table.specs.Counts.{BinCounts, AllCounted, count_of, count_before, amount_at}
 use Rattle.time_table.proofs.AddLaws.{count_before-add_many, count_before-empty}
 use Rattle.time_table.proofs.CountLaws.{same_counts}
@@ -22,6 +20,7 @@ use Rattle.proper_path.specs.Paths.{point_path}
 use Rattle.cube_store.specs.Counted.{paths_of}
 use Rattle.cube_store.specs.Reading.{IsWalkAddress}
 use Rattle.cube_store.proofs.Finding.{under-steps}
+use Rattle.cube_store.proofs.Leaving.{turned}
 use Rattle.cube_store.proofs.Telling.{IsOfSchema}
 
 -- the spot lies under the address in the bin
@@ -43,9 +42,6 @@ amount_steps z a W (p ∷ h) all bin =
 abbrev pub weights_under : Schema → Address → List Point → List (ℕ × ℕ)
 weights_under z a [] = []
 weights_under z a (p ∷ h) = cond (is_under z a (spot_of p)) (((spot_of p).bin, weight_of_point p) ∷ weights_under z a h) (weights_under z a h)
-
-turned : (a b : ℕ) → eqb a b ≡ eqb b a
-turned a b = iff_same (eqb a b) (eqb b a) (λ e. eq-eqb b a (sym (eqb-true a b e))) (λ e. eq-eqb a b (sym (eqb-true b a e)))
 
 module _ (z : Schema) (a : Address) where
   amount_at-under : (h : List Point) (bin : ℕ) → amount_at bin (weights_under z a h) ≡ amount (is_under_at z a bin) h

@@ -13,6 +13,8 @@
 //! ```
 #![tactic(auto)]
 
+#[cfg(test)]
+mod agreement;
 mod cube;
 mod laws;
 #[cfg(test)]

@@ -1,7 +1,7 @@
 //! Cubes of a few points against numbers that were counted by hand.
 use crate::Cube;
-use cube_view::{Point, Schema, Stat, is_sound};
-use example_schemas::{point, schema_of_kinds};
+use cube_view::{CubeView, Point, Schema, Spot, Stat, is_sound};
+use example_schemas::{point, schema_of_kinds, schema_of_two_categories};
 use outer_io::{List, NoMemory};
 use std::alloc::Global;
 use std::process::Abort;
@@ -27,7 +27,7 @@ fn check(rt: &impl Abort, alloc: Global, schema: Schema, steps: &[Added]) -> Res
             proper,
             shared,
         };
-        assert_eq!(rt; cube.arena.stat(), want);
+        assert_eq!(rt; cube.stat(), want);
     }
     assert_eq!(rt; cube.size, steps.len() as u64);
     Ok(())
@@ -44,6 +44,29 @@ fn shares_contents_until_two_points_part(rt: HostRuntime) -> Result<(), Fail> {
         after(point(0, 0, 0, 0), [6, 6, 4, 1]),
         after(point(7, 7, 1, 0), [13, 16, 7, 4]),
         after(point(0, 0, 0, 1), [14, 17, 7, 4]),
+    ];
+    check(&rt, rt.alloc(), schema, &steps)?;
+    Ok(())
+}
+
+// The third point lies at a slot that it shares, and which is copied before it is counted there.
+#[test]
+fn copies_a_shared_slot_that_holds_the_point(rt: HostRuntime) -> Result<(), Fail> {
+    let schema = schema_of_two_categories(rt.alloc())?;
+    let there = Spot {
+        x: 1,
+        y: 0,
+        values: [0, 1, 0, 0],
+        bin: 0,
+    };
+    let other = Point {
+        spot: there,
+        weight: 1,
+    };
+    let steps = [
+        after(point(0, 0, 0, 0), [6, 6, 3, 1]),
+        after(other, [15, 18, 6, 4]),
+        after(point(0, 0, 0, 0), [16, 19, 6, 4]),
     ];
     check(&rt, rt.alloc(), schema, &steps)?;
     Ok(())

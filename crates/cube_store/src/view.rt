@@ -120,14 +120,19 @@ fn longer(schema: &Schema, address: &Address, label: u8) -> Address
     ensures place { result ≡ longer_address address.now label }
     ensures placed { IsAddress schema.now result }
 {
-    let mut next = *address;
-    next.level += 1;
+    let mut tile = address.tile;
+    let mut values = address.values;
     if address.dim == 1 {
-        next.tile = quadrant(&address.tile, label);
+        tile = quadrant(&tile, label);
     } else {
-        next.values[address.dim as usize - 2] = Some(label);
+        values[address.dim as usize - 2] = Some(label);
     }
-    next
+    Address {
+        dim: address.dim,
+        level: address.level + 1,
+        tile,
+        values,
+    }
 }
 
 /// The same tile and values, at level 0 of the next dimension.
@@ -137,8 +142,9 @@ fn next_dim(schema: &Schema, address: &Address) -> Address
     ensures place { result ≡ next_address address.now }
     ensures placed { IsAddress schema.now result }
 {
-    let mut next = *address;
-    next.dim += 1;
-    next.level = 0;
-    next
+    Address {
+        dim: address.dim + 1,
+        level: 0,
+        ..*address
+    }
 }
