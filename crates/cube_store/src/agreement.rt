@@ -49,7 +49,11 @@ fn way_of(tile: u32, choice: u32) -> Way
 fn value(choice: u32) -> Option<u8>
     requires { choice < 3 }
 {
-    if choice == 2 { None } else { Some(choice as u8) }
+    if choice == 2 {
+        None
+    } else {
+        Some(choice as u8)
+    }
 }
 
 fn tile<V: CubeView, L: Ledger>(view: &V, way: &Way, steps: &mut Steps<L>) -> Option<V::Cursor>
@@ -132,7 +136,10 @@ fn same_at_tile<V: CubeView, W: CubeView, L: Ledger>(
 ) {
     for choice in 0..choices {
         let way = way_of(tile, choice);
-        assert_eq!(rt; answers_on(one, &way, steps), answers_on(other, &way, steps));
+        assert_eq!(rt;
+            answers_on(one, &way, steps),
+            answers_on(other, &way, steps)
+        );
     }
 }
 
@@ -177,7 +184,10 @@ fn check_in<L: Ledger>(
     }
     assert_eq!(rt; cube.seen(), plain.seen());
     let stat = cube.stat();
-    assert_eq!(rt; stat.nodes.checked_add(stat.tables), stat.proper.checked_add(1));
+    assert_eq!(rt;
+        stat.nodes.checked_add(stat.tables),
+        stat.proper.checked_add(1)
+    );
     same_answers(rt, &cube, &plain, extent, &mut steps);
     Ok(())
 }
@@ -213,7 +223,11 @@ fn random_point(seed: u32, side: u32, categories: u32) -> Point
     requires { (0 < side) × (categories ≤ 2) }
 {
     let n = next_random(seed) / 256;
-    let second = if categories == 2 { (n / 128 % 2) as u8 } else { 0 };
+    let second = if categories == 2 {
+        (n / 128 % 2) as u8
+    } else {
+        0
+    };
     let spot = Spot {
         x: n % side,
         y: n / 8 % side,

@@ -1,15 +1,17 @@
-//! A cube that counts points: its schema, its arena, and their insertion with shared links.
+//! A cube that counts points, and answers without looking at each of them.
 //!
 //! The type of a [`Cube`] keeps that there are points, sound for the schema, of which the arena has the shape: nodes with
 //! one child share its content, tables hold exactly the weights under their addresses, and links are exactly where a
-//! point lies. [`Cube::insert`] adds one point, or leaves the arena as it was where memory is wanted. The crate stands
-//! on `point_insert` for the insertion and on `arena_undo` for taking it back; reading a cube is left to what comes
-//! above.
+//! point lies. [`Cube::insert`] adds one point, or leaves the arena as it was where memory is wanted. As a
+//! [`CubeView`](cube_view::CubeView) a cube is read by cursors, each at a slot and an address: a step goes along one
+//! link, and an amount is one search in a time table. The crate stands on `point_insert` for the insertion and on
+//! `arena_undo` for taking it back; what is asked of a cube is left to what comes above.
 //!
 //! ```text
 //! let mut cube = Cube::new(alloc, schema)?;
-//! cube.insert(point)?;
-//! cube.arena.stat()      // nodes + tables = proper + 1
+//! cube.insert(point)?;                              // a point that is sound for the schema
+//! cube.next_label(cube.top(), 0, &mut steps)        // Some(label): its quadrant
+//! cube.stat()                                       // nodes + tables = proper + 1
 //! ```
 #![tactic(auto)]
 

@@ -1,8 +1,11 @@
-//! Cubes of a few points against numbers that were counted by hand.
+//! Cubes of a few points against numbers that were counted by hand, or by a simulation of the insertion.
+ghost use Rattle.std.specs.Prelude.{◌≡◌, codes, IfOk};
+ghost use Rattle.example_schemas.specs.Examples.{named_category};
+
 use crate::Cube;
-use cube_view::{CubeView, Point, Schema, Spot, Stat, is_sound};
+use cube_view::{Category, CubeView, Point, Schema, Spot, Stat, is_sound};
 use example_schemas::{point, schema_of_kinds, schema_of_two_categories};
-use outer_io::{List, NoMemory};
+use outer_io::{List, NoMemory, Text};
 use std::alloc::Global;
 use std::process::Abort;
 use std::test::Fail;
@@ -95,6 +98,48 @@ fn gives_tables_to_tiles_where_there_is_no_category(rt: HostRuntime) -> Result<(
     let steps = [
         after(point(0, 0, 0, 0), [2, 2, 1, 1]),
         after(point(1, 0, 0, 0), [3, 5, 0, 3]),
+    ];
+    check(&rt, rt.alloc(), schema, &steps)?;
+    Ok(())
+}
+
+fn category(alloc: Global, name: &str) -> Result<Category, NoMemory>
+    ensures { IfOk result (λ category. category ≡ named_category name.now (codes "u") (codes "v")) }
+{
+    let name = Text::copy_of(alloc, name)?;
+    let mut values = List::new(alloc);
+    values.add(Text::copy_of(alloc, "u")?)?;
+    values.add(Text::copy_of(alloc, "v")?)?;
+    Ok(Category { name, values })
+}
+
+// The deepest space and as many categories as there may be.
+fn deepest_schema(alloc: Global) -> Result<Schema, NoMemory> {
+    let mut categories = List::new(alloc);
+    categories.add(category(alloc, "a")?)?;
+    categories.add(category(alloc, "b")?)?;
+    categories.add(category(alloc, "c")?)?;
+    categories.add(category(alloc, "d")?)?;
+    Ok(Schema::new(20, categories, 0, 1, 1, None))
+}
+
+fn corner(edge: u32, value: u8) -> Point {
+    let spot = Spot {
+        x: edge,
+        y: edge,
+        values: [value; 4],
+        bin: u32::from(value),
+    };
+    Point { spot, weight: 1 }
+}
+
+#[test]
+fn counts_the_corners_of_the_deepest_schema(rt: HostRuntime) -> Result<(), Fail> {
+    let schema = deepest_schema(rt.alloc())?;
+    let steps = [
+        after(corner(0, 0), [29, 29, 24, 1]),
+        after(corner(1_048_575, 1), [77, 83, 56, 7]),
+        after(corner(0, 0), [81, 87, 56, 7]),
     ];
     check(&rt, rt.alloc(), schema, &steps)?;
     Ok(())
