@@ -1,5 +1,5 @@
 -- What inserting a point does to the lists that the bag counts.
-use Rattle.std.proofs.Common.{◌≡◌, ◌+◌, ◌∙◌, List, [], ◌∷◌, ◌++◌, length, sym, subst, arith, length-append, Result, Ok, Err, OnOk, OnErr}
+use Rattle.std.proofs.Common.{◌≡◌, ◌+◌, List, [], ◌∷◌, ◌++◌, length, sym, subst, arith, length-append, Result, Ok, Err, OnOk, OnErr}
 use Rattle.cube_view.specs.Points.{Point}
 use Rattle.cube_view.specs.Bag.{is_spot, Counts}
 use Rattle.cube_view.proofs.Alike.{Counts-push}
