@@ -16,7 +16,7 @@
 #![tactic(auto)]
 
 #[cfg(test)]
-mod agreement;
+mod agreement_tests;
 mod cube;
 mod laws;
 #[cfg(test)]

@@ -1,5 +1,5 @@
 use Rattle.std.proofs.Common.{◌≡◌}
-use Rattle.cube_store.proofs.agreement.tile.Given as goal
+use Rattle.cube_store.proofs.agreement_tests.tile.Given as goal
 
 abbrev pub invariant-loop-level : goal.invariant-loop-level
 invariant-loop-level g l = record {
