@@ -8,15 +8,16 @@ use Rattle.cube_main.specs.BuiltIn.{built_in}
 use Rattle.cube_main.specs.Demo.{is_refused, DemoEnds}
 use Rattle.cube_main.specs.Loading.{Loads}
 use Rattle.cube_main.specs.Outside.{PlaceSeen, SinkSeen, KeepsOutside, WritesNoFile}
-use Rattle.cube_main.specs.Statuses.{IsRefusedOrEarlier, IsDoneOrNoMemory}
+use Rattle.cube_main.specs.Statuses.{IsRefusedOrEarlier, IsDoneOrNoMemory, may_lack}
 use Rattle.cube_main.specs.declared.status.Status.{Status}
 use Rattle.cube_main.specs.declared.status.Status.TheVariants.{Done, Usage, NoMemory, ReadFault, WriteFault, FeedRefused}
+use Rattle.cube_store.specs.Numbers.{OwnsAllButRoot}
 use Rattle.cube_view.specs.Points.{Point}
+use Rattle.cube_view.specs.declared.schema.Schema.{Schema}
 use Rattle.feed_reader.specs.Feeds.{accepted, is_feed_refused}
 use Rattle.outer_io.specs.Faults.{Rose}
 use Rattle.outer_io.specs.Files.{Files, file_or_empty}
 use Rattle.outer_io.specs.Lines.{lines}
-use Rattle.plain_cube.specs.Listed.{no_structure}
 use Rattle.session_core.specs.Answered.{GainsReplies, GainsFront}
 use Rattle.session_core.specs.Asked.{asked}
 use Rattle.session_core.specs.Scripts.{is_script_refused}
@@ -85,12 +86,12 @@ not_two before after feed script (n, one) two =
 
 module _ {P O : Type 0} (p : PlaceSeen P) (s : SinkSeen O) (feed script : List ℕ) where
   -- a run that ended with its feed, which was not loaded
-  pub ended_by_feed : (place place' : P) (out : O) (points : List Point) (status : Status) → Loads p place place' feed built_in points (Err status) → DemoEnds p s place place' out out status feed script
-  ended_by_feed place place' out points status loads =
+  ended_by_feed : (place place' : P) (out : O) (counts : List Point → Type 0) (status : Status) → Loads p place place' feed built_in counts (Err status) → DemoEnds p s place place' out out status feed script
+  ended_by_feed place place' out counts status loads =
       record {
         form = loads.status.1;
         done = λ fs told e. absurd (loads.status.0 e);
-        part = λ fs told. nothing_gained built_in _ _ (s.held out) _;
+        part = λ fs told. nothing_gained built_in OwnsAllButRoot _ _ _ (s.held out) _;
         all_before_too_much = λ fs told e good. both_ways (is_feed_refused built_in (file_or_empty fs feed)) (loads.refused fs told (ap (λ st. Err st) e)) good;
         refused = λ fs told e. refused_feed (file_or_empty fs feed) (file_or_empty fs script) (loads.refused fs told (ap (λ st. Err st) e));
         refused_or_earlier = λ fs told bad. ends_early status loads.status.0 loads.status.1;
@@ -110,7 +111,7 @@ module _ {P O : Type 0} (p : PlaceSeen P) (s : SinkSeen O) (feed script : List �
       record {
         form = λ e. cc;
         done = λ fs told e. cc;
-        part = λ fs told. nothing_gained built_in _ _ (s.held out) _;
+        part = λ fs told. nothing_gained built_in OwnsAllButRoot _ _ _ (s.held out) _;
         all_before_too_much = λ fs told e good. cc;
         refused = λ fs told e. cc;
         refused_or_earlier = λ fs told bad. inr (inl refl);
@@ -124,15 +125,19 @@ module _ {P O : Type 0} (p : PlaceSeen P) (s : SinkSeen O) (feed script : List �
       }
 
   -- a run that came to its script
-  module _ (place mid place' : P) (out out' : O) (points : List Point) (status : Status) (loads : Loads p place mid feed built_in points (Ok tt)) (answers : AnswersFile p s mid place' out out' built_in points script status) (keeps : KeepsOutside p s mid place' out out' status) where
+  module _ (place mid place' : P) (out out' : O) (counts : List Point → Type 0) (status : Status) (loads : Loads p place mid feed built_in counts (Ok tt)) (answers : AnswersFile p s mid place' out out' built_in OwnsAllButRoot counts script status) (keeps : KeepsOutside p s mid place' out out' status) where
     told_mid : (fs : Files) → p.files place ≡ Some fs → p.files mid ≡ Some fs
     told_mid fs told = loads.no_file.files ∙ told
 
-    all_gained : (fs : Files) → p.files place ≡ Some fs → GainsReplies built_in no_structure points (length points) (s.held out) (s.held out') (asked built_in (lines (file_or_empty fs script))) → let h = accepted built_in (file_or_empty fs feed) in GainsReplies built_in no_structure h (length h) (s.held out) (s.held out') (asked built_in (lines (file_or_empty fs script)))
-    all_gained fs told gained = subst (λ (h : List Point). GainsReplies built_in no_structure h (length h) (s.held out) (s.held out') (asked built_in (lines (file_or_empty fs script)))) (loads.loaded fs told).1 gained
+    -- what holds of each list that is counted holds of the accepted records
+    of_accepted : (P : List Point → Type 0) (fs : Files) → p.files place ≡ Some fs → ((h : List Point) → counts h → P h) → P (accepted built_in (file_or_empty fs feed))
+    of_accepted P fs told each = each (accepted built_in (file_or_empty fs feed)) (loads.loaded fs told).1
 
-    some_gained : (fs : Files) → p.files place ≡ Some fs → let h = accepted built_in (file_or_empty fs feed) in GainsFront built_in no_structure h (length h) (s.held out) (s.held out') (asked built_in (lines (file_or_empty fs script)))
-    some_gained fs told = subst (λ (h : List Point). GainsFront built_in no_structure h (length h) (s.held out) (s.held out') (asked built_in (lines (file_or_empty fs script)))) (loads.loaded fs told).1 (answers.part fs (told_mid fs told))
+    abbrev All : (fs : Files) → List Point → Type 0
+    All fs h = GainsReplies built_in OwnsAllButRoot h (length h) false (s.held out) (s.held out') (asked built_in (lines (file_or_empty fs script)))
+
+    abbrev Some_of : (fs : Files) → List Point → Type 0
+    Some_of fs h = GainsFront built_in OwnsAllButRoot h (length h) (may_lack status) (s.held out) (s.held out') (asked built_in (lines (file_or_empty fs script)))
 
     none_refused : (fs : Files) → p.files place ≡ Some fs → status ≡ Done → is_refused (file_or_empty fs feed) (file_or_empty fs script) ≡ false
     none_refused fs told e = taken_both (file_or_empty fs feed) (file_or_empty fs script) (loads.loaded fs told).0 (answers.done fs (told_mid fs told) e).1
@@ -143,13 +148,13 @@ module _ {P O : Type 0} (p : PlaceSeen P) (s : SinkSeen O) (feed script : List �
     read_quiet : p.read_faults mid ≡ p.read_faults place
     read_quiet = loads.read.quiet (λ e. cc)
 
-    pub ended_by_script : DemoEnds p s place place' out out' status feed script
+    ended_by_script : DemoEnds p s place place' out out' status feed script
     ended_by_script =
         record {
           form = answers.form;
-          done = λ fs told e. (all_gained fs told (answers.done fs (told_mid fs told) e).0, none_refused fs told e);
-          part = some_gained;
-          all_before_too_much = λ fs told e good. all_gained fs told (answers.refused fs (told_mid fs told) e).0;
+          done = λ fs told e. (of_accepted (All fs) fs told (answers.done fs (told_mid fs told) e).0, none_refused fs told e);
+          part = λ fs told. of_accepted (Some_of fs) fs told (answers.part fs (told_mid fs told));
+          all_before_too_much = λ fs told e good. of_accepted (All fs) fs told (answers.refused fs (told_mid fs told) e).0;
           refused = script_refused;
           refused_or_earlier = λ fs told bad. ends_early status (λ e. both_ways (is_refused (file_or_empty fs feed) (file_or_empty fs script)) bad (none_refused fs told e)) answers.form;
           refused_feed = λ fs told bad. both_ways (is_feed_refused built_in (file_or_empty fs feed)) bad (loads.loaded fs told).0;
@@ -165,3 +170,15 @@ module _ {P O : Type 0} (p : PlaceSeen P) (s : SinkSeen O) (feed script : List �
             write_faults = answers.no_file.write_faults ∙ loads.no_file.write_faults;
           };
         }
+
+-- a run whose cube has a schema that is the built-in one
+module _ {P O : Type 0} (p : PlaceSeen P) (s : SinkSeen O) (feed script : List ℕ) (place mid place' : P) (out out' : O) (schema : Schema) (made : schema ≡ built_in) (counts : List Point → Type 0) (status : Status) where
+  pub ends_by_feed : Loads p place place' feed schema counts (Err status) → DemoEnds p s place place' out out status feed script
+  ends_by_feed loads = ended_by_feed p s feed script place place' out counts status (subst (λ (z : Schema). Loads p place place' feed z counts (Err status)) made loads)
+
+  pub ends_by_script : (schema' : Schema) → schema' ≡ schema → Loads p place mid feed schema counts (Ok tt) → AnswersFile p s mid place' out out' schema' OwnsAllButRoot counts script status → KeepsOutside p s mid place' out out' status → DemoEnds p s place place' out out' status feed script
+  ends_by_script schema' same loads answers keeps =
+      ended_by_script p s feed script place mid place' out out' counts status
+      (subst (λ (z : Schema). Loads p place mid feed z counts (Ok tt)) made loads)
+      (subst (λ (z : Schema). AnswersFile p s mid place' out out' z OwnsAllButRoot counts script status) (same ∙ made) answers)
+      keeps

@@ -1,5 +1,5 @@
 -- Why a feed is not loaded, and what loading one gives.
-use Rattle.std.proofs.Common.{◌≡◌, ◌++◌, ℕ, false, List, [], map, Option, Result, Ok, Err, refl, sym, ◌∙◌, ap, IsErrOf, OnOk}
+use Rattle.std.proofs.Common.{◌≡◌, ◌++◌, ℕ, false, List, [], map, Option, Result, Ok, Err, refl, sym, subst, IsErrOf, OnOk}
 use Rattle.std.specs.Result.{IsErrAnd}
 use Rattle.cube_main.specs.LoadFaults.{fault_of_head}
 use Rattle.cube_main.specs.Loading.{KeepsRows, TakesFeed}
@@ -28,10 +28,10 @@ pub head_of_refused : {T : Type 0} (r : Result T LoadFault) (f : NoHeader) (P : 
 head_of_refused (Ok x) f P is bad step = absurd is
 head_of_refused (Err e) f P is bad step = refused_by f e P is bad step
 
--- where the header was read, and then the rows of all lines were kept in an empty cube, it has taken the feed
-pub taken : {S T E : Type 0} (left : S → Option (List ℕ)) (faults : S → ℕ) (schema : Schema) (places : List ℕ) (a b c : Cutter S) (r : Result T E) (points points' : List Point) → IsAtStart a → points ≡ [] → ReadsHeader left faults schema a b places → LeavesAccepted left schema places a b → OnOk r (KeepsRows left faults places schema b c points points') → OnOk r (Told (rest_of left a) (TakesFeed schema points'))
-taken left faults schema places a b c (Ok x) points points' start empty head leaves kept =
-    Told-each (rest_of left a) _ (TakesFeed schema points')
-    (λ feed is. (is.0, kept.kept ∙ ap (λ (ps : List Point). ps ++ points_in (map (row_of_line schema places) kept.lines)) empty ∙ sym is.1))
+-- where the header was read, and then the rows of all lines were kept in a view of no points, it has taken the feed
+pub taken : {S T E : Type 0} (left : S → Option (List ℕ)) (faults : S → ℕ) (schema : Schema) (places : List ℕ) (a b c : Cutter S) (r : Result T E) (counts counts' : List Point → Type 0) → IsAtStart a → counts [] → ReadsHeader left faults schema a b places → LeavesAccepted left schema places a b → OnOk r (KeepsRows left faults places schema b c counts counts') → OnOk r (Told (rest_of left a) (TakesFeed schema counts'))
+taken left faults schema places a b c (Ok x) counts counts' start empty head leaves kept =
+    Told-each (rest_of left a) _ (TakesFeed schema counts')
+    (λ feed is. (is.0, subst counts' (sym is.1) (kept.kept [] empty)))
     (feed_read left faults schema a b c head.0 places kept.lines start head.2.passed leaves kept.passed)
-taken left faults schema places a b c (Err e) points points' start empty head leaves kept = tt
+taken left faults schema places a b c (Err e) counts counts' start empty head leaves kept = tt

@@ -1,42 +1,49 @@
 -- What answering a script leaves.
-use Rattle.std.specs.Prelude.{◌≡◌, ◌≢◌, ℕ, Bool, true, false, List, [], ◌∷◌, ◌++◌, length, take, Option, Some, Result, Ok, Err}
+use Rattle.std.specs.Prelude.{◌≡◌, ◌≢◌, ℕ, Bool, true, false, if◌then◌else◌, List, [], ◌∷◌, ◌++◌, length, take, Option, Some, Result, Ok, Err}
 use Rattle.cube_main.specs.Outside.{PlaceSeen, SinkSeen, WritesNoFile}
+use Rattle.cube_main.specs.Statuses.{may_lack}
 use Rattle.cube_main.specs.declared.status.Status.{Status}
 use Rattle.cube_main.specs.declared.status.Status.TheVariants.{Done, Usage, NoMemory, ReadFault, WriteFault, FeedRefused}
 use Rattle.cube_view.specs.Points.{Point}
 use Rattle.cube_view.specs.declared.schema.Schema.{Schema}
+use Rattle.cube_view.specs.declared.stat.Stat.{Stat}
 use Rattle.outer_io.specs.Files.{Files, file_or_empty}
 use Rattle.outer_io.specs.Lines.{lines}
-use Rattle.plain_cube.specs.Listed.{no_structure}
 use Rattle.session_core.specs.Answered.{GainsReplies, GainsFront}
 use Rattle.session_core.specs.Asked.{asked}
 use Rattle.session_core.specs.Scripts.{is_script_refused}
+use Rattle.session_core.specs.declared.answering.ScriptEnd.{ScriptEnd}
 use Rattle.session_core.specs.declared.fault.SessionFault.{SessionFault}
 use Rattle.session_core.specs.declared.fault.SessionFault.TheVariants as fault
 
--- how a run ends by the answer to its script
+-- how a run ends by the end of the answers to its script
 abbrev pub status_of_fault : SessionFault → Status
 status_of_fault fault.Read = ReadFault
 status_of_fault fault.Write = WriteFault
 status_of_fault fault.TooMuch = FeedRefused
 status_of_fault fault.NoMemory = NoMemory
 
-abbrev pub status_of_script : Result (Unit {0}) SessionFault → Status
-status_of_script (Ok answered) = Done
-status_of_script (Err fault) = status_of_fault fault
+abbrev pub status_of_end : Result (Unit {0}) SessionFault → Status
+status_of_end (Ok answered) = Done
+status_of_end (Err fault) = status_of_fault fault
 
--- what answering the named script over a list of points, each of which was told, leaves of a place and a sink
-pub record AnswersFile {P O : Type 0} (p : PlaceSeen P) (s : SinkSeen O) (place place' : P) (out out' : O) (schema : Schema) (h : List Point) (name : List ℕ) (status : Status) : Type 0 where
+-- want of memory for a reply goes before every other cause
+abbrev pub status_of_script : ScriptEnd → Status
+status_of_script e = if e.lacked then NoMemory else status_of_end e.end
+
+-- What answering the named script leaves of a place and a sink, over a view of a schema that counts these lists of
+-- points, each point of which was told, and whose structure's numbers meet the test
+pub record AnswersFile {P O : Type 0} (p : PlaceSeen P) (s : SinkSeen O) (place place' : P) (out out' : O) (schema : Schema) (is_stat : Stat → Type 0) (counts : List Point → Type 0) (name : List ℕ) (status : Status) : Type 0 where
   -- the words are a form
   pub form : status ≢ Usage
   -- with status 0 the sink gained all answers, and the script is not refused
   pub done : (files : Files) → p.files place ≡ Some files → status ≡ Done
-      → GainsReplies schema no_structure h (length h) (s.held out) (s.held out') (asked schema (lines (file_or_empty files name))) × (is_script_refused schema (file_or_empty files name) ≡ false)
+      → ((h : List Point) → counts h → GainsReplies schema is_stat h (length h) false (s.held out) (s.held out') (asked schema (lines (file_or_empty files name)))) × (is_script_refused schema (file_or_empty files name) ≡ false)
   -- with status 7 too, and it is refused
   pub refused : (files : Files) → p.files place ≡ Some files → status ≡ FeedRefused
-      → GainsReplies schema no_structure h (length h) (s.held out) (s.held out') (asked schema (lines (file_or_empty files name))) × (is_script_refused schema (file_or_empty files name) ≡ true)
+      → ((h : List Point) → counts h → GainsReplies schema is_stat h (length h) false (s.held out) (s.held out') (asked schema (lines (file_or_empty files name)))) × (is_script_refused schema (file_or_empty files name) ≡ true)
   -- with any status it gained some of them
-  pub part : (files : Files) → p.files place ≡ Some files → GainsFront schema no_structure h (length h) (s.held out) (s.held out') (asked schema (lines (file_or_empty files name)))
+  pub part : (files : Files) → p.files place ≡ Some files → (h : List Point) → counts h → GainsFront schema is_stat h (length h) (may_lack status) (s.held out) (s.held out') (asked schema (lines (file_or_empty files name)))
   -- the script was opened, once at most
   pub opened_once : (k : ℕ) × (p.opened place' ≡ p.opened place ++ take k (name ∷ []))
   -- and with status 0 it was

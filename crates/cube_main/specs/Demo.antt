@@ -2,15 +2,15 @@
 use Rattle.std.specs.Prelude.{◌≡◌, ◌≢◌, ℕ, Bool, true, false, ◌||◌, ◌&&◌, ◌==◌, get_or, if◌then◌else◌, List, [], ◌∷◌, ◌++◌, length, take, Option, Some, None, codes}
 use Rattle.cube_main.specs.BuiltIn.{built_in}
 use Rattle.cube_main.specs.Outside.{PlaceSeen, SinkSeen, WritesNoFile}
-use Rattle.cube_main.specs.Statuses.{IsRefusedOrEarlier, IsDoneOrNoMemory}
+use Rattle.cube_main.specs.Statuses.{IsRefusedOrEarlier, IsDoneOrNoMemory, may_lack}
 use Rattle.cube_main.specs.declared.status.Status.{Status}
 use Rattle.cube_main.specs.declared.status.Status.TheVariants.{Done, Usage, FeedRefused}
+use Rattle.cube_store.specs.Numbers.{OwnsAllButRoot}
 use Rattle.cube_view.specs.Limits.{same_text}
 use Rattle.feed_reader.specs.Feeds.{accepted, is_feed_refused}
 use Rattle.outer_io.specs.Faults.{Rose}
 use Rattle.outer_io.specs.Files.{Files, file_or_empty}
 use Rattle.outer_io.specs.Lines.{lines}
-use Rattle.plain_cube.specs.Listed.{no_structure}
 use Rattle.session_core.specs.Answered.{GainsReplies, GainsFront}
 use Rattle.session_core.specs.Asked.{asked}
 use Rattle.session_core.specs.Scripts.{is_script_refused}
@@ -27,13 +27,14 @@ IfDemo words Claim = (feed script : List ℕ) → demo_names words ≡ Some (fee
 unfoldable pub is_refused : List ℕ → List ℕ → Bool
 is_refused feed script = is_feed_refused built_in feed || is_script_refused built_in script
 
--- a sink gained the replies to all that the script asks, over the accepted records of the feed, each of which was told
+-- a sink gained the replies to all that the script asks, over the accepted records of the feed, each of which was told;
+-- the numbers of `stat` are those of a cube
 abbrev pub GainsAnswers : Option (List ℕ) → Option (List ℕ) → List ℕ → List ℕ → Type 0
-GainsAnswers before after feed script = let h = accepted built_in feed in GainsReplies built_in no_structure h (length h) before after (asked built_in (lines script))
+GainsAnswers before after feed script = let h = accepted built_in feed in GainsReplies built_in OwnsAllButRoot h (length h) false before after (asked built_in (lines script))
 
--- it gained a part of them, from the front, or nothing
-abbrev pub GainsSomeAnswers : Option (List ℕ) → Option (List ℕ) → List ℕ → List ℕ → Type 0
-GainsSomeAnswers before after feed script = let h = accepted built_in feed in GainsFront built_in no_structure h (length h) before after (asked built_in (lines script))
+-- it gained a part of them, from the front, or nothing; a reply may be the line for want of memory, or may not
+abbrev pub GainsSomeAnswers : Bool → Option (List ℕ) → Option (List ℕ) → List ℕ → List ℕ → Type 0
+GainsSomeAnswers lacks before after feed script = let h = accepted built_in feed in GainsFront built_in OwnsAllButRoot h (length h) lacks before after (asked built_in (lines script))
 
 -- what a run leaves of a place and a sink, by its status and the names of its feed and its script
 module _ {P O : Type 0} (p : PlaceSeen P) (s : SinkSeen O) (place place' : P) (out out' : O) (status : Status) (feed script : List ℕ) where
@@ -47,8 +48,8 @@ module _ {P O : Type 0} (p : PlaceSeen P) (s : SinkSeen O) (place place' : P) (o
     pub form : status ≢ Usage
     -- with status 0 the sink gained all answers, and nothing was refused
     pub done : OfFiles (λ f q. status ≡ Done → GainsAnswers (s.held out) (s.held out') f q × (is_refused f q ≡ false))
-    -- with any status it gained some of them, and nothing else
-    pub part : OfFiles (GainsSomeAnswers (s.held out) (s.held out'))
+    -- with any status it gained some of them, and nothing else; only for want of memory a reply may be the line that says so
+    pub part : OfFiles (GainsSomeAnswers (may_lack status) (s.held out) (s.held out'))
     -- all of them also where a script that is refused follows a feed that is not
     pub all_before_too_much : OfFiles (λ f q. status ≡ FeedRefused → is_feed_refused built_in f ≡ false → GainsAnswers (s.held out) (s.held out') f q)
     -- status 7 comes only where the feed or the script is refused ..

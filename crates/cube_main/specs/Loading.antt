@@ -13,20 +13,24 @@ use Rattle.outer_io.specs.Files.{Files, file_or_empty}
 use Rattle.outer_io.specs.Lines.{Line}
 use Rattle.outer_io.specs.Progress.{PassesAll}
 
--- all lines that were left were read, and the points of their rows were kept behind the others
-pub record KeepsRows {S : Type 0} (left : S → Option (List ℕ)) (faults : S → ℕ) (places : List ℕ) (schema : Schema) (before after : Cutter S) (points points' : List Point) : Type 0 where
+-- a view that counted some lists of points counts each with these points behind it
+abbrev pub CountsMore : (List Point → Type 0) → (List Point → Type 0) → List Point → Type 0
+CountsMore counts counts' points = (h : List Point) → counts h → counts' (h ++ points)
+
+-- all lines that were left were read, and the view that counted some lists counts each with the points of their rows
+pub record KeepsRows {S : Type 0} (left : S → Option (List ℕ)) (faults : S → ℕ) (places : List ℕ) (schema : Schema) (before after : Cutter S) (counts counts' : List Point → Type 0) : Type 0 where
   pub lines : List Line
   pub passed : PassesAll left faults before after lines
-  pub kept : points' ≡ points ++ points_in (map (row_of_line schema places) lines)
+  pub kept : CountsMore counts counts' (points_in (map (row_of_line schema places) lines))
 
--- the feed is not refused, and the points are its accepted records
-abbrev pub TakesFeed : Schema → List Point → List ℕ → Type 0
-TakesFeed schema points feed = (is_feed_refused schema feed ≡ false) × (points ≡ accepted schema feed)
+-- the feed is not refused, and its accepted records are counted
+abbrev pub TakesFeed : Schema → (List Point → Type 0) → List ℕ → Type 0
+TakesFeed schema counts feed = (is_feed_refused schema feed ≡ false) × counts (accepted schema feed)
 
--- what loading the named feed leaves of a place, and of a cube of the schema that has these points afterwards
-pub record Loads {P : Type 0} (p : PlaceSeen P) (place place' : P) (name : List ℕ) (schema : Schema) (points : List Point) (result : Result (Unit {0}) Status) : Type 0 where
+-- what loading the named feed leaves of a place, and of a view of the schema that counts these lists afterwards
+pub record Loads {P : Type 0} (p : PlaceSeen P) (place place' : P) (name : List ℕ) (schema : Schema) (counts : List Point → Type 0) (result : Result (Unit {0}) Status) : Type 0 where
   -- with Ok the feed was taken
-  pub loaded : (fs : Files) → p.files place ≡ Some fs → OnOk result (TakesFeed schema points (file_or_empty fs name))
+  pub loaded : (fs : Files) → p.files place ≡ Some fs → OnOk result (TakesFeed schema counts (file_or_empty fs name))
   -- it is answered as refused only where it is
   pub refused : (fs : Files) → p.files place ≡ Some fs → IsErrOf result FeedRefused → is_feed_refused schema (file_or_empty fs name) ≡ true
   -- no other status comes than those of a feed

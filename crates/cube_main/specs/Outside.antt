@@ -1,7 +1,7 @@
 -- The place and the sink of a call as contracts see them, and what every form of words keeps of them.
 use Rattle.std.specs.Prelude.{◌≡◌, ◌≢◌, ℕ, List, Option}
 use Rattle.cube_main.specs.declared.status.Status.{Status}
-use Rattle.cube_main.specs.declared.status.Status.TheVariants.{ReadFault, WriteFault}
+use Rattle.cube_main.specs.declared.status.Status.TheVariants.{NoMemory, ReadFault, WriteFault}
 use Rattle.outer_io.specs.Faults.{Rose}
 use Rattle.outer_io.specs.Files.{Files}
 
@@ -37,9 +37,9 @@ pub record KeepsOutside {P O : Type 0} (p : PlaceSeen P) (s : SinkSeen O) (place
   pub read : status ≡ ReadFault → Rose (p.read_faults place) (p.read_faults place')
   -- a write fault comes only where the sink's count rose
   pub write : status ≡ WriteFault → Rose (s.faults out) (s.faults out')
-  -- with every other status the counts are as before
-  pub quiet_place : status ≢ ReadFault → p.read_faults place' ≡ p.read_faults place
-  pub quiet_sink : status ≢ WriteFault → s.faults out' ≡ s.faults out
+  -- with every other status the counts are as before, but for want of memory, which is answered before both
+  pub quiet_place : status ≢ ReadFault → status ≢ NoMemory → p.read_faults place' ≡ p.read_faults place
+  pub quiet_sink : status ≢ WriteFault → status ≢ NoMemory → s.faults out' ≡ s.faults out
   -- the sink keeps its name
   pub name : s.name out' ≡ s.name out
 

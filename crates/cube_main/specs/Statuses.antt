@@ -1,5 +1,5 @@
 -- The statuses of a run.
-use Rattle.std.specs.Prelude.{ℕ, ◌≡◌, ◌⊎◌}
+use Rattle.std.specs.Prelude.{ℕ, Bool, true, false, ◌≡◌, ◌⊎◌}
 use Rattle.cube_main.specs.declared.status.Status.{Status}
 use Rattle.cube_main.specs.declared.status.Status.TheVariants.{Done, Usage, NoMemory, ReadFault, WriteFault, FeedRefused}
 
@@ -19,3 +19,12 @@ IsRefusedOrEarlier status = (status ≡ FeedRefused) ⊎ (status ≡ NoMemory) �
 -- the run went to its end, or memory was wanted
 abbrev pub IsDoneOrNoMemory : Status → Type 0
 IsDoneOrNoMemory status = (status ≡ Done) ⊎ (status ≡ NoMemory)
+
+-- a reply may be the line for want of memory
+abbrev pub may_lack : Status → Bool
+may_lack Done = false
+may_lack Usage = false
+may_lack NoMemory = true
+may_lack ReadFault = false
+may_lack WriteFault = false
+may_lack FeedRefused = false

@@ -1,26 +1,32 @@
 //! The form `demo FEED SCRIPT`.
-ghost use Rattle.std.specs.Prelude.{◌≡◌};
+ghost use Rattle.std.specs.Prelude.{◌≡◌, [], IfOk};
 ghost use Rattle.cube_main.specs.Answering.{status_of_script, AnswersFile};
+ghost use Rattle.cube_main.specs.BuiltIn.{built_in};
 ghost use Rattle.cube_main.specs.Demo.{DemoEnds};
 ghost use Rattle.cube_main.specs.Outside.{KeepsOutside, seen_place, seen_sink};
-ghost use Rattle.plain_cube.specs.Kept.{points_of, schema_of};
+ghost use Rattle.cube_view.specs.Bag.{Counts};
 
 mod loading;
+#[cfg(test)]
+mod tests;
 
 use crate::built_in::built_in_schema;
 use crate::demo::loading::load;
 use crate::status::Status;
+use cube_store::Cube;
 use cube_view::CubeView;
 use outer_io::{IoFault, NoMemory, Place, Sink};
-use plain_cube::PlainCube;
-use session_core::{SessionFault, answer_script};
+use session_core::{ScriptEnd, SessionFault, answer_script};
 use std::alloc::Global;
 
-/// How a run ends by the answer to its script.
-fn status_of(answered: Result<(), SessionFault>) -> Status
-    ensures { result ≡ status_of_script answered }
+/// How a run ends by the end of the answers to its script. Want of memory for a reply goes before every other cause.
+fn status_of(answers: ScriptEnd) -> Status
+    ensures { result ≡ status_of_script answers }
 {
-    match answered {
+    if answers.lacked {
+        return Status::NoMemory;
+    }
+    match answers.end {
         Ok(()) => Status::Done,
         Err(SessionFault::Read) => Status::ReadFault,
         Err(SessionFault::Write) => Status::WriteFault,
@@ -29,27 +35,35 @@ fn status_of(answered: Result<(), SessionFault>) -> Status
     }
 }
 
-/// Answers the named script over the cube, each point of which was told, and says how the run ends. The script's
+/// Answers the named script over the view, each point of which was told, and says how the run ends. The script's
 /// source is given back.
-fn run_script<P: Place, O: Sink>(
+fn run_script<V: CubeView, P: Place, O: Sink>(
     alloc: Global,
-    cube: &PlainCube,
+    view: &V,
     script: &str,
     place: &mut P,
     out: &mut O,
 ) -> Status
-    ensures answers { AnswersFile (seen_place P.files P.read_faults P.write_faults P.opened P.created) (seen_sink O.held O.faults O.name) place.old place.new out.old out.new (schema_of cube.now) (points_of cube.now) script.now result }
+    ensures answers { AnswersFile (seen_place P.files P.read_faults P.write_faults P.opened P.created) (seen_sink O.held O.faults O.name) place.old place.new out.old out.new (V.schema view.now) V.is_stat (Counts (V.weight_at view.now) (V.seen view.now)) script.now result }
     ensures keeps { KeepsOutside (seen_place P.files P.read_faults P.write_faults P.opened P.created) (seen_sink O.held O.faults O.name) place.old place.new out.old out.new result }
 {
     match place.open(script) {
         Ok(source) => {
-            let (source, answered) = answer_script(alloc, cube, cube.seen(), source, out);
+            let (source, answers) = answer_script(alloc, view, view.seen(), source, out);
             place.give_back_in(source);
-            status_of(answered)
+            status_of(answers)
         }
         Err(IoFault::Failed) => Status::ReadFault,
         Err(IoFault::NoMemory) => Status::NoMemory,
     }
+}
+
+/// A cube of no points under the plan that is built in.
+fn empty_cube(alloc: Global) -> Result<Cube, NoMemory>
+    ensures { IfOk result (λ cube. (⟦<Cube as CubeView>⟧.schema cube ≡ built_in) × Counts (⟦<Cube as CubeView>⟧.weight_at cube) (⟦<Cube as CubeView>⟧.seen cube) []) }
+{
+    let schema = built_in_schema(alloc)?;
+    Cube::new(alloc, schema)
 }
 
 /// Loads the feed and then answers the script over its points.
@@ -63,11 +77,10 @@ pub(crate) fn demo<P: Place, O: Sink>(
     ensures ends { DemoEnds (seen_place P.files P.read_faults P.write_faults P.opened P.created) (seen_sink O.held O.faults O.name) place.old place.new out.old out.new result feed.now script.now }
     ensures keeps { KeepsOutside (seen_place P.files P.read_faults P.write_faults P.opened P.created) (seen_sink O.held O.faults O.name) place.old place.new out.old out.new result }
 {
-    let schema = match built_in_schema(alloc) {
-        Ok(schema) => schema,
+    let mut cube = match empty_cube(alloc) {
+        Ok(cube) => cube,
         Err(NoMemory) => return Status::NoMemory,
     };
-    let mut cube = PlainCube::new(alloc, schema);
     match load(alloc, feed, place, &mut cube) {
         Ok(()) => run_script(alloc, &cube, script, place, out),
         Err(status) => status,

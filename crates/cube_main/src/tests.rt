@@ -139,6 +139,34 @@ fn counts_the_accepted_records(rt: HostRuntime) -> Result<(), Fail> {
 }
 
 #[test]
+fn tells_the_numbers_of_the_cube_as_it_grows(rt: HostRuntime) -> Result<(), Fail> {
+    let cases = [
+        Case {
+            feed: "x,y,kind,time\n0,0,a,5\n",
+            script: b"stat",
+            status: Status::Done,
+            out: b"{\"nodes\":6,\"proper\":6,\"seen\":1,\"shared\":4,\"tables\":1}\n",
+        },
+        Case {
+            feed: "x,y,kind,time\n0,0,a,5\n7,7,b,12\n",
+            script: b"stat",
+            status: Status::Done,
+            out: b"{\"nodes\":13,\"proper\":16,\"seen\":2,\"shared\":7,\"tables\":4}\n",
+        },
+        Case {
+            feed: "x,y,kind,time\n",
+            script: b"stat",
+            status: Status::Done,
+            out: b"{\"nodes\":1,\"proper\":0,\"seen\":0,\"shared\":0,\"tables\":0}\n",
+        },
+    ];
+    for case in &cases {
+        check(&rt, case)?;
+    }
+    Ok(())
+}
+
+#[test]
 fn maps_tiles_in_the_order_of_their_paths(rt: HostRuntime) -> Result<(), Fail> {
     let case = Case {
         feed: "x,y,kind,time\n4,0,a,0\n0,2,b,0\n",
@@ -220,7 +248,7 @@ fn answers_the_lines_of_a_script_up_to_quit(rt: HostRuntime) -> Result<(), Fail>
         (b"series 0 1 3", "{\"rows\":[[0,1],[1,2],[2,0]],\"seen\":3}"),
         (
             b"stat",
-            "{\"nodes\":0,\"proper\":0,\"seen\":3,\"shared\":0,\"tables\":0}",
+            "{\"nodes\":14,\"proper\":17,\"seen\":3,\"shared\":7,\"tables\":4}",
         ),
         (b"told", "{\"told\":3}"),
         (b"# note", ""),

@@ -1,12 +1,12 @@
 -- Laws of what lines ask, one after another.
-use Rattle.std.proofs.Common.{◌≡◌, Bool, true, false, ◌||◌, if◌then◌else◌, List, [], ◌∷◌, ◌++◌, refl, sym, ◌∙◌, ap, append-nil}
+use Rattle.std.proofs.Common.{◌≡◌, Bool, true, false, not, ◌||◌, if◌then◌else◌, List, [], ◌∷◌, ◌++◌, refl, sym, ◌∙◌, ap, append-nil}
 use Rattle.std.proofs.Math.Bool.{or-true}
 use Rattle.std.proofs.lemmas.Bool.{false≢true}
 use Rattle.cube_view.specs.declared.schema.Schema.{Schema}
 use Rattle.outer_io.specs.Lines.{Line}
 use Rattle.query_syntax.specs.declared.query.Parsed.{Parsed}
 use Rattle.query_syntax.specs.declared.query.Parsed.TheVariants as parsed
-use Rattle.session_core.specs.Asked.{asked, asked_then, asks_to_end, ends, line_meaning}
+use Rattle.session_core.specs.Asked.{asked, asked_then, asks_reply, asks_to_end, ends, line_meaning}
 use Rattle.session_core.specs.Scripts.{has_quit, is_quit}
 
 or_left : (a b : Bool) → a || b ≡ false → a ≡ false
@@ -35,6 +35,25 @@ asked_then-end (parsed.Ask q) ps e = here (ends q.verb) e
     here true e = refl
     here false e = absurd (false≢true e)
 asked_then-end (parsed.Fault fault word) ps e = absurd (false≢true e)
+
+-- what asks for a reply is asked, and goes on
+pub asked_then-reply : (p : Parsed) → asks_reply p ≡ true → asked_then p [] ≡ p ∷ []
+asked_then-reply parsed.Skip e = absurd (false≢true e)
+asked_then-reply (parsed.Ask q) e = here (ends q.verb) e
+  where
+    here : (b : Bool) → not b ≡ true → (if b then [] else (parsed.Ask q ∷ [])) ≡ parsed.Ask q ∷ []
+    here true e = absurd (false≢true e)
+    here false e = refl
+asked_then-reply (parsed.Fault fault word) e = refl
+
+pub reply-goes_on : (p : Parsed) → asks_reply p ≡ true → asks_to_end p ≡ false
+reply-goes_on parsed.Skip e = refl
+reply-goes_on (parsed.Ask q) e = here (ends q.verb) e
+  where
+    here : (b : Bool) → not b ≡ true → b ≡ false
+    here true e = absurd (false≢true e)
+    here false e = refl
+reply-goes_on (parsed.Fault fault word) e = refl
 
 module _ (schema : Schema) where
   -- lines without `quit`, and lines after them, ask what each asks

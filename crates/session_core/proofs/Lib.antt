@@ -7,3 +7,4 @@ pub mod Replying
 pub mod SoFar
 pub mod WholeScripts
 pub mod Texts
+mod NoPoints

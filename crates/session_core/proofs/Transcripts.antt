@@ -141,3 +141,26 @@ module _ (schema : Schema) (is_stat : Stat → Type 0) where
   -- where nothing was asked, no replies are a transcript
   pub transcript_none : (lacks final : Bool) (l : List Point) (u : ℕ) → IsTranscript schema is_stat final l u lacks [] []
   transcript_none lacks final l u = record { each = tt; order = tt }
+
+-- numbers that meet one test meet another
+module _ (schema : Schema) (A B : Stat → Type 0) (weaker : (stat : Stat) → A stat → B stat) where
+  may_print_weaker : (final : Bool) (l : List Point) (u : ℕ) (reply : Reply) → MayPrint schema A final l u reply → MayPrint schema B final l u reply
+  may_print_weaker final l u (Reply.Table table) m = m
+  may_print_weaker final l u (Reply.Stat stat seen) m = (m.0, weaker stat m.1)
+  may_print_weaker final l u (Reply.Told told) m = m
+  may_print_weaker final l u (Reply.Fault fault word) m = tt
+  may_print_weaker final l u Reply.NoMemory m = tt
+
+  answers_weaker : (lacks final : Bool) (l : List Point) (u : ℕ) (p : Parsed) (reply : Reply) → Answers schema A final l u lacks p reply → Answers schema B final l u lacks p reply
+  answers_weaker lacks final l u p reply (inl r) = inl (record { meant = r.meant; numbers = may_print_weaker final l u reply r.numbers; fits = r.fits })
+  answers_weaker lacks final l u p reply (inr r) = inr r
+
+  all_weaker : (lacks final : Bool) (l : List Point) (u : ℕ) (ps : List Parsed) (replies : List Reply) → AllAnswered schema A final l u lacks ps replies → AllAnswered schema B final l u lacks ps replies
+  all_weaker lacks final l u [] [] all = tt
+  all_weaker lacks final l u [] (reply ∷ replies) all = absurd all
+  all_weaker lacks final l u (p ∷ ps) [] all = absurd all
+  all_weaker lacks final l u (p ∷ ps) (reply ∷ replies) all = (answers_weaker lacks final l u p reply all.0, all_weaker lacks final l u ps replies all.1)
+
+  -- a transcript whose numbers meet one test is one whose numbers meet a weaker one
+  pub transcript_weaker : (lacks final : Bool) (l : List Point) (u : ℕ) (ps : List Parsed) (replies : List Reply) → IsTranscript schema A final l u lacks ps replies → IsTranscript schema B final l u lacks ps replies
+  transcript_weaker lacks final l u ps replies t = record { each = all_weaker lacks final l u ps replies t.each; order = t.order }

@@ -8,7 +8,7 @@
 //!
 //! ```
 //! let (source, answered) = answer_script(alloc, &cube, cube.seen(), source, &mut sink);
-//! assert!(answered == Ok(()));
+//! assert!(answered.end == Ok(()) && !answered.lacked);
 //! // of the script "told\nquit\n", over a cube of three points:
 //! assert_eq!(sink.bytes(), b"{\"told\":3}\n");
 //! ```
@@ -21,6 +21,6 @@ mod serving;
 #[cfg(test)]
 mod tests;
 
-pub use answering::{answer_lines, answer_script};
+pub use answering::{ScriptEnd, answer_lines, answer_script};
 pub use fault::SessionFault;
 pub use serving::{Served, serve};

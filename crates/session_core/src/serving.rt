@@ -98,7 +98,7 @@ pub fn serve<V: CubeView, L: Ledger>(
     parsed: &Parsed,
     steps: &mut Steps<L>,
 ) -> Result<Served, NoMemory>
-    requires { IsTrue (asks_valid (V.schema view.now) parsed.now) }
+    requires valid { IsTrue (asks_valid (V.schema view.now) parsed.now) }
     ensures served { EachCounted (V.weight_at view.now) (V.seen view.now) (λ h. IfOk result (Serves (V.numbers view.now) (V.schema view.now) h told parsed.now)) }
     ensures cost { EachCounted (V.weight_at view.now) (V.seen view.now) (λ h. steps.new ≤ steps.old + answer_cost (V.costs view.now) (V.schema view.now) parsed.now h) }
     ensures no_memory { OnErr result (asks_reply parsed.now ≡ true) }

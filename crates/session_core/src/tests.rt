@@ -1,14 +1,14 @@
-//! Lines and scripts over a plain cube of three points, and over one of none.
-ghost use Rattle.std.specs.Prelude.{◌≡◌, ◌<◌, ◌≤◌, IfOk};
+//! Lines and scripts over a plain cube of three points, and over one of none, and how many steps an answer takes.
+ghost use Rattle.std.specs.Prelude.{◌≡◌, ◌^◌, ◌<◌, ◌≤◌, ◌∷◌, [], IfOk};
 ghost use Rattle.probe_core.specs.Blanks.{IsBlankOf};
 
-use crate::{Served, SessionFault, answer_script, serve};
-use cube_view::{CubeView, Point, is_sound};
+use crate::{ScriptEnd, Served, SessionFault, answer_script, serve};
+use cube_view::{CubeView, Point, Tile, is_sound};
 use example_schemas::{point, schema_of_kinds};
 use outer_io::{List, MemSink, MemSource, NoMemory};
 use plain_cube::PlainCube;
 use probe_core::Steps;
-use query_syntax::parse;
+use query_syntax::{Choice, Parsed, Query, Span, Verb, parse};
 use std::alloc::Global;
 use std::marker::Brand;
 use std::process::Abort;
@@ -134,6 +134,45 @@ fn answers_over_a_view_of_no_points(rt: HostRuntime) -> Result<(), Fail> {
     Ok(())
 }
 
+/// The map one level below all of space, of all values and bins.
+fn first_map() -> Parsed
+    ensures { result ≡ Parsed.Ask (record { verb = Verb.Map 1; region = record { z = 0; x = 0; y = 0 }; sets = Choice.All ∷ Choice.All ∷ Choice.All ∷ Choice.All ∷ []; time = record { from = 0; to = 2 ^ 32 } }) }
+{
+    Parsed::Ask(Query {
+        verb: Verb::Map(1),
+        region: Tile { z: 0, x: 0, y: 0 },
+        sets: [Choice::All; 4],
+        time: Span {
+            from: 0,
+            to: 1 << 32,
+        },
+    })
+}
+
+/// No step is taken where there are no points.
+fn maps_no_points<L: Ledger>(alloc: Global, steps: &mut Steps<L>) -> Result<Served, NoMemory>
+    ensures { steps.new ≤ steps.old }
+{
+    let cube = PlainCube::new(alloc, schema_of_kinds(alloc)?);
+    let map = first_map();
+    serve(alloc, &cube, TOLD, &map, steps)
+}
+
+fn no_steps<L: Ledger>(rt: &impl Abort, alloc: Global, blank: Blank) -> Result<(), NoMemory>
+    requires { IsBlankOf L.name L.parts blank }
+{
+    let mut steps = Steps::<L>::new(blank);
+    let served = maps_no_points(alloc, &mut steps)?;
+    assert_eq!(rt; shown(&served), b"{\"rows\":[],\"seen\":0}\n".as_slice());
+    Ok(())
+}
+
+#[test]
+fn a_map_of_no_points_is_answered_at_once(rt: HostRuntime) -> Result<(), Fail> {
+    no_steps::<Brand>(&rt, rt.alloc(), Blank::new(1))?;
+    Ok(())
+}
+
 fn bytes_of(alloc: Global, text: &str) -> Result<List<u8>, NoMemory> {
     match Vec::from_slice(alloc, text.as_bytes()) {
         Ok(bytes) => Ok(List::from_vec(bytes)),
@@ -169,7 +208,11 @@ fn check_script(
     let mut sink = MemSink::new(alloc, listed(alloc, script.failing_put)?);
     let source = MemSource::new(bytes_of(alloc, script.text)?, 5, fails);
     let (_, answered) = answer_script(alloc, cube, cube.seen(), source, &mut sink);
-    assert_eq!(rt; answered, script.answer, "of {}", script.text);
+    let want = ScriptEnd {
+        lacked: false,
+        end: script.answer,
+    };
+    assert_eq!(rt; answered, want, "of {}", script.text);
     assert_eq!(rt; sink.bytes(), script.put.as_bytes(), "of {}", script.text);
     Ok(())
 }

@@ -1,8 +1,8 @@
 //! The points of a feed.
-ghost use Rattle.std.specs.Prelude.{◌≡◌, ◌<◌, ◌≤◌, [], ◌∷◌, ◌++◌, length, true, OnOk, IsErrOf};
-ghost use Rattle.cube_main.specs.Loading.{KeepsRows, Loads, TakesFeed};
+ghost use Rattle.std.specs.Prelude.{◌≡◌, ◌+◌, ◌<◌, ◌≤◌, [], ◌∷◌, true, OnOk, IsErrOf};
+ghost use Rattle.cube_main.specs.Loading.{CountsMore, KeepsRows, Loads, TakesFeed};
 ghost use Rattle.cube_main.specs.Outside.{seen_place};
-ghost use Rattle.cube_view.specs.Bag.{most_points};
+ghost use Rattle.cube_view.specs.Bag.{most_points, Counts};
 ghost use Rattle.feed_reader.specs.Feeds.{is_feed_refused, points_in};
 ghost use Rattle.feed_reader.specs.Reading.{IsAtStart};
 ghost use Rattle.feed_reader.specs.Rows.{row_of_line, IsValidRow};
@@ -10,13 +10,11 @@ ghost use Rattle.outer_io.specs.Cutting.{rest_of};
 ghost use Rattle.outer_io.specs.Faults.{HasCause};
 ghost use Rattle.outer_io.specs.Progress.{IsGoing, IsTooLarge, PassesAll};
 ghost use Rattle.outer_io.specs.Told.{Told};
-ghost use Rattle.plain_cube.specs.Kept.{points_of, schema_of};
 
 use crate::status::Status;
-use cube_view::CubeView;
+use cube_view::Grow;
 use feed_reader::{Header, NoHeader, Row, next_row, read_header};
 use outer_io::{CutFault, IoFault, LineCutter, NoMemory, Place, Source};
-use plain_cube::PlainCube;
 use std::alloc::Global;
 
 /// Why a feed is not loaded.
@@ -66,11 +64,12 @@ impl From<NoHeader> for LoadFault {
 }
 
 /// Keeps the row's point in the cube, if the row is one.
-fn keep_point(cube: &mut PlainCube, row: Row) -> Result<(), NoMemory>
-    requires valid { IsValidRow (schema_of cube.old) row }
-    requires room { length (points_of cube.old) < most_points }
-    ensures kept { OnOk result (points_of cube.new ≡ points_of cube.old ++ points_in (row ∷ [])) }
-    ensures schema { schema_of cube.new ≡ schema_of cube.old }
+fn keep_point<V: Grow>(cube: &mut V, row: Row) -> Result<(), NoMemory>
+    requires valid { IsValidRow (V.schema cube.old) row }
+    requires room { V.seen cube.old < most_points }
+    ensures kept { OnOk result (CountsMore (Counts (V.weight_at cube.old) (V.seen cube.old)) (Counts (V.weight_at cube.new) (V.seen cube.new)) (points_in (row ∷ []))) }
+    ensures schema { V.schema cube.new ≡ V.schema cube.old }
+    ensures few { OnOk result (V.seen cube.new ≤ V.seen cube.old + 1) }
 {
     match row {
         Row::Point(point) => cube.insert(point),
@@ -80,17 +79,17 @@ fn keep_point(cube: &mut PlainCube, row: Row) -> Result<(), NoMemory>
 }
 
 /// Keeps the points of the lines that are left in the cube, which has no more points than the cutter gave lines.
-fn keep_points<S: Source>(
+fn keep_points<V: Grow, S: Source>(
     alloc: Global,
     header: &Header,
     cutter: &mut LineCutter<S>,
-    cube: &mut PlainCube,
+    cube: &mut V,
 ) -> Result<(), LoadFault>
-    requires schema { header.now.schema ≡ schema_of cube.old }
+    requires schema { header.now.schema ≡ V.schema cube.old }
     requires going { IsGoing cutter.old }
-    requires few { length (points_of cube.old) ≤ cutter.old.given }
-    ensures points { OnOk result (KeepsRows S.left S.faults header.now.places (schema_of cube.old) cutter.old cutter.new (points_of cube.old) (points_of cube.new)) }
-    ensures schema { schema_of cube.new ≡ schema_of cube.old }
+    requires few { V.seen cube.old ≤ cutter.old.given }
+    ensures points { OnOk result (KeepsRows S.left S.faults header.now.places (V.schema cube.old) cutter.old cutter.new (Counts (V.weight_at cube.old) (V.seen cube.old)) (Counts (V.weight_at cube.new) (V.seen cube.new))) }
+    ensures schema { V.schema cube.new ≡ V.schema cube.old }
     ensures refused { IsErrOf result LoadFault.Refused → IsTooLarge S.left cutter.old }
     ensures cause { HasCause (S.faults cutter.old.source) (S.faults cutter.new.source) result LoadFault.Read }
 {
@@ -101,17 +100,17 @@ fn keep_points<S: Source>(
 }
 
 /// Keeps the points of a feed in an empty cube, from a cutter that gave nothing yet.
-fn load_lines<S: Source>(
+fn load_lines<V: Grow, S: Source>(
     alloc: Global,
     cutter: &mut LineCutter<S>,
-    cube: &mut PlainCube,
+    cube: &mut V,
 ) -> Result<(), LoadFault>
-    requires empty { points_of cube.old ≡ [] }
+    requires empty { Counts (V.weight_at cube.old) (V.seen cube.old) [] }
     requires start { IsAtStart cutter.old }
     requires going { IsGoing cutter.old }
-    ensures points { OnOk result (Told (rest_of S.left cutter.old) (TakesFeed (schema_of cube.old) (points_of cube.new))) }
-    ensures schema { schema_of cube.new ≡ schema_of cube.old }
-    ensures refused { IsErrOf result LoadFault.Refused → Told (rest_of S.left cutter.old) (λ feed. is_feed_refused (schema_of cube.old) feed ≡ true) }
+    ensures points { OnOk result (Told (rest_of S.left cutter.old) (TakesFeed (V.schema cube.old) (Counts (V.weight_at cube.new) (V.seen cube.new)))) }
+    ensures schema { V.schema cube.new ≡ V.schema cube.old }
+    ensures refused { IsErrOf result LoadFault.Refused → Told (rest_of S.left cutter.old) (λ feed. is_feed_refused (V.schema cube.old) feed ≡ true) }
     ensures cause { HasCause (S.faults cutter.old.source) (S.faults cutter.new.source) result LoadFault.Read }
 {
     let header = read_header(alloc, cube.schema(), cutter)?;
@@ -119,15 +118,15 @@ fn load_lines<S: Source>(
 }
 
 /// Keeps the points of a feed in an empty cube. The source comes back with every answer.
-fn load_source<S: Source>(
+fn load_source<V: Grow, S: Source>(
     alloc: Global,
     source: S,
-    cube: &mut PlainCube,
+    cube: &mut V,
 ) -> (S, Result<(), LoadFault>)
-    requires { points_of cube.old ≡ [] }
-    ensures points { OnOk result.1 (Told (S.left source) (TakesFeed (schema_of cube.old) (points_of cube.new))) }
-    ensures schema { schema_of cube.new ≡ schema_of cube.old }
-    ensures refused { IsErrOf result.1 LoadFault.Refused → Told (S.left source) (λ feed. is_feed_refused (schema_of cube.old) feed ≡ true) }
+    requires { Counts (V.weight_at cube.old) (V.seen cube.old) [] }
+    ensures points { OnOk result.1 (Told (S.left source) (TakesFeed (V.schema cube.old) (Counts (V.weight_at cube.new) (V.seen cube.new)))) }
+    ensures schema { V.schema cube.new ≡ V.schema cube.old }
+    ensures refused { IsErrOf result.1 LoadFault.Refused → Told (S.left source) (λ feed. is_feed_refused (V.schema cube.old) feed ≡ true) }
     ensures cause { HasCause (S.faults source) (S.faults result.0) result.1 LoadFault.Read }
 {
     match LineCutter::new(alloc, source) {
@@ -140,15 +139,15 @@ fn load_source<S: Source>(
 }
 
 /// Keeps the points of the named feed in an empty cube, or says how the run ends. The feed's source is given back.
-pub(crate) fn load<P: Place>(
+pub(crate) fn load<V: Grow, P: Place>(
     alloc: Global,
     feed: &str,
     place: &mut P,
-    cube: &mut PlainCube,
+    cube: &mut V,
 ) -> Result<(), Status>
-    requires { points_of cube.old ≡ [] }
-    ensures loads { Loads (seen_place P.files P.read_faults P.write_faults P.opened P.created) place.old place.new feed.now (schema_of cube.old) (points_of cube.new) result }
-    ensures schema { schema_of cube.new ≡ schema_of cube.old }
+    requires { Counts (V.weight_at cube.old) (V.seen cube.old) [] }
+    ensures loads { Loads (seen_place P.files P.read_faults P.write_faults P.opened P.created) place.old place.new feed.now (V.schema cube.old) (Counts (V.weight_at cube.new) (V.seen cube.new)) result }
+    ensures schema { V.schema cube.new ≡ V.schema cube.old }
 {
     match place.open(feed) {
         Ok(source) => {

@@ -4,34 +4,35 @@ use Rattle.cube_main.proofs.Answered.{answered_file, unopened_file}
 use Rattle.cube_main.specs.Answering.{status_of_script, AnswersFile}
 use Rattle.cube_main.specs.Outside.{seen_place, seen_sink}
 use Rattle.cube_main.specs.declared.status.Status.{Status}
-use Rattle.plain_cube.specs.Kept.{points_of, schema_of}
-use Rattle.plain_cube.specs.Owned.{Counts-own}
+use Rattle.cube_view.specs.Bag.{Counts}
 use Rattle.cube_main.proofs.demo.run_script.Goals as goal
 
 pub returns-in-Ok-clause-answers : goal.returns-in-Ok-clause-answers
 returns-in-Ok-clause-answers g c =
     let p = seen_place g.P.Place.files g.P.Place.read_faults g.P.Place.write_faults g.P.Place.opened g.P.Place.created in
     let s = seen_sink g.O.Sink.held g.O.Sink.faults g.O.Sink.name in
-    subst (λ (status : Status). AnswersFile p s c.args.place.now c.give_back_in.new.self c.args.out.now c.answer_script-source.new.out (schema_of c.args.cube.now) (points_of c.args.cube.now) c.args.script.now status)
+    let at = g.V.CubeView.weight_at c.args.view.now in
+    let n = g.V.CubeView.seen c.args.view.now in
+    subst (λ (status : Status). AnswersFile p s c.args.place.now c.give_back_in.new.self c.args.out.now c.answer_script-source.new.out (g.V.CubeView.schema c.args.view.now) g.V.CubeView.is_stat (Counts at n) c.args.script.now status)
     (sym c.status_of.ensures)
-    (answered_file p s c.args.place.now c.give_back_in.new.self c.args.out.now c.answer_script-source.new.out (schema_of c.args.cube.now) (points_of c.args.cube.now) c.args.script.now
-    _ _ c.seen.result (g.P.In.Source.left c.in-Ok.source) (Counts-own (points_of c.args.cube.now)) c.seen.ensures c.in-Ok.ensures.left
-    _ c.answer_script-source.ensures.all c.answer_script-source.ensures.too_much c.answer_script-source.ensures.part
+    (answered_file p s c.args.place.now c.give_back_in.new.self c.args.out.now c.answer_script-source.new.out (g.V.CubeView.schema c.args.view.now) g.V.CubeView.is_stat at n c.args.script.now
+    (g.V.CubeView.numbers c.args.view.now) (g.met.V.CubeView.structure c.args.view.now) c.seen.result (g.P.In.Source.left c.in-Ok.source) c.seen.ensures c.in-Ok.ensures.left
     (c.give_back_in.ensures.opened ∙ c.in-Ok.ensures.opened.noted (λ e. cc))
     (record {
       files = c.give_back_in.ensures.files ∙ c.in-Ok.ensures.files;
       created = c.give_back_in.ensures.writing.1 ∙ c.in-Ok.ensures.writing.1;
       write_faults = c.give_back_in.ensures.writing.0 ∙ c.in-Ok.ensures.writing.0;
-    }))
+    })
+    _ c.answer_script-source.ensures.all c.answer_script-source.ensures.too_much c.answer_script-source.ensures.part)
 
 pub returns-in-Err-Failed-clause-answers : goal.returns-in-Err-Failed-clause-answers
 returns-in-Err-Failed-clause-answers g c =
-    unopened_file _ _ _ _ _ _ _ _ _ (λ e. cc) (λ e. cc) (λ e. cc)
+    unopened_file _ _ _ _ _ _ _ _ _ _ (λ e. cc) (λ e. cc) (λ e. cc)
     (1, c.in-Err-Failed.ensures.opened.noted (λ e. cc))
     (record { files = c.in-Err-Failed.ensures.files; created = c.in-Err-Failed.ensures.writing.1; write_faults = c.in-Err-Failed.ensures.writing.0 })
 
 pub returns-in-Err-NoMemory-clause-answers : goal.returns-in-Err-NoMemory-clause-answers
 returns-in-Err-NoMemory-clause-answers g c =
-    unopened_file _ _ _ _ _ _ _ _ _ (λ e. cc) (λ e. cc) (λ e. cc)
+    unopened_file _ _ _ _ _ _ _ _ _ _ (λ e. cc) (λ e. cc) (λ e. cc)
     (0, c.in-Err-NoMemory.ensures.opened.unnoted (cc) ∙ sym (append-nil _))
     (record { files = c.in-Err-NoMemory.ensures.files; created = c.in-Err-NoMemory.ensures.writing.1; write_faults = c.in-Err-NoMemory.ensures.writing.0 })

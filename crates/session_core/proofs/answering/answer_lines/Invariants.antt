@@ -6,7 +6,7 @@ use Rattle.session_core.proofs.answering.answer_lines.Given as goal
 
 abbrev pub invariant-turns : goal.invariant-turns
 invariant-turns g l = record {
-  answered : Answered g.V.CubeView.weight_at g.V.CubeView.seen g.V.CubeView.schema g.V.CubeView.numbers l.view l.told g.S.Source.left g.S.Source.faults l.initial.cutter l.cutter (g.O.Sink.held l.initial.out) (g.O.Sink.held l.out);
+  answered : Answered g.V.CubeView.weight_at g.V.CubeView.seen g.V.CubeView.schema g.V.CubeView.numbers l.view l.told l.lacked g.S.Source.left g.S.Source.faults l.initial.cutter l.cutter (g.O.Sink.held l.initial.out) (g.O.Sink.held l.out);
   going : IsGoing l.cutter;
   source : g.S.Source.faults l.cutter.source ≡ g.S.Source.faults l.initial.cutter.source;
   sink : g.O.Sink.faults l.out ≡ g.O.Sink.faults l.initial.out;
