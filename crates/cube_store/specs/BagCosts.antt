@@ -21,9 +21,13 @@ labels_below schema a h = distinct_count eqb (map (λ p. label_of schema (spot_o
 abbrev pub bins_under : Schema → Address → List Point → ℕ
 bins_under schema a h = distinct_count eqb (map (λ p. (spot_of p).bin) (weighing_under schema a h))
 
--- The costs, said of a list that the bag counts.
+-- the costs that a list's bag gives: a node and a search of the labels, and a table and a search of the bins
+abbrev pub bag_costs : Schema → List Point → ViewCosts
+bag_costs schema h = record { down_cost = λ a. 1 + bits (labels_below schema a h); before_cost = λ a. 2 + bits (bins_under schema a h) }
+
+-- The costs are those of the list's bag, at each address that a walk comes to.
 pub record AreBagCosts (schema : Schema) (costs : ViewCosts) (h : List Point) : Type 0 where
-  -- `down` and `next_label` search the labels that have a spot
-  pub down : (a : Address) → IsWalkAddress schema a → a.level < deepest schema a.dim → costs.down_cost a ≡ 1 + bits (labels_below schema a h)
-  -- `before` searches the different bins
-  pub before : (a : Address) → IsWalkAddress schema a → a.dim ≡ time_dim schema → costs.before_cost a ≡ 2 + bits (bins_under schema a h)
+  -- above a dimension's deepest level, where `down` and `next_label` may be asked
+  pub down : (a : Address) → IsWalkAddress schema a → a.level < deepest schema a.dim → costs.down_cost a ≡ (bag_costs schema h).down_cost a
+  -- in time, where `before` may be asked
+  pub before : (a : Address) → IsWalkAddress schema a → a.dim ≡ time_dim schema → costs.before_cost a ≡ (bag_costs schema h).before_cost a

@@ -144,3 +144,25 @@ fn counts_the_corners_of_the_deepest_schema(rt: HostRuntime) -> Result<(), Fail>
     check(&rt, rt.alloc(), schema, &steps)?;
     Ok(())
 }
+
+// Each allocation of the last insertion is made to fail in turn by hand. Then the cube is as before, and takes the point
+// when it is asked again.
+#[test]
+fn a_refused_insertion_changes_nothing(rt: HostRuntime) -> Result<(), Fail> {
+    let mut cube = Cube::new(rt.alloc(), schema_of_kinds(rt.alloc())?)?;
+    for known in [point(0, 0, 0, 0), point(7, 7, 1, 0), point(0, 0, 0, 1)] {
+        assert!(&rt; is_sound(&cube.schema, &known));
+        assert!(&rt; cube.size < 1 << 35);
+        cube.insert(known)?;
+    }
+    let (before, last) = (cube.stat(), point(7, 0, 1, 2));
+    assert!(&rt; is_sound(&cube.schema, &last));
+    assert!(&rt; cube.size < 1 << 35);
+    if cube.insert(last).is_err() {
+        assert_eq!(&rt; cube.stat(), before);
+        assert_eq!(&rt; cube.size, 3);
+        cube.insert(last)?;
+    }
+    assert_eq!(&rt; cube.size, 4);
+    Ok(())
+}
