@@ -16,4 +16,5 @@ pub mod Rooting
 pub mod Standing
 pub mod Telling
 pub mod Totalling
+pub mod WalkCosting
 pub mod Whole

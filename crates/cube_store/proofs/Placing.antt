@@ -192,7 +192,8 @@ module _ (z : Schema) (a : Address) (W : IsWalkAddress z a) where
           ap (λ (j : ℕ). get_or a.values j None) i ∙ W.beyond.later (a.dim - 1) (omega arith);
     }
 
-open_at : (k : ℕ) → ◌≡◌ {A = Option ℕ} (get_or (None ∷ None ∷ None ∷ None ∷ []) k None) None
+-- no value is asked for at the top
+pub open_at : (k : ℕ) → ◌≡◌ {A = Option ℕ} (get_or (None ∷ None ∷ None ∷ None ∷ []) k None) None
 open_at zero = refl
 open_at (suc zero) = refl
 open_at (suc (suc zero)) = refl

@@ -1,10 +1,12 @@
 -- What a cube counts, and what its calls cost, said of the list that it counts.
-use Rattle.std.specs.Prelude.{List}
+use Rattle.std.specs.Prelude.{◌≡◌, List}
 use Rattle.cube_view.specs.Bag.{EachCounted}
+use Rattle.cube_view.specs.Costs.{address_cost}
 use Rattle.cube_view.specs.Points.{Point}
-use Rattle.cube_store.specs.BagCosts.{AreBagCosts}
+use Rattle.cube_view.specs.declared.address.Address.{Address}
+use Rattle.cube_store.specs.BagCosts.{AreBagCosts, bag_costs}
 use Rattle.cube_store.specs.Counted.{CountsPoints}
-use Rattle.cube_store.specs.Reading.{spot_weight, cube_costs}
+use Rattle.cube_store.specs.Reading.{IsWalkAddress, spot_weight, cube_costs}
 use Rattle.cube_store.specs.declared.cube.Cube.{Cube}
 
 -- the cube counts the points of the list
@@ -14,3 +16,7 @@ CubeCounts cube h = CountsPoints cube.schema cube.arena cube.root.0 cube.size h
 -- the costs of a cube are numbers of each list that its bag counts
 abbrev pub TellsCosts : Type 0
 TellsCosts = (cube : Cube) → EachCounted (spot_weight cube.schema cube.arena) cube.size (AreBagCosts cube.schema (cube_costs cube.arena))
+
+-- what a walk to an address costs in a cube is what it costs by the bag of each list that is counted
+abbrev pub TellsWalkCosts : Type 0
+TellsWalkCosts = (cube : Cube) → EachCounted (spot_weight cube.schema cube.arena) cube.size (λ h. (a : Address) → IsWalkAddress cube.schema a → address_cost (cube_costs cube.arena) cube.schema h a ≡ address_cost (bag_costs cube.schema h) cube.schema h a)

@@ -1,5 +1,10 @@
+use Rattle.cube_store.specs.Reading.{cube_costs}
 use Rattle.cube_store.proofs.Costing.{tells_costs}
+use Rattle.cube_store.proofs.WalkCosting.{address_cost-same}
 use Rattle.cube_store.proofs.laws.cost_laws.Goals as goal
 
-pub returns : goal.returns
-returns c = tells_costs
+pub returns-clause-calls : goal.returns-clause-calls
+returns-clause-calls c = tells_costs
+
+pub returns-clause-walks : goal.returns-clause-walks
+returns-clause-walks c cube h counts a W = address_cost-same cube.schema (cube_costs cube.arena) h (tells_costs cube h counts) a W
