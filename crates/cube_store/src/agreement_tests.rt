@@ -22,7 +22,7 @@ struct Way {
     values: [Option<u8>; 4],
 }
 
-// What a view answers on a way: labels at the tile and the category, and totals before four ends.
+// What a view answers on a way: the next labels at the tile from three labels on, and the totals before four ends.
 #[derive(Clone, Copy, PartialEq, Eq, Debug)]
 struct Answers {
     labels: [Option<u8>; 3],
