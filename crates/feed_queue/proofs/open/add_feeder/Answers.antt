@@ -1,0 +1,5 @@
+use Rattle.feed_queue.proofs.Keeping.{may_split}
+use Rattle.feed_queue.proofs.open.add_feeder.Goals as goal
+
+pub another-part-requires-clause-rule : goal.another-part-requires-clause-rule
+another-part-requires-clause-rule c = may_split _ _ c.requires.draws.0

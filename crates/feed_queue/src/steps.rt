@@ -1,0 +1,89 @@
+//! The steps of a lane, on a pass alone.
+ghost use Rattle.std.specs.Prelude.{◌≡◌, ◌<◌, [], MatchOption, IfOk};
+ghost use Rattle.crossbeam_queue.specs.Passes.{view, IsPassOf, IsSamePass};
+ghost use Rattle.feed_queue.specs.Steps.{ViewSends, ViewDraws, after_item, IsDraw, drawing};
+ghost use Rattle.feed_queue.specs.declared.item.Slot.TheVariants.{Carries};
+ghost use Rattle.feed_queue.specs.declared.line.View.TheVariants.{Draws};
+
+use crate::item::{Item, Slot};
+use crate::line::{Begins, LanePass, Line, Opens, Sends, Takes};
+use cube_view::Schema;
+use outer_io::NoMemory;
+use std::alloc::Global;
+use std::sync::Wait;
+use std::thread;
+
+/// Sends an item, and waits while the queue is full.
+pub(crate) fn push<R: Wait>(rt: &R, line: &Line, pass: &mut LanePass, item: Item)
+    requires queue { IsPassOf line.now pass.old }
+    requires sends { ViewSends (view pass.old) item }
+    ensures queue { IsSamePass pass.old pass.new }
+    ensures sent { view pass.new ≡ after_item (view pass.old) item }
+{
+    for _ in rt.forever() {
+        // The item is at the queue's back, and the pass has sent it; or the queue is full, and all is as before.
+        match line.push_as::<Sends, R>(rt, pass, Slot::Carries(item)) {
+            Ok(()) => break,
+            Err(_) => thread::yield_now(),
+        }
+    }
+}
+
+/// Draws the item at the front, if there is one.
+pub(crate) fn pop<R: Wait>(rt: &R, line: &Line, pass: &mut LanePass) -> Option<Item>
+    requires queue { IsPassOf line.now pass.old }
+    requires draws { ViewDraws (view pass.old) }
+    ensures queue { IsSamePass pass.old pass.new }
+    ensures drawn { MatchOption result (view pass.new ≡ view pass.old) (λ i. IsDraw (view pass.old) (Carries i) (view pass.new)) }
+{
+    // The front has left the queue, and the pass has drawn it; or the queue is empty, and all is as before.
+    match line.pop_as::<Takes, R>(rt, pass) {
+        Some(Slot::Carries(item)) => Some(item),
+        Some(Slot::Opens(_)) => unreachable!(),
+        None => None,
+    }
+}
+
+/// Draws the item at the front, and waits for one.
+pub(crate) fn wait_pop<R: Wait>(rt: &R, line: &Line, pass: &mut LanePass) -> Item
+    requires queue { IsPassOf line.now pass.old }
+    requires draws { ViewDraws (view pass.old) }
+    ensures queue { IsSamePass pass.old pass.new }
+    ensures drawn { IsDraw (view pass.old) (Carries result) (view pass.new) }
+{
+    for _ in rt.forever() {
+        if let Some(item) = pop(rt, line, pass) {
+            return item;
+        }
+        thread::yield_now();
+    }
+    unreachable!()
+}
+
+/// A queue whose one pass draws and knows the schema. The schema goes through the queue once, since what a pass knows
+/// begins with a constant and changes by what goes in and comes out.
+pub(crate) fn open_line(
+    alloc: Global,
+    schema: &Schema,
+    room: usize,
+) -> Result<(Line, LanePass), NoMemory>
+    requires { 0 < room }
+    ensures { IfOk result (λ t. IsPassOf t.0 t.1 × (view t.1 ≡ Draws (drawing schema.now [] 0 []))) }
+{
+    let Ok((line, mut pass)) = Line::ruled(alloc, room) else {
+        return Err(NoMemory);
+    };
+    let Ok(copy) = Box::new(alloc, schema.copy(alloc)?) else {
+        return Err(NoMemory);
+    };
+    // The queue holds the schema alone, and the pass knows it. No other thread is in the way, so this is not refused.
+    match line.try_push_as::<Opens>(&mut pass, Slot::Opens(copy)) {
+        Ok(()) => {}
+        Err(_) => return Err(NoMemory),
+    }
+    // The queue is empty, and the pass draws, with no feeder made.
+    match line.try_pop_as::<Begins>(&mut pass) {
+        Some(_) => Ok((line, pass)),
+        None => Err(NoMemory),
+    }
+}
