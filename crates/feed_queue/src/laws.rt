@@ -1,5 +1,6 @@
 //! What holds of lanes, as laws of the definitions.
 ghost use Rattle.feed_queue.specs.Ends.{EndsByCount, EndsInTurn, NewFeedsInTurn};
+ghost use Rattle.feed_queue.specs.Journal.{LinesArePrefixFree, JournalsAreOfOne};
 ghost use Rattle.feed_queue.specs.MachineSteps.{SendIsPush, DrawIsPop, SentEndIsNone, DrawnEndIsNone, SplitIsNone, JoinIsNone};
 
 use crate::{DrawEnd, Drawn, Ended, FeedEnd};
@@ -17,6 +18,13 @@ pub fn lane_laws()
     ensures join { JoinIsNone }
     ensures count { EndsByCount }
     ensures in_turn { EndsInTurn × NewFeedsInTurn }
+{}
+
+/// No line of a valid entry, with its line feed, is a prefix of another's, so one text is the journal of one list of
+/// valid entries at most. It does nothing when run.
+pub fn journal_laws()
+    ensures prefix { LinesArePrefixFree }
+    ensures one { JournalsAreOfOne }
 {}
 
 /// Only a type whose values may go to another thread can be named here.

@@ -19,12 +19,16 @@
 //! ```
 #![tactic(auto)]
 
+#[cfg(test)]
+mod carrying_tests;
 mod draw;
 mod feed;
 mod item;
 mod laws;
 mod line;
 mod open;
+mod printing;
+mod reading;
 mod steps;
 #[cfg(test)]
 mod tests;
@@ -32,5 +36,7 @@ mod tests;
 pub use draw::{DrawEnd, Drawn};
 pub use feed::{Ended, FeedEnd};
 pub use item::Item;
-pub use laws::{lane_ends_may_go, lane_laws};
+pub use laws::{journal_laws, lane_ends_may_go, lane_laws};
 pub use open::open_lane;
+pub use printing::print_entry;
+pub use reading::read_entry;

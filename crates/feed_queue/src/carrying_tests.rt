@@ -1,0 +1,158 @@
+//! Lanes whose ends run in threads: what is kept of the draws is an interleaving of what was to be sent, proved from the
+//! contracts of the ends alone.
+ghost use Rattle.std.specs.Prelude.{◌≡◌, ◌≤◌, ◌<◌, ◌-◌, ◌^◌, ℕ, [], true, length, map, All, IfOk, IsTrue, slice_index_or, vec_len};
+ghost use Rattle.cube_view.specs.Validity.{valid};
+ghost use Rattle.feed_queue.specs.Ends.{MaySendAll, having_sent_all, IsDrawn};
+ghost use Rattle.feed_queue.specs.Items.{count_ends, entries_in};
+ghost use Rattle.world_core.specs.Interleaving.{IsInterleaving, list_of};
+
+use crate::{DrawEnd, Ended, FeedEnd, Item, open_lane};
+use cube_view::{Point, Schema};
+use outer_io::{List, NoMemory};
+use std::alloc::Global;
+use std::process::Abort;
+use std::sync::Wait;
+use std::thread::{Threads, for_each_mut, join};
+use world_core::Entry;
+
+/// A feeder's end with the points that it has to send.
+#[derive(Drop)]
+pub struct Seat {
+    pub end: FeedEnd,
+    pub points: List<Point>,
+}
+
+/// Sends the points, and the End.
+fn send_all<R: Wait>(rt: &R, end: &mut FeedEnd, points: &[Point])
+    requires { MaySendAll end.old points.now }
+    ensures { end.new ≡ having_sent_all end.old points.now }
+{
+    let feeder = end.feeder();
+    for &point in points {
+        let number = end.sent();
+        let entry = Entry {
+            feeder,
+            number,
+            point,
+        };
+        end.send(rt, Item::One(entry));
+    }
+    let sent = end.sent();
+    end.send(rt, Item::End(feeder, sent));
+}
+
+/// Each feeder sends its points in a thread of its own.
+fn send_each<R: Threads + Wait + Sync>(rt: &R, seats: &mut [Seat])
+    requires { All (λ s. MaySendAll s.end s.points) seats.old }
+    ensures each { (i : ℕ) (d : _) → i < length seats.old → (slice_index_or seats.new i d).end ≡ having_sent_all (slice_index_or seats.old i d).end (slice_index_or seats.old i d).points }
+    ensures size { length seats.new ≡ length seats.old }
+{
+    for_each_mut(
+        rt,
+        seats,
+        8,
+        &|_, seat: &mut Seat|
+            requires { MaySendAll seat.old.end seat.old.points }
+            ensures { seat.new.end ≡ having_sent_all seat.old.end seat.old.points }
+        { send_all(rt, &mut seat.end, seat.points.as_slice()) },
+    );
+}
+
+/// Draws until as many Ends were drawn as there are feeders, and keeps the entries.
+fn drain<R: Wait + Abort>(
+    rt: &R,
+    mut end: DrawEnd,
+    feeders: u8,
+    mut kept: List<Entry>,
+) -> (DrawEnd, List<Entry>)
+    requires empty { kept ≡ [] }
+    requires fresh { (end.drawn ≡ []) × (end.feeders ≡ feeders) }
+    ensures same { (result.0.lane ≡ end.lane) × (result.0.feeders ≡ end.feeders) }
+    ensures ended { IsDrawn result.0 × (count_ends result.0.drawn ≡ end.feeders) }
+    ensures kept { result.1 ≡ entries_in result.0.drawn }
+{
+    let mut ended = 0u8;
+    for _ in rt.forever() {
+        if ended == feeders {
+            break;
+        }
+        match end.draw(rt) {
+            Item::One(entry) => kept.add(entry).expect(rt, "memory"),
+            Item::End(_, _) => ended += 1,
+        }
+    }
+    (end, kept)
+}
+
+/// The feeders' ends with their points.
+fn seats_of(
+    alloc: Global,
+    mut ends: List<FeedEnd>,
+    mut feeds: List<List<Point>>,
+) -> Result<List<Seat>, NoMemory>
+    requires { length ends ≡ length feeds }
+    ensures ends { IfOk result (λ seats. map (λ s. s.end) seats ≡ ends) }
+    ensures points { IfOk result (λ seats. map (λ s. s.points) seats ≡ feeds) }
+{
+    match (ends.pop(), feeds.pop()) {
+        (Some(end), Some(points)) => {
+            let mut seats = seats_of(alloc, ends, feeds)?;
+            seats.add(Seat { end, points })?;
+            Ok(seats)
+        }
+        (_end, _points) => Ok(List::new(alloc)),
+    }
+}
+
+/// What is left of the feeders' ends.
+fn finish_each(alloc: Global, seats: Vec<Seat>) -> Result<List<Ended>, NoMemory>
+    requires { All (λ s. s.end.ended ≡ true) seats.items }
+    ensures { IfOk result (λ ended. ended ≡ map (λ s. s.end) seats.items) }
+{
+    let mut ended = List::new(alloc);
+    for seat in seats {
+        ended.add(seat.end.finish())?;
+    }
+    Ok(ended)
+}
+
+/// All entries that the feeders send and the drawing end draws, each in a thread of its own.
+fn carry<R: Threads + Wait + Abort + Sync>(
+    rt: &R,
+    alloc: Global,
+    schema: &Schema,
+    room: usize,
+    feeds: List<List<Point>>,
+) -> Result<List<Entry>, NoMemory>
+    requires room { (1 ≤ room) × (room ≤ 65536) }
+    requires feeds { (1 ≤ length feeds) × (length feeds ≤ 8) }
+    requires few { All (λ points. length points < 2 ^ 32 - 1) feeds }
+    requires valid { All (All (λ p. IsTrue (valid schema.now p))) feeds }
+    ensures { IfOk result (λ entries. IsInterleaving (length feeds) (list_of feeds) entries) }
+{
+    let feeders = feeds.len() as u8;
+    let (ends, draws) = open_lane(alloc, schema, room, feeders)?;
+    let seats = seats_of(alloc, ends, feeds)?.into_vec();
+    let kept = List::new(alloc);
+    let (seats, (draws, kept)) = join(
+        rt,
+        move || -> Vec<Seat>
+            requires { All (λ s. MaySendAll s.end s.points) seats.items }
+            ensures each { (i : ℕ) (d : _) → i < length seats.items → (slice_index_or result.items i d).end ≡ having_sent_all (slice_index_or seats.items i d).end (slice_index_or seats.items i d).points }
+            ensures size { length result.items ≡ length seats.items }
+        {
+            let mut seats = seats;
+            send_each(rt, seats.as_mut_slice());
+            seats
+        },
+        move || -> (DrawEnd, List<Entry>)
+            requires { (kept ≡ []) × (draws.drawn ≡ []) × (draws.feeders ≡ feeders) }
+            ensures same { (result.0.lane ≡ draws.lane) × (result.0.feeders ≡ draws.feeders) }
+            ensures ended { IsDrawn result.0 × (count_ends result.0.drawn ≡ draws.feeders) }
+            ensures kept { result.1 ≡ entries_in result.0.drawn }
+        { drain(rt, draws, feeders, kept) },
+    );
+    let ended = finish_each(alloc, seats)?;
+    draws.settle(rt, ended);
+    Ok(kept)
+}
