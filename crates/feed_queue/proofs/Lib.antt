@@ -2,7 +2,7 @@ mod ByteByByte
 mod Drawing
 pub mod EndCounts
 mod EntryNumbers
-mod InTurn
+pub mod InTurn
 pub mod ItemOrder
 mod Joining
 mod JournalLines
@@ -13,5 +13,6 @@ mod NumberLines
 mod Opening
 mod Running
 mod Sending
+pub mod SentLists
 mod Settling
 mod Updates

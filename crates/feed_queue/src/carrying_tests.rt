@@ -7,7 +7,8 @@ ghost use Rattle.feed_queue.specs.Items.{count_ends, entries_in};
 ghost use Rattle.world_core.specs.Interleaving.{IsInterleaving, list_of};
 
 use crate::{DrawEnd, Ended, FeedEnd, Item, open_lane};
-use cube_view::{Point, Schema};
+use cube_view::{Point, Schema, is_valid};
+use example_schemas::{point, schema_of_kinds};
 use outer_io::{List, NoMemory};
 use std::alloc::Global;
 use std::process::Abort;
@@ -155,4 +156,97 @@ fn carry<R: Threads + Wait + Abort + Sync>(
     let ended = finish_each(alloc, seats)?;
     draws.settle(rt, ended);
     Ok(kept)
+}
+
+/// A point in that bin, if the schema takes it.
+fn valid_point(schema: &Schema, bin: u32) -> Result<Point, NoMemory>
+    ensures { IfOk result (λ p. IsTrue (valid schema.now p)) }
+{
+    let next = point(bin % 8, bin / 8 % 8, 0, bin);
+    if is_valid(schema, &next) {
+        Ok(next)
+    } else {
+        Err(NoMemory)
+    }
+}
+
+/// So many points of the schema, one for each bin from 0 on.
+fn points_of(alloc: Global, schema: &Schema, count: u32) -> Result<List<Point>, NoMemory>
+    ensures few { IfOk result (λ points. length points ≤ count) }
+    ensures valid { IfOk result (λ points. All (λ p. IsTrue (valid schema.now p)) points) }
+{
+    let mut points = List::new(alloc);
+    for bin in 0..count {
+        points.add(valid_point(schema, bin)?)?;
+    }
+    Ok(points)
+}
+
+/// So many points for each of so many feeders.
+fn feeds_of(
+    alloc: Global,
+    schema: &Schema,
+    feeders: u8,
+    count: u32,
+) -> Result<List<List<Point>>, NoMemory>
+    ensures size { IfOk result (λ feeds. length feeds ≡ feeders) }
+    ensures few { IfOk result (λ feeds. All (λ points. length points ≤ count) feeds) }
+    ensures valid { IfOk result (λ feeds. All (All (λ p. IsTrue (valid schema.now p))) feeds) }
+{
+    let mut feeds = List::new(alloc);
+    for _feeder in 0..feeders {
+        feeds.add(points_of(alloc, schema, count)?)?;
+    }
+    Ok(feeds)
+}
+
+/// Whether the feeder's entries are numbered from 0 on, as their bins are, and are so many.
+fn are_numbered(feeder: u8, entries: &[Entry], count: u32) -> bool {
+    let mut next = 0u32;
+    for entry in entries {
+        if entry.feeder == feeder {
+            if entry.number != next || entry.point.spot.bin != next {
+                return false;
+            }
+            next = next.saturating_add(1);
+        }
+    }
+    next == count
+}
+
+/// Carries so many points of each of so many feeders through a lane of that room.
+fn check_carried<R: Threads + Wait + Abort + Sync>(
+    rt: &R,
+    alloc: Global,
+    feeders: u8,
+    count: u32,
+    room: usize,
+) -> Result<(), NoMemory>
+    requires feeders { (1 ≤ feeders) × (feeders ≤ 8) }
+    requires count { count ≤ 10000 }
+    requires room { (1 ≤ room) × (room ≤ 65536) }
+{
+    let schema = schema_of_kinds(alloc)?;
+    let feeds = feeds_of(alloc, &schema, feeders, count)?;
+    let entries = carry(rt, alloc, &schema, room, feeds)?;
+    assert_eq!(rt; entries.len(), usize::from(feeders) * count as usize);
+    for feeder in 1..=feeders {
+        assert!(rt; are_numbered(feeder, entries.as_slice(), count));
+    }
+    Ok(())
+}
+
+#[test]
+fn two_feeders_meet_in_a_lane_of_room_four(rt: HostRuntime) {
+    check_carried(&rt, rt.alloc(), 2, 1000, 4).expect(&rt, "memory");
+}
+
+#[test]
+fn eight_feeders_meet_in_a_lane(rt: HostRuntime) {
+    check_carried(&rt, rt.alloc(), 8, 10000, 1024).expect(&rt, "memory");
+}
+
+#[test]
+fn one_feeder_has_the_widest_lane(rt: HostRuntime) {
+    check_carried(&rt, rt.alloc(), 1, 1000, 65536).expect(&rt, "memory");
 }

@@ -24,6 +24,8 @@ mod carrying_tests;
 mod draw;
 mod feed;
 mod item;
+#[cfg(test)]
+mod journal_tests;
 mod laws;
 mod line;
 mod open;
