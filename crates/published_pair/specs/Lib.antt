@@ -1,0 +1,4 @@
+pub mod Notes
+pub mod Rules
+pub mod Pair
+pub mod PairLaws

@@ -1,0 +1,61 @@
+-- What a pair keeps.
+use Rattle.std.specs.Prelude.{◌≡◌, ℕ, Bool, if◌then◌else◌, ◌&&◌, nat_lt, List, [], ◌∷◌, ◌++◌, length, Option, Some, IfSome}
+use mathlib.Core.Option.{some}
+use lib.ListN.{get_elem?}
+use Rattle.cube_view.specs.Points.{Point}
+use Rattle.cube_view.specs.declared.schema.Schema.{Schema}
+use Rattle.cube_view.specs.Bag.{most_points}
+use Rattle.cube_view.specs.Validity.{sound}
+use Rattle.logbook.specs.Pages.{Book}
+use Rattle.world_core.specs.PairFact.{IsPrefix, pair_fact}
+use Rattle.published_pair.specs.Rules.{Known, head_of}
+use Rattle.published_pair.specs.declared.names.Standing.{Standing}
+use Rattle.published_pair.specs.declared.names.Names.{Names}
+use Rattle.published_pair.specs.declared.stand.Sent.{Sent}
+use Rattle.published_pair.specs.declared.stand.Sent.TheVariants.{Added, Noted}
+
+-- a copy that counts these points and stands at that published list
+abbrev pub standing : List Point → Known → Schema → Standing
+standing h f z = record { points = h; front = f; schema = z }
+
+-- the copy has room for the point, and the schema takes it
+abbrev pub takes : Standing → Point → Bool
+takes s p = sound s.schema p && nat_lt (length s.points) most_points
+
+-- the copy with one point more; one that it does not take is passed over
+abbrev pub with_point : Standing → Point → Standing
+with_point s p = standing (if takes s p then s.points ++ p ∷ [] else s.points) s.front s.schema
+
+-- the copy once it has taken in what was sent
+abbrev pub absorbed : Standing → Sent → Standing
+absorbed s (Added p) = with_point s p
+absorbed s (Noted f) = standing s.points f s.schema
+
+-- an end of the pair of that book and schema, which saw that list last
+abbrev pub names : Book → Schema → List Point → Names
+names b z h = record { head = head_of b; schema = z; seen = h }
+
+-- what an end knows is so where the copy that is shown counts h: it knows the pair and its schema, and saw a prefix of h
+abbrev pub Knows : List Point → Book → Schema → Names → Type 0
+Knows h b z n = (n.head ≡ head_of b) × (n.schema ≡ z) × IsPrefix n.seen h
+
+-- What holds between any two steps, of the copy that is shown (the points h that it counts, its published list f and
+-- its schema z) and of what each end knows
+pub record Keeps (h : List Point) (f : Known) (z : Schema) (views : List (Option Names)) : Type 0 where
+  -- it counts exactly the published list that it stands at
+  pub told : h ≡ f.points
+  -- what each end knows is so
+  pub named : (seat : ℕ) (v : Option Names) → get_elem? views seat ≡ some v → IfSome v (Knows h f.book z)
+
+-- An end that knew v knows w once it has seen the copy
+pub record Sees (v : Option Names) (h : List Point) (f : Known) (z : Schema) (w : Option Names) : Type 0 where
+  -- the copy counts exactly the published list that it stands at
+  pub told : h ≡ f.points
+  -- what the end knew is so: the copy has all that it saw before
+  pub before : IfSome v (Knows h f.book z)
+  -- from now on it has seen the copy's list
+  pub after : w ≡ Some (names f.book z h)
+
+-- the list is fresh for a viewer that was shown and told these lists last: both, and so all before, are prefixes of it
+abbrev pub Fresh : List Point → List Point → List Point → Type 0
+Fresh shown learned list = pair_fact list (shown ∷ learned ∷ [])

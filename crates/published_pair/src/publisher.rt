@@ -1,0 +1,204 @@
+//! The end that adds points.
+ghost use Rattle.std.specs.Prelude.{◌≡◌, ◌+◌, ◌<◌, ◌≤◌, ◌++◌, ◌∷◌, [], length, take, drop, fold, IsTrue, IsOk, Some, OnOk, OnErr, IfOk, MatchResult};
+ghost use Rattle.cube_view.specs.Bag.{most_points};
+ghost use Rattle.cube_view.specs.Validity.{sound};
+ghost use Rattle.left_right.specs.Sides.{view};
+ghost use Rattle.world_core.specs.PairFact.{IsPrefix};
+ghost use Rattle.published_pair.specs.Rules.{head_of};
+ghost use Rattle.published_pair.specs.Pair.{standing, absorbed, names};
+
+use crate::book::{Front, Head};
+use crate::names::{Names, Standing};
+use crate::rule::{Look, PairRule};
+use crate::stand::{Sent, Stand};
+use crate::told::Told;
+use core::mem::replace_with;
+use crossbeam_utils::rule::Protocol;
+use cube_view::{Grow, Point, Schema};
+use ghost_values::GhostList;
+use left_right::Absorb;
+use left_right::writer::Writer;
+use outer_io::NoMemory;
+use std::marker::PhantomData;
+use std::sync::Wait;
+
+pub(crate) type PairWriter<V> = Writer<Stand<V>, Sent, Option<Names>, PairRule<V>>;
+
+/// The copies of a pair, and their rule.
+pub trait Pairing {
+    type Stand: Absorb<Sent, State = Standing> + Drop;
+
+    type Rule: Protocol<Self::Stand, Option<Names>>;
+}
+
+/// The pairing of a view.
+pub struct Of<V> {
+    of: PhantomData<V>,
+}
+
+impl<V: Grow> Pairing for Of<V> {
+    type Stand = Stand<V>;
+
+    type Rule = PairRule<V>;
+}
+
+/// The publisher of a pairing.
+pub struct PublisherOf<K: Pairing> {
+    pub(crate) writer: Writer<K::Stand, Sent, Option<Names>, K::Rule>,
+    pub(crate) head: Head,
+    pub(crate) schema: Schema,
+    /// What viewers are shown.
+    pub(crate) published: Front,
+    /// All that is noted in the book. It is ahead of what viewers are shown only after a publication that was refused.
+    pub(crate) noted: Front,
+    /// What was appended since.
+    pub(crate) since: GhostList<Point>,
+    pub(crate) size: u64,
+    /// All that was appended.
+    pub(crate) appended: GhostList<Point>,
+    pub(crate) viewers: u32,
+    ghost head_is: { head.word ≡ head_of published.book },
+    ghost book: { noted.book ≡ published.book },
+    ghost shown: { K.Stand.state writer.desk.shown.value ≡ standing published.points published schema },
+    ghost pends: { (fold K.Stand.applied (K.Stand.state writer.desk.shown.value) (drop writer.behind writer.log.items)).points ≡ appended.items },
+    ghost goes_by: { (fold K.Stand.applied (K.Stand.state writer.desk.shown.value) (drop writer.behind writer.log.items)).schema ≡ schema },
+    ghost named: { view writer.desk.place ≡ Some (names published.book schema published.points) },
+    ghost joined: { appended.items ≡ noted.points ++ since.items },
+    ghost sized: { size ≡ length since.items },
+    ghost few: { length appended.items ≤ most_points },
+    ghost within: { take (length published.points) noted.points ≡ published.points },
+}
+
+/// Contracts see its book, which names the pair, its schema, the published list, all that was appended, and how many viewers the pair has. It is not `Drop`: end it by `end` or `finish`.
+pub type Publisher<V> = PublisherOf<Of<V>>;
+
+/// Shows viewers what is pending, which ends in a list that is noted. After `Err` they see what they saw.
+pub(crate) fn show<V: Grow, R: Wait>(
+    rt: &R,
+    writer: PairWriter<V>,
+    schema: &Schema,
+    published: &Front,
+    noted: &Front,
+) -> (PairWriter<V>, Result<(), NoMemory>)
+    requires shown { let x = writer.desk.shown.value in standing x.history.items x.front (V.schema x.view) ≡ standing published.now.points published.now schema.now }
+    requires pends { let x = writer.desk.shown.value in fold absorbed (standing x.history.items x.front (V.schema x.view)) (drop writer.behind writer.log.items) ≡ standing noted.now.points noted.now schema.now }
+    requires book { noted.now.book ≡ published.now.book }
+    requires within { IsPrefix published.now.points noted.now.points }
+    ensures shown { OnOk result.1 (let x = result.0.desk.shown.value in standing x.history.items x.front (V.schema x.view) ≡ standing noted.now.points noted.now schema.now) }
+    ensures pends { OnOk result.1 (drop result.0.behind result.0.log.items ≡ []) }
+    ensures named { OnOk result.1 (view result.0.desk.place ≡ Some (names noted.now.book schema.now noted.now.points)) }
+    ensures unchanged { OnErr result.1 ((result.0.desk.shown.value ≡ writer.desk.shown.value) × (drop result.0.behind result.0.log.items ≡ drop writer.behind writer.log.items) × (view result.0.desk.place ≡ view writer.desk.place)) }
+{
+    let (after, outcome) = writer.publish_as::<Look<V>, R>(rt);
+    match outcome {
+        Ok(()) => (after, Ok(())),
+        Err(_) => (after, Err(NoMemory)),
+    }
+}
+
+impl<V: Grow> PublisherOf<Of<V>> {
+    /// Adds a point behind those that were appended. Viewers see it once it is published. After a refusal all is as before.
+    pub fn append(&mut self, point: Point) -> Result<(), NoMemory>
+        requires sound { IsTrue (sound self.old.schema point) }
+        requires room { length self.old.appended.items < most_points }
+        ensures appended { OnOk result (self.new.appended.items ≡ self.old.appended.items ++ point ∷ []) }
+        ensures unchanged { OnErr result (self.new.appended.items ≡ self.old.appended.items) }
+        ensures published { self.new.published ≡ self.old.published }
+        ensures pair { (self.new.schema ≡ self.old.schema) × (self.new.viewers ≡ self.old.viewers) }
+    {
+        match self.writer.append(Sent::Added(point)) {
+            Ok(()) => {
+                self.since = self.since.and(&point);
+                self.size += 1;
+                self.appended = self.appended.and(&point);
+                Ok(())
+            }
+            Err(_) => Err(NoMemory),
+        }
+    }
+
+    #[tactic(auto, using(crate::proofs::Beginnings::taken_prefix))]
+    // Notes all that was appended as published, and sends the copies the list that they then stand at.
+    pub(crate) fn note<R: Wait>(&mut self, rt: &R) -> Result<(), NoMemory>
+        ensures sent { OnOk result (let x = self.new.writer.desk.shown.value in fold absorbed (standing x.history.items x.front (V.schema x.view)) (drop self.new.writer.behind self.new.writer.log.items) ≡ standing self.new.noted.points self.new.noted self.new.schema) }
+        ensures noted { OnOk result (self.new.noted.points ≡ self.new.appended.items) }
+        ensures within { IsPrefix self.new.published.points self.new.noted.points }
+        ensures book { self.new.noted.book ≡ self.new.published.book }
+        ensures same { (self.new.published ≡ self.old.published) × (self.new.appended ≡ self.old.appended) × (self.new.schema ≡ self.old.schema) × (self.new.viewers ≡ self.old.viewers) }
+    {
+        self.noted = self.noted.add(rt, &self.head, &self.since, self.size);
+        self.since = GhostList::new();
+        self.size = 0;
+        match self.writer.append(Sent::Noted(self.noted.again())) {
+            Ok(()) => Ok(()),
+            Err(_) => Err(NoMemory),
+        }
+    }
+
+    #[tactic(auto, using(crate::proofs::Beginnings::prefix_self))]
+    /// Shows viewers each point that was appended, and answers how many there are. After a refusal they see what they saw.
+    pub fn publish<R: Wait>(&mut self, rt: &R) -> Result<u64, NoMemory>
+        ensures published { IfOk result (λ n. (self.new.published.points ≡ self.old.appended.items) × (n ≡ length self.old.appended.items)) }
+        ensures grows { IsPrefix self.old.published.points self.new.published.points }
+        ensures unchanged { OnErr result (self.new.published ≡ self.old.published) }
+        ensures appended { self.new.appended ≡ self.old.appended }
+        ensures pair { (self.new.published.book ≡ self.old.published.book) × (self.new.schema ≡ self.old.schema) × (self.new.viewers ≡ self.old.viewers) }
+    {
+        self.note(rt)?;
+        let (schema, published, noted) = (&self.schema, &self.published, &self.noted);
+        let outcome = replace_with(
+            &mut self.writer,
+            rt,
+            |writer, rt|
+                requires shown { let x = writer.desk.shown.value in standing x.history.items x.front (V.schema x.view) ≡ standing published.now.points published.now schema.now }
+                requires pends { let x = writer.desk.shown.value in fold absorbed (standing x.history.items x.front (V.schema x.view)) (drop writer.behind writer.log.items) ≡ standing noted.now.points noted.now schema.now }
+                requires book { noted.now.book ≡ published.now.book }
+                requires within { IsPrefix published.now.points noted.now.points }
+            { show(rt, writer, schema, published, noted) },
+        );
+        outcome?;
+        self.published = self.noted.again();
+        Ok(self.published.len())
+    }
+
+    /// What viewers are to know of: the published list. It takes no memory.
+    pub fn mark(&self) -> Told
+        ensures { result.front ≡ self.now.published }
+    {
+        Told {
+            front: self.published.again(),
+        }
+    }
+
+    /// What viewers are to know of: the published list. It always succeeds.
+    pub fn tell(&mut self) -> Result<Told, NoMemory>
+        ensures given { IsOk result }
+        ensures told { IfOk result (λ t. t.front ≡ self.old.published) }
+        ensures same { (self.new.published ≡ self.old.published) × (self.new.appended ≡ self.old.appended) × (self.new.schema ≡ self.old.schema) × (self.new.viewers ≡ self.old.viewers) }
+    {
+        Ok(self.mark())
+    }
+
+    /// How many points were published.
+    pub fn len(&self) -> u64
+        ensures { result ≡ length self.now.published.points }
+    {
+        self.published.len()
+    }
+
+    /// Uses the pair up; nothing is published by it. To be called once no viewer looks any more: a later look waits for ever.
+    pub fn finish<R: Wait>(self, rt: &R) {
+        let PublisherOf {
+            writer,
+            head: _head,
+            schema: _schema,
+            published: _published,
+            noted: _noted,
+            since: _since,
+            size: _,
+            appended: _appended,
+            viewers: _,
+        } = self;
+        writer.take(rt);
+    }
+}
