@@ -5,7 +5,7 @@ use Rattle.logbook.specs.Pages.{Book}
 use Rattle.world_core.specs.PairFact.{IsPrefix}
 use Rattle.published_pair.specs.Rules.{Known}
 use Rattle.published_pair.specs.Pair.{Fresh}
-use Rattle.published_pair.proofs.Beginnings.{prefix_both, two_prefixes}
+use Rattle.published_pair.proofs.Beginnings.{prefix_both}
 
 -- no less than the ended list, and a prefix of it, is the ended list
 pub shows_all : (o : Option Known) (b d : Book) (shown learned : List Point) → b ≡ d → IfSome o (λ w. (w.book ≡ b) × (learned ≡ w.points)) → IfSome o (λ w. IsPrefix shown w.points) → IsPrefix learned shown
@@ -18,4 +18,4 @@ shows_all (Some w) b d shown learned same within covers begins =
 -- two lists that are prefixes of the ended list, where there is one
 pub both_covered : (o : Option Known) (shown learned : List Point) → IfSome o (λ w. IsPrefix shown w.points) → IfSome o (λ w. IsPrefix learned w.points) → IfSome o (λ w. Fresh shown learned w.points)
 both_covered None shown learned p q = tt
-both_covered (Some w) shown learned p q = two_prefixes w.points shown learned p q
+both_covered (Some w) shown learned p q = (p, q)

@@ -11,9 +11,10 @@ use Rattle.world_core.specs.Interleaving.{entry_points}
 use Rattle.world_core.specs.PairFact.{IsPrefix, pair_fact}
 use Rattle.world_core.specs.declared.entry.Entry.{Entry}
 use Rattle.published_pair.specs.Pair.{Keeps, Knows, Sees}
-use Rattle.published_pair.specs.PairLaws.{lists_seen, IsMachineLook, RuleIsPairFact, PublicationIsPublish, TellingIsTell, LookingIsLook}
+use Rattle.published_pair.specs.PairLaws.{lists_seen, FreshIsPairFact, IsMachineLook, RuleIsPairFact, PublicationIsPublish, TellingIsTell, LookingIsLook}
 use Rattle.published_pair.specs.Rules.{Known}
 use Rattle.published_pair.specs.declared.names.Names.{Names}
+use Rattle.published_pair.proofs.Beginnings.{two_prefixes}
 
 seen_fact : (h : List Point) (f : Known) (z : Schema) (views : List (Option Names)) → ((seat : ℕ) (v : Option Names) → get_elem? views seat ≡ some v → IfSome v (Knows h f.book z)) → pair_fact h (lists_seen views)
 seen_fact h f z [] each = All-nil _
@@ -44,3 +45,6 @@ looking_is_look schema w s q before (Some n) h f z sees is below =
       seen = get_or-set_same w.seen s (length w.journal) 0 below ∙ sym (ap length list ∙ points_length w.journal);
       shot = ap (λ (l : List Point). w.shots ++ record { session = s; table = table schema q l } ∷ []) (sym list);
     }
+
+pub fresh_is_pair_fact : FreshIsPairFact
+fresh_is_pair_fact shown learned list fresh = two_prefixes list shown learned fresh.0 fresh.1

@@ -7,7 +7,7 @@ use Rattle.cube_view.specs.declared.schema.Schema.{Schema}
 use Rattle.cube_view.specs.Bag.{most_points}
 use Rattle.cube_view.specs.Validity.{sound}
 use Rattle.logbook.specs.Pages.{Book}
-use Rattle.world_core.specs.PairFact.{IsPrefix, pair_fact}
+use Rattle.world_core.specs.PairFact.{IsPrefix}
 use Rattle.published_pair.specs.Rules.{Known, head_of}
 use Rattle.published_pair.specs.declared.names.Standing.{Standing}
 use Rattle.published_pair.specs.declared.names.Names.{Names}
@@ -58,4 +58,4 @@ pub record Sees (v : Option Names) (h : List Point) (f : Known) (z : Schema) (w 
 
 -- the list is fresh for a viewer that was shown and told these lists last: both, and so all before, are prefixes of it
 abbrev pub Fresh : List Point → List Point → List Point → Type 0
-Fresh shown learned list = pair_fact list (shown ∷ learned ∷ [])
+Fresh shown learned list = IsPrefix shown list × IsPrefix learned list

@@ -9,7 +9,7 @@ use Rattle.world_core.specs.Machine.{happens}
 use Rattle.world_core.specs.PairFact.{pair_fact}
 use Rattle.world_core.specs.declared.event.Event.TheVariants.{Publish, Tell, Look}
 use Rattle.world_core.specs.declared.world.World.{World}
-use Rattle.published_pair.specs.Pair.{Keeps, Sees}
+use Rattle.published_pair.specs.Pair.{Fresh, Keeps, Sees}
 use Rattle.published_pair.specs.Rules.{Known}
 use Rattle.published_pair.specs.declared.names.Names.{Names}
 
@@ -47,3 +47,7 @@ pub record IsMachineLook (schema : Schema) (w : World) (s : ℕ) (q : Query) (n 
 abbrev pub LookingIsLook : Type 0
 LookingIsLook = (schema : Schema) (w : World) (s : ℕ) (q : Query) (before after : Option Names) (h : List Point) (f : Known) (z : Schema) → Sees before h f z after → h ≡ entry_points w.journal → s < length w.seen
     → IfSome after (IsMachineLook schema w s q)
+
+-- a list is fresh for a viewer where what it was shown and told of are prefixes of the list
+abbrev pub FreshIsPairFact : Type 0
+FreshIsPairFact = (shown learned list : List Point) → Fresh shown learned list → pair_fact list (shown ∷ learned ∷ [])

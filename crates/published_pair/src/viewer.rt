@@ -3,7 +3,7 @@ ghost use Rattle.std.specs.Prelude.{◌≡◌, ◌≤◌, ◌<◌, length, max, 
 ghost use Rattle.std.proofs.Props.{props};
 ghost use Rattle.cube_view.specs.Bag.{Counts};
 ghost use Rattle.left_right.specs.Sides.{view};
-ghost use Rattle.world_core.specs.PairFact.{IsPrefix, pair_fact};
+ghost use Rattle.world_core.specs.PairFact.{IsPrefix};
 ghost use Rattle.published_pair.specs.Pair.{names, Fresh};
 
 use crate::book::{Front, Whole};
@@ -118,7 +118,7 @@ impl<V: Grow> Viewer<V> {
     /// Learns of a published list. What it learned before and this one are prefixes of the longest.
     pub fn learn(&mut self, told: Told)
         requires { told.front.book ≡ self.old.shown.book }
-        ensures learned { pair_fact self.new.learned.points (self.old.learned.points ∷ told.front.points ∷ []) }
+        ensures learned { IsPrefix self.old.learned.points self.new.learned.points × IsPrefix told.front.points self.new.learned.points }
         ensures greatest { length self.new.learned.points ≡ max (length self.old.learned.points) (length told.front.points) }
         ensures same { (self.new.shown ≡ self.old.shown) × (self.new.last ≡ self.old.last) × (self.new.schema ≡ self.old.schema) }
     {
