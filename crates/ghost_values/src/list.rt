@@ -15,6 +15,9 @@ impl<T> Model for GhostList<T> {
     ghost also_owns = { λ _. ftrue };
 }
 
+// It owns nothing.
+unsafe impl<T> Sync for GhostList<T> {}
+
 impl<T> GhostList<T> {
     /// No items.
     pub fn new() -> GhostList<T>

@@ -1,5 +1,0 @@
-use Rattle.std.proofs.Common.{rules}
-use Rattle.pair_callers.proofs.callers.run_beside.Goals as goal
-
-pub join-requires-send-F : goal.join-requires-send-F
-join-requires-send-F g c = search rules depth 14
