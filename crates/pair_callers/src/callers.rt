@@ -83,7 +83,7 @@ fn look_beside_open_look<V: Grow, R: Wait + Abort>(
     (held.leave(), looker)
 }
 
-/// Builds on one thread while on another a look is held open, and a second viewer looks as often.
+/// Builds on this thread while on another a look is held open, and a second viewer looks as often.
 pub fn run_beside<V: Grow + Send + Sync, R: Wait + Threads + Sync + Abort>(
     rt: &R,
     publisher: &mut Publisher<V>,
@@ -97,17 +97,18 @@ pub fn run_beside<V: Grow + Send + Sync, R: Wait + Threads + Sync + Abort>(
     ensures goes_on { IsPrefix viewers.1.shown.points result.1.1.shown.points }
 {
     let (holder, looker) = viewers;
-    join(
+    let (viewers, published) = join(
         rt,
+        move || -> (Viewer<V>, Viewer<V>)
+            ensures { IsPrefix looker.shown.points result.1.shown.points }
+        { look_beside_open_look(rt, holder, looker, rounds) },
         || -> u64
             requires none { publisher.now.appended.items ≡ [] }
             requires schema { publisher.now.schema ≡ schema.now }
             ensures { result ≡ rounds }
         { build(rt, publisher, schema, rounds) },
-        move || -> (Viewer<V>, Viewer<V>)
-            ensures { IsPrefix looker.shown.points result.1.shown.points }
-        { look_beside_open_look(rt, holder, looker, rounds) },
-    )
+    );
+    (published, viewers)
 }
 
 /// Closes a viewer after a last look. It has then seen the whole ended list.
