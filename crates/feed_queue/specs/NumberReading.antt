@@ -51,12 +51,12 @@ abbrev pub line_numbers : List ℕ → Option (List ℕ)
 line_numbers line = numbers_read (read_on (Some ([], None)) line)
 
 -- the number in that place, or 0 past the last
-abbrev pub number_at : List ℕ → ℕ → ℕ
-number_at numbers i = slice_index_or numbers i 0
+abbrev pub listed_number : List ℕ → ℕ → ℕ
+listed_number numbers i = slice_index_or numbers i 0
 
 -- four numbers, of which those past the last are 0
 abbrev pub four_of : List ℕ → List ℕ
-four_of values = number_at values 0 ∷ number_at values 1 ∷ number_at values 2 ∷ number_at values 3 ∷ []
+four_of values = listed_number values 0 ∷ listed_number values 1 ∷ listed_number values 2 ∷ listed_number values 3 ∷ []
 
 -- the weight among an entry's numbers, or 1 where the schema has no weight column
 abbrev pub weight_or_one : Option (List ℕ) → ℕ → ℕ
@@ -72,8 +72,8 @@ weight_count (Some column) = 1
 abbrev pub entry_of_numbers : Schema → List ℕ → Entry
 entry_of_numbers schema numbers =
     let k = length schema.categories in
-    let spot : Spot = record { x = number_at numbers 2; y = number_at numbers 3; values = four_of (take k (drop 4 numbers)); bin = number_at numbers (4 + k) } in
-    record { feeder = number_at numbers 0; number = number_at numbers 1; point = record { spot = spot; weight = weight_or_one schema.weight (number_at numbers (5 + k)) } }
+    let spot : Spot = record { x = listed_number numbers 2; y = listed_number numbers 3; values = four_of (take k (drop 4 numbers)); bin = listed_number numbers (4 + k) } in
+    record { feeder = listed_number numbers 0; number = listed_number numbers 1; point = record { spot = spot; weight = weight_or_one schema.weight (listed_number numbers (5 + k)) } }
 
 -- there are as many numbers as the schema asks for, and the entry has them
 abbrev pub HasNumbersOf : Schema → List ℕ → Entry → Type 0

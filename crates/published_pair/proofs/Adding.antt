@@ -8,7 +8,7 @@ use Rattle.logbook.specs.Pages.{Cell, cell, keeps, no_nib, step, Moves, Goes}
 use Rattle.cube_view.specs.Points.{Point}
 use Rattle.published_pair.specs.declared.note.Note.{Note}
 use Rattle.published_pair.specs.Notes.{open_of, EndsOnce}
-use Rattle.published_pair.specs.Rules.{IsKept, Adds}
+use Rattle.published_pair.specs.Rules.{IsKept, AddsNote}
 use Rattle.published_pair.proofs.Beginnings.{prefix_of, prefix_whole}
 use Rattle.published_pair.proofs.Histories.{ends_once}
 
@@ -19,7 +19,7 @@ abbrev moved : List Note → List Note → ℕ → Type 0
 moved xs ys n = Unit {0}
 
 adds_goes : (log v : List Note) (e : Note) (bs : List (List Point)) (old : ℕ) → v ≡ open_of bs → EndsOnce log → length v ≡ old → IsFront v log → (b : Bool) → (length log == old) ≡ b
-    → Goes IsKept shown moved 0 (v, (no_nib, None)) (λ n. either (n == old) (old + 1) n) (Adds (step 0 old (old + 1) e) (v, (no_nib, None))) ((length log, true) ∷ (0, true) ∷ []) log
+    → Goes IsKept shown moved 0 (v, (no_nib, None)) (λ n. either (n == old) (old + 1) n) (AddsNote (step 0 old (old + 1) e) (v, (no_nib, None))) ((length log, true) ∷ (0, true) ∷ []) log
 adds_goes log v e bs old opens once len pre true is =
     let here : length log ≡ old = grind (arith, nat_tests) in
     let same : v ≡ log = prefix_whole v log (prefix_of v log pre) (omega arith) in
@@ -47,9 +47,9 @@ adds_goes log v e bs old opens once len pre false is =
 
 -- whatever the book is, the exchange adds the note to all that was seen, or finds that the history is longer
 pub adds_moves : (v : List Note) (e : Note) (bs : List (List Point)) (old : ℕ) → v ≡ open_of bs → length v ≡ old
-    → Moves IsKept shown moved 0 (v, (no_nib, None)) (λ n. either (n == old) (old + 1) n) (Adds (step 0 old (old + 1) e) (v, (no_nib, None)))
+    → Moves IsKept shown moved 0 (v, (no_nib, None)) (λ n. either (n == old) (old + 1) n) (AddsNote (step 0 old (old + 1) e) (v, (no_nib, None)))
 adds_moves v e bs old opens len cs log kept pre away =
-    let P : List Cell → Type 0 = λ c. (0 < length c) × ((cell c 0).1 ≡ true) × Goes IsKept shown moved 0 (v, (no_nib, None)) (λ n. either (n == old) (old + 1) n) (Adds (step 0 old (old + 1) e) (v, (no_nib, None))) c log in
+    let P : List Cell → Type 0 = λ c. (0 < length c) × ((cell c 0).1 ≡ true) × Goes IsKept shown moved 0 (v, (no_nib, None)) (λ n. either (n == old) (old + 1) n) (AddsNote (step 0 old (old + 1) e) (v, (no_nib, None))) c log in
     subst P (sym kept.words) (omega arith, refl, adds_goes log v e bs old opens kept.ends len pre (length log == old) refl)
 
 -- the exchange that found the length that it expected added the note

@@ -10,7 +10,7 @@ use Rattle.query_syntax.specs.Tables.{table}
 use Rattle.world_core.specs.Interleaving.{entry_points}
 use Rattle.world_core.specs.PairFact.{IsPrefix, pair_fact}
 use Rattle.world_core.specs.declared.entry.Entry.{Entry}
-use Rattle.published_pair.specs.Pair.{Keeps, Knows, Sees}
+use Rattle.published_pair.specs.Pair.{KeepsPair, Knows, Sees}
 use Rattle.published_pair.specs.PairLaws.{lists_seen, FreshIsPairFact, IsMachineLook, RuleIsPairFact, PublicationIsPublish, TellingIsTell, LookingIsLook}
 use Rattle.published_pair.specs.Rules.{Known}
 use Rattle.published_pair.specs.declared.names.Names.{Names}

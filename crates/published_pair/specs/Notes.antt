@@ -11,10 +11,10 @@ batches_of (Published points ∷ notes) = points ∷ batches_of notes
 batches_of (Ended ∷ notes) = []
 
 -- the published list: the points of the publications, in order
-abbrev pub points_of : List Note → List Point
-points_of [] = []
-points_of (Published points ∷ notes) = points ++ points_of notes
-points_of (Ended ∷ notes) = []
+abbrev pub noted_points : List Note → List Point
+noted_points [] = []
+noted_points (Published points ∷ notes) = points ++ noted_points notes
+noted_points (Ended ∷ notes) = []
 
 -- a history that has not ended
 abbrev pub open_of : List (List Point) → List Note

@@ -8,7 +8,7 @@ use Rattle.cube_view.specs.Bag.{most_points}
 use Rattle.cube_view.specs.Validity.{sound}
 use Rattle.logbook.specs.Pages.{Book}
 use Rattle.world_core.specs.PairFact.{IsPrefix}
-use Rattle.published_pair.specs.Rules.{Known, head_of}
+use Rattle.published_pair.specs.Rules.{Known, first_word_of}
 use Rattle.published_pair.specs.declared.names.Standing.{Standing}
 use Rattle.published_pair.specs.declared.names.Names.{Names}
 use Rattle.published_pair.specs.declared.stand.Sent.{Sent}
@@ -33,15 +33,15 @@ absorbed s (Noted f) = standing s.points f s.schema
 
 -- an end of the pair of that book and schema, which saw that list last
 abbrev pub names : Book → Schema → List Point → Names
-names b z h = record { head = head_of b; schema = z; seen = h }
+names b z h = record { head = first_word_of b; schema = z; seen = h }
 
 -- what an end knows is so where the copy that is shown counts h: it knows the pair and its schema, and saw a prefix of h
 abbrev pub Knows : List Point → Book → Schema → Names → Type 0
-Knows h b z n = (n.head ≡ head_of b) × (n.schema ≡ z) × IsPrefix n.seen h
+Knows h b z n = (n.head ≡ first_word_of b) × (n.schema ≡ z) × IsPrefix n.seen h
 
 -- What holds between any two steps, of the copy that is shown (the points h that it counts, its published list f and
 -- its schema z) and of what each end knows
-pub record Keeps (h : List Point) (f : Known) (z : Schema) (views : List (Option Names)) : Type 0 where
+pub record KeepsPair (h : List Point) (f : Known) (z : Schema) (views : List (Option Names)) : Type 0 where
   -- it counts exactly the published list that it stands at
   pub told : h ≡ f.points
   -- what each end knows is so

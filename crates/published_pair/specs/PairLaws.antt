@@ -9,7 +9,7 @@ use Rattle.world_core.specs.Machine.{happens}
 use Rattle.world_core.specs.PairFact.{pair_fact}
 use Rattle.world_core.specs.declared.event.Event.TheVariants.{Publish, Tell, Look}
 use Rattle.world_core.specs.declared.world.World.{World}
-use Rattle.published_pair.specs.Pair.{Fresh, Keeps, Sees}
+use Rattle.published_pair.specs.Pair.{Fresh, KeepsPair, Sees}
 use Rattle.published_pair.specs.Rules.{Known}
 use Rattle.published_pair.specs.declared.names.Names.{Names}
 
@@ -21,7 +21,7 @@ lists_seen (Some n ∷ views) = n.seen ∷ lists_seen views
 
 -- each list that an end of the pair saw last is a prefix of the list that the shown copy counts
 abbrev pub RuleIsPairFact : Type 0
-RuleIsPairFact = (h : List Point) (f : Known) (z : Schema) (views : List (Option Names)) → Keeps h f z views → pair_fact h (lists_seen views)
+RuleIsPairFact = (h : List Point) (f : Known) (z : Schema) (views : List (Option Names)) → KeepsPair h f z views → pair_fact h (lists_seen views)
 
 -- A publication is the machine's: where the copy that was shown counts what is journaled, and the one that is shown
 -- then counts what is journaled and pending, that is what is journaled after the event

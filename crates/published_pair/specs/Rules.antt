@@ -13,12 +13,12 @@ pub record IsKept (cells : List Cell) (log : List Note) : Type 0 where
   pub ends : EndsOnce log
 
 -- the first word of a book
-abbrev pub head_of : Book → Named
-head_of b = record { tracked = true; key = 0; book = b }
+abbrev pub first_word_of : Book → Named
+first_word_of b = record { tracked = true; key = 0; book = b }
 
 -- the note was added to all that had been seen; or the history was longer, and was seen
-abbrev pub Adds : Step Note → View Note ℕ → ℕ → View Note ℕ → Type 0
-Adds s v found w = MatchBool (found == s.old) (w.0 ≡ v.0 ++ s.ask ∷ []) (length w.0 ≡ found)
+abbrev pub AddsNote : Step Note → View Note ℕ → ℕ → View Note ℕ → Type 0
+AddsNote s v found w = MatchBool (found == s.old) (w.0 ≡ v.0 ++ s.ask ∷ []) (length w.0 ≡ found)
 
 -- A published list: which book's history it is of, and its points
 pub record Known : Type 0 where

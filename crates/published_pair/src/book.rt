@@ -3,7 +3,7 @@ ghost use Rattle.std.specs.Prelude.{◌≡◌, ◌+◌, ◌<◌, ◌≤◌, ◌^
 ghost use Rattle.left_right.specs.Sides.{view};
 ghost use Rattle.cube_view.specs.Bag.{most_points};
 ghost use Rattle.world_core.specs.PairFact.{IsPrefix};
-ghost use Rattle.published_pair.specs.Rules.{head_of, known, Known};
+ghost use Rattle.published_pair.specs.Rules.{first_word_of, known, Known};
 
 use crate::note::Note;
 use crate::publisher::PairWriter;
@@ -47,9 +47,9 @@ impl Gain<Note, u64> for Nothing {
 pub struct Add;
 
 impl Play<Note, u64> for Add {
-    ghost use Rattle.published_pair.specs.Rules.{Adds};
+    ghost use Rattle.published_pair.specs.Rules.{AddsNote};
 
-    ghost then = { Adds };
+    ghost then = { AddsNote };
 }
 
 impl Plain<GhostList<Point>, Note, u64> for Add {
@@ -77,7 +77,7 @@ impl Plain<(), Note, u64> for Close {
 #[derive(Drop)]
 pub struct Head {
     word: Word<Note, u64, Law>,
-    ghost head_is: { word ≡ head_of word.book },
+    ghost head_is: { word ≡ first_word_of word.book },
 }
 
 /// A list that was published. Contracts see its book, which names the pair, and its points.
@@ -91,13 +91,13 @@ pub struct Front {
 impl Model for Front {
     ghost use Rattle.std.specs.Prelude.{◌≡◌, ◌≤◌, length};
     ghost use Rattle.published_pair.specs.Rules.{Known, known};
-    ghost use Rattle.published_pair.specs.Notes.{points_of, batches_of, open_of};
+    ghost use Rattle.published_pair.specs.Notes.{noted_points, batches_of, open_of};
 
     ghost Value = { Known };
 
-    ghost view = { λ f. known f.seen.book (points_of f.seen.log) };
+    ghost view = { λ f. known f.seen.book (noted_points f.seen.log) };
 
-    ghost invariant = { λ f. (f.count ≡ length (points_of f.seen.log)) × (f.notes ≡ length f.seen.log) × (f.seen.log ≡ open_of (batches_of f.seen.log)) × (f.notes ≤ f.count) };
+    ghost invariant = { λ f. (f.count ≡ length (noted_points f.seen.log)) × (f.notes ≡ length f.seen.log) × (f.seen.log ≡ open_of (batches_of f.seen.log)) × (f.notes ≤ f.count) };
 }
 
 /// The list of a publisher that has ended. Contracts see its book and its points.
@@ -110,19 +110,19 @@ pub struct Whole {
 impl Model for Whole {
     ghost use Rattle.std.specs.Prelude.{◌≡◌, length};
     ghost use Rattle.published_pair.specs.Rules.{Known, known};
-    ghost use Rattle.published_pair.specs.Notes.{points_of, batches_of, ended_of};
+    ghost use Rattle.published_pair.specs.Notes.{noted_points, batches_of, ended_of};
 
     ghost Value = { Known };
 
-    ghost view = { λ w. known w.seen.book (points_of w.seen.log) };
+    ghost view = { λ w. known w.seen.book (noted_points w.seen.log) };
 
-    ghost invariant = { λ w. (w.count ≡ length (points_of w.seen.log)) × (w.seen.log ≡ ended_of (batches_of w.seen.log)) };
+    ghost invariant = { λ w. (w.count ≡ length (noted_points w.seen.log)) × (w.seen.log ≡ ended_of (batches_of w.seen.log)) };
 }
 
 /// A book in which nothing is published.
 pub fn open_book() -> (Head, Front)
     ensures empty { result.1.points ≡ [] }
-    ensures book { result.0.word ≡ head_of result.1.book }
+    ensures book { result.0.word ≡ first_word_of result.1.book }
 {
     let (seen, mut first, _second) = Seen::open(Start::alone(), 0, 0);
     let head = Head {
@@ -184,7 +184,7 @@ impl Front {
 
     // Adds a batch behind all that was published, unless more was published than is seen here.
     fn try_add(&self, head: &Head, batch: &GhostList<Point>, size: u64) -> Option<Front>
-        requires book { head.now.word ≡ head_of self.now.book }
+        requires book { head.now.word ≡ first_word_of self.now.book }
         requires size { (size ≡ length batch.now.items) × (0 < size) }
         requires room { length self.now.points + size ≤ most_points }
         ensures { IfSome result (λ f. f ≡ known self.now.book (self.now.points ++ batch.now.items)) }
@@ -212,7 +212,7 @@ impl Front {
 
     /// Publishes a batch after all that was published. Whoever has the head is alone, so it succeeds at once.
     pub fn add<R: Wait>(&self, rt: &R, head: &Head, batch: &GhostList<Point>, size: u64) -> Front
-        requires book { head.now.word ≡ head_of self.now.book }
+        requires book { head.now.word ≡ first_word_of self.now.book }
         requires size { size ≡ length batch.now.items }
         requires room { length self.now.points + size ≤ most_points }
         ensures { result ≡ known self.now.book (self.now.points ++ batch.now.items) }
@@ -230,7 +230,7 @@ impl Front {
 
     // Ends the history, unless more was published than is seen here.
     fn try_end(&self, head: &Head) -> Option<Whole>
-        requires book { head.now.word ≡ head_of self.now.book }
+        requires book { head.now.word ≡ first_word_of self.now.book }
         requires room { length self.now.points ≤ most_points }
         ensures { IfSome result (λ w. w ≡ self.now) }
     {
@@ -254,7 +254,7 @@ impl Front {
 /// Ends the history of a pair whose shown copy has all that was sent. Whoever has the head is alone, so it succeeds at once.
 pub fn end_book<V: Grow, R: Wait>(rt: &R, writer: &PairWriter<V>, head: &Head) -> Whole
     requires sent { drop writer.now.behind writer.now.log.items ≡ [] }
-    requires book { head.now.word ≡ head_of writer.now.desk.shown.value.front.book }
+    requires book { head.now.word ≡ first_word_of writer.now.desk.shown.value.front.book }
     requires room { length writer.now.desk.shown.value.front.points ≤ most_points }
     ensures { result ≡ writer.now.desk.shown.value.front }
 {

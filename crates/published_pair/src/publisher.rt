@@ -4,7 +4,7 @@ ghost use Rattle.cube_view.specs.Bag.{most_points};
 ghost use Rattle.cube_view.specs.Validity.{sound};
 ghost use Rattle.left_right.specs.Sides.{view};
 ghost use Rattle.world_core.specs.PairFact.{IsPrefix};
-ghost use Rattle.published_pair.specs.Rules.{head_of};
+ghost use Rattle.published_pair.specs.Rules.{first_word_of};
 ghost use Rattle.published_pair.specs.Pair.{standing, absorbed, names};
 
 use crate::book::{Front, Head};
@@ -57,7 +57,7 @@ pub struct PublisherOf<K: Pairing> {
     /// All that was appended.
     pub(crate) appended: GhostList<Point>,
     pub(crate) viewers: u32,
-    ghost head_is: { head.word ≡ head_of published.book },
+    ghost head_is: { head.word ≡ first_word_of published.book },
     ghost book: { noted.book ≡ published.book },
     ghost shown: { K.Stand.state writer.desk.shown.value ≡ standing published.points published schema },
     ghost pends: { (fold K.Stand.applied (K.Stand.state writer.desk.shown.value) (drop writer.behind writer.log.items)).points ≡ appended.items },

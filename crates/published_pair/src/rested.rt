@@ -2,7 +2,7 @@
 ghost use Rattle.std.specs.Prelude.{◌≡◌, ◌≤◌, [], drop, length, All, Some, IfOk};
 ghost use Rattle.cube_view.specs.Bag.{most_points};
 ghost use Rattle.left_right.specs.Sides.{view};
-ghost use Rattle.published_pair.specs.Rules.{head_of};
+ghost use Rattle.published_pair.specs.Rules.{first_word_of};
 ghost use Rattle.published_pair.specs.Pair.{standing, names};
 
 use crate::book::{Front, Whole, end_book};

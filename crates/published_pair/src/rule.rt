@@ -1,6 +1,6 @@
 //! The rule that the two copies keep, with what each end knows of the pair.
 ghost use Rattle.std.specs.Prelude.{None};
-ghost use Rattle.published_pair.specs.Pair.{Keeps, Sees};
+ghost use Rattle.published_pair.specs.Pair.{KeepsPair, Sees};
 
 use crate::names::Names;
 use crate::stand::Stand;
@@ -15,7 +15,7 @@ pub struct PairRule<V> {
 }
 
 impl<V: Grow> Protocol<Stand<V>, Option<Names>> for PairRule<V> {
-    ghost holds = { λ s. Keeps s.history.items s.front (V.schema s.view) };
+    ghost holds = { λ s. KeepsPair s.history.items s.front (V.schema s.view) };
 
     ghost first = { None };
 }

@@ -1,7 +1,7 @@
 use Rattle.std.proofs.Common.{◌≡◌, length, sym, ◌∙◌, ap, arith, ◌++◌, ◌∷◌, [], length-append}
 use Rattle.std.proofs.lemmas.Bool.Decides.{nat_tests}
-use Rattle.published_pair.specs.Notes.{batches_of, points_of}
-use Rattle.published_pair.specs.Rules.{head_of, known}
+use Rattle.published_pair.specs.Notes.{batches_of, noted_points}
+use Rattle.published_pair.specs.Rules.{first_word_of, known}
 use Rattle.published_pair.specs.declared.note.Note.TheVariants.{Published}
 use Rattle.published_pair.proofs.Adding.{adds_moves, was_added}
 use Rattle.published_pair.proofs.Histories.{batch_added}
@@ -9,7 +9,7 @@ use Rattle.published_pair.proofs.book.Front.try_add.Goals as goal
 
 pub compare_exchange-found-requires : goal.compare_exchange-found-requires
 compare_exchange-found-requires c =
-    let h = c.requires.book ∙ ap head_of (ap (λ k. k.book) (sym c.self.view_is)) in
+    let h = c.requires.book ∙ ap first_word_of (ap (λ k. k.book) (sym c.self.view_is)) in
     let same = c.again-seen.ensures in
     let at = ap (λ s. s.book) same ∙ sym (ap (λ w. w.book) h) in
     let offer = c.plain-offer.ensures in
@@ -30,7 +30,7 @@ invariant_of-result c =
     let is : c.compare_exchange-found.new.seen.log ≡ v ++ Published b ∷ [] = log ∙ (ap (λ s. s.log ++ c.plain-offer.result.ask ∷ []) c.again-seen.ensures ∙ ap (λ e. v ++ e ∷ []) c.plain-offer.ensures.1) in
     let t = batch_added _ _ b c.self.invariant.2 is in
     let points = ap length t.1 in
-    let joined = length-append (points_of v) b in
+    let joined = length-append (noted_points v) b in
     let notes = ap length is in
     let one = length-append v (Published b ∷ []) in
     (omega (arith, points, joined, c.self.invariant.0, c.requires.size.0), omega (arith, notes, one, c.self.invariant.1), t.0, omega (arith, c.self.invariant.3, c.requires.size.1))

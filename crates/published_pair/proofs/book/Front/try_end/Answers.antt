@@ -1,7 +1,7 @@
 use Rattle.std.proofs.Common.{◌≡◌, length, sym, ◌∙◌, ap, arith, ◌++◌, ◌∷◌, []}
 use Rattle.std.proofs.lemmas.Bool.Decides.{nat_tests}
 use Rattle.published_pair.specs.Notes.{batches_of}
-use Rattle.published_pair.specs.Rules.{head_of, known}
+use Rattle.published_pair.specs.Rules.{first_word_of, known}
 use Rattle.published_pair.specs.declared.note.Note.TheVariants.{Ended}
 use Rattle.published_pair.proofs.Adding.{adds_moves, was_added}
 use Rattle.published_pair.proofs.Histories.{end_added}
@@ -9,7 +9,7 @@ use Rattle.published_pair.proofs.book.Front.try_end.Goals as goal
 
 pub compare_exchange-found-requires : goal.compare_exchange-found-requires
 compare_exchange-found-requires c =
-    let h = c.requires.book ∙ ap head_of (ap (λ k. k.book) (sym c.self.view_is)) in
+    let h = c.requires.book ∙ ap first_word_of (ap (λ k. k.book) (sym c.self.view_is)) in
     let same = c.again-seen.ensures in
     let at = ap (λ s. s.book) same ∙ sym (ap (λ w. w.book) h) in
     let offer = c.plain-offer.ensures in
