@@ -1,7 +1,7 @@
 //! Small callers above a published pair of any view, a builder and sessions on two threads, and the tests of the pair.
 //!
 //! Each clause is proved from those of `published_pair` alone, for any view that takes points, so the crate shows that
-//! they suffice. Nothing but tests uses it. What a batch, a feed and a session are is left to the crates above.
+//! they suffice. All of it is tests. What a batch, a feed and a session are is left to the crates above.
 //!
 //! ```text
 //! let (published, viewers) = run_beside(rt, &mut publisher, &schema, (holder, looker), 1000);
@@ -9,8 +9,7 @@
 //! ```
 #![tactic(auto)]
 
+#[cfg(test)]
 mod callers;
 #[cfg(test)]
 mod tests;
-
-pub use callers::{add, build, close_apart, look_and_close, look_often, look_once, run_beside};

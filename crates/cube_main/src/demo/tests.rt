@@ -1,11 +1,13 @@
-//! Random scripts over a cube and over a plain list of the same feed: the replies are the same.
+//! Scripts over a cube and over a plain list of the same feed: the replies are the same.
 ghost use Rattle.std.specs.Prelude.{◌≤◌, []};
 ghost use Rattle.cube_view.specs.Bag.{Counts};
 
 use crate::built_in::built_in_schema;
 use crate::demo::loading::load;
 use crate::demo::{empty_cube, run_script};
-use cube_view::Grow;
+use cube_schema::{Plan, read_plan};
+use cube_store::Cube;
+use cube_view::{Grow, Schema};
 use outer_io::{List, MemPlace, MemSink, NoMemory};
 use plain_cube::PlainCube;
 use std::alloc::{AllocError, Global};
@@ -111,5 +113,70 @@ fn a_cube_answers_random_scripts_as_a_plain_list_does(rt: HostRuntime) -> Result
         let found = replies(alloc, empty_cube(alloc)?, feed.as_str(), script.as_str())?;
         assert_eq!(rt; found.bytes(), wanted.bytes(), "{feed}{script}");
     }
+    Ok(())
+}
+
+/// A category of 256 values as a plan writes it.
+fn category_text(alloc: Global, k: u8) -> Result<String, AllocError> {
+    let mut text = format!(in alloc; "{{\"name\":\"c{k}\",\"values\":[\"v0\"")?;
+    for value in 1..256u16 {
+        let item = format!(in alloc; ",\"v{value}\"")?;
+        text.push_str(item.as_str())?;
+    }
+    text.push_str("]}")?;
+    Ok(text)
+}
+
+/// Depth 20 and four categories of 256 values, as much as a schema may have.
+fn widest_schema(alloc: Global) -> Result<Schema, Fail> {
+    let mut text = String::from_str(alloc, "{\"asks\":[],\"batch\":1,\"categories\":[")?;
+    for k in 0..4u8 {
+        if k != 0 {
+            text.push_str(",")?;
+        }
+        let category = category_text(alloc, k)?;
+        text.push_str(category.as_str())?;
+    }
+    text.push_str(
+        "],\"depth\":20,\"feeds\":[\"a.csv\"],\"finals\":[],\"journal\":\"j\",\"start\":0,\"version\":1,\"width\":1}",
+    )?;
+    match read_plan(alloc, text.as_str().as_bytes()) {
+        Ok(Plan { schema, .. }) => Ok(schema),
+        Err(_) => Err(Fail::from("it is a plan")),
+    }
+}
+
+/// A record at each corner of space and of the four categories.
+fn corners(alloc: Global) -> Result<String, AllocError> {
+    let mut text = String::from_str(alloc, "x,y,time,c0,c1,c2,c3\n")?;
+    for corner in 0..64u32 {
+        let far = [1, 2].map(|bit| if corner & bit == 0 { 0 } else { 1_048_575 });
+        let last = [4, 8, 16, 32].map(|bit| if corner & bit == 0 { 0 } else { 255 });
+        let line = format!(in alloc;
+            "{},{},0,v{},v{},v{},v{}\n",
+            far[0], far[1], last[0], last[1], last[2], last[3]
+        )?;
+        text.push_str(line.as_str())?;
+    }
+    Ok(text)
+}
+
+#[test]
+fn a_cube_counts_the_corners_of_the_widest_schema(rt: HostRuntime) -> Result<(), Fail> {
+    let alloc = rt.alloc();
+    let feed = corners(alloc)?;
+    let script =
+        "count\ncount with c1=v255\ncount in 20/1048575/0 with c0=v0 with c3=v255\nhist c2 in 1/1/1\nmap 10\n";
+    let plain = PlainCube::new(alloc, widest_schema(alloc)?);
+    let cube = Cube::new(alloc, widest_schema(alloc)?)?;
+    let wanted = replies(alloc, plain, feed.as_str(), script)?;
+    let found = replies(alloc, cube, feed.as_str(), script)?;
+    assert_eq!(rt; found.bytes(), wanted.bytes());
+    assert_eq!(rt;
+        found.bytes().starts_with(
+            b"{\"rows\":[[64]],\"seen\":64}\n{\"rows\":[[32]],\"seen\":64}\n{\"rows\":[[4]],\"seen\":64}\n"
+        ),
+        true
+    );
     Ok(())
 }
