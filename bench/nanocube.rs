@@ -261,6 +261,15 @@ fn filled(name: &str, records: u32, made: fn(u64) -> Point) -> Cube {
 fn answers(cube: &Cube, records: u32) {
     let start = Instant::now();
     let (mut sum, mut s) = (0, 77u64);
+    for _ in 0..20_000 {
+        s = step(s);
+        let from = (s >> 32) % 512;
+        let node = cube.tile(4, (s >> 54) as u32 % 16, (s >> 44) as u32 % 16);
+        sum += node.map_or(0, |node| cube.total_at(node, Some(((s >> 42) % 4) as u8), from, from + 400));
+    }
+    println!("count without its text: {:.0} ns each ({sum})", start.elapsed().as_secs_f64() * 1e9 / 20_000.0);
+    let start = Instant::now();
+    let (mut sum, mut s) = (0, 77u64);
     const COUNTS: u32 = 20_000;
     for _ in 0..COUNTS {
         s = step(s);
