@@ -1,5 +1,5 @@
 -- The costs of a cube's calls are numbers of its bag.
-use Rattle.std.proofs.Common.{◌≡◌, ℕ, ◌+◌, ◌<◌, Bool, true, ltb, List, map, filter, Option, Some, None, is_some, Contains, refl, sym, ◌∙◌, ap}
+use Rattle.std.proofs.Common.{◌≡◌, ℕ, ◌+◌, ◌<◌, Bool, true, ltb, List, ◌&&◌, map, filter, Option, Some, None, is_some, Contains, refl, sym, ◌∙◌, ap}
 use Rattle.std.proofs.Math.Logic.{∥∥₁_elim}
 use Rattle.std.proofs.Math.Nat.{ℕ_set}
 use Rattle.std.specs.FinMap.{entries}
@@ -8,7 +8,7 @@ use Rattle.probe_core.specs.Bits.{bits}
 use Rattle.cube_view.specs.Bag.{amount, Counts}
 use Rattle.cube_view.specs.Paths.{steps_of}
 use Rattle.cube_view.specs.Places.{time_dim, deepest, is_under, is_below, label_of}
-use Rattle.cube_view.specs.Points.{Point, spot_of}
+use Rattle.cube_view.specs.Points.{Point, spot_of, weight_of_point}
 use Rattle.cube_view.specs.declared.address.Address.{Address}
 use Rattle.cube_view.specs.declared.schema.Schema.{Schema}
 use Rattle.cube_view.specs.declared.spot.Spot.{Spot}
@@ -18,10 +18,10 @@ use Rattle.node_arena.specs.Slots.{Slot, child, child_label, children_of, slot_o
 use Rattle.node_arena.specs.declared.link.Link.{Link}
 use Rattle.cube_store.specs.BagCosts.{weighing_under, labels_below, bins_under}
 use Rattle.cube_store.specs.Counted.{CountsPoints}
-use Rattle.cube_store.specs.Holding.{TellsCosts}
+use Rattle.cube_store.specs.Holding.{TellsCosts, BoundsBagCosts}
 use Rattle.cube_store.specs.Reading.{IsWalkAddress, slot_under, children_in, counts_in, label_count, bin_count, spot_weight}
 use Rattle.cube_store.proofs.Bagging.{points_of_schema}
-use Rattle.cube_store.proofs.Differing.{distinct_count-same, member-weighing, member-children, member-bins}
+use Rattle.cube_store.proofs.Differing.{distinct_count-same, distinct_count-below, below-kept, member-weighing, member-children, member-bins}
 use Rattle.cube_store.proofs.Finding.{same_amount, under-steps, fits-contained, reached_there, counts_here, below_some, below_none}
 use Rattle.cube_store.proofs.Labelled.{link_down}
 use Rattle.cube_store.proofs.Listed.{amount-failing}
@@ -78,3 +78,9 @@ tells_costs cube h counts = record {
   down = λ a W above. ∥∥₁_elim cube.counted (ℕ_set _ _) (λ C. ap (λ n. 1 + bits n) (labels_same cube.schema cube.arena cube.root.0 cube.size C.0 C.1 h counts a W above));
   before = λ a W time. ∥∥₁_elim cube.counted (ℕ_set _ _) (λ C. ap (λ n. 2 + bits n) (bins_same cube.schema cube.arena cube.root.0 cube.size C.0 C.1 h counts a W time));
 }
+
+pub bounds_bag_costs : BoundsBagCosts
+bounds_bag_costs z h a n = (
+  λ all. distinct_count-below _ n (below-kept (λ p. (spot_of p).bin) (λ p. is_under z a (spot_of p) && ltb 0 (weight_of_point p)) n h all),
+  λ all. distinct_count-below _ n (below-kept (λ p. label_of z (spot_of p) a.dim (a.level + 1)) (λ p. is_under z a (spot_of p) && ltb 0 (weight_of_point p)) n h all),
+)

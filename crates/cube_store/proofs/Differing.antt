@@ -8,9 +8,10 @@ use Rattle.std.specs.Ordering.{nat_cmp}
 use Rattle.std.specs.Set.{distinct_count, is_member, unique_keys}
 use Rattle.std.proofs.lemmas.Bool.{or_parts, eqb-true, lt-ltb, ltb-true, ltb-false, ne_eqb}
 use Rattle.std.proofs.lemmas.Cmp.{nat_eq_equiv}
-use Rattle.std.proofs.lemmas.List.Elements.{All-nil, All-cons, recursion_from_All}
+use Rattle.std.proofs.lemmas.List.Elements.{All-nil, All-cons, All-tail, recursion_from_All}
 use Rattle.std.proofs.lemmas.Map.Keys.{IsDistinct-cons}
 use Rattle.std.proofs.lemmas.Map.Made.{length-from_keys, IsDistinct-from_count}
+use Rattle.std.proofs.lemmas.Map.Steps.{length-le_from_distinct_below}
 use Rattle.cube_view.specs.Bag.{amount, gives}
 use Rattle.cube_view.specs.Points.{Point, spot_of, weight_of_point}
 use Rattle.cube_view.specs.declared.spot.Spot.{Spot}
@@ -51,6 +52,27 @@ distinct_unique (x ∷ xs) = go (is_member eqb xs x) refl (distinct_unique xs)
 
 pub distinct_count-same : (xs ys : List ℕ) → ((q : ℕ) → is_member eqb xs q ≡ is_member eqb ys q) → distinct_count eqb xs ≡ distinct_count eqb ys
 distinct_count-same xs ys same = length-from_keys nat_eq_equiv (unique_keys eqb xs) ys (distinct_unique xs) (λ q. member_unique xs q ∙ same q)
+
+member_below : (xs : List ℕ) (n q : ℕ) → All (λ x. x < n) xs → is_member eqb xs q ≡ true → q < n
+member_below [] n q all there = absurd cc
+member_below (x ∷ xs) n q all there = go (eqb q x) refl there (member_below xs n q (All-tail (λ y. y < n) x xs all))
+  where
+    go : (b : Bool) → eqb q x ≡ b → (b || is_member eqb xs q) ≡ true → (is_member eqb xs q ≡ true → q < n) → q < n
+    go true e rest later = let same = eqb-true q x e in let first : x < n = all 0 x (omega arith) in omega (arith, same, first)
+    go false e rest later = later rest
+
+-- numbers under n are at most n different ones
+pub distinct_count-below : (xs : List ℕ) (n : ℕ) → All (λ x. x < n) xs → distinct_count eqb xs ≤ n
+distinct_count-below xs n all = length-le_from_distinct_below (unique_keys eqb xs) n (distinct_unique xs) (λ q there. member_below xs n q all (sym (member_unique xs q) ∙ there))
+
+-- what all of a list's numbers are under, those of a part of it are under too
+pub below-kept : {A : Type 0} (f : A → ℕ) (t : A → Bool) (n : ℕ) (h : List A) → All (λ a. f a < n) h → All (λ x. x < n) (map f (filter t h))
+below-kept f t n [] all = All-nil (λ x. x < n)
+below-kept f t n (a ∷ h) all = go (t a) (below-kept f t n h (All-tail (λ b. f b < n) a h all))
+  where
+    go : (b : Bool) → All (λ x. x < n) (map f (filter t h)) → All (λ x. x < n) (map f (cond b (a ∷ filter t h) (filter t h)))
+    go true rest = All-cons (λ x. x < n) (f a) (map f (filter t h)) (all 0 a (omega arith)) rest
+    go false rest = rest
 
 -- Numbers of the points that pass and weigh something
 

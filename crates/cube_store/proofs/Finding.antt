@@ -20,7 +20,7 @@ use Rattle.node_arena.specs.Shape.{IsShaped, home_of}
 use Rattle.node_arena.specs.Slots.{Slot, children_of, count, is_table, link_of, reached, follow, slot_of, target, walk_end}
 use Rattle.node_arena.specs.Calls.{child_from}
 use Rattle.node_arena.specs.declared.link.Link.{Link}
-use Rattle.node_arena.proofs.Reaching.{walk_coarser, target-lt, walk_counts, walk_reaches, walk_only}
+use Rattle.node_arena.proofs.Reaching.{walk_coarser, walk-lt, walk_counts, walk_reaches, walk_only}
 use Rattle.cube_store.specs.Counted.{paths_of, CountsPoints}
 use Rattle.cube_store.specs.Reading.{IsWalkAddress, StandsAt, spot_weight}
 use Rattle.cube_store.proofs.Bagging.{points_of_schema, Counts-points}
@@ -33,14 +33,6 @@ use Rattle.cube_store.proofs.Telling.{IsOfSchema}
 -- a step from an address that is reached
 pub step_on : (slots : List Slot) (w : Walk) (i : ℕ) (e : Step) (o : Option Link) → walk_end slots 0 w ≡ Some i → link_of slots i e ≡ o → walk_end slots 0 (e ∷ w) ≡ reached o
 step_on slots w i e o at is = ap (λ (r : Option ℕ). follow slots r e) at ∙ ap reached is
-
-last_step : (slots : List Slot) (o : Option ℕ) (e : Step) (j : ℕ) → follow slots o e ≡ Some j → (i : ℕ) × (l : Link) × (o ≡ Some i) × (link_of slots i e ≡ Some l) × (target l ≡ j)
-last_step slots None e j h = absurd cc
-last_step slots (Some i) e j h = go (link_of slots i e) refl h
-  where
-    go : (o : Option Link) → link_of slots i e ≡ o → reached o ≡ Some j → (k : ℕ) × (l : Link) × (Some i ≡ Some k) × (link_of slots k e ≡ Some l) × (target l ≡ j)
-    go None x y = absurd cc
-    go (Some l) x y = (i, l, refl, x, cc)
 
 -- which spots lie under an address, and under the one that is longer by a label
 module _ (z : Schema) (a : Address) (W : IsWalkAddress z a) (s : Spot) (fit : IsTrue (fits z s)) where
@@ -72,12 +64,6 @@ module _ (z : Schema) (slots : List Slot) (root size : ℕ) (k : List Point) (C 
   pub weighs-contained : (p : Point) → Contains k p → 0 < weight_of_point p
   weighs-contained p c = sound-weighs z p (All-contained (λ r. IsTrue (sound z r)) k p C.all_sound c)
 
-  inside : (w : Walk) (i : ℕ) → walk_end slots 0 w ≡ Some i → i < length slots
-  inside [] i at = let e : 0 ≡ i = cc in subst (λ j. j < length slots) e shaped.has_homes.some
-  inside (e ∷ w) i at =
-      let s = last_step slots (walk_end slots 0 w) e i at in
-      subst (λ j. j < length slots) s.4 (target-lt slots C.homes shaped.has_homes s.0 e s.1 s.3)
-
   -- each counted list has the amounts of this one
   pub same_amount : (h : List Point) → Counts (spot_weight z slots) size h → (q : Spot → Bool) → amount q h ≡ amount q k
   same_amount h counts q = Counts-same (spot_weight z slots) size h k counts (Counts-points z slots root size k C) q
@@ -100,7 +86,7 @@ module _ (z : Schema) (slots : List Slot) (root size : ℕ) (k : List Point) (C 
 
   module _ (a : Address) (slot : ℕ) (S : StandsAt z slots slot a) where
     pub in_range : slot < length slots
-    in_range = inside (steps_of a) slot S.reached
+    in_range = walk-lt slots C.homes shaped.has_homes (steps_of a) slot S.reached
 
     home_dim : dimension (home_of C.homes slot) ≡ a.dim
     home_dim = sym (dimension-finer (walk_coarser slots C.homes shaped.has_homes (steps_of a) slot S.reached)) ∙ dimension-steps_of z a S.walked

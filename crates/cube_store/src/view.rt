@@ -1,9 +1,6 @@
 //! The cube as its readers see it: cursors go along the links of the arena.
-ghost use Rattle.std.specs.Prelude.{◌≡◌, ◌≢◌, ◌<◌};
-ghost use Rattle.cube_view.specs.Places.{deepest, longer as longer_address, next_dim as next_address, time_dim, IsAddress};
-
 use crate::cube::Cube;
-use cube_view::{Address, CubeView, Grow, Point, Schema, Stat, Tile, quadrant};
+use cube_view::{Address, CubeView, Grow, Point, Schema, Stat};
 use node_arena::SlotId;
 use outer_io::NoMemory;
 use probe_core::Steps;
@@ -51,15 +48,9 @@ impl CubeView for Cube {
     }
 
     fn top(&self) -> CubeCursor {
-        let address = Address {
-            dim: 1,
-            level: 0,
-            tile: Tile { z: 0, x: 0, y: 0 },
-            values: [None; 4],
-        };
         CubeCursor {
             slot: self.root,
-            address,
+            address: Address::top(),
         }
     }
 
@@ -78,7 +69,7 @@ impl CubeView for Cube {
         let link = self.arena.child(cursor.slot, label, steps)?;
         Some(CubeCursor {
             slot: link.to,
-            address: longer(&self.schema, &cursor.address, label),
+            address: cursor.address.longer(&self.schema, label),
         })
     }
 
@@ -96,7 +87,7 @@ impl CubeView for Cube {
         let link = self.arena.content(cursor.slot, steps)?;
         Some(CubeCursor {
             slot: link.to,
-            address: next_dim(&self.schema, &cursor.address),
+            address: cursor.address.next_dim(&self.schema),
         })
     }
 
@@ -109,42 +100,5 @@ impl CubeView for Cube {
 impl Grow for Cube {
     fn insert(&mut self, point: Point) -> Result<(), NoMemory> {
         Cube::insert(self, point)
-    }
-}
-
-/// The address that is longer by a label.
-fn longer(schema: &Schema, address: &Address, label: u8) -> Address
-    requires placed { IsAddress schema.now address.now }
-    requires above { address.now.level < deepest schema.now address.now.dim }
-    requires quadrant { address.now.dim ≡ 1 → label < 4 }
-    ensures place { result ≡ longer_address address.now label }
-    ensures placed { IsAddress schema.now result }
-{
-    let mut tile = address.tile;
-    let mut values = address.values;
-    if address.dim == 1 {
-        tile = quadrant(&tile, label);
-    } else {
-        values[address.dim as usize - 2] = Some(label);
-    }
-    Address {
-        dim: address.dim,
-        level: address.level + 1,
-        tile,
-        values,
-    }
-}
-
-/// The same tile and values, at level 0 of the next dimension.
-fn next_dim(schema: &Schema, address: &Address) -> Address
-    requires placed { IsAddress schema.now address.now }
-    requires before_time { address.now.dim ≢ time_dim schema.now }
-    ensures place { result ≡ next_address address.now }
-    ensures placed { IsAddress schema.now result }
-{
-    Address {
-        dim: address.dim + 1,
-        level: 0,
-        ..*address
     }
 }

@@ -32,7 +32,18 @@ fn sum_on_two_threads<R: Threads>(rt: &R, first: Counter, second: Counter) -> u3
     a.saturating_add(b)
 }
 
+/// The double of a counter that two threads read at once.
+fn double_by_two_threads<R: Threads>(rt: &R, counter: &Counter) -> u32 {
+    let (a, b) = join(rt, move || counter.count, move || counter.count);
+    a.saturating_add(b)
+}
+
 #[test]
 fn goes_to_another_thread(rt: HostRuntime) {
     assert_eq!(rt; sum_on_two_threads(&rt, at_five(), at_five()), 10);
+}
+
+#[test]
+fn is_read_by_two_threads_at_once(rt: HostRuntime) {
+    assert_eq!(rt; double_by_two_threads(&rt, &at_five()), 10);
 }

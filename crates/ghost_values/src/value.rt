@@ -15,6 +15,9 @@ impl<T> Model for GhostValue<T> {
     ghost also_owns = { λ _. ftrue };
 }
 
+// It owns nothing.
+unsafe impl<T> Sync for GhostValue<T> {}
+
 impl<T> GhostValue<T> {
     /// The value as it is now.
     pub fn of(x: &T) -> GhostValue<T>

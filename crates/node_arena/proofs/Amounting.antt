@@ -1,5 +1,5 @@
 -- Amounts under two addresses that have the same spots, and under one that has none.
-use Rattle.std.proofs.Common.{◌≡◌, ℕ, ◌+◌, Bool, true, false, cond, ◌&&◌, eqb, List, [], ◌∷◌, Contains, refl, sym, ap, ap₂, ◌∙◌, arith}
+use Rattle.std.proofs.Common.{◌≡◌, ℕ, ◌+◌, Bool, true, false, cond, ◌&&◌, eqb, List, [], ◌∷◌, Contains, refl, sym, ap₂, ◌∙◌}
 use Rattle.std.proofs.lemmas.List.Sums.{sum_by-cons}
 use Rattle.cube_view.specs.Walks.{Walk, SpotPath, under, Under, HasSpot}
 use Rattle.cube_view.proofs.Walking.{Contains-cons, Contains-head, iff_same}

@@ -27,7 +27,7 @@ target-lt slots homes H i e l h = go (link_cases l)
     go (inr s) = (H.finer i (target l) e (h ∙ ap Some s)).0
 
 -- the last step of a walk
-last_step : (slots : List Slot) (o : Option ℕ) (e : Step) (j : ℕ) → follow slots o e ≡ Some j → (i : ℕ) × (l : Link) × (o ≡ Some i) × (link_of slots i e ≡ Some l) × (target l ≡ j)
+pub last_step : (slots : List Slot) (o : Option ℕ) (e : Step) (j : ℕ) → follow slots o e ≡ Some j → (i : ℕ) × (l : Link) × (o ≡ Some i) × (link_of slots i e ≡ Some l) × (target l ≡ j)
 last_step slots None e j h = absurd cc
 last_step slots (Some i) e j h = go (link_of slots i e) refl h
   where
@@ -39,6 +39,13 @@ step_on : (slots : List Slot) (o : Option ℕ) (e : Step) (i : ℕ) (l : Link) �
 step_on slots o e i l x y = ap (λ (z : Option ℕ). follow slots z e) x ∙ ap reached y
 
 module _ (slots : List Slot) (homes : List Walk) (H : HasHomes slots homes) where
+  -- a walk leads to a slot
+  pub walk-lt : (a : Walk) (j : ℕ) → walk_end slots 0 a ≡ Some j → j < length slots
+  walk-lt [] j h = let e : 0 ≡ j = cc in subst (λ k. k < length slots) e H.some
+  walk-lt (e ∷ a) j h =
+      let s = last_step slots (walk_end slots 0 a) e j h in
+      subst (λ k. k < length slots) s.4 (target-lt slots homes H s.0 e s.1 s.3)
+
   -- the address is coarser than the home
   pub walk_coarser : (a : Walk) (j : ℕ) → walk_end slots 0 a ≡ Some j → IsCoarser a (home_of homes j)
   walk_coarser [] j h = let e : 0 ≡ j = cc in subst (λ z. IsCoarser [] (home_of homes z)) e (subst (λ z. IsCoarser [] z) (sym H.root) top)
@@ -75,14 +82,8 @@ module _ (dims : ℕ) (slots : List Slot) (homes : List Walk) (h : List Weighted
       let r = walk_reaches a (record { spot = w.spot; is_in = w.is_in; lies = under_before w.spot e a w.lies }) in
       let at = walk_agrees a r.0 r.1 w.spot w.is_in (under_before w.spot e a w.lies) in
       let v = sym (step_across_finer (walk_coarser slots homes S.has_homes a r.0 r.1) w.spot e at) ∙ w.lies in
-      let n = S.holds.needed r.0 e (in_range a r.0 r.1) (record { spot = w.spot; is_in = w.is_in; lies = v }) in
+      let n = S.holds.needed r.0 e (walk-lt slots homes S.has_homes a r.0 r.1) (record { spot = w.spot; is_in = w.is_in; lies = v }) in
       (target n.link, step_on slots (walk_end slots 0 a) e r.0 n.link r.1 n.is)
-    where
-      in_range : (b : Walk) (i : ℕ) → walk_end slots 0 b ≡ Some i → i < length slots
-      in_range [] i x = let e : 0 ≡ i = cc in subst (λ z. z < length slots) e S.has_homes.some
-      in_range (f ∷ b) i x =
-          let s = last_step slots (walk_end slots 0 b) f i x in
-          subst (λ z. z < length slots) s.4 (target-lt slots homes S.has_homes s.0 f s.1 s.3)
 
   pub walk_only : (a : Walk) (e : Step) (j : ℕ) → walk_end slots 0 (e ∷ a) ≡ Some j → HasSpot (spots_in h) (e ∷ a)
   walk_only a e j w =
@@ -94,12 +95,6 @@ module _ (dims : ℕ) (slots : List Slot) (homes : List Walk) (h : List Weighted
   pub walk_counts : (a : Walk) (j bin : ℕ) → j < length slots → walk_end slots 0 a ≡ Some j → is_table (slot_of slots j) ≡ true → count (slot_of slots j) bin ≡ amount_under h a bin
   walk_counts a j bin l w t =
       S.counted.counts j bin l t ∙ amount_along h (home_of homes j) a (λ q c u. coarser_under (walk_coarser slots homes S.has_homes a j w) q u) (λ q c u. walk_agrees a j w q c u) bin
-
-  walk-lt : (b : Walk) (i : ℕ) → walk_end slots 0 b ≡ Some i → i < length slots
-  walk-lt [] i x = let e : 0 ≡ i = cc in subst (λ z. z < length slots) e S.has_homes.some
-  walk-lt (f ∷ b) i x =
-      let s = last_step slots (walk_end slots 0 b) f i x in
-      subst (λ z. z < length slots) s.4 (target-lt slots homes S.has_homes s.0 f s.1 s.3)
 
   -- the shape, said of walks
   pub is_walked : IsWalked slots homes h
@@ -114,7 +109,7 @@ module _ (dims : ℕ) (slots : List Slot) (homes : List Walk) (h : List Weighted
       reached = λ a w. let r = walk_reaches a w in record { slot = r.0; is = r.1 };
       only = λ a e r. walk_only a e r.slot r.is;
     };
-    counted = record { counts = λ a i bin w t. walk_counts a i bin (walk-lt a i w) w t };
+    counted = record { counts = λ a i bin w t. walk_counts a i bin (walk-lt slots homes S.has_homes a i w) w t };
   }
 
 -- the whole walk of a spot
@@ -141,7 +136,7 @@ weight_counts dims slots homes h S q some P = go (walk_end slots 0 (whole q)) re
     go : (o : Option ℕ) → walk_end slots 0 (whole q) ≡ o → count_reached slots o q.bin ≡ amount_under h (whole q) q.bin
     go None e = sym (amount-none h (whole q) q.bin (λ w. let r = walk_reaches dims slots homes h S (whole q) w in let x = r.1 in absurd cc))
     go (Some j) e =
-        let l = walk-lt dims slots homes h S (whole q) j e in
+        let l = walk-lt slots homes S.has_homes (whole q) j e in
         let d : dimension (home_of homes j) ≡ dims = sym (dimension-finer (walk_coarser slots homes S.has_homes (whole q) j e)) ∙ dimension-whole dims q some P in
         walk_counts dims slots homes h S (whole q) j q.bin l e ((S.has_tables.tables j l).1 d)
 

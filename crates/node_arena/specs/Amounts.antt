@@ -1,5 +1,5 @@
 -- Spots with the amounts that a cube counts at them.
-use Rattle.std.specs.Prelude.{ℕ, Bool, ◌&&◌, ◌==◌, if◌then◌else◌, List, map, sum_by}
+use Rattle.std.specs.Prelude.{ℕ, ◌&&◌, ◌==◌, if◌then◌else◌, List, map, sum_by}
 use Rattle.cube_view.specs.Walks.{Walk, SpotPath, under}
 
 -- an amount at a spot, as a point has its weight

@@ -1,6 +1,6 @@
 -- The shape in the words of walks from the root, as laws; and what a cube counts.
-use Rattle.std.specs.Prelude.{◌≡◌, ℕ, suc, ◌<◌, List, [], ◌∷◌, length, Option, Some, None, Contains}
-use Rattle.cube_view.specs.Walks.{Step, down, across, Walk, SpotPath, HasSpot, IsCoarser, Under, whole}
+use Rattle.std.specs.Prelude.{◌≡◌, ℕ, ◌<◌, List, [], ◌∷◌, length, Option, Some, None, Contains}
+use Rattle.cube_view.specs.Walks.{Step, Walk, SpotPath, HasSpot, IsCoarser, Under, whole}
 use Rattle.node_arena.specs.Amounts.{Weighted, spots_in, amount_under}
 use Rattle.node_arena.specs.Slots.{Slot, IsTable, slot_of, count, walk_end}
 use Rattle.node_arena.specs.Shape.{home_of, IsShaped}

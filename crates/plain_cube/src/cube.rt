@@ -1,11 +1,11 @@
 //! The cube, and what it is as a view.
 ghost use Rattle.std.specs.Prelude.{◌≡◌, ℕ, ◌+◌, ◌*◌, ◌^◌, ◌<◌, ◌≤◌, [], ◌∷◌, ◌++◌, length, All, IsTrue, OnOk, OnErr, refl};
 ghost use Rattle.cube_view.specs.Bag.{most_points};
-ghost use Rattle.cube_view.specs.Places.{deepest, longer as longer_address, IsAddress};
+ghost use Rattle.cube_view.specs.Places.{IsAddress};
 ghost use Rattle.cube_view.specs.Validity.{sound};
 
 use crate::scans::{any_below, count_before, least_below};
-use cube_view::{Address, CubeView, Grow, Point, Schema, Stat, Tile, quadrant};
+use cube_view::{Address, CubeView, Grow, Point, Schema, Stat};
 use outer_io::NoMemory;
 use probe_core::Steps;
 use std::alloc::Global;
@@ -87,12 +87,7 @@ impl CubeView for PlainCube {
     }
 
     fn top(&self) -> Address {
-        Address {
-            dim: 1,
-            level: 0,
-            tile: Tile { z: 0, x: 0, y: 0 },
-            values: [None; 4],
-        }
+        Address::top()
     }
 
     fn stat(&self) -> Stat {
@@ -106,7 +101,7 @@ impl CubeView for PlainCube {
 
     fn down<L: Ledger>(&self, cursor: Address, label: u8, steps: &mut Steps<L>) -> Option<Address> {
         if any_below(&self.schema, self.points.as_slice(), &cursor, label, steps) {
-            Some(longer(&self.schema, &cursor, label))
+            Some(cursor.longer(&self.schema, label))
         } else {
             None
         }
@@ -120,10 +115,7 @@ impl CubeView for PlainCube {
         if self.points.is_empty() {
             return None;
         }
-        let mut next = cursor;
-        next.dim += 1;
-        next.level = 0;
-        Some(next)
+        Some(cursor.next_dim(&self.schema))
     }
 
     fn before<L: Ledger>(&self, cursor: Address, bin_end: u64, steps: &mut Steps<L>) -> u64 {
@@ -141,21 +133,4 @@ impl Grow for PlainCube {
     fn insert(&mut self, point: Point) -> Result<(), NoMemory> {
         PlainCube::insert(self, point)
     }
-}
-
-fn longer(schema: &Schema, address: &Address, label: u8) -> Address
-    requires address { IsAddress schema.now address.now }
-    requires above { address.now.level < deepest schema.now address.now.dim }
-    requires quadrant { address.now.dim ≡ 1 → label < 4 }
-    ensures place { result ≡ longer_address address.now label }
-    ensures address { IsAddress schema.now result }
-{
-    let mut next = *address;
-    next.level += 1;
-    if address.dim == 1 {
-        next.tile = quadrant(&address.tile, label);
-    } else {
-        next.values[address.dim as usize - 2] = Some(label);
-    }
-    next
 }

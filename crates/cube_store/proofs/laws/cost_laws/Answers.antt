@@ -1,5 +1,5 @@
 use Rattle.cube_store.specs.Reading.{cube_costs}
-use Rattle.cube_store.proofs.Costing.{tells_costs}
+use Rattle.cube_store.proofs.Costing.{tells_costs, bounds_bag_costs}
 use Rattle.cube_store.proofs.WalkCosting.{address_cost-same}
 use Rattle.cube_store.proofs.laws.cost_laws.Goals as goal
 
@@ -8,3 +8,6 @@ returns-clause-calls c = tells_costs
 
 pub returns-clause-walks : goal.returns-clause-walks
 returns-clause-walks c cube h counts a W = address_cost-same cube.schema (cube_costs cube.arena) h (tells_costs cube h counts) a W
+
+pub returns-clause-bounds : goal.returns-clause-bounds
+returns-clause-bounds c = bounds_bag_costs

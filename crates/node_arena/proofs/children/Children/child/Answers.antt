@@ -1,4 +1,4 @@
-use Rattle.std.proofs.Common.{sym, ap, ap₂, ◌∙◌, Some, ℕ}
+use Rattle.std.proofs.Common.{sym, ap₂, ◌∙◌, Some, ℕ}
 use Rattle.node_arena.specs.declared.link.Link.{Link}
 use Rattle.node_arena.proofs.Edits.{lies_at, child-found, child-missed, child-past}
 use Rattle.node_arena.proofs.children.Children.child.Goals as goal
