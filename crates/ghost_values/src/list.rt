@@ -4,7 +4,7 @@ ghost use Rattle.std.specs.Borrow.{ftrue};
 
 use std::marker::{Model, PhantomData};
 
-/// A list that only contracts read, as `items`. It is Send and Sync where `T` is.
+/// A list that only contracts read, as `items`. It is Send and Sync whatever `T` is.
 #[derive(Drop)]
 pub struct GhostList<T> {
     marker: PhantomData<T>,
@@ -16,6 +16,8 @@ impl<T> Model for GhostList<T> {
 }
 
 // It owns nothing.
+unsafe impl<T> Send for GhostList<T> {}
+
 unsafe impl<T> Sync for GhostList<T> {}
 
 impl<T> GhostList<T> {

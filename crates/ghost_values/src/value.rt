@@ -4,7 +4,7 @@ ghost use Rattle.std.specs.Borrow.{ftrue};
 
 use std::marker::{Model, PhantomData};
 
-/// A value that only contracts read, as `value`. It is Send and Sync where `T` is.
+/// A value that only contracts read, as `value`. It is Send and Sync whatever `T` is.
 #[derive(Drop)]
 pub struct GhostValue<T> {
     marker: PhantomData<T>,
@@ -16,6 +16,8 @@ impl<T> Model for GhostValue<T> {
 }
 
 // It owns nothing.
+unsafe impl<T> Send for GhostValue<T> {}
+
 unsafe impl<T> Sync for GhostValue<T> {}
 
 impl<T> GhostValue<T> {

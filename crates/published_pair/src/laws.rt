@@ -1,6 +1,12 @@
 //! What the steps of a pair are to the loading machine, as laws of the definitions.
 ghost use Rattle.published_pair.specs.PairLaws.{FreshIsPairFact, RuleIsPairFact, PublicationIsPublish, TellingIsTell, LookingIsLook};
 
+use crate::publisher::Publisher;
+use crate::rested::Rested;
+use crate::told::{Closed, Last, Told};
+use crate::viewer::{Shown, Viewer};
+use cube_view::Grow;
+
 /// What every end saw is a prefix of what is shown. A publication, a tell and a look are the machine's events; learning of the
 /// end is a tell. Appending, learning, ending, closing and opening are no events. It does nothing when run.
 pub fn pair_laws()
@@ -10,3 +16,18 @@ pub fn pair_laws()
     ensures tell { TellingIsTell }
     ensures look { LookingIsLook }
 {}
+
+/// Only a type whose values may go to another thread can be named here.
+fn may_go<T: Send>() {}
+
+/// The ends of a pair of any view that threads may share, its looks, and what becomes of its ends, may go to other
+/// threads. It does nothing when run.
+pub fn pair_ends_may_go<V: Grow + Send + Sync>() {
+    may_go::<Publisher<V>>();
+    may_go::<Viewer<V>>();
+    may_go::<Shown<V>>();
+    may_go::<Told>();
+    may_go::<Rested<V>>();
+    may_go::<Last>();
+    may_go::<Closed>();
+}

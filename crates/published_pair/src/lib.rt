@@ -35,7 +35,7 @@ mod told;
 mod viewer;
 
 pub use book::{Front, Whole};
-pub use laws::pair_laws;
+pub use laws::{pair_ends_may_go, pair_laws};
 pub use opening::open;
 pub use publisher::{Of, Pairing, Publisher, PublisherOf};
 pub use rested::{Rested, RestedOf};
