@@ -1,0 +1,14 @@
+//! Counts over a cube of many records, and how many steps they take.
+//!
+//! Each clause is proved from those of `cube_store` and `query_walk` alone, so the crate shows that they suffice for a
+//! number that speaks of values and bins, and of no records. All of it is tests. What other queries cost is left to the
+//! bounds of `query_walk` and `tile_drill`.
+//!
+//! ```text
+//! let equal = count_of_equal_records(rt, alloc, 1_000_000, &mut steps)?;   // in at most 11 steps
+//! assert_eq!(rt; equal, 1_000_000);
+//! ```
+#![tactic(auto)]
+
+#[cfg(test)]
+mod tests;
