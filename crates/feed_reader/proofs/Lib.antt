@@ -1,4 +1,6 @@
 pub mod Lists
+pub mod Splits
+pub mod FieldReads
 pub mod OneRecord
 pub mod Columns
 pub mod Parts

@@ -1,5 +1,7 @@
 pub mod Columns
 pub mod Records
+pub mod Texts
+pub mod Fronts
 pub mod Headings
 pub mod Headers
 pub mod Rows

@@ -1,28 +1,33 @@
 //! The fields of a line, where it is one record.
-ghost use Rattle.std.specs.Prelude.{◌≡◌, ◌<◌, [], IfOk, Some, get_or, length};
+ghost use Rattle.std.specs.Prelude.{◌≡◌, ◌<◌, ◌∷◌, ◌++◌, [], IfOk, get_or, length};
 ghost use Rattle.feed_reader.specs.Headers.{count_named, place_in};
-ghost use Rattle.feed_reader.specs.Records.{IsReaderOf, begins_with_mark, record_of};
+ghost use Rattle.feed_reader.specs.Records.{begins_with_mark, record_of};
 ghost use Rattle.feed_reader.specs.Rows.{is_short};
+ghost use Rattle.feed_reader.specs.Texts.{bytes_of};
 
-use csv::{ByteRecord, Reader, ReaderBuilder};
+use crate::fronts::one_record;
+use crate::text::FieldText;
 use cube_view::is_same_text;
-use outer_io::NoMemory;
+use outer_io::{List, NoMemory};
 use std::alloc::Global;
 use std::marker::Model;
 
+// How many fields have room at first.
+const ROOM: usize = 16;
+
 /// The fields of a line, seen as the list of their bytes.
 #[derive(Drop)]
-pub(crate) struct Fields {
-    row: ByteRecord,
+pub(crate) struct Fields<'a> {
+    texts: List<FieldText<'a>>,
 }
 
-impl Model for Fields {
-    ghost use Rattle.std.specs.Prelude.{List, ℕ};
-    ghost use Rattle.csv.specs.Records.{fields_of};
+impl<'a> Model for Fields<'a> {
+    ghost use Rattle.std.specs.Prelude.{List, ℕ, map};
+    ghost use Rattle.feed_reader.specs.Texts.{bytes_of};
 
     ghost Value = { List (List ℕ) };
 
-    ghost view = { λ fields. fields_of fields.row };
+    ghost view = { λ fields. map bytes_of fields.texts };
 }
 
 // Whether the bytes begin with a byte order mark, which `csv` would pass over.
@@ -35,41 +40,31 @@ fn begins_with_mark(line: &[u8]) -> bool
     }
 }
 
-// A reader that has yet to read the line.
-fn reader(alloc: Global, line: &[u8]) -> Reader<&[u8]>
-    ensures { IsReaderOf (λ rest. Some rest.now) result line.now }
-{
-    ReaderBuilder::new()
-        .has_headers(false)
-        .flexible(true)
-        .from_reader(alloc, line)
-}
+impl<'a> Fields<'a> {
+    /// No fields yet, with room for those of most lines.
+    pub(crate) fn new(alloc: Global) -> Result<Fields<'a>, NoMemory>
+        ensures { IfOk result (λ fields. fields ≡ []) }
+    {
+        let mut texts = List::new(alloc);
+        texts.reserve(ROOM)?;
+        Ok(Fields { texts })
+    }
 
-impl Fields {
+    /// Adds a field at the end.
+    pub(crate) fn add(&mut self, text: FieldText<'a>) -> Result<(), NoMemory>
+        ensures { IfOk result (λ _. self.new ≡ self.old ++ bytes_of text.entry ∷ []) }
+    {
+        self.texts.add(text)
+    }
+
     /// The fields of a line that has no mark at its start and is exactly one record.
-    pub(crate) fn read(alloc: Global, line: &[u8]) -> Result<Option<Fields>, NoMemory>
+    pub(crate) fn read(alloc: Global, line: &'a [u8]) -> Result<Option<Fields<'a>>, NoMemory>
         ensures { IfOk result (λ found. found ≡ record_of line.now) }
     {
         if begins_with_mark(line) {
             return Ok(None);
         }
-        let mut reader = reader(alloc, line);
-        let mut row = ByteRecord::new(alloc);
-        let Ok(found) = reader.read_byte_record(&mut row) else {
-            return Err(NoMemory);
-        };
-        if !found {
-            return Ok(None);
-        }
-        let mut further = ByteRecord::new(alloc);
-        let Ok(more) = reader.read_byte_record(&mut further) else {
-            return Err(NoMemory);
-        };
-        if more {
-            Ok(None)
-        } else {
-            Ok(Some(Fields { row }))
-        }
+        one_record(alloc, line)
     }
 
     /// The field at a place, from 0.
@@ -77,17 +72,14 @@ impl Fields {
         requires { place < length self.now }
         ensures { result.now ≡ get_or self.now place [] }
     {
-        match self.row.get(place) {
-            Some(field) => field,
-            None => unreachable!(),
-        }
+        self.texts.get(place).bytes()
     }
 
     /// How many fields there are.
     fn len(&self) -> usize
         ensures { result ≡ length self.now }
     {
-        self.row.len()
+        self.texts.len()
     }
 
     /// How many fields are the name.

@@ -4,6 +4,9 @@ ghost use Rattle.feed_reader.specs.Columns.{further_names, needed_names, needed_
 ghost use Rattle.feed_reader.specs.Headers.{column_fault, counts_named, head_of, place_in};
 ghost use Rattle.feed_reader.specs.Rows.{row_of, row_of_record, IsValidRow};
 
+#[cfg(test)]
+mod tests;
+
 use crate::fields::Fields;
 use crate::row::row_of_record;
 use crate::{Column, Row, RowFault};
@@ -113,7 +116,7 @@ fn needed_name(schema: &Schema, place: usize) -> &[u8]
 }
 
 // How many fields each needed column's name is.
-fn counts(alloc: Global, schema: &Schema, fields: &Fields) -> Result<List<usize>, NoMemory>
+fn counts(alloc: Global, schema: &Schema, fields: &Fields<'_>) -> Result<List<usize>, NoMemory>
     ensures { IfOk result (λ counts. counts ≡ counts_named schema.now fields.now) }
 {
     let mut counts = List::new(alloc);
@@ -151,7 +154,7 @@ fn column_fault(schema: &Schema, counts: &[usize]) -> Option<HeadFault>
 }
 
 // The place of each needed column in the line.
-fn places(alloc: Global, schema: &Schema, fields: &Fields) -> Result<List<usize>, NoMemory>
+fn places(alloc: Global, schema: &Schema, fields: &Fields<'_>) -> Result<List<usize>, NoMemory>
     ensures { IfOk result (λ places. places ≡ map (place_in fields.now) (needed_names schema.now)) }
 {
     let mut places = List::new(alloc);

@@ -1,10 +1,11 @@
 //! The lines of a feed: a header, which says in which column each part of a record stands, and rows, which are points.
 //!
-//! A line is read by itself with `csv`. What its bytes mean is the definition `head_of` of `specs/Headers.antt` for a
-//! header and `row_of` of `specs/Rows.antt` for a row; [`Header::read`] and [`Header::row`] answer exactly that.
-//! [`read_header`] and [`next_row`] take the lines from a cutter. `accepted` of `specs/Feeds.antt` says which points a
-//! whole feed has. The crate stands on `cube_view` for schemas and points and on `outer_io` for lines; where the points
-//! go, and what is said of refused rows, is left to the crates above.
+//! A line is read by itself, field by field. What a field and a record are is `csv`'s own definition, which `record_of` of
+//! `specs/Records.antt` cites; no reader of `csv` is made. What the bytes mean is the definition `head_of` of
+//! `specs/Headers.antt` for a header and `row_of` of `specs/Rows.antt` for a row; [`Header::read`] and [`Header::row`]
+//! answer exactly that. [`read_header`] and [`next_row`] take the lines from a cutter. `accepted` of `specs/Feeds.antt`
+//! says which points a whole feed has. The crate stands on `cube_view` for schemas and points and on `outer_io` for lines;
+//! where the points go, and what is said of refused rows, is left to the crates above.
 //!
 //! ```text
 //! let header = Header::read(alloc, &schema, b"id,x,y,kind,time")?;
@@ -14,10 +15,13 @@
 #![tactic(auto)]
 
 mod column;
+mod decimal;
 mod feed;
 mod fields;
+mod fronts;
 mod header;
 mod row;
+mod text;
 
 pub use column::Column;
 pub use feed::{NoHeader, next_row, read_header};

@@ -8,9 +8,10 @@ ghost use Rattle.feed_reader.specs.Headers.{place_in};
 ghost use Rattle.feed_reader.specs.Rows.{AnswersUnless, fault_if, number, unknown_value, values_of, is_weight_unread, weight_in, MeansParts, is_short, text_at, texts_at, row_of_record, IsValidRow};
 
 use crate::Column;
+use crate::decimal::decimal;
 use crate::fields::Fields;
 use cube_view::{Category, Point, Schema, Spot, is_same_text};
-use outer_io::{List, decimal_of};
+use outer_io::List;
 
 /// Why a line is no point. A category goes by its number, from 0.
 #[derive(Clone, Copy, PartialEq, Eq, Debug)]
@@ -39,14 +40,14 @@ pub enum Row {
 fn number(field: &[u8], column: Column) -> Result<u64, RowFault>
     ensures { AnswersUnless (fault_if (not (is_decimal field.now)) (RowFault.BadNumber column)) (number field.now) result }
 {
-    match decimal_of(field) {
+    match decimal(field) {
         Some(number) => Ok(number),
         None => Err(RowFault::BadNumber(column)),
     }
 }
 
 // What a record weighs: the number in the field at the place, if there is a place, else 1.
-fn weight_number(fields: &Fields, place: Option<usize>) -> Result<u64, RowFault>
+fn weight_number(fields: &Fields<'_>, place: Option<usize>) -> Result<u64, RowFault>
     requires { IfSome place (λ place. place < length fields.now) }
     ensures { let text = text_at fields.now place in
         AnswersUnless (fault_if (is_weight_unread text) (RowFault.BadNumber Column.Weight)) (weight_in text) result }
@@ -87,7 +88,7 @@ fn value(category: &Category, field: &[u8]) -> Option<u8>
 fn values(
     categories: &List<Category>,
     places: &[usize],
-    fields: &Fields,
+    fields: &Fields<'_>,
 ) -> Result<[u8; 4], RowFault>
     requires in_range { IsTrue (categories_in_range categories.now) }
     requires each { length places.now ≡ length categories.now }
@@ -138,7 +139,7 @@ fn weight(number: u64) -> Result<u32, RowFault>
 // The point of a record, or its first fault. The fields of its categories stand at the places.
 fn point(
     schema: &Schema,
-    fields: &Fields,
+    fields: &Fields<'_>,
     x: &[u8],
     y: &[u8],
     time: &[u8],
@@ -176,7 +177,7 @@ fn further_places<'a>(schema: &Schema, places: &'a [usize]) -> (Option<usize>, &
 }
 
 /// What a record is whose needed columns stand at the places.
-pub(crate) fn row_of_record(schema: &Schema, places: &[usize], fields: &Fields) -> Row
+pub(crate) fn row_of_record(schema: &Schema, places: &[usize], fields: &Fields<'_>) -> Row
     requires { length places.now ≡ needed_count schema.now }
     ensures { result ≡ row_of_record schema.now places.now (Some fields.now) }
 {

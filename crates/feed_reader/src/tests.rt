@@ -20,7 +20,7 @@ fn kind(alloc: Global) -> Result<Category, NoMemory>
 }
 
 // Depth 3, the category `kind` of a and b, bins of 10 from `start` on, and no weight column.
-fn schema(alloc: Global, start: u64) -> Result<Schema, NoMemory> {
+pub(crate) fn schema(alloc: Global, start: u64) -> Result<Schema, NoMemory> {
     let mut categories = List::new(alloc);
     categories.add(kind(alloc)?)?;
     Ok(Schema::new(3, categories, start, 10, 1, None))
@@ -103,6 +103,15 @@ fn reads_fields_as_csv_does(rt: HostRuntime) -> Result<(), Fail> {
         ("\r", Row::Refused(RowFault::BadRow)),
         ("0,0,a,5\r1,1,b,6", Row::Refused(RowFault::BadRow)),
         ("0,0,a,5\r1", Row::Refused(RowFault::BadRow)),
+        ("0,0,a,5\r\r", point(0, 0, 0, 0)),
+        ("\r0,0,a,5", point(0, 0, 0, 0)),
+        ("0,0,a,5,b\"", point(0, 0, 0, 0)),
+        (r#""0","0","a","5""#, point(0, 0, 0, 0)),
+        (r#"0,0,""a,5"#, point(0, 0, 0, 0)),
+        (r#""1"2,0,a,5"#, Row::Refused(RowFault::BadTile(Column::X))),
+        (r#"0,0,"a""",5"#, Row::Refused(RowFault::UnknownValue(0))),
+        (r#""",0,a,5"#, Row::Refused(RowFault::BadNumber(Column::X))),
+        ("0,0,\"a\",5,\"x,\r\"", point(0, 0, 0, 0)),
         ("\u{FEFF}0,0,a,5", Row::Refused(RowFault::BadRow)),
         ("0,0,a,5,9,9", point(0, 0, 0, 0)),
         ("0,0,a", Row::Refused(RowFault::ShortRow)),
