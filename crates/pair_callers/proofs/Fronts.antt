@@ -1,5 +1,5 @@
 -- What is left of a list whose last item is taken off.
-use Rattle.std.proofs.Common.{◌≡◌, ◌≤◌, List, ◌++◌, All, length, length-append, get_or, subst, sym, arith}
+use Rattle.std.proofs.Common.{◌≡◌, List, ◌++◌, All, length-append, subst, arith}
 use Rattle.std.proofs.Math.ListN.{get_or-append}
 
 -- what is one of all items is so of those that are left

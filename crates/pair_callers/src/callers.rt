@@ -32,7 +32,8 @@ pub fn build<V: Grow, R: Wait + Abort>(
 ) -> u64
     requires none { publisher.old.appended.items ≡ [] }
     requires schema { publisher.old.schema ≡ schema.now }
-    ensures { result ≡ points }
+    ensures published { result ≡ points }
+    ensures same { publisher.new.schema ≡ publisher.old.schema }
 {
     let mut published = 0;
     for _ in 0..points {
@@ -69,7 +70,7 @@ pub fn look_often<V: Grow, R: Wait + Abort>(rt: &R, viewer: Viewer<V>, looks: u3
 }
 
 /// Holds a look of the first viewer open while the second looks so often.
-fn look_beside_open_look<V: Grow, R: Wait + Abort>(
+pub fn look_beside_open_look<V: Grow, R: Wait + Abort>(
     rt: &R,
     holder: Viewer<V>,
     looker: Viewer<V>,
@@ -81,34 +82,6 @@ fn look_beside_open_look<V: Grow, R: Wait + Abort>(
     let held = holder.look(rt);
     let looker = look_often(rt, looker, looks);
     (held.leave(), looker)
-}
-
-/// Builds on this thread while on another a look is held open, and a second viewer looks as often.
-pub fn run_beside<V: Grow + Send + Sync, R: Wait + Threads + Sync + Abort>(
-    rt: &R,
-    publisher: &mut Publisher<V>,
-    schema: &Schema,
-    viewers: (Viewer<V>, Viewer<V>),
-    rounds: u32,
-) -> (u64, (Viewer<V>, Viewer<V>))
-    requires none { publisher.old.appended.items ≡ [] }
-    requires schema { publisher.old.schema ≡ schema.now }
-    ensures published { result.0 ≡ rounds }
-    ensures goes_on { IsPrefix viewers.1.shown.points result.1.1.shown.points }
-{
-    let (holder, looker) = viewers;
-    let (viewers, published) = join(
-        rt,
-        move || -> (Viewer<V>, Viewer<V>)
-            ensures { IsPrefix looker.shown.points result.1.shown.points }
-        { look_beside_open_look(rt, holder, looker, rounds) },
-        || -> u64
-            requires none { publisher.now.appended.items ≡ [] }
-            requires schema { publisher.now.schema ≡ schema.now }
-            ensures { result ≡ rounds }
-        { build(rt, publisher, schema, rounds) },
-    );
-    (published, viewers)
 }
 
 /// Closes a viewer after a last look. It has then seen the whole ended list.

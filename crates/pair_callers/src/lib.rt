@@ -4,12 +4,18 @@
 //! they suffice. All of it is tests. What a batch, a feed and a session are is left to the crates above.
 //!
 //! ```text
-//! let (published, viewers) = run_beside(rt, &mut publisher, &schema, (holder, looker), 1000);
-//! assert_eq!(published, 1000);
+//! run_beside(rt, &mut building, &mut looking);   // the builder in a thread of its own
+//! assert_eq!(building.published, 1000);
 //! ```
 #![tactic(auto)]
 
 #[cfg(test)]
+mod beginning;
+#[cfg(test)]
+mod both;
+#[cfg(test)]
 mod callers;
+#[cfg(test)]
+mod seats;
 #[cfg(test)]
 mod tests;
