@@ -1,0 +1,2 @@
+mod NewFeeds
+mod Taken

@@ -1,0 +1,6 @@
+mod EntryCounts
+mod FeederEnds
+mod JournalEnds
+mod Keeping
+mod States
+mod Steps

@@ -1,0 +1,15 @@
+use Rattle.std.proofs.Common.{◌++◌, ap, sym, subst}
+use Rattle.std.proofs.lemmas.List.{take-append-drop}
+use Rattle.builder_core.specs.Builder.{BuilderState, KeepsJournal}
+use Rattle.builder_core.proofs.JournalEnds.{given_back, given_whole, given_prefix}
+use Rattle.builder_core.proofs.builder.BuilderOf+Of+V.into_journal.Goals as goal
+
+pub returns-clause-journal : goal.returns-clause-journal
+returns-clause-journal g c =
+    given_back _ c.args.self c.self.inside.out.entries.items _ c.self.inside.out.published (ap (λ (b : BuilderState). b.journal ++ b.pending) c.self.view_is) (ap (λ (b : BuilderState). b.journal) c.self.view_is) (sym (take-append-drop _ _)) c.end.ensures.entries
+
+pub returns-clause-whole : goal.returns-clause-whole
+returns-clause-whole g c = given_whole _ _ _ (subst KeepsJournal c.self.view_is c.self.invariant.journal) c.requires (returns-clause-journal g c)
+
+pub returns-clause-prefix : goal.returns-clause-prefix
+returns-clause-prefix g c = given_prefix _ _ _ (subst KeepsJournal c.self.view_is c.self.invariant.journal) (returns-clause-journal g c)

@@ -1,0 +1,4 @@
+pub mod Builder
+pub mod Endings
+pub mod Numbering
+pub mod Taking
