@@ -9,7 +9,6 @@ use Rattle.query_syntax.specs.Queries.{is_valid_query}
 use Rattle.query_syntax.specs.declared.query.Choice.TheVariants.{All}
 use Rattle.query_syntax.specs.declared.query.Parsed.{Parsed}
 use Rattle.query_syntax.specs.declared.query.Parsed.TheVariants.{Ask}
-use Rattle.query_syntax.specs.declared.query.Query.{Query}
 use Rattle.query_syntax.specs.declared.query.Verb.TheVariants.{Map}
 use Rattle.session_core.specs.Serving.{answer_cost}
 

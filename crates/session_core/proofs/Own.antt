@@ -1,5 +1,5 @@
 -- The reply over a list of points is one with the numbers that it prints.
-use Rattle.std.proofs.Common.{◌≡◌, ℕ, Bool, true, List, length, take, take_all, Some, Option, refl, ap, subst, arith}
+use Rattle.std.proofs.Common.{◌≡◌, ℕ, true, List, length, take, take_all, Some, Option, refl, ap, subst, arith}
 use Rattle.cube_view.specs.Points.{Point}
 use Rattle.cube_view.specs.declared.schema.Schema.{Schema}
 use Rattle.cube_view.specs.declared.stat.Stat.{Stat}

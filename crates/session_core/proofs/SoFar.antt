@@ -1,6 +1,6 @@
 -- A script answered turn by turn: the lines passed hold no `quit`, and the sink has gained their replies.
 use Rattle.std.proofs.Common.{◌≡◌, ◌≢◌, ℕ, ◌≤◌, ◌<◌, Bool, true, false, List, [], ◌∷◌, ◌++◌, length, Option, Some, None, ◌⊎◌, inl, inr, refl, sym, ◌∙◌, ap, subst, arith, append-nil, append_assoc, IsSomeAnd, IsErrOf, Err}
-use Rattle.cube_view.specs.Bag.{Counts, EachCounted}
+use Rattle.cube_view.specs.Bag.{Counts}
 use Rattle.cube_view.specs.Points.{Point}
 use Rattle.cube_view.specs.declared.schema.Schema.{Schema}
 use Rattle.cube_view.specs.declared.spot.Spot.{Spot}
@@ -9,13 +9,13 @@ use Rattle.outer_io.specs.Cutting.{Cutter, lines_left, input_size}
 use Rattle.outer_io.specs.Lines.{Line, input_limit}
 use Rattle.outer_io.specs.Progress.{Passes, IsTooLarge, IsWithinLimit}
 use Rattle.outer_io.specs.Told.{Told}
-use Rattle.outer_io.proofs.ProgressLaws.{passes_none, passes_on, passes_all}
-use Rattle.outer_io.proofs.ToldLaws.{Told-each, Told-both}
+use Rattle.outer_io.proofs.ProgressLaws.{passes_none, passes_on}
+use Rattle.outer_io.proofs.ToldLaws.{Told-each}
 use Rattle.query_syntax.specs.declared.query.Parsed.{Parsed}
 use Rattle.session_core.specs.Answered.{GainsReplies, PutsSomeOf, PutsAll, PutsFront}
-use Rattle.session_core.specs.Asked.{asked, line_meaning}
+use Rattle.session_core.specs.Asked.{asked}
 use Rattle.session_core.specs.Scripts.{has_quit, is_quit}
-use Rattle.session_core.specs.Turns.{PassesLine, GoesOn, Stops}
+use Rattle.session_core.specs.Turns.{GoesOn, Stops}
 use Rattle.session_core.specs.declared.fault.SessionFault.{SessionFault}
 use Rattle.session_core.specs.declared.fault.SessionFault.TheVariants as fault
 use Rattle.session_core.proofs.AskedLaws.{asked-append, asked-quit, has_quit-push, has_quit-at}

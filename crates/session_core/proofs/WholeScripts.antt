@@ -4,7 +4,7 @@ use Rattle.std.proofs.Math.Bool.{and-false}
 use Rattle.std.proofs.lemmas.Grind.{common_steps}
 use Rattle.cube_view.specs.declared.schema.Schema.{Schema}
 use Rattle.outer_io.specs.Cutting.{Cutter, IsNew, lines_left}
-use Rattle.outer_io.specs.Lines.{Line, lines, input_limit}
+use Rattle.outer_io.specs.Lines.{lines, input_limit}
 use Rattle.outer_io.specs.Progress.{IsTooLarge, IsWithinLimit}
 use Rattle.outer_io.specs.Told.{Told}
 use Rattle.outer_io.proofs.ProgressLaws.{of_lines, of_size}

@@ -1,5 +1,5 @@
 -- What answering the lines of a script does to the sink of its replies, over a view and a told length.
-use Rattle.std.specs.Prelude.{◌≡◌, ℕ, Bool, true, false, List, [], ◌∷◌, ◌++◌, Option}
+use Rattle.std.specs.Prelude.{◌≡◌, ℕ, Bool, true, List, ◌++◌, Option}
 use Rattle.cube_view.specs.Bag.{EachCounted}
 use Rattle.cube_view.specs.Points.{Point}
 use Rattle.cube_view.specs.declared.schema.Schema.{Schema}

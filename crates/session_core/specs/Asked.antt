@@ -64,6 +64,22 @@ asks_reply Skip = false
 asks_reply (Ask q) = not (ends q.verb)
 asks_reply (Fault fault word) = true
 
+-- the verb asks for what a look at the view shows: a table, or the structure's numbers
+abbrev pub is_look : Verb → Bool
+is_look verb.Count = true
+is_look (verb.Hist k) = true
+is_look (verb.Map down) = true
+is_look (verb.Series from wide rows) = true
+is_look verb.Stat = true
+is_look verb.Told = false
+is_look verb.Quit = false
+
+-- the line asks for a look at the view
+abbrev pub asks_look : Parsed → Bool
+asks_look Skip = false
+asks_look (Ask q) = is_look q.verb
+asks_look (Fault fault word) = false
+
 -- what a line asks, and then what those after it ask
 abbrev pub asked_then : Parsed → List Parsed → List Parsed
 asked_then Skip later = later

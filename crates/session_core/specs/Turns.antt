@@ -1,5 +1,5 @@
 -- What the turns of a script do to the cutter over it: each reads a line, and the last one none.
-use Rattle.std.specs.Prelude.{◌≡◌, ℕ, ◌<◌, ◌≤◌, ◌⊎◌, true, false, List, [], ◌∷◌, Option, Some, None}
+use Rattle.std.specs.Prelude.{◌≡◌, ℕ, ◌+◌, ◌≤◌, ◌⊎◌, true, false, List, [], ◌∷◌, Option, Some, None}
 use Rattle.cube_view.specs.declared.schema.Schema.{Schema}
 use Rattle.outer_io.specs.Cutting.{Cutter}
 use Rattle.outer_io.specs.Lines.{Line, input_limit}
@@ -13,8 +13,8 @@ module _ {S : Type 0} (left : S → Option (List ℕ)) (faults : S → ℕ) (sch
   pub record PassesLine (line : Line) : Type 0 where
     -- it passed it
     pub passed : Passes left faults before after (line ∷ [])
-    -- and is further on, within the limit
-    pub further : (before.given < after.given) × (after.given ≤ input_limit)
+    -- and gave one line more, within the limit
+    pub further : (after.given ≡ before.given + 1) × (after.given ≤ input_limit)
     -- and gives more
     pub going : IsGoing after
 

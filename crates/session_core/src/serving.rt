@@ -1,12 +1,15 @@
 //! What is answered to a line.
-ghost use Rattle.std.specs.Prelude.{◌≡◌, ◌+◌, ◌≤◌, true, IsTrue, IfOk, OnOk, OnErr};
+ghost use Rattle.std.specs.Prelude.{◌≡◌, ◌+◌, ◌≤◌, List, true, false, IsTrue, IfOk, OnOk, OnErr};
+ghost use Rattle.cube_view.specs.Points.{Point};
+ghost use Rattle.cube_view.specs.declared.schema.Schema.{Schema};
+ghost use Rattle.cube_view.specs.declared.stat.Stat.{Stat};
 ghost use Rattle.cube_view.specs.Bag.{EachCounted};
 ghost use Rattle.query_syntax.specs.Meaning.{asks_valid};
 ghost use Rattle.query_syntax.specs.Queries.{is_valid_query};
 ghost use Rattle.query_syntax.specs.Tables.{has_table};
 ghost use Rattle.reply_json.specs.Types.{ReplyFits};
 ghost use Rattle.reply_json.specs.Validity.{is_valid_reply};
-ghost use Rattle.session_core.specs.Asked.{asks_reply, reply_line};
+ghost use Rattle.session_core.specs.Asked.{asks_look, asks_reply, reply_line};
 ghost use Rattle.session_core.specs.Serving.{Serves, answer_cost};
 
 use cube_view::CubeView;
@@ -64,6 +67,27 @@ fn serve_stat<V: CubeView>(alloc: Global, view: &V) -> Result<Served, NoMemory>
     line_of(alloc, &Reply::Stat(view.stat(), view.seen()))
 }
 
+/// The answer to a line that asks for no look at a view, which is the same over any list of points; `told` is the told
+/// length. `NoMemory` only where the line asks for a reply.
+#[tactic(auto, unfolding(reply_json::specs::Validity::is_valid_reply))]
+pub fn serve_unseen(alloc: Global, told: u64, parsed: &Parsed) -> Result<Served, NoMemory>
+    requires { asks_look parsed.now ≡ false }
+    ensures served { (stat : Stat) (schema : Schema) (h : List Point) → IfOk result (Serves stat schema h told parsed.now) }
+    ensures no_memory { OnErr result (asks_reply parsed.now ≡ true) }
+{
+    match parsed {
+        Parsed::Skip => Ok(Served::Skipped),
+        Parsed::Ask(query) => match query.verb {
+            Verb::Told => line_of(alloc, &Reply::Told(told)),
+            Verb::Quit => Ok(Served::Quit),
+            Verb::Count | Verb::Hist(_) | Verb::Map(_) | Verb::Series { .. } | Verb::Stat => {
+                unreachable!()
+            }
+        },
+        Parsed::Fault(fault, word) => line_of(alloc, &Reply::Fault(*fault, *word)),
+    }
+}
+
 // The answer to a query.
 #[tactic(auto, unfolding(reply_json::specs::Validity::is_valid_reply))]
 fn serve_query<V: CubeView, L: Ledger>(
@@ -83,8 +107,7 @@ fn serve_query<V: CubeView, L: Ledger>(
             serve_table(alloc, view, told, query, steps)
         }
         Verb::Stat => serve_stat(alloc, view),
-        Verb::Told => line_of(alloc, &Reply::Told(told)),
-        Verb::Quit => Ok(Served::Quit),
+        Verb::Told | Verb::Quit => serve_unseen(alloc, told, &Parsed::Ask(*query)),
     }
 }
 
@@ -104,8 +127,7 @@ pub fn serve<V: CubeView, L: Ledger>(
     ensures no_memory { OnErr result (asks_reply parsed.now ≡ true) }
 {
     match parsed {
-        Parsed::Skip => Ok(Served::Skipped),
         Parsed::Ask(query) => serve_query(alloc, view, told, query, steps),
-        Parsed::Fault(fault, word) => line_of(alloc, &Reply::Fault(*fault, *word)),
+        Parsed::Skip | Parsed::Fault(..) => serve_unseen(alloc, told, parsed),
     }
 }

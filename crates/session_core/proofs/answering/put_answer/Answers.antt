@@ -1,7 +1,6 @@
-use Rattle.std.proofs.Common.{◌≡◌, ◌≤◌, List, length, Err, ap, refl, arith}
+use Rattle.std.proofs.Common.{refl, arith}
 use Rattle.std.proofs.Math.Bool.{Bool-set}
 use Rattle.std.proofs.Math.Logic.{∥∥₁_elim}
-use Rattle.cube_view.specs.Points.{Point}
 use Rattle.session_core.proofs.AskedLaws.{reply-goes_on}
 use Rattle.session_core.proofs.Replying.{skipped_goes_on, skipped_gains, quit_ends, reply_goes_on, reply_gains, reply_some, lack_gains, lack_some, broke_off}
 use Rattle.session_core.proofs.answering.put_answer.Goals as goal

@@ -9,7 +9,7 @@ returns-in_ok-parse-in-Ok-Line-clause-asked g c =
       Bytes _,
       record {
         passed = given.passed;
-        further = (omega (arith, given.counts, given.given), omega (arith, given.small, given.given));
+        further = (given.given ∙ given.counts, omega (arith, given.small, given.given));
         going = given.goes_on;
       },
       c.in_ok-parse-in-Ok-Line.ensures.meaning ∙ ap (meaning c.args.schema.now) c.as_slice.ensures,

@@ -1,4 +1,4 @@
-use Rattle.std.proofs.Common.{◌≤◌, ◌∙◌, arith}
+use Rattle.std.proofs.Common.{◌∙◌, arith}
 use Rattle.plain_cube.specs.Owned.{Counts-own}
 use Rattle.session_core.proofs.NoPoints.{map_valid, map_free}
 use Rattle.session_core.proofs.tests.maps_no_points.Goals as goal

@@ -1,0 +1,6 @@
+mod Says
+mod NextReply
+mod Turning
+mod OneTurn
+mod SoFarLaws
+mod Running

@@ -1,0 +1,182 @@
+-- A reply that was put, or a part of it, is the next one of the session.
+use Rattle.std.proofs.Common.{◌≡◌, ℕ, ◌+◌, ◌≤◌, Bool, true, false, ◌||◌, if◌then◌else◌, List, [], ◌∷◌, ◌++◌, length, Option, Some, None, inl, inr, refl, sym, ap, ◌∙◌, subst, arith, append-nil, Result, Ok, Err, IfOk}
+use Rattle.std.proofs.Math.Bool.{or-true}
+use Rattle.cube_view.specs.Points.{Point}
+use Rattle.cube_view.specs.declared.schema.Schema.{Schema}
+use Rattle.cube_view.specs.declared.stat.Stat.{Stat}
+use Rattle.live_session.specs.Answered.{Answered, IsAnswer, IsBroken}
+use Rattle.live_session.specs.News.{seen_asked}
+use Rattle.live_session.specs.Saying.{Says}
+use Rattle.live_session.specs.State.{SessionState}
+use Rattle.live_session.specs.Turned.{AreNext, is_lack, listed, seens_of}
+use Rattle.live_session.specs.declared.turn.Turn.{Turn}
+use Rattle.live_session.specs.declared.turn.Turn.TheVariants as turn
+use Rattle.outer_io.specs.Bytes.{Gains, GainsPart}
+use Rattle.outer_io.proofs.GainedLaws.{gains_none}
+use Rattle.query_syntax.specs.declared.query.Parsed.{Parsed}
+use Rattle.query_syntax.specs.declared.query.Parsed.TheVariants as parsed
+use Rattle.query_syntax.specs.declared.query.Query.{Query}
+use Rattle.query_syntax.specs.declared.query.Verb.{Verb}
+use Rattle.query_syntax.specs.declared.query.Verb.TheVariants as verb
+use Rattle.reply_json.specs.Printed.{reply_text, seen_of}
+use Rattle.reply_json.specs.declared.reply.Reply.{Reply}
+use Rattle.session_core.specs.Asked.{asked_reply, asked_then, asks_look, asks_reply, asks_to_end, query_reply, reply_line}
+use Rattle.session_core.specs.Transcript.{MayCome, MayPrint, IsReply, Answers, AllAnswered, replies_text}
+use Rattle.session_core.specs.declared.serving.Served.{Served}
+use Rattle.session_core.specs.declared.serving.Served.TheVariants as served
+use Rattle.session_core.proofs.AskedLaws.{asked_then-end, asked_then-reply, reply-goes_on}
+use Rattle.session_core.proofs.Transcripts.{longer, may_come_less, transcript_none}
+use Rattle.world_core.specs.PairFact.{IsPrefix}
+
+-- a list is no shorter than a prefix of it
+pub prefix-longer : (l h : List Point) → IsPrefix l h → length l ≤ length h
+prefix-longer l h g = longer l h (g.0, sym g.1)
+
+-- a reply whose numbers are all there is may come after all that was seen and told, where one that prints how many it has seen
+-- has seen no less than was told
+may_come_final : (schema : Schema) (is_stat : Stat → Type 0) (l h : List Point) (u v : ℕ) (reply : Reply) → length l ≤ length h → u ≤ v → ((n : ℕ) → seen_of reply ≡ Some n → u ≤ length h) → MayPrint schema is_stat true h v reply → MayCome (length l) u reply
+may_come_final schema is_stat l h u v (Reply.Table table) p q f m = (omega (arith, p, m), omega (arith, f table.seen refl, m))
+may_come_final schema is_stat l h u v (Reply.Stat stat seen) p q f m = (omega (arith, p, m.0), omega (arith, f seen refl, m.0))
+may_come_final schema is_stat l h u v (Reply.Told told) p q f m = omega (arith, q, m)
+may_come_final schema is_stat l h u v (Reply.Fault fault word) p q f m = tt
+may_come_final schema is_stat l h u v Reply.NoMemory p q f m = tt
+
+-- no line means the reply for want of memory
+verb_no_lack : (stat : Stat) (schema : Schema) (h : List Point) (v : ℕ) (q : Query) (verb : Verb) → query_reply stat schema h v q verb ≡ Some Reply.NoMemory → ⊥
+verb_no_lack stat schema h v q verb.Count e = cc
+verb_no_lack stat schema h v q (verb.Hist k) e = cc
+verb_no_lack stat schema h v q (verb.Map down) e = cc
+verb_no_lack stat schema h v q (verb.Series from wide rows) e = cc
+verb_no_lack stat schema h v q verb.Stat e = cc
+verb_no_lack stat schema h v q verb.Told e = cc
+verb_no_lack stat schema h v q verb.Quit e = cc
+
+not_meant : (stat : Stat) (schema : Schema) (h : List Point) (v : ℕ) (p : Parsed) → asked_reply stat schema h v p ≡ Some Reply.NoMemory → ⊥
+not_meant stat schema h v parsed.Skip e = cc
+not_meant stat schema h v (parsed.Ask q) e = verb_no_lack stat schema h v q q.verb e
+not_meant stat schema h v (parsed.Fault fault word) e = cc
+
+no_lack : (stat : Stat) (schema : Schema) (h : List Point) (v : ℕ) (p : Parsed) (reply : Reply) → asked_reply stat schema h v p ≡ Some reply → is_lack reply ≡ false
+no_lack stat schema h v p (Reply.Table table) e = refl
+no_lack stat schema h v p (Reply.Stat stat' seen) e = refl
+no_lack stat schema h v p (Reply.Told told) e = refl
+no_lack stat schema h v p (Reply.Fault fault word) e = refl
+no_lack stat schema h v p Reply.NoMemory e = absurd (not_meant stat schema h v p e)
+
+one_text : (reply : Reply) → replies_text (reply ∷ []) ≡ reply_line reply
+one_text reply = append-nil (reply_line reply)
+
+one_seen : (reply : Reply) → seens_of (reply ∷ []) ≡ listed (seen_of reply)
+one_seen reply = append-nil (listed (seen_of reply))
+
+lack_line : reply_line Reply.NoMemory ≡ reply_text Reply.NoMemory ++ 10 ∷ []
+unfolding reply_line
+lack_line = refl
+
+pub or-false : (b : Bool) → b || false ≡ b
+or-false true = refl
+or-false false = refl
+
+-- where the number is printed, a look was asked for
+seen_looks : (n m : ℕ) (b : Bool) → (if b then Some n else None) ≡ Some m → b ≡ true
+seen_looks n m true e = refl
+seen_looks n m false e = absurd (let f : None ≡ Some m = e in cc)
+
+module _ {I O : Type 0} (held : O → Option (List ℕ)) (schema : Schema) (is_stat : Stat → Type 0) (l h : List Point) (u v : ℕ) (before after : SessionState I O) (p : Parsed) where
+  -- one reply to what is asked
+  next_one : (lacks : Bool) (reply : Reply) → asks_reply p ≡ true → MayCome (length l) u reply → Answers schema is_stat true h v lacks p reply → AreNext schema is_stat l h u v lacks (asked_then p []) (reply ∷ [])
+  next_one lacks reply asks comes a =
+      record {
+        transcript = record {
+          each = subst (λ (ps : List Parsed). AllAnswered schema is_stat true h v lacks ps (reply ∷ [])) (sym (asked_then-reply p asks)) (a, tt);
+          order = (may_come_less 0 (length l) 0 u reply (omega arith) (omega arith) comes, tt);
+        };
+        follows = (comes, tt);
+      }
+
+  -- nothing is asked, and nothing answered
+  next_none : (lacks : Bool) (ps : List Parsed) → ps ≡ [] → AreNext schema is_stat l h u v lacks ps []
+  next_none lacks ps none = subst (λ (qs : List Parsed). AreNext schema is_stat l h u v lacks qs []) (sym none) (record { transcript = transcript_none schema is_stat lacks true h v; follows = tt })
+
+  answered_none : (t : Turn) → asked_then p [] ≡ [] → after.sink ≡ before.sink → after.replies ≡ before.replies → after.seens ≡ before.seens → after.lacked ≡ before.lacked → IsAnswer held schema is_stat l h u v before after p [] t → Answered held schema is_stat l h u v before after p t
+  answered_none t none sink replies seens lacked answer =
+      record {
+        replies = [];
+        next = next_none after.lacked (asked_then p []) none;
+        gained = subst (λ (o : O). Gains (held before.sink) (held o) []) (sym sink) (gains_none (held before.sink));
+        counted = omega (arith, replies);
+        noted = seens ∙ sym (append-nil before.seens);
+        lacks = lacked ∙ sym (or-false before.lacked);
+        answer = answer;
+      }
+
+  -- a line that asks nothing
+  pub answered_skip : (s : Served) → s ≡ served.Skipped → Says schema is_stat h v p s → after ≡ before → before.ended ≡ false → Answered held schema is_stat l h u v before after p turn.Skipped
+  answered_skip s is says same going =
+      let skip : p ≡ parsed.Skip = subst (Says schema is_stat h v p) is says in
+      answered_none turn.Skipped (ap (λ (q : Parsed). asked_then q []) skip) (ap (λ s. s.sink) same) (ap (λ s. s.replies) same) (ap (λ s. s.seens) same) (ap (λ s. s.lacked) same) (skip, refl, ap (λ s. s.ended) same ∙ going)
+
+  -- `quit`
+  pub answered_quit : (s : Served) → s ≡ served.Quit → Says schema is_stat h v p s → after.sink ≡ before.sink → after.replies ≡ before.replies → after.seens ≡ before.seens → after.lacked ≡ before.lacked → after.ended ≡ true → Answered held schema is_stat l h u v before after p turn.Ended
+  answered_quit s is says sink replies seens lacked ended =
+      let quit : asks_to_end p ≡ true = subst (Says schema is_stat h v p) is says in
+      answered_none turn.Ended (asked_then-end p [] quit) sink replies seens lacked (quit, refl, ended)
+
+  -- what a put tells of a line and the number noted for it
+  abbrev pub Puts : List ℕ → Option ℕ → Bool → Turn → Type 0
+  Puts line seen was t =
+      (t ≡ turn.Replied) × Gains (held before.sink) (held after.sink) line × (after.replies ≡ before.replies + 1) × (after.seens ≡ before.seens ++ listed seen) × (after.lacked ≡ was) × (after.ended ≡ false)
+
+  answered_one : (line : List ℕ) (seen : Option ℕ) (was : Bool) (reply : Reply) (t : Turn) → asks_reply p ≡ true → line ≡ reply_line reply → seen ≡ seen_of reply → was ≡ before.lacked || is_lack reply → AreNext schema is_stat l h u v after.lacked (asked_then p []) (reply ∷ []) → Puts line seen was t → Answered held schema is_stat l h u v before after p t
+  answered_one line seen was reply t asks text number wants next puts =
+      subst (Answered held schema is_stat l h u v before after p) (sym puts.0)
+      (record {
+        replies = reply ∷ [];
+        next = next;
+        gained = subst (Gains (held before.sink) (held after.sink)) (text ∙ sym (one_text reply)) puts.1;
+        counted = puts.2;
+        noted = puts.3 ∙ ap (λ ns. before.seens ++ ns) (ap listed number ∙ sym (one_seen reply));
+        lacks = puts.4 ∙ wants ∙ ap (λ b. before.lacked || b) (sym (or-false (is_lack reply)));
+        answer = (reply, refl, reply-goes_on p asks, puts.5);
+      })
+
+  -- what is said is a reply
+  abbrev pub SaysReply : List ℕ → Type 0
+  SaysReply line = (reply : Reply) × IsReply schema is_stat true h v p reply × (line ≡ reply_line reply) × (seen_of reply ≡ seen_asked (length h) p) × (asks_reply p ≡ true)
+
+  module _ (front : IsPrefix l h) (more : u ≤ v) (fresh : asks_look p ≡ true → u ≤ length h) where
+    comes_of : (reply : Reply) → seen_of reply ≡ seen_asked (length h) p → IsReply schema is_stat true h v p reply → MayCome (length l) u reply
+    comes_of reply number r = may_come_final schema is_stat l h u v reply (prefix-longer l h front) more (λ n e. fresh (seen_looks (length h) n (asks_look p) (sym number ∙ e))) r.numbers
+
+    pub answered_reply : {E : Type 0} (r : Result Turn E) (s : Served) (bytes line : List ℕ) (seen : Option ℕ) → s ≡ served.Reply line → bytes ≡ line → seen ≡ seen_asked (length h) p → Says schema is_stat h v p s → IfOk r (Puts bytes seen before.lacked) → IfOk r (Answered held schema is_stat l h u v before after p)
+    answered_reply (Ok t) s bytes line seen is same shown says puts =
+        let said : SaysReply line = subst (Says schema is_stat h v p) is says in
+        answered_one bytes seen before.lacked said.0 t said.4 (same ∙ said.2) (shown ∙ sym said.3) (sym (ap (λ b. before.lacked || b) (no_lack _ _ _ _ p said.0 said.1.meant) ∙ or-false before.lacked)) (next_one after.lacked said.0 said.4 (comes_of said.0 said.3 said.1) (inl said.1)) puts
+    answered_reply (Err e) s bytes line seen is same shown says puts = tt
+
+    pub broken_reply : (s : Served) (bytes line : List ℕ) → s ≡ served.Reply line → bytes ≡ line → Says schema is_stat h v p s → GainsPart (held before.sink) (held after.sink) bytes → after.lacked ≡ before.lacked → IsBroken held schema is_stat l h u v before after p
+    broken_reply s bytes line is same says part lacked =
+        let said : SaysReply line = subst (Says schema is_stat h v p) is says in
+        record {
+          reply = said.0;
+          next = next_one after.lacked said.0 said.4 (comes_of said.0 said.3 said.1) (inl said.1);
+          no_quit = reply-goes_on p said.4;
+          gained = subst (GainsPart (held before.sink) (held after.sink)) (same ∙ said.2) part;
+          lacks = lacked ∙ sym (ap (λ b. before.lacked || b) (no_lack _ _ _ _ p said.0 said.1.meant) ∙ or-false before.lacked);
+        }
+
+  -- the line for want of memory, which is noted before it is put
+  pub answered_lack : {E : Type 0} (r : Result Turn E) (bytes line : List ℕ) → bytes ≡ line → line ≡ reply_text Reply.NoMemory ++ 10 ∷ [] → asks_reply p ≡ true → IfOk r (Puts bytes None true) → IfOk r (Answered held schema is_stat l h u v before after p)
+  answered_lack (Ok t) bytes line same text asks puts =
+      answered_one bytes None true Reply.NoMemory t asks (same ∙ text ∙ sym lack_line) refl (sym (or-true before.lacked)) (next_one after.lacked Reply.NoMemory asks tt (inr (puts.4, refl))) puts
+  answered_lack (Err e) bytes line same text asks puts = tt
+
+  pub broken_lack : (bytes line : List ℕ) → bytes ≡ line → line ≡ reply_text Reply.NoMemory ++ 10 ∷ [] → asks_reply p ≡ true → GainsPart (held before.sink) (held after.sink) bytes → after.lacked ≡ true → IsBroken held schema is_stat l h u v before after p
+  broken_lack bytes line same text asks part lacked =
+      record {
+        reply = Reply.NoMemory;
+        next = next_one after.lacked Reply.NoMemory asks tt (inr (lacked, refl));
+        no_quit = reply-goes_on p asks;
+        gained = subst (GainsPart (held before.sink) (held after.sink)) (same ∙ text ∙ sym lack_line) part;
+        lacks = lacked ∙ sym (or-true before.lacked);
+      }

@@ -1,0 +1,7 @@
+pub mod News
+pub mod Saying
+pub mod State
+pub mod Turned
+pub mod Answered
+pub mod SoFar
+pub mod TranscriptLaws

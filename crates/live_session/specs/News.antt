@@ -1,0 +1,73 @@
+-- What a session is shown and told, and what a line asks of it.
+use Rattle.std.specs.Prelude.{◌≡◌, ℕ, ◌⊎◌, Bool, true, false, not, if◌then◌else◌, List, [], ◌∷◌, Option, Some, None, IfSome}
+use Rattle.cube_view.specs.Points.{Point}
+use Rattle.cube_view.specs.declared.schema.Schema.{Schema}
+use Rattle.mailbox.specs.Ends.{OutEnd}
+use Rattle.outer_io.specs.Counts.{next_count}
+use Rattle.outer_io.specs.Lines.{Line}
+use Rattle.published_pair.specs.Rules.{Known}
+use Rattle.query_syntax.specs.declared.query.Parsed.{Parsed}
+use Rattle.query_syntax.specs.declared.query.Parsed.TheVariants.{Skip, Ask, Fault}
+use Rattle.session_core.specs.Asked.{asks_look, ends, line_meaning}
+use Rattle.world_core.specs.PairFact.{IsPrefix}
+
+-- the line asks for a look or the told length: before it is answered the mailbox is asked
+abbrev pub asks_news : Parsed → Bool
+asks_news Skip = false
+asks_news (Ask q) = not (ends q.verb)
+asks_news (Fault fault word) = false
+
+-- how often the mailbox was asked once the line is answered
+abbrev pub takes_for : Parsed → ℕ → ℕ
+takes_for p n = if asks_news p then next_count n else n
+
+-- the same, once lines are answered
+abbrev pub takes_after : Schema → List Line → ℕ → ℕ
+takes_after schema [] n = n
+takes_after schema (line ∷ lines) n = takes_after schema lines (takes_for (line_meaning schema line) n)
+
+-- the number of points seen that the reply to a line prints, where n are shown, or none
+abbrev pub seen_asked : ℕ → Parsed → Option ℕ
+seen_asked n p = if asks_look p then Some n else None
+
+-- What a session has been shown and told, and how often its mailbox was asked
+pub record News : Type 0 where
+  -- the list that its viewer was shown last
+  pub shown : List Point
+  -- the longest list that its viewer was told of
+  pub told : List Point
+  -- how often the mailbox was asked
+  pub takes : ℕ
+
+-- what a viewer that was shown and told these lists and a mailbox say of it
+abbrev pub news_of : Known → Known → OutEnd → News
+news_of shown learned mail = record { shown = shown.points; told = learned.points; takes = mail.takes }
+
+-- What answering a line changes of it
+pub record HasNews (p : Parsed) (a b : News) : Type 0 where
+  -- the mailbox was asked exactly where the line asks for a look or the told length
+  pub takes : b.takes ≡ takes_for p a.takes
+  -- and only then more is told
+  pub told : asks_news p ≡ false → b.told ≡ a.told
+  -- only for a look more is shown
+  pub unseen : asks_look p ≡ false → b.shown ≡ a.shown
+  -- the list that is shown for a look goes on from all that is told by then
+  pub fresh : asks_look p ≡ true → IsPrefix b.told b.shown
+  -- what was shown and told goes on
+  pub goes_on : IsPrefix a.shown b.shown × IsPrefix a.told b.told
+
+-- what answering lines changes of it, one after another
+abbrev pub NewsFor : Schema → List Line → News → News → Type 0
+NewsFor schema [] a b = b ≡ a
+NewsFor schema (line ∷ lines) a b = (mid : News) × HasNews (line_meaning schema line) a mid × NewsFor schema lines mid b
+
+-- A viewer of the same pair, which was shown and told of lists that go on from those before
+pub record Goes (shown learned : Known) (last : Option Known) (shown' learned' : Known) : Type 0 where
+  -- it is of the same pair
+  pub pair : shown'.book ≡ shown.book
+  -- what it was shown goes on
+  pub seen : IsPrefix shown.points shown'.points
+  -- and what it was told
+  pub told : IsPrefix learned.points learned'.points
+  -- it was shown nothing new, or the ended list where it has learned that
+  pub ended : (shown' ≡ shown) ⊎ IfSome last (λ w. shown'.points ≡ w.points)

@@ -1,0 +1,27 @@
+-- What is said to a line over the list that is shown.
+use Rattle.std.specs.Prelude.{◌≡◌, ℕ, true, List, length}
+use Rattle.cube_view.specs.Bag.{Counts}
+use Rattle.cube_view.specs.Points.{Point}
+use Rattle.cube_view.specs.declared.schema.Schema.{Schema}
+use Rattle.cube_view.specs.declared.spot.Spot.{Spot}
+use Rattle.cube_view.specs.declared.stat.Stat.{Stat}
+use Rattle.live_session.specs.News.{seen_asked}
+use Rattle.query_syntax.specs.declared.query.Parsed.{Parsed}
+use Rattle.query_syntax.specs.declared.query.Parsed.TheVariants.{Skip}
+use Rattle.reply_json.specs.Printed.{seen_of}
+use Rattle.reply_json.specs.declared.reply.Reply.{Reply}
+use Rattle.session_core.specs.Asked.{asks_reply, asks_to_end, reply_line}
+use Rattle.session_core.specs.Transcript.{IsReply}
+use Rattle.session_core.specs.declared.serving.Served.{Served}
+use Rattle.session_core.specs.declared.serving.Served.TheVariants as served
+
+-- the numbers are those of a view of the schema that counts the list
+abbrev pub IsShown : {V : Type 0} → (V → Spot → ℕ) → (V → ℕ) → (V → Schema) → (V → Stat) → Schema → List Point → Stat → Type 0
+IsShown {V} weight_at seen schema_of numbers schema h stat = (view : V) × Counts (weight_at view) (seen view) h × (schema_of view ≡ schema) × (stat ≡ numbers view)
+
+-- what is said to what a line means over a list of points of which so many were told
+abbrev pub Says : Schema → (Stat → Type 0) → List Point → ℕ → Parsed → Served → Type 0
+Says schema is_stat h told p served.Skipped = p ≡ Skip
+Says schema is_stat h told p (served.Reply bytes) =
+    (reply : Reply) × IsReply schema is_stat true h told p reply × (bytes ≡ reply_line reply) × (seen_of reply ≡ seen_asked (length h) p) × (asks_reply p ≡ true)
+Says schema is_stat h told p served.Quit = asks_to_end p ≡ true

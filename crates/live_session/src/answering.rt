@@ -1,0 +1,93 @@
+//! What is answered to a line, by what the mailbox holds and the viewer is shown.
+ghost use Rattle.std.specs.Prelude.{◌≡◌, ◌≤◌, length, true, false, IsTrue, IfOk, IfSome, OnErr};
+ghost use Rattle.live_session.specs.News.{Goes, asks_news, takes_for};
+ghost use Rattle.live_session.specs.Saying.{IsShown, Says};
+ghost use Rattle.mailbox.specs.Ends.{mail_out};
+ghost use Rattle.published_pair.specs.Pair.{Fresh};
+ghost use Rattle.query_syntax.specs.Meaning.{asks_valid};
+ghost use Rattle.session_core.specs.Asked.{asks_look, asks_reply};
+ghost use Rattle.world_core.specs.PairFact.{IsPrefix};
+
+use crate::asking::{asks_look, asks_news};
+use cube_view::Grow;
+use mailbox::MailOut;
+use outer_io::NoMemory;
+use probe_core::Steps;
+use published_pair::Viewer;
+use query_syntax::Parsed;
+use session_core::{Served, serve, serve_unseen};
+use std::alloc::Global;
+use std::sync::Wait;
+use std::sync::ledger::Ledger;
+
+/// Takes what the mailbox holds and learns it, where the line asks for a look or the told length.
+fn catch_up<V: Grow, R: Wait>(
+    rt: &R,
+    viewer: Viewer<V>,
+    mail: &mut MailOut,
+    parsed: &Parsed,
+) -> Viewer<V>
+    requires { viewer.shown.book ≡ mail.old.pair }
+    ensures same { (result.shown ≡ viewer.shown) × (result.schema ≡ viewer.schema) × (result.last ≡ viewer.last) }
+    ensures learned { IsPrefix viewer.learned.points result.learned.points }
+    ensures unasked { asks_news parsed.now ≡ false → result.learned ≡ viewer.learned }
+    ensures mail { (mail.new ≡ mail_out mail.old.mailbox mail.old.pair (takes_for parsed.now mail.old.takes)) × (mail.old.takes ≤ mail.new.takes) }
+{
+    let mut viewer = viewer;
+    if asks_news(parsed) {
+        if let Some(told) = mail.take(rt) {
+            viewer.learn(told);
+        }
+    }
+    viewer
+}
+
+/// Looks once, and gives the answer over the view that is shown.
+fn look_once<V: Grow, R: Wait, L: Ledger>(
+    rt: &R,
+    alloc: Global,
+    viewer: Viewer<V>,
+    parsed: &Parsed,
+    steps: &mut Steps<L>,
+) -> (Viewer<V>, Result<Served, NoMemory>)
+    requires { IsTrue (asks_valid viewer.schema parsed.now) }
+    ensures says { IfOk result.1 (Says viewer.schema (IsShown V.weight_at V.seen V.schema V.numbers viewer.schema result.0.shown.points) result.0.shown.points (length result.0.learned.points) parsed.now) }
+    ensures no_memory { OnErr result.1 (asks_reply parsed.now ≡ true) }
+    ensures fresh { Fresh viewer.shown.points viewer.learned.points result.0.shown.points }
+    ensures ended { IfSome viewer.last (λ w. result.0.shown.points ≡ w.points) }
+    ensures same { (result.0.shown.book ≡ viewer.shown.book) × (result.0.learned ≡ viewer.learned) × (result.0.last ≡ viewer.last) × (result.0.schema ≡ viewer.schema) }
+{
+    let told = viewer.told();
+    let shown = viewer.look(rt);
+    let served = serve(alloc, shown.view(), told, parsed, steps);
+    (shown.leave(), served)
+}
+
+/// The answer to a line. Where it asks for a look or the told length, what the mailbox holds is learned first, and where
+/// it asks for a look the viewer looks once, then.
+pub(crate) fn answer_line<V: Grow, R: Wait, L: Ledger>(
+    rt: &R,
+    alloc: Global,
+    viewer: Viewer<V>,
+    mail: &mut MailOut,
+    parsed: &Parsed,
+    steps: &mut Steps<L>,
+) -> (Viewer<V>, Result<Served, NoMemory>)
+    requires pair { viewer.shown.book ≡ mail.old.pair }
+    requires valid { IsTrue (asks_valid viewer.schema parsed.now) }
+    ensures says { IfOk result.1 (Says viewer.schema (IsShown V.weight_at V.seen V.schema V.numbers viewer.schema result.0.shown.points) result.0.shown.points (length result.0.learned.points) parsed.now) }
+    ensures no_memory { OnErr result.1 (asks_reply parsed.now ≡ true) }
+    ensures goes { Goes viewer.shown viewer.learned viewer.last result.0.shown result.0.learned }
+    ensures look { asks_look parsed.now ≡ true → IsPrefix result.0.learned.points result.0.shown.points }
+    ensures unseen { asks_look parsed.now ≡ false → result.0.shown ≡ viewer.shown }
+    ensures unasked { asks_news parsed.now ≡ false → result.0.learned ≡ viewer.learned }
+    ensures same { (result.0.last ≡ viewer.last) × (result.0.schema ≡ viewer.schema) }
+    ensures mail { (mail.new ≡ mail_out mail.old.mailbox mail.old.pair (takes_for parsed.now mail.old.takes)) × (mail.old.takes ≤ mail.new.takes) }
+{
+    let viewer = catch_up(rt, viewer, mail, parsed);
+    if asks_look(parsed) {
+        return look_once(rt, alloc, viewer, parsed, steps);
+    }
+    let served = serve_unseen(alloc, viewer.told(), parsed);
+    (viewer, served)
+}

@@ -1,0 +1,58 @@
+-- The ends of a mailbox as contracts see them.
+use Rattle.std.specs.Prelude.{◌≡◌, ℕ, List, [], length, map}
+use Rattle.atomic_table.specs.Seated.{TableId}
+use Rattle.crossbeam_queue.specs.Passes.{Pass, view}
+use Rattle.logbook.specs.Pages.{Book}
+use Rattle.published_pair.specs.Rules.{Known}
+use Rattle.published_pair.specs.declared.told.Told.{Told}
+use Rattle.mailbox.specs.Rule.{putting}
+use Rattle.mailbox.specs.declared.place.Letter.{Letter}
+use Rattle.mailbox.specs.declared.place.View.{View}
+use Rattle.mailbox.specs.declared.place.View.TheVariants.{Puts, Takes}
+
+-- the end that puts
+pub record InEnd : Type 0 where
+  -- the mailbox's own name
+  pub mailbox : TableId
+  -- the pair's
+  pub pair : Book
+  -- the lengths that were put, in order
+  pub lengths : List ℕ
+
+-- the end that takes
+pub record OutEnd : Type 0 where
+  -- the mailbox's own name
+  pub mailbox : TableId
+  -- the pair's
+  pub pair : Book
+  -- how often it was asked
+  pub takes : ℕ
+
+-- a putting end of that mailbox and pair, which has put these lengths
+abbrev pub mail_in : TableId → Book → List ℕ → InEnd
+mail_in mailbox pair lengths = record { mailbox = mailbox; pair = pair; lengths = lengths }
+
+-- a taking end of that mailbox and pair, which was asked so often
+abbrev pub mail_out : TableId → Book → ℕ → OutEnd
+mail_out mailbox pair takes = record { mailbox = mailbox; pair = pair; takes = takes }
+
+-- what a putting end has put, by what its pass knows
+abbrev pub put_by : View → List Told
+put_by (Puts w) = w.put
+put_by v = []
+
+-- how long the lists are that were told
+abbrev pub lengths_of : List Told → List ℕ
+lengths_of put = map (λ (told : Told). length told.front.points) put
+
+-- the putting end of a pass, by the pair's name
+abbrev pub in_of : Pass Letter View → Book → InEnd
+in_of pass pair = mail_in pass.table_id pair (lengths_of (put_by (view pass)))
+
+-- the pass is that of the putting end of the pair
+abbrev pub KnowsPut : Pass Letter View → Known → Type 0
+KnowsPut pass pair = view pass ≡ Puts (putting pair (put_by (view pass)))
+
+-- the pass is that of the taking end of the pair
+abbrev pub KnowsPair : Pass Letter View → Known → Type 0
+KnowsPair pass pair = view pass ≡ Takes pair

@@ -1,0 +1,25 @@
+//! A mailbox from a pair's publisher to one session: a place for one told length, the last that was put.
+//!
+//! [`open_mail`] gives the end that puts and the end that takes. Contracts see in both the mailbox's own name and the
+//! pair's, in [`MailIn`] the lengths that were put, in order, and in [`MailOut`] how often it was asked
+//! (`specs/Ends.antt`). The rule of `specs/Rule.antt` holds at every moment: the place is empty, or holds the last that
+//! was put. None of its steps is an event of the loading machine. The crate stands on `published_pair` for what is told
+//! and on `crossbeam_queue` for the place. When a length is told, and what is done with it, is left to the crates above.
+//!
+//! ```
+//! let (mut put, mut take) = open_mail(alloc, &publisher)?;
+//! put.put(rt, publisher.mark());
+//! take.take(rt);   // Some(told), whose count is publisher.len()
+//! take.take(rt);   // None
+//! take.takes();    // 2
+//! ```
+#![tactic(auto)]
+
+mod laws;
+mod mail;
+mod place;
+#[cfg(test)]
+mod tests;
+
+pub use laws::mail_ends_may_go;
+pub use mail::{MailIn, MailOut, open_mail};
