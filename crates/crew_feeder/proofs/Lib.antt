@@ -1,0 +1,2 @@
+mod RowLists
+mod Reading

@@ -1,0 +1,3 @@
+pub mod RowCounts
+pub mod Taking
+pub mod Leaving

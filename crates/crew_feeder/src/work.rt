@@ -1,0 +1,144 @@
+//! A feeder's work, run in place.
+ghost use Rattle.std.specs.Prelude.{◌≡◌, ◌+◌, ◌-◌, ◌^◌, ◌<◌, [], true, false, length, IsTrue};
+ghost use Rattle.cube_view.specs.Validity.{valid};
+ghost use Rattle.feed_reader.specs.Rows.{IsValidRow};
+ghost use Rattle.crew_feeder.specs.Leaving.{HasFed};
+ghost use Rattle.crew_feeder.specs.Taking.{IsReady, having_ended, having_fed, having_taken_row, new_work};
+
+use crate::{FeedDone, FeedJob, FirstRefusals, Refusal};
+use cube_view::{Point, Schema};
+use feed_queue::{Ended, FeedEnd, Item};
+use feed_reader::{Header, Row, next_row};
+use outer_io::{CutFault, LineCutter, Source};
+use std::alloc::Global;
+use std::sync::Wait;
+use world_core::Entry;
+
+/// A feeder's job with its end of a lane and what it has counted so far, before its run or after it.
+pub struct FeedWork<I: Source> {
+    pub cutter: LineCutter<I>,
+    pub header: Header,
+    pub end: FeedEnd,
+    pub blank: u64,
+    pub refused: u64,
+    pub first: FirstRefusals,
+    pub fault: Option<CutFault>,
+}
+
+/// Sends an entry of the point.
+fn send_point<R: Wait>(rt: &R, end: &mut FeedEnd, point: Point)
+    requires open { end.old.ended ≡ false }
+    requires few { length end.old.points < 2 ^ 32 - 1 }
+    requires valid { IsTrue (valid end.old.schema point) }
+    ensures { end.new ≡ having_fed end.old point }
+{
+    let entry = Entry {
+        feeder: end.feeder(),
+        number: end.sent(),
+        point,
+    };
+    end.send(rt, Item::One(entry));
+}
+
+/// Sends the End, which tells how many entries were sent.
+fn send_end<R: Wait>(rt: &R, end: &mut FeedEnd)
+    requires { end.old.ended ≡ false }
+    ensures { end.new ≡ having_ended end.old }
+{
+    let (feeder, sent) = (end.feeder(), end.sent());
+    end.send(rt, Item::End(feeder, sent));
+}
+
+impl<I: Source> FeedWork<I> {
+    /// A work that is not run yet. It takes no memory: the room for the refusals is given.
+    pub fn new(job: FeedJob<I>, end: FeedEnd, first: FirstRefusals) -> FeedWork<I>
+        requires { first ≡ [] }
+        ensures { result ≡ new_work job end }
+    {
+        let FeedJob { cutter, header } = job;
+        FeedWork {
+            cutter,
+            header,
+            end,
+            blank: 0,
+            refused: 0,
+            first,
+            fault: None,
+        }
+    }
+
+    /// Sends the row's point, or counts the row.
+    fn take_row<R: Wait>(&mut self, rt: &R, row: Row, line: u64)
+        requires open { self.old.end.ended ≡ false }
+        requires few { length self.old.end.points < 2 ^ 32 - 1 }
+        requires counts { (self.old.blank < 2 ^ 32) × (self.old.refused < 2 ^ 32) }
+        requires valid { IsValidRow self.old.end.schema row }
+        ensures { self.new ≡ having_taken_row self.old line row }
+    {
+        match row {
+            Row::Blank => self.blank += 1,
+            Row::Point(point) => send_point(rt, &mut self.end, point),
+            Row::Refused(fault) => {
+                self.refused += 1;
+                self.first.keep(Refusal { line, fault });
+            }
+        }
+    }
+
+    /// Takes the rows of all lines that are left, up to the first fault, which it notes.
+    fn take_rows<R: Wait>(&mut self, rt: &R, alloc: Global, schema: &Schema)
+        requires { IsReady schema.now self.old }
+        ensures { HasFed I.left I.faults false self.old self.new }
+    {
+        'rows: loop {
+            match next_row(alloc, schema, &self.header, &mut self.cutter) {
+                Ok(Some((row, line))) => self.take_row(rt, row, line),
+                Ok(None) => return,
+                Err(fault) => {
+                    self.fault = Some(fault);
+                    return;
+                }
+            }
+        }
+    }
+
+    /// Sends an entry for each point among the rows that are left, and at last the End, also where the feed ends by a
+    /// fault. It waits while the lane's queue is full.
+    pub fn run<R: Wait>(&mut self, rt: &R, alloc: Global, schema: &Schema)
+        requires { IsReady schema.now self.old }
+        ensures { HasFed I.left I.faults true self.old self.new }
+    {
+        self.take_rows(rt, alloc, schema);
+        send_end(rt, &mut self.end);
+    }
+
+    /// What was counted, and what is left of the end. It takes no memory.
+    pub fn finish(self) -> (FeedDone<I>, Ended)
+        requires { self.end.ended ≡ true }
+        ensures source { result.0.source ≡ self.cutter.source }
+        ensures accepted { result.0.accepted ≡ length self.end.points }
+        ensures counts { (result.0.blank ≡ self.blank) × (result.0.refused ≡ self.refused) }
+        ensures first { result.0.first ≡ self.first }
+        ensures fault { result.0.fault ≡ self.fault }
+        ensures ended { result.1 ≡ self.end }
+    {
+        let FeedWork {
+            cutter,
+            header: _,
+            end,
+            blank,
+            refused,
+            first,
+            fault,
+        } = self;
+        let done = FeedDone {
+            source: cutter.into_source(),
+            accepted: u64::from(end.sent()),
+            blank,
+            refused,
+            first: first.into_list(),
+            fault,
+        };
+        (done, end.finish())
+    }
+}
