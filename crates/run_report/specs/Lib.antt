@@ -1,0 +1,5 @@
+pub mod Names
+pub mod Faults
+pub mod Lines
+pub mod Reports
+pub mod Journals
