@@ -1,0 +1,5 @@
+mod Keeping
+mod Lengths
+mod Opening
+mod Running
+mod Taking

@@ -1,0 +1,4 @@
+pub mod Built
+pub mod Steps
+pub mod Telling
+pub mod Work
