@@ -35,6 +35,13 @@ pub of_fault : {T E : Type 0} (P : Type 0) (r : Result T E) (x : E) → OnErr r 
 of_fault P (Ok t) x known e = cc
 of_fault P (Err f) x known e = known
 
+pub if_some : {A : Type 0} {P : A → Type 0} (o : Option A) → ((x : A) → o ≡ Some x → P x) → IfSome o P
+if_some None p = tt
+if_some (Some x) p = p x refl
+
+pub known_some : {A : Type 0} (P : A → Type 0) (o : Option A) (x : A) → o ≡ Some x → IfSome o P → P x
+known_some P o x is known = subst (λ p. IfSome p P) is known
+
 is_fault : {T : Type 0} (r : Result T SessionFault) (f : SessionFault) → IsErrOf r f → r ≡ Err f
 is_fault (Ok t) f e = cc
 is_fault (Err g) f e = cc
@@ -81,6 +88,16 @@ has_news p shown learned last mail shown' learned' mail' goes look unseen unaske
   unseen = λ e. ap (λ (k : Known). k.points) (unseen e);
   fresh = look;
   goes_on = (goes.seen, goes.told);
+}
+
+-- what answering a line changes where all is known already
+pub whole_news : (p : Parsed) (whole : Known) (mail mail' : OutEnd) → mail' ≡ mail_out mail.mailbox mail.pair (takes_for p mail.takes) → HasNews p (news_of whole whole mail) (news_of whole whole mail')
+whole_news p whole mail mail' taken = record {
+  takes = ap (λ (m : OutEnd). m.takes) taken;
+  told = λ e. refl;
+  unseen = λ e. refl;
+  fresh = λ e. prefix-same whole.points whole.points refl;
+  goes_on = (prefix-same whole.points whole.points refl, prefix-same whole.points whole.points refl);
 }
 
 -- a look shows no less than was told before

@@ -1,5 +1,5 @@
 -- A session's turns to its end.
-use Rattle.std.proofs.Common.{◌≡◌, ◌≢◌, ℕ, ◌<◌, ◌≤◌, false, List, length, Option, Some, None, ◌⊎◌, inl, inr, refl, sym, ap, ◌∙◌, subst, arith, Result, Ok, Err, IfOk, IsErrOf}
+use Rattle.std.proofs.Common.{◌≡◌, ◌≢◌, ℕ, ◌<◌, ◌≤◌, Bool, false, List, length, Option, Some, None, ◌⊎◌, inl, inr, refl, sym, ap, ◌∙◌, subst, arith, Result, Ok, Err, IfOk, IsErrOf, IfSome}
 use Rattle.cube_view.specs.declared.schema.Schema.{Schema}
 use Rattle.cube_view.specs.declared.stat.Stat.{Stat}
 use Rattle.live_session.specs.News.{News}
@@ -17,7 +17,6 @@ use Rattle.outer_io.specs.Progress.{IsTooLarge}
 use Rattle.outer_io.specs.Told.{Told}
 use Rattle.session_core.specs.declared.fault.SessionFault.{SessionFault}
 use Rattle.session_core.specs.declared.fault.SessionFault.TheVariants as fault
-use Rattle.world_core.specs.PairFact.{IsPrefix}
 
 pub not_last : (t u : Turn) → t ≡ u → u ≢ turn.Ended → t ≢ turn.Ended
 not_last t u is ne e = ne (sym is ∙ e)
@@ -28,29 +27,34 @@ skipped_not_last e = cc
 pub replied_not_last : turn.Replied ≢ turn.Ended
 replied_not_last e = cc
 
+-- two facts of the same value, where there is one, give a third
+pub some_on : {A : Type 0} {P Q R : A → Type 0} (o o' : Option A) → o' ≡ o → ((x : A) → P x → Q x → R x) → IfSome o' P → IfSome o Q → IfSome o R
+some_on {P = P} None o' same gives p q = tt
+some_on {P = P} (Some x) o' same gives p q = gives x (subst (λ o. IfSome o P) same p) q
+
 -- a mailbox keeps its names
 pub mail_same : (mail mail' : OutEnd) (taken : ℕ) → (mail' ≡ mail) ⊎ (mail' ≡ mail_out mail.mailbox mail.pair taken) → (mail'.mailbox ≡ mail.mailbox) × (mail'.pair ≡ mail.pair)
 mail_same mail mail' taken (inl e) = (ap (λ (m : OutEnd). m.mailbox) e, ap (λ (m : OutEnd). m.pair) e)
 mail_same mail mail' taken (inr e) = (ap (λ (m : OutEnd). m.mailbox) e, ap (λ (m : OutEnd). m.pair) e)
 
-module _ {I O : Type 0} (left : I → Option (List ℕ)) (faults : I → ℕ) (held : O → Option (List ℕ)) (is_stat : Stat → Type 0) (taken : ℕ) (a b : News) (start before after : SessionState I O) where
+module _ {I O : Type 0} (left : I → Option (List ℕ)) (faults : I → ℕ) (held : O → Option (List ℕ)) (is_stat : Stat → Type 0) (taken : ℕ) (final : Bool) (a b : News) (start before after : SessionState I O) where
   -- what a turn does under a schema that is another's
-  done_under : (z z' : Schema) (r : Result Turn SessionFault) → z ≡ z' → (HasAnswered left faults held z is_stat false taken a start before → HasDone left faults held z is_stat false taken b start after r) → HasAnswered left faults held z' is_stat false taken a start before → HasDone left faults held z' is_stat false taken b start after r
-  done_under z z' r same = subst (λ (y : Schema). HasAnswered left faults held y is_stat false taken a start before → HasDone left faults held y is_stat false taken b start after r) same
+  done_under : (z z' : Schema) (r : Result Turn SessionFault) → z ≡ z' → (HasAnswered left faults held z is_stat final taken a start before → HasDone left faults held z is_stat final taken b start after r) → HasAnswered left faults held z' is_stat final taken a start before → HasDone left faults held z' is_stat final taken b start after r
+  done_under z z' r same = subst (λ (y : Schema). HasAnswered left faults held y is_stat final taken a start before → HasDone left faults held y is_stat final taken b start after r) same
 
   -- a turn without a fault
-  pub answered_on : (z z' : Schema) (r : Result Turn SessionFault) (t : Turn) → z ≡ z' → r ≡ Ok t → (HasAnswered left faults held z is_stat false taken a start before → HasDone left faults held z is_stat false taken b start after r) → HasAnswered left faults held z' is_stat false taken a start before → HasAnswered left faults held z' is_stat false taken b start after
-  answered_on z z' r t same is clause s = subst (HasDone left faults held z' is_stat false taken b start after) is (done_under z z' r same clause s)
+  pub answered_on : (z z' : Schema) (r : Result Turn SessionFault) (t : Turn) → z ≡ z' → r ≡ Ok t → (HasAnswered left faults held z is_stat final taken a start before → HasDone left faults held z is_stat final taken b start after r) → HasAnswered left faults held z' is_stat final taken a start before → HasAnswered left faults held z' is_stat final taken b start after
+  answered_on z z' r t same is clause s = subst (HasDone left faults held z' is_stat final taken b start after) is (done_under z z' r same clause s)
 
-  unit_done : (z : Schema) (f : SessionFault) → HasDone left faults held z is_stat false taken b start after {T = Turn} (Err f) → HasDone left faults held z is_stat false taken b start after {T = Unit {0}} (Err f)
+  unit_done : (z : Schema) (f : SessionFault) → HasDone left faults held z is_stat final taken b start after {T = Turn} (Err f) → HasDone left faults held z is_stat final taken b start after {T = Unit {0}} (Err f)
   unit_done z fault.NoMemory d = d
   unit_done z fault.Read d = d
   unit_done z fault.TooMuch d = d
   unit_done z fault.Write d = d
 
   -- a turn with a fault
-  pub done_fault : (z z' : Schema) (r : Result Turn SessionFault) (f : SessionFault) → z ≡ z' → r ≡ Err f → (HasAnswered left faults held z is_stat false taken a start before → HasDone left faults held z is_stat false taken b start after r) → HasAnswered left faults held z' is_stat false taken a start before → HasDone left faults held z' is_stat false taken b start after {T = Unit {0}} (Err f)
-  done_fault z z' r f same is clause s = unit_done z' f (subst (HasDone left faults held z' is_stat false taken b start after) is (done_under z z' r same clause s))
+  pub done_fault : (z z' : Schema) (r : Result Turn SessionFault) (f : SessionFault) → z ≡ z' → r ≡ Err f → (HasAnswered left faults held z is_stat final taken a start before → HasDone left faults held z is_stat final taken b start after r) → HasAnswered left faults held z' is_stat final taken a start before → HasDone left faults held z' is_stat final taken b start after {T = Unit {0}} (Err f)
+  done_fault z z' r f same is clause s = unit_done z' f (subst (HasDone left faults held z' is_stat final taken b start after) is (done_under z z' r same clause s))
 
   module _ (A : Stat → Type 0) (weaker : (stat : Stat) → A stat → is_stat stat) where
     -- a session goes on after a turn that is not its last
@@ -72,20 +76,20 @@ module _ {I O : Type 0} (left : I → Option (List ℕ)) (faults : I → ℕ) (h
     came_further z r t ne is d = further z t ne (of_ok (Turned left faults held z A a b before after) r t is d)
 
     -- at the end all is answered
-    pub all_ended : (z z' : Schema) (r : Result Turn SessionFault) (t : Turn) → z ≡ z' → IsPrefix a.shown b.shown → IsPrefix a.told b.told → r ≡ Ok t → t ≡ turn.Ended → before.ended ≡ false → HasAnswered left faults held z' is_stat false taken a start before → IfOk r (Turned left faults held z A a b before after) → AnswersAll left z' start after
-    all_ended z z' r t same shown told is end going s d =
+    pub all_ended : (z z' : Schema) (r : Result Turn SessionFault) (t : Turn) → z ≡ z' → r ≡ Ok t → t ≡ turn.Ended → before.ended ≡ false → HasAnswered left faults held z' is_stat final taken a start before → IfOk r (Turned left faults held z A a b before after) → AnswersAll left z' start after
+    all_ended z z' r t same is end going s d =
         subst (λ (y : Schema). AnswersAll left y start after) same
-        (all_at_end left faults held z is_stat taken A weaker a b start before after shown told t end going (subst (λ (y : Schema). HasAnswered left faults held y is_stat false taken a start before) (sym same) s) (of_ok (Turned left faults held z A a b before after) r t is d))
+        (all_at_end left faults held z is_stat taken final A weaker a b start before after t end going (subst (λ (y : Schema). HasAnswered left faults held y is_stat final taken a start before) (sym same) s) (of_ok (Turned left faults held z A a b before after) r t is d))
 
   large_before : (x y : Option ℕ) → Told x (λ size. y ≡ Some size) → Told y (λ size. input_limit < size) → Told x (λ size. input_limit < size)
   large_before None y p q = tt
   large_before (Some n) y p q = subst (λ (o : Option ℕ). Told o (λ size. input_limit < size)) p q
 
   -- and where too much is left
-  pub all_too_much : {put_faults : O → ℕ} (z' : Schema) (r : Result Turn SessionFault) (f : SessionFault) → IsPrefix a.shown b.shown → IsPrefix a.told b.told → r ≡ Err f → f ≡ fault.TooMuch → before.ended ≡ false → HasAnswered left faults held z' is_stat false taken a start before → HasFaults left faults held put_faults before after r → AnswersAll left z' start after × IsTooLarge left start.source
-  all_too_much z' r f shown told is large going s fs =
+  pub all_too_much : {put_faults : O → ℕ} (z' : Schema) (r : Result Turn SessionFault) (f : SessionFault) → r ≡ Err f → f ≡ fault.TooMuch → before.ended ≡ false → HasAnswered left faults held z' is_stat final taken a start before → HasFaults left faults held put_faults before after r → AnswersAll left z' start after × IsTooLarge left start.source
+  all_too_much z' r f is large going s fs =
       let much = fs.too_much (subst (λ (x : Result Turn SessionFault). IsErrOf x fault.TooMuch) (sym is) (as_fault {T = Turn} f fault.TooMuch large)) in
       let counted = of_err _ r f is fs.ended in (
-        all_at_too_much left faults held z' is_stat taken is_stat (λ stat m. m) a b start before after shown told going s much counted.1,
+        all_at_too_much left faults held z' is_stat taken final is_stat (λ stat m. m) a b start before after going s much counted.1,
         large_before (input_size left start.source) (input_size left before.source) (s.goes_on going).0.size much.0,
       )

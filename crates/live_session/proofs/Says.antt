@@ -1,13 +1,14 @@
 -- What is said to a line is the reply to what it asks.
-use Rattle.std.proofs.Common.{◌≡◌, ℕ, true, false, not, if◌then◌else◌, List, [], length, Some, None, Result, Ok, Err, IfOk, refl, sym, ap, ◌∙◌, subst}
+use Rattle.std.proofs.Common.{◌≡◌, ℕ, Bool, true, false, not, if◌then◌else◌, List, [], length, Some, None, Result, Ok, Err, IfOk, refl, sym, ap, ◌∙◌, subst}
 use Rattle.std.proofs.lemmas.Bool.{false≢true}
 use Rattle.cube_view.specs.Bag.{Counts}
 use Rattle.cube_view.specs.Points.{Point}
 use Rattle.cube_view.specs.declared.schema.Schema.{Schema}
 use Rattle.cube_view.specs.declared.spot.Spot.{Spot}
 use Rattle.cube_view.specs.declared.stat.Stat.{Stat}
-use Rattle.live_session.specs.News.{seen_asked}
-use Rattle.live_session.specs.Saying.{IsShown, Says}
+use Rattle.live_session.specs.News.{News, seen_asked}
+use Rattle.live_session.specs.Saying.{IsNewsOf, IsShown, Says, SaysOver}
+use Rattle.published_pair.specs.Rules.{Known}
 use Rattle.query_syntax.specs.Tables.{table}
 use Rattle.query_syntax.specs.declared.query.Parsed.{Parsed}
 use Rattle.query_syntax.specs.declared.query.Parsed.TheVariants as parsed
@@ -100,6 +101,29 @@ module _ (schema : Schema) (is_stat : Stat → Type 0) (h : List Point) (told : 
   pub served_look : {E : Type 0} (stat : Stat) (p : Parsed) (r : Result Served E) → is_stat stat → IfOk r (Serves stat schema h told p) → IfOk r (Says schema is_stat h told p)
   served_look stat p (Ok s) met serves = look_says stat p s met serves
   served_look stat p (Err e) met serves = tt
+
+module _ (schema : Schema) (is_stat : Stat → Type 0) (shown : List Point) (told : ℕ) (p : Parsed) where
+  -- what is said where no look is asked for is said over any list
+  pub over_unseen : {E : Type 0} (r : Result Served E) → asks_look p ≡ false → ((stat : Stat) (z : Schema) (l : List Point) → IfOk r (Serves stat z l told p)) → IfOk r (SaysOver schema is_stat shown told p)
+  over_unseen {E} (Ok s) blind serves = λ h look. served_unseen schema is_stat h told {E = E} p (Ok s) blind serves
+  over_unseen (Err e) blind serves = tt
+
+  -- and what is said for a look over the list that it was shown
+  pub over_shown : {E : Type 0} (r : Result Served E) → asks_look p ≡ true → IfOk r (Says schema is_stat shown told p) → IfOk r (SaysOver schema is_stat shown told p)
+  over_shown (Ok s) asked says = λ h look. subst (λ l. Says schema is_stat l told p s) (look asked) says
+  over_shown (Err e) asked says = tt
+
+-- it is said over what is shown and told now
+pub says_news : (schema : Schema) (is_stat : Stat → Type 0) (shown learned : Known) (p : Parsed) (news : News) (s : Served) → IsNewsOf shown learned p news → SaysOver schema is_stat shown.points (length learned.points) p s → Says schema is_stat news.shown (length news.told) p s
+says_news schema is_stat shown learned p news s is says = subst (λ xs. Says schema is_stat news.shown (length xs) p s) is.1 (says news.shown is.0)
+
+-- and the number that is printed is that of what is shown now
+pub seen_news : (shown learned : Known) (p : Parsed) (news : News) → IsNewsOf shown learned p news → seen_asked (length shown.points) p ≡ seen_asked (length news.shown) p
+seen_news shown learned p news is = here (asks_look p) is.0
+  where
+    here : (b : Bool) → (b ≡ true → shown.points ≡ news.shown) → (if b then Some (length shown.points) else None) ≡ (if b then Some (length news.shown) else None)
+    here true look = ap (λ l. Some (length l)) (look refl)
+    here false look = refl
 
 -- what is served over a view that is shown
 pub shown_says : {V E : Type 0} (weight_at : V → Spot → ℕ) (seen_by : V → ℕ) (schema_of : V → Schema) (numbers : V → Stat) (schema : Schema) (h h' : List Point) (told told' : ℕ) (p : Parsed) (r : Result Served E) (view : V) → Counts (weight_at view) (seen_by view) h → schema_of view ≡ schema → h ≡ h' → told ≡ told' → IfOk r (Serves (numbers view) (schema_of view) h told p) → IfOk r (Says schema (IsShown weight_at seen_by schema_of numbers schema h') h' told' p)

@@ -6,12 +6,13 @@ use Rattle.std.proofs.lemmas.Grind.{flat_map-append}
 use Rattle.cube_view.specs.Points.{Point}
 use Rattle.cube_view.specs.declared.schema.Schema.{Schema}
 use Rattle.cube_view.specs.declared.stat.Stat.{Stat}
-use Rattle.live_session.specs.News.{News, NewsFor, asks_news, takes_after, takes_for}
+use Rattle.live_session.specs.News.{News, NewsFor, asks_news, news_of, takes_after, takes_for}
 use Rattle.live_session.specs.SoFar.{AnswersAll, AsksFirst, HasAnswered, HasBroken, HasDone}
 use Rattle.live_session.specs.State.{SessionState}
 use Rattle.live_session.specs.Turned.{BreaksOff, ComesToEnd, HasFaults, IsTurn, Turned, has_lack, is_lack, listed, seens_of, is_no_memory}
 use Rattle.live_session.specs.declared.turn.Turn.{Turn}
 use Rattle.live_session.specs.declared.turn.Turn.TheVariants as turn
+use Rattle.mailbox.specs.Ends.{OutEnd}
 use Rattle.outer_io.specs.Counts.{next_count}
 use Rattle.outer_io.specs.Bytes.{Gains, GainsPart}
 use Rattle.outer_io.specs.Cuts.{IsTooMuch}
@@ -21,16 +22,17 @@ use Rattle.outer_io.specs.Told.{Told}
 use Rattle.outer_io.proofs.GainedLaws.{gains_none, gains_on, part_on}
 use Rattle.outer_io.proofs.ProgressLaws.{passes_none, passes_on}
 use Rattle.outer_io.proofs.ToldLaws.{Told-each}
+use Rattle.published_pair.specs.Rules.{Known}
 use Rattle.query_syntax.specs.declared.query.Parsed.{Parsed}
 use Rattle.reply_json.specs.Printed.{seen_of}
 use Rattle.reply_json.specs.declared.reply.Reply.{Reply}
 use Rattle.session_core.specs.Asked.{asked, asked_then, asks_to_end, line_meaning, reply_line}
 use Rattle.session_core.specs.Scripts.{has_quit, is_quit}
-use Rattle.session_core.specs.Transcript.{AllAnswered, IsTranscript, replies_text}
+use Rattle.session_core.specs.Transcript.{AllAnswered, IsTranscript, NeverFalls, replies_text}
 use Rattle.session_core.specs.declared.fault.SessionFault.{SessionFault}
 use Rattle.session_core.specs.declared.fault.SessionFault.TheVariants as fault
 use Rattle.session_core.proofs.AskedLaws.{asked_then-end, asked-append}
-use Rattle.session_core.proofs.Transcripts.{transcript_append, transcript_none, transcript_weaker, transcript_within}
+use Rattle.session_core.proofs.Transcripts.{final_append, transcript_append, transcript_lacking, transcript_none, transcript_weaker, transcript_within}
 use Rattle.world_core.specs.PairFact.{IsPrefix}
 use Rattle.live_session.proofs.Turning.{Front}
 
@@ -134,10 +136,33 @@ text_on rs ss = flat_map-append reply_line rs ss
 seens_on : (rs ss : List Reply) → seens_of (rs ++ ss) ≡ seens_of rs ++ seens_of ss
 seens_on rs ss = flat_map-append (λ (reply : Reply). listed (seen_of reply)) rs ss
 
-module _ {I O : Type 0} (left : I → Option (List ℕ)) (faults : I → ℕ) (held : O → Option (List ℕ)) (schema : Schema) (is_stat : Stat → Type 0) (taken : ℕ) where
+-- How a transcript within the one news goes on within the other: where memory lacks since, and with more final replies to
+-- more that is asked
+pub record GoesOn (schema : Schema) (is_stat : Stat → Type 0) (final : Bool) (a b : News) : Type 0 where
+  pub keeps : (lacks lacks' : Bool) (ps : List Parsed) (replies : List Reply) → (lacks ≡ true → lacks' ≡ true) → IsTranscript schema is_stat final a.shown (length a.told) lacks ps replies → IsTranscript schema is_stat final b.shown (length b.told) lacks' ps replies
+  pub joins : (lacks lacks' : Bool) (ps qs : List Parsed) (replies others : List Reply) → (lacks ≡ true → lacks' ≡ true) → IsTranscript schema is_stat final a.shown (length a.told) lacks ps replies → IsTranscript schema is_stat true b.shown (length b.told) lacks' qs others → NeverFalls (length a.shown) (length a.told) others → IsTranscript schema is_stat final b.shown (length b.told) lacks' (ps ++ qs) (replies ++ others)
+
+-- where what is shown and told goes on, one that is not final does
+pub goes_within : (schema : Schema) (is_stat : Stat → Type 0) (a b : News) → IsPrefix a.shown b.shown → IsPrefix a.told b.told → GoesOn schema is_stat false a b
+goes_within schema is_stat a b shown told =
+    let more : length a.told ≤ length b.told = omega (arith, ap length told.1, length-append a.told told.0) in
+    record {
+      keeps = λ lacks lacks' ps replies may t. transcript_within schema is_stat lacks lacks' false a.shown b.shown (length a.told) (length b.told) ps replies may (shown.0, sym shown.1) more t;
+      joins = λ lacks lacks' ps qs replies others may t next follows. transcript_append schema is_stat lacks lacks' false true a.shown b.shown (length a.told) (length b.told) ps qs replies others may (shown.0, sym shown.1) more t next follows;
+    }
+
+-- and a final one over the ended list does
+pub goes_final : (schema : Schema) (is_stat : Stat → Type 0) (whole : Known) (m n : OutEnd) → GoesOn schema is_stat true (news_of whole whole m) (news_of whole whole n)
+goes_final schema is_stat whole m n =
+    record {
+      keeps = λ lacks lacks' ps replies may t. transcript_lacking schema is_stat lacks lacks' true whole.points (length whole.points) ps replies may t;
+      joins = λ lacks lacks' ps qs replies others may t next follows. final_append schema is_stat lacks lacks' whole.points (length whole.points) ps qs replies others may t next follows;
+    }
+
+module _ {I O : Type 0} (left : I → Option (List ℕ)) (faults : I → ℕ) (held : O → Option (List ℕ)) (schema : Schema) (is_stat : Stat → Type 0) (taken : ℕ) (final : Bool) where
   -- a session that has answered nothing
-  pub answered_nothing : (final : Bool) (news : News) (start : SessionState I O) → taken ≤ news.takes → HasAnswered left faults held schema is_stat final taken news start start
-  answered_nothing final news start few =
+  pub answered_nothing : (news : News) (start : SessionState I O) → taken ≤ news.takes → HasAnswered left faults held schema is_stat final taken news start start
+  answered_nothing news start few =
       record {
         lines = [];
         replies = [];
@@ -150,10 +175,7 @@ module _ {I O : Type 0} (left : I → Option (List ℕ)) (faults : I → ℕ) (h
         goes_on = λ going. (passes_none left faults start.source, refl);
       }
 
-  module _ (A : Stat → Type 0) (weaker : (stat : Stat) → A stat → is_stat stat) (a b : News) (start before after : SessionState I O) (shown : IsPrefix a.shown b.shown) (told : IsPrefix a.told b.told) where
-    told_more : length a.told ≤ length b.told
-    told_more = omega (arith, ap length told.1, length-append a.told told.0)
-
+  module _ (A : Stat → Type 0) (weaker : (stat : Stat) → A stat → is_stat stat) (a b : News) (start before after : SessionState I O) where
     -- no `quit` was read in a turn after which the session goes on
     turn_no_quit : (lines : List Line) (replies : List Reply) (t : Turn) → IsTurn left faults held schema A a b before after lines replies t → after.ended ≡ false → has_quit schema lines ≡ false
     turn_no_quit lines replies turn.Skipped (line, one, skip, none, going) open_now = ap (has_quit schema) one ∙ ap (λ p. asks_to_end p || false) skip
@@ -161,18 +183,18 @@ module _ {I O : Type 0} (left : I → Option (List ℕ)) (faults : I → ℕ) (h
     turn_no_quit lines replies turn.Ended (ended, none, rest) open_now = absurd (false≢true (sym open_now ∙ ended))
 
     -- what was answered so far, and a turn
-    pub answered_turn : (t : Turn) → before.ended ≡ false → HasAnswered left faults held schema is_stat false taken a start before → Turned left faults held schema A a b before after t → HasAnswered left faults held schema is_stat false taken b start after
-    answered_turn t open_before s d =
+    pub answered_turn : GoesOn schema is_stat final a b → (t : Turn) → before.ended ≡ false → HasAnswered left faults held schema is_stat final taken a start before → Turned left faults held schema A a b before after t → HasAnswered left faults held schema is_stat final taken b start after
+    answered_turn goes t open_before s d =
         let on = s.goes_on open_before in
         let asks : asked schema (s.lines ++ d.lines) ≡ asked schema s.lines ++ asked schema d.lines = asked-append schema s.lines d.lines on.1 in
         let may : before.lacked ≡ true → after.lacked ≡ true = λ e. d.lacks ∙ or_true before.lacked (has_lack d.replies) e in
         let next : IsTranscript schema is_stat true b.shown (length b.told) after.lacked (asked schema d.lines) d.replies = transcript_weaker schema A is_stat weaker after.lacked true b.shown (length b.told) (asked schema d.lines) d.replies d.next.transcript in
-        let all : IsTranscript schema is_stat false b.shown (length b.told) after.lacked (asked schema s.lines ++ asked schema d.lines) (s.replies ++ d.replies) = transcript_append schema is_stat before.lacked after.lacked false true a.shown b.shown (length a.told) (length b.told) (asked schema s.lines) (asked schema d.lines) s.replies d.replies may (shown.0, sym shown.1) told_more s.transcript next d.next.follows in
+        let all : IsTranscript schema is_stat final b.shown (length b.told) after.lacked (asked schema s.lines ++ asked schema d.lines) (s.replies ++ d.replies) = goes.joins before.lacked after.lacked (asked schema s.lines) (asked schema d.lines) s.replies d.replies may s.transcript next d.next.follows in
         record {
           lines = s.lines ++ d.lines;
           replies = s.replies ++ d.replies;
           first = first_on schema (lines_left left start.source) (lines_left left before.source) s.lines d.lines on.0.covers d.read;
-          transcript = subst (λ (ps : List Parsed). IsTranscript schema is_stat false b.shown (length b.told) after.lacked ps (s.replies ++ d.replies)) (sym asks) all;
+          transcript = subst (λ (ps : List Parsed). IsTranscript schema is_stat final b.shown (length b.told) after.lacked ps (s.replies ++ d.replies)) (sym asks) all;
           gained = subst (Gains (held start.sink) (held after.sink)) (sym (text_on s.replies d.replies)) (gains_on (held start.sink) (held before.sink) (held after.sink) (replies_text s.replies) (replies_text d.replies) s.gained d.gained);
           counted = omega (arith, s.counted, d.counted, length-append s.replies d.replies);
           noted = d.noted ∙ ap (λ ns. ns ++ seens_of d.replies) s.noted ∙ append_assoc start.seens (seens_of s.replies) (seens_of d.replies) ∙ ap (λ ns. start.seens ++ ns) (sym (seens_on s.replies d.replies));
@@ -181,13 +203,13 @@ module _ {I O : Type 0} (left : I → Option (List ℕ)) (faults : I → ℕ) (h
         }
 
     -- what was answered so far, and a fault that left the sink as it was
-    pub answered_fault : HasAnswered left faults held schema is_stat false taken a start before → (before.lacked ≡ true → after.lacked ≡ true) → after.ended ≡ true → held after.sink ≡ held before.sink → after.replies ≡ before.replies → after.seens ≡ before.seens → a.takes ≤ b.takes → HasAnswered left faults held schema is_stat false taken b start after
-    answered_fault s may ended sink replies seens more =
+    pub answered_fault : GoesOn schema is_stat final a b → HasAnswered left faults held schema is_stat final taken a start before → (before.lacked ≡ true → after.lacked ≡ true) → after.ended ≡ true → held after.sink ≡ held before.sink → after.replies ≡ before.replies → after.seens ≡ before.seens → a.takes ≤ b.takes → HasAnswered left faults held schema is_stat final taken b start after
+    answered_fault goes s may ended sink replies seens more =
         record {
           lines = s.lines;
           replies = s.replies;
           first = s.first;
-          transcript = transcript_within schema is_stat before.lacked after.lacked false a.shown b.shown (length a.told) (length b.told) (asked schema s.lines) s.replies may (shown.0, sym shown.1) told_more s.transcript;
+          transcript = goes.keeps before.lacked after.lacked (asked schema s.lines) s.replies may s.transcript;
           gained = subst (λ (o : Option (List ℕ)). Gains (held start.sink) o (replies_text s.replies)) (sym sink) s.gained;
           counted = replies ∙ s.counted;
           noted = seens ∙ s.noted;
@@ -195,35 +217,36 @@ module _ {I O : Type 0} (left : I → Option (List ℕ)) (faults : I → ℕ) (h
           goes_on = λ going. absurd (false≢true (sym going ∙ ended));
         }
 
-    by_fault : (f : SessionFault) → a.takes ≤ b.takes → HasAnswered left faults held schema is_stat false taken a start before → (held after.sink ≡ held before.sink) × (after.lacked ≡ before.lacked || is_no_memory f) → (after.ended ≡ true) × (after.replies ≡ before.replies) × (after.seens ≡ before.seens) → HasAnswered left faults held schema is_stat false taken b start after
-    by_fault f more s (sink, lacked) (ended, replies, seens) = answered_fault s (λ e. lacked ∙ or_true before.lacked (is_no_memory f) e) ended sink replies seens more
+    by_fault : GoesOn schema is_stat final a b → (f : SessionFault) → a.takes ≤ b.takes → HasAnswered left faults held schema is_stat final taken a start before → (held after.sink ≡ held before.sink) × (after.lacked ≡ before.lacked || is_no_memory f) → (after.ended ≡ true) × (after.replies ≡ before.replies) × (after.seens ≡ before.seens) → HasAnswered left faults held schema is_stat final taken b start after
+    by_fault goes f more s (sink, lacked) (ended, replies, seens) = answered_fault goes s (λ e. lacked ∙ or_true before.lacked (is_no_memory f) e) ended sink replies seens more
 
     -- what was answered so far, and a put that failed
-    pub answered_broken : before.ended ≡ false → HasAnswered left faults held schema is_stat false taken a start before → BreaksOff left faults held schema A a b before after → HasBroken left faults held schema is_stat false taken b start after
-    answered_broken open_before s d =
+    pub answered_broken : GoesOn schema is_stat final a b → before.ended ≡ false → HasAnswered left faults held schema is_stat final taken a start before → BreaksOff left faults held schema A a b before after → HasBroken left faults held schema is_stat final taken b start after
+    answered_broken goes open_before s d =
         let on = s.goes_on open_before in
         let one : List Line = d.line ∷ [] in
         let asks : asked schema (s.lines ++ one) ≡ asked schema s.lines ++ asked schema one = asked-append schema s.lines one on.1 in
         let may : before.lacked ≡ true → after.lacked ≡ true = λ e. d.lacks ∙ or_true before.lacked (is_lack d.reply) e in
         let next : IsTranscript schema is_stat true b.shown (length b.told) after.lacked (asked schema one) (d.reply ∷ []) = transcript_weaker schema A is_stat weaker after.lacked true b.shown (length b.told) (asked schema one) (d.reply ∷ []) d.next.transcript in
-        let all : IsTranscript schema is_stat false b.shown (length b.told) after.lacked (asked schema s.lines ++ asked schema one) (s.replies ++ d.reply ∷ []) = transcript_append schema is_stat before.lacked after.lacked false true a.shown b.shown (length a.told) (length b.told) (asked schema s.lines) (asked schema one) s.replies (d.reply ∷ []) may (shown.0, sym shown.1) told_more s.transcript next d.next.follows in
+        let all : IsTranscript schema is_stat final b.shown (length b.told) after.lacked (asked schema s.lines ++ asked schema one) (s.replies ++ d.reply ∷ []) = goes.joins before.lacked after.lacked (asked schema s.lines) (asked schema one) s.replies (d.reply ∷ []) may s.transcript next d.next.follows in
         let both = passes_on left faults start.source before.source after.source s.lines one on.0 d.passed in
         record {
           lines = s.lines ++ one;
           replies = s.replies;
           reply = d.reply;
           first = first_passed schema (lines_left left start.source) (lines_left left after.source) (s.lines ++ one) both.covers;
-          transcript = subst (λ (ps : List Parsed). IsTranscript schema is_stat false b.shown (length b.told) after.lacked ps (s.replies ++ d.reply ∷ [])) (sym asks) all;
+          transcript = subst (λ (ps : List Parsed). IsTranscript schema is_stat final b.shown (length b.told) after.lacked ps (s.replies ++ d.reply ∷ [])) (sym asks) all;
           gained = subst (GainsPart (held start.sink) (held after.sink)) (sym (text_on s.replies (d.reply ∷ []))) (part_on (held start.sink) (held before.sink) (held after.sink) (replies_text s.replies) (reply_line d.reply) [] s.gained d.gained);
           counted = d.uncounted.0 ∙ s.counted;
           noted = d.uncounted.1 ∙ s.noted;
+          takes = takes_on schema s.lines one taken a b s.takes (b, d.news, refl);
         }
 
     -- all was answered where no line is left
-    all_replied : HasAnswered left faults held schema is_stat false taken a start before → before.ended ≡ false → after.replies ≡ before.replies → Told (lines_left left before.source) (λ rest. asked schema rest ≡ []) → AnswersAll left schema start after
+    all_replied : HasAnswered left faults held schema is_stat final taken a start before → before.ended ≡ false → after.replies ≡ before.replies → Told (lines_left left before.source) (λ rest. asked schema rest ≡ []) → AnswersAll left schema start after
     all_replied s open_before same none =
         let on = s.goes_on open_before in
-        let count : length s.replies ≡ length (asked schema s.lines) = all_length schema is_stat false before.lacked a.shown (length a.told) (asked schema s.lines) s.replies s.transcript.each in
+        let count : length s.replies ≡ length (asked schema s.lines) = all_length schema is_stat final before.lacked a.shown (length a.told) (asked schema s.lines) s.replies s.transcript.each in
         Told-each (lines_left left start.source) (λ all. asked schema all ≡ asked schema s.lines) (λ all. after.replies ≡ start.replies + length (asked schema all))
         (λ all e. omega (arith, same, s.counted, count, ap length e))
         (all_asked schema (lines_left left start.source) (lines_left left before.source) s.lines on.1 on.0.covers none)
@@ -233,19 +256,19 @@ module _ {I O : Type 0} (left : I → Option (List ℕ)) (faults : I → ℕ) (h
     none_left lines open_before read (inr (inl all)) = rest_none schema (lines_left left before.source) all.0.covers
     none_left lines open_before read (inr (inr (line, one, quit))) = rest_quit schema (lines_left left before.source) line quit (subst (λ (ls : List Line). Told (lines_left left before.source) (Front schema ls)) one read)
 
-    pub all_at_end : (t : Turn) → t ≡ turn.Ended → before.ended ≡ false → HasAnswered left faults held schema is_stat false taken a start before → Turned left faults held schema A a b before after t → AnswersAll left schema start after
+    pub all_at_end : (t : Turn) → t ≡ turn.Ended → before.ended ≡ false → HasAnswered left faults held schema is_stat final taken a start before → Turned left faults held schema A a b before after t → AnswersAll left schema start after
     all_at_end t is open_before s d =
         let answer : IsTurn left faults held schema A a b before after d.lines d.replies turn.Ended = subst (IsTurn left faults held schema A a b before after d.lines d.replies) is d.answer in
         let same : after.replies ≡ before.replies = omega (arith, d.counted, ap length answer.1) in
         all_replied s open_before same (none_left d.lines open_before d.read answer.2)
 
-    pub all_at_too_much : before.ended ≡ false → HasAnswered left faults held schema is_stat false taken a start before → IsTooMuch left before.source → after.replies ≡ before.replies → AnswersAll left schema start after
+    pub all_at_too_much : before.ended ≡ false → HasAnswered left faults held schema is_stat final taken a start before → IsTooMuch left before.source → after.replies ≡ before.replies → AnswersAll left schema start after
     all_at_too_much open_before s large same = all_replied s open_before same (rest_none schema (lines_left left before.source) large.1)
 
     -- what was answered so far, and a turn with any answer
-    pub done_turn : {put_faults : O → ℕ} (r : Result Turn SessionFault) → before.ended ≡ false → a.takes ≤ b.takes → HasAnswered left faults held schema is_stat false taken a start before → IfOk r (Turned left faults held schema A a b before after) → (IsErrOf r fault.Write → BreaksOff left faults held schema A a b before after) → HasFaults left faults held put_faults before after r → HasDone left faults held schema is_stat false taken b start after r
-    done_turn (Ok t) open_before more s turned broken fs = answered_turn t open_before s turned
-    done_turn (Err fault.NoMemory) open_before more s turned broken fs = by_fault fault.NoMemory more s (fs.nothing fault.NoMemory refl (λ e. cc)) fs.ended
-    done_turn (Err fault.Read) open_before more s turned broken fs = by_fault fault.Read more s (fs.nothing fault.Read refl (λ e. cc)) fs.ended
-    done_turn (Err fault.TooMuch) open_before more s turned broken fs = by_fault fault.TooMuch more s (fs.nothing fault.TooMuch refl (λ e. cc)) fs.ended
-    done_turn (Err fault.Write) open_before more s turned broken fs = answered_broken open_before s (broken refl)
+    pub done_turn : {put_faults : O → ℕ} → GoesOn schema is_stat final a b → (r : Result Turn SessionFault) → before.ended ≡ false → a.takes ≤ b.takes → HasAnswered left faults held schema is_stat final taken a start before → IfOk r (Turned left faults held schema A a b before after) → (IsErrOf r fault.Write → BreaksOff left faults held schema A a b before after) → HasFaults left faults held put_faults before after r → HasDone left faults held schema is_stat final taken b start after r
+    done_turn goes (Ok t) open_before more s turned broken fs = answered_turn goes t open_before s turned
+    done_turn goes (Err fault.NoMemory) open_before more s turned broken fs = by_fault goes fault.NoMemory more s (fs.nothing fault.NoMemory refl (λ e. cc)) fs.ended
+    done_turn goes (Err fault.Read) open_before more s turned broken fs = by_fault goes fault.Read more s (fs.nothing fault.Read refl (λ e. cc)) fs.ended
+    done_turn goes (Err fault.TooMuch) open_before more s turned broken fs = by_fault goes fault.TooMuch more s (fs.nothing fault.TooMuch refl (λ e. cc)) fs.ended
+    done_turn goes (Err fault.Write) open_before more s turned broken fs = answered_broken goes open_before s (broken refl)

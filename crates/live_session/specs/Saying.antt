@@ -5,12 +5,13 @@ use Rattle.cube_view.specs.Points.{Point}
 use Rattle.cube_view.specs.declared.schema.Schema.{Schema}
 use Rattle.cube_view.specs.declared.spot.Spot.{Spot}
 use Rattle.cube_view.specs.declared.stat.Stat.{Stat}
-use Rattle.live_session.specs.News.{seen_asked}
+use Rattle.live_session.specs.News.{News, seen_asked}
+use Rattle.published_pair.specs.Rules.{Known}
 use Rattle.query_syntax.specs.declared.query.Parsed.{Parsed}
 use Rattle.query_syntax.specs.declared.query.Parsed.TheVariants.{Skip}
 use Rattle.reply_json.specs.Printed.{seen_of}
 use Rattle.reply_json.specs.declared.reply.Reply.{Reply}
-use Rattle.session_core.specs.Asked.{asks_reply, asks_to_end, reply_line}
+use Rattle.session_core.specs.Asked.{asks_look, asks_reply, asks_to_end, reply_line}
 use Rattle.session_core.specs.Transcript.{IsReply}
 use Rattle.session_core.specs.declared.serving.Served.{Served}
 use Rattle.session_core.specs.declared.serving.Served.TheVariants as served
@@ -25,3 +26,11 @@ Says schema is_stat h told p served.Skipped = p ≡ Skip
 Says schema is_stat h told p (served.Reply bytes) =
     (reply : Reply) × IsReply schema is_stat true h told p reply × (bytes ≡ reply_line reply) × (seen_of reply ≡ seen_asked (length h) p) × (asks_reply p ≡ true)
 Says schema is_stat h told p served.Quit = asks_to_end p ≡ true
+
+-- the same over each list that is the shown one where the line asks for a look
+abbrev pub SaysOver : Schema → (Stat → Type 0) → List Point → ℕ → Parsed → Served → Type 0
+SaysOver schema is_stat shown told p s = (h : List Point) → (asks_look p ≡ true → shown ≡ h) → Says schema is_stat h told p s
+
+-- the news are those of a viewer that knows these lists: what it was told, and what it was shown where the line asks for a look
+abbrev pub IsNewsOf : Known → Known → Parsed → News → Type 0
+IsNewsOf shown learned p news = (asks_look p ≡ true → shown.points ≡ news.shown) × (learned.points ≡ news.told)

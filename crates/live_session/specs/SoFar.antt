@@ -63,6 +63,8 @@ module _ {I O : Type 0} (left : I → Option (List ℕ)) (faults : I → ℕ) (h
     pub counted : now.replies ≡ start.replies + length replies
     -- and the numbers of points seen that they print are noted
     pub noted : now.seens ≡ start.seens ++ seens_of replies
+    -- the mailbox was asked no less often than the lines ask
+    pub takes : takes_after schema lines taken ≤ news.takes
 
   -- The same once it gave this answer: only a put that failed leaves a part of a reply
   abbrev pub HasDone : {T : Type 0} → Result T SessionFault → Type 0

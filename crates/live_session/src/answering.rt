@@ -1,7 +1,7 @@
 //! What is answered to a line, by what the mailbox holds and the viewer is shown.
 ghost use Rattle.std.specs.Prelude.{◌≡◌, ◌≤◌, length, true, false, IsTrue, IfOk, IfSome, OnErr};
 ghost use Rattle.live_session.specs.News.{Goes, asks_news, takes_for};
-ghost use Rattle.live_session.specs.Saying.{IsShown, Says};
+ghost use Rattle.live_session.specs.Saying.{IsShown, Says, SaysOver};
 ghost use Rattle.mailbox.specs.Ends.{mail_out};
 ghost use Rattle.published_pair.specs.Pair.{Fresh};
 ghost use Rattle.query_syntax.specs.Meaning.{asks_valid};
@@ -75,10 +75,10 @@ pub(crate) fn answer_line<V: Grow, R: Wait, L: Ledger>(
 ) -> (Viewer<V>, Result<Served, NoMemory>)
     requires pair { viewer.shown.book ≡ mail.old.pair }
     requires valid { IsTrue (asks_valid viewer.schema parsed.now) }
-    ensures says { IfOk result.1 (Says viewer.schema (IsShown V.weight_at V.seen V.schema V.numbers viewer.schema result.0.shown.points) result.0.shown.points (length result.0.learned.points) parsed.now) }
+    ensures says { IfOk result.1 (SaysOver viewer.schema (IsShown V.weight_at V.seen V.schema V.numbers viewer.schema result.0.shown.points) result.0.shown.points (length result.0.learned.points) parsed.now) }
     ensures no_memory { OnErr result.1 (asks_reply parsed.now ≡ true) }
     ensures goes { Goes viewer.shown viewer.learned viewer.last result.0.shown result.0.learned }
-    ensures look { asks_look parsed.now ≡ true → IsPrefix result.0.learned.points result.0.shown.points }
+    ensures look { asks_look parsed.now ≡ true → IsPrefix result.0.learned.points result.0.shown.points × IfSome viewer.last (λ w. result.0.shown.points ≡ w.points) }
     ensures unseen { asks_look parsed.now ≡ false → result.0.shown ≡ viewer.shown }
     ensures unasked { asks_news parsed.now ≡ false → result.0.learned ≡ viewer.learned }
     ensures same { (result.0.last ≡ viewer.last) × (result.0.schema ≡ viewer.schema) }

@@ -2,8 +2,8 @@
 ghost use Rattle.std.specs.Prelude.{◌≡◌, ◌≢◌, ℕ, ◌+◌, ◌<◌, ◌≤◌, ◌⊎◌, List, [], ◌∷◌, ◌++◌, ◌||◌, length, true, false, Ok, Err, Some, None, IsTrue, IfOk, OnOk, OnErr, IfSome, IsErrOf, vec_len, vec_capacity};
 ghost use Rattle.cube_view.specs.Points.{Point};
 ghost use Rattle.live_session.specs.Answered.{Answered, IsBroken};
-ghost use Rattle.live_session.specs.News.{Goes, news_of, seen_asked};
-ghost use Rattle.live_session.specs.Saying.{IsShown, Says};
+ghost use Rattle.live_session.specs.News.{Goes, HasNews, News, news_of, seen_asked};
+ghost use Rattle.live_session.specs.Saying.{IsNewsOf, IsShown, SaysOver};
 ghost use Rattle.live_session.specs.SoFar.{AnswersAll, HasAnswered, HasDone};
 ghost use Rattle.live_session.specs.State.{SessionState, new_session};
 ghost use Rattle.live_session.specs.Turned.{BreaksOff, HasFaults, Turned, listed};
@@ -211,10 +211,10 @@ impl<I: Source, O: Sink> Session<I, O> {
     ) -> Result<Turn, SessionFault>
         requires open { self.old.ended ≡ false }
         requires room { (self.old.replies < self.old.source.given) × (self.old.source.given ≤ input_limit) }
-        requires says { IfOk served (Says viewer.now.schema (IsShown V.weight_at V.seen V.schema V.numbers viewer.now.schema viewer.now.shown.points) viewer.now.shown.points (length viewer.now.learned.points) parsed.now) }
+        requires says { IfOk served (SaysOver viewer.now.schema (IsShown V.weight_at V.seen V.schema V.numbers viewer.now.schema viewer.now.shown.points) viewer.now.shown.points (length viewer.now.learned.points) parsed.now) }
         requires no_memory { OnErr served (asks_reply parsed.now ≡ true) }
-        ensures answered { (l : List Point) (u : ℕ) → IsPrefix l viewer.now.shown.points → u ≤ length viewer.now.learned.points → (asks_look parsed.now ≡ true → u ≤ length viewer.now.shown.points) → IfOk result (Answered O.held viewer.now.schema (IsShown V.weight_at V.seen V.schema V.numbers viewer.now.schema viewer.now.shown.points) l viewer.now.shown.points u (length viewer.now.learned.points) self.old self.new parsed.now) }
-        ensures broken { (l : List Point) (u : ℕ) → IsPrefix l viewer.now.shown.points → u ≤ length viewer.now.learned.points → (asks_look parsed.now ≡ true → u ≤ length viewer.now.shown.points) → IsErrOf result SessionFault.Write → IsBroken O.held viewer.now.schema (IsShown V.weight_at V.seen V.schema V.numbers viewer.now.schema viewer.now.shown.points) l viewer.now.shown.points u (length viewer.now.learned.points) self.old self.new parsed.now }
+        ensures answered { (a b : News) → HasNews parsed.now a b → IsNewsOf viewer.now.shown viewer.now.learned parsed.now b → IfOk result (Answered O.held viewer.now.schema (IsShown V.weight_at V.seen V.schema V.numbers viewer.now.schema viewer.now.shown.points) a.shown b.shown (length a.told) (length b.told) self.old self.new parsed.now) }
+        ensures broken { (a b : News) → HasNews parsed.now a b → IsNewsOf viewer.now.shown viewer.now.learned parsed.now b → IsErrOf result SessionFault.Write → IsBroken O.held viewer.now.schema (IsShown V.weight_at V.seen V.schema V.numbers viewer.now.schema viewer.now.shown.points) a.shown b.shown (length a.told) (length b.told) self.old self.new parsed.now }
         ensures source { self.new.source ≡ self.old.source }
         ensures faults { HasFaults I.left I.faults O.held O.faults self.old self.new result }
         ensures others { (result ≢ Err SessionFault.Read) × (result ≢ Err SessionFault.TooMuch) }
@@ -257,6 +257,7 @@ impl<I: Source, O: Sink> Session<I, O> {
         ensures viewer { Goes viewer.shown viewer.learned viewer.last result.0.shown result.0.learned × (result.0.last ≡ viewer.last) × (result.0.schema ≡ viewer.schema) }
         ensures mail { (mail.new ≡ mail.old) ⊎ (mail.new ≡ mail_out mail.old.mailbox mail.old.pair (next_count mail.old.takes)) }
         ensures so_far { (start : SessionState I O) (taken : ℕ) → HasAnswered I.left I.faults O.held viewer.schema V.is_stat false taken (news_of viewer.shown viewer.learned mail.old) start self.old → HasDone I.left I.faults O.held viewer.schema V.is_stat false taken (news_of result.0.shown result.0.learned mail.new) start self.new result.1 }
+        ensures finals { (start : SessionState I O) (taken : ℕ) → IfSome viewer.last (λ w. HasAnswered I.left I.faults O.held viewer.schema V.is_stat true taken (news_of w w mail.old) start self.old → HasDone I.left I.faults O.held viewer.schema V.is_stat true taken (news_of w w mail.new) start self.new result.1) }
     {
         if self.ended {
             return (viewer, Ok(Turn::Ended));
@@ -273,7 +274,8 @@ impl<I: Source, O: Sink> Session<I, O> {
     }
 
     /// Takes turns to the script's end or a fault. Where it ends without a fault, or with too much, all that the script
-    /// asks is answered.
+    /// asks is answered. Of a viewer that has learned the ended list, the replies are a final transcript over it: each
+    /// number of points that they print is its length.
     pub fn run<V: Grow, R: Wait, L: Ledger>(
         &mut self,
         rt: &R,
@@ -284,6 +286,7 @@ impl<I: Source, O: Sink> Session<I, O> {
     ) -> (Viewer<V>, Result<(), SessionFault>)
         requires { (viewer.shown.book ≡ mail.old.pair) × (self.old.ended ≡ false) }
         ensures done { HasDone I.left I.faults O.held viewer.schema V.is_stat false mail.old.takes (news_of result.0.shown result.0.learned mail.new) self.old self.new result.1 }
+        ensures finals { IfSome viewer.last (λ w. HasDone I.left I.faults O.held viewer.schema V.is_stat true mail.old.takes (news_of w w mail.new) self.old self.new result.1) }
         ensures all { OnOk result.1 (AnswersAll I.left viewer.schema self.old self.new) }
         ensures too_much { IsErrOf result.1 SessionFault.TooMuch → AnswersAll I.left viewer.schema self.old self.new × IsTooLarge I.left self.old.source }
         ensures causes { HasCause (I.faults self.old.source.source) (I.faults self.new.source.source) result.1 SessionFault.Read × HasCause (O.faults self.old.sink) (O.faults self.new.sink) result.1 SessionFault.Write }

@@ -1,5 +1,5 @@
 //! Scripts over pairs of plain cubes and of cubes, on one thread. Three points are published between the lines.
-ghost use Rattle.std.specs.Prelude.{◌≡◌, false, [], All};
+ghost use Rattle.std.specs.Prelude.{◌≡◌, ℕ, List, Option, None, false, [], All};
 ghost use Rattle.cube_view.specs.Bag.{Counts};
 ghost use Rattle.probe_core.specs.Blanks.{IsBlankOf};
 
@@ -8,7 +8,7 @@ use cube_store::Cube;
 use cube_view::{Grow, Point, Schema, is_sound};
 use example_schemas::{point, schema_of_kinds};
 use mailbox::{MailIn, MailOut, open_mail};
-use outer_io::{LineCutter, List, MemSink, MemSource, NoMemory};
+use outer_io::{Failed, IoFault, LineCutter, List, MemSink, MemSource, NoMemory, Sink, Source};
 use plain_cube::PlainCube;
 use probe_core::Steps;
 use published_pair::{Publisher, Viewer, open};
@@ -432,5 +432,102 @@ fn runs_a_script_to_its_quit(rt: HostRuntime) -> Result<(), Fail> {
         rt.alloc(),
         &quiet_case(b"told\ncount\nquit\ntold", 0, 1, 2, &[3], 2, put),
     )?;
+    Ok(())
+}
+
+/// A script without end: one `told`, and then a comment that does not end.
+#[derive(Drop)]
+struct Endless {
+    asked: bool,
+}
+
+impl Source for Endless {
+    ghost left = { λ _. None };
+
+    ghost faults = { λ _. 0 };
+
+    fn read(&mut self, buf: &mut [u8]) -> Result<usize, Failed> {
+        let line = b"told\n";
+        if self.asked || buf.len() < line.len() {
+            buf.fill(b'#');
+            return Ok(buf.len());
+        }
+        self.asked = true;
+        buf[..line.len()].copy_from_slice(line);
+        Ok(line.len())
+    }
+}
+
+/// How many puts it got.
+#[derive(Drop)]
+struct Puts {
+    count: u64,
+}
+
+impl Sink for Puts {
+    ghost held = { λ _. None };
+
+    ghost faults = { λ _. 0 };
+
+    ghost name = { λ _. [] };
+
+    fn put(&mut self, _bytes: &[u8]) -> Result<(), IoFault> {
+        self.count = self.count.wrapping_add(1);
+        Ok(())
+    }
+}
+
+/// A session to its end, at a pair to which nothing is published.
+fn run_in<I: Source, R: Wait + Abort, L: Ledger>(
+    rt: &R,
+    alloc: Global,
+    session: &mut Session<I, Puts>,
+    blank: Blank,
+) -> Result<Result<(), SessionFault>, NoMemory>
+    requires ended { session.old.ended ≡ false }
+    requires blank { IsBlankOf L.name L.parts blank }
+{
+    let mut steps = Steps::<L>::new(blank);
+    let first = PlainCube::new(alloc, schema_of_kinds(alloc)?);
+    let again = PlainCube::new(alloc, schema_of_kinds(alloc)?);
+    let (publisher, mut viewers) = open(rt, alloc, first, again, 1)?;
+    let viewer = viewer_of(rt, &mut viewers, &publisher);
+    let (_put, mut take) = open_mail(alloc, &publisher).expect(rt, "a mailbox");
+    let (_viewer, end) = session.run(rt, alloc, viewer, &mut take, &mut steps);
+    publisher.finish(rt);
+    Ok(end)
+}
+
+/// The replies to the source's script, and in how many puts they were put.
+fn check_puts<I: Source + Drop, R: Wait + Abort>(
+    rt: &R,
+    alloc: Global,
+    source: I,
+    want: (Result<(), SessionFault>, u64),
+) -> Result<(), NoMemory> {
+    let cutter = match LineCutter::new(alloc, source) {
+        Ok(cutter) => cutter,
+        Err(_) => panic!(rt; "no cutter"),
+    };
+    let mut session = Session::new(alloc, cutter, Puts { count: 0 });
+    let end = run_in::<I, R, Brand>(rt, alloc, &mut session, Blank::new(1));
+    let replies = session.replies();
+    let (_, sink) = session.into_parts();
+    assert_eq!(rt; (end?, replies, sink.count), (want.0, want.1, want.1));
+    Ok(())
+}
+
+#[test]
+fn puts_each_reply_at_once(rt: HostRuntime) -> Result<(), Fail> {
+    let script = Vec::from_slice(rt.alloc(), b"told\n\ncount\n\xff\nstat\nquit\ntold\n")?;
+    let source = MemSource::new(List::from_vec(script), 5, List::new(rt.alloc()));
+    check_puts(&rt, rt.alloc(), source, (Ok(()), 4))?;
+    Ok(())
+}
+
+#[test]
+fn answers_too_much_over_a_script_without_end(rt: HostRuntime) -> Result<(), Fail> {
+    let source = Endless { asked: false };
+    check_puts(&rt, rt.alloc(), source, (Err(SessionFault::TooMuch), 1))?;
     Ok(())
 }

@@ -1,12 +1,11 @@
-use Rattle.std.proofs.Common.{length, IfOk, ◌∙◌, ap, sym, subst, refl, Ok, Err, arith}
+use Rattle.std.proofs.Common.{length, IfOk, ◌∙◌, ap, sym, subst, refl, true, false, Ok, Err, arith}
 use Rattle.cube_view.specs.declared.schema.Schema.{Schema}
 use Rattle.live_session.specs.Answered.{Answered, IsBroken}
 use Rattle.live_session.specs.News.{news_of}
-use Rattle.live_session.specs.Saying.{IsShown}
+use Rattle.live_session.specs.Saying.{IsNewsOf, IsShown}
 use Rattle.live_session.specs.declared.turn.Turn.{Turn}
-use Rattle.live_session.proofs.NextReply.{prefix-longer}
-use Rattle.live_session.proofs.OneTurn.{end_of, faults_after, fresh_length, has_news, of_fault, prefix-same, reads_of, same_fault, shown_numbers}
-use Rattle.live_session.proofs.SoFarLaws.{done_turn}
+use Rattle.live_session.proofs.OneTurn.{end_of, faults_after, has_news, if_some, known_some, of_fault, prefix-same, reads_of, same_fault, shown_numbers, whole_news}
+use Rattle.live_session.proofs.SoFarLaws.{done_turn, goes_final, goes_within}
 use Rattle.session_core.proofs.SoFar.{fault_is}
 use Rattle.live_session.proofs.Turning.{breaks_off, turned_answered, turned_end, turned_ended}
 use Rattle.live_session.proofs.session.Session.turn.Goals as goal
@@ -20,30 +19,32 @@ returns-in-Ok-Some-clause-turned g c =
     let viewer = c.answer_line-viewer.result.0 in
     let h = viewer.shown.points in
     let line = c.answer_line-viewer.ensures in
+    let news = has_news c.in-Ok-Some.parsed c.args.viewer.shown c.args.viewer.learned c.args.viewer.last c.args.mail.now viewer.shown viewer.learned c.answer_line-viewer.new.mail line.goes (λ e. (line.look e).0) line.unseen line.unasked line.mail.0 in
     turned_answered g.I.Source.left g.I.Source.faults g.O.Sink.held c.args.viewer.schema (IsShown g.V.CubeView.weight_at g.V.CubeView.seen g.V.CubeView.schema g.V.CubeView.numbers c.args.viewer.schema h) (news_of c.args.viewer.shown c.args.viewer.learned c.args.mail.now) (news_of viewer.shown viewer.learned c.answer_line-viewer.new.mail)
     c.finish-turn.result c.args.self.now c.read_next.new.self c.finish-turn.new.self c.in-Ok-Some.parsed
     (reads_of g.I.Source.left g.I.Source.faults g.O.Sink.held c.args.viewer.schema c.schema.result.now c.args.self.now c.read_next.new.self c.in-Ok-Some.field-0 c.in-Ok-Some.parsed c.schema.ensures c.in-Ok-Some.field-0-is c.in-Ok-Some.ensures.asked)
     (c.read_next.ensures.same.0, c.read_next.ensures.same.1, c.read_next.ensures.same.2, c.in-Ok-Some.ensures.lacked)
     c.finish-turn.ensures.source
-    (has_news c.in-Ok-Some.parsed c.args.viewer.shown c.args.viewer.learned c.args.viewer.last c.args.mail.now viewer.shown viewer.learned c.answer_line-viewer.new.mail line.goes line.look line.unseen line.unasked line.mail.0)
+    news
     (subst (λ (z : Schema). IfOk c.finish-turn.result (Answered g.O.Sink.held z (IsShown g.V.CubeView.weight_at g.V.CubeView.seen g.V.CubeView.schema g.V.CubeView.numbers z h) c.args.viewer.shown.points h (length c.args.viewer.learned.points) (length viewer.learned.points) c.read_next.new.self c.finish-turn.new.self c.in-Ok-Some.parsed)) line.same.1
-    (c.finish-turn.ensures.answered c.args.viewer.shown.points (length c.args.viewer.learned.points) line.goes.seen (prefix-longer c.args.viewer.learned.points viewer.learned.points line.goes.told) (fresh_length c.args.viewer.learned.points viewer.learned.points h c.in-Ok-Some.parsed line.goes.told line.look)))
+    (c.finish-turn.ensures.answered (news_of c.args.viewer.shown c.args.viewer.learned c.args.mail.now) (news_of viewer.shown viewer.learned c.answer_line-viewer.new.mail) news (λ look. refl, refl)))
 
 pub returns-in-Ok-Some-clause-broken : goal.returns-in-Ok-Some-clause-broken
 returns-in-Ok-Some-clause-broken g c e =
     let viewer = c.answer_line-viewer.result.0 in
     let h = viewer.shown.points in
     let line = c.answer_line-viewer.ensures in
+    let news = has_news c.in-Ok-Some.parsed c.args.viewer.shown c.args.viewer.learned c.args.viewer.last c.args.mail.now viewer.shown viewer.learned c.answer_line-viewer.new.mail line.goes (λ e. (line.look e).0) line.unseen line.unasked line.mail.0 in
     let faulty = of_fault _ c.finish-turn.result _ c.finish-turn.ensures.faults.ended e in
     breaks_off g.I.Source.left g.I.Source.faults g.O.Sink.held c.args.viewer.schema (IsShown g.V.CubeView.weight_at g.V.CubeView.seen g.V.CubeView.schema g.V.CubeView.numbers c.args.viewer.schema h) (news_of c.args.viewer.shown c.args.viewer.learned c.args.mail.now) (news_of viewer.shown viewer.learned c.answer_line-viewer.new.mail)
     c.args.self.now c.read_next.new.self c.finish-turn.new.self c.in-Ok-Some.parsed
     (reads_of g.I.Source.left g.I.Source.faults g.O.Sink.held c.args.viewer.schema c.schema.result.now c.args.self.now c.read_next.new.self c.in-Ok-Some.field-0 c.in-Ok-Some.parsed c.schema.ensures c.in-Ok-Some.field-0-is c.in-Ok-Some.ensures.asked)
     (c.read_next.ensures.same.0, c.read_next.ensures.same.1, c.read_next.ensures.same.2, c.in-Ok-Some.ensures.lacked)
     c.finish-turn.ensures.source
-    (has_news c.in-Ok-Some.parsed c.args.viewer.shown c.args.viewer.learned c.args.viewer.last c.args.mail.now viewer.shown viewer.learned c.answer_line-viewer.new.mail line.goes line.look line.unseen line.unasked line.mail.0)
+    news
     (faulty.1, faulty.2)
     (subst (λ (z : Schema). IsBroken g.O.Sink.held z (IsShown g.V.CubeView.weight_at g.V.CubeView.seen g.V.CubeView.schema g.V.CubeView.numbers z h) c.args.viewer.shown.points h (length c.args.viewer.learned.points) (length viewer.learned.points) c.read_next.new.self c.finish-turn.new.self c.in-Ok-Some.parsed) line.same.1
-    (c.finish-turn.ensures.broken c.args.viewer.shown.points (length c.args.viewer.learned.points) line.goes.seen (prefix-longer c.args.viewer.learned.points viewer.learned.points line.goes.told) (fresh_length c.args.viewer.learned.points viewer.learned.points h c.in-Ok-Some.parsed line.goes.told line.look) e))
+    (c.finish-turn.ensures.broken (news_of c.args.viewer.shown c.args.viewer.learned c.args.mail.now) (news_of viewer.shown viewer.learned c.answer_line-viewer.new.mail) news (λ look. refl, refl) e))
 
 pub returns-in-Ok-Some-clause-faults : goal.returns-in-Ok-Some-clause-faults
 returns-in-Ok-Some-clause-faults g c = (
@@ -57,11 +58,12 @@ pub returns-in-Ok-Some-clause-so_far : goal.returns-in-Ok-Some-clause-so_far
 returns-in-Ok-Some-clause-so_far g c start taken s =
     let viewer = c.answer_line-viewer.result.0 in
     let line = c.answer_line-viewer.ensures in
-    done_turn g.I.Source.left g.I.Source.faults g.O.Sink.held c.args.viewer.schema g.V.CubeView.is_stat taken
+    done_turn g.I.Source.left g.I.Source.faults g.O.Sink.held c.args.viewer.schema g.V.CubeView.is_stat taken false
     (IsShown g.V.CubeView.weight_at g.V.CubeView.seen g.V.CubeView.schema g.V.CubeView.numbers c.args.viewer.schema viewer.shown.points)
     (shown_numbers g.V.CubeView.weight_at g.V.CubeView.seen g.V.CubeView.schema g.V.CubeView.numbers g.V.CubeView.is_stat c.args.viewer.schema viewer.shown.points g.met.V.CubeView.structure)
-    (news_of c.args.viewer.shown c.args.viewer.learned c.args.mail.now) (news_of viewer.shown viewer.learned c.answer_line-viewer.new.mail) start c.args.self.now c.finish-turn.new.self line.goes.seen line.goes.told
-    {put_faults = g.O.Sink.faults} c.finish-turn.result (ap (λ s. s.ended) (sym c.self.view_is) ∙ c.if-self.false) line.mail.1 s
+    (news_of c.args.viewer.shown c.args.viewer.learned c.args.mail.now) (news_of viewer.shown viewer.learned c.answer_line-viewer.new.mail) start c.args.self.now c.finish-turn.new.self {put_faults = g.O.Sink.faults}
+    (goes_within c.args.viewer.schema g.V.CubeView.is_stat (news_of c.args.viewer.shown c.args.viewer.learned c.args.mail.now) (news_of viewer.shown viewer.learned c.answer_line-viewer.new.mail) line.goes.seen line.goes.told)
+    c.finish-turn.result (ap (λ s. s.ended) (sym c.self.view_is) ∙ c.if-self.false) line.mail.1 s
     (returns-in-Ok-Some-clause-turned g c) (returns-in-Ok-Some-clause-broken g c) (returns-in-Ok-Some-clause-faults g c).0
 
 pub returns-in-Ok-None-clause-turned : goal.returns-in-Ok-None-clause-turned
@@ -74,8 +76,47 @@ returns-in-Ok-None-clause-turned g c =
 pub returns-in-Err-clause-so_far : goal.returns-in-Err-clause-so_far
 returns-in-Err-clause-so_far g c start taken s =
     let news = news_of c.args.viewer.shown c.args.viewer.learned c.args.mail.now in
-    done_turn g.I.Source.left g.I.Source.faults g.O.Sink.held c.args.viewer.schema g.V.CubeView.is_stat taken g.V.CubeView.is_stat (λ stat m. m) news news start c.args.self.now c.read_next.new.self
-    (prefix-same c.args.viewer.shown.points c.args.viewer.shown.points refl) (prefix-same c.args.viewer.learned.points c.args.viewer.learned.points refl)
-    {put_faults = g.O.Sink.faults} (Err c.in-Err.fault) (ap (λ s. s.ended) (sym c.self.view_is) ∙ c.if-self.false) (omega arith) s tt
+    done_turn g.I.Source.left g.I.Source.faults g.O.Sink.held c.args.viewer.schema g.V.CubeView.is_stat taken false g.V.CubeView.is_stat (λ stat m. m) news news start c.args.self.now c.read_next.new.self {put_faults = g.O.Sink.faults}
+    (goes_within c.args.viewer.schema g.V.CubeView.is_stat news news (prefix-same c.args.viewer.shown.points c.args.viewer.shown.points refl) (prefix-same c.args.viewer.learned.points c.args.viewer.learned.points refl))
+    (Err c.in-Err.fault) (ap (λ s. s.ended) (sym c.self.view_is) ∙ c.if-self.false) (omega arith) s tt
     (λ e. absurd (c.in-Err.ensures.no_write (ap (λ f. Err f) (fault_is {T = Turn} c.in-Err.fault _ e))))
     (same_fault g.I.Source.left g.I.Source.faults g.O.Sink.held g.O.Sink.faults c.args.self.now c.read_next.new.self c.in-Err.fault c.in-Err.ensures.faults)
+
+pub returns-in-Ok-Some-clause-finals : goal.returns-in-Ok-Some-clause-finals
+returns-in-Ok-Some-clause-finals g c start taken =
+    if_some c.args.viewer.last (λ w last s.
+    let viewer = c.answer_line-viewer.result.0 in
+    let z = c.args.viewer.schema in
+    let p = c.in-Ok-Some.parsed in
+    let line = c.answer_line-viewer.ensures in
+    let A = IsShown g.V.CubeView.weight_at g.V.CubeView.seen g.V.CubeView.schema g.V.CubeView.numbers z viewer.shown.points in
+    let a = news_of w w c.args.mail.now in
+    let b = news_of w w c.answer_line-viewer.new.mail in
+    let news = whole_news p w c.args.mail.now c.answer_line-viewer.new.mail line.mail.0 in
+    let reads = reads_of g.I.Source.left g.I.Source.faults g.O.Sink.held z c.schema.result.now c.args.self.now c.read_next.new.self c.in-Ok-Some.field-0 p c.schema.ensures c.in-Ok-Some.field-0-is c.in-Ok-Some.ensures.asked in
+    let is : IsNewsOf viewer.shown viewer.learned p b = (λ look. known_some _ c.args.viewer.last w last (line.look look).1, (known_some _ viewer.last w (line.same.0 ∙ last) viewer.within).1) in
+    done_turn g.I.Source.left g.I.Source.faults g.O.Sink.held z g.V.CubeView.is_stat taken true A
+    (shown_numbers g.V.CubeView.weight_at g.V.CubeView.seen g.V.CubeView.schema g.V.CubeView.numbers g.V.CubeView.is_stat z viewer.shown.points g.met.V.CubeView.structure)
+    a b start c.args.self.now c.finish-turn.new.self {put_faults = g.O.Sink.faults} (goes_final z g.V.CubeView.is_stat w c.args.mail.now c.answer_line-viewer.new.mail)
+    c.finish-turn.result (ap (λ s. s.ended) (sym c.self.view_is) ∙ c.if-self.false) line.mail.1 s
+    (turned_answered g.I.Source.left g.I.Source.faults g.O.Sink.held z A a b c.finish-turn.result c.args.self.now c.read_next.new.self c.finish-turn.new.self p reads
+    (c.read_next.ensures.same.0, c.read_next.ensures.same.1, c.read_next.ensures.same.2, c.in-Ok-Some.ensures.lacked) c.finish-turn.ensures.source news
+    (subst (λ (y : Schema). IfOk c.finish-turn.result (Answered g.O.Sink.held y (IsShown g.V.CubeView.weight_at g.V.CubeView.seen g.V.CubeView.schema g.V.CubeView.numbers y viewer.shown.points) a.shown b.shown (length a.told) (length b.told) c.read_next.new.self c.finish-turn.new.self p)) line.same.1
+    (c.finish-turn.ensures.answered a b news is)))
+    (λ e.
+    let faulty = of_fault _ c.finish-turn.result _ c.finish-turn.ensures.faults.ended e in
+    breaks_off g.I.Source.left g.I.Source.faults g.O.Sink.held z A a b c.args.self.now c.read_next.new.self c.finish-turn.new.self p reads
+    (c.read_next.ensures.same.0, c.read_next.ensures.same.1, c.read_next.ensures.same.2, c.in-Ok-Some.ensures.lacked) c.finish-turn.ensures.source news (faulty.1, faulty.2)
+    (subst (λ (y : Schema). IsBroken g.O.Sink.held y (IsShown g.V.CubeView.weight_at g.V.CubeView.seen g.V.CubeView.schema g.V.CubeView.numbers y viewer.shown.points) a.shown b.shown (length a.told) (length b.told) c.read_next.new.self c.finish-turn.new.self p) line.same.1
+    (c.finish-turn.ensures.broken a b news is e)))
+    (returns-in-Ok-Some-clause-faults g c).0)
+
+pub returns-in-Err-clause-finals : goal.returns-in-Err-clause-finals
+returns-in-Err-clause-finals g c start taken =
+    if_some c.args.viewer.last (λ w last s.
+    let news = news_of w w c.args.mail.now in
+    done_turn g.I.Source.left g.I.Source.faults g.O.Sink.held c.args.viewer.schema g.V.CubeView.is_stat taken true g.V.CubeView.is_stat (λ stat m. m) news news start c.args.self.now c.read_next.new.self {put_faults = g.O.Sink.faults}
+    (goes_final c.args.viewer.schema g.V.CubeView.is_stat w c.args.mail.now c.args.mail.now)
+    (Err c.in-Err.fault) (ap (λ s. s.ended) (sym c.self.view_is) ∙ c.if-self.false) (omega arith) s tt
+    (λ e. absurd (c.in-Err.ensures.no_write (ap (λ f. Err f) (fault_is {T = Turn} c.in-Err.fault _ e))))
+    (same_fault g.I.Source.left g.I.Source.faults g.O.Sink.held g.O.Sink.faults c.args.self.now c.read_next.new.self c.in-Err.fault c.in-Err.ensures.faults))
