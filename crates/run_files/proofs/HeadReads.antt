@@ -1,0 +1,227 @@
+-- Feeds that are opened one after another.
+use Rattle.std.proofs.Common.{◌≡◌, ◌≢◌, ℕ, ◌+◌, ◌<◌, ◌≤◌, List, [], ◌∷◌, ◌++◌, length, get_or, Option, Some, None, Result, Ok, Err, refl, sym, ◌∙◌, ap, subst, arith, append_assoc, All}
+use Rattle.std.proofs.lemmas.List.{append-nil, length-append, get_or_append_left}
+use Rattle.std.proofs.lemmas.List.Elements.{All-get_or}
+use Rattle.cube_view.specs.declared.schema.Schema.{Schema}
+use Rattle.feed_reader.specs.Feeds.{feed_head, head_of_lines}
+use Rattle.feed_reader.specs.Reading.{AcceptsRows, IsAtStart, IsHeadRefused}
+use Rattle.outer_io.proofs.ProgressLaws.{of_lines}
+use Rattle.outer_io.proofs.ToldLaws.{Told-each, Told-same, Told-some}
+use Rattle.outer_io.specs.Cutting.{Cutter, IsNew, lines_left, rest_of}
+use Rattle.outer_io.specs.Lines.{Line}
+use Rattle.run_files.proofs.Lists.{AllZip-firsts, AllZip-more}
+use Rattle.run_files.specs.declared.feeds.HeadedFeed.{HeadedFeed}
+use Rattle.std.specs.List.{AllZip}
+use Rattle.std.specs.Prelude.{IsErrAnd, IsOk, IsSomeAnd, option_map}
+use Rattle.std.specs.Result.{result_err}
+use Rattle.feed_reader.specs.declared.feed.NoHeader.{NoHeader}
+use Rattle.feed_reader.specs.declared.feed.NoHeader.TheVariants.{Refused}
+use Rattle.feed_reader.specs.declared.header.HeadFault.{HeadFault}
+use Rattle.feed_reader.specs.declared.header.HeadFault.TheVariants as head
+use Rattle.outer_io.specs.Told.{Told}
+use Rattle.outer_io.specs.Bytes.{Gains, GainsPart}
+use Rattle.outer_io.specs.Faults.{Rose}
+use Rattle.outer_io.specs.Files.{Files, file_or_empty}
+use Rattle.run_files.proofs.Returning.{leaves_given_back}
+use Rattle.run_files.proofs.Stages.{leaves_reading, leaves_then, leaves_more, nothing_made, all_opened}
+use Rattle.run_files.specs.FaultTexts.{feed_line}
+use Rattle.run_files.specs.GivingBack.{TakesSources}
+use Rattle.run_files.specs.Headed.{HasHeader, IsHeaded, OpensFeeds, RefusesHead, RefusesLast}
+use Rattle.run_files.specs.Outside.{FailsToPut, file_of, PlaceSeen, Puts, Silent, SinkSeen}
+use Rattle.run_files.specs.declared.stop.Stop.{Stop}
+use Rattle.run_files.specs.declared.stop.Stop.TheVariants.{NoMemory, PlanRefused, ReadFault, WriteFault, FeedRefused}
+
+module _ {O : Type 0} (s : SinkSeen O) where
+  pub silent_itself : (o : O) → Silent s o o
+  silent_itself o = record { held = refl; faults = refl; name = refl }
+
+  silent_on : (a b c : O) → Silent s a b → Silent s b c → Silent s a c
+  silent_on a b c one two = record { held = two.held ∙ one.held; faults = two.faults ∙ one.faults; name = two.name ∙ one.name }
+
+  puts_on : (a b c : O) (bytes : List ℕ) → Silent s a b → Puts s b c bytes → Puts s a c bytes
+  puts_on a b c bytes one two = record { held = subst (λ h. Gains h (s.held c) bytes) one.held two.held; faults = two.faults ∙ one.faults; name = two.name ∙ one.name }
+
+  fails_on : (a b c : O) (bytes : List ℕ) → Silent s a b → FailsToPut s b c bytes → FailsToPut s a c bytes
+  fails_on a b c bytes one two = record { held = subst (λ h. GainsPart h (s.held c) bytes) one.held two.held; faults = subst (λ n. Rose n (s.faults c)) one.faults two.faults; name = two.name ∙ one.name }
+
+-- a header that is refused by the cutter's next line is that of the source's bytes
+pub refused_feed : {S : Type 0} (left : S → Option (List ℕ)) (schema : Schema) (source : S) (c : Cutter S) (fault : HeadFault) → IsNew source c → IsHeadRefused left schema c fault → Told (left source) (λ feed. feed_head schema feed ≡ Err fault)
+unfolding feed_head
+refused_feed left schema source c fault new refused =
+    Told-each (left source) (λ x. left source ≡ Some x) _ (λ bytes is. of_lines left source c bytes (λ all. head_of_lines schema all ≡ Err fault) new is refused) (Told-same (left source))
+
+pub start_new : {S : Type 0} (source : S) (c : Cutter S) → IsNew source c → IsAtStart c
+start_new source c new = (ap (λ (k : Cutter _). k.taken) new, ap (λ (k : Cutter _). k.given) new)
+
+abbrev RefusesIn : Schema → Option Files → List ℕ → HeadFault → Type 0
+RefusesIn schema files name fault = Told (file_of files name) (λ feed. feed_head schema feed ≡ Err fault)
+
+in_file : (schema : Schema) (files : Option Files) (told : Option (List ℕ)) (name : List ℕ) (fault : HeadFault) → Told files (λ fs. told ≡ Some (file_or_empty fs name)) → Told told (λ feed. feed_head schema feed ≡ Err fault) → RefusesIn schema files name fault
+in_file schema None told name fault left refused = tt
+in_file schema (Some files) told name fault left refused = Told-some told (file_or_empty files name) (λ feed. feed_head schema feed ≡ Err fault) left refused
+
+-- the last of more names is refused too, where files and what is said of it are the same
+refuses_on : (schema : Schema) (before now : Option Files) (first names : List (List ℕ)) (Says Says' : List ℕ → Type 0) → now ≡ before → ((line : List ℕ) → Says line → Says' line) → RefusesLast schema (file_of now) names Says → RefusesLast schema (file_of before) (first ++ names) Says'
+refuses_on schema before now first names Says Says' same step last = record {
+  earlier = first ++ last.earlier;
+  name = last.name;
+  names_are = ap (λ n. first ++ n) last.names_are ∙ sym (append_assoc first last.earlier (last.name ∷ []));
+  refuses = record {
+    fault = last.refuses.fault;
+    of_line = last.refuses.of_line;
+    refused = subst (λ (files : Option Files). RefusesIn schema files last.name last.refuses.fault) same last.refuses.refused;
+    says = step _ last.refuses.says;
+  };
+}
+
+-- a feed whose source was read, and whose first line is no header, is refused
+pub refuses_head : {O : Type 0} (s : SinkSeen O) (schema : Schema) (files : Option Files) (told : Option (List ℕ)) (name : List ℕ) (met : NoHeader) (Says : List ℕ → Type 0)
+    → Told files (λ fs. told ≡ Some (file_or_empty fs name)) → met ≢ Refused head.NoMemory → ((fault : HeadFault) → met ≡ Refused fault → Told told (λ feed. feed_head schema feed ≡ Err fault))
+    → (fault : HeadFault) × (met ≡ Refused fault) × Says (feed_line schema name fault) → RefusesHead schema (file_of files name) name Says
+refuses_head s schema files told name met Says left of_line refused said = record {
+  fault = said.0;
+  of_line = λ e. of_line (said.1 ∙ ap (λ f. Refused f) e);
+  refused = in_file schema files told name said.0 left (refused said.0 said.1);
+  says = said.2;
+}
+
+rest_new : {S : Type 0} (left : S → Option (List ℕ)) (source : S) (c : Cutter S) (bytes : List ℕ) → IsNew source c → left source ≡ Some bytes → rest_of left c ≡ Some bytes
+rest_new left source c bytes new is = subst (λ k. rest_of left k ≡ Some bytes) (sym new) (ap (option_map (λ more. [] ++ more)) is)
+
+head_in : (schema : Schema) (places bytes : List ℕ) (o : Option (List Line)) → IsSomeAnd o (AcceptsRows schema places bytes) → IsOk (feed_head schema bytes)
+head_in schema places bytes None h = absurd h
+head_in schema places bytes (Some rest) h = subst (λ r. IsOk r) (sym h.0) refl
+
+-- a feed whose header was read has one
+has_header : {S : Type 0} (left : S → Option (List ℕ)) (faults : S → ℕ) (schema : Schema) (file : Option (List ℕ)) (feed : HeadedFeed (Cutter S)) → IsHeaded left faults schema file feed → HasHeader schema file
+has_header left faults schema None feed h = tt
+has_header left faults schema (Some bytes) feed h =
+    head_in schema feed.header.places bytes (lines_left left feed.cutter)
+    (Told-some (rest_of left h.reads.before) bytes (λ b. IsSomeAnd (lines_left left feed.cutter) (AcceptsRows schema feed.header.places b)) (rest_new left h.source h.reads.before bytes h.reads.made h.left_is) h.reads.accepted)
+
+module _ {S : Type 0} (left : S → Option (List ℕ)) (faults : S → ℕ) (schema : Schema) (files : Option Files) where
+  -- so have all feeds whose headers were read
+  pub all_headed : (names : List (List ℕ)) (feeds : List (HeadedFeed (Cutter S))) → AllZip (λ n. IsHeaded left faults schema (file_of files n)) names feeds → All (λ n. HasHeader schema (file_of files n)) names
+  all_headed = AllZip-firsts (λ n. IsHeaded left faults schema (file_of files n)) (λ n. HasHeader schema (file_of files n)) (λ n feed. has_header left faults schema (file_of files n) feed)
+
+  -- and one feed more is read of the same files
+  pub headed_more : (now : Option Files) (names : List (List ℕ)) (feeds : List (HeadedFeed (Cutter S))) (name : List ℕ) (feed : HeadedFeed (Cutter S)) → now ≡ files
+      → AllZip (λ n. IsHeaded left faults schema (file_of files n)) names feeds → IsHeaded left faults schema (file_of now name) feed → AllZip (λ n. IsHeaded left faults schema (file_of files n)) (names ++ name ∷ []) (feeds ++ feed ∷ [])
+  headed_more now names feeds name feed same all more =
+      AllZip-more (λ n. IsHeaded left faults schema (file_of files n)) names feeds name feed all (subst (λ (fs : Option Files). IsHeaded left faults schema (file_of fs name) feed) same more)
+
+one_at_most : (name : List ℕ) (opens unopened : List (List ℕ)) → name ∷ [] ≡ opens ++ unopened → length opens ≤ 1
+one_at_most name opens unopened e = omega (arith, simp length-append at (ap length e))
+
+-- what holds of the first names holds of each one that stands before another
+HasHeader-first : (schema : Schema) (files : Option Files) (first opens more : List (List ℕ)) (i : ℕ) → All (λ n. HasHeader schema (file_of files n)) first → first ≡ opens → length more ≤ 1 → i + 1 < length (opens ++ more)
+    → HasHeader schema (file_of files (get_or (opens ++ more) i []))
+HasHeader-first schema files first opens more i all is few lt =
+    let within : i < length opens = omega (arith, simp length-append at lt, few) in
+    subst (λ n. HasHeader schema (file_of files n)) (sym (get_or_append_left opens more [] i within))
+    (All-get_or (λ n. HasHeader schema (file_of files n)) opens i [] within (subst (λ ns. All (λ n. HasHeader schema (file_of files n)) ns) is all))
+
+module _ {P O : Type 0} (p : PlaceSeen P) (s : SinkSeen O) (schema : Schema) where
+  -- no feed is opened
+  pub opens_none : (a : P) (o : O) → OpensFeeds p s schema a a o o [] None
+  unfolding leaves_reading
+  opens_none a o = record {
+    leaves = leaves_reading p a a [] [] [] None refl (sym (append-nil _)) (λ _. refl) refl refl refl (λ e. absurd (cc)) (λ _. refl);
+    headed = λ i lt. absurd (omega (arith, lt));
+    refused = λ e. absurd (cc);
+    unsaid = λ e. absurd (cc);
+    silent = λ _ _. silent_itself s o;
+    ends = λ e. cc;
+  }
+
+  -- no feed is opened, for want of memory
+  pub opens_nothing : (a : P) (o : O) (names : List (List ℕ)) → OpensFeeds p s schema a a o o names (Some NoMemory)
+  unfolding leaves_reading
+  opens_nothing a o names = record {
+    leaves = leaves_reading p a a names [] names (Some NoMemory) refl (sym (append-nil _)) (λ e. absurd (cc)) refl refl refl (λ e. absurd (cc)) (λ _. refl);
+    headed = λ i lt. absurd (omega (arith, lt));
+    refused = λ e. absurd (cc);
+    unsaid = λ e. absurd (cc);
+    silent = λ _ _. silent_itself s o;
+    ends = λ e. cc;
+  }
+
+  -- one feed is not opened, for want of memory
+  pub opens_not : (a b : P) (o : O) (name : List ℕ) → p.opened b ≡ p.opened a → p.created b ≡ p.created a → p.write_faults b ≡ p.write_faults a → p.files b ≡ p.files a → p.read_faults b ≡ p.read_faults a
+      → OpensFeeds p s schema a b o o (name ∷ []) (Some NoMemory)
+  unfolding leaves_reading
+  opens_not a b o name opened created write files quiet = record {
+    leaves = leaves_reading p a b (name ∷ []) [] (name ∷ []) (Some NoMemory) refl (opened ∙ sym (append-nil _)) (λ e. absurd (cc)) created write files (λ e. absurd (cc)) (λ _. quiet);
+    headed = λ i lt. absurd (omega (arith, lt));
+    refused = λ e. absurd (cc);
+    unsaid = λ e. absurd (cc);
+    silent = λ _ _. silent_itself s o;
+    ends = λ e. cc;
+  }
+
+  -- one feed is opened
+  pub opens_one : (a b : P) (o o' : O) (name : List ℕ) (stop : Option Stop) → p.opened b ≡ p.opened a ++ name ∷ [] → p.created b ≡ p.created a → p.write_faults b ≡ p.write_faults a → p.files b ≡ p.files a
+      → (stop ≡ Some ReadFault → Rose (p.read_faults a) (p.read_faults b)) → (stop ≢ Some ReadFault → p.read_faults b ≡ p.read_faults a)
+      → (stop ≡ Some FeedRefused → RefusesHead schema (file_of (p.files a) name) name (Puts s o o')) → (stop ≡ Some WriteFault → RefusesHead schema (file_of (p.files a) name) name (FailsToPut s o o'))
+      → (stop ≢ Some FeedRefused → stop ≢ Some WriteFault → Silent s o o') → stop ≢ Some PlanRefused → OpensFeeds p s schema a b o o' (name ∷ []) stop
+  unfolding leaves_reading
+  opens_one a b o o' name stop opened created write files read quiet refused unsaid silent ends = record {
+    leaves = leaves_reading p a b (name ∷ []) (name ∷ []) [] stop refl opened (λ _. refl) created write files read quiet;
+    headed = λ i lt. absurd (omega (arith, lt));
+    refused = λ e. record { earlier = []; name = name; names_are = refl; refuses = refused e };
+    unsaid = λ e. record { earlier = []; name = name; names_are = refl; refuses = unsaid e };
+    silent = silent;
+    ends = ends;
+  }
+
+  -- after feeds that all have headers, one more is opened
+  pub opens_on : (a b c : P) (o o' o'' : O) (first : List (List ℕ)) (name : List ℕ) (stop : Option Stop) → All (λ n. HasHeader schema (file_of (p.files a) n)) first
+      → OpensFeeds p s schema a b o o' first None → OpensFeeds p s schema b c o' o'' (name ∷ []) stop → OpensFeeds p s schema a c o o'' (first ++ name ∷ []) stop
+  unfolding leaves_then
+  opens_on a b c o o' o'' first name stop all one two =
+      let same : p.files b ≡ p.files a = one.leaves.untouched (nothing_made p a b first None one.leaves) in
+      let quiet = one.silent (λ e. cc) (λ e. cc) in
+      record {
+        leaves = leaves_then p a b c first (name ∷ []) [] stop one.leaves two.leaves;
+        headed = λ i lt. HasHeader-first schema (p.files a) first one.leaves.opens two.leaves.opens i all (all_opened p a b first [] one.leaves) (one_at_most name two.leaves.opens two.leaves.unopened two.leaves.inputs_are) lt;
+        refused = λ e. refuses_on schema (p.files a) (p.files b) one.leaves.opens two.leaves.opens _ _ same (λ line. puts_on s o o' o'' line quiet) (two.refused e);
+        unsaid = λ e. refuses_on schema (p.files a) (p.files b) one.leaves.opens two.leaves.opens _ _ same (λ line. fails_on s o o' o'' line quiet) (two.unsaid e);
+        silent = λ e f. silent_on s o o' o'' quiet (two.silent e f);
+        ends = two.ends;
+      }
+
+  -- feeds that are opened leave the files as they were
+  pub same_files : (a b : P) (o o' : O) (names : List (List ℕ)) (stop : Option Stop) → OpensFeeds p s schema a b o o' names stop → p.files b ≡ p.files a
+  same_files a b o o' names stop one = one.leaves.untouched (nothing_made p a b names stop one.leaves)
+
+  -- the first trouble leaves the further feeds unopened
+  pub opens_more : (a b : P) (o o' : O) (names more : List (List ℕ)) (stop : Stop) → OpensFeeds p s schema a b o o' names (Some stop) → OpensFeeds p s schema a b o o' (names ++ more) (Some stop)
+  unfolding leaves_more
+  opens_more a b o o' names more stop one = record {
+    leaves = leaves_more p a b names more [] stop one.leaves;
+    headed = one.headed;
+    refused = one.refused;
+    unsaid = one.unsaid;
+    silent = one.silent;
+    ends = one.ends;
+  }
+
+  -- so it is where `?` hands the trouble on
+  pub opens_residual : (a b : P) (o o' : O) (names first more : List (List ℕ)) (r : Result (Unit {0}) Stop) (stop : Stop) → names ≡ first ++ more → IsErrAnd r (λ e. e ≡ stop) → OpensFeeds p s schema a b o o' first (Some stop)
+      → OpensFeeds p s schema a b o o' names (result_err r)
+  opens_residual a b o o' names first more (Ok x) stop are bad one = absurd bad
+  opens_residual a b o o' names first more (Err e) stop are is one =
+      subst (λ (k : Stop). OpensFeeds p s schema a b o o' names (Some k)) (sym is) (subst (λ (ns : List (List ℕ)). OpensFeeds p s schema a b o o' ns (Some stop)) (sym are) (opens_more a b o o' first more stop one))
+
+  -- and the ones that were opened are given back
+  pub opens_given_back : (a b c : P) (o o' : O) (names : List (List ℕ)) (stop : Option Stop) (counts : List ℕ) → OpensFeeds p s schema a b o o' names stop → TakesSources p b c counts → All (λ n. n ≡ 0) counts
+      → OpensFeeds p s schema a c o o' names stop
+  unfolding leaves_given_back
+  opens_given_back a b c o o' names stop counts one back none = record {
+    leaves = leaves_given_back p a b c names [] stop counts one.leaves back none;
+    headed = one.headed;
+    refused = one.refused;
+    unsaid = one.unsaid;
+    silent = one.silent;
+    ends = one.ends;
+  }

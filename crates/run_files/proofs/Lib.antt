@@ -1,0 +1,6 @@
+mod Apart
+mod Lists
+pub mod Stages
+pub mod Returning
+mod PlanReads
+mod HeadReads

@@ -1,0 +1,156 @@
+-- What one stage of a run leaves, and two after each other.
+use Rattle.std.proofs.Common.{◌≡◌, ◌≢◌, ℕ, List, [], ◌∷◌, ◌++◌, Option, Some, None, Result, Ok, Err, inl, refl, sym, ◌∙◌, ap, subst, append_assoc}
+use Rattle.std.proofs.lemmas.List.{append-nil}
+use Rattle.std.specs.Result.{result_err}
+use Rattle.outer_io.specs.Faults.{Rose}
+use Rattle.outer_io.specs.Files.{Files}
+use Rattle.run_files.specs.Leaving.{KeepsOthers, LeavesPlace}
+use Rattle.run_files.specs.Outside.{PlaceSeen}
+use Rattle.run_files.specs.declared.stop.Stop.{Stop}
+use Rattle.run_files.specs.declared.stop.Stop.TheVariants.{NoMemory, ReadFault}
+
+KeepsOthers-itself : (files : Option Files) (names : List (List ℕ)) → KeepsOthers files files names
+KeepsOthers-itself None names = tt
+KeepsOthers-itself (Some files) names = λ other apart. refl
+
+-- files that are as before keep all others
+pub KeepsOthers-same : (before after : Option Files) (names : List (List ℕ)) → after ≡ before → KeepsOthers before after names
+KeepsOthers-same before after names same = subst (λ files. KeepsOthers before files names) (sym same) (KeepsOthers-itself before names)
+
+-- and so do two that keep others after each other
+pub KeepsOthers-after : (before now after : Option Files) (names : List (List ℕ)) → now ≡ before → KeepsOthers now after names → KeepsOthers before after names
+KeepsOthers-after before now after names same kept = subst (λ files. KeepsOthers files after names) same kept
+
+-- and so do two of which the second keeps all
+pub KeepsOthers-then : (before now after : Option Files) (names : List (List ℕ)) → KeepsOthers before now names → after ≡ now → KeepsOthers before after names
+KeepsOthers-then before now after names kept same = subst (λ files. KeepsOthers before files names) (sym same) kept
+
+-- an answer that is not this fault
+pub not_err : {T : Type 0} (r : Result T Stop) (e : Stop) → r ≢ Err e → result_err r ≢ Some e
+not_err (Ok x) e other = λ is. cc
+not_err (Err f) e other = λ is. other (cc)
+
+pub front_nil : {A : Type 0} (xs ys : List A) → [] ≡ xs ++ ys → xs ≡ []
+front_nil [] ys e = refl
+front_nil (x ∷ xs) ys e = cc
+
+module _ {P : Type 0} (p : PlaceSeen P) where
+  -- a stage that has nothing to create creates nothing
+  pub nothing_made : (a b : P) (inputs : List (List ℕ)) (stop : Option Stop) (stage : LeavesPlace p a b inputs [] stop) → stage.makes ≡ []
+  nothing_made a b inputs stop stage = front_nil stage.makes stage.unmade stage.outputs_are
+
+  -- a stage after which the run goes on opened all its inputs
+  pub all_opened : (a b : P) (inputs outputs : List (List ℕ)) (stage : LeavesPlace p a b inputs outputs None) → inputs ≡ stage.opens
+  all_opened a b inputs outputs stage = stage.inputs_are ∙ (ap (λ u. stage.opens ++ u) (stage.opens_all refl) ∙ append-nil _)
+
+  -- a stage that reads alone, and opened these of its names
+  unfoldable pub leaves_reading : (a b : P) (inputs opens unopened : List (List ℕ)) (stop : Option Stop) → inputs ≡ opens ++ unopened → p.opened b ≡ p.opened a ++ opens → (stop ≡ None → unopened ≡ [])
+      → p.created b ≡ p.created a → p.write_faults b ≡ p.write_faults a → p.files b ≡ p.files a
+      → (stop ≡ Some ReadFault → Rose (p.read_faults a) (p.read_faults b)) → (stop ≢ Some ReadFault → p.read_faults b ≡ p.read_faults a) → LeavesPlace p a b inputs [] stop
+  leaves_reading a b inputs opens unopened stop are opened all created write files read quiet = record {
+    opens = opens;
+    unopened = unopened;
+    inputs_are = are;
+    opened = opened;
+    opens_all = all;
+    makes = [];
+    unmade = [];
+    outputs_are = refl;
+    created = created ∙ sym (append-nil _);
+    makes_all = λ _. refl;
+    opens_first = inl refl;
+    read = read;
+    read_quiet = quiet;
+    unwritten = λ _. write;
+    write_quiet = λ _ _. write;
+    untouched = λ _. files;
+    others = KeepsOthers-same _ _ [] files;
+  }
+
+  -- a stage that opened its one name
+  pub leaves_one : (a b : P) (name : List ℕ) (stop : Option Stop) → p.opened b ≡ p.opened a ++ name ∷ [] → p.created b ≡ p.created a → p.write_faults b ≡ p.write_faults a → p.files b ≡ p.files a
+      → (stop ≡ Some ReadFault → Rose (p.read_faults a) (p.read_faults b)) → (stop ≢ Some ReadFault → p.read_faults b ≡ p.read_faults a) → LeavesPlace p a b (name ∷ []) [] stop
+  leaves_one a b name stop opened = leaves_reading a b (name ∷ []) (name ∷ []) [] stop refl opened (λ _. refl)
+
+  -- a stage that did not open its one name, for want of memory
+  pub leaves_not : (a b : P) (name : List ℕ) → p.opened b ≡ p.opened a → p.created b ≡ p.created a → p.write_faults b ≡ p.write_faults a → p.files b ≡ p.files a → p.read_faults b ≡ p.read_faults a
+      → LeavesPlace p a b (name ∷ []) [] (Some NoMemory)
+  leaves_not a b name opened created write files quiet = leaves_reading a b (name ∷ []) [] (name ∷ []) (Some NoMemory) refl (opened ∙ sym (append-nil _)) (λ e. cc) created write files (λ e. cc) (λ _. quiet)
+
+  -- a stage that leaves the same where something else ends the run with it
+  pub leaves_ended : (a b : P) (inputs : List (List ℕ)) (stop : Option Stop) → stop ≢ Some ReadFault → LeavesPlace p a b inputs [] None → LeavesPlace p a b inputs [] stop
+  leaves_ended a b inputs stop other one =
+      let nothing = front_nil one.makes one.unmade one.outputs_are in
+      leaves_reading a b inputs one.opens one.unopened stop one.inputs_are one.opened (λ _. one.opens_all refl) (one.created ∙ (ap (λ m. p.created a ++ m) nothing ∙ append-nil _))
+      (one.unwritten nothing) (one.untouched nothing) (λ e. absurd (other e)) (λ _. one.read_quiet (λ e. cc))
+
+  -- a stage that opens nothing and creates nothing, where the place is as before
+  pub leaves_as_before : (a : P) (inputs outputs : List (List ℕ)) (stop : Stop) → stop ≢ ReadFault → LeavesPlace p a a inputs outputs (Some stop)
+  leaves_as_before a inputs outputs stop other = record {
+    opens = [];
+    unopened = inputs;
+    inputs_are = refl;
+    opened = sym (append-nil _);
+    opens_all = λ e. cc;
+    makes = [];
+    unmade = outputs;
+    outputs_are = refl;
+    created = sym (append-nil _);
+    makes_all = λ e. cc;
+    opens_first = inl refl;
+    read = λ e. absurd (other (cc));
+    read_quiet = λ _. refl;
+    unwritten = λ _. refl;
+    write_quiet = λ _ _. refl;
+    untouched = λ _. refl;
+    others = KeepsOthers-same _ _ [] refl;
+  }
+
+  -- after a stage that reads alone, and goes on, another leaves what both leave
+  unfoldable pub leaves_then : (a b c : P) (first inputs outputs : List (List ℕ)) (stop : Option Stop) → LeavesPlace p a b first [] None → LeavesPlace p b c inputs outputs stop → LeavesPlace p a c (first ++ inputs) outputs stop
+  leaves_then a b c first inputs outputs stop one two =
+      let nothing = front_nil one.makes one.unmade one.outputs_are in
+      let whole = all_opened a b first [] one in
+      record {
+        opens = one.opens ++ two.opens;
+        unopened = two.unopened;
+        inputs_are = ap (λ f. f ++ inputs) whole ∙ (ap (λ i. one.opens ++ i) two.inputs_are ∙ sym (append_assoc one.opens two.opens two.unopened));
+        opened = two.opened ∙ (ap (λ o. o ++ two.opens) one.opened ∙ append_assoc (p.opened a) one.opens two.opens);
+        opens_all = two.opens_all;
+        makes = two.makes;
+        unmade = two.unmade;
+        outputs_are = two.outputs_are;
+        created = two.created ∙ ap (λ m. m ++ two.makes) (one.created ∙ (ap (λ m. p.created a ++ m) nothing ∙ append-nil _));
+        makes_all = two.makes_all;
+        opens_first = two.opens_first;
+        read = λ e. subst (λ n. Rose n (p.read_faults c)) (one.read_quiet (λ e. cc)) (two.read e);
+        read_quiet = λ e. two.read_quiet e ∙ one.read_quiet (λ e. cc);
+        unwritten = λ e. two.unwritten e ∙ one.unwritten nothing;
+        write_quiet = λ e f. two.write_quiet e f ∙ one.unwritten nothing;
+        untouched = λ e. two.untouched e ∙ one.untouched nothing;
+        others = KeepsOthers-after _ _ _ _ (one.untouched nothing) two.others;
+      }
+
+  -- a stage that ends the run has also opened those from the front of more names, and created those of more, where nothing was created before
+  unfoldable pub leaves_more : (a b : P) (inputs more outputs : List (List ℕ)) (stop : Stop) → LeavesPlace p a b inputs [] (Some stop) → LeavesPlace p a b (inputs ++ more) outputs (Some stop)
+  leaves_more a b inputs more outputs stop one =
+      let nothing = front_nil one.makes one.unmade one.outputs_are in
+      record {
+        opens = one.opens;
+        unopened = one.unopened ++ more;
+        inputs_are = ap (λ i. i ++ more) one.inputs_are ∙ append_assoc one.opens one.unopened more;
+        opened = one.opened;
+        opens_all = λ e. cc;
+        makes = [];
+        unmade = outputs;
+        outputs_are = refl;
+        created = one.created ∙ ap (λ m. p.created a ++ m) nothing;
+        makes_all = λ e. cc;
+        opens_first = inl refl;
+        read = one.read;
+        read_quiet = one.read_quiet;
+        unwritten = λ _. one.unwritten nothing;
+        write_quiet = one.write_quiet;
+        untouched = λ _. one.untouched nothing;
+        others = KeepsOthers-same _ _ [] (one.untouched nothing);
+      }

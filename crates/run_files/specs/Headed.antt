@@ -1,0 +1,61 @@
+-- Feeds whose headers were read, and what opening them answers and puts.
+use Rattle.std.specs.Prelude.{◌≡◌, ◌≢◌, ℕ, ◌+◌, ◌<◌, List, [], ◌∷◌, ◌++◌, get_or, length, Option, Some, Err, IsOk}
+use Rattle.cube_view.specs.declared.schema.Schema.{Schema}
+use Rattle.feed_reader.specs.Feeds.{feed_head}
+use Rattle.feed_reader.specs.Reading.{LeavesAccepted, ReadsHeader}
+use Rattle.feed_reader.specs.declared.header.HeadFault.{HeadFault}
+use Rattle.feed_reader.specs.declared.header.HeadFault.TheVariants as head
+use Rattle.outer_io.specs.Cutting.{Cutter, IsNew}
+use Rattle.outer_io.specs.Told.{Told}
+use Rattle.run_files.specs.FaultTexts.{feed_line}
+use Rattle.run_files.specs.Leaving.{LeavesPlace}
+use Rattle.run_files.specs.Outside.{FailsToPut, file_of, PlaceSeen, Puts, Silent, SinkSeen}
+use Rattle.run_files.specs.declared.feeds.HeadedFeed.{HeadedFeed}
+use Rattle.run_files.specs.declared.stop.Stop.{Stop}
+use Rattle.run_files.specs.declared.stop.Stop.TheVariants.{PlanRefused, WriteFault, FeedRefused}
+
+module _ {S : Type 0} (left : S → Option (List ℕ)) (faults : S → ℕ) (schema : Schema) where
+  -- a cutter was made of the source, and gave its first line, which is the header
+  pub record ReadsHead (source : S) (feed : HeadedFeed (Cutter S)) : Type 0 where
+    pub before : Cutter S
+    pub made : IsNew source before
+    pub header : ReadsHeader left faults schema before feed.cutter feed.header.places
+    pub accepted : LeavesAccepted left schema feed.header.places before feed.cutter
+    pub schema_is : feed.header.schema ≡ schema
+
+  -- and so it is of a source that met no fault and has the bytes of the file, where they are told
+  pub record IsHeaded (file : Option (List ℕ)) (feed : HeadedFeed (Cutter S)) : Type 0 where
+    pub source : S
+    pub left_is : Told file (λ bytes. left source ≡ Some bytes)
+    pub fresh : faults source ≡ 0
+    pub reads : ReadsHead source feed
+
+-- the first line of the feed is no header, for a fault other than want of memory, of which this is said
+pub record RefusesHead (schema : Schema) (file : Option (List ℕ)) (name : List ℕ) (Says : List ℕ → Type 0) : Type 0 where
+  pub fault : HeadFault
+  pub of_line : fault ≢ head.NoMemory
+  pub refused : Told file (λ feed. feed_head schema feed ≡ Err fault)
+  pub says : Says (feed_line schema name fault)
+
+-- of these feeds the last is refused
+pub record RefusesLast (schema : Schema) (file : List ℕ → Option (List ℕ)) (names : List (List ℕ)) (Says : List ℕ → Type 0) : Type 0 where
+  pub earlier : List (List ℕ)
+  pub name : List ℕ
+  pub names_are : names ≡ earlier ++ name ∷ []
+  pub refuses : RefusesHead schema (file name) name Says
+
+-- the first line of the feed is a header, where it is told
+abbrev pub HasHeader : Schema → Option (List ℕ) → Type 0
+HasHeader schema file = Told file (λ feed. IsOk (feed_head schema feed))
+
+-- What opening feeds and reading their headers leaves of a place and a sink, by what ends the run with it, if it does
+pub record OpensFeeds {P O : Type 0} (p : PlaceSeen P) (s : SinkSeen O) (schema : Schema) (place place' : P) (out out' : O) (names : List (List ℕ)) (stop : Option Stop) : Type 0 where
+  pub leaves : LeavesPlace p place place' names [] stop
+  -- the first trouble ends the run: each feed that was opened before another one has a header
+  pub headed : (i : ℕ) → i + 1 < length leaves.opens → HasHeader schema (file_of (p.files place) (get_or leaves.opens i []))
+  -- the one that was opened last is refused, which is said, or a part of it where the put fails
+  pub refused : stop ≡ Some FeedRefused → RefusesLast schema (file_of (p.files place)) leaves.opens (Puts s out out')
+  pub unsaid : stop ≡ Some WriteFault → RefusesLast schema (file_of (p.files place)) leaves.opens (FailsToPut s out out')
+  -- else nothing is put
+  pub silent : stop ≢ Some FeedRefused → stop ≢ Some WriteFault → Silent s out out'
+  pub ends : stop ≢ Some PlanRefused

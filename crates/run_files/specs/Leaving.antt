@@ -1,0 +1,40 @@
+-- What a stage of a run leaves of a place.
+use Rattle.std.specs.Prelude.{◌≡◌, ◌≢◌, ℕ, List, [], ◌++◌, Contains, Option, Some, None, IsSomeAnd, ◌⊎◌}
+use Rattle.std.specs.FinMap.{get}
+use Rattle.outer_io.specs.Faults.{Rose}
+use Rattle.outer_io.specs.Files.{Files}
+use Rattle.outer_io.specs.Told.{Told}
+use Rattle.run_files.specs.Outside.{PlaceSeen}
+use Rattle.run_files.specs.declared.stop.Stop.{Stop}
+use Rattle.run_files.specs.declared.stop.Stop.TheVariants.{NoMemory, ReadFault, WriteFault}
+
+-- files that were told are told still, and only files of these names may have changed
+abbrev pub KeepsOthers : Option Files → Option Files → List (List ℕ) → Type 0
+KeepsOthers before after names = Told before (λ files. IsSomeAnd after (λ now. (other : List ℕ) → ¬ Contains names other → get now other ≡ get files other))
+
+-- What a stage leaves of a place, which is to open and then to create these names, by what ends the run with it, if it
+-- does. The stages of a run follow each other, so this is also what several of them leave, of all their names.
+pub record LeavesPlace {P : Type 0} (p : PlaceSeen P) (before after : P) (inputs outputs : List (List ℕ)) (stop : Option Stop) : Type 0 where
+  -- some of the inputs were opened, from the front, each once; all where the run goes on
+  pub opens : List (List ℕ)
+  pub unopened : List (List ℕ)
+  pub inputs_are : inputs ≡ opens ++ unopened
+  pub opened : p.opened after ≡ p.opened before ++ opens
+  pub opens_all : stop ≡ None → unopened ≡ []
+  -- some of the outputs were created, from the front, each once; all where the run goes on
+  pub makes : List (List ℕ)
+  pub unmade : List (List ℕ)
+  pub outputs_are : outputs ≡ makes ++ unmade
+  pub created : p.created after ≡ p.created before ++ makes
+  pub makes_all : stop ≡ None → unmade ≡ []
+  -- none before all inputs were opened
+  pub opens_first : (makes ≡ []) ⊎ (unopened ≡ [])
+  -- the count of reading rose where a read fault ends the run, and else is as before
+  pub read : stop ≡ Some ReadFault → Rose (p.read_faults before) (p.read_faults after)
+  pub read_quiet : stop ≢ Some ReadFault → p.read_faults after ≡ p.read_faults before
+  -- the count of writing is as before where nothing was created, and where neither a write fault nor want of memory ends the run
+  pub unwritten : makes ≡ [] → p.write_faults after ≡ p.write_faults before
+  pub write_quiet : stop ≢ Some WriteFault → stop ≢ Some NoMemory → p.write_faults after ≡ p.write_faults before
+  -- the files are as before where nothing was created, and every file that was not created is
+  pub untouched : makes ≡ [] → p.files after ≡ p.files before
+  pub others : KeepsOthers (p.files before) (p.files after) makes

@@ -1,0 +1,54 @@
+-- The place and the sink of a run as contracts see them.
+use Rattle.std.specs.Prelude.{◌≡◌, ℕ, List, Option, option_map}
+use Rattle.outer_io.specs.Bytes.{Gains, GainsPart}
+use Rattle.outer_io.specs.Faults.{Rose}
+use Rattle.outer_io.specs.Files.{Files, file_or_empty}
+
+-- what contracts see of a place
+pub record PlaceSeen (P : Type 0) : Type 0 where
+  -- the bytes of its files by name, where it tells them
+  pub files : P → Option Files
+  -- how many of its reads and of its writes failed
+  pub read_faults : P → ℕ
+  pub write_faults : P → ℕ
+  -- the names that it was asked to open and to create, in order
+  pub opened : P → List (List ℕ)
+  pub created : P → List (List ℕ)
+
+-- the bytes of the file of that name, where the files are told; none where there is no such file
+abbrev pub file_of : Option Files → List ℕ → Option (List ℕ)
+file_of files name = option_map (λ told. file_or_empty told name) files
+
+-- what contracts see of a sink
+pub record SinkSeen (O : Type 0) : Type 0 where
+  -- the bytes that it holds, where it tells them
+  pub held : O → Option (List ℕ)
+  -- how many of its puts failed
+  pub faults : O → ℕ
+  pub name : O → List ℕ
+
+-- a place with these meanings, and a sink
+abbrev pub seen_place : {P : Type 0} → (P → Option Files) → (P → ℕ) → (P → ℕ) → (P → List (List ℕ)) → (P → List (List ℕ)) → PlaceSeen P
+seen_place files read_faults write_faults opened created = record { files = files; read_faults = read_faults; write_faults = write_faults; opened = opened; created = created }
+
+abbrev pub seen_sink : {O : Type 0} → (O → Option (List ℕ)) → (O → ℕ) → (O → List ℕ) → SinkSeen O
+seen_sink held faults name = record { held = held; faults = faults; name = name }
+
+module _ {O : Type 0} (s : SinkSeen O) (before after : O) where
+  -- nothing was put into the sink, and no put failed
+  pub record Silent : Type 0 where
+    pub held : s.held after ≡ s.held before
+    pub faults : s.faults after ≡ s.faults before
+    pub name : s.name after ≡ s.name before
+
+  -- the bytes were put into the sink
+  pub record Puts (bytes : List ℕ) : Type 0 where
+    pub held : Gains (s.held before) (s.held after) bytes
+    pub faults : s.faults after ≡ s.faults before
+    pub name : s.name after ≡ s.name before
+
+  -- a put of the bytes failed, of which a part from the front was put
+  pub record FailsToPut (bytes : List ℕ) : Type 0 where
+    pub held : GainsPart (s.held before) (s.held after) bytes
+    pub faults : Rose (s.faults before) (s.faults after)
+    pub name : s.name after ≡ s.name before

@@ -1,0 +1,37 @@
+-- What reading a run's plan answers and puts.
+use Rattle.std.specs.Prelude.{◌≡◌, ◌≢◌, ℕ, List, Option, Result, Ok, Err, IfOk, IfErr, IsErrOf, ◌⊎◌}
+use Rattle.cube_schema.specs.Drafts.{draft_of}
+use Rattle.cube_schema.specs.Files.{NamesFiles}
+use Rattle.cube_schema.specs.Meaning.{plan_meaning, IsPrintable}
+use Rattle.cube_schema.specs.declared.fault.PlanFault.{PlanFault}
+use Rattle.cube_schema.specs.declared.fault.PlanFault.TheVariants as plan
+use Rattle.cube_schema.specs.declared.plan.Plan.{Plan}
+use Rattle.outer_io.specs.Told.{Told}
+use Rattle.run_files.specs.FaultTexts.{plan_line}
+use Rattle.run_files.specs.Outside.{FailsToPut, Puts, Silent, SinkSeen}
+use Rattle.run_files.specs.declared.stop.Stop.{Stop}
+use Rattle.run_files.specs.declared.stop.Stop.TheVariants as stop
+
+-- the plan is what the bytes mean, where they are told; it can be printed, and names no file twice
+pub record IsPlanOf (file : Option (List ℕ)) (plan : Plan) : Type 0 where
+  pub meaning : Told file (λ bytes. plan_meaning bytes ≡ Ok (draft_of plan))
+  pub printable : IsPrintable plan
+  pub files : NamesFiles plan
+
+-- the bytes meet a fault other than want of memory, and the line that says which was put, or a part of it where the put failed
+pub record RefusesPlan {O : Type 0} (s : SinkSeen O) (out out' : O) (file : Option (List ℕ)) : Type 0 where
+  pub fault : PlanFault
+  pub of_bytes : fault ≢ plan.NoMemory
+  pub meaning : Told file (λ bytes. plan_meaning bytes ≡ Err fault)
+  pub says : Puts s out out' (plan_line fault) ⊎ FailsToPut s out out' (plan_line fault)
+
+-- What a run's first stage answers, which reads these bytes as its plan, and what it puts into a sink
+pub record ReadsPlan {O : Type 0} (s : SinkSeen O) (out out' : O) (file : Option (List ℕ)) (result : Result Plan Stop) : Type 0 where
+  -- a plan is answered where they are one
+  pub plan : IfOk result (IsPlanOf file)
+  -- they are refused where they are none, which is said
+  pub refused : IsErrOf result stop.PlanRefused → RefusesPlan s out out' file
+  -- else nothing is put
+  pub silent : result ≢ Err stop.PlanRefused → Silent s out out'
+  -- and what ends the run is else a read fault or want of memory
+  pub ends : IfErr result (λ end. (end ≢ stop.WriteFault) × (end ≢ stop.FeedRefused))

@@ -1,0 +1,36 @@
+-- Why a run ends, and which cause is answered where several hold.
+use Rattle.std.specs.Prelude.{ℕ, nat_lt, if◌then◌else◌, Result, Ok, Err}
+use Rattle.outer_io.specs.declared.fault.IoFault.{IoFault}
+use Rattle.outer_io.specs.declared.fault.IoFault.TheVariants as fault
+use Rattle.run_files.specs.declared.stop.Stop.{Stop}
+use Rattle.run_files.specs.declared.stop.Stop.TheVariants.{NoMemory, PlanRefused, ReadFault, WriteFault, FeedRefused}
+
+-- the order in which the causes are answered where several hold: the least comes first
+abbrev pub rank_of : Stop → ℕ
+rank_of NoMemory = 0
+rank_of PlanRefused = 1
+rank_of ReadFault = 2
+rank_of WriteFault = 3
+rank_of FeedRefused = 4
+
+-- the cause of two that is answered
+abbrev pub earlier : Stop → Stop → Stop
+earlier one other = if nat_lt (rank_of other) (rank_of one) then other else one
+
+-- how two things end that were both done
+abbrev pub joined : Result (Unit {0}) Stop → Result (Unit {0}) Stop → Result (Unit {0}) Stop
+joined (Ok done) end = end
+joined (Err one) (Ok done) = Err one
+joined (Err one) (Err other) = Err (earlier one other)
+
+-- how a run ends by what opening or reading a file answered, if it ends
+abbrev pub read_end : {T : Type 0} → Result T IoFault → Result T Stop
+read_end (Ok x) = Ok x
+read_end (Err fault.Failed) = Err ReadFault
+read_end (Err fault.NoMemory) = Err NoMemory
+
+-- and by what creating a file or giving it back answered
+abbrev pub write_end : {T : Type 0} → Result T IoFault → Result T Stop
+write_end (Ok x) = Ok x
+write_end (Err fault.Failed) = Err WriteFault
+write_end (Err fault.NoMemory) = Err NoMemory

@@ -1,0 +1,44 @@
+//! Parts given back to their place, in the order in which they were made. A failure stops none of the later ones.
+ghost use Rattle.std.specs.Prelude.{map};
+ghost use Rattle.run_files.specs.GivingBack.{TakesSources};
+ghost use Rattle.run_files.specs.Outside.{seen_place};
+
+use crate::HeadedFeed;
+use outer_io::{LineCutter, Place};
+
+/// Gives sources back.
+pub fn give_back_sources<P: Place>(place: &mut P, mut sources: Vec<P::In>)
+    ensures { TakesSources (seen_place P.files P.read_faults P.write_faults P.opened P.created) place.old place.new (map P.In.faults sources.items) }
+{
+    let Some(last) = sources.pop() else {
+        sources.destroy_empty();
+        return;
+    };
+    give_back_sources(place, sources);
+    place.give_back_in(last);
+}
+
+/// Gives the sources of cutters back.
+pub fn give_back_cutters<P: Place>(place: &mut P, mut cutters: Vec<LineCutter<P::In>>)
+    ensures { TakesSources (seen_place P.files P.read_faults P.write_faults P.opened P.created) place.old place.new (map (λ c. P.In.faults c.source) cutters.items) }
+{
+    let Some(last) = cutters.pop() else {
+        cutters.destroy_empty();
+        return;
+    };
+    give_back_cutters(place, cutters);
+    place.give_back_in(last.into_source());
+}
+
+/// Gives the sources of feeds back.
+pub fn give_back_feeds<P: Place>(place: &mut P, mut feeds: Vec<HeadedFeed<LineCutter<P::In>>>)
+    ensures { TakesSources (seen_place P.files P.read_faults P.write_faults P.opened P.created) place.old place.new (map (λ f. P.In.faults f.cutter.source) feeds.items) }
+{
+    let Some(last) = feeds.pop() else {
+        feeds.destroy_empty();
+        return;
+    };
+    give_back_feeds(place, feeds);
+    let HeadedFeed { cutter, header: _ } = last;
+    place.give_back_in(cutter.into_source());
+}

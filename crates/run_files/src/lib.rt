@@ -1,0 +1,14 @@
+//! What a run of a plan does with its files before its threads start and after they ended: the plan is read, the feeds
+//! are opened and their headers read, the scripts are opened and the outputs created, and all parts are given back.
+#![tactic(auto)]
+
+mod fault_text;
+mod feeds;
+mod giving_back;
+mod loading;
+mod stop;
+
+pub use feeds::{HeadedFeed, open_feeds};
+pub use giving_back::{give_back_cutters, give_back_feeds, give_back_sources};
+pub use loading::{load_plan, read_file};
+pub use stop::{Stop, joined};

@@ -1,0 +1,66 @@
+//! Why a run ends.
+ghost use Rattle.std.specs.Prelude.{◌≡◌};
+ghost use Rattle.run_files.specs.Stops.{joined, rank_of, read_end, write_end};
+
+use outer_io::IoFault;
+
+/// Why a run ends without doing all that it was told. Where several hold, the first in the order written is answered.
+#[derive(Clone, Copy, PartialEq, Eq, Debug)]
+pub enum Stop {
+    /// Memory was wanted and there was none.
+    NoMemory,
+    /// The plan was read and is none.
+    PlanRefused,
+    /// A file could not be opened or read.
+    ReadFault,
+    /// A file could not be created or written, or the output not be put.
+    WriteFault,
+    /// A feed was refused.
+    FeedRefused,
+}
+
+// Its place in the order.
+fn rank(stop: Stop) -> u8
+    ensures { result ≡ rank_of stop }
+{
+    match stop {
+        Stop::NoMemory => 0,
+        Stop::PlanRefused => 1,
+        Stop::ReadFault => 2,
+        Stop::WriteFault => 3,
+        Stop::FeedRefused => 4,
+    }
+}
+
+/// How two things end that were both done: well where both did, else by the trouble that comes first in the order.
+pub fn joined(first: Result<(), Stop>, second: Result<(), Stop>) -> Result<(), Stop>
+    ensures { result ≡ joined first second }
+{
+    match (first, second) {
+        (Ok(()), end) => end,
+        (end, Ok(())) => end,
+        (Err(one), Err(other)) => Err(if rank(other) < rank(one) { other } else { one }),
+    }
+}
+
+/// What opening or reading a file answered, as a stage of a run answers it.
+pub(crate) fn read_end<T>(read: Result<T, IoFault>) -> Result<T, Stop>
+    ensures { result ≡ read_end read }
+{
+    match read {
+        Ok(given) => Ok(given),
+        Err(IoFault::Failed) => Err(Stop::ReadFault),
+        Err(IoFault::NoMemory) => Err(Stop::NoMemory),
+    }
+}
+
+/// What creating a file or giving it back answered, as a stage of a run answers it.
+pub(crate) fn write_end<T>(written: Result<T, IoFault>) -> Result<T, Stop>
+    ensures { result ≡ write_end written }
+{
+    match written {
+        Ok(given) => Ok(given),
+        Err(IoFault::Failed) => Err(Stop::WriteFault),
+        Err(IoFault::NoMemory) => Err(Stop::NoMemory),
+    }
+}
