@@ -4,3 +4,5 @@ pub mod Stages
 pub mod Returning
 mod PlanReads
 mod HeadReads
+mod ScriptReads
+mod SinkReturns

@@ -1,6 +1,7 @@
 -- What one stage of a run leaves, and two after each other.
-use Rattle.std.proofs.Common.{◌≡◌, ◌≢◌, ℕ, List, [], ◌∷◌, ◌++◌, Option, Some, None, Result, Ok, Err, inl, refl, sym, ◌∙◌, ap, subst, append_assoc}
+use Rattle.std.proofs.Common.{◌≡◌, ◌≢◌, ℕ, List, [], ◌∷◌, ◌++◌, Option, Some, None, Result, Ok, Err, inl, inr, refl, sym, ◌∙◌, ap, subst, append_assoc}
 use Rattle.std.proofs.lemmas.List.{append-nil}
+use Rattle.std.proofs.lemmas.List.Elements.{Contains-append_left, Contains-append_right}
 use Rattle.std.specs.Result.{result_err}
 use Rattle.outer_io.specs.Faults.{Rose}
 use Rattle.outer_io.specs.Files.{Files}
@@ -9,7 +10,7 @@ use Rattle.run_files.specs.Outside.{PlaceSeen}
 use Rattle.run_files.specs.declared.stop.Stop.{Stop}
 use Rattle.run_files.specs.declared.stop.Stop.TheVariants.{NoMemory, ReadFault}
 
-KeepsOthers-itself : (files : Option Files) (names : List (List ℕ)) → KeepsOthers files files names
+pub KeepsOthers-itself : (files : Option Files) (names : List (List ℕ)) → KeepsOthers files files names
 KeepsOthers-itself None names = tt
 KeepsOthers-itself (Some files) names = λ other apart. refl
 
@@ -33,6 +34,18 @@ not_err (Err f) e other = λ is. other (cc)
 pub front_nil : {A : Type 0} (xs ys : List A) → [] ≡ xs ++ ys → xs ≡ []
 front_nil [] ys e = refl
 front_nil (x ∷ xs) ys e = cc
+
+pub back_nil : {A : Type 0} (xs ys : List A) → xs ++ ys ≡ [] → ys ≡ []
+back_nil [] ys e = e
+back_nil (x ∷ xs) ys e = cc
+
+-- two that keep the others of their names keep the others of all
+pub KeepsOthers-more : (before now after : Option Files) (names more : List (List ℕ)) → KeepsOthers before now names → KeepsOthers now after more → KeepsOthers before after (names ++ more)
+KeepsOthers-more None now after names more one two = tt
+KeepsOthers-more (Some files) None after names more one two = absurd one
+KeepsOthers-more (Some files) (Some now) None names more one two = absurd two
+KeepsOthers-more (Some files) (Some now) (Some last) names more one two =
+    λ other apart. two other (λ c. apart (Contains-append_right names more other c)) ∙ one other (λ c. apart (Contains-append_left names more other c))
 
 module _ {P : Type 0} (p : PlaceSeen P) where
   -- a stage that has nothing to create creates nothing
@@ -154,3 +167,50 @@ module _ {P : Type 0} (p : PlaceSeen P) where
         untouched = λ _. one.untouched nothing;
         others = KeepsOthers-same _ _ [] (one.untouched nothing);
       }
+
+  -- after stages that opened all, and go on, another that only creates leaves what they leave together
+  unfoldable pub leaves_and_creates : (a b c : P) (inputs first outputs : List (List ℕ)) (stop : Option Stop) → LeavesPlace p a b inputs first None → LeavesPlace p b c [] outputs stop → LeavesPlace p a c inputs (first ++ outputs) stop
+  leaves_and_creates a b c inputs first outputs stop one two =
+      let none_opened = front_nil two.opens two.unopened two.inputs_are in
+      let whole : first ≡ one.makes = one.outputs_are ∙ (ap (λ u. one.makes ++ u) (one.makes_all refl) ∙ append-nil _) in
+      record {
+        opens = one.opens;
+        unopened = one.unopened;
+        inputs_are = one.inputs_are;
+        opened = two.opened ∙ (ap (λ o. p.opened b ++ o) none_opened ∙ (append-nil _ ∙ one.opened));
+        opens_all = λ _. one.opens_all refl;
+        makes = one.makes ++ two.makes;
+        unmade = two.unmade;
+        outputs_are = ap (λ f. f ++ outputs) whole ∙ (ap (λ o. one.makes ++ o) two.outputs_are ∙ sym (append_assoc one.makes two.makes two.unmade));
+        created = two.created ∙ (ap (λ o. o ++ two.makes) one.created ∙ append_assoc (p.created a) one.makes two.makes);
+        makes_all = two.makes_all;
+        opens_first = inr (one.opens_all refl);
+        read = λ e. subst (λ n. Rose n (p.read_faults c)) (one.read_quiet (λ e. cc)) (two.read e);
+        read_quiet = λ e. two.read_quiet e ∙ one.read_quiet (λ e. cc);
+        unwritten = λ e. two.unwritten (back_nil one.makes two.makes e) ∙ one.write_quiet (λ e. cc) (λ e. cc);
+        write_quiet = λ e f. two.write_quiet e f ∙ one.write_quiet (λ e. cc) (λ e. cc);
+        untouched = λ e. two.untouched (back_nil one.makes two.makes e) ∙ one.untouched (front_nil one.makes two.makes (sym e));
+        others = KeepsOthers-more _ _ _ one.makes two.makes one.others two.others;
+      }
+
+  -- a stage that ends the run has created those from the front of more names
+  pub leaves_unmade : (a b : P) (inputs outputs more : List (List ℕ)) (stop : Stop) → LeavesPlace p a b inputs outputs (Some stop) → LeavesPlace p a b inputs (outputs ++ more) (Some stop)
+  leaves_unmade a b inputs outputs more stop one = record {
+    opens = one.opens;
+    unopened = one.unopened;
+    inputs_are = one.inputs_are;
+    opened = one.opened;
+    opens_all = one.opens_all;
+    makes = one.makes;
+    unmade = one.unmade ++ more;
+    outputs_are = ap (λ o. o ++ more) one.outputs_are ∙ append_assoc one.makes one.unmade more;
+    created = one.created;
+    makes_all = λ e. cc;
+    opens_first = one.opens_first;
+    read = one.read;
+    read_quiet = one.read_quiet;
+    unwritten = one.unwritten;
+    write_quiet = one.write_quiet;
+    untouched = one.untouched;
+    others = one.others;
+  }

@@ -5,3 +5,4 @@ pub mod GivingBack
 pub mod FaultTexts
 pub mod Planned
 pub mod Headed
+pub mod Scripted

@@ -1,9 +1,10 @@
 //! Parts given back to their place, in the order in which they were made. A failure stops none of the later ones.
 ghost use Rattle.std.specs.Prelude.{map};
-ghost use Rattle.run_files.specs.GivingBack.{TakesSources};
-ghost use Rattle.run_files.specs.Outside.{seen_place};
+ghost use Rattle.run_files.specs.GivingBack.{TakesSinks, TakesSources};
+ghost use Rattle.run_files.specs.Outside.{seen_place, seen_sink};
 
-use crate::HeadedFeed;
+use crate::stop::write_end;
+use crate::{HeadedFeed, Stop, joined};
 use outer_io::{LineCutter, Place};
 
 /// Gives sources back.
@@ -41,4 +42,17 @@ pub fn give_back_feeds<P: Place>(place: &mut P, mut feeds: Vec<HeadedFeed<LineCu
     give_back_feeds(place, feeds);
     let HeadedFeed { cutter, header: _ } = last;
     place.give_back_in(cutter.into_source());
+}
+
+/// Gives sinks back, and says how that ended: by what comes first in the order of what went wrong.
+pub fn give_back_sinks<P: Place>(place: &mut P, mut sinks: Vec<P::Out>) -> Result<(), Stop>
+    ensures { TakesSinks (seen_place P.files P.read_faults P.write_faults P.opened P.created) (seen_sink P.Out.held P.Out.faults P.Out.name) place.old place.new sinks.items result }
+{
+    let Some(last) = sinks.pop() else {
+        sinks.destroy_empty();
+        return Ok(());
+    };
+    let earlier = give_back_sinks(place, sinks);
+    let end = place.give_back_out(last);
+    joined(earlier, write_end(end))
 }

@@ -6,9 +6,11 @@ mod fault_text;
 mod feeds;
 mod giving_back;
 mod loading;
+mod scripts;
 mod stop;
 
 pub use feeds::{HeadedFeed, open_feeds};
-pub use giving_back::{give_back_cutters, give_back_feeds, give_back_sources};
+pub use giving_back::{give_back_cutters, give_back_feeds, give_back_sinks, give_back_sources};
 pub use loading::{load_plan, read_file};
-pub use stop::{Stop, joined};
+pub use scripts::{create_file, create_outputs, open_scripts};
+pub use stop::{Stop, ended_after, joined};

@@ -1,6 +1,6 @@
 //! Why a run ends.
-ghost use Rattle.std.specs.Prelude.{◌≡◌};
-ghost use Rattle.run_files.specs.Stops.{joined, rank_of, read_end, write_end};
+ghost use Rattle.std.specs.Prelude.{◌≡◌, Err};
+ghost use Rattle.run_files.specs.Stops.{earlier, joined, rank_of, read_end, write_end};
 
 use outer_io::IoFault;
 
@@ -32,6 +32,13 @@ fn rank(stop: Stop) -> u8
     }
 }
 
+// The cause of two that is answered.
+fn earlier(one: Stop, other: Stop) -> Stop
+    ensures { result ≡ earlier one other }
+{
+    if rank(other) < rank(one) { other } else { one }
+}
+
 /// How two things end that were both done: well where both did, else by the trouble that comes first in the order.
 pub fn joined(first: Result<(), Stop>, second: Result<(), Stop>) -> Result<(), Stop>
     ensures { result ≡ joined first second }
@@ -39,7 +46,17 @@ pub fn joined(first: Result<(), Stop>, second: Result<(), Stop>) -> Result<(), S
     match (first, second) {
         (Ok(()), end) => end,
         (end, Ok(())) => end,
-        (Err(one), Err(other)) => Err(if rank(other) < rank(one) { other } else { one }),
+        (Err(one), Err(other)) => Err(earlier(one, other)),
+    }
+}
+
+/// How a run ends that was to end so, after what it had was given back.
+pub fn ended_after(stop: Stop, given: Result<(), Stop>) -> Stop
+    ensures { joined (Err stop) given ≡ Err result }
+{
+    match given {
+        Ok(()) => stop,
+        Err(other) => earlier(stop, other),
     }
 }
 

@@ -1,0 +1,30 @@
+-- Scripts that were opened, the outputs that were created for them, and what both leave.
+use Rattle.std.specs.Prelude.{◌≡◌, ◌≢◌, ℕ, List, [], All, Option, Some}
+use Rattle.outer_io.specs.Cutting.{Cutter, IsNew}
+use Rattle.outer_io.specs.Faults.{Rose}
+use Rattle.outer_io.specs.Files.{Files, HasFile}
+use Rattle.outer_io.specs.Told.{Told}
+use Rattle.run_files.specs.Leaving.{LeavesPlace}
+use Rattle.run_files.specs.Outside.{PlaceSeen, SinkSeen}
+use Rattle.run_files.specs.declared.stop.Stop.{Stop}
+use Rattle.run_files.specs.declared.stop.Stop.TheVariants.{PlanRefused, WriteFault, FeedRefused}
+
+-- a cutter that has given nothing, over a source that met no fault and has the bytes of the file, where they are told
+pub record IsScript {S : Type 0} (left : S → Option (List ℕ)) (faults : S → ℕ) (file : Option (List ℕ)) (cutter : Cutter S) : Type 0 where
+  pub is_new : IsNew cutter.source cutter
+  pub left_is : Told file (λ bytes. left cutter.source ≡ Some bytes)
+  pub fresh : faults cutter.source ≡ 0
+
+-- a sink of that name that met no fault and holds nothing, where the place tells its files
+pub record IsOutput {O : Type 0} (s : SinkSeen O) (files : Option Files) (name : List ℕ) (sink : O) : Type 0 where
+  pub name_is : s.name sink ≡ name
+  pub fresh : s.faults sink ≡ 0
+  pub holds_nothing : Told files (λ _. s.held sink ≡ Some [])
+
+-- What opening scripts and creating outputs leaves of a place, by what ends the run with it, if it does
+pub record OpensScripts {P : Type 0} (p : PlaceSeen P) (before after : P) (inputs outputs : List (List ℕ)) (stop : Option Stop) : Type 0 where
+  pub leaves : LeavesPlace p before after inputs outputs stop
+  -- a write fault has its cause
+  pub write : stop ≡ Some WriteFault → Rose (p.write_faults before) (p.write_faults after)
+  -- no other end comes than those of the place and want of memory
+  pub ends : (stop ≢ Some PlanRefused) × (stop ≢ Some FeedRefused)

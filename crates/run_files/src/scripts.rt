@@ -1,0 +1,160 @@
+//! The scripts of a run: all are opened, and then the files for their replies are created, and last the journal.
+ghost use Rattle.std.specs.Prelude.{◌≡◌, ◌≢◌, ◌≤◌, Err, ℕ, List, [], ◌∷◌, ◌++◌, All, IfOk, OnOk, codes, map, length, vec_len, vec_capacity};
+ghost use Rattle.std.specs.Result.{result_err};
+ghost use Rattle.cube_schema.specs.Repeats.{outputs};
+ghost use Rattle.std.specs.List.{AllZip};
+ghost use Rattle.outer_io.specs.Files.{HasFile};
+ghost use Rattle.run_files.specs.Outside.{file_of, seen_place, seen_sink};
+ghost use Rattle.run_files.specs.Scripted.{IsOutput, IsScript, OpensScripts};
+
+use crate::giving_back::{give_back_cutters, give_back_sinks};
+use crate::{Stop, ended_after};
+use outer_io::{IoFault, LineCutter, List, NoMemory, Place, Text};
+use std::alloc::Global;
+
+// The script of that name, cut into lines, or how the run ends, its source given back.
+fn open_script<P: Place>(
+    alloc: Global,
+    name: &str,
+    place: &mut P,
+) -> Result<LineCutter<P::In>, Stop>
+    ensures opens { OpensScripts (seen_place P.files P.read_faults P.write_faults P.opened P.created) place.old place.new (name.now ∷ []) [] (result_err result) }
+    ensures script { IfOk result (IsScript P.In.left P.In.faults (file_of (P.files place.old) name.now)) }
+{
+    match place.open(name) {
+        Ok(source) => match LineCutter::new(alloc, source) {
+            Ok(cutter) => Ok(cutter),
+            Err(source) => {
+                place.give_back_in(source);
+                Err(Stop::NoMemory)
+            }
+        },
+        Err(IoFault::Failed) => Err(Stop::ReadFault),
+        Err(IoFault::NoMemory) => Err(Stop::NoMemory),
+    }
+}
+
+// Opens the scripts of those names into a list that has room for them.
+fn open_each<P: Place>(
+    alloc: Global,
+    names: &[Text],
+    place: &mut P,
+    scripts: &mut Vec<LineCutter<P::In>>,
+) -> Result<(), Stop>
+    requires empty { (scripts.old.items ≡ []) × (vec_len scripts.old ≡ 0) }
+    requires room { length names.now ≤ vec_capacity scripts.old }
+    ensures opens { OpensScripts (seen_place P.files P.read_faults P.write_faults P.opened P.created) place.old place.new names.now [] (result_err result) }
+    ensures scripts { OnOk result (AllZip (λ name. IsScript P.In.left P.In.faults (file_of (P.files place.old) name)) names.now scripts.new.items) }
+    ensures quiet { All (λ script. P.In.faults script.source ≡ 0) scripts.new.items }
+{
+    for name in names {
+        let script = open_script(alloc, name.as_str(), place)?;
+        scripts.push_reserved(script);
+    }
+    Ok(())
+}
+
+/// The sink of that name, created, or how the run ends.
+pub fn create_file<P: Place>(name: &str, place: &mut P) -> Result<P::Out, Stop>
+    ensures opens { OpensScripts (seen_place P.files P.read_faults P.write_faults P.opened P.created) place.old place.new [] (name.now ∷ []) (result_err result) }
+    ensures no_read { result ≢ Err Stop.ReadFault }
+    ensures output { IfOk result (IsOutput (seen_sink P.Out.held P.Out.faults P.Out.name) (P.files place.old) name.now) }
+    ensures emptied { OnOk result (HasFile (P.files place.new) name.now []) }
+{
+    match place.create(name) {
+        Ok(sink) => Ok(sink),
+        Err(IoFault::Failed) => Err(Stop::WriteFault),
+        Err(IoFault::NoMemory) => Err(Stop::NoMemory),
+    }
+}
+
+// The name of the file for the replies to the script of that name.
+fn output_name(alloc: Global, name: &str) -> Result<Text, NoMemory>
+    ensures { IfOk result (λ text. text ≡ name.now ++ codes ".out") }
+{
+    match format!(in alloc; "{name}.out") {
+        Ok(text) => Ok(Text::from_string(text)),
+        Err(_) => Err(NoMemory),
+    }
+}
+
+// The sink for the replies to the script of that name, created, or how the run ends.
+fn create_output<P: Place>(alloc: Global, script: &str, place: &mut P) -> Result<P::Out, Stop>
+    ensures opens { OpensScripts (seen_place P.files P.read_faults P.write_faults P.opened P.created) place.old place.new [] (outputs (script.now ∷ [])) (result_err result) }
+    ensures no_read { result ≢ Err Stop.ReadFault }
+    ensures output { IfOk result (IsOutput (seen_sink P.Out.held P.Out.faults P.Out.name) (P.files place.old) (script.now ++ codes ".out")) }
+    ensures emptied { OnOk result (HasFile (P.files place.new) (script.now ++ codes ".out") []) }
+{
+    match output_name(alloc, script) {
+        Ok(name) => create_file(name.as_str(), place),
+        Err(NoMemory) => Err(Stop::NoMemory),
+    }
+}
+
+// Creates the files for the replies to the scripts of those names, into a list that has room for them.
+fn create_each<P: Place>(
+    alloc: Global,
+    scripts: &[Text],
+    place: &mut P,
+    sinks: &mut Vec<P::Out>,
+) -> Result<(), Stop>
+    requires empty { (sinks.old.items ≡ []) × (vec_len sinks.old ≡ 0) }
+    requires room { length scripts.now ≤ vec_capacity sinks.old }
+    ensures opens { OpensScripts (seen_place P.files P.read_faults P.write_faults P.opened P.created) place.old place.new [] (outputs scripts.now) (result_err result) }
+    ensures no_read { result ≢ Err Stop.ReadFault }
+    ensures names { (rest : List (List ℕ)) × (P.created place.new ≡ P.created place.old ++ (map P.Out.name sinks.new.items ++ rest)) }
+    ensures quiet { All (λ sink. P.Out.faults sink ≡ 0) sinks.new.items }
+    ensures outputs { OnOk result (AllZip (IsOutput (seen_sink P.Out.held P.Out.faults P.Out.name) (P.files place.old)) (outputs scripts.now) sinks.new.items) }
+{
+    for script in scripts {
+        let sink = create_output(alloc, script.as_str(), place)?;
+        sinks.push_reserved(sink);
+    }
+    Ok(())
+}
+
+/// The scripts of those names, opened in order and cut into lines; or how the run ends, by the first trouble, with all
+/// that was opened given back.
+pub fn open_scripts<P: Place>(
+    alloc: Global,
+    names: &[Text],
+    place: &mut P,
+) -> Result<List<LineCutter<P::In>>, Stop>
+    ensures opens { OpensScripts (seen_place P.files P.read_faults P.write_faults P.opened P.created) place.old place.new names.now [] (result_err result) }
+    ensures scripts { IfOk result (AllZip (λ name. IsScript P.In.left P.In.faults (file_of (P.files place.old) name)) names.now) }
+    ensures quiet { IfOk result (All (λ script. P.In.faults script.source ≡ 0)) }
+{
+    let Ok(mut scripts) = Vec::with_capacity(alloc, names.len()) else {
+        return Err(Stop::NoMemory);
+    };
+    match open_each(alloc, names, place, &mut scripts) {
+        Ok(()) => Ok(List::from_vec(scripts)),
+        Err(stop) => {
+            give_back_cutters(place, scripts);
+            Err(stop)
+        }
+    }
+}
+
+/// The sinks for the replies to the scripts of those names, created in order; or how the run ends, by the first trouble
+/// or by one of giving back what was created.
+pub fn create_outputs<P: Place>(
+    alloc: Global,
+    scripts: &[Text],
+    place: &mut P,
+) -> Result<List<P::Out>, Stop>
+    ensures opens { OpensScripts (seen_place P.files P.read_faults P.write_faults P.opened P.created) place.old place.new [] (outputs scripts.now) (result_err result) }
+    ensures outputs { IfOk result (AllZip (IsOutput (seen_sink P.Out.held P.Out.faults P.Out.name) (P.files place.old)) (outputs scripts.now)) }
+    ensures quiet { IfOk result (All (λ sink. P.Out.faults sink ≡ 0)) }
+{
+    let Ok(mut sinks) = Vec::with_capacity(alloc, scripts.len()) else {
+        return Err(Stop::NoMemory);
+    };
+    match create_each(alloc, scripts, place, &mut sinks) {
+        Ok(()) => Ok(List::from_vec(sinks)),
+        Err(stop) => {
+            let given = give_back_sinks(place, sinks);
+            Err(ended_after(stop, given))
+        }
+    }
+}
