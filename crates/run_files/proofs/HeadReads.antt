@@ -24,7 +24,7 @@ use Rattle.outer_io.specs.Faults.{Rose}
 use Rattle.outer_io.specs.Files.{Files, file_or_empty}
 use Rattle.run_files.proofs.Returning.{leaves_given_back}
 use Rattle.run_files.proofs.Stages.{leaves_reading, leaves_then, leaves_more, nothing_made, all_opened}
-use Rattle.run_files.specs.FaultTexts.{feed_line}
+use Rattle.run_report.specs.Lines.{head_line}
 use Rattle.run_files.specs.GivingBack.{TakesSources}
 use Rattle.run_files.specs.Headed.{HasHeader, IsHeaded, OpensFeeds, RefusesHead, RefusesLast}
 use Rattle.run_files.specs.Outside.{FailsToPut, file_of, PlaceSeen, Puts, Silent, SinkSeen}
@@ -77,7 +77,7 @@ refuses_on schema before now first names Says Says' same step last = record {
 -- a feed whose source was read, and whose first line is no header, is refused
 pub refuses_head : {O : Type 0} (s : SinkSeen O) (schema : Schema) (files : Option Files) (told : Option (List ℕ)) (name : List ℕ) (met : NoHeader) (Says : List ℕ → Type 0)
     → Told files (λ fs. told ≡ Some (file_or_empty fs name)) → met ≢ Refused head.NoMemory → ((fault : HeadFault) → met ≡ Refused fault → Told told (λ feed. feed_head schema feed ≡ Err fault))
-    → (fault : HeadFault) × (met ≡ Refused fault) × Says (feed_line schema name fault) → RefusesHead schema (file_of files name) name Says
+    → (fault : HeadFault) × (met ≡ Refused fault) × Says (head_line schema name fault) → RefusesHead schema (file_of files name) name Says
 refuses_head s schema files told name met Says left of_line refused said = record {
   fault = said.0;
   of_line = λ e. of_line (said.1 ∙ ap (λ f. Refused f) e);

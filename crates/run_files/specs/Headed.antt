@@ -7,7 +7,7 @@ use Rattle.feed_reader.specs.declared.header.HeadFault.{HeadFault}
 use Rattle.feed_reader.specs.declared.header.HeadFault.TheVariants as head
 use Rattle.outer_io.specs.Cutting.{Cutter, IsNew}
 use Rattle.outer_io.specs.Told.{Told}
-use Rattle.run_files.specs.FaultTexts.{feed_line}
+use Rattle.run_report.specs.Lines.{head_line}
 use Rattle.run_files.specs.Leaving.{LeavesPlace}
 use Rattle.run_files.specs.Outside.{FailsToPut, file_of, PlaceSeen, Puts, Silent, SinkSeen}
 use Rattle.run_files.specs.declared.feeds.HeadedFeed.{HeadedFeed}
@@ -35,7 +35,7 @@ pub record RefusesHead (schema : Schema) (file : Option (List ℕ)) (name : List
   pub fault : HeadFault
   pub of_line : fault ≢ head.NoMemory
   pub refused : Told file (λ feed. feed_head schema feed ≡ Err fault)
-  pub says : Says (feed_line schema name fault)
+  pub says : Says (head_line schema name fault)
 
 -- of these feeds the last is refused
 pub record RefusesLast (schema : Schema) (file : List ℕ → Option (List ℕ)) (names : List (List ℕ)) (Says : List ℕ → Type 0) : Type 0 where

@@ -2,7 +2,6 @@ pub mod Stops
 pub mod Outside
 pub mod Leaving
 pub mod GivingBack
-pub mod FaultTexts
 pub mod Planned
 pub mod Headed
 pub mod Scripted

@@ -5,13 +5,13 @@ ghost use Rattle.std.specs.List.{AllZip};
 ghost use Rattle.feed_reader.specs.Feeds.{feed_head};
 ghost use Rattle.outer_io.specs.Faults.{Rose};
 ghost use Rattle.outer_io.specs.Told.{Told};
-ghost use Rattle.run_files.specs.FaultTexts.{feed_line};
+ghost use Rattle.run_report.specs.Lines.{head_line};
 ghost use Rattle.run_files.specs.Headed.{IsHeaded, OpensFeeds, ReadsHead, RefusesHead};
 ghost use Rattle.run_files.specs.Leaving.{LeavesPlace};
 ghost use Rattle.run_files.specs.Outside.{FailsToPut, file_of, Puts, seen_place, seen_sink, Silent};
 
 use crate::Stop;
-use crate::fault_text::feed_line;
+use run_report::header_refused;
 use crate::giving_back::give_back_feeds;
 use cube_view::Schema;
 use feed_reader::{HeadFault, Header, NoHeader, read_header};
@@ -55,12 +55,12 @@ fn refuse_feed<O: Sink>(
     fault: HeadFault,
     out: &mut O,
 ) -> Stop
-    ensures refused { result ≡ Stop.FeedRefused → Puts (seen_sink O.held O.faults O.name) out.old out.new (feed_line schema.now name.now fault) }
-    ensures unsaid { result ≡ Stop.WriteFault → FailsToPut (seen_sink O.held O.faults O.name) out.old out.new (feed_line schema.now name.now fault) }
+    ensures refused { result ≡ Stop.FeedRefused → Puts (seen_sink O.held O.faults O.name) out.old out.new (head_line schema.now name.now fault) }
+    ensures unsaid { result ≡ Stop.WriteFault → FailsToPut (seen_sink O.held O.faults O.name) out.old out.new (head_line schema.now name.now fault) }
     ensures silent { result ≡ Stop.NoMemory → Silent (seen_sink O.held O.faults O.name) out.old out.new }
     ensures ends { (result ≡ Stop.FeedRefused) ⊎ (result ≡ Stop.WriteFault) ⊎ (result ≡ Stop.NoMemory) }
 {
-    let Ok(line) = feed_line(alloc, schema, name, fault) else {
+    let Ok(line) = header_refused(alloc, schema, name, fault) else {
         return Stop::NoMemory;
     };
     match out.put(line.as_slice()) {
@@ -78,8 +78,8 @@ fn end_of_head<O: Sink>(
     fault: NoHeader,
     out: &mut O,
 ) -> Stop
-    ensures refused { result ≡ Stop.FeedRefused → (f : HeadFault) × (fault ≡ NoHeader.Refused f) × Puts (seen_sink O.held O.faults O.name) out.old out.new (feed_line schema.now name.now f) }
-    ensures unsaid { result ≡ Stop.WriteFault → (f : HeadFault) × (fault ≡ NoHeader.Refused f) × FailsToPut (seen_sink O.held O.faults O.name) out.old out.new (feed_line schema.now name.now f) }
+    ensures refused { result ≡ Stop.FeedRefused → (f : HeadFault) × (fault ≡ NoHeader.Refused f) × Puts (seen_sink O.held O.faults O.name) out.old out.new (head_line schema.now name.now f) }
+    ensures unsaid { result ≡ Stop.WriteFault → (f : HeadFault) × (fault ≡ NoHeader.Refused f) × FailsToPut (seen_sink O.held O.faults O.name) out.old out.new (head_line schema.now name.now f) }
     ensures read { (result ≡ Stop.ReadFault → fault ≡ NoHeader.Read) × (fault ≡ NoHeader.Read → result ≡ Stop.ReadFault) }
     ensures silent { result ≢ Stop.FeedRefused → result ≢ Stop.WriteFault → Silent (seen_sink O.held O.faults O.name) out.old out.new }
     ensures ends { result ≢ Stop.PlanRefused }

@@ -2,7 +2,6 @@
 //! are opened and their headers read, the scripts are opened and the outputs created, and all parts are given back.
 #![tactic(auto)]
 
-mod fault_text;
 mod feeds;
 mod giving_back;
 mod loading;

@@ -2,13 +2,13 @@
 ghost use Rattle.std.specs.Prelude.{◌≡◌, ◌≢◌, ◌⊎◌, ◌+◌, [], ◌∷◌, Err, Some, take, IfOk, IfErr};
 ghost use Rattle.std.specs.Result.{result_err};
 ghost use Rattle.outer_io.specs.Told.{Told};
-ghost use Rattle.run_files.specs.FaultTexts.{plan_line};
+ghost use Rattle.run_report.specs.Lines.{plan_line};
 ghost use Rattle.run_files.specs.Leaving.{LeavesPlace};
 ghost use Rattle.run_files.specs.Outside.{FailsToPut, file_of, Puts, seen_place, seen_sink, Silent};
 ghost use Rattle.run_files.specs.Planned.{ReadsPlan};
 
 use crate::Stop;
-use crate::fault_text::plan_line;
+use run_report::plan_refused;
 use crate::stop::read_end;
 use cube_schema::{Plan, PlanFault, read_plan};
 use outer_io::{IoFault, List, NoMemory, Place, Sink, read_up_to};
@@ -45,7 +45,7 @@ fn refuse_plan<O: Sink>(alloc: Global, fault: &PlanFault, out: &mut O) -> Stop
     ensures silent { result ≡ Stop.NoMemory → Silent (seen_sink O.held O.faults O.name) out.old out.new }
     ensures ends { (result ≡ Stop.PlanRefused) ⊎ (result ≡ Stop.NoMemory) }
 {
-    let Ok(line) = plan_line(alloc, fault) else {
+    let Ok(line) = plan_refused(alloc, fault) else {
         return Stop::NoMemory;
     };
     match out.put(line.as_slice()) {
