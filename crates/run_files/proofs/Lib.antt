@@ -6,3 +6,4 @@ mod PlanReads
 mod HeadReads
 mod ScriptReads
 mod SinkReturns
+mod ScriptStages

@@ -102,12 +102,12 @@ module _ {P : Type 0} (p : PlaceSeen P) where
   scripts_unmade a b inputs outputs more stop one = record { leaves = leaves_unmade p a b inputs outputs more stop one.leaves; write = one.write; ends = one.ends }
 
   -- the first trouble, where `?` hands it on
-  pub scripts_residual : (a b : P) (names first more : List (List ℕ)) (r : Result (Unit {0}) Stop) (stop : Stop) → names ≡ first ++ more → IsErrAnd r (λ e. e ≡ stop) → OpensScripts p a b first [] (Some stop) → OpensScripts p a b names [] (result_err r)
-  scripts_residual a b names first more (Ok x) stop are bad one = absurd bad
-  scripts_residual a b names first more (Err e) stop are is one =
-      subst (λ (k : Stop). OpensScripts p a b names [] (Some k)) (sym is) (subst (λ (ns : List (List ℕ)). OpensScripts p a b ns [] (Some stop)) (sym are) (scripts_more a b first more [] stop one))
+  pub scripts_residual : {T : Type 0} (a b : P) (names first more outputs : List (List ℕ)) (r : Result T Stop) (stop : Stop) → names ≡ first ++ more → IsErrAnd r (λ e. e ≡ stop) → OpensScripts p a b first [] (Some stop) → OpensScripts p a b names outputs (result_err r)
+  scripts_residual a b names first more outputs (Ok x) stop are bad one = absurd bad
+  scripts_residual a b names first more outputs (Err e) stop are is one =
+      subst (λ (k : Stop). OpensScripts p a b names outputs (Some k)) (sym is) (subst (λ (ns : List (List ℕ)). OpensScripts p a b ns outputs (Some stop)) (sym are) (scripts_more a b first more outputs stop one))
 
-  pub creates_residual : (a b : P) (names first more : List (List ℕ)) (r : Result (Unit {0}) Stop) (stop : Stop) → names ≡ first ++ more → IsErrAnd r (λ e. e ≡ stop) → OpensScripts p a b [] first (Some stop) → OpensScripts p a b [] names (result_err r)
+  pub creates_residual : {T : Type 0} (a b : P) (names first more : List (List ℕ)) (r : Result T Stop) (stop : Stop) → names ≡ first ++ more → IsErrAnd r (λ e. e ≡ stop) → OpensScripts p a b [] first (Some stop) → OpensScripts p a b [] names (result_err r)
   creates_residual a b names first more (Ok x) stop are bad one = absurd bad
   creates_residual a b names first more (Err e) stop are is one =
       subst (λ (k : Stop). OpensScripts p a b [] names (Some k)) (sym is) (subst (λ (ns : List (List ℕ)). OpensScripts p a b [] ns (Some stop)) (sym are) (scripts_unmade a b [] first more stop one))

@@ -4,7 +4,7 @@ use Rattle.std.specs.List.{AllPairs, AllZip, Contains, fold}
 use Rattle.std.specs.FinMap.{get}
 use Rattle.std.specs.Prelude.{IsSome, IsSomeAnd, OnOk}
 use Rattle.std.proofs.lemmas.List.{map-append, get_or_append_left, length-append}
-use Rattle.std.proofs.lemmas.List.Elements.{All-cons, All-contains, All-head, All-nil, All-tail, Contains-append_cases, Contains-append_left, Contains-push_cases}
+use Rattle.std.proofs.lemmas.List.Elements.{All-cons, All-contains, All-head, All-nil, All-tail, Contains-append_cases, Contains-append_left, Contains-append_right, Contains-push_cases}
 use Rattle.std.proofs.lemmas.List.Sums.{fold-append}
 use Rattle.outer_io.proofs.ToldLaws.{Told-each}
 use Rattle.outer_io.specs.Asking.{CountsPart}
@@ -17,7 +17,7 @@ use Rattle.run_files.proofs.Apart.{none_not_some, ok_not_err, same_stop}
 use Rattle.std.proofs.lemmas.Bool.{false≢true}
 use Rattle.run_files.proofs.Lists.{All-back, All-front, AllZip-more}
 use Rattle.run_files.proofs.ScriptReads.{KeepsOthers-one, lacked_not_write}
-use Rattle.run_files.proofs.Stages.{KeepsOthers-itself, KeepsOthers-more}
+use Rattle.run_files.proofs.Stages.{back_nil, KeepsOthers-itself, KeepsOthers-more}
 use Rattle.run_files.specs.GivingBack.{Lands, TakesSinks}
 use Rattle.run_files.specs.Leaving.{KeepsOthers}
 use Rattle.run_files.specs.Outside.{PlaceSeen, SinkSeen}
@@ -272,21 +272,21 @@ same_end : (a b : Stop) → ends_err a ≡ ends_err b → a ≡ b
 same_end a b e = cc
 
 -- how a stage ends that creates, after what it created was given back
-ends_with : (stop stop' : Stop) (gave : Result (Unit {0}) Stop) → joined (Err stop) gave ≡ Err stop' → (stop ≡ stop') ⊎ (gave ≡ Err stop')
+pub ends_with : (stop stop' : Stop) (gave : Result (Unit {0}) Stop) → joined (Err stop) gave ≡ Err stop' → (stop ≡ stop') ⊎ (gave ≡ Err stop')
 ends_with stop stop' (Ok x) e = inl (same_end stop stop' e)
 ends_with stop stop' (Err f) e = elim (one_of (nat_lt (rank_of f) (rank_of stop)) f stop) [ inl one ↦ inl (sym one ∙ same_end _ stop' e) | inr other ↦ inr (ap (λ k. Err k) (sym other ∙ same_end _ stop' e)) ]
 
 module _ {P O : Type 0} (p : PlaceSeen P) (s : SinkSeen O) where
   -- a stage that creates and ends the run gives back what it created, and leaves what it left, by how both ended
-  pub creates_given_back : (a b c : P) (names rest : List (List ℕ)) (sinks : List O) (stop stop' : Stop) (gave : Result (Unit {0}) Stop) → OpensScripts p a b [] names (Some stop) → TakesSinks p s b c sinks gave
-      → p.created b ≡ p.created a ++ (map s.name sinks ++ rest) → stop ≢ ReadFault → joined (Err stop) gave ≡ Err stop' → OpensScripts p a c [] names (Some stop')
-  creates_given_back a b c names rest sinks stop stop' gave one back made no_read is =
-      let makes : one.leaves.makes ≡ map s.name sinks ++ rest = cancel (p.created a) one.leaves.makes (map s.name sinks ++ rest) (sym one.leaves.created ∙ made) in
-      let nothing : one.leaves.makes ≡ [] → c ≡ b = λ e. back.none (front_of_nil s.name sinks rest (sym makes ∙ e)) in
+  pub creates_given_back : (a b c : P) (names first rest : List (List ℕ)) (sinks : List O) (stop stop' : Stop) (gave : Result (Unit {0}) Stop) → OpensScripts p a b [] names (Some stop) → TakesSinks p s b c sinks gave
+      → p.created b ≡ p.created a ++ (first ++ (map s.name sinks ++ rest)) → stop ≢ ReadFault → joined (Err stop) gave ≡ Err stop' → OpensScripts p a c [] names (Some stop')
+  creates_given_back a b c names first rest sinks stop stop' gave one back made no_read is =
+      let makes : one.leaves.makes ≡ first ++ (map s.name sinks ++ rest) = cancel (p.created a) one.leaves.makes (first ++ (map s.name sinks ++ rest)) (sym one.leaves.created ∙ made) in
+      let nothing : one.leaves.makes ≡ [] → c ≡ b = λ e. back.none (front_of_nil s.name sinks rest (back_nil first (map s.name sinks ++ rest) (sym makes ∙ e))) in
       let ended = ends_with stop stop' gave is in
-      let read' : stop' ≢ ReadFault = λ e. elim ended [ inl first ↦ no_read (first ∙ e) | inr second ↦ back.only.1 (second ∙ ap (λ k. Err k) e) ] in
-      let plan' : stop' ≢ PlanRefused = λ e. elim ended [ inl first ↦ one.ends.0 (ap (λ k. Some k) (first ∙ e)) | inr second ↦ back.only.0 (second ∙ ap (λ k. Err k) e) ] in
-      let feed' : stop' ≢ FeedRefused = λ e. elim ended [ inl first ↦ one.ends.1 (ap (λ k. Some k) (first ∙ e)) | inr second ↦ back.only.2 (second ∙ ap (λ k. Err k) e) ] in
+      let read' : stop' ≢ ReadFault = λ e. elim ended [ inl one_end ↦ no_read (one_end ∙ e) | inr second ↦ back.only.1 (second ∙ ap (λ k. Err k) e) ] in
+      let plan' : stop' ≢ PlanRefused = λ e. elim ended [ inl one_end ↦ one.ends.0 (ap (λ k. Some k) (one_end ∙ e)) | inr second ↦ back.only.0 (second ∙ ap (λ k. Err k) e) ] in
+      let feed' : stop' ≢ FeedRefused = λ e. elim ended [ inl one_end ↦ one.ends.1 (ap (λ k. Some k) (one_end ∙ e)) | inr second ↦ back.only.2 (second ∙ ap (λ k. Err k) e) ] in
       let reads : p.read_faults c ≡ p.read_faults a = back.read_faults ∙ one.leaves.read_quiet (λ e. no_read (same_stop _ _ e)) in
       record {
         leaves = record {
@@ -306,7 +306,7 @@ module _ {P O : Type 0} (p : PlaceSeen P) (s : SinkSeen O) where
           unwritten = λ e. ap p.write_faults (nothing e) ∙ one.leaves.unwritten e;
           write_quiet = λ w m. elim (only_two stop' plan' feed' read') [ inl lacked ↦ absurd (m (ap (λ k. Some k) lacked)) | inr write ↦ absurd (w (ap (λ k. Some k) write)) ];
           untouched = λ e. ap p.files (nothing e) ∙ one.leaves.untouched e;
-          others = KeepsOthers-fewer (p.files a) (p.files c) one.leaves.makes (map s.name sinks) (λ n within. subst (λ (ns : List (List ℕ)). Contains ns n) (sym makes) (Contains-append_left (map s.name sinks) rest n within))
+          others = KeepsOthers-fewer (p.files a) (p.files c) one.leaves.makes (map s.name sinks) (λ n within. subst (λ (ns : List (List ℕ)). Contains ns n) (sym makes) (Contains-append_right first (map s.name sinks ++ rest) n (Contains-append_left (map s.name sinks) rest n within)))
               (KeepsOthers-more (p.files a) (p.files b) (p.files c) one.leaves.makes (map s.name sinks) one.leaves.others back.others);
         };
         write = λ e.
@@ -314,7 +314,7 @@ module _ {P O : Type 0} (p : PlaceSeen P) (s : SinkSeen O) where
             elim (write_or_not stop) [
               | inl wrote ↦ rose_grown _ _ _ (one.write (ap (λ k. Some k) wrote)) back.grows
               | inr other ↦ elim ended [
-                | inl first ↦ absurd (other (first ∙ end))
+                | inl one_end ↦ absurd (other (one_end ∙ end))
                 | inr second ↦ subst (λ n. Rose n (p.write_faults c))
                     (one.leaves.write_quiet (λ w. other (same_stop _ _ w)) (λ m. lacked_not_write (ap (λ k. Some k) (same_end NoMemory WriteFault (sym (lacked_stays gave) ∙ (subst (λ (k : Stop). joined (Err k) gave ≡ Err stop') (same_stop _ _ m) is ∙ ap (λ k. Err k) end))))))
                     (back.write (second ∙ ap (λ k. Err k) end))

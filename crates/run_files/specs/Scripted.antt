@@ -1,11 +1,15 @@
 -- Scripts that were opened, the outputs that were created for them, and what both leave.
 use Rattle.std.specs.Prelude.{◌≡◌, ◌≢◌, ℕ, List, [], All, Option, Some}
+use Rattle.std.specs.List.{AllZip}
+use Rattle.cube_schema.specs.Repeats.{outputs}
+use Rattle.cube_schema.specs.declared.plan.Plan.{Plan}
 use Rattle.outer_io.specs.Cutting.{Cutter, IsNew}
 use Rattle.outer_io.specs.Faults.{Rose}
 use Rattle.outer_io.specs.Files.{Files, HasFile}
 use Rattle.outer_io.specs.Told.{Told}
 use Rattle.run_files.specs.Leaving.{LeavesPlace}
-use Rattle.run_files.specs.Outside.{PlaceSeen, SinkSeen}
+use Rattle.run_files.specs.Outside.{file_of, PlaceSeen, SinkSeen}
+use Rattle.run_files.specs.declared.scripts.ScriptParts.{ScriptParts}
 use Rattle.run_files.specs.declared.stop.Stop.{Stop}
 use Rattle.run_files.specs.declared.stop.Stop.TheVariants.{PlanRefused, WriteFault, FeedRefused}
 
@@ -28,3 +32,11 @@ pub record OpensScripts {P : Type 0} (p : PlaceSeen P) (before after : P) (input
   pub write : stop ≡ Some WriteFault → Rose (p.write_faults before) (p.write_faults after)
   -- no other end comes than those of the place and want of memory
   pub ends : (stop ≢ Some PlanRefused) × (stop ≢ Some FeedRefused)
+
+-- The parts are those of the plan's scripts, each over its file, and the sinks for their replies and for its journal
+pub record ArePartsOf {S O : Type 0} (left : S → Option (List ℕ)) (faults : S → ℕ) (s : SinkSeen O) (files : Option Files) (plan : Plan) (parts : ScriptParts (Cutter S) O) : Type 0 where
+  pub asks : AllZip (λ name. IsScript left faults (file_of files name)) plan.asks parts.asks
+  pub finals : AllZip (λ name. IsScript left faults (file_of files name)) plan.finals parts.finals
+  pub ask_outputs : AllZip (IsOutput s files) (outputs plan.asks) parts.ask_outputs
+  pub final_outputs : AllZip (IsOutput s files) (outputs plan.finals) parts.final_outputs
+  pub journal : IsOutput s files plan.journal parts.journal

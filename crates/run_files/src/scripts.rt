@@ -1,16 +1,27 @@
 //! The scripts of a run: all are opened, and then the files for their replies are created, and last the journal.
 ghost use Rattle.std.specs.Prelude.{◌≡◌, ◌≢◌, ◌≤◌, Err, ℕ, List, [], ◌∷◌, ◌++◌, All, IfOk, OnOk, codes, map, length, vec_len, vec_capacity};
 ghost use Rattle.std.specs.Result.{result_err};
+ghost use Rattle.cube_schema.specs.Files.{output_names};
 ghost use Rattle.cube_schema.specs.Repeats.{outputs};
 ghost use Rattle.std.specs.List.{AllZip};
 ghost use Rattle.outer_io.specs.Files.{HasFile};
 ghost use Rattle.run_files.specs.Outside.{file_of, seen_place, seen_sink};
-ghost use Rattle.run_files.specs.Scripted.{IsOutput, IsScript, OpensScripts};
+ghost use Rattle.run_files.specs.Scripted.{ArePartsOf, IsOutput, IsScript, OpensScripts};
 
 use crate::giving_back::{give_back_cutters, give_back_sinks};
 use crate::{Stop, ended_after};
+use cube_schema::Plan;
 use outer_io::{IoFault, LineCutter, List, NoMemory, Place, Text};
 use std::alloc::Global;
+
+/// The scripts of a run, cut into lines, and the sinks for their replies and for the journal.
+pub struct ScriptParts<C, O> {
+    pub asks: List<C>,
+    pub finals: List<C>,
+    pub ask_outputs: List<O>,
+    pub final_outputs: List<O>,
+    pub journal: O,
+}
 
 // The script of that name, cut into lines, or how the run ends, its source given back.
 fn open_script<P: Place>(
@@ -113,9 +124,9 @@ fn create_each<P: Place>(
     Ok(())
 }
 
-/// The scripts of those names, opened in order and cut into lines; or how the run ends, by the first trouble, with all
-/// that was opened given back.
-pub fn open_scripts<P: Place>(
+// The scripts of those names, opened in order and cut into lines; or how the run ends, by the first trouble, with all that
+// was opened given back.
+fn open_list<P: Place>(
     alloc: Global,
     names: &[Text],
     place: &mut P,
@@ -136,14 +147,15 @@ pub fn open_scripts<P: Place>(
     }
 }
 
-/// The sinks for the replies to the scripts of those names, created in order; or how the run ends, by the first trouble
-/// or by one of giving back what was created.
-pub fn create_outputs<P: Place>(
+// The sinks for the replies to the scripts of those names, created in order; or how the run ends, by the first trouble or
+// by one of giving back what was created.
+fn create_list<P: Place>(
     alloc: Global,
     scripts: &[Text],
     place: &mut P,
 ) -> Result<List<P::Out>, Stop>
     ensures opens { OpensScripts (seen_place P.files P.read_faults P.write_faults P.opened P.created) place.old place.new [] (outputs scripts.now) (result_err result) }
+    ensures no_read { result ≢ Err Stop.ReadFault }
     ensures outputs { IfOk result (AllZip (IsOutput (seen_sink P.Out.held P.Out.faults P.Out.name) (P.files place.old)) (outputs scripts.now)) }
     ensures quiet { IfOk result (All (λ sink. P.Out.faults sink ≡ 0)) }
 {
@@ -155,6 +167,98 @@ pub fn create_outputs<P: Place>(
         Err(stop) => {
             let given = give_back_sinks(place, sinks);
             Err(ended_after(stop, given))
+        }
+    }
+}
+
+// The scripts of the asks and of the finals, opened in order, or how the run ends, with all that was opened given back.
+fn open_all<P: Place>(
+    alloc: Global,
+    plan: &Plan,
+    place: &mut P,
+) -> Result<(List<LineCutter<P::In>>, List<LineCutter<P::In>>), Stop>
+    ensures opens { OpensScripts (seen_place P.files P.read_faults P.write_faults P.opened P.created) place.old place.new (plan.now.asks ++ plan.now.finals) [] (result_err result) }
+    ensures asks { IfOk result (λ lists. AllZip (λ name. IsScript P.In.left P.In.faults (file_of (P.files place.old) name)) plan.now.asks lists.0) }
+    ensures finals { IfOk result (λ lists. AllZip (λ name. IsScript P.In.left P.In.faults (file_of (P.files place.old) name)) plan.now.finals lists.1) }
+    ensures quiet { IfOk result (λ lists. All (λ script. P.In.faults script.source ≡ 0) lists.0 × All (λ script. P.In.faults script.source ≡ 0) lists.1) }
+{
+    let asks = open_list(alloc, plan.asks.as_slice(), place)?;
+    match open_list(alloc, plan.finals.as_slice(), place) {
+        Ok(finals) => Ok((asks, finals)),
+        Err(stop) => {
+            give_back_cutters(place, asks.into_vec());
+            Err(stop)
+        }
+    }
+}
+
+// The sinks for the replies to asks and finals, created in order, or how the run ends, with all that was created given back.
+fn create_replies<P: Place>(
+    alloc: Global,
+    plan: &Plan,
+    place: &mut P,
+) -> Result<(List<P::Out>, List<P::Out>), Stop>
+    ensures opens { OpensScripts (seen_place P.files P.read_faults P.write_faults P.opened P.created) place.old place.new [] (outputs plan.now.asks ++ outputs plan.now.finals) (result_err result) }
+    ensures no_read { result ≢ Err Stop.ReadFault }
+    ensures asks { IfOk result (λ lists. AllZip (IsOutput (seen_sink P.Out.held P.Out.faults P.Out.name) (P.files place.old)) (outputs plan.now.asks) lists.0) }
+    ensures finals { IfOk result (λ lists. AllZip (IsOutput (seen_sink P.Out.held P.Out.faults P.Out.name) (P.files place.old)) (outputs plan.now.finals) lists.1) }
+{
+    let asks = create_list(alloc, plan.asks.as_slice(), place)?;
+    match create_list(alloc, plan.finals.as_slice(), place) {
+        Ok(finals) => Ok((asks, finals)),
+        Err(stop) => {
+            let given = give_back_sinks(place, asks.into_vec());
+            Err(ended_after(stop, given))
+        }
+    }
+}
+
+// Those sinks and the journal's, created last, or how the run ends, with all that was created given back.
+fn create_all<P: Place>(
+    alloc: Global,
+    plan: &Plan,
+    place: &mut P,
+) -> Result<(List<P::Out>, List<P::Out>, P::Out), Stop>
+    ensures opens { OpensScripts (seen_place P.files P.read_faults P.write_faults P.opened P.created) place.old place.new [] (output_names plan.now) (result_err result) }
+    ensures asks { IfOk result (λ made. AllZip (IsOutput (seen_sink P.Out.held P.Out.faults P.Out.name) (P.files place.old)) (outputs plan.now.asks) made.0) }
+    ensures finals { IfOk result (λ made. AllZip (IsOutput (seen_sink P.Out.held P.Out.faults P.Out.name) (P.files place.old)) (outputs plan.now.finals) made.1) }
+    ensures journal { IfOk result (λ made. IsOutput (seen_sink P.Out.held P.Out.faults P.Out.name) (P.files place.old) plan.now.journal made.2) }
+{
+    let (asks, finals) = create_replies(alloc, plan, place)?;
+    match create_file(plan.journal.as_str(), place) {
+        Ok(journal) => Ok((asks, finals, journal)),
+        Err(stop) => {
+            let given = give_back_sinks(place, asks.into_vec());
+            let end = ended_after(stop, given);
+            let given = give_back_sinks(place, finals.into_vec());
+            Err(ended_after(end, given))
+        }
+    }
+}
+
+/// The scripts of a plan, all asks and then all finals opened, and then the files for their replies created in that order,
+/// and last the journal; or how the run ends, by the first trouble, with all of these given back.
+pub fn open_scripts<P: Place>(
+    alloc: Global,
+    plan: &Plan,
+    place: &mut P,
+) -> Result<ScriptParts<LineCutter<P::In>, P::Out>, Stop>
+    ensures opens { OpensScripts (seen_place P.files P.read_faults P.write_faults P.opened P.created) place.old place.new (plan.now.asks ++ plan.now.finals) (output_names plan.now) (result_err result) }
+    ensures parts { IfOk result (ArePartsOf P.In.left P.In.faults (seen_sink P.Out.held P.Out.faults P.Out.name) (P.files place.old) plan.now) }
+{
+    let (asks, finals) = open_all(alloc, plan, place)?;
+    match create_all(alloc, plan, place) {
+        Ok((ask_outputs, final_outputs, journal)) => Ok(ScriptParts {
+            asks,
+            finals,
+            ask_outputs,
+            final_outputs,
+            journal,
+        }),
+        Err(stop) => {
+            give_back_cutters(place, asks.into_vec());
+            give_back_cutters(place, finals.into_vec());
+            Err(stop)
         }
     }
 }

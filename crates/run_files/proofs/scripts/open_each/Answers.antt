@@ -43,6 +43,6 @@ returns-in_err-script-clause-opens g c =
     let p = (seen_place g.P.Place.files g.P.Place.read_faults g.P.Place.write_faults g.P.Place.opened g.P.Place.created) in
     let first = take c.loop-name.name-index c.args.names.now in
     let name = c.as_str.result.now in
-    scripts_residual p c.args.place.now c.open_script.new.place c.args.names.now (first ++ name ∷ []) (drop (c.loop-name.name-index + 1) c.args.names.now) c.from_residual.result c.in_err-script.field-0.0
+    scripts_residual p c.args.place.now c.open_script.new.place c.args.names.now (first ++ name ∷ []) (drop (c.loop-name.name-index + 1) c.args.names.now) [] c.from_residual.result c.in_err-script.field-0.0
     (name_split c.args.names.now c.loop-name.name-index c.name-item.result name c.loop-name-test.true c.name-item.is c.as_str.ensures) c.from_residual.ensures.1
     (scripts_then p c.args.place.now c.loop-name.place c.open_script.new.place first (name ∷ []) [] (Some c.in_err-script.field-0.0) c.loop-name.invariant.0 c.in_err-script.ensures.opens)

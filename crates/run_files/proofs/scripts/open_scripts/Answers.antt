@@ -1,15 +1,30 @@
-use Rattle.std.proofs.Common.{◌≡◌, [], Some, map}
+use Rattle.std.proofs.Common.{◌≡◌, ◌++◌, [], ℕ, List, Some, None, map, sym, subst, All}
+use Rattle.std.proofs.lemmas.List.{append-nil}
 use Rattle.std.proofs.lemmas.List.Elements.{All-map}
+use Rattle.cube_schema.specs.Files.{output_names}
 use Rattle.outer_io.specs.declared.cutter.LineCutter.{LineCutter}
-use Rattle.run_files.proofs.ScriptReads.{scripts_given_back, scripts_nothing}
+use Rattle.run_files.proofs.ScriptReads.{scripts_and_creates, scripts_given_back, scripts_residual}
 use Rattle.run_files.specs.Outside.{seen_place}
 use Rattle.run_files.proofs.scripts.open_scripts.Goals as goal
 
-pub returns-in_default-clause-opens : goal.returns-in_default-clause-opens
-returns-in_default-clause-opens g c = scripts_nothing (seen_place g.P.Place.files g.P.Place.read_faults g.P.Place.write_faults g.P.Place.opened g.P.Place.created) c.args.place.now c.args.names.now []
+pub returns-in_err-asks-clause-opens : goal.returns-in_err-asks-clause-opens
+returns-in_err-asks-clause-opens g c =
+    let inputs = c.args.plan.now.asks ++ c.args.plan.now.finals in
+    scripts_residual (seen_place g.P.Place.files g.P.Place.read_faults g.P.Place.write_faults g.P.Place.opened g.P.Place.created) c.args.place.now c.open_all.new.place inputs inputs [] (output_names c.args.plan.now) c.from_residual.result c.in_err-asks.field-0.0 (sym (append-nil inputs)) c.from_residual.ensures.1 c.in_err-asks.ensures.opens
+
+pub returns-in-Ok-clause-opens : goal.returns-in-Ok-clause-opens
+returns-in-Ok-clause-opens g c =
+    scripts_and_creates (seen_place g.P.Place.files g.P.Place.read_faults g.P.Place.write_faults g.P.Place.opened g.P.Place.created) c.args.place.now c.open_all.new.place c.create_all.new.place (c.args.plan.now.asks ++ c.args.plan.now.finals) [] (output_names c.args.plan.now) None c.in_ok-asks.ensures.opens c.in-Ok.ensures.opens
 
 pub returns-in-Err-clause-opens : goal.returns-in-Err-clause-opens
 returns-in-Err-clause-opens g c =
+    let p = (seen_place g.P.Place.files g.P.Place.read_faults g.P.Place.write_faults g.P.Place.opened g.P.Place.created) in
     let F = λ (script : LineCutter g.row.P-In.Denot). g.P.In.Source.faults script.source in
-    scripts_given_back (seen_place g.P.Place.files g.P.Place.read_faults g.P.Place.write_faults g.P.Place.opened g.P.Place.created) c.args.place.now c.open_each.new.place c.give_back_cutters.new.place c.args.names.now [] (Some c.in-Err.stop) (map F c.open_each.new.scripts.items)
-    c.in-Err.ensures.opens c.give_back_cutters.ensures (All-map (λ n. n ≡ 0) F c.open_each.new.scripts.items c.open_each.ensures.quiet)
+    let inputs = c.args.plan.now.asks ++ c.args.plan.now.finals in
+    scripts_given_back p c.args.place.now c.give_back_cutters.new.place c.give_back_cutters-in-Err.new.place inputs (output_names c.args.plan.now) (Some c.in-Err.stop) (map F c.into_vec-in-Err.result.items)
+    (scripts_given_back p c.args.place.now c.create_all.new.place c.give_back_cutters.new.place inputs (output_names c.args.plan.now) (Some c.in-Err.stop) (map F c.into_vec.result.items)
+    (scripts_and_creates p c.args.place.now c.open_all.new.place c.create_all.new.place inputs [] (output_names c.args.plan.now) (Some c.in-Err.stop) c.in_ok-asks.ensures.opens c.in-Err.ensures.opens)
+    c.give_back_cutters.ensures
+    (All-map (λ n. n ≡ 0) F c.into_vec.result.items (subst (λ (items : List (LineCutter g.row.P-In.Denot)). All (λ script. F script ≡ 0) items) (sym c.into_vec.ensures) c.in_ok-asks.ensures.quiet.0)))
+    c.give_back_cutters-in-Err.ensures
+    (All-map (λ n. n ≡ 0) F c.into_vec-in-Err.result.items (subst (λ (items : List (LineCutter g.row.P-In.Denot)). All (λ script. F script ≡ 0) items) (sym c.into_vec-in-Err.ensures) c.in_ok-asks.ensures.quiet.1))
