@@ -1,5 +1,6 @@
 -- What holds of each item of two lists after each other.
-use Rattle.std.proofs.Common.{◌≡◌, ◌∙◌, ◌<◌, ◌+◌, ℕ, List, [], ◌∷◌, ◌++◌, suc, length, take, drop, get_or, refl, sym, ap, All}
+use Rattle.std.proofs.Common.{All, List, [], ap, arith, drop, get_or, length, refl, suc, sym, take, zero, ℕ, ◌++◌, ◌+◌, ◌<◌, ◌∙◌, ◌∷◌, ◌≡◌}
+use Rattle.std.specs.Prelude.{Contains}
 use Rattle.std.specs.List.{AllZip}
 use Rattle.std.proofs.lemmas.List.{take_more, take-append-drop}
 use Rattle.std.proofs.lemmas.List.Elements.{All-nil, All-cons, All-head, All-tail}
@@ -39,3 +40,11 @@ name_more names i item name lt is same = take_more names i item lt ∙ ap (λ n.
 -- all names are those before one, it, and those behind it
 pub name_split : (names : List (List ℕ)) (i : ℕ) (item name : List ℕ) → i < length names → item ≡ get_or names i item → name ≡ item → names ≡ (take i names ++ name ∷ []) ++ drop (i + 1) names
 name_split names i item name lt is same = sym (take-append-drop (i + 1) names) ∙ ap (λ front. front ++ drop (i + 1) names) (name_more names i item name lt is same)
+
+at_its_place : (m n : List ℕ) (k : ℕ) → k < length (m ∷ []) → get_or (m ∷ []) k n ≡ n → m ≡ n
+at_its_place m n zero lt is = is
+at_its_place m n (suc k) lt is = absurd (omega (arith, lt))
+
+-- a name that stands in a list of one is that one
+pub in_one : (m n : List ℕ) → Contains (m ∷ []) n → m ≡ n
+in_one m n h = at_its_place m n h.0 h.1 h.2

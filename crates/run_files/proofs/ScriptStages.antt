@@ -9,7 +9,7 @@ use Rattle.run_files.proofs.SinkReturns.{ends_with}
 use Rattle.run_files.specs.Leaving.{LeavesPlace}
 use Rattle.run_files.specs.Outside.{PlaceSeen, SinkSeen}
 use Rattle.run_files.specs.Scripted.{IsOutput, OpensScripts}
-use Rattle.run_files.specs.Stops.{joined}
+use Rattle.run_files.specs.Stops.{joined_ends}
 use Rattle.run_files.specs.declared.stop.Stop.{Stop}
 use Rattle.run_files.specs.declared.stop.Stop.TheVariants.{ReadFault}
 
@@ -21,7 +21,7 @@ names_of s files (n ∷ names) [] all = absurd all
 names_of s files (n ∷ names) (k ∷ sinks) all = ap (λ m. m ∷ map s.name sinks) all.0.name_is ∙ ap (λ ms. n ∷ ms) (names_of s files names sinks all.1)
 
 -- a run that was to end, not by a read fault, ends by none after sinks were given back
-pub ended_not_read : (one other : Stop) (gave : Result (Unit {0}) Stop) → one ≢ ReadFault → gave ≢ Err ReadFault → joined (Err one) gave ≡ Err other → other ≢ ReadFault
+pub ended_not_read : (one other : Stop) (gave : Result (Unit {0}) Stop) → one ≢ ReadFault → gave ≢ Err ReadFault → joined_ends (Err one) gave ≡ Err other → other ≢ ReadFault
 ended_not_read one other gave no_read none is = λ e. elim (ends_with one other gave is) [ inl same ↦ no_read (same ∙ e) | inr given ↦ none (given ∙ ap (λ k. Err k) e) ]
 
 module _ {P : Type 0} (p : PlaceSeen P) where
@@ -37,9 +37,11 @@ module _ {P : Type 0} (p : PlaceSeen P) where
   created_both s files files' a b c first second last xs ys stop one two all_xs all_ys =
       let rest = two.leaves.makes in
       let xs_are = names_of s files first xs all_xs in
-      let ys_are = names_of s files' second ys all_ys in
-      (rest, two.leaves.created ∙ (ap (λ m. m ++ rest) (created_all a b (first ++ second) one) ∙ (append_assoc (p.created a) (first ++ second) rest
-      ∙ ap (λ m. p.created a ++ m) (append_assoc first second rest ∙ (ap (λ m. m ++ (second ++ rest)) (sym xs_are) ∙ ap (λ m. map s.name xs ++ (m ++ rest)) (sym ys_are))))))
+      let ys_are = names_of s files' second ys all_ys in (
+        rest,
+        two.leaves.created ∙ (ap (λ m. m ++ rest) (created_all a b (first ++ second) one) ∙ (append_assoc (p.created a) (first ++ second) rest
+            ∙ ap (λ m. p.created a ++ m) (append_assoc first second rest ∙ (ap (λ m. m ++ (second ++ rest)) (sym xs_are) ∙ ap (λ m. map s.name xs ++ (m ++ rest)) (sym ys_are))))),
+      )
 
 -- sinks that were made over files that are told where these are hold nothing where these are told
 pub outputs_later : {O : Type 0} (s : SinkSeen O) (before now : Option Files) (names : List (List ℕ)) (sinks : List O) → (IsSome before → IsSome now) → AllZip (IsOutput s now) names sinks → AllZip (IsOutput s before) names sinks

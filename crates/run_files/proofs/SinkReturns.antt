@@ -15,14 +15,14 @@ use Rattle.outer_io.specs.declared.fault.IoFault.{IoFault}
 use Rattle.outer_io.specs.declared.fault.IoFault.TheVariants as fault
 use Rattle.run_files.proofs.Apart.{none_not_some, ok_not_err, same_stop}
 use Rattle.std.proofs.lemmas.Bool.{false≢true}
-use Rattle.run_files.proofs.Lists.{All-back, All-front, AllZip-more}
+use Rattle.run_files.proofs.Lists.{All-back, All-front, AllZip-more, in_one}
 use Rattle.run_files.proofs.ScriptReads.{KeepsOthers-one, lacked_not_write}
 use Rattle.run_files.proofs.Stages.{back_nil, KeepsOthers-itself, KeepsOthers-more}
 use Rattle.run_files.specs.GivingBack.{Lands, TakesSinks}
 use Rattle.run_files.specs.Leaving.{KeepsOthers}
 use Rattle.run_files.specs.Outside.{PlaceSeen, SinkSeen}
 use Rattle.run_files.specs.Scripted.{OpensScripts}
-use Rattle.run_files.specs.Stops.{joined, rank_of, write_end}
+use Rattle.run_files.specs.Stops.{joined_ends, rank_of, write_end}
 use Rattle.run_files.specs.declared.stop.Stop.{Stop}
 use Rattle.run_files.specs.declared.stop.Stop.TheVariants.{NoMemory, PlanRefused, ReadFault, WriteFault, FeedRefused}
 
@@ -47,8 +47,8 @@ rose_grown a b c rose more = grind arith
 grown_rose : (a b c : ℕ) → a ≤ b → Rose b c → Rose a c
 grown_rose a b c more rose = grind arith
 
--- where two ends are joined well both are well
-both_well : (A B C : Type 0) (e : Result (Unit {0}) Stop) (r : Result (Unit {0}) IoFault) → OnOk e A → (r ≡ Ok tt → B) → (A → B → C) → OnOk (joined e (write_end r)) C
+-- where two ends are joined_ends well both are well
+both_well : (A B C : Type 0) (e : Result (Unit {0}) Stop) (r : Result (Unit {0}) IoFault) → OnOk e A → (r ≡ Ok tt → B) → (A → B → C) → OnOk (joined_ends e (write_end r)) C
 both_well A B C (Ok x) (Ok y) a b step = step a (b refl)
 both_well A B C (Ok x) (Err fault.Failed) a b step = tt
 both_well A B C (Ok x) (Err fault.NoMemory) a b step = tt
@@ -56,8 +56,8 @@ both_well A B C (Err s) (Ok y) a b step = tt
 both_well A B C (Err s) (Err fault.Failed) a b step = tt
 both_well A B C (Err s) (Err fault.NoMemory) a b step = tt
 
--- which ends two joined ones may have
-joined_only : (k : Stop) (e : Result (Unit {0}) Stop) (r : Result (Unit {0}) IoFault) → k ≢ NoMemory → k ≢ WriteFault → e ≢ Err k → joined e (write_end r) ≢ Err k
+-- which ends two joined_ends ones may have
+joined_only : (k : Stop) (e : Result (Unit {0}) Stop) (r : Result (Unit {0}) IoFault) → k ≢ NoMemory → k ≢ WriteFault → e ≢ Err k → joined_ends e (write_end r) ≢ Err k
 joined_only k (Ok x) (Ok y) m w other = λ is. cc
 joined_only k (Ok x) (Err fault.Failed) m w other = λ is. w (cc)
 joined_only k (Ok x) (Err fault.NoMemory) m w other = λ is. m (cc)
@@ -73,8 +73,8 @@ joined_only k (Err ReadFault) (Err fault.NoMemory) m w other = λ is. m (cc)
 joined_only k (Err WriteFault) (Err fault.NoMemory) m w other = λ is. m (cc)
 joined_only k (Err FeedRefused) (Err fault.NoMemory) m w other = λ is. m (cc)
 
--- where two are joined to a write fault one of them is
-joined_write : (e : Result (Unit {0}) Stop) (r : Result (Unit {0}) IoFault) → joined e (write_end r) ≡ Err WriteFault → (e ≡ Err WriteFault) ⊎ (r ≡ Err fault.Failed)
+-- where two are joined_ends to a write fault one of them is
+joined_write : (e : Result (Unit {0}) Stop) (r : Result (Unit {0}) IoFault) → joined_ends e (write_end r) ≡ Err WriteFault → (e ≡ Err WriteFault) ⊎ (r ≡ Err fault.Failed)
 joined_write e (Err fault.Failed) is = inr refl
 joined_write (Ok x) (Ok y) is = absurd (cc)
 joined_write (Ok x) (Err fault.NoMemory) is = absurd (cc)
@@ -104,11 +104,7 @@ feed_not_write : FeedRefused ≢ WriteFault
 feed_not_write e = cc
 
 other_than : (name other : List ℕ) → name ≢ other → Contains (other ∷ []) name → ⊥
-other_than name other apart within = at_place within.0 within.1 within.2
-  where
-    at_place : (k : ℕ) → k < length (other ∷ []) → get_or (other ∷ []) k name ≡ name → ⊥
-    at_place zero lt is = apart (sym is)
-    at_place (suc k) lt is = omega (arith, lt)
+other_than name other apart within = apart (sym (in_one other name within))
 
 -- what a sink's file has after it was given back it has after another one was given back
 lands_later : (a b c : Option Files) (names : List (List ℕ)) (name other : List ℕ) (held : Option (List ℕ)) (r : Result (Unit {0}) IoFault) → IsSome a → KeepsOthers a b names → KeepsOthers b c (other ∷ []) → name ≢ other → Lands a b name held r → Lands a c name held r
@@ -191,7 +187,7 @@ module _ {P O : Type 0} (p : PlaceSeen P) (s : SinkSeen O) where
   -- one sink more is given back
   pub gives_more : (a b c : P) (sinks : List O) (last : O) (e : Result (Unit {0}) Stop) (r : Result (Unit {0}) IoFault) → TakesSinks p s a b sinks e
       → Lands (p.files b) (p.files c) (s.name last) (s.held last) r → ChangesOnly (p.files b) (p.files c) (s.name last) → CountsPart (p.write_faults b) (p.write_faults c) (s.faults last) r
-      → p.created c ≡ p.created b → (p.read_faults c ≡ p.read_faults b) × (p.opened c ≡ p.opened b) → TakesSinks p s a c (sinks ++ last ∷ []) (joined e (write_end r))
+      → p.created c ≡ p.created b → (p.read_faults c ≡ p.read_faults b) × (p.opened c ≡ p.opened b) → TakesSinks p s a c (sinks ++ last ∷ []) (joined_ends e (write_end r))
   gives_more a b c sinks last e r one lands others counts created reading =
       let grow = grown (p.write_faults b) (p.write_faults c) (s.faults last) r counts in
       let names : map s.name (sinks ++ last ∷ []) ≡ map s.name sinks ++ s.name last ∷ [] = map-append s.name sinks (last ∷ []) in
@@ -199,7 +195,7 @@ module _ {P O : Type 0} (p : PlaceSeen P) (s : SinkSeen O) where
       record {
         answers = one.answers ++ r ∷ [];
         one_each = omega (arith, length-append one.answers (r ∷ []), length-append sinks (last ∷ []), one.one_each);
-        result_is = ap (λ (k : Result (Unit {0}) Stop). joined k (write_end r)) one.result_is ∙ sym (ap (fold joined (Ok tt)) (map-append write_end one.answers (r ∷ [])) ∙ fold-append joined (Ok tt) (map write_end one.answers) (write_end r ∷ []));
+        result_is = ap (λ (k : Result (Unit {0}) Stop). joined_ends k (write_end r)) one.result_is ∙ sym (ap (fold joined_ends (Ok tt)) (map-append write_end one.answers (r ∷ [])) ∙ fold-append joined_ends (Ok tt) (map write_end one.answers) (write_end r ∷ []));
         lands = λ told apart.
             let far = subst (λ (ns : List (List ℕ)). AllPairs (λ n m. n ≢ m) ns) names apart in
             let others_far = apart_last (map s.name sinks) (s.name last) far in
@@ -260,7 +256,7 @@ write_or_not WriteFault = inl refl
 write_or_not FeedRefused = inr (λ e. cc)
 
 -- want of memory is answered before all others
-lacked_stays : (gave : Result (Unit {0}) Stop) → joined (Err NoMemory) gave ≡ Err NoMemory
+lacked_stays : (gave : Result (Unit {0}) Stop) → joined_ends (Err NoMemory) gave ≡ Err NoMemory
 lacked_stays (Ok x) = refl
 lacked_stays (Err NoMemory) = refl
 lacked_stays (Err PlanRefused) = refl
@@ -272,14 +268,14 @@ same_end : (a b : Stop) → ends_err a ≡ ends_err b → a ≡ b
 same_end a b e = cc
 
 -- how a stage ends that creates, after what it created was given back
-pub ends_with : (stop stop' : Stop) (gave : Result (Unit {0}) Stop) → joined (Err stop) gave ≡ Err stop' → (stop ≡ stop') ⊎ (gave ≡ Err stop')
+pub ends_with : (stop stop' : Stop) (gave : Result (Unit {0}) Stop) → joined_ends (Err stop) gave ≡ Err stop' → (stop ≡ stop') ⊎ (gave ≡ Err stop')
 ends_with stop stop' (Ok x) e = inl (same_end stop stop' e)
 ends_with stop stop' (Err f) e = elim (one_of (nat_lt (rank_of f) (rank_of stop)) f stop) [ inl one ↦ inl (sym one ∙ same_end _ stop' e) | inr other ↦ inr (ap (λ k. Err k) (sym other ∙ same_end _ stop' e)) ]
 
 module _ {P O : Type 0} (p : PlaceSeen P) (s : SinkSeen O) where
   -- a stage that creates and ends the run gives back what it created, and leaves what it left, by how both ended
   pub creates_given_back : (a b c : P) (names first rest : List (List ℕ)) (sinks : List O) (stop stop' : Stop) (gave : Result (Unit {0}) Stop) → OpensScripts p a b [] names (Some stop) → TakesSinks p s b c sinks gave
-      → p.created b ≡ p.created a ++ (first ++ (map s.name sinks ++ rest)) → stop ≢ ReadFault → joined (Err stop) gave ≡ Err stop' → OpensScripts p a c [] names (Some stop')
+      → p.created b ≡ p.created a ++ (first ++ (map s.name sinks ++ rest)) → stop ≢ ReadFault → joined_ends (Err stop) gave ≡ Err stop' → OpensScripts p a c [] names (Some stop')
   creates_given_back a b c names first rest sinks stop stop' gave one back made no_read is =
       let makes : one.leaves.makes ≡ first ++ (map s.name sinks ++ rest) = cancel (p.created a) one.leaves.makes (first ++ (map s.name sinks ++ rest)) (sym one.leaves.created ∙ made) in
       let nothing : one.leaves.makes ≡ [] → c ≡ b = λ e. back.none (front_of_nil s.name sinks rest (back_nil first (map s.name sinks ++ rest) (sym makes ∙ e))) in
@@ -309,6 +305,7 @@ module _ {P O : Type 0} (p : PlaceSeen P) (s : SinkSeen O) where
           others = KeepsOthers-fewer (p.files a) (p.files c) one.leaves.makes (map s.name sinks) (λ n within. subst (λ (ns : List (List ℕ)). Contains ns n) (sym makes) (Contains-append_right first (map s.name sinks ++ rest) n (Contains-append_left (map s.name sinks) rest n within)))
               (KeepsOthers-more (p.files a) (p.files b) (p.files c) one.leaves.makes (map s.name sinks) one.leaves.others back.others);
         };
+        emptied = λ e. absurd (none_not_some _ (sym e));
         write = λ e.
             let end = same_stop _ _ e in
             elim (write_or_not stop) [
@@ -316,7 +313,7 @@ module _ {P O : Type 0} (p : PlaceSeen P) (s : SinkSeen O) where
               | inr other ↦ elim ended [
                 | inl one_end ↦ absurd (other (one_end ∙ end))
                 | inr second ↦ subst (λ n. Rose n (p.write_faults c))
-                    (one.leaves.write_quiet (λ w. other (same_stop _ _ w)) (λ m. lacked_not_write (ap (λ k. Some k) (same_end NoMemory WriteFault (sym (lacked_stays gave) ∙ (subst (λ (k : Stop). joined (Err k) gave ≡ Err stop') (same_stop _ _ m) is ∙ ap (λ k. Err k) end))))))
+                    (one.leaves.write_quiet (λ w. other (same_stop _ _ w)) (λ m. lacked_not_write (ap (λ k. Some k) (same_end NoMemory WriteFault (sym (lacked_stays gave) ∙ (subst (λ (k : Stop). joined_ends (Err k) gave ≡ Err stop') (same_stop _ _ m) is ∙ ap (λ k. Err k) end))))))
                     (back.write (second ∙ ap (λ k. Err k) end))
               ]
             ];

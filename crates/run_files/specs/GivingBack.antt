@@ -9,7 +9,7 @@ use Rattle.outer_io.specs.declared.fault.IoFault.{IoFault}
 use Rattle.outer_io.specs.declared.fault.IoFault.TheVariants as fault
 use Rattle.run_files.specs.Leaving.{KeepsOthers}
 use Rattle.run_files.specs.Outside.{PlaceSeen, SinkSeen}
-use Rattle.run_files.specs.Stops.{joined, write_end}
+use Rattle.run_files.specs.Stops.{joined_ends, write_end}
 use Rattle.run_files.specs.declared.stop.Stop.{Stop}
 use Rattle.run_files.specs.declared.stop.Stop.TheVariants.{PlanRefused, ReadFault, WriteFault, FeedRefused}
 
@@ -40,7 +40,7 @@ pub record TakesSinks {P O : Type 0} (p : PlaceSeen P) (s : SinkSeen O) (before 
   -- what giving each one back answered; the first in the order of what went wrong is the end
   pub answers : List (Result (Unit {0}) IoFault)
   pub one_each : length answers ≡ length sinks
-  pub result_is : result ≡ fold joined (Ok tt) (map write_end answers)
+  pub result_is : result ≡ fold joined_ends (Ok tt) (map write_end answers)
   -- each sink's file has what its answer says, where the files are told and no two sinks have one name
   pub lands : IsSome (p.files before) → AllPairs (λ n m. n ≢ m) (map s.name sinks) → AllZip (λ sink answer. Lands (p.files before) (p.files after) (s.name sink) (s.held sink) answer) sinks answers
   -- and every other file is as before

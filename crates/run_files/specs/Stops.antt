@@ -18,10 +18,10 @@ abbrev pub earlier : Stop → Stop → Stop
 earlier one other = if nat_lt (rank_of other) (rank_of one) then other else one
 
 -- how two things end that were both done
-abbrev pub joined : Result (Unit {0}) Stop → Result (Unit {0}) Stop → Result (Unit {0}) Stop
-joined (Ok done) end = end
-joined (Err one) (Ok done) = Err one
-joined (Err one) (Err other) = Err (earlier one other)
+abbrev pub joined_ends : Result (Unit {0}) Stop → Result (Unit {0}) Stop → Result (Unit {0}) Stop
+joined_ends (Ok done) end = end
+joined_ends (Err one) (Ok done) = Err one
+joined_ends (Err one) (Err other) = Err (earlier one other)
 
 -- how a run ends by what opening or reading a file answered, if it ends
 abbrev pub read_end : {T : Type 0} → Result T IoFault → Result T Stop

@@ -4,7 +4,7 @@ ghost use Rattle.run_files.specs.GivingBack.{TakesSinks, TakesSources};
 ghost use Rattle.run_files.specs.Outside.{seen_place, seen_sink};
 
 use crate::stop::write_end;
-use crate::{HeadedFeed, Stop, joined};
+use crate::{HeadedFeed, Stop, joined_ends};
 use outer_io::{LineCutter, Place};
 
 /// Gives sources back.
@@ -54,5 +54,5 @@ pub fn give_back_sinks<P: Place>(place: &mut P, mut sinks: Vec<P::Out>) -> Resul
     };
     let earlier = give_back_sinks(place, sinks);
     let end = place.give_back_out(last);
-    joined(earlier, write_end(end))
+    joined_ends(earlier, write_end(end))
 }

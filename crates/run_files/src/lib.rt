@@ -22,9 +22,11 @@ mod giving_back;
 mod loading;
 mod scripts;
 mod stop;
+#[cfg(test)]
+mod tests;
 
 pub use feeds::{HeadedFeed, open_feeds};
 pub use giving_back::{give_back_cutters, give_back_feeds, give_back_sinks, give_back_sources};
 pub use loading::{load_plan, read_file};
 pub use scripts::{ScriptParts, create_file, open_scripts};
-pub use stop::{Stop, ended_after, joined};
+pub use stop::{Stop, ended_after, joined_ends};

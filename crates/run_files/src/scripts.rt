@@ -70,7 +70,6 @@ pub fn create_file<P: Place>(name: &str, place: &mut P) -> Result<P::Out, Stop>
     ensures opens { OpensScripts (seen_place P.files P.read_faults P.write_faults P.opened P.created) place.old place.new [] (name.now ∷ []) (result_err result) }
     ensures no_read { result ≢ Err Stop.ReadFault }
     ensures output { IfOk result (IsOutput (seen_sink P.Out.held P.Out.faults P.Out.name) (P.files place.old) name.now) }
-    ensures emptied { OnOk result (HasFile (P.files place.new) name.now []) }
 {
     match place.create(name) {
         Ok(sink) => Ok(sink),
@@ -94,7 +93,6 @@ fn create_output<P: Place>(alloc: Global, script: &str, place: &mut P) -> Result
     ensures opens { OpensScripts (seen_place P.files P.read_faults P.write_faults P.opened P.created) place.old place.new [] (outputs (script.now ∷ [])) (result_err result) }
     ensures no_read { result ≢ Err Stop.ReadFault }
     ensures output { IfOk result (IsOutput (seen_sink P.Out.held P.Out.faults P.Out.name) (P.files place.old) (script.now ++ codes ".out")) }
-    ensures emptied { OnOk result (HasFile (P.files place.new) (script.now ++ codes ".out") []) }
 {
     match output_name(alloc, script) {
         Ok(name) => create_file(name.as_str(), place),

@@ -1,6 +1,6 @@
 //! Why a run ends.
 ghost use Rattle.std.specs.Prelude.{◌≡◌, Err};
-ghost use Rattle.run_files.specs.Stops.{earlier, joined, rank_of, read_end, write_end};
+ghost use Rattle.run_files.specs.Stops.{earlier, joined_ends, rank_of, read_end, write_end};
 
 use outer_io::IoFault;
 
@@ -40,8 +40,8 @@ fn earlier(one: Stop, other: Stop) -> Stop
 }
 
 /// How two things end that were both done: well where both did, else by the trouble that comes first in the order.
-pub fn joined(first: Result<(), Stop>, second: Result<(), Stop>) -> Result<(), Stop>
-    ensures { result ≡ joined first second }
+pub fn joined_ends(first: Result<(), Stop>, second: Result<(), Stop>) -> Result<(), Stop>
+    ensures { result ≡ joined_ends first second }
 {
     match (first, second) {
         (Ok(()), end) => end,
@@ -52,7 +52,7 @@ pub fn joined(first: Result<(), Stop>, second: Result<(), Stop>) -> Result<(), S
 
 /// How a run ends that was to end so, after what it had was given back.
 pub fn ended_after(stop: Stop, given: Result<(), Stop>) -> Stop
-    ensures { joined (Err stop) given ≡ Err result }
+    ensures { joined_ends (Err stop) given ≡ Err result }
 {
     match given {
         Ok(()) => stop,

@@ -3,7 +3,7 @@ use Rattle.std.proofs.lemmas.List.{append-nil}
 use Rattle.run_files.proofs.SinkReturns.{gives_more, gives_none, lands_one}
 use Rattle.run_files.specs.GivingBack.{TakesSinks}
 use Rattle.run_files.specs.Outside.{seen_place, seen_sink}
-use Rattle.run_files.specs.Stops.{joined, write_end}
+use Rattle.run_files.specs.Stops.{joined_ends, write_end}
 use Rattle.run_files.specs.declared.stop.Stop.{Stop}
 use Rattle.run_files.proofs.giving_back.+give_back_sinks.Goals as goal
 
@@ -12,9 +12,9 @@ returns g t c =
     let p = (seen_place g.P.Place.files g.P.Place.read_faults g.P.Place.write_faults g.P.Place.opened g.P.Place.created) in
     let s = (seen_sink g.P.Out.Sink.held g.P.Out.Sink.faults g.P.Out.Sink.name) in
     let r = c.give_back_out-end.result in
-    subst (λ (sinks : List g.row.P-Out.Denot). TakesSinks p s c.args.place.now c.give_back_out-end.new.self sinks c.joined.result) (sym c.in-Some.ensures.items)
+    subst (λ (sinks : List g.row.P-Out.Denot). TakesSinks p s c.args.place.now c.give_back_out-end.new.self sinks c.joined_ends.result) (sym c.in-Some.ensures.items)
     (subst (λ (e : Result (Unit {0}) Stop). TakesSinks p s c.args.place.now c.give_back_out-end.new.self (c.pop.new.self.items ++ c.in-Some.last ∷ []) e)
-    (sym (c.joined.ensures ∙ ap (λ (e : Result (Unit {0}) Stop). joined c.give_back_sinks-earlier.result e) c.write_end.ensures))
+    (sym (c.joined_ends.ensures ∙ ap (λ (e : Result (Unit {0}) Stop). joined_ends c.give_back_sinks-earlier.result e) c.write_end.ensures))
     (gives_more p s c.args.place.now c.give_back_sinks-earlier.new.place c.give_back_out-end.new.self c.pop.new.self.items c.in-Some.last c.give_back_sinks-earlier.result r c.give_back_sinks-earlier.ensures
     (lands_one (g.P.Place.files c.give_back_sinks-earlier.new.place) (g.P.Place.files c.give_back_out-end.new.self) (g.P.Out.Sink.name c.in-Some.last) (g.P.Out.Sink.held c.in-Some.last) r c.give_back_out-end.ensures.holds c.give_back_out-end.ensures.part c.give_back_out-end.ensures.no_memory)
     c.give_back_out-end.ensures.others c.give_back_out-end.ensures.counts c.give_back_out-end.ensures.created c.give_back_out-end.ensures.reading))

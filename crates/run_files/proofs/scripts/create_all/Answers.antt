@@ -31,8 +31,8 @@ returns-in-Err-clause-opens g c =
     let finals = subst (λ (items : List g.row.P-Out.Denot). AllZip (IsOutput s files) (outputs c.args.plan.now.finals) items) (sym c.into_vec-in-Err.ensures) c.in_ok-asks.ensures.finals in
     let both = created_both p s files files c.args.place.now c.create_replies.new.place c.create_file.new.place (outputs c.args.plan.now.asks) (outputs c.args.plan.now.finals) (c.args.plan.now.journal ∷ []) xs ys (Some c.in-Err.stop) c.in_ok-asks.ensures.opens journal asks finals in
     let first = creates_given_back p s c.args.place.now c.create_file.new.place c.give_back_sinks-given.new.place (output_names c.args.plan.now) [] (map s.name ys ++ both.0) xs c.in-Err.stop c.ended_after-end.result c.give_back_sinks-given.result
-        (scripts_and_creates p c.args.place.now c.create_replies.new.place c.create_file.new.place [] (outputs c.args.plan.now.asks ++ outputs c.args.plan.now.finals) (c.args.plan.now.journal ∷ []) (Some c.in-Err.stop) c.in_ok-asks.ensures.opens journal)
-        c.give_back_sinks-given.ensures both.1 (λ e. c.in-Err.ensures.no_read (ap (λ k. Err k) e)) c.ended_after-end.ensures in
+    (scripts_and_creates p c.args.place.now c.create_replies.new.place c.create_file.new.place [] (outputs c.args.plan.now.asks ++ outputs c.args.plan.now.finals) (c.args.plan.now.journal ∷ []) (Some c.in-Err.stop) c.in_ok-asks.ensures.opens journal)
+    c.give_back_sinks-given.ensures both.1 (λ e. c.in-Err.ensures.no_read (ap (λ k. Err k) e)) c.ended_after-end.ensures in
     creates_given_back p s c.args.place.now c.give_back_sinks-given.new.place c.give_back_sinks-given-in-Err.new.place (output_names c.args.plan.now) (map s.name xs) both.0 ys c.ended_after-end.result c.ended_after.result c.give_back_sinks-given-in-Err.result first
     c.give_back_sinks-given-in-Err.ensures (c.give_back_sinks-given.ensures.created ∙ both.1)
     (ended_not_read c.in-Err.stop c.ended_after-end.result c.give_back_sinks-given.result (λ e. c.in-Err.ensures.no_read (ap (λ k. Err k) e)) c.give_back_sinks-given.ensures.only.1 c.ended_after-end.ensures) c.ended_after.ensures

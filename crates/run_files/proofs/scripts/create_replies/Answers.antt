@@ -35,9 +35,9 @@ returns-in-Err-clause-opens g c =
     let asks = subst (λ (ns : List (List ℕ)). OpensScripts p c.args.place.now c.create_list.new.place [] (outputs ns) None) c.as_slice.ensures c.in_ok-asks.ensures.opens in
     let finals = subst (λ (ns : List (List ℕ)). OpensScripts p c.create_list.new.place c.create_list-2.new.place [] (outputs ns) (Some c.in-Err.stop)) c.as_slice-2.ensures c.in-Err.ensures.opens in
     let zip = subst (λ (items : List g.row.P-Out.Denot). AllZip (IsOutput s (g.P.Place.files c.args.place.now)) (outputs c.args.plan.now.asks) items) (sym c.into_vec.ensures)
-        (subst (λ (ns : List (List ℕ)). AllZip (IsOutput s (g.P.Place.files c.args.place.now)) (outputs ns) c.in_ok-asks.asks) c.as_slice.ensures c.in_ok-asks.ensures.outputs) in
+    (subst (λ (ns : List (List ℕ)). AllZip (IsOutput s (g.P.Place.files c.args.place.now)) (outputs ns) c.in_ok-asks.asks) c.as_slice.ensures c.in_ok-asks.ensures.outputs) in
     let made = created_part p s c.args.place.now c.create_list.new.place c.create_list-2.new.place c.into_vec.result.items (outputs c.args.plan.now.finals) (Some c.in-Err.stop)
-        (created_all p c.args.place.now c.create_list.new.place (outputs c.args.plan.now.asks) asks ∙ ap (λ m. g.P.Place.created c.args.place.now ++ m) (sym (names_of s (g.P.Place.files c.args.place.now) (outputs c.args.plan.now.asks) c.into_vec.result.items zip))) finals in
+    (created_all p c.args.place.now c.create_list.new.place (outputs c.args.plan.now.asks) asks ∙ ap (λ m. g.P.Place.created c.args.place.now ++ m) (sym (names_of s (g.P.Place.files c.args.place.now) (outputs c.args.plan.now.asks) c.into_vec.result.items zip))) finals in
     creates_given_back p s c.args.place.now c.create_list-2.new.place c.give_back_sinks-given.new.place (outputs c.args.plan.now.asks ++ outputs c.args.plan.now.finals) [] made.0 c.into_vec.result.items c.in-Err.stop c.ended_after.result c.give_back_sinks-given.result
     (scripts_and_creates p c.args.place.now c.create_list.new.place c.create_list-2.new.place [] (outputs c.args.plan.now.asks) (outputs c.args.plan.now.finals) (Some c.in-Err.stop) asks finals)
     c.give_back_sinks-given.ensures made.1 (λ e. c.in-Err.ensures.no_read (ap (λ k. Err k) e)) c.ended_after.ensures
