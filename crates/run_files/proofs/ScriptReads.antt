@@ -1,5 +1,5 @@
 -- Scripts that are opened, and outputs that are created, one after another.
-use Rattle.std.proofs.Common.{All, Err, List, None, Ok, Option, Result, Some, [], ap, append_assoc, arith, get_or, inl, inr, length, lit<, map, refl, subst, suc, sym, zero, ℕ, ◌++◌, ◌<◌, ◌∙◌, ◌∷◌, ◌≡◌, ◌≢◌, ◌⊎◌}
+use Rattle.std.proofs.Common.{All, Err, List, None, Ok, Option, Result, Some, [], ap, append_assoc, arith, inl, inr, lit<, map, refl, subst, sym, ℕ, ◌++◌, ◌∙◌, ◌∷◌, ◌≡◌, ◌≢◌, ◌⊎◌}
 use Rattle.std.proofs.lemmas.Bool.{cases_eq, false≢true}
 use Rattle.std.proofs.lemmas.List.Elements.{All-append, All-cons, All-contains, All-nil, All-weaker, Contains-append_cases, Contains-append_right}
 use Rattle.run_files.proofs.Apart.{none_not_some}
@@ -12,7 +12,7 @@ use Rattle.outer_io.specs.Cutting.{Cutter}
 use Rattle.outer_io.specs.Faults.{Rose}
 use Rattle.outer_io.specs.Files.{ChangesOnly, Files, HasFile}
 use Rattle.run_files.proofs.Lists.{AllZip-more, in_one}
-use Rattle.run_files.proofs.Stages.{KeepsOthers-same, leaves_and_creates, leaves_as_before, leaves_more, leaves_not, leaves_one, leaves_reading, leaves_then, leaves_unmade, nothing_made}
+use Rattle.run_files.proofs.Stages.{KeepsOthers-same, leaves_and_creates, leaves_as_before, leaves_more, leaves_reading, leaves_then, leaves_unmade, nothing_made}
 use Rattle.run_files.proofs.Returning.{leaves_given_back}
 use Rattle.run_files.specs.GivingBack.{TakesSources}
 use Rattle.run_files.specs.Leaving.{KeepsOthers, LeavesPlace}

@@ -1,12 +1,11 @@
 -- Scripts opened and outputs created, both after each other, and given back.
-use Rattle.std.proofs.Common.{◌≡◌, ◌≢◌, ℕ, List, [], ◌∷◌, ◌++◌, map, Option, Some, None, Result, Ok, Err, inl, inr, refl, sym, ◌∙◌, ap, subst, append_assoc}
+use Rattle.std.proofs.Common.{◌≡◌, ◌≢◌, ℕ, List, [], ◌∷◌, ◌++◌, map, Option, None, Result, Err, inl, inr, refl, sym, ◌∙◌, ap, append_assoc}
 use Rattle.std.specs.List.{AllZip}
-use Rattle.std.specs.Prelude.{IsErrAnd, IsSome}
+use Rattle.std.specs.Prelude.{IsSome}
 use Rattle.std.proofs.lemmas.List.{append-nil}
 use Rattle.outer_io.specs.Files.{Files}
 use Rattle.run_files.proofs.ScriptReads.{output_later}
 use Rattle.run_files.proofs.SinkReturns.{ends_with}
-use Rattle.run_files.specs.Leaving.{LeavesPlace}
 use Rattle.run_files.specs.Outside.{PlaceSeen, SinkSeen}
 use Rattle.run_files.specs.Scripted.{IsOutput, OpensScripts}
 use Rattle.run_files.specs.Stops.{joined_ends}

@@ -3,7 +3,7 @@ use Rattle.std.proofs.lemmas.List.{append-nil}
 use Rattle.run_files.proofs.SinkReturns.{gives_more, gives_none, lands_one}
 use Rattle.run_files.specs.GivingBack.{TakesSinks}
 use Rattle.run_files.specs.Outside.{seen_place, seen_sink}
-use Rattle.run_files.specs.Stops.{joined_ends, write_end}
+use Rattle.run_files.specs.Stops.{joined_ends}
 use Rattle.run_files.specs.declared.stop.Stop.{Stop}
 use Rattle.run_files.proofs.giving_back.+give_back_sinks.Goals as goal
 

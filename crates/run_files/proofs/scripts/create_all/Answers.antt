@@ -1,4 +1,4 @@
-use Rattle.std.proofs.Common.{◌≡◌, ◌++◌, ◌∷◌, ◌∙◌, [], ℕ, List, Err, Some, None, ap, map, refl, sym, subst}
+use Rattle.std.proofs.Common.{◌++◌, ◌∷◌, ◌∙◌, [], ℕ, List, Err, Some, None, ap, map, refl, sym, subst}
 use Rattle.std.specs.List.{AllZip}
 use Rattle.cube_schema.specs.Files.{output_names}
 use Rattle.cube_schema.specs.Repeats.{outputs}

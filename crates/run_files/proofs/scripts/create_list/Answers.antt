@@ -1,4 +1,4 @@
-use Rattle.std.proofs.Common.{◌∙◌, [], Err, ap}
+use Rattle.std.proofs.Common.{[], Err, ap}
 use Rattle.cube_schema.specs.Repeats.{outputs}
 use Rattle.run_files.proofs.ScriptReads.{scripts_nothing}
 use Rattle.run_files.proofs.SinkReturns.{creates_given_back}

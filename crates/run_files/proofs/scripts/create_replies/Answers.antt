@@ -1,4 +1,4 @@
-use Rattle.std.proofs.Common.{◌≡◌, ◌++◌, ◌∙◌, [], ℕ, List, Err, Some, None, ap, refl, sym, subst}
+use Rattle.std.proofs.Common.{◌++◌, ◌∙◌, [], ℕ, List, Err, Some, None, ap, refl, sym, subst}
 use Rattle.std.specs.List.{AllZip}
 use Rattle.cube_schema.specs.Repeats.{outputs}
 use Rattle.run_files.proofs.ScriptReads.{created_part, creates_residual, scripts_and_creates, still_told}

@@ -1,4 +1,4 @@
-use Rattle.std.proofs.Common.{◌≡◌, ◌≤◌, ℕ, [], length, take, All, vec_len, vec_capacity, None}
+use Rattle.std.proofs.Common.{◌≡◌, ◌≤◌, [], length, take, All, vec_len, vec_capacity, None}
 use Rattle.std.specs.List.{AllZip}
 use Rattle.outer_io.specs.declared.cutter.LineCutter.{LineCutter}
 use Rattle.run_files.specs.Outside.{file_of, seen_place}

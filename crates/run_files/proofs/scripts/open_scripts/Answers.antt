@@ -1,4 +1,4 @@
-use Rattle.std.proofs.Common.{◌≡◌, ◌++◌, [], ℕ, List, Some, None, map, sym, subst, All}
+use Rattle.std.proofs.Common.{◌≡◌, ◌++◌, [], List, Some, None, map, sym, subst, All}
 use Rattle.std.proofs.lemmas.List.{append-nil}
 use Rattle.std.proofs.lemmas.List.Elements.{All-map}
 use Rattle.cube_schema.specs.Files.{output_names}
