@@ -1,5 +1,5 @@
 mod Keeping
 mod Lengths
-mod Opening
+pub mod Opening
 mod Running
 mod Taking

@@ -1,11 +1,12 @@
 -- A session's part of a run as contracts see it.
-use Rattle.std.specs.Prelude.{◌≡◌, ℕ, ◌-◌, List, length, Option, Some, None, Result, Ok, Err, slice_get, unwrap_or}
+use Rattle.std.specs.Prelude.{◌≡◌, ℕ, ◌-◌, Bool, true, false, ◌||◌, List, length, Option, Some, None, Result, Ok, Err, slice_get, unwrap_or}
 use Rattle.crew_session.specs.declared.done.SessionDone.{SessionDone}
 use Rattle.cube_view.specs.declared.schema.Schema.{Schema}
 use Rattle.live_session.specs.State.{SessionState, new_session}
 use Rattle.mailbox.specs.Ends.{OutEnd}
 use Rattle.published_pair.specs.Rules.{Known}
 use Rattle.session_core.specs.declared.fault.SessionFault.{SessionFault}
+use Rattle.session_core.specs.declared.fault.SessionFault.TheVariants as fault
 
 -- A session with its viewer and its end of a mailbox
 pub record WorkState (I O : Type 0) : Type 0 where
@@ -48,3 +49,15 @@ done_of work = record {
   mail = work.mail;
   fault = ending_fault work.end;
 }
+
+-- its run ended for want of memory
+abbrev pub is_starved_end : Result (Unit {0}) SessionFault → Bool
+is_starved_end (Ok x) = false
+is_starved_end (Err fault.NoMemory) = true
+is_starved_end (Err fault.Read) = false
+is_starved_end (Err fault.Write) = false
+is_starved_end (Err fault.TooMuch) = false
+
+-- one of its replies was the line for want of memory, or its run ended for want of it
+abbrev pub has_starved : {I O : Type 0} → WorkState I O → Bool
+has_starved work = work.session.lacked || is_starved_end work.end

@@ -1,8 +1,9 @@
 //! A session's work: the session, its viewer and its end of a mailbox in one place.
 ghost use Rattle.std.specs.Prelude.{◌≡◌, Some};
 ghost use Rattle.crew_session.specs.Leaves.{LeavesSession};
-ghost use Rattle.crew_session.specs.Work.{HadNoTurn, done_of, last_number};
+ghost use Rattle.crew_session.specs.Work.{HadNoTurn, done_of, has_starved, last_number};
 ghost use Rattle.probe_core.specs.Blanks.{IsBlankOf};
+ghost use Rattle.world_core.specs.PairFact.{IsPrefix};
 
 use crate::SessionDone;
 use core::mem::replace_with;
@@ -96,6 +97,7 @@ impl<V: Grow, I: Source, O: Sink> SessionWork<V, I, O> {
     pub fn learn_last(&mut self, last: Last)
         requires { last.whole.book ≡ self.old.shown.book }
         ensures learned { (self.new.learned.points ≡ last.whole.points) × (self.new.last ≡ Some last.whole) }
+        ensures grown { IsPrefix self.old.learned.points last.whole.points }
         ensures same { (self.new.session ≡ self.old.session) × (self.new.mail ≡ self.old.mail) × (self.new.end ≡ self.old.end) }
         ensures shown { (self.new.shown ≡ self.old.shown) × (self.new.schema ≡ self.old.schema) }
     {
@@ -115,6 +117,13 @@ impl<V: Grow, I: Source, O: Sink> SessionWork<V, I, O> {
                 ensures { LeavesSession I.left I.faults O.held O.faults O.name V.is_stat work result.0 }
             { (run_uncounted(rt, alloc, work), ()) },
         );
+    }
+
+    /// Whether a reply was the line for want of memory, or its run ended for want of it.
+    pub fn has_starved(&self) -> bool
+        ensures { result ≡ has_starved self.now }
+    {
+        self.session.lacked() || self.end == Err(SessionFault::NoMemory)
     }
 
     /// What it gives back, and its viewer.

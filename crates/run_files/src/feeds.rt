@@ -11,11 +11,11 @@ ghost use Rattle.run_files.specs.Leaving.{LeavesPlace};
 ghost use Rattle.run_files.specs.Outside.{FailsToPut, file_of, Puts, seen_place, seen_sink, Silent};
 
 use crate::Stop;
-use run_report::header_refused;
 use crate::giving_back::give_back_feeds;
 use cube_view::Schema;
 use feed_reader::{HeadFault, Header, NoHeader, read_header};
 use outer_io::{IoFault, LineCutter, List, Place, Sink, Source, Text};
+use run_report::header_refused;
 use std::alloc::Global;
 
 /// A feed whose header was read from its first line, with the cutter of the lines after it.

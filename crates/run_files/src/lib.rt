@@ -7,8 +7,9 @@
 //! the later ones. What each stage leaves of the place is one record, `LeavesPlace` of `specs/Leaving.antt`, which two
 //! stages after each other meet together by the laws of `proofs/Stages.antt`.
 //!
-//! It stands on `outer_io` for places and their parts, `cube_schema` for plans and `feed_reader` for headers. What runs
-//! between opening and giving back, what is written to the sinks, and which exit code an end has is left to others.
+//! It stands on `outer_io` for places and their parts, `cube_schema` for plans, `feed_reader` for headers and
+//! `run_report` for the lines of what is refused. What runs between opening and giving back, what is written to the
+//! sinks, and which exit code an end has is left to others.
 //!
 //! ```text
 //! let plan = load_plan(alloc, "plan.json", &mut place, &mut out)?;             // or one line, `plan: FAULT`

@@ -8,10 +8,10 @@ ghost use Rattle.run_files.specs.Outside.{FailsToPut, file_of, Puts, seen_place,
 ghost use Rattle.run_files.specs.Planned.{ReadsPlan};
 
 use crate::Stop;
-use run_report::plan_refused;
 use crate::stop::read_end;
 use cube_schema::{Plan, PlanFault, read_plan};
 use outer_io::{IoFault, List, NoMemory, Place, Sink, read_up_to};
+use run_report::plan_refused;
 use std::alloc::Global;
 
 /// The most bytes of a plan.
