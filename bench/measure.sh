@@ -1,0 +1,24 @@
+#!/usr/bin/env bash
+# Builds one of the measuring programs in a clone of this repository, after its proof, and runs it:
+#   bench/measure.sh table_times [WORD..]
+# Its sources lie in bench/NAME with `.txt` after their names, since only a crate may hold sources.
+set -e
+name=$1
+shift
+here=$(cd "$(dirname "$0")" && pwd)
+copy=$(mktemp -d)
+git clone -q "$here/.." "$copy/clone"
+cd "$copy/clone"
+rt new "crates/$name" start_io >/dev/null
+rm -rf "crates/$name"/{src,specs,proofs,stdin,stdout}
+mkdir -p "crates/$name"/{src,specs,proofs}
+: >"crates/$name/specs/Lib.antt"
+: >"crates/$name/proofs/Lib.antt"
+cp "$here/$name/main.rt.txt" "crates/$name/src/main.rt"
+(cd "$here/$name" && find proofs -name '*.antt.txt') | while read -r file; do
+    mkdir -p "crates/$name/$(dirname "$file")"
+    cp "$here/$name/$file" "crates/$name/${file%.txt}"
+done
+echo "$name: $(cat "$here/$name/stands_on")" >>crates.txt
+cd "crates/$name"
+exec rt run -- "$@"
