@@ -305,8 +305,10 @@ fn answers(cube: &Cube, records: u32) {
     println!("hist kind: {:.2} us each ({bytes})", start.elapsed().as_secs_f64() * 1e6 / 1000.0);
 }
 
+/// With a number of records as its argument only those are taken.
 fn main() {
-    for records in [20_000, 200_000] {
+    let only: Option<u32> = std::env::args().nth(1).and_then(|n| n.parse().ok());
+    for records in only.map_or(vec![20_000, 200_000], |n| vec![n]) {
         drop(filled("city", records, city));
         let cube = filled("generated", records, generated);
         answers(&cube, records);

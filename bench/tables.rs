@@ -2,98 +2,94 @@
 //! With an argument the totals of 100,000 random bins are taken too, which is slow.
 use std::collections::BTreeMap;
 use std::time::Instant;
+
 const CALLS: u64 = 1_000_000;
-fn next_number(s: u64) -> u64 {
+const ITEMS: u64 = 2_000_000;
+
+/// The numbers of a linear congruence from this state on.
+fn numbers(state: u64) -> impl Iterator<Item = u64> {
+    std::iter::successors(Some(next(state)), |&s| Some(next(s)))
+}
+
+fn next(s: u64) -> u64 {
     s.wrapping_mul(6364136223846793005)
         .wrapping_add(1442695040888963407)
 }
-fn bin_of(i: u64, drawn: u64, bins: u64, rising: bool) -> u32 {
-    (if rising {
-        i * bins / CALLS
-    } else {
-        (drawn >> 33) % bins
-    }) as u32
+
+/// The bins of the calls, drawn or rising.
+#[derive(Clone, Copy)]
+struct Bins {
+    below: u64,
+    rising: bool,
 }
-fn map(bins: u64, rising: bool) {
-    let start = Instant::now();
-    let mut m: BTreeMap<u32, u64> = BTreeMap::new();
-    let mut n = 1;
-    for i in 0..CALLS {
-        n = next_number(n);
-        *m.entry(bin_of(i, n, bins, rising)).or_insert(0) += 1;
+
+impl Bins {
+    fn drawn_from(self, state: u64) -> impl Iterator<Item = u32> {
+        (0..CALLS).zip(numbers(state)).map(move |(i, drawn)| {
+            let bin = if self.rising { i * self.below / CALLS } else { (drawn >> 33) % self.below };
+            bin as u32
+        })
     }
-    let added = start.elapsed().as_micros();
-    let start = Instant::now();
-    let mut n = 7;
-    let mut sum = 0u64;
-    for i in 0..CALLS {
-        n = next_number(n);
-        if let Some((b, c)) = m.range(bin_of(i, n, bins, rising)..).next() {
-            sum = sum.wrapping_add(*c).wrapping_add(*b as u64);
-        }
-    }
-    println!(
-        "map {bins} {rising} {added} {} {sum}",
-        start.elapsed().as_micros()
-    );
 }
-fn totals(bins: u64, rising: bool) {
+
+/// What a call gives, and how many microseconds it took.
+fn timed<T>(call: impl FnOnce() -> T) -> (T, u128) {
     let start = Instant::now();
-    let mut v: Vec<(u32, u64)> = Vec::new();
-    let mut n = 1;
-    for i in 0..CALLS {
-        n = next_number(n);
-        let b = bin_of(i, n, bins, rising);
-        let at = v.partition_point(|r| r.0 < b);
-        if at == v.len() || v[at].0 != b {
-            let before = if at == 0 { 0 } else { v[at - 1].1 };
-            v.insert(at, (b, before));
-        }
-        for r in &mut v[at..] {
-            r.1 += 1;
-        }
-    }
-    let added = start.elapsed().as_micros();
-    let start = Instant::now();
-    let mut n = 7;
-    let mut sum = 0u64;
-    for i in 0..CALLS {
-        n = next_number(n);
-        let at = v.partition_point(|r| r.0 < bin_of(i, n, bins, rising));
-        sum = sum.wrapping_add(if at == 0 { 0 } else { v[at - 1].1 });
-    }
-    println!(
-        "totals {bins} {rising} {added} {} {sum}",
-        start.elapsed().as_micros()
-    );
+    let given = call();
+    (given, start.elapsed().as_micros())
 }
+
+/// Fills a table, asks it, and prints both times.
+fn measure<T>(name: &str, bins: Bins, mut table: T, add: impl Fn(&mut T, u32), ask: impl Fn(&T, u32) -> u64) {
+    let ((), added) = timed(|| bins.drawn_from(1).for_each(|bin| add(&mut table, bin)));
+    let (sum, asked) = timed(|| bins.drawn_from(7).fold(0u64, |sum, bin| sum.wrapping_add(ask(&table, bin))));
+    println!("{name} {} {} {added} {asked} {sum}", bins.below, bins.rising);
+}
+
+/// The place of the first row from the bin on.
+fn place(rows: &[(u32, u64)], bin: u32) -> usize {
+    rows.partition_point(|row| row.0 < bin)
+}
+
+/// How much the rows before a place have.
+fn before(rows: &[(u32, u64)], place: usize) -> u64 {
+    if place == 0 { 0 } else { rows[place - 1].1 }
+}
+
+fn add_to_totals(rows: &mut Vec<(u32, u64)>, bin: u32) {
+    let at = place(rows, bin);
+    if at == rows.len() || rows[at].0 != bin {
+        rows.insert(at, (bin, before(rows, at)));
+    }
+    for row in &mut rows[at..] {
+        row.1 += 1;
+    }
+}
+
+fn next_entry(map: &BTreeMap<u32, u64>, bin: u32) -> u64 {
+    map.range(bin..).next().map_or(0, |(bin, count)| count + u64::from(*bin))
+}
+
 fn list() {
-    let start = Instant::now();
-    let mut v: Vec<[u64; 5]> = Vec::new();
-    for i in 0..2_000_000u64 {
-        v.push([i; 5]);
-    }
-    let pushed = start.elapsed().as_micros();
-    let start = Instant::now();
-    let mut n = 7;
-    let mut sum = 0u64;
-    for _ in 0..2_000_000u64 {
-        n = next_number(n);
-        sum = sum.wrapping_add(v[((n >> 33) % 2_000_000) as usize][2]);
-    }
-    println!("list {pushed} {} {sum}", start.elapsed().as_micros());
+    let (items, pushed) = timed(|| {
+        let mut items: Vec<[u64; 5]> = Vec::new();
+        for i in 0..ITEMS {
+            items.push([i; 5]);
+        }
+        items
+    });
+    let places = || numbers(7).take(ITEMS as usize).map(|n| (n >> 33) % ITEMS);
+    let (sum, read) = timed(|| places().fold(0u64, |sum, at| sum.wrapping_add(items[at as usize][2])));
+    println!("list {pushed} {read} {sum}");
 }
+
 fn main() {
-    for (b, r) in [
-        (16, false),
-        (1024, false),
-        (100_000, false),
-        (1024, true),
-        (100_000, true),
-    ] {
-        map(b, r);
-        if std::env::args().len() > 1 || b < 100_000 || r {
-            totals(b, r);
+    let all = std::env::args().len() > 1;
+    for (below, rising) in [(16, false), (1024, false), (100_000, false), (1024, true), (100_000, true)] {
+        let bins = Bins { below, rising };
+        measure("map", bins, BTreeMap::new(), |map, bin| *map.entry(bin).or_insert(0) += 1, next_entry);
+        if all || below < 100_000 || rising {
+            measure("totals", bins, Vec::new(), add_to_totals, |rows, bin| before(rows, place(rows, bin)));
         }
     }
     list();
