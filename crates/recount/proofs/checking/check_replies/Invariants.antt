@@ -1,0 +1,5 @@
+use Rattle.recount.proofs.Auditing.{Audited}
+use Rattle.recount.proofs.checking.check_replies.Given as goal
+
+abbrev pub invariant-replies : goal.invariant-replies
+invariant-replies l = Audited l.schema l.points l.asked l.fn.replies l.audit l.rest l.without l.i

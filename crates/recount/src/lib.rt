@@ -1,0 +1,30 @@
+//! A session's transcript audited without the tree: a journal, a script and the replies to it, compared by plain filters.
+//!
+//! [`check`] needs nothing of the run that made the texts. When they agree is defined in `specs/Agreement.antt`, by the
+//! journal's text (`feed_queue`), interleavings (`world_core`) and transcripts (`session_core`), which are what a run
+//! claims of its files; and what is found where they do not in `specs/Faults.antt`. The journal is read line by line;
+//! then each reply is compared with the one that `session_core` serves over a `plain_cube`, which grows with the number
+//! of points that the replies print, so each table takes a scan of the points that it has seen. Reading files, and what
+//! a program writes of a verdict, are left to the crates above.
+//!
+//! ```
+//! let journal = b"1 0 0 0 0 0\n1 1 7 7 1 1\n";
+//! let verdict = check(alloc, &schema, 1, journal, b"count\n", b"{\"rows\":[[2]],\"seen\":2}\n")?;
+//! assert_eq!(verdict, Verdict::Agree { replies: 1, without: 0 });
+//! ```
+#![tactic(auto)]
+
+mod asked;
+mod checking;
+mod comparing;
+mod entries;
+mod journal;
+mod lines;
+mod replies;
+mod testing;
+#[cfg(test)]
+mod tests;
+mod verdict;
+
+pub use checking::check;
+pub use verdict::{Verdict, Why};
