@@ -1,21 +1,20 @@
 -- What the lines of a script ask, one after another.
-use Rattle.std.proofs.Common.{◌≡◌, ℕ, ◌<◌, Bool, true, false, not, if◌then◌else◌, IsTrue, List, [], ◌∷◌, ◌++◌, All, Option, Some, None, refl, sym, ap, ◌∙◌, subst, append-nil, append_assoc, arith}
+use Rattle.std.proofs.Common.{◌≡◌, ℕ, Bool, true, false, not, if◌then◌else◌, IsTrue, List, [], ◌∷◌, ◌++◌, All, Option, Some, None, refl, sym, ap, ◌∙◌, subst, append-nil, append_assoc, arith}
 use Rattle.std.specs.Prelude.{IsSomeAnd}
 use Rattle.std.proofs.lemmas.Bool.{false≢true}
 use Rattle.std.proofs.lemmas.List.Elements.{All-append, All-cons}
 use Rattle.cube_view.specs.declared.schema.Schema.{Schema}
-use Rattle.outer_io.specs.Cutting.{Cutter, lines_left, input_size}
-use Rattle.outer_io.specs.Faults.{Rose}
-use Rattle.outer_io.specs.Lines.{Line, input_limit}
-use Rattle.outer_io.specs.Progress.{IsGoing, IsTooLarge, Passes, PassesAll}
+use Rattle.outer_io.specs.Cutting.{Cutter, lines_left}
+use Rattle.outer_io.specs.Lines.{Line}
+use Rattle.outer_io.specs.Progress.{IsGoing, Passes}
 use Rattle.outer_io.specs.Told.{Told}
-use Rattle.outer_io.proofs.ProgressLaws.{passes_none, passes_on, passes_all}
+use Rattle.outer_io.proofs.ProgressLaws.{passes_on}
 use Rattle.outer_io.proofs.ToldLaws.{Told-each}
 use Rattle.query_syntax.specs.Meaning.{asks_valid}
 use Rattle.query_syntax.specs.declared.query.Parsed.{Parsed}
 use Rattle.query_syntax.specs.declared.query.Parsed.TheVariants as parsed
 use Rattle.session_core.specs.Asked.{asked, asked_then, asks_reply, asks_to_end, ends, line_meaning}
-use Rattle.session_core.specs.Scripts.{has_quit, is_quit}
+use Rattle.session_core.specs.Scripts.{has_quit}
 use Rattle.session_core.specs.Turns.{PassesLine}
 use Rattle.session_core.proofs.AskedLaws.{asked-append, asked-quit, has_quit-push}
 
@@ -56,9 +55,6 @@ module _ {S : Type 0} (left : S → Option (List ℕ)) (faults : S → ℕ) (sch
     pub going : IsGoing now
     pub valid : All (IsValid schema) ps
 
-  pub asked_none : (start : Cutter S) → IsGoing start → AskedSoFar start start []
-  asked_none start going = record { lines = []; passed = passes_none left faults start; no_quit = refl; asks = refl; going = going; valid = none_all (IsValid schema) }
-
   pub asked_on : (start now next : Cutter S) (ps more : List Parsed) (p : Parsed) (line : Line) → AskedSoFar start now ps → PassesLine left faults schema now next line → p ≡ line_meaning schema line → IsValid schema p → asks_to_end p ≡ false → more ≡ ps ++ asked_then p [] → AskedSoFar start next more
   asked_on start now next ps more p line s on is valid goes same = record {
     lines = s.lines ++ line ∷ [];
@@ -69,11 +65,6 @@ module _ {S : Type 0} (left : S → Option (List ℕ)) (faults : S → ℕ) (sch
     valid = subst (All (IsValid schema)) (sym same) (All-append (IsValid schema) ps (asked_then p []) s.valid (valid_then schema p valid));
   }
 
-  pub asked_end : (start now next : Cutter S) (ps : List Parsed) → AskedSoFar start now ps → PassesAll left faults now next [] → Told (lines_left left start) (λ all. ps ≡ asked schema all)
-  asked_end start now next ps s all =
-      Told-each (lines_left left start) _ _ (λ xs e. s.asks ∙ ap (asked schema) (sym (e ∙ append-nil s.lines)))
-      (passes_all left faults start now next s.lines [] s.passed all).covers
-
   pub asked_last : (start now next : Cutter S) (ps : List Parsed) (p : Parsed) (line : Line) → AskedSoFar start now ps → PassesLine left faults schema now next line → p ≡ line_meaning schema line → asks_to_end p ≡ true → Told (lines_left left start) (λ all. ps ≡ asked schema all)
   asked_last start now next ps p line s on is quit =
       Told-each (lines_left left start) _ _ (λ xs e. here (lines_left left next) xs e)
@@ -82,10 +73,3 @@ module _ {S : Type 0} (left : S → Option (List ℕ)) (faults : S → ℕ) (sch
       here : (o : Option (List Line)) (xs : List Line) → IsSomeAnd o (λ rest. xs ≡ (s.lines ++ line ∷ []) ++ rest) → ps ≡ asked schema xs
       here None xs e = absurd e
       here (Some rest) xs e = s.asks ∙ sym (ap (asked schema) (e ∙ append_assoc s.lines (line ∷ []) rest) ∙ asked-quit schema s.lines line rest s.no_quit (ap asks_to_end (sym is) ∙ quit))
-
-  pub large_at_start : (start now : Cutter S) (ps : List Parsed) → AskedSoFar start now ps → IsTooLarge left now → IsTooLarge left start
-  large_at_start start now ps s large =
-      Told-each (input_size left start) _ _ (λ size e. subst (λ (o : Option ℕ). Told o (λ n. input_limit < n)) e large) s.passed.size
-
-  pub rose_at_start : (start now next : Cutter S) (ps : List Parsed) → AskedSoFar start now ps → Rose (faults now.source) (faults next.source) → Rose (faults start.source) (faults next.source)
-  rose_at_start start now next ps s rose = subst (λ n. Rose n (faults next.source)) s.passed.quiet rose

@@ -1,24 +1,23 @@
 -- Replies, tested one after another.
-use Rattle.std.proofs.Common.{◌≡◌, ◌≢◌, ℕ, suc, ◌+◌, ◌≤◌, ◌<◌, max, IsTrue, List, [], ◌∷◌, ◌++◌, All, length, get_or, take, drop, refl, sym, ap, ◌∙◌, subst, append-nil, append_assoc, length-append, arith}
+use Rattle.std.proofs.Common.{◌≡◌, ◌≢◌, ℕ, suc, ◌+◌, ◌≤◌, ◌<◌, max, List, [], ◌∷◌, ◌++◌, length, get_or, take, drop, refl, sym, ap, ◌∙◌, subst, append-nil, append_assoc, length-append, arith}
 use Rattle.std.proofs.Math.Seq.{take-length, drop-cons}
 use Rattle.std.proofs.lemmas.Grind.{flat_map-append}
 use Rattle.std.proofs.lemmas.List.{take_more}
 use Rattle.cube_view.specs.Points.{Point}
 use Rattle.cube_view.specs.declared.schema.Schema.{Schema}
 use Rattle.plain_cube.specs.Kept.{points_of, schema_of}
-use Rattle.plain_cube.specs.declared.cube.PlainCube.{PlainCube}
 use Rattle.query_syntax.specs.declared.query.Parsed.{Parsed}
 use Rattle.reply_json.specs.declared.reply.Reply.{Reply}
 use Rattle.session_core.specs.Asked.{reply_line}
 use Rattle.session_core.specs.Transcript.{MayCome, seen_in, told_in, replies_text}
-use Rattle.recount.specs.Agreement.{IsAnswer, AreAnswers}
-use Rattle.recount.specs.Comparing.{KeepsUp, Passes, Tests}
+use Rattle.recount.specs.Agreement.{MayAnswer, AreAnswers}
+use Rattle.recount.specs.Comparing.{KeepsUp, ReplyPasses}
 use Rattle.recount.specs.Counting.{lacking, count_lacking}
 use Rattle.recount.specs.Faults.{most_seen, most_told, LineFails, RepliesFail, RepliesDiffer}
 use Rattle.recount.specs.Verdicts.{RepliesAgree}
 use Rattle.recount.specs.declared.testing.Audit.{Audit}
 use Rattle.recount.specs.declared.verdict.Why.{Why}
-use Rattle.recount.specs.declared.verdict.Why.TheVariants.{TooFew, TooMany}
+use Rattle.recount.specs.declared.verdict.Why.TheVariants.{TooMany}
 use Rattle.recount.proofs.Fronts.{answers_none, answers_push, most_seen-push, most_told-push, count_lacking-push}
 
 one_at_most : (r : Reply) → lacking r ≤ 1
@@ -28,21 +27,12 @@ one_at_most (Reply.Told told) = omega arith
 one_at_most (Reply.Fault fault word) = omega arith
 one_at_most Reply.NoMemory = omega arith
 
--- a cube of the first points is one under its own schema
-pub own_keeps : (schema : Schema) (points : List Point) (seen : ℕ) (cube : PlainCube) → KeepsUp schema points seen cube → KeepsUp (schema_of cube) points seen cube
-own_keeps schema points seen cube k = record { own = refl; first = k.first; few = k.few }
-
 module _ (schema : Schema) (points : List Point) (seen told : ℕ) where
   -- the next line decides where something is left to answer
   fails_next : (left : List Parsed) (p : Parsed) (later : List Parsed) (rest : List ℕ) (why : Why) → left ≡ p ∷ later → rest ≢ [] → LineFails schema points seen told p rest why → RepliesFail schema points seen told left rest why
   fails_next [] p later rest why is some fails = cc
   fails_next (q ∷ left) p later [] why is some fails = absurd (some refl)
   fails_next (q ∷ left) p later (byte ∷ rest) why is some fails = let same : p ≡ q = cc in subst (λ (x : Parsed). LineFails schema points seen told x (byte ∷ rest) why) same fails
-
-  fails_few : (left : List Parsed) (p : Parsed) (later : List Parsed) (rest : List ℕ) → left ≡ p ∷ later → rest ≡ [] → RepliesFail schema points seen told left rest TooFew
-  fails_few [] p later rest is none = cc
-  fails_few (q ∷ left) p later [] is none = refl
-  fails_few (q ∷ left) p later (byte ∷ rest) is none = cc
 
   fails_many : (left : List Parsed) (rest : List ℕ) → left ≡ [] → rest ≢ [] → RepliesFail schema points seen told left rest TooMany
   fails_many [] [] is some = absurd (some refl)
@@ -79,9 +69,9 @@ module _ (schema : Schema) (points : List Point) (ps : List Parsed) (text : List
     few = omega arith;
   }
 
-  pub audited_next : (audit after : Audit) (rest later : List ℕ) (without lacks i : ℕ) (p : Parsed) (r : Reply) → Audited audit rest without i → i < length ps → p ≡ get_or ps i p → rest ≡ reply_line r ++ later → Passes points audit after p r → lacks ≡ lacking r → Audited after later (without + lacks) (i + 1)
+  pub audited_next : (audit after : Audit) (rest later : List ℕ) (without lacks i : ℕ) (p : Parsed) (r : Reply) → Audited audit rest without i → i < length ps → p ≡ get_or ps i p → rest ≡ reply_line r ++ later → ReplyPasses points audit after p r → lacks ≡ lacking r → Audited after later (without + lacks) (i + 1)
   audited_next audit after rest later without lacks i p r a within is begins passes lack =
-      let answer : IsAnswer schema points p r = subst (λ (z : Schema). IsAnswer z points p r) a.keeps.own passes.answer in
+      let answer : MayAnswer schema points p r = subst (λ (z : Schema). MayAnswer z points p r) a.keeps.own passes.answer in
       let comes : MayCome (most_seen 0 a.before) (most_told 0 a.before) r = subst (λ s. MayCome s (most_told 0 a.before) r) a.seen (subst (λ t. MayCome audit.seen t r) a.told passes.comes.1) in
       let more : take (i + 1) ps ≡ take i ps ++ p ∷ [] = take_more ps i p within ∙ ap (λ (x : Parsed). take i ps ++ x ∷ []) (sym is) in
       record {
@@ -102,39 +92,27 @@ module _ (schema : Schema) (points : List Point) (ps : List Parsed) (text : List
   left_is : (i n : ℕ) (p : Parsed) → i < length ps → p ≡ get_or ps i p → n ≡ i → drop n ps ≡ p ∷ drop (suc i) ps
   left_is i n p within is same = ap (λ k. drop k ps) same ∙ drop-cons ps i p within ∙ ap (λ (x : Parsed). x ∷ drop (suc i) ps) (sym is)
 
+  differs : (audit : Audit) (rest : List ℕ) (without i : ℕ) (why : Why) → (a : Audited audit rest without i) → RepliesFail schema points (most_seen 0 a.before) (most_told 0 a.before) (drop (length a.before) ps) rest why → RepliesDiffer schema points ps text (i + 1) why
+  differs audit rest without i why a fails = record {
+    before = a.before;
+    rest = rest;
+    front = a.front;
+    agrees = subst (λ n. AreAnswers schema points (take n ps) a.before) (sym a.many) a.answers;
+    counted = ap (λ n. n + 1) (sym a.many);
+    fails = fails;
+  }
+
   pub audited_fails : (audit : Audit) (rest : List ℕ) (without i : ℕ) (p : Parsed) (why : Why) → Audited audit rest without i → i < length ps → p ≡ get_or ps i p → rest ≢ [] → LineFails (schema_of audit.cube) points audit.seen audit.told p rest why → RepliesDiffer schema points ps text (i + 1) why
   audited_fails audit rest without i p why a within is some fails =
       let moved : LineFails schema points (most_seen 0 a.before) (most_told 0 a.before) p rest why =
-            subst (λ (z : Schema). LineFails z points (most_seen 0 a.before) (most_told 0 a.before) p rest why) a.keeps.own
-            (subst (λ s. LineFails (schema_of audit.cube) points s (most_told 0 a.before) p rest why) a.seen (subst (λ t. LineFails (schema_of audit.cube) points audit.seen t p rest why) a.told fails)) in
-      record {
-        before = a.before;
-        rest = rest;
-        front = a.front;
-        agrees = subst (λ n. AreAnswers schema points (take n ps) a.before) (sym a.many) a.answers;
-        counted = ap (λ n. n + 1) (sym a.many);
-        fails = fails_next schema points (most_seen 0 a.before) (most_told 0 a.before) (drop (length a.before) ps) p (drop (suc i) ps) rest why (left_is i (length a.before) p within is a.many) some moved;
-      }
-
-  pub audited_few : (audit : Audit) (rest : List ℕ) (without i : ℕ) (p : Parsed) → Audited audit rest without i → i < length ps → p ≡ get_or ps i p → rest ≡ [] → RepliesDiffer schema points ps text (i + 1) TooFew
-  audited_few audit rest without i p a within is none = record {
-    before = a.before;
-    rest = rest;
-    front = a.front;
-    agrees = subst (λ n. AreAnswers schema points (take n ps) a.before) (sym a.many) a.answers;
-    counted = ap (λ n. n + 1) (sym a.many);
-    fails = fails_few schema points (most_seen 0 a.before) (most_told 0 a.before) (drop (length a.before) ps) p (drop (suc i) ps) rest (left_is i (length a.before) p within is a.many) none;
-  }
+      subst (λ (z : Schema). LineFails z points (most_seen 0 a.before) (most_told 0 a.before) p rest why) a.keeps.own
+      (subst (λ s. LineFails (schema_of audit.cube) points s (most_told 0 a.before) p rest why) a.seen (subst (λ t. LineFails (schema_of audit.cube) points audit.seen t p rest why) a.told fails)) in
+      differs audit rest without i why a
+      (fails_next schema points (most_seen 0 a.before) (most_told 0 a.before) (drop (length a.before) ps) p (drop (suc i) ps) rest why (left_is i (length a.before) p within is a.many) some moved)
 
   pub audited_many : (audit : Audit) (rest : List ℕ) (without i : ℕ) → Audited audit rest without i → i ≡ length ps → rest ≢ [] → RepliesDiffer schema points ps text (i + 1) TooMany
-  audited_many audit rest without i a all some = record {
-    before = a.before;
-    rest = rest;
-    front = a.front;
-    agrees = subst (λ n. AreAnswers schema points (take n ps) a.before) (sym a.many) a.answers;
-    counted = ap (λ n. n + 1) (sym a.many);
-    fails = fails_many schema points (most_seen 0 a.before) (most_told 0 a.before) (drop (length a.before) ps) rest (ap (λ n. drop n ps) (a.many ∙ all) ∙ drop_whole ps) some;
-  }
+  audited_many audit rest without i a all some = differs audit rest without i TooMany a
+      (fails_many schema points (most_seen 0 a.before) (most_told 0 a.before) (drop (length a.before) ps) rest (ap (λ n. drop n ps) (a.many ∙ all) ∙ drop_whole ps) some)
 
   pub audited_all : (audit : Audit) (rest : List ℕ) (without i : ℕ) → Audited audit rest without i → i ≡ length ps → rest ≡ [] → RepliesAgree schema points ps text i without
   audited_all audit rest without i a all none = record {

@@ -1,5 +1,5 @@
 -- Replies agree with what was asked, or their first fault is one.
-use Rattle.std.proofs.Common.{◌≡◌, ℕ, suc, ◌+◌, List, [], ◌∷◌, ◌++◌, length, take, drop, Some, inl, inr, refl, sym, ap, ◌∙◌, subst, append-nil, arith}
+use Rattle.std.proofs.Common.{◌≡◌, ℕ, List, [], ◌∷◌, ◌++◌, length, take, drop, inl, inr, refl, sym, ap, ◌∙◌, subst, append-nil, arith}
 use Rattle.std.proofs.Math.Seq.{take-length}
 use Rattle.cube_view.specs.Points.{Point}
 use Rattle.cube_view.specs.declared.schema.Schema.{Schema}
@@ -8,12 +8,12 @@ use Rattle.reply_json.specs.Types.{ReplyFits}
 use Rattle.reply_json.specs.declared.reply.Reply.{Reply}
 use Rattle.session_core.specs.Asked.{reply_line}
 use Rattle.session_core.specs.Transcript.{MayCome, replies_text}
-use Rattle.recount.specs.Agreement.{IsAnswer, AreAnswers}
+use Rattle.recount.specs.Agreement.{MayAnswer, AreAnswers}
 use Rattle.recount.specs.Faults.{most_seen, most_told, IsWithin, BeginsWithReply, ReplyFails, LineFails, RepliesFail, RepliesDiffer}
 use Rattle.recount.specs.Verdicts.{RepliesAgree}
 use Rattle.recount.specs.declared.verdict.Why.{Why}
 use Rattle.recount.specs.declared.verdict.Why.TheVariants.{NotEntry, WrongNumber, TooFew, TooMany, NotReply, PastEnd, Fell, Wrong}
-use Rattle.recount.proofs.Fronts.{length_same, all_fit, AsksNext, IsNext, next_is}
+use Rattle.recount.proofs.Fronts.{length_same, all_fit, IsNext, next_is}
 use Rattle.recount.proofs.ReplyTexts.{one_line, line_there, answer_printable}
 use Rattle.recount.proofs.TwoFronts.{meet}
 
@@ -93,7 +93,7 @@ module _ (schema : Schema) (points : List Point) where
       never (subst (MayCome (most_seen 0 before) (most_told 0 before)) same next.comes)
   line_agrees ps before r later text Wrong next is (s, (printable, (x, begins)), (within, comes, never)) =
       let same = (one_line r s later x (answer_printable schema points next.asks.asked r next.asks.answer).1 printable.1 (sym is ∙ begins)).0 in
-      never (subst (IsAnswer schema points next.asks.asked) same next.asks.answer)
+      never (subst (MayAnswer schema points next.asks.asked) same next.asks.answer)
 
   -- a line after which the replies go on to answer is at no fault
   next_agrees : (ps : List Parsed) (before : List Reply) (r : Reply) (more : List Reply) (later text : List ℕ) (why : Why) → AreAnswers schema points (take (length (before ++ r ∷ more)) ps) (before ++ r ∷ more) → text ≡ reply_line r ++ later

@@ -1,7 +1,5 @@
 -- Replies that answer the first of what was asked, one after another.
-use Rattle.std.proofs.Common.{◌≡◌, ℕ, suc, ◌+◌, ◌≤◌, max, true, false, List, [], ◌∷◌, ◌++◌, length, take, drop, inl, inr, refl, sym, ap, ◌∙◌, subst, arith}
-use Rattle.std.proofs.lemmas.List.{take_more}
-use Rattle.std.specs.Prelude.{⊤}
+use Rattle.std.proofs.Common.{◌≡◌, ℕ, suc, ◌+◌, max, true, false, List, [], ◌∷◌, ◌++◌, length, take, drop, refl, ap, arith}
 use Rattle.cube_view.specs.Points.{Point}
 use Rattle.cube_view.specs.declared.schema.Schema.{Schema}
 use Rattle.query_syntax.specs.declared.query.Parsed.{Parsed}
@@ -9,7 +7,7 @@ use Rattle.reply_json.specs.Types.{ReplyFits}
 use Rattle.reply_json.specs.declared.reply.Reply.{Reply}
 use Rattle.session_core.specs.Transcript.{seen_in, told_in, MayCome, NeverFalls, AllAnswered}
 use Rattle.session_core.proofs.Transcripts.{all_append, answer_seen}
-use Rattle.recount.specs.Agreement.{IsCubeStat, IsAnswer, AreAnswers}
+use Rattle.recount.specs.Agreement.{IsCubeStat, MayAnswer, AreAnswers}
 use Rattle.recount.specs.Counting.{lacking, count_lacking}
 use Rattle.recount.specs.Faults.{most_seen, most_told, IsWithin}
 use Rattle.recount.proofs.ReplyTexts.{answer_printable}
@@ -61,7 +59,7 @@ module _ (schema : Schema) (points : List Point) where
     pub asked : Parsed
     pub later : List Parsed
     pub left : drop (length before) ps ≡ asked ∷ later
-    pub answer : IsAnswer schema points asked r
+    pub answer : MayAnswer schema points asked r
 
   -- each reply answers what was asked in its place
   answered_at : (ps : List Parsed) (before : List Reply) (r : Reply) (more : List Reply) → AllAnswer (take (length (before ++ r ∷ more)) ps) (before ++ r ∷ more) → AsksNext ps before r
@@ -88,7 +86,7 @@ module _ (schema : Schema) (points : List Point) where
   answers_none = record { each = tt; order = tt }
 
   -- one more reply that answers what is asked in its place
-  pub answers_push : (ps : List Parsed) (p : Parsed) (before : List Reply) (r : Reply) → AreAnswers schema points ps before → IsAnswer schema points p r → MayCome (most_seen 0 before) (most_told 0 before) r → AreAnswers schema points (ps ++ p ∷ []) (before ++ r ∷ [])
+  pub answers_push : (ps : List Parsed) (p : Parsed) (before : List Reply) (r : Reply) → AreAnswers schema points ps before → MayAnswer schema points p r → MayCome (most_seen 0 before) (most_told 0 before) r → AreAnswers schema points (ps ++ p ∷ []) (before ++ r ∷ [])
   answers_push ps p before r t answer comes = record {
     each = all_append schema IsCubeStat true false points (length points) ps (p ∷ []) before (r ∷ []) t.each (answer, tt);
     order = falls_push 0 0 before r t.order comes;

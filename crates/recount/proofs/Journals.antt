@@ -1,25 +1,25 @@
 -- A journal is one of entries at most, or its first fault is one.
-use Rattle.std.proofs.Common.{◌≡◌, ℕ, suc, ◌+◌, List, [], ◌∷◌, ◌++◌, length, inl, inr, refl, sym, ap, ◌∙◌, subst, append-nil, arith}
+use Rattle.std.proofs.Common.{◌≡◌, ℕ, List, [], ◌∷◌, ◌++◌, length, inl, inr, refl, sym, ap, ◌∙◌, subst, append-nil, arith}
 use Rattle.cube_view.specs.declared.schema.Schema.{Schema}
 use Rattle.feed_queue.specs.Journal.{entry_text, entry_line, journal_text, IsEntryOf, LinesArePrefixFree}
 use Rattle.world_core.specs.declared.entry.Entry.{Entry}
-use Rattle.recount.specs.Agreement.{AreInTurn, IsJournalOf}
-use Rattle.recount.specs.Faults.{ComesNext, JournalFails, JournalDiffers}
+use Rattle.recount.specs.Agreement.{AreJournalEntries, IsJournalOf}
+use Rattle.recount.specs.Faults.{HasNextNumber, JournalFails, JournalDiffers}
 use Rattle.recount.specs.declared.verdict.Why.{Why}
 use Rattle.recount.specs.declared.verdict.Why.TheVariants.{NotEntry, WrongNumber, TooFew, TooMany, NotReply, PastEnd, Fell, Wrong}
 use Rattle.recount.proofs.EntryTexts.{one_entry, line_split}
 use Rattle.recount.proofs.LinesApart.{not_empty}
 use Rattle.recount.proofs.Turns.{turn_at}
-use Rattle.recount.proofs.TwoFronts.{GoesOn, meet, Each-All}
+use Rattle.recount.proofs.TwoFronts.{meet, Each-All}
 
 module _ (schema : Schema) (feeders : ℕ) (prefix : LinesArePrefixFree) where
   -- a line after which the entries go on in turn is at no fault
-  next_agrees : (before : List Entry) (e : Entry) (more : List Entry) (later rest : List ℕ) (why : Why) → AreInTurn schema feeders (before ++ e ∷ more) → rest ≡ entry_line schema e ++ later → JournalFails schema feeders before rest why → ⊥
+  next_agrees : (before : List Entry) (e : Entry) (more : List Entry) (later rest : List ℕ) (why : Why) → AreJournalEntries schema feeders (before ++ e ∷ more) → rest ≡ entry_line schema e ++ later → JournalFails schema feeders before rest why → ⊥
   next_agrees before e more later rest NotEntry turn is (some, none) = none e ((turn_at schema feeders before e more turn).0, (later, is))
   next_agrees before e more later rest WrongNumber turn is (other, (other_is, (z, begins)), never) =
       let next = turn_at schema feeders before e more turn in
       let same = (one_entry schema prefix e other later z next.0 other_is (sym is ∙ begins)).0 in
-      never (subst (ComesNext feeders before) same next.1)
+      never (subst (HasNextNumber feeders before) same next.1)
   next_agrees before e more later rest TooFew turn is fails = fails
   next_agrees before e more later rest TooMany turn is fails = fails
   next_agrees before e more later rest NotReply turn is fails = fails
@@ -69,7 +69,7 @@ module _ (schema : Schema) (feeders : ℕ) (prefix : LinesArePrefixFree) where
   agrees_or_differs journal a line why (turn, text) d =
       elim (meet (entry_line schema) (IsEntryOf schema) (one_entry schema prefix) d.before a d.rest [] (Each-All (IsEntryOf schema) d.before d.agrees.valid) (Each-All (IsEntryOf schema) a turn.valid) (sym d.front ∙ text ∙ sym (append-nil (journal_text schema a)))) [
         | inl (same, none) ↦ end_agrees d.before d.rest why none d.fails
-        | inr (inl g) ↦ next_agrees d.before g.item g.more g.later d.rest why (subst (AreInTurn schema feeders) g.list turn) g.text d.fails
+        | inr (inl g) ↦ next_agrees d.before g.item g.more g.later d.rest why (subst (AreJournalEntries schema feeders) g.list turn) g.text d.fails
         | inr (inr g) ↦ line_there g.item g.later [] g.text refl
       ]
 
@@ -82,6 +82,6 @@ module _ (schema : Schema) (feeders : ℕ) (prefix : LinesArePrefixFree) where
             let moved : JournalFails schema feeders c.before d.rest why = subst (λ (l : List Entry). JournalFails schema feeders l d.rest why) same d.fails in
             let again : JournalFails schema feeders c.before c.rest why = subst (λ (r : List ℕ). JournalFails schema feeders c.before r why) rest moved in
             (let l = d.counted in let m = c.counted in omega (arith, k, l, m), one_why c.before c.rest why cause again c.fails)
-        | inr (inl g) ↦ absurd (next_agrees d.before g.item g.more g.later d.rest why (subst (AreInTurn schema feeders) g.list c.agrees) g.text d.fails)
-        | inr (inr g) ↦ absurd (next_agrees c.before g.item g.more g.later c.rest cause (subst (AreInTurn schema feeders) g.list d.agrees) g.text c.fails)
+        | inr (inl g) ↦ absurd (next_agrees d.before g.item g.more g.later d.rest why (subst (AreJournalEntries schema feeders) g.list c.agrees) g.text d.fails)
+        | inr (inr g) ↦ absurd (next_agrees c.before g.item g.more g.later c.rest cause (subst (AreJournalEntries schema feeders) g.list d.agrees) g.text c.fails)
       ]

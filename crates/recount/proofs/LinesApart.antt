@@ -1,24 +1,22 @@
 -- A text begins with one line at most.
-use Rattle.std.proofs.Common.{◌≡◌, ℕ, suc, ◌+◌, eqb, eq-eqb, true, false, List, [], ◌∷◌, ◌++◌, length, take, refl, sym, ap, ◌∙◌, subst, append_assoc, arith, length-append, Option, Some, None, IfNone}
+use Rattle.std.proofs.Common.{◌≡◌, ℕ, ◌+◌, eqb, eq-eqb, false, List, [], ◌∷◌, ◌++◌, length, take, refl, sym, ap, ◌∙◌, append_assoc, arith, length-append, Option, Some, None, IfNone}
 use Rattle.std.proofs.Math.Seq.{take-append_seam}
 use Rattle.std.proofs.lemmas.Bool.{false≢true}
 use Rattle.outer_io.specs.Pieces.{NoFeed}
-
-same_heads : (a b : ℕ) (x y : List ℕ) → a ∷ x ≡ b ∷ y → (a ≡ b) × (x ≡ y)
-same_heads a b x y e = (cc, cc)
 
 not_feed : (c : ℕ) → 10 ≡ c → eqb c 10 ≡ false → ⊥
 not_feed c is never = false≢true (sym never ∙ eq-eqb c 10 (sym is))
 
 -- where a text begins with two lines, they are one, and what follows is the same
 pub same_first : (a b x y : List ℕ) → NoFeed a → NoFeed b → a ++ (10 ∷ x) ≡ b ++ (10 ∷ y) → (a ≡ b) × (x ≡ y)
-same_first [] [] x y h k e = (refl, (same_heads 10 10 x y e).1)
-same_first [] (c ∷ b) x y h k e = absurd (not_feed c (same_heads 10 c x (b ++ (10 ∷ y)) e).0 k.0)
-same_first (c ∷ a) [] x y h k e = absurd (not_feed c (sym (same_heads c 10 (a ++ (10 ∷ x)) y e).0) h.0)
+same_first [] [] x y h k e = (refl, cc)
+same_first [] (c ∷ b) x y h k e = let is : 10 ≡ c = cc in absurd (not_feed c is k.0)
+same_first (c ∷ a) [] x y h k e = let is : 10 ≡ c = cc in absurd (not_feed c is h.0)
 same_first (c ∷ a) (d ∷ b) x y h k e =
-    let heads = same_heads c d (a ++ (10 ∷ x)) (b ++ (10 ∷ y)) e in
-    let rest = same_first a b x y h.1 k.1 heads.1 in
-    ((λ i. heads.0 i ∷ rest.0 i), rest.1)
+    let first : c ≡ d = cc in
+    let later : a ++ (10 ∷ x) ≡ b ++ (10 ∷ y) = cc in
+    let rest = same_first a b x y h.1 k.1 later in
+    ((λ i. first i ∷ rest.0 i), rest.1)
 
 -- a text without a line feed has no line
 pub no_line : (a x : List ℕ) → NoFeed (a ++ (10 ∷ x)) → ⊥

@@ -5,14 +5,13 @@ use Rattle.cube_view.specs.declared.schema.Schema.{Schema}
 use Rattle.feed_queue.specs.Journal.{LinesArePrefixFree}
 use Rattle.outer_io.specs.Lines.{lines}
 use Rattle.query_syntax.specs.declared.query.Parsed.{Parsed}
-use Rattle.reply_json.specs.declared.reply.Reply.{Reply}
 use Rattle.session_core.specs.Asked.{asked}
 use Rattle.world_core.specs.Interleaving.{entry_points}
 use Rattle.world_core.specs.declared.entry.Entry.{Entry}
 use Rattle.recount.specs.Agreement.{IsAgreement, IsJournalOf}
 use Rattle.recount.specs.Counting.{count_lacking}
-use Rattle.recount.specs.Faults.{JournalDiffers, RepliesDiffer}
-use Rattle.recount.specs.Verdicts.{RepliesAgree, HasReplyVerdict, HasVerdict, IsAgree}
+use Rattle.recount.specs.Faults.{JournalDiffers}
+use Rattle.recount.specs.Verdicts.{HasReplyVerdict, HasVerdict, IsAgree}
 use Rattle.recount.specs.declared.verdict.Verdict.{Verdict}
 use Rattle.recount.specs.declared.verdict.Verdict.TheVariants as verdict
 use Rattle.recount.specs.declared.verdict.Why.{Why}

@@ -1,17 +1,16 @@
 -- The lines of replies, and which replies can be printed.
-use Rattle.std.proofs.Common.{◌≡◌, ℕ, true, false, List, [], ◌∷◌, ◌++◌, length, Some, inl, inr, refl, sym, ap, ◌∙◌, subst, append_assoc, IsTrue}
+use Rattle.std.proofs.Common.{◌≡◌, ℕ, List, [], ◌∷◌, ◌++◌, length, Some, inl, inr, refl, sym, ap, ◌∙◌, subst, append_assoc, IsTrue}
 use Rattle.cube_view.specs.Points.{Point}
 use Rattle.cube_view.specs.declared.schema.Schema.{Schema}
 use Rattle.cube_view.specs.declared.stat.Stat.{Stat}
 use Rattle.outer_io.specs.Pieces.{NoFeed}
-use Rattle.query_syntax.specs.Tables.{has_table, table}
+use Rattle.query_syntax.specs.Tables.{has_table}
 use Rattle.query_syntax.specs.declared.query.Parsed.{Parsed}
 use Rattle.query_syntax.specs.declared.query.Parsed.TheVariants as parsed
 use Rattle.query_syntax.specs.declared.query.Query.{Query}
 use Rattle.query_syntax.specs.declared.query.Verb.{Verb}
 use Rattle.query_syntax.specs.declared.query.Verb.TheVariants as verb
-use Rattle.query_syntax.specs.declared.table.RowOut.{RowOut}
-use Rattle.reply_json.specs.Meaning.{IsTextOf, IsNoReply}
+use Rattle.reply_json.specs.Meaning.{IsNoReply}
 use Rattle.reply_json.specs.Printed.{reply_text}
 use Rattle.reply_json.specs.Types.{ReplyFits}
 use Rattle.reply_json.specs.ValidTables.{is_valid_reply-table}
@@ -19,10 +18,10 @@ use Rattle.reply_json.specs.Validity.{is_valid_reply}
 use Rattle.reply_json.specs.declared.reply.Reply.{Reply}
 use Rattle.reply_json.proofs.OneLine.{reply_one_line}
 use Rattle.session_core.specs.Asked.{asked_reply, query_reply, reply_line}
-use Rattle.session_core.proofs.Own.{one_reply, some_reply}
+use Rattle.session_core.proofs.Own.{one_reply}
 use Rattle.session_core.proofs.Texts.{reply_text-same}
-use Rattle.recount.specs.Agreement.{IsAnswer}
-use Rattle.recount.specs.Faults.{IsPrintable, BeginsWithReply}
+use Rattle.recount.specs.Agreement.{MayAnswer}
+use Rattle.recount.specs.Faults.{IsPrintableReply, BeginsWithReply}
 use Rattle.recount.proofs.LinesApart.{same_first, no_line, not_empty}
 
 -- a line with its line feed, and what follows
@@ -88,11 +87,11 @@ module _ (schema : Schema) (stat : Stat) (h : List Point) (told : ℕ) where
   asked_valid (parsed.Ask q) reply e = verb_valid q q.verb reply refl e
   asked_valid (parsed.Fault fault word) reply e = subst (λ (r : Reply). IsTrue (is_valid_reply r)) (one_reply _ reply e) refl
 
-no_memory_printable : IsPrintable Reply.NoMemory
+no_memory_printable : IsPrintableReply Reply.NoMemory
 unfolding is_valid_reply ReplyFits
 no_memory_printable = (refl, tt)
 
 -- and so can every answer
-pub answer_printable : (schema : Schema) (points : List Point) (p : Parsed) (reply : Reply) → IsAnswer schema points p reply → IsPrintable reply
+pub answer_printable : (schema : Schema) (points : List Point) (p : Parsed) (reply : Reply) → MayAnswer schema points p reply → IsPrintableReply reply
 answer_printable schema points p reply (inl r) = (asked_valid schema _ _ _ p reply r.meant, r.fits)
-answer_printable schema points p reply (inr r) = subst IsPrintable (sym r.1) no_memory_printable
+answer_printable schema points p reply (inr r) = subst IsPrintableReply (sym r.1) no_memory_printable

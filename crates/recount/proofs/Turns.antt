@@ -1,16 +1,16 @@
 -- Entries in turn, one after another.
-use Rattle.std.proofs.Common.{◌≡◌, ◌≢◌, ℕ, zero, suc, ◌+◌, ◌≤◌, eqb, eq-eqb, ne_eqb, cond, Bool, true, false, ◌⊎◌, inl, inr, List, [], ◌∷◌, ◌++◌, All, length, refl, sym, ap, ◌∙◌, subst, append-nil, arith}
+use Rattle.std.proofs.Common.{◌≡◌, ◌≢◌, ℕ, ◌+◌, ◌≤◌, eq-eqb, ne_eqb, cond, ◌⊎◌, inl, inr, List, [], ◌∷◌, ◌++◌, length, refl, sym, ap, ◌∙◌, subst, append-nil, arith}
 use Rattle.std.proofs.lemmas.Bool.{cases_eq}
 use Rattle.std.proofs.lemmas.List.{length-map}
 use Rattle.std.proofs.lemmas.List.Elements.{All-push}
 use Rattle.cube_view.specs.Points.{Point}
 use Rattle.cube_view.specs.declared.schema.Schema.{Schema}
 use Rattle.feed_queue.specs.Journal.{IsEntryOf}
-use Rattle.world_core.specs.Interleaving.{entry, numbered, entries_of, entry_points, IsInterleaving}
+use Rattle.world_core.specs.Interleaving.{entry, numbered, entries_of, entry_points}
 use Rattle.world_core.specs.declared.entry.Entry.{Entry}
 use Rattle.world_core.proofs.Entries.{entries_of-append, entry_points-append, numbered-append, front_numbered}
-use Rattle.recount.specs.Agreement.{AreInTurn}
-use Rattle.recount.specs.Faults.{ComesNext}
+use Rattle.recount.specs.Agreement.{AreJournalEntries}
+use Rattle.recount.specs.Faults.{HasNextNumber}
 use Rattle.recount.proofs.EntryTexts.{feeder_bounds}
 use Rattle.recount.proofs.TwoFronts.{All-middle}
 
@@ -34,39 +34,31 @@ own_push f before e is = entries_of-append f before (e ∷ []) ∙ ap (λ b. ent
 other_push : (f : ℕ) (before : List Entry) (e : Entry) → e.feeder ≢ f → entries_of f (before ++ e ∷ []) ≡ entries_of f before
 other_push f before e other = entries_of-append f before (e ∷ []) ∙ ap (λ b. entries_of f before ++ cond b (e ∷ []) []) (ne_eqb e.feeder f other) ∙ append-nil (entries_of f before)
 
--- how many entries a feeder has then
-pub count_own : (before : List Entry) (e : Entry) → length (entries_of e.feeder (before ++ e ∷ [])) ≡ length (entries_of e.feeder before) + 1
-count_own before e = ap length (own_push e.feeder before e refl) ∙ length-push (entries_of e.feeder before) e
-  where
-    length-push : (l : List Entry) (x : Entry) → length (l ++ x ∷ []) ≡ length l + 1
-    length-push [] x = refl
-    length-push (y ∷ l) x = let h = length-push l x in omega (arith, h)
-
-pub count_other : (f : ℕ) (before : List Entry) (e : Entry) → e.feeder ≢ f → length (entries_of f (before ++ e ∷ [])) ≡ length (entries_of f before)
-count_other f before e other = ap length (other_push f before e other)
-
 abbrev IsKnown : ℕ → Entry → Type 0
 IsKnown feeders e = (1 ≤ e.feeder) × (e.feeder ≤ feeders)
 
 module _ (schema : Schema) (feeders : ℕ) where
   -- no entries are in turn
-  pub turn_none : AreInTurn schema feeders []
+  pub turn_none : AreJournalEntries schema feeders []
   turn_none = record {
     valid = λ k d less. absurd (omega arith);
     order = (λ f. [], record { known = λ k d less. absurd (omega arith); each = λ f low high. refl });
   }
 
-  numbered_so_far : (before : List Entry) → AreInTurn schema feeders before → (f : ℕ) → 1 ≤ f → f ≤ feeders → IsNumbered f (entries_of f before)
+  numbered_so_far : (before : List Entry) → AreJournalEntries schema feeders before → (f : ℕ) → 1 ≤ f → f ≤ feeders → IsNumbered f (entries_of f before)
   numbered_so_far before turn f low high = front_numbered f 0 (entries_of f before) [] (turn.order.0 f) (append-nil (entries_of f before) ∙ turn.order.1.each f low high)
 
   -- and one more that comes next
-  pub turn_push : (before : List Entry) (e : Entry) → AreInTurn schema feeders before → IsEntryOf schema e → ComesNext feeders before e → AreInTurn schema feeders (before ++ e ∷ [])
+  pub turn_push : (before : List Entry) (e : Entry) → AreJournalEntries schema feeders before → IsEntryOf schema e → HasNextNumber feeders before e → AreJournalEntries schema feeders (before ++ e ∷ [])
   turn_push before e turn is next = record {
     valid = All-push (IsEntryOf schema) before e turn.valid is;
-    order = (λ f. entry_points (entries_of f (before ++ e ∷ [])), record {
-      known = All-push (IsKnown feeders) before e turn.order.1.known ((feeder_bounds schema e is).0, next.0);
-      each = λ f low high. each_push f low high (cases_eq e.feeder f);
-    });
+    order = (
+      λ f. entry_points (entries_of f (before ++ e ∷ [])),
+      record {
+        known = All-push (IsKnown feeders) before e turn.order.1.known ((feeder_bounds schema e is).0, next.0);
+        each = λ f low high. each_push f low high (cases_eq e.feeder f);
+      },
+    );
   }
     where
       each_push : (f : ℕ) → 1 ≤ f → f ≤ feeders → ((e.feeder ≡ f) ⊎ (e.feeder ≢ f)) → IsNumbered f (entries_of f (before ++ e ∷ []))
@@ -91,7 +83,7 @@ own_middle before e more =
     ∙ ap (λ b. entries_of e.feeder before ++ cond b (e ∷ entries_of e.feeder more) (entries_of e.feeder more)) (eq-eqb e.feeder e.feeder refl)
 
 -- each entry came next
-pub turn_at : (schema : Schema) (feeders : ℕ) (before : List Entry) (e : Entry) (more : List Entry) → AreInTurn schema feeders (before ++ e ∷ more) → IsEntryOf schema e × ComesNext feeders before e
+pub turn_at : (schema : Schema) (feeders : ℕ) (before : List Entry) (e : Entry) (more : List Entry) → AreJournalEntries schema feeders (before ++ e ∷ more) → IsEntryOf schema e × HasNextNumber feeders before e
 turn_at schema feeders before e more turn =
     let known = All-middle (IsKnown feeders) before e more turn.order.1.known in
     let own = turn.order.1.each e.feeder known.0 known.1 in

@@ -13,7 +13,7 @@ use Rattle.world_core.specs.Interleaving.{entry_points, IsInterleaving}
 use Rattle.world_core.specs.declared.entry.Entry.{Entry}
 
 -- The entries are those of a journal
-pub record AreInTurn (schema : Schema) (feeders : ℕ) (entries : List Entry) : Type 0 where
+pub record AreJournalEntries (schema : Schema) (feeders : ℕ) (entries : List Entry) : Type 0 where
   -- their points are valid for the schema
   pub valid : All (IsEntryOf schema) entries
   -- and they are an interleaving of lists of points, one for each feeder
@@ -21,7 +21,7 @@ pub record AreInTurn (schema : Schema) (feeders : ℕ) (entries : List Entry) : 
 
 -- the text is the journal of the entries
 abbrev pub IsJournalOf : Schema → ℕ → List ℕ → List Entry → Type 0
-IsJournalOf schema feeders journal entries = AreInTurn schema feeders entries × (journal ≡ journal_text schema entries)
+IsJournalOf schema feeders journal entries = AreJournalEntries schema feeders entries × (journal ≡ journal_text schema entries)
 
 -- the numbers are those of a cube, in which each slot but the root has one proper link to it
 abbrev pub IsCubeStat : Stat → Type 0
@@ -30,8 +30,8 @@ IsCubeStat stat = stat.nodes + stat.tables ≡ stat.proper + 1
 -- over the points of a journal
 module _ (schema : Schema) (points : List Point) where
   -- what may be answered: the reply with the numbers of a cube, or the line for want of memory
-  abbrev pub IsAnswer : Parsed → Reply → Type 0
-  IsAnswer p reply = Answers schema IsCubeStat false points (length points) true p reply
+  abbrev pub MayAnswer : Parsed → Reply → Type 0
+  MayAnswer p reply = Answers schema IsCubeStat false points (length points) true p reply
 
   -- the replies are a transcript for what was asked
   abbrev pub AreAnswers : List Parsed → List Reply → Type 0

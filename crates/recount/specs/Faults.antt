@@ -1,10 +1,10 @@
 -- What is found at the first place at which the texts do not agree.
-use Rattle.std.specs.Prelude.{◌≡◌, ◌≢◌, ℕ, ◌+◌, ◌≤◌, max, List, [], ◌∷◌, ◌++◌, length, take, drop, IsTrue, ⊤}
+use Rattle.std.specs.Prelude.{◌≡◌, ◌≢◌, ℕ, ◌+◌, ◌≤◌, max, List, [], ◌∷◌, ◌++◌, length, take, drop, IsTrue}
 use Rattle.cube_view.specs.Points.{Point}
 use Rattle.cube_view.specs.declared.schema.Schema.{Schema}
 use Rattle.feed_queue.specs.Journal.{entry_line, journal_text, IsEntryOf}
 use Rattle.query_syntax.specs.declared.query.Parsed.{Parsed}
-use Rattle.recount.specs.Agreement.{AreInTurn, IsAnswer, AreAnswers}
+use Rattle.recount.specs.Agreement.{AreJournalEntries, MayAnswer, AreAnswers}
 use Rattle.recount.specs.declared.verdict.Why.{Why}
 use Rattle.recount.specs.declared.verdict.Why.TheVariants.{NotEntry, WrongNumber, TooFew, TooMany, NotReply, PastEnd, Fell, Wrong}
 use Rattle.reply_json.specs.Types.{ReplyFits}
@@ -17,8 +17,8 @@ use Rattle.world_core.specs.PairFact.{IsPrefix}
 use Rattle.world_core.specs.declared.entry.Entry.{Entry}
 
 -- what may come after these entries: one of a feeder, with the number of that feeder's entries before it
-abbrev pub ComesNext : ℕ → List Entry → Entry → Type 0
-ComesNext feeders before e = (e.feeder ≤ feeders) × (e.number ≡ length (entries_of e.feeder before))
+abbrev pub HasNextNumber : ℕ → List Entry → Entry → Type 0
+HasNextNumber feeders before e = (e.feeder ≤ feeders) × (e.number ≡ length (entries_of e.feeder before))
 
 -- the text begins with the line of the entry, which is one of the schema
 abbrev pub BeginsWithEntry : Schema → List ℕ → Entry → Type 0
@@ -27,7 +27,7 @@ BeginsWithEntry schema text e = IsEntryOf schema e × IsPrefix (entry_line schem
 -- the first test that holds of what is left of a journal, after the lines of these entries
 abbrev pub JournalFails : Schema → ℕ → List Entry → List ℕ → Why → Type 0
 JournalFails schema feeders before rest NotEntry = (rest ≢ []) × ((e : Entry) → ¬ BeginsWithEntry schema rest e)
-JournalFails schema feeders before rest WrongNumber = (e : Entry) × BeginsWithEntry schema rest e × ¬ ComesNext feeders before e
+JournalFails schema feeders before rest WrongNumber = (e : Entry) × BeginsWithEntry schema rest e × ¬ HasNextNumber feeders before e
 JournalFails schema feeders before rest why = ⊥
 
 -- The first line of a journal at which a test holds
@@ -39,19 +39,19 @@ pub record JournalDiffers (schema : Schema) (feeders : ℕ) (journal : List ℕ)
   -- the lines before it are those of the entries
   pub front : journal ≡ journal_text schema before ++ rest
   -- which are the journal of some
-  pub agrees : AreInTurn schema feeders before
+  pub agrees : AreJournalEntries schema feeders before
   -- lines are numbered from 1 on
   pub counted : line ≡ length before + 1
   -- this holds of the next
   pub fails : JournalFails schema feeders before rest why
 
 -- the reply can be printed
-abbrev pub IsPrintable : Reply → Type 0
-IsPrintable reply = IsTrue (is_valid_reply reply) × ReplyFits reply
+abbrev pub IsPrintableReply : Reply → Type 0
+IsPrintableReply reply = IsTrue (is_valid_reply reply) × ReplyFits reply
 
 -- the text begins with the line of the reply
 abbrev pub BeginsWithReply : List ℕ → Reply → Type 0
-BeginsWithReply text reply = IsPrintable reply × IsPrefix (reply_line reply) text
+BeginsWithReply text reply = IsPrintableReply reply × IsPrefix (reply_line reply) text
 
 -- the greatest number of points that the replies print as seen, or this one where it is greater
 abbrev pub most_seen : ℕ → List Reply → ℕ
@@ -73,7 +73,7 @@ module _ (schema : Schema) (points : List Point) (seen told : ℕ) where
   abbrev pub ReplyFails : Parsed → Reply → Why → Type 0
   ReplyFails p reply PastEnd = ¬ IsWithin (length points) reply
   ReplyFails p reply Fell = IsWithin (length points) reply × ¬ MayCome seen told reply
-  ReplyFails p reply Wrong = IsWithin (length points) reply × MayCome seen told reply × ¬ IsAnswer schema points p reply
+  ReplyFails p reply Wrong = IsWithin (length points) reply × MayCome seen told reply × ¬ MayAnswer schema points p reply
   ReplyFails p reply why = ⊥
 
   -- the first test that holds of the next line, which should answer this

@@ -1,18 +1,17 @@
 //! A reply, compared with what a plain cube answers.
-ghost use Rattle.std.specs.Prelude.{◌≡◌, ◌≤◌, ◌<◌, ◌⊎◌, ◌↔◌, All, length, take, max, Some, None, IsTrue, IfOk, OnOk};
+ghost use Rattle.std.specs.Prelude.{◌≡◌, ◌≤◌, ◌<◌, ◌⊎◌, ◌↔◌, All, length, take, max, None, IsTrue, IfOk, OnOk};
 ghost use Rattle.cube_view.specs.Bag.{most_points};
 ghost use Rattle.cube_view.specs.Validity.{sound};
 ghost use Rattle.plain_cube.specs.Kept.{points_of, schema_of};
-ghost use Rattle.plain_cube.specs.Listed.{no_structure};
 ghost use Rattle.probe_core.specs.Blanks.{IsBlankOf};
 ghost use Rattle.query_syntax.specs.Meaning.{asks_valid};
-ghost use Rattle.recount.specs.Agreement.{IsAnswer, IsCubeStat};
-ghost use Rattle.recount.specs.Comparing.{asks_stat, asks_told, KeepsUp};
+ghost use Rattle.recount.specs.Agreement.{MayAnswer, IsCubeStat};
+ghost use Rattle.recount.specs.Comparing.{asks_stat, asks_told, IsReplyOver, KeepsUp};
 ghost use Rattle.recount.specs.Faults.{IsWithin};
 ghost use Rattle.reply_json.specs.Printed.{seen_of};
 ghost use Rattle.reply_json.specs.Types.{ReplyFits};
 ghost use Rattle.reply_json.specs.declared.reply.Reply.{Reply};
-ghost use Rattle.session_core.specs.Asked.{asked_reply, reply_line};
+ghost use Rattle.session_core.specs.Asked.{reply_line};
 ghost use Rattle.session_core.specs.Transcript.{seen_in};
 
 use crate::replies::NextReply;
@@ -96,7 +95,7 @@ fn is_served<L: Ledger>(
 ) -> Result<bool, NoMemory>
     requires blank { IsBlankOf L.name L.parts blank }
     requires valid { IsTrue (asks_valid (schema_of cube.now) parsed.now) }
-    ensures { (reply : Reply) → ReplyFits reply → line.now ≡ reply_line reply → IfOk result (λ same. IsTrue same ↔ (asked_reply no_structure (schema_of cube.now) (points_of cube.now) 0 parsed.now ≡ Some reply)) }
+    ensures { (reply : Reply) → ReplyFits reply → line.now ≡ reply_line reply → IfOk result (λ same. IsTrue same ↔ IsReplyOver cube.now parsed.now reply) }
 {
     let mut steps = Steps::<L>::new(blank);
     match serve(alloc, cube, 0, parsed, &mut steps)? {
@@ -121,7 +120,7 @@ pub fn is_answer(
     requires sound { All (λ p. IsTrue (sound (schema_of cube.old) p)) points.now }
     requires line { ReplyFits next.now.reply × (next.now.line.now ≡ reply_line next.now.reply) }
     requires valid { IsTrue (asks_valid (schema_of cube.old) parsed.now) }
-    ensures answer { IfOk result (λ is. IsTrue is ↔ IsAnswer (schema_of cube.old) points.now parsed.now next.now.reply) }
+    ensures answer { IfOk result (λ is. IsTrue is ↔ MayAnswer (schema_of cube.old) points.now parsed.now next.now.reply) }
     ensures keeps { OnOk result (KeepsUp (schema_of cube.old) points.now (max seen (seen_in next.now.reply)) cube.new) }
 {
     match &next.reply {

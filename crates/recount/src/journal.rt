@@ -1,7 +1,6 @@
 //! The journal, line by line.
-ghost use Rattle.std.specs.Prelude.{◌≡◌, ◌≤◌, ◌∷◌, [], ◌++◌, ◌^◌, List, length, true, false, IfOk};
-ghost use Rattle.recount.specs.Counting.{AreCounts};
-ghost use Rattle.recount.specs.Faults.{ComesNext};
+ghost use Rattle.std.specs.Prelude.{◌≤◌, ◌^◌, List, length, IfOk};
+ghost use Rattle.recount.specs.Counting.{AreCounts, TakesNumber};
 ghost use Rattle.recount.specs.Reading.{ReadsJournal};
 ghost use Rattle.world_core.specs.declared.entry.Entry.{Entry};
 
@@ -22,8 +21,7 @@ pub enum JournalRead {
 /// Whether the entry may come after those that are counted. If so it is counted too.
 fn take_number(counts: &mut [u64; 8], feeders: u8, entry: &Entry) -> bool
     requires { (1 ≤ entry.now.feeder) × (entry.now.feeder ≤ 8) }
-    ensures next { (before : List Entry) → AreCounts counts.old before → result ≡ true → ComesNext feeders before entry.now × AreCounts counts.new (before ++ entry.now ∷ []) }
-    ensures other { (before : List Entry) → AreCounts counts.old before → result ≡ false → ¬ ComesNext feeders before entry.now }
+    ensures { (before : List Entry) → AreCounts counts.old before → TakesNumber feeders before entry.now counts.new result }
 {
     let place = usize::from(entry.feeder) - 1;
     if entry.feeder > feeders || u64::from(entry.number) != counts[place] {

@@ -1,6 +1,7 @@
 //! The lines of a text.
-ghost use Rattle.std.specs.Prelude.{◌≡◌, ◌==◌, [], ◌∷◌, ◌++◌, position, IfSome, IfNone};
+ghost use Rattle.std.specs.Prelude.{◌≡◌, ◌==◌, position, IfSome, IfNone};
 ghost use Rattle.outer_io.specs.Pieces.{NoFeed};
+ghost use Rattle.recount.specs.Comparing.{SplitsFirst};
 
 /// A line without its line feed, the same with it, and what follows it.
 #[derive(Clone, Copy)]
@@ -19,7 +20,7 @@ fn line_feed(text: &[u8]) -> Option<usize>
 
 /// The first line of a text; none where the text has no line feed.
 pub fn first_line(text: &[u8]) -> Option<FirstLine<'_>>
-    ensures some { IfSome result (λ first. (text.now ≡ first.line.now ++ 10 ∷ first.rest.now) × (first.whole.now ≡ first.line.now ++ 10 ∷ []) × NoFeed first.line.now) }
+    ensures some { IfSome result (λ first. SplitsFirst text.now first.line.now first.whole.now first.rest.now) }
     ensures none { IfNone result (NoFeed text.now) }
 {
     let at = line_feed(text)?;

@@ -1,8 +1,8 @@
 //! The next line of the replies.
-ghost use Rattle.std.specs.Prelude.{◌≡◌, ◌++◌, IfOk, IfSome, IfNone};
-ghost use Rattle.recount.specs.Faults.{BeginsWithReply, IsPrintable};
+ghost use Rattle.std.specs.Prelude.{IfOk, IfSome, IfNone};
+ghost use Rattle.recount.specs.Comparing.{ReadsReply};
+ghost use Rattle.recount.specs.Faults.{BeginsWithReply};
 ghost use Rattle.reply_json.specs.declared.reply.Reply.{Reply};
-ghost use Rattle.session_core.specs.Asked.{reply_line};
 
 use crate::lines::first_line;
 use outer_io::NoMemory;
@@ -19,7 +19,7 @@ pub struct NextReply<'a> {
 
 /// The reply of the first line of a text, if the text begins with one.
 pub fn next_reply(alloc: Global, text: &[u8]) -> Result<Option<NextReply<'_>>, NoMemory>
-    ensures some { IfOk result (λ next. IfSome next (λ n. IsPrintable n.reply × (n.line.now ≡ reply_line n.reply) × (text.now ≡ reply_line n.reply ++ n.rest.now))) }
+    ensures some { IfOk result (λ next. IfSome next (λ n. ReadsReply text.now n.reply n.line.now n.rest.now)) }
     ensures none { IfOk result (λ next. IfNone next ((reply : Reply) → ¬ BeginsWithReply text.now reply)) }
 {
     match first_line(text) {

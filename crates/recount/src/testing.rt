@@ -4,7 +4,7 @@ ghost use Rattle.cube_view.specs.Bag.{most_points};
 ghost use Rattle.cube_view.specs.Validity.{sound};
 ghost use Rattle.plain_cube.specs.Kept.{points_of, schema_of};
 ghost use Rattle.query_syntax.specs.Meaning.{asks_valid};
-ghost use Rattle.recount.specs.Comparing.{KeepsUp, Passes, Tests};
+ghost use Rattle.recount.specs.Comparing.{KeepsUp, ReplyPasses, Tests};
 ghost use Rattle.recount.specs.Counting.{lacking};
 ghost use Rattle.recount.specs.Faults.{ReplyFails};
 ghost use Rattle.reply_json.specs.Types.{ReplyFits};
@@ -94,7 +94,7 @@ fn reply_fault(
     requires sound { All (λ p. IsTrue (sound (schema_of audit.old.cube) p)) points.now }
     requires line { ReplyFits next.now.reply × (next.now.line.now ≡ reply_line next.now.reply) }
     requires valid { IsTrue (asks_valid (schema_of audit.old.cube) parsed.now) }
-    ensures passes { IfOk result (λ why. IfNone why (Passes points.now audit.old audit.new parsed.now next.now.reply)) }
+    ensures passes { IfOk result (λ why. IfNone why (ReplyPasses points.now audit.old audit.new parsed.now next.now.reply)) }
     ensures fails { IfOk result (λ why. IfSome why (ReplyFails (schema_of audit.old.cube) points.now audit.old.seen audit.old.told parsed.now next.now.reply)) }
 {
     let seen = seen_in(&next.reply);

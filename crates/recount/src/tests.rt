@@ -34,18 +34,90 @@ fn agree(replies: u64, without: u64) -> Verdict {
 fn replies_are_tested_in_order(rt: HostRuntime) -> Result<(), Fail> {
     let asked = "count\ntold\n";
     let cases = [
-        Case(JOURNAL, 1, asked, "{\"rows\":[[2]],\"seen\":2}\n{\"told\":1}\n", agree(2, 0)),
-        Case(JOURNAL, 1, asked, "{\"rows\":[[3]],\"seen\":2}\n{\"told\":1}\n", Verdict::Replies(1, Why::Wrong)),
-        Case(JOURNAL, 1, asked, "{\"rows\":[[4]],\"seen\":4}\n{\"told\":1}\n", Verdict::Replies(1, Why::PastEnd)),
-        Case(JOURNAL, 1, asked, "{\"rows\":[[2]],\"seen\":2}\n", Verdict::Replies(2, Why::TooFew)),
-        Case(JOURNAL, 1, asked, "{\"rows\":[[2]],\"seen\":2}\n{\"told\":1}\n{\"told\":1}\n", Verdict::Replies(3, Why::TooMany)),
-        Case(JOURNAL, 1, "count\ntold\ntold\n", "{\"rows\":[[2]],\"seen\":2}\n{\"told\":1}\n{\"told\":0}\n", Verdict::Replies(3, Why::Fell)),
-        Case(JOURNAL, 1, asked, "{\"rows\":[[3]],\"seen\":3}\n{\"rows\":[[3]", Verdict::Replies(2, Why::NotReply)),
-        Case(JOURNAL, 1, asked, "{\"rows\":[[2]],\"seen\":2} \n{\"told\":1}\n", Verdict::Replies(1, Why::NotReply)),
-        Case(JOURNAL, 1, asked, "{\"fault\":\"NoMemory\"}\n{\"told\":1}\n", agree(2, 1)),
-        Case(JOURNAL, 1, "\n# none\n", "{\"fault\":\"NoMemory\"}\n", Verdict::Replies(1, Why::TooMany)),
-        Case(JOURNAL, 1, asked, "{\"rows\":[[2]],\"seen\":2}\n{\"told\":4}\n", Verdict::Replies(2, Why::PastEnd)),
-        Case(JOURNAL, 1, "told\ncount\n", "{\"told\":3}\n{\"rows\":[[2]],\"seen\":2}\n", Verdict::Replies(2, Why::Fell)),
+        Case(
+            JOURNAL,
+            1,
+            asked,
+            "{\"rows\":[[2]],\"seen\":2}\n{\"told\":1}\n",
+            agree(2, 0),
+        ),
+        Case(
+            JOURNAL,
+            1,
+            asked,
+            "{\"rows\":[[3]],\"seen\":2}\n{\"told\":1}\n",
+            Verdict::Replies(1, Why::Wrong),
+        ),
+        Case(
+            JOURNAL,
+            1,
+            asked,
+            "{\"rows\":[[4]],\"seen\":4}\n{\"told\":1}\n",
+            Verdict::Replies(1, Why::PastEnd),
+        ),
+        Case(
+            JOURNAL,
+            1,
+            asked,
+            "{\"rows\":[[2]],\"seen\":2}\n",
+            Verdict::Replies(2, Why::TooFew),
+        ),
+        Case(
+            JOURNAL,
+            1,
+            asked,
+            "{\"rows\":[[2]],\"seen\":2}\n{\"told\":1}\n{\"told\":1}\n",
+            Verdict::Replies(3, Why::TooMany),
+        ),
+        Case(
+            JOURNAL,
+            1,
+            "count\ntold\ntold\n",
+            "{\"rows\":[[2]],\"seen\":2}\n{\"told\":1}\n{\"told\":0}\n",
+            Verdict::Replies(3, Why::Fell),
+        ),
+        Case(
+            JOURNAL,
+            1,
+            asked,
+            "{\"rows\":[[3]],\"seen\":3}\n{\"rows\":[[3]",
+            Verdict::Replies(2, Why::NotReply),
+        ),
+        Case(
+            JOURNAL,
+            1,
+            asked,
+            "{\"rows\":[[2]],\"seen\":2} \n{\"told\":1}\n",
+            Verdict::Replies(1, Why::NotReply),
+        ),
+        Case(
+            JOURNAL,
+            1,
+            asked,
+            "{\"fault\":\"NoMemory\"}\n{\"told\":1}\n",
+            agree(2, 1),
+        ),
+        Case(
+            JOURNAL,
+            1,
+            "\n# none\n",
+            "{\"fault\":\"NoMemory\"}\n",
+            Verdict::Replies(1, Why::TooMany),
+        ),
+        Case(
+            JOURNAL,
+            1,
+            asked,
+            "{\"rows\":[[2]],\"seen\":2}\n{\"told\":4}\n",
+            Verdict::Replies(2, Why::PastEnd),
+        ),
+        Case(
+            JOURNAL,
+            1,
+            "told\ncount\n",
+            "{\"told\":3}\n{\"rows\":[[2]],\"seen\":2}\n",
+            Verdict::Replies(2, Why::Fell),
+        ),
     ];
     check_all(&rt, rt.alloc(), &cases)
 }
@@ -56,10 +128,34 @@ fn journal_is_tested_first(rt: HostRuntime) -> Result<(), Fail> {
     let cases = [
         Case("1 0 0 0 0 0\n1 2 7 7 1 1\n", 1, "count\n", "", wrong),
         Case("1 0 0 0 0 0\n2 1 7 7 1 1\n", 2, "", "", wrong),
-        Case("1 0 0 0 0 0\n2 0 7 7 1 1\n1 1 7 7 1 1\n", 2, "", "", agree(0, 0)),
-        Case("9 0 0 0 0 0\n", 1, "", "", Verdict::Journal(1, Why::NotEntry)),
-        Case("1 0 0 0 0 0\n1 1 7 7 1 1", 1, "", "", Verdict::Journal(2, Why::NotEntry)),
-        Case("2 0 0 0 0 0\n", 1, "", "", Verdict::Journal(1, Why::WrongNumber)),
+        Case(
+            "1 0 0 0 0 0\n2 0 7 7 1 1\n1 1 7 7 1 1\n",
+            2,
+            "",
+            "",
+            agree(0, 0),
+        ),
+        Case(
+            "9 0 0 0 0 0\n",
+            1,
+            "",
+            "",
+            Verdict::Journal(1, Why::NotEntry),
+        ),
+        Case(
+            "1 0 0 0 0 0\n1 1 7 7 1 1",
+            1,
+            "",
+            "",
+            Verdict::Journal(2, Why::NotEntry),
+        ),
+        Case(
+            "2 0 0 0 0 0\n",
+            1,
+            "",
+            "",
+            Verdict::Journal(1, Why::WrongNumber),
+        ),
         Case("", 1, "", "", agree(0, 0)),
     ];
     check_all(&rt, rt.alloc(), &cases)
@@ -68,14 +164,62 @@ fn journal_is_tested_first(rt: HostRuntime) -> Result<(), Fail> {
 #[test]
 fn each_kind_of_reply_is_compared(rt: HostRuntime) -> Result<(), Fail> {
     let cases = [
-        Case(JOURNAL, 1, "stat\n", "{\"nodes\":14,\"proper\":17,\"seen\":3,\"shared\":7,\"tables\":4}\n", agree(1, 0)),
-        Case(JOURNAL, 1, "stat\n", "{\"nodes\":14,\"proper\":16,\"seen\":3,\"shared\":7,\"tables\":4}\n", Verdict::Replies(1, Why::Wrong)),
-        Case(JOURNAL, 1, "hist kind\nmap 1\nquit\ntold\n", "{\"rows\":[[\"a\",1],[\"b\",1]],\"seen\":2}\n{\"rows\":[[1,0,0,2],[1,1,1,1]],\"seen\":3}\n", agree(2, 0)),
-        Case(JOURNAL, 1, "sum\n", "{\"at\":1,\"fault\":\"UnknownVerb\"}\n", agree(1, 0)),
-        Case(JOURNAL, 1, "sum\n", "{\"at\":2,\"fault\":\"UnknownVerb\"}\n", Verdict::Replies(1, Why::Wrong)),
-        Case(JOURNAL, 1, "told\n", "{\"rows\":[[2]],\"seen\":2}\n", Verdict::Replies(1, Why::Wrong)),
-        Case(JOURNAL, 1, "count\n", "{\"told\":1}\n", Verdict::Replies(1, Why::Wrong)),
-        Case(JOURNAL, 1, "count\n", "{\"rows\":[[0]],\"seen\":0}\n", agree(1, 0)),
+        Case(
+            JOURNAL,
+            1,
+            "stat\n",
+            "{\"nodes\":14,\"proper\":17,\"seen\":3,\"shared\":7,\"tables\":4}\n",
+            agree(1, 0),
+        ),
+        Case(
+            JOURNAL,
+            1,
+            "stat\n",
+            "{\"nodes\":14,\"proper\":16,\"seen\":3,\"shared\":7,\"tables\":4}\n",
+            Verdict::Replies(1, Why::Wrong),
+        ),
+        Case(
+            JOURNAL,
+            1,
+            "hist kind\nmap 1\nquit\ntold\n",
+            "{\"rows\":[[\"a\",1],[\"b\",1]],\"seen\":2}\n{\"rows\":[[1,0,0,2],[1,1,1,1]],\"seen\":3}\n",
+            agree(2, 0),
+        ),
+        Case(
+            JOURNAL,
+            1,
+            "sum\n",
+            "{\"at\":1,\"fault\":\"UnknownVerb\"}\n",
+            agree(1, 0),
+        ),
+        Case(
+            JOURNAL,
+            1,
+            "sum\n",
+            "{\"at\":2,\"fault\":\"UnknownVerb\"}\n",
+            Verdict::Replies(1, Why::Wrong),
+        ),
+        Case(
+            JOURNAL,
+            1,
+            "told\n",
+            "{\"rows\":[[2]],\"seen\":2}\n",
+            Verdict::Replies(1, Why::Wrong),
+        ),
+        Case(
+            JOURNAL,
+            1,
+            "count\n",
+            "{\"told\":1}\n",
+            Verdict::Replies(1, Why::Wrong),
+        ),
+        Case(
+            JOURNAL,
+            1,
+            "count\n",
+            "{\"rows\":[[0]],\"seen\":0}\n",
+            agree(1, 0),
+        ),
     ];
     check_all(&rt, rt.alloc(), &cases)
 }

@@ -1,4 +1,4 @@
-use Rattle.std.proofs.Common.{List, [], ◌∷◌, ◌++◌, refl, sym, subst}
+use Rattle.std.proofs.Common.{List, [], ◌∷◌, refl, sym, subst}
 use Rattle.cube_view.specs.Points.{Point}
 use Rattle.recount.proofs.Reading.{SoFar, zero_at, so_far_none, so_far_push}
 use Rattle.recount.proofs.journal.read_journal.Goals as goal
@@ -15,4 +15,4 @@ lines-preserved c =
     let next = c.in-Some.ensures.some in
     subst (λ (l : List Point). SoFar c.args.schema.now c.args.feeders c.args.journal.now l c.take_number.new.counts c.in-Some.next.rest.now) (sym c.in-Ok.ensures.items)
     (so_far_push c.args.schema.now c.args.feeders c.args.journal.now c.lines.points.items c.lines.counts c.take_number.new.counts c.lines.rest.now c.in-Some.next.rest.now c.in-Some.next.entry s next.0 next.1
-    (c.if-not-take_number.ensures.next s.before s.counted refl))
+    (c.if-not-take_number.ensures s.before s.counted))

@@ -1,4 +1,4 @@
-use Rattle.std.proofs.Common.{◌≡◌, ◌∷◌, ◌++◌, ◌+◌, ◌-◌, ◌≤◌, length, take, drop, sym, ap, ◌∙◌, arith, length-drop}
+use Rattle.std.proofs.Common.{◌∷◌, ◌++◌, ◌+◌, ◌-◌, ◌≤◌, length, take, drop, sym, ap, ◌∙◌, arith, length-drop}
 use Rattle.std.proofs.lemmas.List.{take_all, length-take-le}
 use Rattle.outer_io.specs.Pieces.{NoFeed}
 use Rattle.outer_io.proofs.Feeds.{first_feed-None, first_feed-Some}
@@ -15,8 +15,7 @@ returns-clause-some c =
     let first = first_feed-Some text at c.in_ok-at.ensures in
     let size = length-drop (at + 1) text in
     let all : length (drop (at + 1) text) ≤ length text - (at + 1) = omega (arith, size) in
-    let within : at ≤ length text = let h = first.0 in omega (arith, h) in
-    (
+    let within : at ≤ length text = let h = first.0 in omega (arith, h) in (
       first.2 ∙ ap (λ l. take at text ++ 10 ∷ l) (sym (take_all (length text - (at + 1)) (drop (at + 1) text) all)),
       whole_line text (take at text) (drop (at + 1) text) at first.2 (sym (length-take-le at text within)),
       first.1,
