@@ -79,9 +79,16 @@ fn replies_are_tested_in_order(rt: HostRuntime) -> Result<(), Fail> {
         Case(
             JOURNAL,
             1,
-            asked,
+            "count\ncount\n",
             "{\"rows\":[[3]],\"seen\":3}\n{\"rows\":[[3]",
             Verdict::Replies(2, Why::NotReply),
+        ),
+        Case(
+            JOURNAL,
+            1,
+            "count\ncount\n",
+            "{\"rows\":[[3]],\"seen\":3}\n{\"rows\":[[3]],\"seen\":3}\n",
+            agree(2, 0),
         ),
         Case(
             JOURNAL,
@@ -134,6 +141,13 @@ fn journal_is_tested_first(rt: HostRuntime) -> Result<(), Fail> {
             "",
             "",
             agree(0, 0),
+        ),
+        Case(
+            "1 0 0 0 0 0\n2 0 2 1 1 2\n1 1 7 7 1 1\n1 2 0 0 0 1\n",
+            2,
+            "count\ntold\ncount\n",
+            "{\"rows\":[[1]],\"seen\":1}\n{\"told\":2}\n{\"rows\":[[4]],\"seen\":4}\n",
+            agree(3, 0),
         ),
         Case(
             "9 0 0 0 0 0\n",
