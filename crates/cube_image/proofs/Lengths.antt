@@ -1,0 +1,103 @@
+-- How many bytes links, slots and images have.
+use Rattle.std.proofs.Common.{◌≡◌, ℕ, ◌+◌, ◌*◌, Bool, true, false, cond, ltb, List, [], ◌∷◌, ◌++◌, length, map, true≢false, Option, Some, None, sum_by, refl, sym, ap, ◌∙◌, arith, length-append}
+use Rattle.std.proofs.lemmas.List.{length-map}
+use Rattle.std.proofs.lemmas.List.Sums.{sum_by-cons}
+use Rattle.std.specs.Int.{to_be_bytes, w16, w64}
+use Rattle.std.specs.List.{flat_map}
+use Rattle.node_arena.specs.declared.link.Link.{Link}
+use Rattle.time_table.specs.Counts.{BinCounts}
+use Rattle.cube_view.specs.Walks.{across}
+use Rattle.node_arena.specs.Slots.{Children, Slot, node, table, slot_of, IsNode, IsTable, children_of, counts_of, link}
+use Rattle.cube_image.specs.Bytes.{child_bytes, content_bytes, row_bytes, table_bytes, node_bytes, slot_bytes, head_bytes, image_bytes}
+use Rattle.cube_image.specs.Image.{image_length}
+use Rattle.cube_image.specs.Order.{moved, moved_child, moved_content, in_order}
+use Rattle.cube_image.specs.Rest.{byte_children, word_rows}
+
+length-children : (children : Children) → length (flat_map child_bytes children) ≡ 10 * length children
+length-children [] = refl
+length-children (c ∷ children) =
+    let r = length-children children in
+    let one : length (child_bytes c) ≡ 10 = refl in
+    length-append (child_bytes c) (flat_map child_bytes children) ∙ omega arith
+
+length-rows : (rows : List (ℕ × ℕ)) → length (flat_map row_bytes rows) ≡ 12 * length rows
+length-rows [] = refl
+length-rows (e ∷ rows) =
+    let r = length-rows rows in
+    let one : length (row_bytes e) ≡ 12 = refl in
+    length-append (row_bytes e) (flat_map row_bytes rows) ∙ omega arith
+
+pub length-table : (rows : List (ℕ × ℕ)) → length (table_bytes rows) ≡ 9 + 12 * length rows
+length-table rows =
+    let r = length-rows rows in
+    let head : length ((2 ∷ []) ++ to_be_bytes w64 (length rows)) ≡ 9 = refl in
+    length-append ((2 ∷ []) ++ to_be_bytes w64 (length rows)) (flat_map row_bytes rows) ∙ omega arith
+
+length-node : (children : Children) (content : Option Link) → length (node_bytes children content) ≡ 3 + 10 * length children + length (content_bytes content)
+length-node children content =
+    let r = length-children children in
+    let head : length ((1 ∷ []) ++ to_be_bytes w16 (length children)) ≡ 3 = refl in
+    let a = length-append ((1 ∷ []) ++ to_be_bytes w16 (length children)) (flat_map child_bytes children) in
+    length-append ((1 ∷ []) ++ to_be_bytes w16 (length children) ++ flat_map child_bytes children) (content_bytes content) ∙ omega arith
+
+-- links that are moved keep their labels
+pub byte_children-map : (places : List ℕ) (children : Children) → byte_children (map (moved_child places) children) ≡ map (moved_child places) (byte_children children)
+byte_children-map places [] = refl
+byte_children-map places (c ∷ children) =
+    let r = byte_children-map places children in
+    elim (ltb c.0 256) as (λ (b : Bool). cond b (moved_child places c ∷ byte_children (map (moved_child places) children)) (byte_children (map (moved_child places) children)) ≡ map (moved_child places) (cond b (c ∷ byte_children children) (byte_children children))) [
+      | true ↦ ap (λ (cs : Children). moved_child places c ∷ cs) r
+      | false ↦ r
+    ]
+
+length-moved : (places : List ℕ) (s : Slot) → length (slot_bytes (moved places s)) ≡ length (slot_bytes s)
+length-moved places (table counts) = refl
+length-moved places (node children content) =
+    let few = ap length (byte_children-map places children) in
+    let size = length-map (byte_children children) (moved_child places) in
+    let a = length-node (byte_children (map (moved_child places) children)) (moved_content places content) in
+    let b = length-node (byte_children children) content in
+    let c = same content in
+    omega arith
+  where
+    same : (o : Option Link) → length (content_bytes (moved_content places o)) ≡ length (content_bytes o)
+    same None = refl
+    same (Some l) = refl
+
+length-slots : (slots : List Slot) (order places : List ℕ) → length (flat_map slot_bytes (map (λ i. moved order (slot_of slots i)) places)) ≡ sum_by (λ i. length (slot_bytes (slot_of slots i))) places
+length-slots slots order [] = refl
+length-slots slots order (i ∷ places) =
+    let r = length-slots slots order places in
+    let m = length-moved order (slot_of slots i) in
+    length-append (slot_bytes (moved order (slot_of slots i))) (flat_map slot_bytes (map (λ i. moved order (slot_of slots i)) places))
+    ∙ (omega (arith, r, m) ∙ sym (sum_by-cons (λ i. length (slot_bytes (slot_of slots i))) i places))
+
+-- an image has as many bytes as its head and its slots
+pub length-image : (slots : List Slot) (size : ℕ) (places : List ℕ) → length (image_bytes size (in_order slots places)) ≡ image_length slots places
+length-image slots size places =
+    let r = length-slots slots places places in
+    let head : length (head_bytes size (length (in_order slots places))) ≡ 24 = refl in
+    length-append (head_bytes size (length (in_order slots places))) (flat_map slot_bytes (in_order slots places)) ∙ omega (arith, r, head)
+
+-- the bytes of a node with a content, and of one without
+pub node_len-some : (s : Slot) (n : ℕ) (l : Link) → IsNode s → Some l ≡ link s across → n ≡ length (byte_children (children_of s)) → 12 + 10 * n ≡ length (slot_bytes s)
+node_len-some (table counts) n l is at count = absurd (true≢false is)
+node_len-some (node children content) n l is at count =
+    let a = length-node (byte_children children) content in
+    let c : length (content_bytes content) ≡ 9 = ap (λ o. length (content_bytes o)) (sym at) in
+    omega arith
+
+pub node_len-none : (s : Slot) (n : ℕ) → IsNode s → None ≡ link s across → n ≡ length (byte_children (children_of s)) → 4 + 10 * n ≡ length (slot_bytes s)
+node_len-none (table counts) n is at count = absurd (true≢false is)
+node_len-none (node children content) n is at count =
+    let a = length-node (byte_children children) content in
+    let c : length (content_bytes content) ≡ 1 = ap (λ o. length (content_bytes o)) (sym at) in
+    omega arith
+
+-- the bytes of a time table
+pub table_len : (s : Slot) (n : ℕ) (m : BinCounts) → IsTable s → m ≡ counts_of s → n ≡ length (word_rows m) → 9 + 12 * n ≡ length (slot_bytes s)
+table_len (node children content) n m is at count = absurd (true≢false (sym is))
+table_len (table counts) n m is at count =
+    let a = length-table (word_rows counts) in
+    let e : length (word_rows m) ≡ length (word_rows counts) = ap (λ (k : BinCounts). length (word_rows k)) at in
+    omega arith

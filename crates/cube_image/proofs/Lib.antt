@@ -1,0 +1,14 @@
+pub mod Cubed
+pub mod Linking
+pub mod Labels
+pub mod Rests
+pub mod Owned
+pub mod Ordered
+pub mod Numbered
+pub mod Numbering
+pub mod OneOrder
+pub mod OwnImage
+pub mod Lengths
+pub mod Moving
+pub mod Writing
+pub mod WholeOrder

@@ -1,0 +1,93 @@
+-- The bytes of slots and of an image, put piece by piece.
+use Rattle.std.proofs.Common.{◌≡◌, ℕ, ◌+◌, ◌<◌, ◌≤◌, List, [], ◌∷◌, ◌++◌, length, map, Option, Some, refl, sym, ap, ◌∙◌, arith, append_assoc, true≢false, take, get_or, sum_by}
+use Rattle.std.specs.Coded.{le_prop}
+use Rattle.std.proofs.Math.Logic.{∥∥₁_elim}
+use Rattle.std.proofs.lemmas.List.{length-map, get_or-map}
+use Rattle.std.proofs.lemmas.List.Sums.{sum_by_more_le}
+use Rattle.std.proofs.lemmas.List.Folds.{flat_map-map}
+use Rattle.std.specs.Int.{to_be_bytes, w16, w32, w64}
+use Rattle.std.specs.List.{flat_map}
+use Rattle.cube_view.specs.Walks.{across}
+use Rattle.time_table.specs.Counts.{BinCounts}
+use Rattle.node_arena.specs.declared.link.Link.{Link}
+use Rattle.node_arena.specs.Slots.{Children, Slot, node, table, IsNode, IsTable, children_of, counts_of, link, slot_of}
+use Rattle.node_arena.specs.Stats.{AllRising}
+use Rattle.node_arena.proofs.Reaching.{target-lt}
+use Rattle.cube_image.specs.Bytes.{child_bytes, row_bytes, content_bytes, table_bytes, slot_bytes, head_bytes, image_bytes}
+use Rattle.cube_image.specs.Conditions.{HasSomeHomes, IsReadable}
+use Rattle.cube_image.specs.Image.{most_bytes, image_length, IsWritten, HasLongImage}
+use Rattle.cube_image.specs.Order.{moved, moved_child, moved_content, IsOrder, in_order}
+use Rattle.cube_image.specs.Rest.{from_number, byte_children, word_rows, IsNextPair}
+use Rattle.cube_image.proofs.Lengths.{byte_children-map, length-image}
+use Rattle.cube_image.proofs.Moving.{read_more, put_more}
+
+-- what is known of slots with homes
+pub readable : (slots : List Slot) → ∥ HasSomeHomes slots ∥₁ → AllRising slots → IsReadable slots
+readable slots some R = record {
+  rising = R;
+  targets = λ i e l h. ∥∥₁_elim some le_prop (λ (k : HasSomeHomes slots). target-lt slots k.homes k.has_homes i e l h);
+}
+
+-- a node is put: its number of children, the children, and the content
+pub node_put : (places : List ℕ) (s : Slot) (content : Option Link) (out a b c new : List ℕ) → IsNode s → content ≡ link s across → a ≡ out ++ 1 ∷ [] → b ≡ a ++ to_be_bytes w16 (length (byte_children (children_of s))) → c ≡ b ++ flat_map (λ k. child_bytes (moved_child places k)) (byte_children (children_of s)) → new ≡ c ++ content_bytes (moved_content places content) → new ≡ out ++ slot_bytes (moved places s)
+node_put places (table counts) content out a b c new is at one two three four = absurd (true≢false is)
+node_put places (node children own) content out a b c new is at one two three four =
+    let same = byte_children-map places children in
+    let kids : flat_map (λ k. child_bytes (moved_child places k)) (byte_children children) ≡ flat_map child_bytes (byte_children (map (moved_child places) children)) = sym (flat_map-map child_bytes (moved_child places) (byte_children children)) ∙ ap (λ (cs : Children). flat_map child_bytes cs) (sym same) in
+    let count : to_be_bytes w16 (length (byte_children children)) ≡ to_be_bytes w16 (length (byte_children (map (moved_child places) children))) = ap (λ n. to_be_bytes w16 n) (sym (ap length same ∙ length-map (byte_children children) (moved_child places))) in
+    let last : content_bytes (moved_content places content) ≡ content_bytes (moved_content places own) = ap (λ o. content_bytes (moved_content places o)) at in
+    joined out a b c new (to_be_bytes w16 (length (byte_children (map (moved_child places) children)))) (flat_map child_bytes (byte_children (map (moved_child places) children))) (content_bytes (moved_content places own)) one (two ∙ ap (λ (t : List ℕ). a ++ t) count) (three ∙ ap (λ (t : List ℕ). b ++ t) kids) (four ∙ ap (λ (t : List ℕ). c ++ t) last)
+  where
+    joined : (out a b c new count kids last : List ℕ) → a ≡ out ++ 1 ∷ [] → b ≡ a ++ count → c ≡ b ++ kids → new ≡ c ++ last → new ≡ out ++ ((1 ∷ []) ++ count ++ kids ++ last)
+    joined out a b c new count kids last one two three four =
+        let first : b ≡ out ++ ((1 ∷ []) ++ count) = two ∙ (ap (λ (t : List ℕ). t ++ count) one ∙ append_assoc out (1 ∷ []) count) in
+        let second : c ≡ out ++ ((1 ∷ []) ++ count ++ kids) = three ∙ (ap (λ (t : List ℕ). t ++ kids) first ∙ append_assoc out ((1 ∷ []) ++ count) kids) in
+        four ∙ (ap (λ (t : List ℕ). t ++ last) second ∙ append_assoc out ((1 ∷ []) ++ count ++ kids) last)
+
+-- a time table is put as a slot
+pub table_put : (places : List ℕ) (s : Slot) (m : BinCounts) (out new : List ℕ) → IsTable s → m ≡ counts_of s → new ≡ out ++ table_bytes (word_rows m) → new ≡ out ++ slot_bytes (moved places s)
+table_put places (node children content) m out new is at put = absurd (true≢false (sym is))
+table_put places (table counts) m out new is at put = put ∙ ap (λ (k : BinCounts). out ++ table_bytes (word_rows k)) at
+
+-- the image is written
+pub image_written : (slots : List Slot) (size : ℕ) (places bytes : List ℕ) → IsOrder slots places → image_length slots places ≤ most_bytes → bytes ≡ image_bytes size (in_order slots places) → IsWritten slots size bytes
+image_written slots size places bytes O fits is = record {
+  image = record { places = places; ordered = O; text = is };
+  fits = let e = ap length is ∙ length-image slots size places in omega (arith, e, fits);
+}
+
+-- the image is too long
+pub image_long : (slots : List Slot) (size : ℕ) (places : List ℕ) → IsOrder slots places → most_bytes < image_length slots places → HasLongImage slots size
+image_long slots size places O long = record {
+  bytes = image_bytes size (in_order slots places);
+  image = record { places = places; ordered = O; text = refl };
+  long = let e = length-image slots size places in omega (arith, e, long);
+}
+
+-- a row more is put
+pub row_put : (out a new whole bytes : List ℕ) (n m bin count : ℕ) (rows : List (ℕ × ℕ)) → IsNextPair n rows (Some (bin, count)) → out ++ flat_map row_bytes (from_number n rows) ≡ whole → a ≡ out ++ bytes → bytes ≡ to_be_bytes w32 bin → new ≡ a ++ to_be_bytes w64 count → m ≡ bin → new ++ flat_map row_bytes (from_number (m + 1) rows) ≡ whole
+row_put out a new whole bytes n m bin count rows N before one is two same =
+    let put : new ≡ out ++ row_bytes (bin, count) =
+    two ∙ (ap (λ (t : List ℕ). t ++ to_be_bytes w64 count) (one ∙ ap (λ (t : List ℕ). out ++ t) is) ∙ append_assoc out (to_be_bytes w32 bin) (to_be_bytes w64 count)) in
+    ap (λ (k : ℕ). new ++ flat_map row_bytes (from_number (k + 1) rows)) same ∙ read_more row_bytes out new whole n rows (bin, count) N before put
+
+-- a slot more is put
+pub slot_put : (slots : List Slot) (places items start out new : List ℕ) (i : ℕ) → items ≡ places → i < length items → out ≡ start ++ flat_map slot_bytes (take i (in_order slots places)) → new ≡ out ++ slot_bytes (moved places (slot_of slots (get_or items i 0))) → new ≡ start ++ flat_map slot_bytes (take (i + 1) (in_order slots places))
+slot_put slots places items start out new i same lt before put =
+    let size = length-map places (λ (k : ℕ). moved places (slot_of slots k)) in
+    let long = ap length same in
+    let at : get_or (in_order slots places) i (slot_of slots 0) ≡ moved places (slot_of slots (get_or places i 0)) = get_or-map (λ (k : ℕ). moved places (slot_of slots k)) places i 0 (slot_of slots 0) (omega (arith, lt, long)) in
+    put_more slot_bytes start out new (in_order slots places) i (slot_of slots 0) (omega (arith, lt, long, size)) before
+    (put ∙ ap (λ (s : Slot). out ++ slot_bytes s) (ap (λ (ps : List ℕ). moved places (slot_of slots (get_or ps i 0))) same ∙ sym at))
+
+-- the image is too long where some first slots take too many bytes
+pub length-more : (slots : List Slot) (places : List ℕ) (i len n : ℕ) → i < length places → len ≡ 24 + sum_by (λ k. length (slot_bytes (slot_of slots k))) (take i places) → n ≡ length (slot_bytes (slot_of slots (get_or places i 0))) → most_bytes < len + n → most_bytes < image_length slots places
+length-more slots places i len n lt is one more =
+    let most = sum_by_more_le (λ (k : ℕ). length (slot_bytes (slot_of slots k))) places i 0 lt in
+    omega (arith, is, one, more, most)
+
+-- the head and the slots are put into a list that was empty
+pub image_put : (slots : List Slot) (size n : ℕ) (places out a b bytes : List ℕ) → out ≡ [] → a ≡ out ++ head_bytes size n → n ≡ length places → b ≡ a ++ flat_map slot_bytes (in_order slots places) → bytes ≡ b → bytes ≡ image_bytes size (in_order slots places)
+image_put slots size n places out a b bytes none one count two is =
+    let number : n ≡ length (in_order slots places) = count ∙ sym (length-map places (λ (k : ℕ). moved places (slot_of slots k))) in
+    is ∙ (two ∙ ap (λ (t : List ℕ). t ++ flat_map slot_bytes (in_order slots places)) (one ∙ (ap (λ (t : List ℕ). t ++ head_bytes size n) none ∙ ap (λ (k : ℕ). head_bytes size k) number)))

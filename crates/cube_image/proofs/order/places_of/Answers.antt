@@ -1,0 +1,21 @@
+use Rattle.std.proofs.Common.{arith}
+use Rattle.cube_image.proofs.Ordered.{front-all, front-below, front-few}
+use Rattle.cube_image.proofs.order.places_of.Goals as goal
+
+pub returns-then-i-len-clause-within : goal.returns-then-i-len-clause-within
+returns-then-i-len-clause-within g c =
+    λ k d lt. front-below c.args.arena.now c.loop-i.places c.loop-i.i k d c.requires.homes c.requires.readable.rising c.loop-i.invariant lt
+
+pub put_owned-requires-clause-in_range : goal.put_owned-requires-clause-in_range
+put_owned-requires-clause-in_range g c =
+    let below = front-below c.args.arena.now c.loop-i.places c.loop-i.i c.loop-i.i c.get-place.result.now c.requires.homes c.requires.readable.rising c.loop-i.invariant (omega arith) in
+    omega (arith, below, c.get-place.ensures)
+
+pub returns-clause-order : goal.returns-clause-order
+returns-clause-order g c =
+    let few = front-few c.args.arena.now c.loop-i.places c.loop-i.i c.requires.homes c.requires.readable.rising c.loop-i.invariant in
+    front-all c.args.arena.now c.loop-i.places c.loop-i.i c.loop-i.invariant (omega (arith, few))
+
+pub returns-clause-within : goal.returns-clause-within
+returns-clause-within g c =
+    λ k d lt. front-below c.args.arena.now c.loop-i.places c.loop-i.i k d c.requires.homes c.requires.readable.rising c.loop-i.invariant lt

@@ -1,0 +1,142 @@
+//! The slots of an image as bytes.
+ghost use Rattle.std.specs.Prelude.{◌≡◌, ◌<◌, ◌++◌, length, OnOk, All};
+ghost use Rattle.std.specs.List.{flat_map};
+ghost use Rattle.node_arena.specs.Slots.{IsNode, slot_of, children_of, target};
+ghost use Rattle.cube_image.specs.Bytes.{link_bytes, child_bytes, row_bytes, table_bytes, slot_bytes};
+ghost use Rattle.cube_image.specs.Conditions.{IsReadable};
+ghost use Rattle.cube_image.specs.Order.{moved, moved_child, moved_link, in_order};
+ghost use Rattle.cube_image.specs.Rest.{word_rows, told_children};
+
+use crate::bytes::{put, put_number};
+use crate::children::{child_count, next_child};
+use crate::order::Order;
+use crate::rows::{next_row, row_count};
+use node_arena::{Arena, Link, SlotId};
+use outer_io::NoMemory;
+use probe_core::Steps;
+use std::sync::ledger::Ledger;
+use time_table::TimeTable;
+
+/// Puts all slots in their order.
+pub fn put_slots<L: Ledger>(
+    out: &mut Vec<u8>,
+    arena: &Arena,
+    order: &Order,
+    steps: &mut Steps<L>,
+) -> Result<(), NoMemory>
+    requires within { All (λ i. i < length arena.now) order.now.places }
+    requires numbered { length order.now.numbers.items ≡ length arena.now }
+    requires readable { IsReadable arena.now }
+    ensures { OnOk result (out.new.items ≡ out.old.items ++ flat_map slot_bytes (in_order arena.now order.now.places)) }
+{
+    for place in order.places.as_slice() {
+        put_slot(out, arena, SlotId(*place), order, steps)?;
+    }
+    Ok(())
+}
+
+/// Puts a slot.
+fn put_slot<L: Ledger>(
+    out: &mut Vec<u8>,
+    arena: &Arena,
+    id: SlotId,
+    order: &Order,
+    steps: &mut Steps<L>,
+) -> Result<(), NoMemory>
+    requires in_range { id.0 < length arena.now }
+    requires numbered { length order.now.numbers.items ≡ length arena.now }
+    requires readable { IsReadable arena.now }
+    ensures { OnOk result (out.new.items ≡ out.old.items ++ slot_bytes (moved order.now.places (slot_of arena.now id.0))) }
+{
+    if arena.is_table(id) {
+        put_table(out, arena.table(id, steps), steps)
+    } else {
+        put_node(out, arena, id, order, steps)
+    }
+}
+
+/// Puts a node: its number of children, the children, and the content or a 0.
+fn put_node<L: Ledger>(
+    out: &mut Vec<u8>,
+    arena: &Arena,
+    id: SlotId,
+    order: &Order,
+    steps: &mut Steps<L>,
+) -> Result<(), NoMemory>
+    requires in_range { id.0 < length arena.now }
+    requires is_node { IsNode (slot_of arena.now id.0) }
+    requires numbered { length order.now.numbers.items ≡ length arena.now }
+    requires readable { IsReadable arena.now }
+    ensures { OnOk result (out.new.items ≡ out.old.items ++ slot_bytes (moved order.now.places (slot_of arena.now id.0))) }
+{
+    put(out, &[1])?;
+    let count = child_count(arena, id, steps);
+    put(out, &count.to_be_bytes())?;
+    put_children(out, arena, id, order, steps)?;
+    match arena.content(id, steps) {
+        Some(link) => put_link(out, link, order),
+        None => put(out, &[0]),
+    }
+}
+
+/// Puts the children of a node.
+fn put_children<L: Ledger>(
+    out: &mut Vec<u8>,
+    arena: &Arena,
+    id: SlotId,
+    order: &Order,
+    steps: &mut Steps<L>,
+) -> Result<(), NoMemory>
+    requires in_range { id.0 < length arena.now }
+    requires is_node { IsNode (slot_of arena.now id.0) }
+    requires numbered { length order.now.numbers.items ≡ length arena.now }
+    requires readable { IsReadable arena.now }
+    ensures { OnOk result (out.new.items ≡ out.old.items ++ flat_map (λ c. child_bytes (moved_child order.now.places c)) (told_children arena.now id.0)) }
+{
+    let mut from = 0;
+    while let Some((label, link)) = next_child(arena, id, from, steps) {
+        put(out, &[label])?;
+        put_link(out, link, order)?;
+        from = u16::from(label) + 1;
+    }
+    Ok(())
+}
+
+/// Puts a link, which leads to a place in the order.
+fn put_link(out: &mut Vec<u8>, link: Link, order: &Order) -> Result<(), NoMemory>
+    requires { target link < length order.now.numbers.items }
+    ensures { OnOk result (out.new.items ≡ out.old.items ++ link_bytes (moved_link order.now.places link)) }
+{
+    put(out, &[if link.is_proper() { 1 } else { 2 }])?;
+    put_number(out, order.numbers[link.to.0 as usize] as u64)
+}
+
+/// Puts a time table: its number of rows, and the rows.
+fn put_table<L: Ledger>(
+    out: &mut Vec<u8>,
+    table: &TimeTable,
+    steps: &mut Steps<L>,
+) -> Result<(), NoMemory>
+    ensures { OnOk result (out.new.items ≡ out.old.items ++ table_bytes (word_rows table.now)) }
+{
+    put(out, &[2])?;
+    put_number(out, row_count(table, steps))?;
+    put_rows(out, table, steps)
+}
+
+/// Puts the rows of a time table.
+fn put_rows<L: Ledger>(
+    out: &mut Vec<u8>,
+    table: &TimeTable,
+    steps: &mut Steps<L>,
+) -> Result<(), NoMemory>
+    ensures { OnOk result (out.new.items ≡ out.old.items ++ flat_map row_bytes (word_rows table.now)) }
+{
+    let mut from = 0;
+    while let Some((bin, count)) = next_row(table, from, steps) {
+        put(out, &bin.to_be_bytes())?;
+        put_number(out, count)?;
+        from = u64::from(bin) + 1;
+    }
+    Ok(())
+}
