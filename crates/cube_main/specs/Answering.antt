@@ -1,41 +1,43 @@
 -- What answering a script leaves.
-use Rattle.std.specs.Prelude.{◌≡◌, ◌≢◌, ℕ, Bool, true, false, if◌then◌else◌, List, [], ◌∷◌, ◌++◌, length, take, Option, Some, Result, Ok, Err}
-use Rattle.cube_main.specs.Outside.{PlaceSeen, SinkSeen, WritesNoFile}
-use Rattle.cube_main.specs.Statuses.{may_lack}
+use Rattle.std.specs.Prelude.{◌≡◌, ◌≢◌, ℕ, Bool, true, false, List, [], ◌∷◌, ◌++◌, length, take, Option, Some, Result, Ok, Err}
+use Rattle.cube_main.specs.Outside.{WritesNoFile}
+use Rattle.run_files.specs.Outside.{PlaceSeen, SinkSeen}
+use Rattle.cube_main.specs.Statuses.{may_lack, status_of_end}
 use Rattle.cube_main.specs.declared.status.Status.{Status}
-use Rattle.cube_main.specs.declared.status.Status.TheVariants.{Done, Usage, NoMemory, ReadFault, WriteFault, FeedRefused}
+use Rattle.cube_main.specs.declared.status.Status.TheVariants.{Done, Usage, PlanRefused, FeedRefused}
 use Rattle.cube_view.specs.Points.{Point}
 use Rattle.cube_view.specs.declared.schema.Schema.{Schema}
 use Rattle.cube_view.specs.declared.stat.Stat.{Stat}
 use Rattle.outer_io.specs.Files.{Files, file_or_empty}
 use Rattle.outer_io.specs.Lines.{lines}
+use Rattle.run_files.specs.Stops.{joined_ends, stop_of_session}
+use Rattle.run_files.specs.declared.stop.Stop.{Stop}
+use Rattle.run_files.specs.declared.stop.Stop.TheVariants as stop
 use Rattle.session_core.specs.Answered.{GainsReplies, GainsFront}
 use Rattle.session_core.specs.Asked.{asked}
 use Rattle.session_core.specs.Scripts.{is_script_refused}
 use Rattle.session_core.specs.declared.answering.ScriptEnd.{ScriptEnd}
 use Rattle.session_core.specs.declared.fault.SessionFault.{SessionFault}
-use Rattle.session_core.specs.declared.fault.SessionFault.TheVariants as fault
 
--- how a run ends by the end of the answers to its script
-abbrev pub status_of_fault : SessionFault → Status
-status_of_fault fault.Read = ReadFault
-status_of_fault fault.Write = WriteFault
-status_of_fault fault.TooMuch = FeedRefused
-status_of_fault fault.NoMemory = NoMemory
+-- how a run ends whose script was answered so far, if that ends it
+abbrev pub answers_end : Result (Unit {0}) SessionFault → Result (Unit {0}) Stop
+answers_end (Ok answered) = Ok answered
+answers_end (Err fault) = Err (stop_of_session fault)
 
-abbrev pub status_of_end : Result (Unit {0}) SessionFault → Status
-status_of_end (Ok answered) = Done
-status_of_end (Err fault) = status_of_fault fault
+-- and where a reply was the line for want of memory
+abbrev pub lacking_end : Bool → Result (Unit {0}) Stop
+lacking_end true = Err stop.NoMemory
+lacking_end false = Ok tt
 
--- want of memory for a reply goes before every other cause
+-- how a run ended by the end of the answers to its script
 abbrev pub status_of_script : ScriptEnd → Status
-status_of_script e = if e.lacked then NoMemory else status_of_end e.end
+status_of_script e = status_of_end (joined_ends (lacking_end e.lacked) (answers_end e.end))
 
 -- What answering the named script leaves of a place and a sink, over a view of a schema that counts these lists of
 -- points, each point of which was told, and whose structure's numbers meet the test
 pub record AnswersFile {P O : Type 0} (p : PlaceSeen P) (s : SinkSeen O) (place place' : P) (out out' : O) (schema : Schema) (is_stat : Stat → Type 0) (counts : List Point → Type 0) (name : List ℕ) (status : Status) : Type 0 where
-  -- the words are a form
-  pub form : status ≢ Usage
+  -- the words are a form, and no plan is read
+  pub form : (status ≢ Usage) × (status ≢ PlanRefused)
   -- with status 0 the sink gained all answers, and the script is not refused
   pub done : (files : Files) → p.files place ≡ Some files → status ≡ Done
       → ((h : List Point) → counts h → GainsReplies schema is_stat h (length h) false (s.held out) (s.held out') (asked schema (lines (file_or_empty files name)))) × (is_script_refused schema (file_or_empty files name) ≡ false)

@@ -1,10 +1,11 @@
 -- The form `demo FEED SCRIPT`: a feed is loaded, and then a script is answered over its points.
 use Rattle.std.specs.Prelude.{◌≡◌, ◌≢◌, ℕ, Bool, true, false, ◌||◌, ◌&&◌, ◌==◌, get_or, if◌then◌else◌, List, [], ◌∷◌, ◌++◌, length, take, Option, Some, None, codes}
 use Rattle.cube_main.specs.BuiltIn.{built_in}
-use Rattle.cube_main.specs.Outside.{PlaceSeen, SinkSeen, WritesNoFile}
+use Rattle.cube_main.specs.Outside.{WritesNoFile}
+use Rattle.run_files.specs.Outside.{PlaceSeen, SinkSeen}
 use Rattle.cube_main.specs.Statuses.{IsRefusedOrEarlier, IsDoneOrNoMemory, may_lack}
 use Rattle.cube_main.specs.declared.status.Status.{Status}
-use Rattle.cube_main.specs.declared.status.Status.TheVariants.{Done, Usage, FeedRefused}
+use Rattle.cube_main.specs.declared.status.Status.TheVariants.{Done, Usage, PlanRefused, FeedRefused}
 use Rattle.cube_store.specs.Numbers.{OwnsAllButRoot}
 use Rattle.cube_view.specs.Limits.{same_text}
 use Rattle.feed_reader.specs.Feeds.{accepted, is_feed_refused}
@@ -44,8 +45,8 @@ module _ {P O : Type 0} (p : PlaceSeen P) (s : SinkSeen O) (place place' : P) (o
 
   -- How a run of this form ends
   pub record DemoEnds : Type 0 where
-    -- the words are a form
-    pub form : status ≢ Usage
+    -- the words are a form, and no plan is read
+    pub form : (status ≢ Usage) × (status ≢ PlanRefused)
     -- with status 0 the sink gained all answers, and nothing was refused
     pub done : OfFiles (λ f q. status ≡ Done → GainsAnswers (s.held out) (s.held out') f q × (is_refused f q ≡ false))
     -- with any status it gained some of them, and nothing else; only for want of memory a reply may be the line that says so

@@ -1,18 +1,34 @@
 -- The statuses of a run.
-use Rattle.std.specs.Prelude.{ℕ, Bool, true, false, ◌≡◌, ◌⊎◌}
+use Rattle.std.specs.Prelude.{ℕ, Bool, true, false, ◌≡◌, ◌⊎◌, Result, Ok, Err}
 use Rattle.cube_main.specs.declared.status.Status.{Status}
-use Rattle.cube_main.specs.declared.status.Status.TheVariants.{Done, Usage, NoMemory, ReadFault, WriteFault, FeedRefused}
+use Rattle.cube_main.specs.declared.status.Status.TheVariants.{Done, Usage, PlanRefused, NoMemory, ReadFault, WriteFault, FeedRefused}
+use Rattle.run_files.specs.declared.stop.Stop.{Stop}
+use Rattle.run_files.specs.declared.stop.Stop.TheVariants as stop
 
 -- the exit code
 abbrev pub code_of : Status → ℕ
 code_of Done = 0
 code_of Usage = 2
+code_of PlanRefused = 3
 code_of NoMemory = 4
 code_of ReadFault = 5
 code_of WriteFault = 6
 code_of FeedRefused = 7
 
--- Where several hold at the end, the one with the least code is answered: a refused feed yields to each trouble
+-- how a run ended that ends by this cause
+abbrev pub status_of_stop : Stop → Status
+status_of_stop stop.NoMemory = NoMemory
+status_of_stop stop.PlanRefused = PlanRefused
+status_of_stop stop.ReadFault = ReadFault
+status_of_stop stop.WriteFault = WriteFault
+status_of_stop stop.FeedRefused = FeedRefused
+
+-- how a run ended, by the cause that ends it, if one does
+abbrev pub status_of_end : Result (Unit {0}) Stop → Status
+status_of_end (Ok done) = Done
+status_of_end (Err stop) = status_of_stop stop
+
+-- a feed is refused, or one of the causes ends the run that are answered before that
 abbrev pub IsRefusedOrEarlier : Status → Type 0
 IsRefusedOrEarlier status = (status ≡ FeedRefused) ⊎ (status ≡ NoMemory) ⊎ (status ≡ ReadFault) ⊎ (status ≡ WriteFault)
 
@@ -24,6 +40,7 @@ IsDoneOrNoMemory status = (status ≡ Done) ⊎ (status ≡ NoMemory)
 abbrev pub may_lack : Status → Bool
 may_lack Done = false
 may_lack Usage = false
+may_lack PlanRefused = false
 may_lack NoMemory = true
 may_lack ReadFault = false
 may_lack WriteFault = false

@@ -1,9 +1,10 @@
 //! The form `demo FEED SCRIPT`.
 ghost use Rattle.std.specs.Prelude.{◌≡◌, [], IfOk};
-ghost use Rattle.cube_main.specs.Answering.{status_of_script, AnswersFile};
+ghost use Rattle.cube_main.specs.Answering.{answers_end, lacking_end, status_of_script, AnswersFile};
 ghost use Rattle.cube_main.specs.BuiltIn.{built_in};
 ghost use Rattle.cube_main.specs.Demo.{DemoEnds};
-ghost use Rattle.cube_main.specs.Outside.{KeepsOutside, seen_place, seen_sink};
+ghost use Rattle.cube_main.specs.Outside.{KeepsOutside};
+ghost use Rattle.run_files.specs.Outside.{seen_place, seen_sink};
 ghost use Rattle.cube_view.specs.Bag.{Counts};
 
 mod loading;
@@ -16,23 +17,32 @@ use crate::status::Status;
 use cube_store::Cube;
 use cube_view::CubeView;
 use outer_io::{IoFault, NoMemory, Place, Sink};
+use run_files::{Stop, joined_ends, stop_of_session};
 use session_core::{ScriptEnd, SessionFault, answer_script};
 use std::alloc::Global;
 
-/// How a run ends by the end of the answers to its script. Want of memory for a reply goes before every other cause.
+/// How a run ends whose script was answered so far, if that ends it.
+fn answers_end(answers: Result<(), SessionFault>) -> Result<(), Stop>
+    ensures { result ≡ answers_end answers }
+{
+    match answers {
+        Ok(()) => Ok(()),
+        Err(fault) => Err(stop_of_session(fault)),
+    }
+}
+
+/// And where a reply was the line for want of memory.
+fn lacking_end(lacked: bool) -> Result<(), Stop>
+    ensures { result ≡ lacking_end lacked }
+{
+    if lacked { Err(Stop::NoMemory) } else { Ok(()) }
+}
+
+/// How a run ended by the end of the answers to its script.
 fn status_of(answers: ScriptEnd) -> Status
     ensures { result ≡ status_of_script answers }
 {
-    if answers.lacked {
-        return Status::NoMemory;
-    }
-    match answers.end {
-        Ok(()) => Status::Done,
-        Err(SessionFault::Read) => Status::ReadFault,
-        Err(SessionFault::Write) => Status::WriteFault,
-        Err(SessionFault::TooMuch) => Status::FeedRefused,
-        Err(SessionFault::NoMemory) => Status::NoMemory,
-    }
+    Status::of_end(joined_ends(lacking_end(answers.lacked), answers_end(answers.end)))
 }
 
 /// Answers the named script over the view, each point of which was told, and says how the run ends. The script's

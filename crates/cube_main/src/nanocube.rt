@@ -1,7 +1,8 @@
 //! The top call.
 ghost use Rattle.std.specs.Prelude.{◌≡◌, ◌↔◌, map, None, option_map, string_bytes};
 ghost use Rattle.cube_main.specs.Demo.{demo_names, DemoEnds, IfDemo};
-ghost use Rattle.cube_main.specs.Outside.{KeepsOutside, seen_place, seen_sink};
+ghost use Rattle.cube_main.specs.Outside.{KeepsOutside};
+ghost use Rattle.run_files.specs.Outside.{seen_place, seen_sink};
 
 use crate::demo::demo;
 use crate::status::Status;

@@ -1,12 +1,15 @@
 //! How a run ended.
 ghost use Rattle.std.specs.Prelude.{◌≡◌};
-ghost use Rattle.cube_main.specs.Statuses.{code_of};
+ghost use Rattle.cube_main.specs.Statuses.{code_of, status_of_end};
 
-/// How a run ended. Where several hold at the end, the first of `NoMemory`, `ReadFault`, `WriteFault`, `FeedRefused` is answered.
+use run_files::Stop;
+
+/// How a run ended. Where several hold at the end, [`Stop`] has the order in which one is answered.
 #[derive(Clone, Copy, PartialEq, Eq, Debug)]
 pub enum Status {
     Done,
     Usage,
+    PlanRefused,
     NoMemory,
     ReadFault,
     WriteFault,
@@ -14,13 +17,28 @@ pub enum Status {
 }
 
 impl Status {
-    /// The exit code: 0, 2, 4, 5, 6, 7 in the order written. 3 is kept for a refused plan.
+    /// How a run ended, by the cause that ends it, if one does.
+    pub fn of_end(end: Result<(), Stop>) -> Status
+        ensures { result ≡ status_of_end end }
+    {
+        match end {
+            Ok(()) => Status::Done,
+            Err(Stop::NoMemory) => Status::NoMemory,
+            Err(Stop::PlanRefused) => Status::PlanRefused,
+            Err(Stop::ReadFault) => Status::ReadFault,
+            Err(Stop::WriteFault) => Status::WriteFault,
+            Err(Stop::FeedRefused) => Status::FeedRefused,
+        }
+    }
+
+    /// The exit code: 0, 2, 3, 4, 5, 6, 7 in the order written.
     pub fn code(&self) -> u8
         ensures { result ≡ code_of self.now }
     {
         match self {
             Status::Done => 0,
             Status::Usage => 2,
+            Status::PlanRefused => 3,
             Status::NoMemory => 4,
             Status::ReadFault => 5,
             Status::WriteFault => 6,

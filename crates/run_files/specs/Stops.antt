@@ -1,7 +1,11 @@
 -- Why a run ends, and which cause is answered where several hold.
 use Rattle.std.specs.Prelude.{ℕ, nat_lt, if◌then◌else◌, Result, Ok, Err}
+use Rattle.outer_io.specs.declared.cutter.CutFault.{CutFault}
+use Rattle.outer_io.specs.declared.cutter.CutFault.TheVariants as cut
 use Rattle.outer_io.specs.declared.fault.IoFault.{IoFault}
 use Rattle.outer_io.specs.declared.fault.IoFault.TheVariants as fault
+use Rattle.session_core.specs.declared.fault.SessionFault.{SessionFault}
+use Rattle.session_core.specs.declared.fault.SessionFault.TheVariants as session
 use Rattle.run_files.specs.declared.stop.Stop.{Stop}
 use Rattle.run_files.specs.declared.stop.Stop.TheVariants.{NoMemory, PlanRefused, ReadFault, WriteFault, FeedRefused}
 
@@ -34,3 +38,16 @@ abbrev pub write_end : {T : Type 0} → Result T IoFault → Result T Stop
 write_end (Ok x) = Ok x
 write_end (Err fault.Failed) = Err WriteFault
 write_end (Err fault.NoMemory) = Err NoMemory
+
+-- the cause that the fault which ended a feed is: a feed with too much is refused
+abbrev pub stop_of_cut : CutFault → Stop
+stop_of_cut cut.Read = ReadFault
+stop_of_cut cut.TooMuch = FeedRefused
+stop_of_cut cut.NoMemory = NoMemory
+
+-- and the one that the fault which ended a session is: its script counts as a feed
+abbrev pub stop_of_session : SessionFault → Stop
+stop_of_session session.Read = ReadFault
+stop_of_session session.Write = WriteFault
+stop_of_session session.TooMuch = FeedRefused
+stop_of_session session.NoMemory = NoMemory

@@ -1,8 +1,9 @@
 //! Why a run ends.
 ghost use Rattle.std.specs.Prelude.{◌≡◌, Err};
-ghost use Rattle.run_files.specs.Stops.{earlier, joined_ends, rank_of, read_end, write_end};
+ghost use Rattle.run_files.specs.Stops.{earlier, joined_ends, rank_of, read_end, stop_of_cut, stop_of_session, write_end};
 
-use outer_io::IoFault;
+use outer_io::{CutFault, IoFault};
+use session_core::SessionFault;
 
 /// Why a run ends without doing all that it was told. Where several hold, the first in the order written is answered.
 #[derive(Clone, Copy, PartialEq, Eq, Debug)]
@@ -15,7 +16,7 @@ pub enum Stop {
     ReadFault,
     /// A file could not be created or written, or the output not be put.
     WriteFault,
-    /// A feed was refused.
+    /// A feed was refused, or a feed or a script had more bytes than are read.
     FeedRefused,
 }
 
@@ -79,5 +80,28 @@ pub(crate) fn write_end<T>(written: Result<T, IoFault>) -> Result<T, Stop>
         Ok(given) => Ok(given),
         Err(IoFault::Failed) => Err(Stop::WriteFault),
         Err(IoFault::NoMemory) => Err(Stop::NoMemory),
+    }
+}
+
+/// Why a run ends whose feed was ended by this fault: with too much it is refused.
+pub fn stop_of_cut(fault: CutFault) -> Stop
+    ensures { result ≡ stop_of_cut fault }
+{
+    match fault {
+        CutFault::Read => Stop::ReadFault,
+        CutFault::TooMuch => Stop::FeedRefused,
+        CutFault::NoMemory => Stop::NoMemory,
+    }
+}
+
+/// Why a run ends a session of which was ended by this fault: its script counts as a feed.
+pub fn stop_of_session(fault: SessionFault) -> Stop
+    ensures { result ≡ stop_of_session fault }
+{
+    match fault {
+        SessionFault::Read => Stop::ReadFault,
+        SessionFault::Write => Stop::WriteFault,
+        SessionFault::TooMuch => Stop::FeedRefused,
+        SessionFault::NoMemory => Stop::NoMemory,
     }
 }

@@ -4,7 +4,7 @@ use crate::{
     open_feeds, open_scripts,
 };
 use cube_schema::{Plan, read_plan};
-use outer_io::{List, MemPlace, MemSink, NoMemory, Place};
+use outer_io::{List, MemPlace, MemSink, NoMemory, Place, StillPlace};
 use std::alloc::{AllocError, Global};
 use std::test::Fail;
 
@@ -92,7 +92,7 @@ fn plan(alloc: Global) -> Result<Plan, Fail> {
 }
 
 /// How the stages of a run end that open the plan's scripts and create its outputs, all given back.
-fn with_scripts(alloc: Global, plan: &Plan, place: &mut MemPlace) -> Result<(), Stop> {
+fn with_scripts<P: Place>(alloc: Global, plan: &Plan, place: &mut P) -> Result<(), Stop> {
     let parts = open_scripts(alloc, plan, place)?;
     let ScriptParts {
         asks,
@@ -113,7 +113,7 @@ fn with_scripts(alloc: Global, plan: &Plan, place: &mut MemPlace) -> Result<(), 
 }
 
 /// How the stages of a run end that open its feeds, its scripts and its outputs, and what they put.
-fn opened(alloc: Global, place: &mut MemPlace) -> Result<(Option<Stop>, MemSink), Fail> {
+fn opened<P: Place>(alloc: Global, place: &mut P) -> Result<(Option<Stop>, MemSink), Fail> {
     let plan = plan(alloc)?;
     let mut out = MemSink::new(alloc, List::new(alloc));
     let end = match open_feeds(alloc, &plan.schema, plan.feeds.as_slice(), place, &mut out) {
@@ -127,18 +127,33 @@ fn opened(alloc: Global, place: &mut MemPlace) -> Result<(Option<Stop>, MemSink)
     Ok((end.err(), out))
 }
 
+/// The files that the plan is to read.
+const FILES: [(&str, &[u8]); 4] = [
+    ("a.csv", b"x,y,kind,time\n"),
+    ("b.csv", b"kind,time,y,x\n1,2,3,4\n"),
+    ("q.txt", b"count\n"),
+    ("f.txt", b""),
+];
+
 /// A place with the files of the plan, but for one.
 fn place_without(alloc: Global, absent: &str) -> Result<MemPlace, Fail> {
     let mut place = MemPlace::new(alloc);
-    let files: [(&str, &[u8]); 4] = [
-        ("a.csv", b"x,y,kind,time\n"),
-        ("b.csv", b"kind,time,y,x\n1,2,3,4\n"),
-        ("q.txt", b"count\n"),
-        ("f.txt", b""),
-    ];
-    for (name, text) in files {
+    for (name, text) in FILES {
         if name != absent {
             put_file(alloc, &mut place, name, text, &[])?;
+        }
+    }
+    Ok(place)
+}
+
+/// A place that cannot fail, with the files of the plan, but with that text in one.
+fn still_place(alloc: Global, changed: &str, text: &[u8]) -> Result<StillPlace, Fail> {
+    let mut place = StillPlace::new(alloc);
+    for (name, plain) in FILES {
+        let bytes = if name == changed { text } else { plain };
+        let bytes = List::from_vec(Vec::from_slice(alloc, bytes)?);
+        if place.put_file(name, bytes, 5).is_err() {
+            return Err(Fail::from("no room"));
         }
     }
     Ok(place)
@@ -222,5 +237,30 @@ fn a_create_that_fails_leaves_the_outputs_before_it_empty(rt: HostRuntime) -> Re
     assert_eq!(rt; place.file("q.txt.out") == Some(b"".as_slice()), true);
     assert_eq!(rt; place.file("f.txt.out").is_none(), true);
     assert_eq!(rt; place.file("j.txt").is_none(), true);
+    Ok(())
+}
+
+#[test]
+fn a_place_that_cannot_fail_ends_a_run_by_its_files_alone(rt: HostRuntime) -> Result<(), Fail> {
+    let alloc = rt.alloc();
+    let refused = Some(Stop::FeedRefused);
+    let cases: [(&str, &[u8], Option<Stop>, &[u8]); 4] = [
+        (
+            "a.csv",
+            b"x,y,time\n",
+            refused,
+            b"feed a.csv: NoColumn(kind)\n",
+        ),
+        ("b.csv", b"", refused, b"feed b.csv: BadRow\n"),
+        ("q.txt", b"", None, b""),
+        ("f.txt", b"quit\n", None, b""),
+    ];
+    for (name, text, wanted, line) in cases {
+        let mut place = still_place(alloc, name, text)?;
+        let (end, out) = opened(alloc, &mut place)?;
+        assert_eq!(rt; end, wanted);
+        assert_eq!(rt; out.bytes(), line);
+        assert_eq!(rt; place.file("j.txt").is_none(), wanted.is_some());
+    }
     Ok(())
 }

@@ -1,7 +1,7 @@
 //! The points of a feed.
 ghost use Rattle.std.specs.Prelude.{◌≡◌, ◌+◌, ◌<◌, ◌≤◌, [], ◌∷◌, true, OnOk, IsErrOf};
 ghost use Rattle.cube_main.specs.Loading.{CountsMore, KeepsRows, Loads, TakesFeed};
-ghost use Rattle.cube_main.specs.Outside.{seen_place};
+ghost use Rattle.run_files.specs.Outside.{seen_place};
 ghost use Rattle.cube_view.specs.Bag.{most_points, Counts};
 ghost use Rattle.feed_reader.specs.Feeds.{is_feed_refused, points_in};
 ghost use Rattle.feed_reader.specs.Reading.{IsAtStart};

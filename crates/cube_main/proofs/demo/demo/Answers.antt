@@ -1,5 +1,5 @@
 use Rattle.cube_main.proofs.Ended.{ended_at_once, ends_by_feed, ends_by_script}
-use Rattle.cube_main.specs.Outside.{seen_place, seen_sink}
+use Rattle.run_files.specs.Outside.{seen_place, seen_sink}
 use Rattle.cube_main.proofs.demo.demo.Goals as goal
 
 pub returns-in-Err-clause-ends : goal.returns-in-Err-clause-ends
