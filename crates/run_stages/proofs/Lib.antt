@@ -1,0 +1,2 @@
+mod Returned
+mod Closed

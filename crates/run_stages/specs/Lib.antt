@@ -1,0 +1,4 @@
+pub mod Counted
+pub mod Ends
+pub mod Said
+pub mod Closing
