@@ -1,5 +1,5 @@
 //! A session's work: the session, its viewer and its end of a mailbox in one place.
-ghost use Rattle.std.specs.Prelude.{◌≡◌, Some};
+ghost use Rattle.std.specs.Prelude.{◌≡◌, Some, Ok};
 ghost use Rattle.crew_session.specs.Leaves.{LeavesSession};
 ghost use Rattle.crew_session.specs.Work.{HadNoTurn, done_of, has_starved, last_number};
 ghost use Rattle.probe_core.specs.Blanks.{IsBlankOf};
@@ -84,6 +84,7 @@ impl<V: Grow, I: Source, O: Sink> SessionWork<V, I, O> {
         requires pair { viewer.shown.book ≡ mail.pair }
         ensures parts { (result.session ≡ session) × (result.mail ≡ mail) × (result.schema ≡ viewer.schema) }
         ensures lists { (result.shown ≡ viewer.shown) × (result.learned ≡ viewer.learned) × (result.last ≡ viewer.last) }
+        ensures unrun { result.end ≡ Ok tt }
     {
         SessionWork {
             session,
