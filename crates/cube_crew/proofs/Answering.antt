@@ -1,0 +1,267 @@
+-- What the sessions of a run leave.
+use Rattle.std.proofs.Common.{◌≡◌, ◌≢◌, ℕ, ◌≤◌, Bool, true, false, ◌||◌, List, [], ◌∷◌, ◌++◌, All, length, length-append, map, Option, Some, Result, Ok, Err, IsErrOf, refl, sym, ap, ◌∙◌, subst, arith}
+use Rattle.std.specs.List.{AllZip}
+use Rattle.std.proofs.lemmas.Bool.{false≢true}
+use Rattle.std.proofs.lemmas.List.Elements.{All-cons, All-head, All-nil, All-tail}
+use Rattle.crew_session.specs.Leaves.{LeavesSession}
+use Rattle.crew_session.specs.Work.{HadNoTurn, WorkState, done_of, has_starved, is_starved_end}
+use Rattle.crew_session.specs.declared.done.SessionDone.{SessionDone}
+use Rattle.cube_crew.specs.Crewed.{LeavesTranscript}
+use Rattle.cube_crew.specs.Ending.{EndsAsk, EndsFinal}
+use Rattle.cube_crew.specs.Starving.{FoundMemory}
+use Rattle.cube_crew.specs.Works.{new_session_work, session_works_of}
+use Rattle.cube_view.specs.Points.{Point}
+use Rattle.cube_view.specs.declared.schema.Schema.{Schema}
+use Rattle.cube_view.specs.declared.stat.Stat.{Stat}
+use Rattle.live_session.specs.News.{News, news_of}
+use Rattle.live_session.specs.SoFar.{HasAnswered, HasBroken, HasDone}
+use Rattle.live_session.specs.State.{SessionState}
+use Rattle.live_session.specs.TranscriptLaws.{StaysTranscript}
+use Rattle.mailbox.specs.Ends.{OutEnd}
+use Rattle.published_pair.specs.Rules.{Known}
+use Rattle.session_core.specs.Asked.{asked}
+use Rattle.session_core.specs.declared.fault.SessionFault.{SessionFault}
+use Rattle.session_core.specs.declared.fault.SessionFault.TheVariants as fault
+use Rattle.world_core.specs.PairFact.{IsPrefix}
+use Rattle.cube_crew.proofs.Zips.{AllZip-carried, AllZip-knowing, AllZip-map, AllZip-mapped}
+
+pub or_false : (a b : Bool) → a || b ≡ false → (a ≡ false) × (b ≡ false)
+or_false false b e = (refl, e)
+or_false true b e = absurd (false≢true (sym e))
+
+-- an end that did not find no memory
+found_end : (end : Result (Unit {0}) SessionFault) → is_starved_end end ≡ false → end ≢ Err fault.NoMemory
+found_end end none is = false≢true (sym none ∙ ap is_starved_end is)
+
+-- a run that ended well ended by no fault
+no_fault : (f : SessionFault) → IsErrOf {T = Unit {0}} {E = SessionFault} (Ok tt) f → ⊥
+no_fault f e = cc
+
+prefix_length : {A : Type 0} (xs ys : List A) → IsPrefix xs ys → length xs ≤ length ys
+prefix_length xs ys (more, is) = omega (arith, ap length is, length-append xs more)
+
+module _ {I O : Type 0} (left : I → Option (List ℕ)) (faults : I → ℕ) (held : O → Option (List ℕ)) (put_faults : O → ℕ) (name : O → List ℕ) (is_stat : Stat → Type 0) (schema : Schema) where
+  module _ (stays : StaysTranscript is_stat) (taken : ℕ) (a b : News) (shown : IsPrefix a.shown b.shown) (told : IsPrefix a.told b.told) (takes : a.takes ≤ b.takes) (start now : SessionState I O) where
+    -- what was answered within shorter lists was answered within longer ones
+    answered_within : HasAnswered left faults held schema is_stat false taken a start now → HasAnswered left faults held schema is_stat false taken b start now
+    answered_within s =
+        record {
+          lines = s.lines;
+          replies = s.replies;
+          first = s.first;
+          transcript = stays schema false now.lacked a.shown b.shown (length a.told) (length b.told) (asked schema s.lines) s.replies shown (prefix_length a.told b.told told) s.transcript;
+          gained = s.gained;
+          counted = s.counted;
+          noted = s.noted;
+          takes = omega (arith, s.takes, takes);
+          goes_on = s.goes_on;
+        }
+
+    broken_within : HasBroken left faults held schema is_stat false taken a start now → HasBroken left faults held schema is_stat false taken b start now
+    broken_within s =
+        record {
+          lines = s.lines;
+          replies = s.replies;
+          reply = s.reply;
+          first = s.first;
+          transcript = stays schema false now.lacked a.shown b.shown (length a.told) (length b.told) (asked schema s.lines) (s.replies ++ s.reply ∷ []) shown (prefix_length a.told b.told told) s.transcript;
+          gained = s.gained;
+          counted = s.counted;
+          noted = s.noted;
+          takes = omega (arith, s.takes, takes);
+        }
+
+    pub done_within : (end : Result (Unit {0}) SessionFault) → HasDone left faults held schema is_stat false taken a start now end → HasDone left faults held schema is_stat false taken b start now end
+    done_within (Ok answer) s = answered_within s
+    done_within (Err fault.NoMemory) s = answered_within s
+    done_within (Err fault.Read) s = answered_within s
+    done_within (Err fault.TooMuch) s = answered_within s
+    done_within (Err fault.Write) s = broken_within s
+
+  -- the news of a journal of which all was shown and told
+  abbrev news_over : List Point → OutEnd → News
+  news_over journal mail = record { shown = journal; told = journal; takes = mail.takes }
+
+  -- What an ask's work has become, whose viewer may be closed over the journal
+  pub record GivesAsk (closed starved : Bool) (journal : List Point) (work : WorkState I O) (done : SessionDone I O) : Type 0 where
+    pub gives : done ≡ done_of work
+    pub shown : closed ≡ true → IsPrefix work.shown.points journal
+    pub told : closed ≡ true → IsPrefix work.learned.points journal
+    pub found : starved ≡ false → has_starved work ≡ false
+
+  pub ask_leaves : StaysTranscript is_stat → (closed starved : Bool) (journal : List Point) (front : Known) (session : SessionState I O) (mail : OutEnd) (work : WorkState I O) (done : SessionDone I O) → mail.takes ≡ 0
+      → LeavesSession left faults held put_faults name is_stat (new_session_work schema front session mail) work → GivesAsk closed starved journal work done
+      → LeavesTranscript left faults held put_faults name is_stat schema false closed starved journal session done
+  ask_leaves stays closed starved journal front session mail work done none ran gives =
+      subst (LeavesTranscript left faults held put_faults name is_stat schema false closed starved journal session) (sym gives.gives)
+      (record {
+        after = work.session;
+        end = work.end;
+        parts = (refl, refl);
+        numbers = (refl, refl, refl);
+        replied = λ is_closed.
+            done_within stays 0 (news_of work.shown work.learned work.mail) (news_over journal work.mail) (gives.shown is_closed) (gives.told is_closed) (omega arith) session work.session work.end
+            (subst (λ (n : ℕ). HasDone left faults held schema is_stat false n (news_of work.shown work.learned work.mail) session work.session work.end) none ran.replied);
+        all = λ is_closed. ran.all;
+        too_much = ran.too_much;
+        read = ran.read;
+        write = ran.write;
+        named = ran.ended.1;
+        found = λ enough.
+            let both = or_false work.session.lacked (is_starved_end work.end) (gives.found enough) in
+            (both.0, found_end work.end both.1);
+      })
+
+  pub asks_leave : StaysTranscript is_stat → (closed starved : Bool) (journal : List Point) (front : Known) (sessions : List (SessionState I O)) (mails : List OutEnd) (works : List (WorkState I O)) (dones : List (SessionDone I O))
+      → length mails ≡ length sessions → All (λ (mail : OutEnd). mail.takes ≡ 0) mails
+      → AllZip (LeavesSession left faults held put_faults name is_stat) (session_works_of schema front sessions mails) works → AllZip (GivesAsk closed starved journal) works dones
+      → AllZip (LeavesTranscript left faults held put_faults name is_stat schema false closed starved journal) sessions dones
+  asks_leave stays closed starved journal front [] [] [] [] n none ran gives = tt
+  asks_leave stays closed starved journal front [] [] [] (done ∷ dones) n none ran gives = absurd gives
+  asks_leave stays closed starved journal front [] [] (work ∷ works) dones n none ran gives = absurd ran
+  asks_leave stays closed starved journal front [] (mail ∷ mails) works dones n none ran gives = absurd (omega (arith, n))
+  asks_leave stays closed starved journal front (session ∷ sessions) [] works dones n none ran gives = absurd (omega (arith, n))
+  asks_leave stays closed starved journal front (session ∷ sessions) (mail ∷ mails) [] dones n none ran gives = absurd ran
+  asks_leave stays closed starved journal front (session ∷ sessions) (mail ∷ mails) (work ∷ works) [] n none ran gives = absurd gives
+  asks_leave stays closed starved journal front (session ∷ sessions) (mail ∷ mails) (work ∷ works) (done ∷ dones) n none ran gives = (
+    ask_leaves stays closed starved journal front session mail work done (All-head (λ (mail : OutEnd). mail.takes ≡ 0) mail mails none) ran.0 gives.0,
+    asks_leave stays closed starved journal front sessions mails works dones (omega (arith, n)) (All-tail (λ (mail : OutEnd). mail.takes ≡ 0) mail mails none) ran.1 gives.1,
+  )
+
+  -- what the asks' works become, by how the run ended
+  pub asks_give : (closed starved : Bool) (journal : List Point) (works : List (WorkState I O)) (dones : List (SessionDone I O))
+      → (closed ≡ true → (whole : Known) × (whole.points ≡ journal) × AllZip (EndsAsk whole) works dones) → (closed ≡ false → dones ≡ map done_of works) → (starved ≡ false → All FoundMemory works)
+      → AllZip (GivesAsk closed starved journal) works dones
+  asks_give true starved journal works dones ends left found =
+      let all = ends refl in
+      let whole : Known = all.0 in
+      AllZip-knowing (EndsAsk whole) (λ (work : WorkState I O). starved ≡ false → FoundMemory work) (GivesAsk true starved journal) works dones
+      (λ work done enough ask. record {
+        gives = ask.gives;
+        shown = λ is. subst (IsPrefix work.shown.points) all.1 ask.shown;
+        told = λ is. subst (IsPrefix work.learned.points) all.1 ask.told;
+        found = enough;
+      })
+      (λ k d below. λ enough. found enough k d below) all.2
+  asks_give false starved journal works dones ends left found =
+      subst (AllZip (GivesAsk false starved journal) works) (sym (left refl))
+      (AllZip-knowing (λ (work : WorkState I O) (done : SessionDone I O). done ≡ done_of work) (λ (work : WorkState I O). starved ≡ false → FoundMemory work) (GivesAsk false starved journal) works (map done_of works)
+      (λ work done enough gives. record {
+        gives = gives;
+        shown = λ is. absurd (false≢true is);
+        told = λ is. absurd (false≢true is);
+        found = enough;
+      })
+      (λ k d below. λ enough. found enough k d below)
+      (AllZip-mapped (λ (work : WorkState I O) (done : SessionDone I O). done ≡ done_of work) done_of works (λ work. refl)))
+
+  -- the names of the asks' mailboxes
+  pub ask_mails : (closed starved : Bool) (journal : List Point) (befores works : List (WorkState I O)) (dones : List (SessionDone I O))
+      → AllZip (LeavesSession left faults held put_faults name is_stat) befores works → AllZip (GivesAsk closed starved journal) works dones
+      → map (λ (done : SessionDone I O). done.mail.mailbox) dones ≡ map (λ (work : WorkState I O). work.mail.mailbox) befores
+  ask_mails closed starved journal befores works dones ran gives =
+      AllZip-map (GivesAsk closed starved journal) (λ (work : WorkState I O). work.mail.mailbox) (λ (done : SessionDone I O). done.mail.mailbox) works dones (λ work done give. ap (λ (done : SessionDone I O). done.mail.mailbox) give.gives) gives
+      ∙ AllZip-map (LeavesSession left faults held put_faults name is_stat) (λ (work : WorkState I O). work.mail.mailbox) (λ (work : WorkState I O). work.mail.mailbox) befores works (λ before work run. run.mail.0) ran
+
+  -- ---- finals
+
+  final_closed : (starved : Bool) (whole front : Known) (session : SessionState I O) (mail : OutEnd) (done : SessionDone I O) → mail.takes ≡ 0
+      → EndsFinal left faults held put_faults name is_stat whole starved (new_session_work schema front session mail) done
+      → LeavesTranscript left faults held put_faults name is_stat schema true true starved whole.points session done
+  final_closed starved whole front session mail done none ends =
+      let learned = ends.learned in
+      let after : WorkState I O = ends.after in
+      let taught : WorkState I O = record { session = session; schema = schema; shown = front; learned = ends.taught.learned; last = Some whole; mail = mail; end = Ok tt } in
+      let same : ends.taught ≡ taught = λ i. record { session = learned.same.0 i; schema = learned.shown.1 i; shown = learned.shown.0 i; learned = ends.taught.learned; last = learned.learned.1 i; mail = learned.same.1 i; end = learned.same.2 i } in
+      let ran : LeavesSession left faults held put_faults name is_stat taught after = subst (λ (work : WorkState I O). LeavesSession left faults held put_faults name is_stat work after) same ends.ran in
+      subst (LeavesTranscript left faults held put_faults name is_stat schema true true starved whole.points session) (sym ends.gives)
+      (record {
+        after = after.session;
+        end = after.end;
+        parts = (refl, refl);
+        numbers = (refl, refl, refl);
+        replied = λ is_closed. subst (λ (n : ℕ). HasDone left faults held schema is_stat true n (news_over whole.points after.mail) session after.session after.end) none ran.final;
+        all = λ is_closed. ran.all;
+        too_much = ran.too_much;
+        read = ran.read;
+        write = ran.write;
+        named = ran.ended.1;
+        found = λ enough.
+            let both = or_false after.session.lacked (is_starved_end after.end) (ends.found enough) in
+            (both.0, found_end after.end both.1);
+      })
+
+  finals_closed : (starved : Bool) (whole front : Known) (sessions : List (SessionState I O)) (mails : List OutEnd) (dones : List (SessionDone I O)) → length mails ≡ length sessions → All (λ (mail : OutEnd). mail.takes ≡ 0) mails
+      → AllZip (EndsFinal left faults held put_faults name is_stat whole starved) (session_works_of schema front sessions mails) dones
+      → AllZip (LeavesTranscript left faults held put_faults name is_stat schema true true starved whole.points) sessions dones
+  finals_closed starved whole front [] [] [] n none ends = tt
+  finals_closed starved whole front [] [] (done ∷ dones) n none ends = absurd ends
+  finals_closed starved whole front [] (mail ∷ mails) dones n none ends = absurd (omega (arith, n))
+  finals_closed starved whole front (session ∷ sessions) [] dones n none ends = absurd (omega (arith, n))
+  finals_closed starved whole front (session ∷ sessions) (mail ∷ mails) [] n none ends = absurd ends
+  finals_closed starved whole front (session ∷ sessions) (mail ∷ mails) (done ∷ dones) n none ends = (
+    final_closed starved whole front session mail done (All-head (λ (mail : OutEnd). mail.takes ≡ 0) mail mails none) ends.0,
+    finals_closed starved whole front sessions mails dones (omega (arith, n)) (All-tail (λ (mail : OutEnd). mail.takes ≡ 0) mail mails none) ends.1,
+  )
+
+  final_unclosed : (starved : Bool) (journal : List Point) (front : Known) (session : SessionState I O) (mail : OutEnd) → (starved ≡ false → ⊥)
+      → LeavesTranscript left faults held put_faults name is_stat schema true false starved journal session (done_of (new_session_work schema front session mail))
+  final_unclosed starved journal front session mail lacks =
+      record {
+        after = session;
+        end = Ok tt;
+        parts = (refl, refl);
+        numbers = (refl, refl, refl);
+        replied = λ is. absurd (false≢true is);
+        all = λ is. absurd (false≢true is);
+        too_much = λ e. absurd (no_fault fault.TooMuch e);
+        read = record { rose = λ e. absurd (no_fault fault.Read e); quiet = λ e. refl };
+        write = record { rose = λ e. absurd (no_fault fault.Write e); quiet = λ e. refl };
+        named = refl;
+        found = λ enough. absurd (lacks enough);
+      }
+
+  finals_unclosed : (starved : Bool) (journal : List Point) (front : Known) (sessions : List (SessionState I O)) (mails : List OutEnd) → length mails ≡ length sessions → (starved ≡ false → ⊥)
+      → AllZip (LeavesTranscript left faults held put_faults name is_stat schema true false starved journal) sessions (map done_of (session_works_of schema front sessions mails))
+  finals_unclosed starved journal front [] [] n lacks = tt
+  finals_unclosed starved journal front [] (mail ∷ mails) n lacks = absurd (omega (arith, n))
+  finals_unclosed starved journal front (session ∷ sessions) [] n lacks = absurd (omega (arith, n))
+  finals_unclosed starved journal front (session ∷ sessions) (mail ∷ mails) n lacks = (final_unclosed starved journal front session mail lacks, finals_unclosed starved journal front sessions mails (omega (arith, n)) lacks)
+
+  pub finals_leave : (closed starved : Bool) (journal : List Point) (front : Known) (sessions : List (SessionState I O)) (mails : List OutEnd) (dones : List (SessionDone I O)) → length mails ≡ length sessions → All (λ (mail : OutEnd). mail.takes ≡ 0) mails
+      → (closed ≡ true → (whole : Known) × (whole.points ≡ journal) × AllZip (EndsFinal left faults held put_faults name is_stat whole starved) (session_works_of schema front sessions mails) dones)
+      → (closed ≡ false → dones ≡ map done_of (session_works_of schema front sessions mails)) → (starved ≡ false → closed ≡ true)
+      → AllZip (LeavesTranscript left faults held put_faults name is_stat schema true closed starved journal) sessions dones
+  finals_leave true starved journal front sessions mails dones n none ends unclosed found =
+      let all = ends refl in
+      subst (λ (l : List Point). AllZip (LeavesTranscript left faults held put_faults name is_stat schema true true starved l) sessions dones) all.1 (finals_closed starved all.0 front sessions mails dones n none all.2)
+  finals_leave false starved journal front sessions mails dones n none ends unclosed found =
+      subst (AllZip (LeavesTranscript left faults held put_faults name is_stat schema true false starved journal) sessions) (sym (unclosed refl)) (finals_unclosed starved journal front sessions mails n (λ enough. false≢true (found enough)))
+
+  -- ---- works before they run
+
+  pub all_works : (P : WorkState I O → Type 0) (front : Known) (sessions : List (SessionState I O)) (mails : List OutEnd) → ((session : SessionState I O) (mail : OutEnd) → HadNoTurn session → P (new_session_work schema front session mail))
+      → All HadNoTurn sessions → All P (session_works_of schema front sessions mails)
+  all_works P front [] mails each all = All-nil P
+  all_works P front (session ∷ sessions) [] each all = All-nil P
+  all_works P front (session ∷ sessions) (mail ∷ mails) each all =
+      All-cons P (new_session_work schema front session mail) (session_works_of schema front sessions mails) (each session mail (All-head HadNoTurn session sessions all)) (all_works P front sessions mails each (All-tail HadNoTurn session sessions all))
+
+  pub work_mails : (front : Known) (sessions : List (SessionState I O)) (mails : List OutEnd) → length mails ≡ length sessions → map (λ (work : WorkState I O). work.mail.mailbox) (session_works_of schema front sessions mails) ≡ map (λ (mail : OutEnd). mail.mailbox) mails
+  work_mails front [] [] n = refl
+  work_mails front [] (mail ∷ mails) n = absurd (omega (arith, n))
+  work_mails front (session ∷ sessions) [] n = absurd (omega (arith, n))
+  work_mails front (session ∷ sessions) (mail ∷ mails) n = ap (λ names. mail.mailbox ∷ names) (work_mails front sessions mails (omega (arith, n)))
+
+  -- works that ran are of the same pair
+  pub ran_pairs : (front : Known) (befores works : List (WorkState I O)) → All (λ (work : WorkState I O). work.shown.book ≡ front.book) befores → AllZip (LeavesSession left faults held put_faults name is_stat) befores works → All (λ (work : WorkState I O). work.shown.book ≡ front.book) works
+  ran_pairs front befores works all z =
+      AllZip-carried (LeavesSession left faults held put_faults name is_stat) (λ (work : WorkState I O). work.shown.book ≡ front.book) (λ (work : WorkState I O). work.shown.book ≡ front.book) befores works (λ before work was ran. ran.viewer.0.pair ∙ was) all z
+
+-- works with one more session and mailbox
+pub session_works_of-push : {I O : Type 0} (schema : Schema) (front : Known) (sessions : List (SessionState I O)) (mails : List OutEnd) (session : SessionState I O) (mail : OutEnd) → length mails ≡ length sessions
+    → session_works_of schema front (sessions ++ session ∷ []) (mails ++ mail ∷ []) ≡ session_works_of schema front sessions mails ++ new_session_work schema front session mail ∷ []
+session_works_of-push schema front [] [] session mail n = refl
+session_works_of-push schema front [] (m ∷ mails) session mail n = absurd (omega (arith, n))
+session_works_of-push schema front (s ∷ sessions) [] session mail n = absurd (omega (arith, n))
+session_works_of-push schema front (s ∷ sessions) (m ∷ mails) session mail n = ap (λ l. new_session_work schema front s m ∷ l) (session_works_of-push schema front sessions mails session mail (omega (arith, n)))

@@ -1,0 +1,60 @@
+-- What the end of a run makes of its works.
+use Rattle.std.proofs.Common.{◌≡◌, ℕ, Bool, true, false, ◌||◌, List, All, map, Option, sym, ap, ◌∙◌, subst}
+use Rattle.std.specs.List.{AllZip}
+use Rattle.builder_core.specs.Builder.{BuilderState}
+use Rattle.crew_builder.specs.Work.{work_state}
+use Rattle.crew_feeder.specs.declared.work.FeedWork.{FeedWork}
+use Rattle.crew_session.specs.Work.{WorkState, done_of}
+use Rattle.crew_session.specs.declared.done.SessionDone.{SessionDone}
+use Rattle.cube_crew.specs.Ending.{EndsAsk, EndsFinal, EndsRun, IsRun}
+use Rattle.cube_crew.specs.Starving.{FoundMemory, FoundRoom}
+use Rattle.cube_crew.specs.Works.{end_of, fed_of}
+use Rattle.cube_crew.specs.declared.jobs.Crewed.{Crewed}
+use Rattle.cube_view.specs.declared.stat.Stat.{Stat}
+use Rattle.feed_queue.specs.Ends.{AreInTurn, DrawState, sent_lists}
+use Rattle.feed_queue.specs.Items.{entries_in}
+use Rattle.mailbox.specs.Ends.{InEnd}
+use Rattle.published_pair.specs.Rules.{Known}
+use Rattle.world_core.specs.Interleaving.{IsInterleaving, entry_points, list_of}
+use Rattle.world_core.specs.PairFact.{IsPrefix}
+use Rattle.cube_crew.proofs.Answering.{or_false}
+use Rattle.cube_crew.proofs.Zips.{AllZip-weaker}
+
+module _ {I O : Type 0} (left : I → Option (List ℕ)) (faults : I → ℕ) (held : O → Option (List ℕ)) (put_faults : O → ℕ) (name : O → List ℕ) (is_stat : Stat → Type 0) where
+  -- what a final found where none lacked memory, it found where nothing did
+  pub finals_starve : (whole : Known) (both one other : Bool) (works : List (WorkState I O)) (dones : List (SessionDone I O)) → both ≡ one || other
+      → AllZip (EndsFinal left faults held put_faults name is_stat whole other) works dones → AllZip (EndsFinal left faults held put_faults name is_stat whole both) works dones
+  finals_starve whole both one other works dones is z =
+      AllZip-weaker (EndsFinal left faults held put_faults name is_stat whole other) (EndsFinal left faults held put_faults name is_stat whole both) works dones
+      (λ work done end. record {
+        taught = end.taught;
+        after = end.after;
+        learned = end.learned;
+        ran = end.ran;
+        gives = end.gives;
+        found = λ enough. end.found (or_false one other (sym is ∙ enough)).1;
+      })
+      z
+
+  pub ends_run : (works : List (FeedWork I)) (draws : DrawState) (builder : BuilderState) (mails : List InEnd) (untold : Bool) (asks finals : List (WorkState I O)) (c : Crewed I O)
+      → IsRun works (work_state draws builder mails untold) asks finals
+      → c.feeds ≡ map fed_of works → c.mails ≡ mails → c.drawn ≡ entries_in draws.drawn
+      → (AreInTurn (map end_of works) draws.feeders → IsInterleaving draws.feeders (list_of (sent_lists (map end_of works))) c.drawn)
+      → IsPrefix c.journal (entries_in builder.taken) → (builder.spent ≡ false → c.journal ≡ entries_in builder.taken)
+      → (c.closed ≡ true → (whole : Known) × (whole.points ≡ entry_points c.journal) × AllZip (EndsAsk whole) asks c.asks × AllZip (EndsFinal left faults held put_faults name is_stat whole c.starved) finals c.finals)
+      → (c.closed ≡ false → (c.asks ≡ map done_of asks) × (c.finals ≡ map done_of finals))
+      → (c.starved ≡ false → (c.closed ≡ true) × (builder.spent ≡ false))
+      → (c.starved ≡ false → All FoundRoom works × All FoundMemory asks)
+      → EndsRun left faults held put_faults name is_stat works (work_state draws builder mails untold) asks finals c
+  ends_run works draws builder mails untold asks finals c run feeds same drawn turn prefix whole closed unclosed found fed =
+      let taken : entries_in builder.taken ≡ c.drawn = ap entries_in run.draws.taken ∙ sym drawn in
+      record {
+        feeds = feeds;
+        drawn = (drawn, turn run.turn);
+        journal = (subst (IsPrefix c.journal) taken prefix, λ enough. whole enough ∙ taken);
+        mails = same;
+        closed = closed;
+        unclosed = unclosed;
+        found = found;
+        fed = fed;
+      }

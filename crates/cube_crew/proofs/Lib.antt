@@ -1,0 +1,7 @@
+mod Zips
+mod Feeding
+mod Answering
+mod Closing
+mod Finishing
+mod Seating
+mod Crewing

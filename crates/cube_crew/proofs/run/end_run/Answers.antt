@@ -1,0 +1,100 @@
+use Rattle.std.proofs.Common.{rules, ◌≡◌, ◌≤◌, ℕ, true, false, List, map, IfOk, refl, sym, ap, subst, ◌∙◌}
+use Rattle.std.specs.List.{AllZip}
+use Rattle.std.proofs.lemmas.Bool.{false≢true}
+use Rattle.std.proofs.lemmas.List.Elements.{All-map, All-same}
+use Rattle.crew_builder.specs.Work.{WorkState as Building, work_state}
+use Rattle.cube_crew.specs.Ending.{EndsAsk, EndsFinal, EndsRun, IsRun}
+use Rattle.cube_crew.specs.Starving.{FoundMemory, FoundRoom}
+use Rattle.cube_crew.specs.Works.{end_of}
+use Rattle.cube_crew.specs.declared.jobs.Crewed.{Crewed}
+use Rattle.feed_queue.specs.Ends.{AreInTurn, FeedState, is_among, sent_lists}
+use Rattle.feed_queue.specs.Items.{has_end}
+use Rattle.feed_queue.proofs.InTurn.{ends_in_turn}
+use Rattle.world_core.specs.Interleaving.{IsInterleaving, entry_points, list_of}
+use Rattle.cube_crew.proofs.Answering.{or_false}
+use Rattle.cube_crew.proofs.Finishing.{ends_run, finals_starve}
+use Rattle.cube_crew.proofs.run.end_run.Goals as goal
+
+pub settle-drawn-requires-clause-lane : goal.settle-drawn-requires-clause-lane
+settle-drawn-requires-clause-lane g c =
+    let lane = c.into_parts-draws.result.0.lane in
+    All-same (λ (e : FeedState). e.lane ≡ lane) c.from_vec.result (map end_of c.args.works.items) (c.from_vec.ensures ∙ c.end_feeds-feeds.ensures.ended)
+    (All-map (λ (e : FeedState). e.lane ≡ lane) end_of c.args.works.items (λ j w below. c.requires.run.lane j w below ∙ sym (ap (λ (w : Building). w.draws.lane) c.into_parts-draws.ensures)))
+
+pub settle-drawn-requires-clause-each : goal.settle-drawn-requires-clause-each
+settle-drawn-requires-clause-each g c f low high =
+    ap (λ l. is_among l f) (c.from_vec.ensures ∙ c.end_feeds-feeds.ensures.ended)
+    ∙ ends_in_turn (map end_of c.args.works.items) c.args.later.building.draws.feeders c.requires.run.turn f low (subst (λ (w : Building). f ≤ w.draws.feeders) c.into_parts-draws.ensures high)
+
+pub settle-drawn-requires-clause-ends : goal.settle-drawn-requires-clause-ends
+settle-drawn-requires-clause-ends g c f low high =
+    subst (λ (w : Building). has_end f w.draws.drawn ≡ true) (sym c.into_parts-draws.ensures)
+    (c.requires.run.drawn f low (subst (λ (w : Building). f ≤ w.draws.feeders) c.into_parts-draws.ensures high))
+
+pub into_journal-journal-requires-after_bounds : goal.into_journal-journal-requires-after_bounds
+into_journal-journal-requires-after_bounds g c κs within f low high =
+    let building = c.args.later.building in
+    let few : f ≤ building.builder.feeders = subst (λ (w : Building). f ≤ w.builder.feeders) c.into_parts-draws.ensures high in
+    let ended : has_end f building.draws.drawn ≡ true = c.requires.run.drawn f low (subst (λ (n : ℕ). f ≤ n) c.requires.run.draws.feeders few) in
+    ap (has_end f) (ap (λ (w : Building). w.builder.taken) c.into_parts-draws.ensures ∙ c.requires.run.draws.taken) ∙ ended
+
+pub end_sessions-answered-requires-clause-pair : goal.end_sessions-answered-requires-clause-pair
+end_sessions-answered-requires-clause-pair g c κs within =
+    let builder = c.into_parts-draws.result.1 in
+    let rested : (c.in-Ok.pair.0.ended.points ≡ entry_points c.into_journal-journal.result.0) × (c.in-Ok.pair.0.ended.book ≡ builder.published.book) × (c.in-Ok.pair.0.schema ≡ builder.schema) =
+    subst (λ r. IfOk r (λ t. (t.0.ended.points ≡ entry_points c.into_journal-journal.result.0) × (t.0.ended.book ≡ builder.published.book) × (t.0.schema ≡ builder.schema))) c.in-Ok.is c.into_journal-journal.ensures.rested in
+    let to : c.args.later.building.builder.published.book ≡ c.in-Ok.pair.0.ended.book = sym (ap (λ (w : Building). w.builder.published.book) c.into_parts-draws.ensures) ∙ sym rested.1 in
+    (λ k d below. c.requires.run.pair.0 k d below ∙ to, λ k d below. c.requires.run.pair.1 k d below ∙ to)
+
+pub returns-in-Ok : goal.returns-in-Ok
+returns-in-Ok g c =
+    let parts = c.into_parts-draws.result in
+    let works = c.args.works.items in
+    let asks = c.args.later.asks.items in
+    let finals = c.args.finals.items in
+    let same = c.into_parts-draws.ensures in
+    let run : IsRun works (work_state parts.0 parts.1 parts.2 parts.3) asks finals = subst (λ (b : Building). IsRun works b asks finals) (sym same) c.requires.run in
+    let ended : c.from_vec.result ≡ map end_of works = c.from_vec.ensures ∙ c.end_feeds-feeds.ensures.ended in
+    let turn = subst (λ (l : List FeedState). AreInTurn l parts.0.feeders → IsInterleaving parts.0.feeders (list_of (sent_lists l)) c.settle-drawn.result) ended c.settle-drawn.ensures.in_turn in
+    let feeds = c.from_vec-feeds.ensures ∙ c.end_feeds-feeds.ensures.dones in
+    let builder = parts.1 in
+    let whole = c.in-Ok.pair.0.ended in
+    let rested : (whole.points ≡ entry_points c.into_journal-journal.result.0) × (whole.book ≡ builder.published.book) × (c.in-Ok.pair.0.schema ≡ builder.schema) =
+    subst (λ r. IfOk r (λ t. (t.0.ended.points ≡ entry_points c.into_journal-journal.result.0) × (t.0.ended.book ≡ builder.published.book) × (t.0.schema ≡ builder.schema))) c.in-Ok.is c.into_journal-journal.ensures.rested in
+    let none = λ (enough : c.either.result ≡ false). or_false c.has_starved-starved.result c.end_sessions-answered.result.starved (sym c.either.ensures ∙ enough) in
+    let crewed : Crewed g.row.I.Denot g.row.O.Denot = record { feeds = c.from_vec-feeds.result; asks = c.from_vec-in-Ok.result; finals = c.from_vec-in-Ok-2.result; journal = c.into_journal-journal.result.0; drawn = c.settle-drawn.result; mails = parts.2; starved = c.either.result; closed = true } in
+    let over : EndsRun g.I.Source.left g.I.Source.faults g.O.Sink.held g.O.Sink.faults g.O.Sink.name g.V.CubeView.is_stat works (work_state parts.0 parts.1 parts.2 parts.3) asks finals crewed =
+    ends_run g.I.Source.left g.I.Source.faults g.O.Sink.held g.O.Sink.faults g.O.Sink.name g.V.CubeView.is_stat works parts.0 parts.1 parts.2 parts.3 asks finals crewed run feeds refl c.settle-drawn.ensures.drawn turn c.into_journal-journal.ensures.prefix c.into_journal-journal.ensures.whole
+    (λ is. (
+      whole,
+      rested.0,
+      subst (AllZip (EndsAsk whole) asks) (sym c.from_vec-in-Ok.ensures) c.end_sessions-answered.ensures.asks,
+      subst (AllZip (EndsFinal g.I.Source.left g.I.Source.faults g.O.Sink.held g.O.Sink.faults g.O.Sink.name g.V.CubeView.is_stat whole c.either.result) finals) (sym c.from_vec-in-Ok-2.ensures)
+          (finals_starve g.I.Source.left g.I.Source.faults g.O.Sink.held g.O.Sink.faults g.O.Sink.name g.V.CubeView.is_stat whole c.either.result c.has_starved-starved.result c.end_sessions-answered.result.starved finals c.end_sessions-answered.result.finals.items c.either.ensures c.end_sessions-answered.ensures.finals),
+    ))
+    (λ is. absurd (false≢true (sym is)))
+    (λ enough. (refl, sym c.spent.ensures ∙ (c.has_starved-starved.ensures (none enough).0).2))
+    (λ enough. let found = c.has_starved-starved.ensures (none enough).0 in (All-same FoundRoom works _ (search rules) found.0, All-same FoundMemory asks _ (search rules) found.1))
+    in
+    subst (λ (b : Building). EndsRun g.I.Source.left g.I.Source.faults g.O.Sink.held g.O.Sink.faults g.O.Sink.name g.V.CubeView.is_stat works b asks finals crewed) same over
+
+pub returns-in-Err : goal.returns-in-Err
+returns-in-Err g c =
+    let parts = c.into_parts-draws.result in
+    let works = c.args.works.items in
+    let asks = c.args.later.asks.items in
+    let finals = c.args.finals.items in
+    let same = c.into_parts-draws.ensures in
+    let run : IsRun works (work_state parts.0 parts.1 parts.2 parts.3) asks finals = subst (λ (b : Building). IsRun works b asks finals) (sym same) c.requires.run in
+    let ended : c.from_vec.result ≡ map end_of works = c.from_vec.ensures ∙ c.end_feeds-feeds.ensures.ended in
+    let turn = subst (λ (l : List FeedState). AreInTurn l parts.0.feeders → IsInterleaving parts.0.feeders (list_of (sent_lists l)) c.settle-drawn.result) ended c.settle-drawn.ensures.in_turn in
+    let feeds = c.from_vec-feeds.ensures ∙ c.end_feeds-feeds.ensures.dones in
+    let crewed : Crewed g.row.I.Denot g.row.O.Denot = record { feeds = c.from_vec-feeds.result; asks = c.from_vec-in-Err.result; finals = c.from_vec-in-Err-2.result; journal = c.into_journal-journal.result.0; drawn = c.settle-drawn.result; mails = parts.2; starved = true; closed = false } in
+    let over : EndsRun g.I.Source.left g.I.Source.faults g.O.Sink.held g.O.Sink.faults g.O.Sink.name g.V.CubeView.is_stat works (work_state parts.0 parts.1 parts.2 parts.3) asks finals crewed =
+    ends_run g.I.Source.left g.I.Source.faults g.O.Sink.held g.O.Sink.faults g.O.Sink.name g.V.CubeView.is_stat works parts.0 parts.1 parts.2 parts.3 asks finals crewed run feeds refl c.settle-drawn.ensures.drawn turn c.into_journal-journal.ensures.prefix c.into_journal-journal.ensures.whole
+    (λ is. absurd (false≢true is))
+    (λ is. (c.from_vec-in-Err.ensures ∙ c.leave_sessions.ensures.dones, c.from_vec-in-Err-2.ensures ∙ c.leave_sessions-in-Err.ensures.dones))
+    (λ enough. absurd (false≢true (sym enough)))
+    (λ enough. absurd (false≢true (sym enough)))
+    in
+    subst (λ (b : Building). EndsRun g.I.Source.left g.I.Source.faults g.O.Sink.held g.O.Sink.faults g.O.Sink.name g.V.CubeView.is_stat works b asks finals crewed) same over

@@ -1,0 +1,116 @@
+-- What a run leaves.
+use Rattle.std.specs.Prelude.{◌≡◌, ◌≢◌, ℕ, ◌+◌, Bool, true, false, List, [], ◌∷◌, All, length, map, Option, Some, Result, Err, OnOk, IsErrOf, ⊤}
+use Rattle.std.specs.List.{AllZip}
+use Rattle.crew_builder.specs.Telling.{told_lengths}
+use Rattle.crew_feeder.specs.Leaving.{GivesUntil}
+use Rattle.crew_feeder.specs.RowCounts.{count_blank, count_refused, first_refusals}
+use Rattle.crew_feeder.specs.declared.job.FeedDone.{FeedDone}
+use Rattle.crew_feeder.specs.declared.job.FeedJob.{FeedJob}
+use Rattle.crew_session.specs.Work.{ending_fault, last_number}
+use Rattle.crew_session.specs.declared.done.SessionDone.{SessionDone}
+use Rattle.cube_crew.specs.declared.jobs.Crewed.{Crewed}
+use Rattle.cube_crew.specs.declared.jobs.Jobs.{Jobs}
+use Rattle.cube_view.specs.Points.{Point}
+use Rattle.cube_view.specs.declared.schema.Schema.{Schema}
+use Rattle.cube_view.specs.declared.stat.Stat.{Stat}
+use Rattle.feed_reader.specs.Feeds.{points_in}
+use Rattle.feed_reader.specs.Rows.{row_of_line}
+use Rattle.feed_reader.specs.declared.row.Row.{Row}
+use Rattle.live_session.specs.SoFar.{AnswersAll, HasDone}
+use Rattle.live_session.specs.State.{SessionState}
+use Rattle.mailbox.specs.Ends.{InEnd}
+use Rattle.outer_io.specs.Cutting.{Cutter}
+use Rattle.outer_io.specs.Faults.{HasCause}
+use Rattle.outer_io.specs.Lines.{Line}
+use Rattle.outer_io.specs.Progress.{IsTooLarge}
+use Rattle.outer_io.specs.declared.cutter.CutFault.TheVariants as cut
+use Rattle.session_core.specs.declared.fault.SessionFault.{SessionFault}
+use Rattle.session_core.specs.declared.fault.SessionFault.TheVariants as fault
+use Rattle.world_core.specs.Interleaving.{IsInterleaving, entry_points, list_of}
+use Rattle.world_core.specs.PairFact.{IsPrefix}
+
+-- the rows of lines under the header of a job
+abbrev pub feed_rows : {I : Type 0} → FeedJob I → List Line → List Row
+feed_rows job lines = map (row_of_line job.header.schema job.header.places) lines
+
+-- What a feed of a run leaves, whose feeder has sent these points
+pub record LeavesFeed {I : Type 0} (left : I → Option (List ℕ)) (faults : I → ℕ) (job : FeedJob I) (sent : List Point) (done : FeedDone I) : Type 0 where
+  -- the lines that the cutter gave
+  pub lines : List Line
+  -- the cutter after them
+  pub cutter : Cutter I
+  -- it gave them until the fault, or until its end
+  pub given : GivesUntil left faults job.cutter cutter lines done.fault
+  -- the source is as it left it
+  pub source : done.source ≡ cutter.source
+  -- the accepted points among their rows were sent
+  pub accepted : (sent ≡ points_in (feed_rows job lines)) × (done.accepted ≡ length sent)
+  -- the blank and the refused rows were counted
+  pub counts : (done.blank ≡ count_blank (feed_rows job lines)) × (done.refused ≡ count_refused (feed_rows job lines))
+  -- and the first refusals kept, with the numbers of their lines
+  pub first : done.first ≡ first_refusals (job.cutter.given + 1) (feed_rows job lines)
+
+module _ {I : Type 0} (left : I → Option (List ℕ)) (faults : I → ℕ) where
+  -- each feed leaves that, in order
+  abbrev pub FeedsLeave : List (FeedJob I) → List (List Point) → List (FeedDone I) → Type 0
+  FeedsLeave [] [] [] = ⊤
+  FeedsLeave (job ∷ jobs) (sent ∷ sents) (done ∷ dones) = LeavesFeed left faults job sent done × FeedsLeave jobs sents dones
+  FeedsLeave jobs sents dones = ⊥
+
+-- over a source and a sink, a structure whose numbers meet the test, and a schema
+module _ {I O : Type 0} (left : I → Option (List ℕ)) (faults : I → ℕ) (held : O → Option (List ℕ)) (put_faults : O → ℕ) (name : O → List ℕ) (is_stat : Stat → Type 0) (schema : Schema) where
+  -- What a session of a run leaves, where the journal has these points
+  pub record LeavesTranscript (final closed starved : Bool) (journal : List Point) (before : SessionState I O) (done : SessionDone I O) : Type 0 where
+    -- the session at its end
+    pub after : SessionState I O
+    -- how it ended
+    pub end : Result (Unit {0}) SessionFault
+    -- its parts are given back
+    pub parts : (done.source ≡ after.source.source) × (done.sink ≡ after.sink)
+    -- with its numbers and its fault
+    pub numbers : (done.replies ≡ after.replies) × (done.seen ≡ last_number after.seens) × (done.fault ≡ ending_fault end)
+    -- where the viewers were closed, its replies are a transcript over the journal of the first of what its script asks;
+    -- after `Write` with one reply more, of which the sink gained a part
+    pub replied : closed ≡ true → HasDone left faults held schema is_stat final 0 (record { shown = journal; told = journal; takes = done.mail.takes }) before after end
+    -- then all is answered, unless a fault ended it
+    pub all : closed ≡ true → OnOk end (AnswersAll left schema before after)
+    -- and with too much: then the script is over its limit
+    pub too_much : IsErrOf end fault.TooMuch → AnswersAll left schema before after × IsTooLarge left before.source
+    -- `Read` only where the source's count of faults rose, which else stands
+    pub read : HasCause (faults before.source.source) (faults done.source) end fault.Read
+    -- `Write` only where the sink's count rose, which else stands
+    pub write : HasCause (put_faults before.sink) (put_faults done.sink) end fault.Write
+    -- the sink keeps its name
+    pub named : name done.sink ≡ name before.sink
+    -- where nothing lacked memory, no reply is the line that says so, and it did not end for want of memory
+    pub found : starved ≡ false → (after.lacked ≡ false) × (end ≢ Err fault.NoMemory)
+
+  -- What holds where nothing lacked memory
+  pub record FoundAll (c : Crewed I O) : Type 0 where
+    -- the journal is all that was drawn
+    pub journal : c.journal ≡ c.drawn
+    -- the viewers were closed
+    pub closed : c.closed ≡ true
+    -- each mailbox got the multiples of the batch up to the journal's length, and then that length
+    pub told : All (λ (mail : InEnd). mail.lengths ≡ told_lengths schema.batch (length c.journal)) c.mails
+    -- and no feed ended for want of memory
+    pub feeds : All (λ (done : FeedDone I). done.fault ≢ Some cut.NoMemory) c.feeds
+
+  -- What a run leaves
+  pub record IsCrewed (jobs : Jobs I O) (c : Crewed I O) : Type 0 where
+    -- the points that each feeder sent
+    pub sent : List (List Point)
+    -- each feed sent and counted what its lines are, in order
+    pub feeds : FeedsLeave left faults jobs.feeds sent c.feeds
+    -- what was drawn is an interleaving of what was sent
+    pub drawn : IsInterleaving (length jobs.feeds) (list_of sent) c.drawn
+    -- the journal is a prefix of it
+    pub journal : IsPrefix c.journal c.drawn
+    -- each ask answered over the journal
+    pub asks : AllZip (LeavesTranscript false c.closed c.starved (entry_points c.journal)) jobs.asks c.asks
+    -- each final answered over all of the journal
+    pub finals : AllZip (LeavesTranscript true c.closed c.starved (entry_points c.journal)) jobs.finals c.finals
+    -- the mailboxes that were put into are those that the asks took from
+    pub mails : map (λ (mail : InEnd). mail.mailbox) c.mails ≡ map (λ (done : SessionDone I O). done.mail.mailbox) c.asks
+    -- and where nothing lacked memory, all is there
+    pub found : c.starved ≡ false → FoundAll c

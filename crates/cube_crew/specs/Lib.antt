@@ -1,0 +1,6 @@
+pub mod Works
+pub mod Opened
+pub mod Begins
+pub mod Starving
+pub mod Ending
+pub mod Crewed

@@ -1,0 +1,96 @@
+//! Room for all that a run gives back.
+ghost use Rattle.std.specs.Prelude.{◌≡◌, ◌≤◌, [], All, IfOk, OnOk, vec_len, vec_capacity};
+
+use crew_feeder::{FeedDone, FeedWork, FirstRefusals};
+use crew_session::{SessionDone, SessionWork};
+use cube_view::Grow;
+use feed_queue::Ended;
+use outer_io::{NoMemory, Sink, Source};
+use std::alloc::{AllocError, Global};
+
+/// Empty lists.
+pub(crate) struct Rooms<V: Grow, I: Source, O: Sink> {
+    pub works: Vec<FeedWork<I>>,
+    pub dones: Vec<FeedDone<I>>,
+    pub ended: Vec<Ended>,
+    pub asks: Vec<SessionWork<V, I, O>>,
+    pub finals: Vec<SessionWork<V, I, O>>,
+    pub answered: Vec<SessionDone<I, O>>,
+    pub final_answered: Vec<SessionDone<I, O>>,
+    ghost works_empty: { works.items ≡ [] },
+    ghost dones_empty: { dones.items ≡ [] },
+    ghost ended_empty: { ended.items ≡ [] },
+    ghost asks_empty: { asks.items ≡ [] },
+    ghost finals_empty: { finals.items ≡ [] },
+    ghost answered_empty: { answered.items ≡ [] },
+    ghost final_answered_empty: { final_answered.items ≡ [] },
+}
+
+impl<V: Grow, I: Source, O: Sink> Rooms<V, I, O> {
+    pub(crate) fn new(alloc: Global) -> Rooms<V, I, O> {
+        Rooms {
+            works: Vec::new(alloc),
+            dones: Vec::new(alloc),
+            ended: Vec::new(alloc),
+            asks: Vec::new(alloc),
+            finals: Vec::new(alloc),
+            answered: Vec::new(alloc),
+            final_answered: Vec::new(alloc),
+        }
+    }
+
+    /// Takes room for so many feeds, asks and finals.
+    pub(crate) fn reserve(
+        &mut self,
+        feeds: usize,
+        asks: usize,
+        finals: usize,
+    ) -> Result<(), AllocError>
+        ensures fed { OnOk result ((feeds ≤ vec_capacity self.new.works) × (feeds ≤ vec_capacity self.new.dones) × (feeds ≤ vec_capacity self.new.ended)) }
+        ensures asks { OnOk result ((asks ≤ vec_capacity self.new.asks) × (asks ≤ vec_capacity self.new.answered)) }
+        ensures finals { OnOk result ((finals ≤ vec_capacity self.new.finals) × (finals ≤ vec_capacity self.new.final_answered)) }
+    {
+        self.works.reserve(feeds)?;
+        self.dones.reserve(feeds)?;
+        self.ended.reserve(feeds)?;
+        self.asks.reserve(asks)?;
+        self.answered.reserve(asks)?;
+        self.finals.reserve(finals)?;
+        self.final_answered.reserve(finals)
+    }
+
+    /// Gives the room back.
+    pub(crate) fn let_go(self) {
+        let Rooms {
+            works,
+            dones,
+            ended: _,
+            asks,
+            finals,
+            answered,
+            final_answered,
+        } = self;
+        works.destroy_empty();
+        dones.destroy_empty();
+        asks.destroy_empty();
+        finals.destroy_empty();
+        answered.destroy_empty();
+        final_answered.destroy_empty();
+    }
+}
+
+/// Room for the first refusals of so many feeds.
+pub(crate) fn first_refusals(alloc: Global, feeds: usize) -> Result<Vec<FirstRefusals>, NoMemory>
+    ensures len { IfOk result (λ firsts. vec_len firsts ≡ feeds) }
+    ensures none { IfOk result (λ firsts. All (λ f. f ≡ []) firsts.items) }
+{
+    let mut firsts = Vec::new(alloc);
+    for _ in 0..feeds {
+        let first = FirstRefusals::new(alloc)?;
+        match firsts.push(first) {
+            Ok(()) => {}
+            Err(_) => return Err(NoMemory),
+        }
+    }
+    Ok(firsts)
+}

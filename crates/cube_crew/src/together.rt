@@ -1,0 +1,97 @@
+//! The feeders, the builder and the asks side by side.
+ghost use Rattle.std.specs.Prelude.{◌≡◌, true, vec_len, All};
+ghost use Rattle.std.specs.List.{AllZip};
+ghost use Rattle.crew_builder.specs.Built.{IsNewWork, IsBuilt};
+ghost use Rattle.crew_feeder.specs.Leaving.{HasFed};
+ghost use Rattle.crew_feeder.specs.Taking.{IsReady};
+ghost use Rattle.crew_session.specs.Leaves.{LeavesSession};
+ghost use Rattle.crew_session.specs.Work.{HadNoTurn};
+
+use crate::both::run_both;
+use crate::feeds::run_feeds;
+use crate::sessions::run_sessions;
+use crew_builder::BuilderWork;
+use crew_feeder::FeedWork;
+use crew_session::SessionWork;
+use cube_view::{Grow, Schema};
+use outer_io::{Sink, Source};
+use std::alloc::Global;
+use std::sync::Wait;
+use std::thread::Threads;
+
+/// The builder and the asks of a run.
+pub(crate) struct Later<B, A> {
+    pub building: B,
+    pub asks: Vec<A>,
+}
+
+/// Runs the builder and the asks side by side. Where no thread can be made, the builder runs first: the asks need nothing
+/// of it to end, but answer then over all that it published.
+fn build_and_ask<R: Threads + Wait + Sync, V: Grow + Send + Sync, I: Source + Send, O: Sink + Send>(
+    rt: &R,
+    alloc: Global,
+    building: &mut BuilderWork<V>,
+    asks: &mut Vec<SessionWork<V, I, O>>,
+)
+    requires building { IsNewWork building.old }
+    requires asks { All (λ w. HadNoTurn w.session) asks.old.items }
+    ensures asks { AllZip (LeavesSession I.left I.faults O.held O.faults O.name V.is_stat) asks.old.items asks.new.items }
+    ensures len { vec_len asks.new ≡ vec_len asks.old }
+    ensures built { IsBuilt building.old building.new }
+{
+    run_both(
+        rt,
+        &|_: usize, asks: &mut Vec<SessionWork<V, I, O>>|
+            requires { All (λ w. HadNoTurn w.session) asks.old.items }
+            ensures each { AllZip (LeavesSession I.left I.faults O.held O.faults O.name V.is_stat) asks.old.items asks.new.items }
+            ensures len { vec_len asks.new ≡ vec_len asks.old }
+        { run_sessions(rt, alloc, asks.as_mut_slice()) },
+        asks,
+        &|_: usize, building: &mut BuilderWork<V>|
+            requires { IsNewWork building.old }
+            ensures { IsBuilt building.old building.new }
+        { building.run(rt) },
+        building,
+    );
+}
+
+/// Runs the feeders, the builder and the asks side by side. Where no thread can be made they run in this order, so that a
+/// run whose items all have room in the lane still ends: the feeders wait for nobody then, and the builder finds every End.
+pub(crate) fn run_together<
+    R: Threads + Wait + Sync,
+    V: Grow + Send + Sync,
+    I: Source + Send,
+    O: Sink + Send,
+>(
+    rt: &R,
+    alloc: Global,
+    schema: &Schema,
+    feeds: &mut Vec<FeedWork<I>>,
+    later: &mut Later<BuilderWork<V>, SessionWork<V, I, O>>,
+)
+    requires feeds { All (λ w. IsReady schema.now w) feeds.old.items }
+    requires building { IsNewWork later.old.building }
+    requires asks { All (λ w. HadNoTurn w.session) later.old.asks.items }
+    ensures feeds { AllZip (HasFed I.left I.faults true) feeds.old.items feeds.new.items }
+    ensures feeds_len { vec_len feeds.new ≡ vec_len feeds.old }
+    ensures asks { AllZip (LeavesSession I.left I.faults O.held O.faults O.name V.is_stat) later.old.asks.items later.new.asks.items }
+    ensures asks_len { vec_len later.new.asks ≡ vec_len later.old.asks }
+    ensures built { IsBuilt later.old.building later.new.building }
+{
+    run_both(
+        rt,
+        &|_: usize, later: &mut Later<BuilderWork<V>, SessionWork<V, I, O>>|
+            requires { IsNewWork later.old.building × All (λ w. HadNoTurn w.session) later.old.asks.items }
+            ensures asks { AllZip (LeavesSession I.left I.faults O.held O.faults O.name V.is_stat) later.old.asks.items later.new.asks.items }
+            ensures asks_len { vec_len later.new.asks ≡ vec_len later.old.asks }
+            ensures built { IsBuilt later.old.building later.new.building }
+        { build_and_ask(rt, alloc, &mut later.building, &mut later.asks) },
+        later,
+        &|_: usize, feeds: &mut Vec<FeedWork<I>>|
+            requires { All (λ w. IsReady schema.now w) feeds.old.items }
+            ensures feeds { AllZip (HasFed I.left I.faults true) feeds.old.items feeds.new.items }
+            ensures feeds_len { vec_len feeds.new ≡ vec_len feeds.old }
+        { run_feeds(rt, alloc, schema, feeds.as_mut_slice()) },
+        feeds,
+    );
+}
