@@ -1,0 +1,4 @@
+mod Seats
+mod Readiness
+mod Putting
+mod Stages
