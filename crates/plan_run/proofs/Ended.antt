@@ -1,0 +1,290 @@
+-- How a run ends, by how it was opened and by what became of its parts.
+use Rattle.std.proofs.Common.{◌≡◌, ◌≢◌, ◌⊎◌, inl, inr, ◌<◌, ℕ, Bool, true, false, List, [], ◌∷◌, ◌++◌, All, length, map, append-nil, Option, Some, None, Result, Ok, Err, IsSomeAnd, OnOk, refl, sym, ap, subst, ◌∙◌}
+use Rattle.std.proofs.lemmas.List.{map-append}
+use Rattle.std.specs.Prelude.{Contains, IfSome}
+use Rattle.std.specs.FinMap.{get}
+use Rattle.std.specs.List.{AllZip}
+use Rattle.crew_feeder.specs.declared.job.FeedDone.{FeedDone}
+use Rattle.crew_feeder.specs.declared.job.FeedJob.{FeedJob}
+use Rattle.crew_session.specs.declared.done.SessionDone.{SessionDone}
+use Rattle.cube_crew.specs.Crewed.{IsCrewed, LeavesTranscript}
+use Rattle.cube_crew.specs.declared.jobs.Crewed.{Crewed}
+use Rattle.cube_schema.specs.Files.{input_names, output_names}
+use Rattle.cube_schema.specs.Repeats.{outputs}
+use Rattle.cube_schema.specs.declared.plan.Plan.{Plan}
+use Rattle.cube_store.specs.Numbers.{OwnsAllButRoot}
+use Rattle.feed_reader.specs.Feeds.{is_feed_refused}
+use Rattle.live_session.specs.State.{SessionState}
+use Rattle.outer_io.specs.Faults.{Rose}
+use Rattle.outer_io.specs.Files.{Files, file_or_empty}
+use Rattle.outer_io.specs.Lines.{input_limit}
+use Rattle.outer_io.specs.Told.{Told}
+use Rattle.plan_run.proofs.Causes.{FeedCause, SessionCause, feed_causes, session_causes}
+use Rattle.plan_run.proofs.Joined.{End, ended}
+use Rattle.plan_run.proofs.Landed.{told_pair}
+use Rattle.plan_run.proofs.Named.{KeepsOthers-one, dones_named, names_of, names_then, sessions_named}
+use Rattle.plan_run.proofs.Blamed.{AnyOf, all_err, any_in, any_left, any_right, any_unmapped}
+use Rattle.plan_run.proofs.Raised.{closing_not_plan, closing_read, closing_write, starved_of}
+use Rattle.plan_run.proofs.Refused.{large_feeds, large_scripts, write_not_refused}
+use Rattle.plan_run.proofs.Said.{completes, opening_refused, opening_said, silent_after, text_after}
+use Rattle.plan_run.proofs.Whole.{all_quiet, completed}
+use Rattle.plan_run.proofs.Zips.{AllZip-right}
+use Rattle.plan_run.specs.Completed.{IsCompleted}
+use Rattle.plan_run.specs.Ends.{IsDone, IsRefused, LeavesNames, PutsOrFails, RunEnds, Says}
+use Rattle.plan_run.specs.Parts.{GivesBack, RunsParts, done_of, jobs_of}
+use Rattle.plan_run.specs.Seen.{PartSeen}
+use Rattle.run_files.proofs.Stages.{KeepsOthers-after, KeepsOthers-more, all_opened}
+use Rattle.run_files.specs.Leaving.{KeepsOthers, LeavesPlace}
+use Rattle.run_files.specs.Outside.{file_of, PlaceSeen, Silent, SinkSeen}
+use Rattle.run_files.specs.Planned.{IsPlanOf}
+use Rattle.run_files.specs.Stops.{write_end}
+use Rattle.run_files.specs.declared.stop.Stop.{Stop}
+use Rattle.run_files.specs.declared.stop.Stop.TheVariants.{NoMemory, PlanRefused, ReadFault, WriteFault, FeedRefused}
+use Rattle.run_opening.specs.Opening.{AreReady, OpensInOrder, OpensRun, inputs_of, outputs_of}
+use Rattle.run_opening.specs.Ready.{IsJobOf, IsSessionOf}
+use Rattle.run_opening.specs.declared.parts.RunParts.{RunParts}
+use Rattle.run_stages.specs.Closing.{ClosesRun, run_text, threads_end}
+use Rattle.run_stages.specs.Counted.{feed_counts, script_counts}
+use Rattle.run_stages.specs.Ends.{feed_end, feeds_end, session_end, sessions_end, starved_end}
+use Rattle.run_stages.specs.declared.done.RunDone.{RunDone}
+use Rattle.session_core.proofs.WholeScripts.{told_by}
+use Rattle.world_core.specs.Interleaving.{entry_points}
+
+module _ {P T : Type 0} (p : PlaceSeen P) (t : SinkSeen T) where
+  -- ---- a run that opening ended
+
+  opening_write : (place mid : P) (out out1 : T) (name : List ℕ) (stop : Stop) (plan : Option Plan) (opens makes : List (List ℕ)) → stop ≡ WriteFault
+      → (plan ≡ None → (Some stop ≡ Some NoMemory) ⊎ (Some stop ≡ Some ReadFault) ⊎ (Some stop ≡ Some PlanRefused))
+      → IfSome plan (λ plan. (later : List (List ℕ)) × (opens ≡ name ∷ later) × OpensInOrder t plan (p.files place) (p.write_faults place) (p.write_faults mid) out out1 later makes (Some stop))
+      → Rose (p.write_faults place) (p.write_faults mid) ⊎ Rose (t.faults out) (t.faults out1)
+  opening_write place mid out out1 name stop None opens makes is unplanned order = absurd (none (unplanned refl))
+    where
+      none : ¬ ((Some stop ≡ Some NoMemory) ⊎ (Some stop ≡ Some ReadFault) ⊎ (Some stop ≡ Some PlanRefused))
+      none (inl e) = cc (e, is)
+      none (inr (inl e)) = cc (e, is)
+      none (inr (inr e)) = cc (e, is)
+  opening_write place mid out out1 name stop (Some plan) opens makes is unplanned (later, e, inl feeds) = inr (feeds.unsaid (ap (λ s. Some s) is)).refuses.says.faults
+  opening_write place mid out out1 name stop (Some plan) opens makes is unplanned (later, e, inr scripts) = inl (scripts.write (ap (λ s. Some s) is))
+
+  unplanned_end : (stop : Stop) → (Some stop ≡ Some NoMemory) ⊎ (Some stop ≡ Some ReadFault) ⊎ (Some stop ≡ Some PlanRefused) → (ended stop ≡ ended NoMemory) ⊎ (ended stop ≡ ended ReadFault) ⊎ (ended stop ≡ ended PlanRefused)
+  unplanned_end stop (inl e) = inl (cc e)
+  unplanned_end stop (inr (inl e)) = inr (inl (cc e))
+  unplanned_end stop (inr (inr e)) = inr (inr (cc e))
+
+  same_stop : (a b : Stop) → ended a ≡ ended b → Some a ≡ Some b
+  same_stop a b e = cc e
+
+  pub ended_by_opening : (place mid : P) (out out1 : T) (name : List ℕ) (stop : Stop) → OpensRun p t place mid out out1 name None (Some stop) → RunEnds p t place mid out out1 name (Err stop)
+  ended_by_opening place mid out out1 name stop opens = record {
+    plan = opens.plan;
+    plan_is = opens.plan_is;
+    unplanned = λ none. unplanned_end stop (opens.unplanned none);
+    refused_plan = λ e. opens.refused_plan (same_stop stop PlanRefused e);
+    names = names_of p place mid (name ∷ inputs_of opens.plan) (outputs_of opens.plan) (Some stop) opens.leaves;
+    done = tt;
+    read = λ e. opens.leaves.read (same_stop stop ReadFault e);
+    write = write;
+    said = opening_said p t place mid out out1 name stop opens.plan opens.leaves.opens opens.leaves.makes opens opens.unplanned opens.order;
+    refused = refused;
+    complete = completes p t place mid out out1 name opens.plan (Err stop) (λ e. (opens.refused_plan (same_stop stop PlanRefused e)).0) refused (λ e. opens.leaves.read (same_stop stop ReadFault e)) write;
+  }
+    where
+      refused : ended stop ≡ Err FeedRefused → (which : Plan) × (opens.plan ≡ Some which) × Told (p.files place) (λ files. IsRefused files which)
+      refused e = opening_refused p t place mid out out1 name stop opens.plan opens.leaves.opens opens.leaves.makes (cc e) opens.unplanned opens.order
+
+      write : ended stop ≡ Err WriteFault → Rose (p.write_faults place) (p.write_faults mid) ⊎ Rose (t.faults out) (t.faults out1)
+      write e = opening_write place mid out out1 name stop opens.plan opens.leaves.opens opens.leaves.makes (cc e) opens.unplanned opens.order
+
+  -- ---- a run that went on
+
+  module _ (place mid place' : P) (out out1 out' : T) (name : List ℕ) (plan : Plan) (opens : OpensRun p t place mid out out1 name (Some plan) None) (plan_is : IsPlanOf (file_of (p.files place) name) plan) where
+    its_plan : opens.plan ≡ Some plan
+    its_plan = opens.goes_on
+
+    leaves : LeavesPlace p place mid (name ∷ input_names plan) (output_names plan) None
+    leaves = subst (λ o. LeavesPlace p place mid (name ∷ inputs_of o) (outputs_of o) None) its_plan opens.leaves
+
+    silent : Silent t out out1
+    silent = opens.silent (λ e. cc e) (λ e. cc e) (λ e. cc e)
+
+    module _ {I O : Type 0} (i : PartSeen I) (s : SinkSeen O) (parts : RunParts I O) (ready : AreReady i.left i.faults s (p.files place) plan parts) where
+      abbrev sink_of : SessionDone I O → O
+      sink_of done = done.sink
+
+      abbrev sink_in : SessionState I O → O
+      sink_in session = session.sink
+
+      -- the names of the sinks of two lists of sessions
+      both_named : (asks finals : List O) → map s.name asks ≡ outputs plan.asks → map s.name finals ≡ outputs plan.finals → map s.name (asks ++ finals) ≡ outputs plan.asks ++ outputs plan.finals
+      both_named asks finals one two = map-append s.name asks finals ∙ ap (λ ns. ns ++ map s.name finals) one ∙ ap (λ ns. outputs plan.asks ++ ns) two
+
+      module _ (result : Result (Unit {0}) Stop) (crewed : Crewed I O) (ran : IsCrewed i.left i.faults s.held s.faults s.name OwnsAllButRoot plan.schema (jobs_of parts) crewed)
+          (closes : ClosesRun plan (done_of crewed parts.journal) p s t i.faults mid place' out1 out' result) where
+        fresh : All (λ (job : FeedJob I). i.faults job.cutter.source ≡ 0) parts.feeds
+        fresh = AllZip-right (λ name. IsJobOf i.left i.faults plan.schema (file_of (p.files place) name)) (λ (job : FeedJob I). i.faults job.cutter.source ≡ 0) plan.feeds parts.feeds (λ name job is. is.fresh) ready.feeds
+
+        feeds : All (FeedCause i.faults) crewed.feeds
+        feeds = feed_causes i.left i.faults parts.feeds ran.sent crewed.feeds fresh ran.feeds
+
+        asks : All (SessionCause i.faults s.faults) crewed.asks
+        asks = session_causes i s OwnsAllButRoot plan.schema false crewed.closed crewed.starved (entry_points crewed.journal) (p.files place) plan.asks parts.asks crewed.asks ready.asks ran.asks
+
+        finals : All (SessionCause i.faults s.faults) crewed.finals
+        finals = session_causes i s OwnsAllButRoot plan.schema true crewed.closed crewed.starved (entry_points crewed.journal) (p.files place) plan.finals parts.finals crewed.finals ready.finals ran.finals
+
+        named : map s.name (map sink_of crewed.asks ++ map sink_of crewed.finals) ≡ outputs plan.asks ++ outputs plan.finals
+        named =
+            both_named (map sink_of crewed.asks) (map sink_of crewed.finals)
+            (dones_named i s (p.files place) OwnsAllButRoot plan.schema false crewed.closed crewed.starved (entry_points crewed.journal) plan.asks parts.asks crewed.asks ready.asks ran.asks)
+            (dones_named i s (p.files place) OwnsAllButRoot plan.schema true crewed.closed crewed.starved (entry_points crewed.journal) plan.finals parts.finals crewed.finals ready.finals ran.finals)
+
+        journal_named : s.name closes.sink ≡ plan.journal
+        journal_named = closes.written.name ∙ ready.journal.name_is
+
+        -- of the files only outputs have changed since the sources were given back
+        kept : KeepsOthers (p.files mid) (p.files place') (output_names plan)
+        kept =
+            KeepsOthers-after (p.files mid) (p.files closes.parts.read) (p.files place') (output_names plan) (closes.parts.finals_back.files ∙ closes.parts.asks_back.files ∙ closes.parts.feeds_back.files)
+            (KeepsOthers-more (p.files closes.parts.read) (p.files closes.replied) (p.files place') (outputs plan.asks ++ outputs plan.finals) (plan.journal ∷ [])
+            (subst (KeepsOthers (p.files closes.parts.read) (p.files closes.replied)) named closes.parts.sinks_back.others)
+            (subst (λ n. KeepsOthers (p.files closes.replied) (p.files place') (n ∷ [])) journal_named (KeepsOthers-one (p.files closes.replied) (p.files place') (s.name closes.sink) closes.journal.others)))
+
+        opened : p.opened place' ≡ p.opened mid
+        opened = closes.journal.opened ∙ closes.parts.sinks_back.opened ∙ closes.parts.finals_back.opened ∙ closes.parts.asks_back.opened ∙ closes.parts.feeds_back.opened
+
+        created : p.created place' ≡ p.created mid
+        created = closes.journal.created ∙ closes.parts.sinks_back.created ∙ closes.parts.finals_back.created ∙ closes.parts.asks_back.created ∙ closes.parts.feeds_back.created
+
+        names : LeavesNames p place place' (name ∷ input_names plan) (output_names plan)
+        names = names_then p place mid place' (name ∷ input_names plan) (output_names plan) leaves opened created kept
+
+        read_before : p.read_faults mid ≡ p.read_faults place
+        read_before = leaves.read_quiet (λ e. cc e)
+
+        write_before : p.write_faults mid ≡ p.write_faults place
+        write_before = leaves.write_quiet (λ e. cc e) (λ e. cc e)
+
+        is_done : result ≡ Ok tt → IsDone p t place place' out out' name plan
+        is_done well =
+            let closed : ClosesRun plan (done_of crewed parts.journal) p s t i.faults mid place' out1 out' (Ok tt) = subst (ClosesRun plan (done_of crewed parts.journal) p s t i.faults mid place' out1 out') well closes in
+            let quiet = all_quiet p i s t plan parts mid place' out1 out' (p.files place) crewed ready ran closed in
+            record {
+              opened = opened ∙ leaves.opened ∙ ap (λ ns. p.opened place ++ ns) (sym (all_opened p place mid (name ∷ input_names plan) (output_names plan) leaves));
+              created = created ∙ leaves.created ∙ ap (λ ns. p.created place ++ ns) (sym (leaves.outputs_are ∙ ap (λ ns. leaves.makes ++ ns) (leaves.makes_all refl) ∙ append-nil leaves.makes));
+              quiet = (quiet.0 ∙ read_before, quiet.1 ∙ write_before, quiet.2 ∙ silent.faults);
+              files = told_by (p.files place) (λ files. IsSomeAnd (p.files place') (λ files'. IsCompleted plan files files' (t.held out) (t.held out'))) (λ files told.
+                  let now = told_pair (p.files place) (p.files mid) files (λ a b. (other : List ℕ) → ¬ Contains leaves.makes other → get b other ≡ get a other) told leaves.others in
+                  subst (λ o. IsSomeAnd (p.files place') (λ files'. IsCompleted plan files files' o (t.held out'))) silent.held
+                  (completed p i s t plan parts mid place' out1 out' files now.0 crewed plan_is.files (subst (λ o. AreReady i.left i.faults s o plan parts) told ready) ran now.1 closed));
+            }
+
+        abbrev done : RunDone I O
+        done = done_of crewed parts.journal
+
+        abbrev feed_ends : FeedDone I → End
+        feed_ends d = feed_end d.fault
+
+        abbrev session_ends : SessionDone I O → End
+        session_ends d = session_end d.fault
+
+        -- which feed or script is refused
+        is_refused : result ≡ Err FeedRefused → (files : Files) → p.files place ≡ Some files → IsRefused files plan
+        is_refused is files told = by (all_err (threads_end done ∷ write_end closes.wrote ∷ closes.given ∷ write_end closes.kept ∷ closes.said ∷ []) FeedRefused (sym closes.ends ∙ is))
+          where
+            it_is : AreReady i.left i.faults s (Some files) plan parts
+            it_is = subst (λ o. AreReady i.left i.faults s o plan parts) told ready
+
+            script : (final : Bool) (names : List (List ℕ)) (befores : List (SessionState I O)) (dones : List (SessionDone I O)) → AllZip (IsSessionOf i.left i.faults s (Some files)) names befores
+                → AllZip (LeavesTranscript i.left i.faults s.held s.faults s.name OwnsAllButRoot plan.schema final crewed.closed crewed.starved (entry_points crewed.journal)) befores dones → sessions_end dones ≡ Err FeedRefused → AnyOf (λ name. input_limit < length (file_or_empty files name)) names
+            script final names befores dones are leave end =
+                large_scripts i s OwnsAllButRoot plan.schema final crewed.closed crewed.starved (entry_points crewed.journal) files names befores dones are leave
+                (any_unmapped session_ends (λ end. end ≡ Err FeedRefused) dones (all_err (map session_ends dones) FeedRefused end))
+
+            among : AnyOf (λ name. input_limit < length (file_or_empty files name)) (plan.asks ++ plan.finals) → IsRefused files plan
+            among any = inr (any_in (λ name. input_limit < length (file_or_empty files name)) (plan.asks ++ plan.finals) any)
+
+            threads : AnyOf (λ end. end ≡ Err FeedRefused) (starved_end crewed.starved ∷ feeds_end crewed.feeds ∷ sessions_end crewed.asks ∷ sessions_end crewed.finals ∷ []) → IsRefused files plan
+            threads (inl starved) = absurd (starved_of crewed.starved FeedRefused (λ e. cc e) starved)
+            threads (inr (inl fed)) =
+                inl (any_in (λ name. is_feed_refused plan.schema (file_or_empty files name) ≡ true) plan.feeds
+                (large_feeds i.left i.faults plan.schema (file_or_empty files) plan.feeds parts.feeds ran.sent crewed.feeds it_is.feeds ran.feeds (any_unmapped feed_ends (λ end. end ≡ Err FeedRefused) crewed.feeds (all_err (map feed_ends crewed.feeds) FeedRefused fed))))
+            threads (inr (inr (inl asked))) = among (any_left (λ name. input_limit < length (file_or_empty files name)) plan.asks plan.finals (script false plan.asks parts.asks crewed.asks it_is.asks ran.asks asked))
+            threads (inr (inr (inr (inl last)))) = among (any_right (λ name. input_limit < length (file_or_empty files name)) plan.asks plan.finals (script true plan.finals parts.finals crewed.finals it_is.finals ran.finals last))
+            threads (inr (inr (inr (inr none)))) = absurd none
+
+            by : AnyOf (λ end. end ≡ Err FeedRefused) (threads_end done ∷ write_end closes.wrote ∷ closes.given ∷ write_end closes.kept ∷ closes.said ∷ []) → IsRefused files plan
+            by (inl e) = threads (all_err (starved_end crewed.starved ∷ feeds_end crewed.feeds ∷ sessions_end crewed.asks ∷ sessions_end crewed.finals ∷ []) FeedRefused e)
+            by (inr (inl wrote)) = absurd (write_not_refused closes.wrote wrote)
+            by (inr (inr (inl given))) = absurd (closes.parts.sinks_back.only.2 given)
+            by (inr (inr (inr (inl kept)))) = absurd (write_not_refused closes.kept kept)
+            by (inr (inr (inr (inr (inl said))))) = absurd (closes.report.ends.2 said)
+            by (inr (inr (inr (inr (inr none))))) = absurd none
+
+        refused : result ≡ Err FeedRefused → (which : Plan) × (Some plan ≡ Some which) × Told (p.files place) (λ files. IsRefused files which)
+        refused e = (plan, refl, told_by (p.files place) (λ files. IsRefused files plan) (λ files told. is_refused e files told))
+
+        not_plan : result ≢ Err PlanRefused
+        not_plan e = closing_not_plan p i.faults s t plan (done_of crewed parts.journal) mid place' out1 out' result ready.journal.fresh feeds asks finals closes e
+
+        read_rose : result ≡ Err ReadFault → Rose (p.read_faults place) (p.read_faults place')
+        read_rose e = subst (λ n. Rose n (p.read_faults place')) read_before (closing_read p i.faults s t plan (done_of crewed parts.journal) mid place' out1 out' result ready.journal.fresh feeds asks finals closes e)
+
+        write_rose : result ≡ Err WriteFault → Rose (p.write_faults place) (p.write_faults place') ⊎ Rose (t.faults out) (t.faults out')
+        write_rose e = written (closing_write p i.faults s t plan (done_of crewed parts.journal) mid place' out1 out' result ready.journal.fresh feeds asks finals closes e)
+          where
+            written : Rose (p.write_faults mid) (p.write_faults place') ⊎ Rose (t.faults out1) (t.faults out') → Rose (p.write_faults place) (p.write_faults place') ⊎ Rose (t.faults out) (t.faults out')
+            written (inl rose) = inl (subst (λ n. Rose n (p.write_faults place')) write_before rose)
+            written (inr rose) = inr (subst (λ n. Rose n (t.faults out')) silent.faults rose)
+
+        pub ended_by_closing : RunEnds p t place place' out out' name result
+        ended_by_closing = record {
+          plan = Some plan;
+          plan_is = plan_is;
+          unplanned = λ none. absurd (cc none);
+          refused_plan = λ e. absurd (not_plan e);
+          names = names;
+          done = by result refl;
+          said = says (text_after t out out1 out' silent (run_text plan done) closes.said closes.report);
+          refused = refused;
+          read = read_rose;
+          write = write_rose;
+          complete = completes p t place place' out out' name (Some plan) result (λ e. absurd (not_plan e)) refused read_rose write_rose;
+        }
+          where
+            by : (r : Result (Unit {0}) Stop) → result ≡ r → OnOk r ((which : Plan) × (Some plan ≡ Some which) × IsDone p t place place' out out' name which)
+            by (Ok x) is = (plan, refl, is_done is)
+            by (Err e) is = tt
+
+            says : Silent t out out' ⊎ PutsOrFails t out out' (run_text plan done) → Says p t place place' out out' name (Some plan)
+            says (inl quiet) = inl quiet
+            says (inr puts) = inr (inr (map feed_counts crewed.feeds, map script_counts crewed.asks, map script_counts crewed.finals, crewed.closed, length crewed.journal, puts))
+
+      -- a run that found no memory to begin with
+      pub ended_unrun : (result : Result (Unit {0}) Stop) → result ≡ Err NoMemory → out' ≡ out1 → GivesBack p i s parts mid place' → RunEnds p t place place' out out' name result
+      ended_unrun result is said back =
+          let named : map s.name (map sink_in parts.asks ++ map sink_in parts.finals) ≡ outputs plan.asks ++ outputs plan.finals =
+          both_named (map sink_in parts.asks) (map sink_in parts.finals) (sessions_named i s (p.files place) plan.asks parts.asks ready.asks) (sessions_named i s (p.files place) plan.finals parts.finals ready.finals) in
+          let kept : KeepsOthers (p.files mid) (p.files place') (output_names plan) =
+          KeepsOthers-after (p.files mid) (p.files back.read) (p.files place') (output_names plan) (back.finals_back.files ∙ back.asks_back.files ∙ back.feeds_back.files)
+          (KeepsOthers-more (p.files back.read) (p.files back.replied) (p.files place') (outputs plan.asks ++ outputs plan.finals) (plan.journal ∷ [])
+          (subst (KeepsOthers (p.files back.read) (p.files back.replied)) named back.sinks_back.others)
+          (subst (λ n. KeepsOthers (p.files back.replied) (p.files place') (n ∷ [])) ready.journal.name_is (KeepsOthers-one (p.files back.replied) (p.files place') (s.name parts.journal) back.journal_back.others))) in
+          record {
+            plan = Some plan;
+            plan_is = plan_is;
+            unplanned = λ none. absurd (cc none);
+            refused_plan = λ e. absurd (cc (is, e));
+            names = names_then p place mid place' (name ∷ input_names plan) (output_names plan) leaves
+                (back.journal_back.opened ∙ back.sinks_back.opened ∙ back.finals_back.opened ∙ back.asks_back.opened ∙ back.feeds_back.opened)
+                (back.journal_back.created ∙ back.sinks_back.created ∙ back.finals_back.created ∙ back.asks_back.created ∙ back.feeds_back.created) kept;
+            done = subst (λ r. OnOk r ((which : Plan) × (Some plan ≡ Some which) × IsDone p t place place' out out' name which)) (sym is) tt;
+            said = inl (silent_after t out out1 out' silent (record { held = ap t.held said; faults = ap t.faults said; name = ap t.name said }));
+            refused = λ e. absurd (cc (is, e));
+            read = λ e. absurd (cc (is, e));
+            write = λ e. absurd (cc (is, e));
+            complete = completes p t place place' out out' name (Some plan) result (λ e. absurd (cc (is, e))) (λ e. absurd (cc (is, e))) (λ e. absurd (cc (is, e))) (λ e. absurd (cc (is, e)));
+          }
+
+      pub ended_by_parts : (result : Result (Unit {0}) Stop) → RunsParts p i s t plan parts mid place' out1 out' result → RunEnds p t place place' out out' name result
+      ended_by_parts result (inl runs) = ended_by_closing result runs.crewed runs.ran runs.closes
+      ended_by_parts result (inr unrun) = ended_unrun result unrun.0 unrun.1 unrun.2

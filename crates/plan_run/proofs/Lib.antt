@@ -1,0 +1,15 @@
+mod Returned
+mod Zips
+mod Fed
+mod Replied
+mod Joined
+mod Landed
+mod Causes
+mod Completing
+mod Whole
+mod Blamed
+mod Named
+mod Raised
+mod Refused
+mod Said
+mod Ended

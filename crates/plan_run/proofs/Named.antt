@@ -1,0 +1,87 @@
+-- Which names and files a run leaves changed.
+use Rattle.std.proofs.Common.{◌≡◌, ℕ, Bool, List, [], ◌∷◌, ◌++◌, codes, map, append-nil, Option, Some, None, refl, sym, ap, subst, ◌∙◌}
+use Rattle.std.specs.Prelude.{Contains}
+use Rattle.std.specs.List.{AllZip}
+use Rattle.std.proofs.lemmas.List.Elements.{Contains-push}
+use Rattle.crew_session.specs.declared.done.SessionDone.{SessionDone}
+use Rattle.cube_crew.specs.Crewed.{LeavesTranscript}
+use Rattle.cube_schema.specs.Repeats.{outputs}
+use Rattle.cube_view.specs.Points.{Point}
+use Rattle.cube_view.specs.declared.schema.Schema.{Schema}
+use Rattle.cube_view.specs.declared.stat.Stat.{Stat}
+use Rattle.live_session.specs.State.{SessionState}
+use Rattle.outer_io.specs.Files.{ChangesOnly, Files}
+use Rattle.plan_run.specs.Ends.{LeavesNames}
+use Rattle.plan_run.specs.Seen.{PartSeen}
+use Rattle.run_files.specs.Leaving.{KeepsOthers, LeavesPlace}
+use Rattle.run_files.specs.Outside.{PlaceSeen, SinkSeen}
+use Rattle.run_files.specs.declared.stop.Stop.{Stop}
+use Rattle.run_opening.specs.Ready.{IsSessionOf}
+
+-- what keeps the others of these names twice keeps them
+pub KeepsOthers-twice : (before now after : Option Files) (names : List (List ℕ)) → KeepsOthers before now names → KeepsOthers now after names → KeepsOthers before after names
+KeepsOthers-twice None now after names one two = tt
+KeepsOthers-twice (Some files) None after names one two = absurd one
+KeepsOthers-twice (Some files) (Some now) None names one two = absurd two
+KeepsOthers-twice (Some files) (Some now) (Some last) names one two = λ other apart. two other apart ∙ one other apart
+
+-- what changes one file keeps the others of it
+pub KeepsOthers-one : (before after : Option Files) (name : List ℕ) → ChangesOnly before after name → KeepsOthers before after (name ∷ [])
+KeepsOthers-one None after name only = tt
+KeepsOthers-one (Some files) None name only = absurd only
+KeepsOthers-one (Some files) (Some now) name only = λ other apart. only other (λ is. apart (subst (Contains (name ∷ [])) (sym is) (Contains-push [] name)))
+
+module _ {I O : Type 0} (i : PartSeen I) (s : SinkSeen O) (files : Option Files) where
+  -- the sinks of sessions are named by the outputs of their scripts
+  pub sessions_named : (names : List (List ℕ)) (sessions : List (SessionState I O)) → AllZip (IsSessionOf i.left i.faults s files) names sessions → map s.name (map (λ (session : SessionState I O). session.sink) sessions) ≡ outputs names
+  sessions_named [] [] ready = refl
+  sessions_named [] (b ∷ sessions) ready = absurd ready
+  sessions_named (n ∷ names) [] ready = absurd ready
+  sessions_named (n ∷ names) (b ∷ sessions) ready =
+      ap (λ name. name ∷ map s.name (map (λ (session : SessionState I O). session.sink) sessions)) ready.0.output.name_is ∙ ap (λ ns. (n ++ codes ".out") ∷ ns) (sessions_named names sessions ready.1)
+
+  -- and so are those of sessions that have run
+  pub dones_named : (is_stat : Stat → Type 0) (schema : Schema) (final closed starved : Bool) (points : List Point) (names : List (List ℕ)) (befores : List (SessionState I O)) (dones : List (SessionDone I O))
+      → AllZip (IsSessionOf i.left i.faults s files) names befores → AllZip (LeavesTranscript i.left i.faults s.held s.faults s.name is_stat schema final closed starved points) befores dones
+      → map s.name (map (λ (done : SessionDone I O). done.sink) dones) ≡ outputs names
+  dones_named is_stat schema final closed starved points [] [] [] ready leave = refl
+  dones_named is_stat schema final closed starved points [] [] (d ∷ dones) ready leave = absurd leave
+  dones_named is_stat schema final closed starved points [] (b ∷ befores) dones ready leave = absurd ready
+  dones_named is_stat schema final closed starved points (n ∷ names) [] dones ready leave = absurd ready
+  dones_named is_stat schema final closed starved points (n ∷ names) (b ∷ befores) [] ready leave = absurd leave
+  dones_named is_stat schema final closed starved points (n ∷ names) (b ∷ befores) (d ∷ dones) ready leave =
+      ap (λ name. name ∷ map s.name (map (λ (done : SessionDone I O). done.sink) dones)) (leave.0.named ∙ ready.0.output.name_is)
+      ∙ ap (λ ns. (n ++ codes ".out") ∷ ns) (dones_named is_stat schema final closed starved points names befores dones ready.1 leave.1)
+
+module _ {P : Type 0} (p : PlaceSeen P) where
+  -- a stage that ends the run leaves the names that it leaves
+  pub names_of : (a b : P) (inputs outputs : List (List ℕ)) (stop : Option Stop) → LeavesPlace p a b inputs outputs stop → LeavesNames p a b inputs outputs
+  names_of a b inputs outputs stop stage = record {
+    opens = stage.opens;
+    unopened = stage.unopened;
+    inputs_are = stage.inputs_are;
+    opened = stage.opened;
+    makes = stage.makes;
+    unmade = stage.unmade;
+    outputs_are = stage.outputs_are;
+    created = stage.created;
+    opens_first = stage.opens_first;
+    others = stage.others;
+  }
+
+  -- and so does a run that goes on after a stage, and changes files that were created alone
+  pub names_then : (a b c : P) (inputs outputs : List (List ℕ)) → LeavesPlace p a b inputs outputs None → p.opened c ≡ p.opened b → p.created c ≡ p.created b → KeepsOthers (p.files b) (p.files c) outputs → LeavesNames p a c inputs outputs
+  names_then a b c inputs outputs stage opened created others =
+      let made : outputs ≡ stage.makes = stage.outputs_are ∙ ap (λ ns. stage.makes ++ ns) (stage.makes_all refl) ∙ append-nil stage.makes in
+      record {
+        opens = stage.opens;
+        unopened = stage.unopened;
+        inputs_are = stage.inputs_are;
+        opened = opened ∙ stage.opened;
+        makes = stage.makes;
+        unmade = stage.unmade;
+        outputs_are = stage.outputs_are;
+        created = created ∙ stage.created;
+        opens_first = stage.opens_first;
+        others = KeepsOthers-twice (p.files a) (p.files b) (p.files c) stage.makes stage.others (subst (KeepsOthers (p.files b) (p.files c)) made others);
+      }

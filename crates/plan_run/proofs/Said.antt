@@ -1,0 +1,126 @@
+-- What a run puts, and what follows where nothing is refused and no count rose.
+use Rattle.std.proofs.Common.{◌≡◌, ◌⊎◌, inl, inr, ℕ, true, not, ◌||◌, nat_lt, List, ◌∷◌, length, Option, Some, None, Result, Ok, Err, refl, sym, ap, subst, ◌∙◌}
+use Rattle.std.specs.Prelude.{Contains, IfSome, is_ok}
+use Rattle.std.proofs.lemmas.List.Elements.{Contains-append_left, Contains-push}
+use Rattle.cube_schema.specs.declared.plan.Plan.{Plan}
+use Rattle.cube_view.specs.declared.schema.Schema.{Schema}
+use Rattle.feed_reader.specs.Feeds.{feed_head, is_feed_refused}
+use Rattle.feed_reader.specs.declared.header.HeadFault.{HeadFault}
+use Rattle.outer_io.proofs.ToldLaws.{Told-some}
+use Rattle.outer_io.specs.Bytes.{Gains, GainsPart}
+use Rattle.outer_io.specs.Faults.{Rose}
+use Rattle.outer_io.specs.Files.{Files, file_or_empty}
+use Rattle.outer_io.specs.Lines.{input_limit}
+use Rattle.outer_io.specs.Told.{Told}
+use Rattle.plan_run.specs.Ends.{IsDoneOrLacking, IsRefused, PutsOrFails, Says}
+use Rattle.run_files.specs.Headed.{RefusesLast}
+use Rattle.run_files.specs.Outside.{FailsToPut, file_of, PlaceSeen, Puts, Silent, SinkSeen}
+use Rattle.run_files.specs.declared.stop.Stop.{Stop}
+use Rattle.run_files.specs.declared.stop.Stop.TheVariants.{NoMemory, PlanRefused, ReadFault, WriteFault, FeedRefused}
+use Rattle.run_opening.specs.Opening.{OpensInOrder, OpensRun}
+use Rattle.run_stages.specs.Said.{SaysText}
+
+-- a feed whose first line is no header is refused
+headless : (schema : Schema) (feed : List ℕ) (fault : HeadFault) → feed_head schema feed ≡ Err fault → is_feed_refused schema feed ≡ true
+unfolding is_feed_refused
+headless schema feed fault bad = ap (λ h. not (is_ok h) || nat_lt input_limit (length feed)) bad
+
+-- a refusal of which one thing is said, and so another
+said_else : (schema : Schema) (file : List ℕ → Option (List ℕ)) (names : List (List ℕ)) (One Other : List ℕ → Type 0) → ((text : List ℕ) → One text → Other text) → RefusesLast schema file names One → RefusesLast schema file names Other
+said_else schema file names One Other f last = record {
+  earlier = last.earlier;
+  name = last.name;
+  names_are = last.names_are;
+  refuses = record { fault = last.refuses.fault; of_line = last.refuses.of_line; refused = last.refuses.refused; says = f _ last.refuses.says };
+}
+
+module _ {T : Type 0} (t : SinkSeen T) (a b c : T) (silent : Silent t a b) where
+  -- what is put after nothing was
+  pub puts_after : (text : List ℕ) → Puts t b c text → Puts t a c text
+  puts_after text puts = record { held = subst (λ o. Gains o (t.held c) text) silent.held puts.held; faults = puts.faults ∙ silent.faults; name = puts.name ∙ silent.name }
+
+  fails_after : (text : List ℕ) → FailsToPut t b c text → FailsToPut t a c text
+  fails_after text fails = record { held = subst (λ o. GainsPart o (t.held c) text) silent.held fails.held; faults = subst (λ n. Rose n (t.faults c)) silent.faults fails.faults; name = fails.name ∙ silent.name }
+
+  pub silent_after : Silent t b c → Silent t a c
+  silent_after quiet = record { held = quiet.held ∙ silent.held; faults = quiet.faults ∙ silent.faults; name = quiet.name ∙ silent.name }
+
+  -- a text that was put, or a part of it, or nothing
+  pub text_after : (text : List ℕ) (r : Result (Unit {0}) Stop) → SaysText t b c text r → Silent t a c ⊎ PutsOrFails t a c text
+  text_after text (Ok x) says = inr (inl (puts_after text says.puts))
+  text_after text (Err NoMemory) says = inl (silent_after (says.silent refl))
+  text_after text (Err PlanRefused) says = absurd (says.ends.0 refl)
+  text_after text (Err ReadFault) says = absurd (says.ends.1 refl)
+  text_after text (Err WriteFault) says = inr (inr (fails_after text (says.fails refl)))
+  text_after text (Err FeedRefused) says = absurd (says.ends.2 refl)
+
+module _ {P T : Type 0} (p : PlaceSeen P) (t : SinkSeen T) (place mid : P) (out out1 : T) (name : List ℕ) where
+  abbrev Unplanned : Stop → Type 0
+  Unplanned stop = (Some stop ≡ Some NoMemory) ⊎ (Some stop ≡ Some ReadFault) ⊎ (Some stop ≡ Some PlanRefused)
+
+  abbrev InOrder : Stop → List (List ℕ) → List (List ℕ) → Plan → Type 0
+  InOrder stop opens makes plan = (later : List (List ℕ)) × (opens ≡ name ∷ later) × OpensInOrder t plan (p.files place) (p.write_faults place) (p.write_faults mid) out out1 later makes (Some stop)
+
+  -- what is said where opening ends a run
+  pub opening_said : (stop : Stop) (plan : Option Plan) (opens makes : List (List ℕ)) → OpensRun p t place mid out out1 name None (Some stop) → (plan ≡ None → Unplanned stop) → IfSome plan (InOrder stop opens makes) → Says p t place mid out out1 name plan
+  opening_said NoMemory None opens makes run unplanned order = inl (run.silent (λ e. cc) (λ e. cc) (λ e. cc))
+  opening_said ReadFault None opens makes run unplanned order = inl (run.silent (λ e. cc) (λ e. cc) (λ e. cc))
+  opening_said PlanRefused None opens makes run unplanned order = inr (run.refused_plan refl).1
+  opening_said WriteFault None opens makes run unplanned order = absurd (none (unplanned refl))
+    where
+      none : ¬ Unplanned WriteFault
+      none (inl e) = cc
+      none (inr (inl e)) = cc
+      none (inr (inr e)) = cc
+  opening_said FeedRefused None opens makes run unplanned order = absurd (none (unplanned refl))
+    where
+      none : ¬ Unplanned FeedRefused
+      none (inl e) = cc
+      none (inr (inl e)) = cc
+      none (inr (inr e)) = cc
+  opening_said stop (Some plan) opens makes run unplanned (later, e, inr scripts) = inl scripts.silent
+  opening_said NoMemory (Some plan) opens makes run unplanned (later, e, inl feeds) = inl (feeds.silent (λ e. cc) (λ e. cc))
+  opening_said ReadFault (Some plan) opens makes run unplanned (later, e, inl feeds) = inl (feeds.silent (λ e. cc) (λ e. cc))
+  opening_said PlanRefused (Some plan) opens makes run unplanned (later, e, inl feeds) = absurd (feeds.ends.1 refl)
+  opening_said WriteFault (Some plan) opens makes run unplanned (later, e, inl feeds) =
+      inr (inl (later, said_else plan.schema (file_of (p.files place)) later (FailsToPut t out out1) (PutsOrFails t out out1) (λ text fails. inr fails) (feeds.unsaid refl)))
+  opening_said FeedRefused (Some plan) opens makes run unplanned (later, e, inl feeds) =
+      inr (inl (later, said_else plan.schema (file_of (p.files place)) later (Puts t out out1) (PutsOrFails t out out1) (λ text puts. inl puts) (feeds.refused refl)))
+
+  -- and which feed is refused where it says so
+  pub opening_refused : (stop : Stop) (plan : Option Plan) (opens makes : List (List ℕ)) → stop ≡ FeedRefused → (plan ≡ None → Unplanned stop) → IfSome plan (InOrder stop opens makes) → (which : Plan) × (plan ≡ Some which) × Told (p.files place) (λ files. IsRefused files which)
+  opening_refused stop None opens makes is unplanned order = absurd (none (unplanned refl))
+    where
+      none : ¬ Unplanned stop
+      none (inl e) = cc (e, is)
+      none (inr (inl e)) = cc (e, is)
+      none (inr (inr e)) = cc (e, is)
+  opening_refused stop (Some plan) opens makes is unplanned (later, e, inr scripts) = absurd (scripts.ends.1 (ap (λ s. Some s) is))
+  opening_refused stop (Some plan) opens makes is unplanned (later, e, inl feeds) =
+      let last = feeds.refused (ap (λ s. Some s) is) in
+      let among : Contains plan.feeds last.name =
+      subst (λ names. Contains names last.name) (sym feeds.feeds_are) (Contains-append_left later feeds.unopened last.name (subst (λ names. Contains names last.name) (sym last.names_are) (Contains-push last.earlier last.name))) in
+      (plan, refl, of_files (p.files place) last.name among last.refuses.fault last.refuses.refused)
+    where
+      of_files : (files : Option Files) (feed : List ℕ) → Contains plan.feeds feed → (fault : HeadFault) → Told (file_of files feed) (λ bytes. feed_head plan.schema bytes ≡ Err fault) → Told files (λ files. IsRefused files plan)
+      of_files None feed among fault refused = tt
+      of_files (Some files) feed among fault refused = inl (feed, among, headless plan.schema (file_or_empty files feed) fault refused)
+
+  -- where nothing is refused and no count rose a run is done, or memory was wanted
+  pub completes : (plan : Option Plan) (result : Result (Unit {0}) Stop) → (result ≡ Err PlanRefused → plan ≡ None) → (result ≡ Err FeedRefused → (which : Plan) × (plan ≡ Some which) × Told (p.files place) (λ files. IsRefused files which))
+      → (result ≡ Err ReadFault → Rose (p.read_faults place) (p.read_faults mid)) → (result ≡ Err WriteFault → Rose (p.write_faults place) (p.write_faults mid) ⊎ Rose (t.faults out) (t.faults out1))
+      → ¬ Rose (p.read_faults place) (p.read_faults mid) → ¬ Rose (p.write_faults place) (p.write_faults mid) → ¬ Rose (t.faults out) (t.faults out1) → (files : Files) → p.files place ≡ Some files → IfSome plan (λ which. ¬ IsRefused files which → IsDoneOrLacking result)
+  completes None result refused_plan refused read write no_read no_write no_out files told = tt
+  completes (Some plan) (Ok x) refused_plan refused read write no_read no_write no_out files told = λ fine. inl refl
+  completes (Some plan) (Err NoMemory) refused_plan refused read write no_read no_write no_out files told = λ fine. inr refl
+  completes (Some plan) (Err PlanRefused) refused_plan refused read write no_read no_write no_out files told = λ fine. absurd (cc (refused_plan refl))
+  completes (Some plan) (Err ReadFault) refused_plan refused read write no_read no_write no_out files told = λ fine. absurd (no_read (read refl))
+  completes (Some plan) (Err WriteFault) refused_plan refused read write no_read no_write no_out files told = λ fine. absurd (either (write refl))
+    where
+      either : ¬ (Rose (p.write_faults place) (p.write_faults mid) ⊎ Rose (t.faults out) (t.faults out1))
+      either (inl rose) = no_write rose
+      either (inr rose) = no_out rose
+  completes (Some plan) (Err FeedRefused) refused_plan refused read write no_read no_write no_out files told = λ fine.
+      let one = refused refl in
+      let same : one.0 ≡ plan = cc (one.1) in
+      absurd (fine (subst (IsRefused files) same (Told-some (p.files place) files (λ files. IsRefused files one.0) told one.2)))

@@ -1,0 +1,213 @@
+-- A closed run that ended well: what its files hold, and that no count rose.
+use Rattle.std.proofs.Common.{◌≡◌, ◌≢◌, ℕ, Bool, true, false, List, [], ◌∷◌, ◌++◌, All, length, map, Option, Some, None, Result, Ok, IsSomeAnd, sym, ap, subst, ◌∙◌}
+use Rattle.std.proofs.lemmas.List.{map-append}
+use Rattle.std.specs.Prelude.{AllPairs}
+use Rattle.std.specs.FinMap.{get}
+use Rattle.std.specs.Prelude.{Contains, OnOk, IsErrOf}
+use mathlib.Core.List.{map-map}
+use Rattle.std.proofs.lemmas.List.Elements.{All-append, All-cons, All-head, All-nil, All-tail, All-weaker}
+use Rattle.crew_feeder.specs.declared.job.FeedDone.{FeedDone}
+use Rattle.crew_feeder.specs.declared.job.FeedJob.{FeedJob}
+use Rattle.crew_session.specs.declared.done.SessionDone.{SessionDone}
+use Rattle.cube_crew.specs.Crewed.{IsCrewed}
+use Rattle.cube_crew.specs.declared.jobs.Crewed.{Crewed}
+use Rattle.cube_schema.specs.Files.{NamesFiles, input_names, output_names}
+use Rattle.cube_schema.specs.Repeats.{outputs}
+use Rattle.cube_schema.specs.declared.plan.Plan.{Plan}
+use Rattle.cube_store.specs.Numbers.{OwnsAllButRoot}
+use Rattle.feed_queue.specs.Journal.{journal_text}
+use Rattle.outer_io.proofs.ToldLaws.{Told-some}
+use Rattle.outer_io.specs.Bytes.{Gains}
+use Rattle.outer_io.specs.Files.{Files, HasFile, SameBut, file_or_empty}
+use Rattle.outer_io.specs.Told.{Told}
+use Rattle.outer_io.specs.declared.cutter.CutFault.TheVariants as cut
+use Rattle.outer_io.specs.declared.fault.IoFault.{IoFault}
+use Rattle.outer_io.specs.declared.fault.IoFault.TheVariants as io
+use Rattle.plan_run.proofs.Causes.{FeedCause, SessionCause, feed_causes, session_causes}
+use Rattle.plan_run.proofs.Completing.{all_replied, are_fed, sinks_named, transcripts}
+use Rattle.plan_run.proofs.Joined.{All-unmapped, IsWell, all_well, feed_well, session_well, starved_well, written_well}
+use Rattle.plan_run.proofs.Landed.{All-back, All-front, AllPairs-back, AllPairs-front, AllPairs-last, all_landed, some_is, told_pair}
+use Rattle.plan_run.proofs.Zips.{AllZip-length, AllZip-right}
+use Rattle.plan_run.specs.Completed.{IsCompleted, reply_counts, whole_rows}
+use Rattle.plan_run.specs.Parts.{done_of, jobs_of}
+use Rattle.plan_run.specs.Seen.{PartSeen}
+use Rattle.run_files.specs.GivingBack.{Lands, TakesSinks}
+use Rattle.run_files.specs.Outside.{file_of, PlaceSeen, Puts as Said, SinkSeen}
+use Rattle.run_files.specs.Stops.{write_end}
+use Rattle.run_files.specs.declared.stop.Stop.{Stop}
+use Rattle.run_opening.specs.Opening.{AreReady}
+use Rattle.run_opening.specs.Ready.{IsJobOf}
+use Rattle.run_opening.specs.declared.parts.RunParts.{RunParts}
+use Rattle.run_report.specs.Reports.{counts_of_rows, counts_text}
+use Rattle.run_report.specs.declared.counts.FeedCounts.{FeedCounts}
+use Rattle.run_report.specs.declared.counts.ScriptCounts.{ScriptCounts}
+use Rattle.run_stages.specs.Closing.{ClosesRun, run_text, threads_end}
+use Rattle.run_stages.specs.Counted.{feed_counts, script_counts}
+use Rattle.run_stages.specs.Ends.{feed_end, feeds_end, session_end, sessions_end, starved_end}
+use Rattle.session_core.specs.declared.fault.SessionFault.TheVariants as fault
+use Rattle.world_core.specs.Interleaving.{IsInterleaving, entry_points, list_of}
+
+abbrev well_done : Result (Unit {0}) IoFault
+well_done = Ok tt
+
+ok_is_no_fault : ¬ IsErrOf well_done io.Failed
+ok_is_no_fault bad = cc bad
+
+none_is_none : {F : Type 0} (o : Option F) (f : F) → o ≡ None → o ≢ Some f
+none_is_none o f none is = cc
+
+module _ {P I O T : Type 0} (p : PlaceSeen P) (i : PartSeen I) (s : SinkSeen O) (t : SinkSeen T) (plan : Plan) (parts : RunParts I O) (place place' : P) (out out' : T) where
+  -- What ended well of a run that was closed, and was to end well
+  pub record EndsWell (crewed : Crewed I O) (closes : ClosesRun plan (done_of crewed parts.journal) p s t i.faults place place' out out' (Ok tt)) : Type 0 where
+    pub fed : crewed.starved ≡ false
+    pub feeds : All (λ (done : FeedDone I). done.fault ≡ None) crewed.feeds
+    pub asks : All (λ (done : SessionDone I O). done.fault ≡ None) crewed.asks
+    pub finals : All (λ (done : SessionDone I O). done.fault ≡ None) crewed.finals
+    pub wrote : closes.wrote ≡ Ok tt
+    pub given : closes.given ≡ Ok tt
+    pub kept : closes.kept ≡ Ok tt
+    pub said : closes.said ≡ Ok tt
+
+  pub ends_well : (crewed : Crewed I O) (closes : ClosesRun plan (done_of crewed parts.journal) p s t i.faults place place' out out' (Ok tt)) → EndsWell crewed closes
+  ends_well crewed closes =
+      let done = done_of crewed parts.journal in
+      let five = all_well (threads_end done ∷ write_end closes.wrote ∷ closes.given ∷ write_end closes.kept ∷ closes.said ∷ []) (sym closes.ends) in
+      let threads = All-head IsWell (threads_end done) (write_end closes.wrote ∷ closes.given ∷ write_end closes.kept ∷ closes.said ∷ []) five in
+      let four = All-tail IsWell (threads_end done) (write_end closes.wrote ∷ closes.given ∷ write_end closes.kept ∷ closes.said ∷ []) five in
+      let three = All-tail IsWell (write_end closes.wrote) (closes.given ∷ write_end closes.kept ∷ closes.said ∷ []) four in
+      let two = All-tail IsWell closes.given (write_end closes.kept ∷ closes.said ∷ []) three in
+      let one = All-tail IsWell (write_end closes.kept) (closes.said ∷ []) two in
+      let inner = all_well (starved_end crewed.starved ∷ feeds_end crewed.feeds ∷ sessions_end crewed.asks ∷ sessions_end crewed.finals ∷ []) threads in
+      let fed = All-tail IsWell (starved_end crewed.starved) (feeds_end crewed.feeds ∷ sessions_end crewed.asks ∷ sessions_end crewed.finals ∷ []) inner in
+      let asked = All-tail IsWell (feeds_end crewed.feeds) (sessions_end crewed.asks ∷ sessions_end crewed.finals ∷ []) fed in
+      let finals = All-tail IsWell (sessions_end crewed.asks) (sessions_end crewed.finals ∷ []) asked in
+      let feed : FeedDone I → Result (Unit {0}) Stop = λ (done : FeedDone I). feed_end done.fault in
+      let session : SessionDone I O → Result (Unit {0}) Stop = λ (done : SessionDone I O). session_end done.fault in
+      record {
+        fed = starved_well crewed.starved (All-head IsWell (starved_end crewed.starved) (feeds_end crewed.feeds ∷ sessions_end crewed.asks ∷ sessions_end crewed.finals ∷ []) inner);
+        feeds = All-weaker (λ (done : FeedDone I). IsWell (feed done)) (λ (done : FeedDone I). done.fault ≡ None) (λ done e. feed_well done.fault e) crewed.feeds
+            (All-unmapped feed IsWell crewed.feeds (all_well (map feed crewed.feeds) (All-head IsWell (feeds_end crewed.feeds) (sessions_end crewed.asks ∷ sessions_end crewed.finals ∷ []) fed)));
+        asks = All-weaker (λ (done : SessionDone I O). IsWell (session done)) (λ (done : SessionDone I O). done.fault ≡ None) (λ done e. session_well done.fault e) crewed.asks
+            (All-unmapped session IsWell crewed.asks (all_well (map session crewed.asks) (All-head IsWell (sessions_end crewed.asks) (sessions_end crewed.finals ∷ []) asked)));
+        finals = All-weaker (λ (done : SessionDone I O). IsWell (session done)) (λ (done : SessionDone I O). done.fault ≡ None) (λ done e. session_well done.fault e) crewed.finals
+            (All-unmapped session IsWell crewed.finals (all_well (map session crewed.finals) (All-head IsWell (sessions_end crewed.finals) [] finals)));
+        wrote = written_well closes.wrote (All-head IsWell (write_end closes.wrote) (closes.given ∷ write_end closes.kept ∷ closes.said ∷ []) four);
+        given = All-head IsWell closes.given (write_end closes.kept ∷ closes.said ∷ []) three;
+        kept = written_well closes.kept (All-head IsWell (write_end closes.kept) (closes.said ∷ []) two);
+        said = All-head IsWell closes.said [] one;
+      }
+
+  abbrev sink_of : SessionDone I O → O
+  sink_of done = done.sink
+
+  -- the files of a run that was closed and ended well
+  pub completed : (files now : Files) (crewed : Crewed I O) → NamesFiles plan → AreReady i.left i.faults s (Some files) plan parts → IsCrewed i.left i.faults s.held s.faults s.name OwnsAllButRoot plan.schema (jobs_of parts) crewed
+      → p.files place ≡ Some now → (closes : ClosesRun plan (done_of crewed parts.journal) p s t i.faults place place' out out' (Ok tt)) → IsSomeAnd (p.files place') (λ files'. IsCompleted plan files files' (t.held out) (t.held out'))
+  completed files now crewed names ready ran told closes =
+      let well = ends_well crewed closes in
+      let found = ran.found well.fed in
+      let points = entry_points crewed.journal in
+      let back = closes.parts in
+      -- the files once the sources were given back, the replies, and the journal
+      let told_read : p.files back.read ≡ Some now = back.finals_back.files ∙ back.asks_back.files ∙ back.feeds_back.files ∙ told in
+      let sinks : List O = map sink_of crewed.asks ++ map sink_of crewed.finals in
+      let sinks_back : TakesSinks p s back.read closes.replied sinks (Ok tt) = subst (λ r. TakesSinks p s back.read closes.replied sinks r) well.given back.sinks_back in
+      let replied = told_pair (p.files back.read) (p.files closes.replied) now (λ a b. (other : List ℕ) → ¬ Contains (map s.name sinks) other → get b other ≡ get a other) told_read sinks_back.others in
+      let last = told_pair (p.files closes.replied) (p.files place') replied.0 (λ a b. SameBut a b (s.name closes.sink)) replied.1 closes.journal.others in
+      -- feeds and scripts
+      let fed = are_fed i.left i.faults plan.schema (file_or_empty files) plan.feeds parts.feeds ran.sent crewed.feeds ready.feeds ran.feeds well.feeds in
+      let asks = all_replied i s plan.schema false points files crewed.closed crewed.starved plan.asks parts.asks crewed.asks found.closed well.fed ready.asks ran.asks well.asks in
+      let finals = all_replied i s plan.schema true points files crewed.closed crewed.starved plan.finals parts.finals crewed.finals found.closed well.fed ready.finals ran.finals well.finals in
+      -- names
+      let apart : AllPairs (λ n m. n ≢ m) (output_names plan) = AllPairs-back (λ n m. n ≢ m) (input_names plan) (output_names plan) names.apart in
+      let outs : List (List ℕ) = outputs plan.asks ++ outputs plan.finals in
+      let others : All (λ name. name ≢ plan.journal) outs = AllPairs-last (λ n m. n ≢ m) outs plan.journal apart in
+      let sinks_are : map s.name sinks ≡ outs =
+      map-append s.name (map sink_of crewed.asks) (map sink_of crewed.finals)
+      ∙ ap (λ ns. ns ++ map s.name (map sink_of crewed.finals)) (sinks_named i s plan.schema false points files plan.asks crewed.asks asks)
+      ∙ ap (λ ns. outputs plan.asks ++ ns) (sinks_named i s plan.schema true points files plan.finals crewed.finals finals) in
+      let sinks_apart : AllPairs (λ n m. n ≢ m) (map s.name sinks) = subst (AllPairs (λ n m. n ≢ m)) (sym sinks_are) (AllPairs-front (λ n m. n ≢ m) outs (plan.journal ∷ []) apart) in
+      let landed = all_landed p s back.read closes.replied sinks (some_is (p.files back.read) now told_read) sinks_apart sinks_back in
+      -- the journal
+      let journal_is : s.name closes.sink ≡ plan.journal = closes.written.name ∙ ready.journal.name_is in
+      let text : List ℕ = journal_text plan.schema crewed.journal in
+      let gained : Gains (s.held parts.journal) (s.held closes.sink) text = subst (λ r. OnOk r (Gains (s.held parts.journal) (s.held closes.sink) text)) well.wrote closes.written.whole in
+      let held : s.held closes.sink ≡ Some text = subst (λ o. Gains o (s.held closes.sink) text) ready.journal.holds_nothing gained in
+      let lands : Told (s.held closes.sink) (HasFile (p.files place') (s.name closes.sink)) = subst (λ r. Lands (p.files closes.replied) (p.files place') (s.name closes.sink) (s.held closes.sink) r) well.kept closes.journal.lands in
+      let journal : get last.0 plan.journal ≡ Some text =
+      Told-some (p.files place') last.0 (λ f. get f plan.journal ≡ Some text) last.1
+      (subst (λ name. HasFile (p.files place') name text) journal_is (Told-some (s.held closes.sink) text (HasFile (p.files place') (s.name closes.sink)) held lands)) in
+      let same : SameBut replied.0 last.0 plan.journal = subst (SameBut replied.0 last.0) journal_is last.2 in
+      let to_asks = transcripts i s plan.schema false points files (p.files closes.replied) (p.files place') replied.0 last.0 plan.journal replied.1 last.1 same plan.asks crewed.asks asks
+      (All-front (λ sink. Told (s.held sink) (HasFile (p.files closes.replied) (s.name sink))) (map sink_of crewed.asks) (map sink_of crewed.finals) landed) (All-front (λ name. name ≢ plan.journal) (outputs plan.asks) (outputs plan.finals) others) in
+      let to_finals = transcripts i s plan.schema true points files (p.files closes.replied) (p.files place') replied.0 last.0 plan.journal replied.1 last.1 same plan.finals crewed.finals finals
+      (All-back (λ sink. Told (s.held sink) (HasFile (p.files closes.replied) (s.name sink))) (map sink_of crewed.asks) (map sink_of crewed.finals) landed) (All-back (λ name. name ≢ plan.journal) (outputs plan.asks) (outputs plan.finals) others) in
+      -- the order of the entries
+      let count : length parts.feeds ≡ length plan.feeds = AllZip-length (λ name job. IsJobOf i.left i.faults plan.schema (Some (file_or_empty files name)) job) plan.feeds parts.feeds ready.feeds in
+      let drawn : IsInterleaving (length plan.feeds) (list_of ran.sent) crewed.journal =
+      subst (λ n. IsInterleaving n (list_of ran.sent) crewed.journal) count (subst (IsInterleaving (length parts.feeds) (list_of ran.sent)) (sym found.journal) ran.drawn) in
+      -- the report
+      let counted : List FeedCounts → List ScriptCounts → List ScriptCounts → Bool → List ℕ = λ fs qs ls closed. counts_text plan fs qs ls closed (length crewed.journal) in
+      let report : counted (map feed_counts crewed.feeds) (map script_counts crewed.asks) (map script_counts crewed.finals) crewed.closed
+      ≡ counted (map counts_of_rows (map (λ name. whole_rows plan.schema (file_or_empty files name)) plan.feeds)) (map reply_counts to_asks.0) (map reply_counts to_finals.0) true =
+      ap (λ fs. counted fs (map script_counts crewed.asks) (map script_counts crewed.finals) crewed.closed) (fed.counts ∙ sym (map-map counts_of_rows (λ name. whole_rows plan.schema (file_or_empty files name)) plan.feeds))
+      ∙ ap (λ qs. counted (map counts_of_rows (map (λ name. whole_rows plan.schema (file_or_empty files name)) plan.feeds)) qs (map script_counts crewed.finals) crewed.closed) to_asks.2
+      ∙ ap (λ ls. counted (map counts_of_rows (map (λ name. whole_rows plan.schema (file_or_empty files name)) plan.feeds)) (map reply_counts to_asks.0) ls crewed.closed) to_finals.2
+      ∙ ap (λ c. counted (map counts_of_rows (map (λ name. whole_rows plan.schema (file_or_empty files name)) plan.feeds)) (map reply_counts to_asks.0) (map reply_counts to_finals.0) c) found.closed in
+      let puts : Gains (t.held out) (t.held out') (counted (map feed_counts crewed.feeds) (map script_counts crewed.asks) (map script_counts crewed.finals) crewed.closed) =
+      (subst (λ r. OnOk r (Said t out out' (counted (map feed_counts crewed.feeds) (map script_counts crewed.asks) (map script_counts crewed.finals) crewed.closed))) well.said closes.report.puts).held in
+      subst (λ o. IsSomeAnd o (λ files'. IsCompleted plan files files' (t.held out) (t.held out'))) (sym last.1)
+      (record {
+        entries = crewed.journal;
+        journal = journal;
+        order = subst (λ ls. IsInterleaving (length plan.feeds) (list_of ls) crewed.journal) fed.sent drawn;
+        taken = fed.taken;
+        ask_replies = to_asks.0;
+        asks = to_asks.1;
+        final_replies = to_finals.0;
+        finals = to_finals.1;
+        report = subst (Gains (t.held out) (t.held out')) report puts;
+      })
+
+  -- no count rose in a run that was closed and ended well
+  pub all_quiet : (files : Option Files) (crewed : Crewed I O) → AreReady i.left i.faults s files plan parts → IsCrewed i.left i.faults s.held s.faults s.name OwnsAllButRoot plan.schema (jobs_of parts) crewed
+      → (closes : ClosesRun plan (done_of crewed parts.journal) p s t i.faults place place' out out' (Ok tt)) → (p.read_faults place' ≡ p.read_faults place) × (p.write_faults place' ≡ p.write_faults place) × (t.faults out' ≡ t.faults out)
+  all_quiet files crewed ready ran closes =
+      let well = ends_well crewed closes in
+      let points = entry_points crewed.journal in
+      let back = closes.parts in
+      let fresh : All (λ (job : FeedJob I). i.faults job.cutter.source ≡ 0) parts.feeds =
+      AllZip-right (λ name. IsJobOf i.left i.faults plan.schema (file_of files name)) (λ (job : FeedJob I). i.faults job.cutter.source ≡ 0) plan.feeds parts.feeds (λ name job is. is.fresh) ready.feeds in
+      let feeds : All (FeedCause i.faults) crewed.feeds = feed_causes i.left i.faults parts.feeds ran.sent crewed.feeds fresh ran.feeds in
+      let asks : All (SessionCause i.faults s.faults) crewed.asks = session_causes i s OwnsAllButRoot plan.schema false crewed.closed crewed.starved points files plan.asks parts.asks crewed.asks ready.asks ran.asks in
+      let finals : All (SessionCause i.faults s.faults) crewed.finals = session_causes i s OwnsAllButRoot plan.schema true crewed.closed crewed.starved points files plan.finals parts.finals crewed.finals ready.finals ran.finals in
+      let fed_quiet = quiet_feeds crewed.feeds feeds well.feeds in
+      let asks_quiet = quiet_sources crewed.asks asks well.asks in
+      let finals_quiet = quiet_sources crewed.finals finals well.finals in
+      let sinks_quiet = All-append (λ sink. s.faults sink ≡ 0) (map sink_of crewed.asks) (map sink_of crewed.finals) (quiet_sinks crewed.asks asks well.asks) (quiet_sinks crewed.finals finals well.finals) in
+      let read : p.read_faults back.read ≡ p.read_faults place = back.finals_back.quiet finals_quiet ∙ back.asks_back.quiet asks_quiet ∙ back.feeds_back.quiet fed_quiet in
+      let sinks_back = subst (λ r. OnOk r (All (λ sink. s.faults sink ≡ 0) (map sink_of crewed.asks ++ map sink_of crewed.finals) → p.write_faults closes.replied ≡ p.write_faults back.read)) well.given back.sinks_back.quiet in
+      let journal_quiet : s.faults closes.sink ≡ 0 = closes.written.cause.quiet (λ bad. ok_is_no_fault (subst (λ r. IsErrOf r io.Failed) well.wrote bad)) ∙ ready.journal.fresh in
+      let kept = (closes.journal.counts.cause journal_quiet).quiet (λ bad. ok_is_no_fault (subst (λ r. IsErrOf r io.Failed) well.kept bad)) in (
+        closes.journal.read_faults ∙ back.sinks_back.read_faults ∙ read,
+        kept ∙ sinks_back sinks_quiet ∙ back.finals_back.write_faults ∙ back.asks_back.write_faults ∙ back.feeds_back.write_faults,
+        (subst (λ r. OnOk r (Said t out out' (run_text plan (done_of crewed parts.journal)))) well.said closes.report.puts).faults,
+      )
+    where
+      quiet_feeds : (dones : List (FeedDone I)) → All (FeedCause i.faults) dones → All (λ (done : FeedDone I). done.fault ≡ None) dones → All (λ n. n ≡ 0) (map (λ (done : FeedDone I). i.faults done.source) dones)
+      quiet_feeds [] causes well = All-nil (λ n. n ≡ 0)
+      quiet_feeds (d ∷ dones) causes well =
+          All-cons (λ n. n ≡ 0) (i.faults d.source) (map (λ (done : FeedDone I). i.faults done.source) dones) ((All-head (FeedCause i.faults) d dones causes).quiet (λ is. none_is_none d.fault cut.Read (All-head (λ (done : FeedDone I). done.fault ≡ None) d dones well) is))
+          (quiet_feeds dones (All-tail (FeedCause i.faults) d dones causes) (All-tail (λ (done : FeedDone I). done.fault ≡ None) d dones well))
+
+      quiet_sources : (dones : List (SessionDone I O)) → All (SessionCause i.faults s.faults) dones → All (λ (done : SessionDone I O). done.fault ≡ None) dones → All (λ n. n ≡ 0) (map (λ (done : SessionDone I O). i.faults done.source) dones)
+      quiet_sources [] causes well = All-nil (λ n. n ≡ 0)
+      quiet_sources (d ∷ dones) causes well =
+          All-cons (λ n. n ≡ 0) (i.faults d.source) (map (λ (done : SessionDone I O). i.faults done.source) dones) ((All-head (SessionCause i.faults s.faults) d dones causes).read_quiet (λ is. none_is_none d.fault fault.Read (All-head (λ (done : SessionDone I O). done.fault ≡ None) d dones well) is))
+          (quiet_sources dones (All-tail (SessionCause i.faults s.faults) d dones causes) (All-tail (λ (done : SessionDone I O). done.fault ≡ None) d dones well))
+
+      quiet_sinks : (dones : List (SessionDone I O)) → All (SessionCause i.faults s.faults) dones → All (λ (done : SessionDone I O). done.fault ≡ None) dones → All (λ sink. s.faults sink ≡ 0) (map sink_of dones)
+      quiet_sinks [] causes well = All-nil (λ sink. s.faults sink ≡ 0)
+      quiet_sinks (d ∷ dones) causes well =
+          All-cons (λ sink. s.faults sink ≡ 0) d.sink (map sink_of dones) ((All-head (SessionCause i.faults s.faults) d dones causes).write_quiet (λ is. none_is_none d.fault fault.Write (All-head (λ (done : SessionDone I O). done.fault ≡ None) d dones well) is))
+          (quiet_sinks dones (All-tail (SessionCause i.faults s.faults) d dones causes) (All-tail (λ (done : SessionDone I O). done.fault ≡ None) d dones well))

@@ -1,0 +1,19 @@
+use Rattle.std.proofs.Common.{arith, true, false, length, ap}
+use Rattle.cube_crew.specs.Crewed.{LeavesTranscript}
+use Rattle.cube_store.specs.Numbers.{OwnsAllButRoot}
+use Rattle.plan_run.proofs.Zips.{AllZip-length}
+use Rattle.run_stages.specs.declared.done.RunDone.{RunDone}
+use Rattle.world_core.specs.Interleaving.{entry_points}
+use Rattle.plan_run.proofs.run.run_parts.Goals as goal
+
+pub close_run-requires-clause-room : goal.close_run-requires-clause-room
+close_run-requires-clause-room g c κs within =
+    let crewed = c.in-Ok.crewed in
+    let ran = c.in-Ok.ensures.crewed in
+    let parts = c.args.parts in
+    let schema = c.args.plan.now.schema in
+    let asks = AllZip-length (LeavesTranscript g.P.In.Source.left g.P.In.Source.faults g.P.Out.Sink.held g.P.Out.Sink.faults g.P.Out.Sink.name OwnsAllButRoot schema false crewed.closed crewed.starved (entry_points crewed.journal)) parts.asks crewed.asks ran.asks in
+    let finals = AllZip-length (LeavesTranscript g.P.In.Source.left g.P.In.Source.faults g.P.Out.Sink.held g.P.Out.Sink.faults g.P.Out.Sink.name OwnsAllButRoot schema true crewed.closed crewed.starved (entry_points crewed.journal)) parts.finals crewed.finals ran.finals in
+    let same_asks = ap (λ (d : RunDone g.row.P-In.Denot g.row.P-Out.Denot). length d.asks) c.done_of.ensures in
+    let same_finals = ap (λ (d : RunDone g.row.P-In.Denot g.row.P-Out.Denot). length d.finals) c.done_of.ensures in
+    omega (arith, asks, finals, same_asks, same_finals, c.requires.room)

@@ -1,0 +1,95 @@
+-- How a run of a plan ends, and what it leaves of a place and of the sink of its report.
+use Rattle.std.specs.Prelude.{◌≡◌, ◌⊎◌, ℕ, ◌<◌, Bool, true, List, [], ◌∷◌, ◌++◌, Contains, length, Option, Some, None, IfSome, IsSomeAnd, Result, Ok, Err, OnOk}
+use Rattle.cube_schema.specs.Files.{input_names, output_names}
+use Rattle.cube_schema.specs.declared.plan.Plan.{Plan}
+use Rattle.feed_reader.specs.Feeds.{is_feed_refused}
+use Rattle.outer_io.specs.Faults.{Rose}
+use Rattle.outer_io.specs.Files.{Files, file_or_empty}
+use Rattle.outer_io.specs.Lines.{input_limit}
+use Rattle.outer_io.specs.Told.{Told}
+use Rattle.plan_run.specs.Completed.{IsCompleted}
+use Rattle.run_files.specs.Headed.{RefusesLast}
+use Rattle.run_files.specs.Leaving.{KeepsOthers}
+use Rattle.run_files.specs.Outside.{FailsToPut, file_of, PlaceSeen, Puts, Silent, SinkSeen}
+use Rattle.run_files.specs.Planned.{IsPlanOf, RefusesPlan}
+use Rattle.run_files.specs.declared.stop.Stop.{Stop}
+use Rattle.run_files.specs.declared.stop.Stop.TheVariants.{NoMemory, PlanRefused, ReadFault, WriteFault, FeedRefused}
+use Rattle.run_opening.specs.Opening.{inputs_of, outputs_of}
+use Rattle.run_report.specs.Reports.{counts_text}
+use Rattle.run_report.specs.declared.counts.FeedCounts.{FeedCounts}
+use Rattle.run_report.specs.declared.counts.ScriptCounts.{ScriptCounts}
+
+-- What a run leaves of the names and the files of a place, which is to open and then to create these names
+pub record LeavesNames {P : Type 0} (p : PlaceSeen P) (before after : P) (inputs outputs : List (List ℕ)) : Type 0 where
+  -- some of the inputs were opened, from the front, each once
+  pub opens : List (List ℕ)
+  pub unopened : List (List ℕ)
+  pub inputs_are : inputs ≡ opens ++ unopened
+  pub opened : p.opened after ≡ p.opened before ++ opens
+  -- some of the outputs were created, from the front, each once
+  pub makes : List (List ℕ)
+  pub unmade : List (List ℕ)
+  pub outputs_are : outputs ≡ makes ++ unmade
+  pub created : p.created after ≡ p.created before ++ makes
+  -- none before all inputs were opened
+  pub opens_first : (makes ≡ []) ⊎ (unopened ≡ [])
+  -- every file that was not created is as before
+  pub others : KeepsOthers (p.files before) (p.files after) makes
+
+-- a feed of the plan is refused, by its header or its length, or a script of it has more than 2^30 bytes
+abbrev pub IsRefused : Files → Plan → Type 0
+IsRefused files plan =
+    ((name : List ℕ) × Contains plan.feeds name × (is_feed_refused plan.schema (file_or_empty files name) ≡ true))
+    ⊎ ((name : List ℕ) × Contains (plan.asks ++ plan.finals) name × (input_limit < length (file_or_empty files name)))
+
+-- the run was done, or memory was wanted
+abbrev pub IsDoneOrLacking : Result (Unit {0}) Stop → Type 0
+IsDoneOrLacking result = (result ≡ Ok tt) ⊎ (result ≡ Err NoMemory)
+
+-- a text was put into a sink, or a part of it where the put failed
+abbrev pub PutsOrFails : {T : Type 0} → SinkSeen T → T → T → List ℕ → Type 0
+PutsOrFails s out out' text = Puts s out out' text ⊎ FailsToPut s out out' text
+
+module _ {P T : Type 0} (p : PlaceSeen P) (s : SinkSeen T) (place place' : P) (out out' : T) where
+  -- The run of the named plan is completed
+  pub record IsDone (name : List ℕ) (plan : Plan) : Type 0 where
+    -- everything that it names was opened and created, once and in order
+    pub opened : p.opened place' ≡ p.opened place ++ name ∷ input_names plan
+    pub created : p.created place' ≡ p.created place ++ output_names plan
+    -- no call failed
+    pub quiet : (p.read_faults place' ≡ p.read_faults place) × (p.write_faults place' ≡ p.write_faults place) × (s.faults out' ≡ s.faults out)
+    -- the files hold what they should, and the report was put, where the place tells its files
+    pub files : Told (p.files place) (λ files. IsSomeAnd (p.files place') (λ files'. IsCompleted plan files files' (s.held out) (s.held out')))
+
+  -- a report of some counts was put
+  abbrev pub Reports : Plan → Type 0
+  Reports plan = (feeds : List FeedCounts) × (asks : List ScriptCounts) × (finals : List ScriptCounts) × (closed : Bool) × (count : ℕ) × PutsOrFails s out out' (counts_text plan feeds asks finals closed count)
+
+  -- what a run puts: nothing, or the line of a refused plan, or that of the refused feed which was opened last, or a report
+  abbrev pub Says : List ℕ → Option Plan → Type 0
+  Says name None = Silent s out out' ⊎ RefusesPlan s out out' (file_of (p.files place) name)
+  Says name (Some plan) = Silent s out out' ⊎ ((opens : List (List ℕ)) × RefusesLast plan.schema (file_of (p.files place)) opens (PutsOrFails s out out')) ⊎ Reports plan
+
+  -- How a run of the plan of that name ends
+  pub record RunEnds (name : List ℕ) (result : Result (Unit {0}) Stop) : Type 0 where
+    -- the plan, where the file of that name was read and is one
+    pub plan : Option Plan
+    pub plan_is : IfSome plan (IsPlanOf (file_of (p.files place) name))
+    -- where it is none the run ends so, by want of memory, a read fault or its refusal
+    pub unplanned : plan ≡ None → (result ≡ Err NoMemory) ⊎ (result ≡ Err ReadFault) ⊎ (result ≡ Err PlanRefused)
+    -- a refused plan is said, and comes only where its bytes meet a fault
+    pub refused_plan : result ≡ Err PlanRefused → (plan ≡ None) × RefusesPlan s out out' (file_of (p.files place) name)
+    -- it was opened first, then the plan's inputs, and then its outputs were created
+    pub names : LeavesNames p place place' (name ∷ inputs_of plan) (outputs_of plan)
+    -- with Ok the run is completed
+    pub done : OnOk result ((which : Plan) × (plan ≡ Some which) × IsDone name which)
+    -- of what it puts nothing else comes
+    pub said : Says name plan
+    -- a feed is refused only where one is, or a script is too large
+    pub refused : result ≡ Err FeedRefused → (which : Plan) × (plan ≡ Some which) × Told (p.files place) (λ files. IsRefused files which)
+    -- a read fault comes only where the place's count of reading rose
+    pub read : result ≡ Err ReadFault → Rose (p.read_faults place) (p.read_faults place')
+    -- a write fault only where its count of writing rose, or the sink's
+    pub write : result ≡ Err WriteFault → Rose (p.write_faults place) (p.write_faults place') ⊎ Rose (s.faults out) (s.faults out')
+    -- where there is a plan, nothing is refused and no count rose, the run is done, or memory was wanted
+    pub complete : ¬ Rose (p.read_faults place) (p.read_faults place') → ¬ Rose (p.write_faults place) (p.write_faults place') → ¬ Rose (s.faults out) (s.faults out') → (files : Files) → p.files place ≡ Some files → IfSome plan (λ which. ¬ IsRefused files which → IsDoneOrLacking result)

@@ -1,0 +1,4 @@
+pub mod Completed
+pub mod Ends
+pub mod Parts
+pub mod Seen

@@ -1,0 +1,127 @@
+//! A run from its plan to its report.
+ghost use Rattle.std.specs.Prelude.{◌≡◌, ◌≤◌, ◌+◌, [], length, IfOk, IfErr, vec_len, vec_capacity};
+ghost use Rattle.cube_crew.specs.Begins.{MayRun};
+ghost use Rattle.cube_crew.specs.Crewed.{IsCrewed};
+ghost use Rattle.cube_store.specs.Numbers.{OwnsAllButRoot};
+ghost use Rattle.plan_run.specs.Ends.{RunEnds};
+ghost use Rattle.plan_run.specs.Parts.{RunsParts, done_of};
+ghost use Rattle.plan_run.specs.Seen.{seen_part};
+ghost use Rattle.run_files.specs.Outside.{seen_place, seen_sink};
+ghost use Rattle.run_opening.specs.Opening.{AreFit};
+
+use crate::cubes::empty_cubes;
+use crate::returning::give_back_parts;
+use cube_crew::{Crewed, Jobs, run_crew};
+use cube_schema::Plan;
+use cube_view::Schema;
+use outer_io::{NoMemory, Place, Sink, Source};
+use run_files::Stop;
+use run_opening::{RunParts, open_run};
+use run_stages::{RunDone, close_run};
+use std::alloc::Global;
+use std::sync::Wait;
+use std::thread::Threads;
+
+/// Runs the jobs over two empty cubes. Where that finds no memory to begin with, they come back as they were.
+fn run_jobs<R: Threads + Wait + Sync, I: Source + Send, O: Sink + Send>(
+    rt: &R,
+    alloc: Global,
+    schema: &Schema,
+    jobs: Jobs<I, O>,
+) -> Result<Crewed<I, O>, Jobs<I, O>>
+    requires { MayRun schema.now jobs }
+    ensures crewed { IfOk result (IsCrewed I.left I.faults O.held O.faults O.name OwnsAllButRoot schema.now jobs) }
+    ensures back { IfErr result (λ back. back ≡ jobs) }
+{
+    match empty_cubes(alloc, schema) {
+        Ok((first, again)) => run_crew(rt, alloc, first, again, jobs),
+        Err(NoMemory) => Err(jobs),
+    }
+}
+
+/// What is closed of a run once its jobs have run.
+fn done_of<I: Source, O: Sink>(crewed: Crewed<I, O>, journal: O) -> RunDone<I, O>
+    ensures { result ≡ done_of crewed journal }
+{
+    let Crewed {
+        feeds,
+        asks,
+        finals,
+        journal: entries,
+        drawn: _,
+        mails: _,
+        starved,
+        closed,
+    } = crewed;
+    RunDone {
+        feeds,
+        asks,
+        finals,
+        entries,
+        journal,
+        closed,
+        starved,
+    }
+}
+
+/// Runs the opened parts and closes the run, or gives them back where they cannot begin for want of memory.
+fn run_parts<R: Threads + Wait + Sync, P: Place, O: Sink>(
+    rt: &R,
+    alloc: Global,
+    plan: &Plan,
+    parts: RunParts<P::In, P::Out>,
+    place: &mut P,
+    out: &mut O,
+) -> Result<(), Stop>
+    requires { AreFit plan.now.schema parts }
+    ensures { RunsParts (seen_place P.files P.read_faults P.write_faults P.opened P.created) (seen_part P.In.left P.In.faults) (seen_sink P.Out.held P.Out.faults P.Out.name) (seen_sink O.held O.faults O.name) plan.now parts place.old place.new out.old out.new result }
+{
+    let RunParts {
+        feeds,
+        asks,
+        finals,
+        journal,
+        room,
+    } = parts;
+    let jobs = Jobs {
+        feeds,
+        asks,
+        finals,
+    };
+    match run_jobs(rt, alloc, &plan.schema, jobs) {
+        Ok(crewed) => close_run(alloc, plan, done_of(crewed, journal), room, place, out),
+        Err(jobs) => {
+            let Jobs {
+                feeds,
+                asks,
+                finals,
+            } = jobs;
+            let parts = RunParts {
+                feeds,
+                asks,
+                finals,
+                journal,
+                room,
+            };
+            give_back_parts(place, parts);
+            Err(Stop::NoMemory)
+        }
+    }
+}
+
+/// Runs the plan of that name over a place: opens its feeds and scripts and creates its outputs, loads the feeds by threads
+/// while the asks are answered, answers the finals over all that was loaded, writes the journal, gives every part back, and
+/// puts the report on `out`. A refused plan or header is one line on `out`. The end is the first cause in the order of
+/// [`Stop`].
+pub fn run_plan<R: Threads + Wait + Sync, P: Place, O: Sink>(
+    rt: &R,
+    alloc: Global,
+    name: &str,
+    place: &mut P,
+    out: &mut O,
+) -> Result<(), Stop>
+    ensures { RunEnds (seen_place P.files P.read_faults P.write_faults P.opened P.created) (seen_sink O.held O.faults O.name) place.old place.new out.old out.new name.now result }
+{
+    let (plan, parts) = open_run(alloc, name, place, out)?;
+    run_parts(rt, alloc, &plan, parts, place, out)
+}
