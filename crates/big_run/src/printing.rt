@@ -1,0 +1,145 @@
+//! What a run prints.
+ghost use Rattle.std.specs.Prelude.{◌≡◌, ◌++◌, [], ◌∷◌, false, codes, string_bytes, length, IfOk, OnOk};
+ghost use Rattle.big_run.specs.Printed.{CameBackWhole, printed};
+ghost use Rattle.run_report.specs.Lines.{blank_and_refused, counts_line};
+ghost use Rattle.run_stages.specs.Counted.{feed_counts};
+
+use crate::source::RunSource;
+use crew_feeder::FeedDone;
+use crew_session::SessionDone;
+use cube_crew::Crewed;
+use outer_io::{List, NoMemory, StillSink};
+use run_report::FeedCounts;
+use std::alloc::{AllocError, Global};
+
+/// Appends the end of the line of a feed's counts.
+#[tactic(auto, unfolding(run_report::specs::Lines::blank_and_refused))]
+fn push_blank_and_refused(text: &mut String, blank: u64, refused: u64) -> Result<(), AllocError>
+    ensures { OnOk result (string_bytes text.new ≡ string_bytes text.old ++ blank_and_refused blank refused) }
+{
+    write!(text, "{blank} blank, {refused} refused\n")
+}
+
+/// Appends the line of a feed's counts.
+#[tactic(auto, unfolding(run_report::specs::Lines::counts_line))]
+fn push_counts(text: &mut String, name: &str, counts: &FeedCounts) -> Result<(), AllocError>
+    ensures { OnOk result (string_bytes text.new ≡ string_bytes text.old ++ counts_line name.now counts.now) }
+{
+    let accepted = counts.accepted;
+    write!(text, "feed {name}: {accepted} accepted, ")?;
+    push_blank_and_refused(text, counts.blank, counts.refused)
+}
+
+/// The lines of the two feeds, and then the replies.
+fn parts_text(
+    alloc: Global,
+    first: &FeedCounts,
+    second: &FeedCounts,
+    replies: &[u8],
+) -> Result<Vec<u8>, AllocError>
+    ensures { IfOk result (λ text. text.items ≡ counts_line (codes "gen1") first.now ++ counts_line (codes "gen2") second.now ++ replies.now) }
+{
+    let mut lines = String::new(alloc);
+    push_counts(&mut lines, "gen1", first)?;
+    push_counts(&mut lines, "gen2", second)?;
+    let mut text = lines.into_bytes();
+    text.extend_from_slice(replies)?;
+    Ok(text)
+}
+
+/// What is counted of a feed, whose source is dropped.
+fn counts_of(done: FeedDone<RunSource>) -> FeedCounts
+    ensures { result ≡ feed_counts done }
+{
+    let FeedDone {
+        source: _,
+        accepted,
+        blank,
+        refused,
+        first,
+        fault,
+    } = done;
+    FeedCounts {
+        accepted,
+        blank,
+        refused,
+        fault,
+        first,
+    }
+}
+
+/// The sink of a session, all else of which is dropped.
+fn sink_of(done: SessionDone<RunSource, StillSink>) -> StillSink
+    ensures { result ≡ done.sink }
+{
+    let SessionDone {
+        source: _,
+        sink,
+        replies: _,
+        seen: _,
+        mail: _,
+        fault: _,
+    } = done;
+    sink
+}
+
+/// The two items of a list.
+fn both_of<T>(items: List<T>) -> (T, T)
+    requires { length items ≡ 2 }
+    ensures { items ≡ result.0 ∷ result.1 ∷ [] }
+{
+    let mut items = items.into_vec();
+    let Some(second) = items.pop() else {
+        unreachable!()
+    };
+    let Some(first) = items.pop() else {
+        unreachable!()
+    };
+    items.destroy_empty();
+    (first, second)
+}
+
+/// The one item of a list.
+fn only_of<T>(items: List<T>) -> T
+    requires { length items ≡ 1 }
+    ensures { items ≡ result ∷ [] }
+{
+    let mut items = items.into_vec();
+    let Some(only) = items.pop() else {
+        unreachable!()
+    };
+    items.destroy_empty();
+    only
+}
+
+/// What is printed of a run in which memory was found throughout; the replies of the session beside the feeds are dropped.
+pub(crate) fn print_run(
+    alloc: Global,
+    crewed: Crewed<RunSource, StillSink>,
+) -> Result<List<u8>, NoMemory>
+    requires { CameBackWhole crewed }
+    ensures printed { IfOk result (λ text. text ≡ printed crewed) }
+    ensures found { OnOk result (crewed.starved ≡ false) }
+{
+    let Crewed {
+        feeds,
+        asks,
+        finals,
+        journal: _,
+        drawn: _,
+        mails: _,
+        starved,
+        closed: _,
+    } = crewed;
+    let (first, second) = both_of(feeds);
+    let (first, second) = (counts_of(first), counts_of(second));
+    let _unused = sink_of(only_of(asks));
+    let sink = sink_of(only_of(finals));
+    if starved {
+        return Err(NoMemory);
+    }
+    match parts_text(alloc, &first, &second, sink.bytes()) {
+        Ok(text) => Ok(List::from_vec(text)),
+        Err(_) => Err(NoMemory),
+    }
+}
