@@ -1,0 +1,4 @@
+mod Appended
+mod Reading
+mod Puts
+mod Ends

@@ -1,0 +1,5 @@
+pub mod Audits
+pub mod Lines
+pub mod Said
+pub mod Reading
+pub mod Ends
