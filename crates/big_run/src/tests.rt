@@ -2,6 +2,7 @@
 use super::*;
 use outer_io::{List, MemSink, StillSink};
 use run_files::Stop;
+use std::alloc::{AllocError, Global};
 use std::test::Fail;
 
 /// The lines that a run of one row writes.
@@ -14,14 +15,20 @@ const OF_ONE: [&str; 6] = [
     "{\"rows\":[[0,0],[256,0],[512,0],[768,2]],\"seen\":2}\n",
 ];
 
+/// These lines, one after the other.
+fn of_one(alloc: Global) -> Result<Vec<u8>, AllocError> {
+    let mut text = Vec::new(alloc);
+    for line in OF_ONE {
+        text.extend_from_slice(line.as_bytes())?;
+    }
+    Ok(text)
+}
+
 #[test]
 fn a_run_of_one_row_writes_its_six_lines(rt: HostRuntime) -> Result<(), Fail> {
     let mut out = StillSink::new(rt.alloc());
     assert_eq!(rt; run_big(&rt, rt.alloc(), 1, &mut out), Ok(()));
-    let mut want = Vec::new(rt.alloc());
-    for line in OF_ONE {
-        want.extend_from_slice(line.as_bytes())?;
-    }
+    let want = of_one(rt.alloc())?;
     assert_eq!(rt; out.bytes(), want.as_slice());
     Ok(())
 }
@@ -47,6 +54,8 @@ fn a_sink_whose_put_fails_has_a_part_of_the_text(rt: HostRuntime) -> Result<(), 
         run_big(&rt, rt.alloc(), 1, &mut out),
         Err(Stop::WriteFault)
     );
-    assert!(rt; OF_ONE[0].as_bytes().starts_with(&out.bytes()[..20]));
+    let whole = of_one(rt.alloc())?;
+    assert_eq!(rt; out.bytes().len(), whole.len() / 2);
+    assert!(rt; whole.as_slice().starts_with(out.bytes()));
     Ok(())
 }

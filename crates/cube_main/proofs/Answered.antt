@@ -1,11 +1,11 @@
 -- A script that was opened, answered and given back, and one that was not opened.
-use Rattle.std.proofs.Common.{◌≡◌, ◌≢◌, ◌≤◌, ℕ, ◌+◌, Bool, true, false, List, [], ◌∷◌, ◌++◌, take, length, Option, Some, Result, Ok, Err, refl, sym, ◌∙◌, ap, subst, arith, length-append, OnOk, IsErrOf}
+use Rattle.std.proofs.Common.{◌≡◌, ◌≢◌, ℕ, Bool, true, false, List, [], ◌∷◌, ◌++◌, take, length, Option, Some, Result, Ok, Err, refl, sym, ◌∙◌, ap, subst, arith, length-append, OnOk, IsErrOf}
 use Rattle.cube_main.specs.Answering.{answers_end, lacking_end, status_of_script, AnswersFile}
 use Rattle.cube_main.specs.Outside.{WritesNoFile}
 use Rattle.run_files.specs.Outside.{PlaceSeen, SinkSeen}
 use Rattle.cube_main.specs.Statuses.{may_lack, status_of_end}
 use Rattle.cube_main.specs.declared.status.Status.{Status}
-use Rattle.cube_main.specs.declared.status.Status.TheVariants.{Done, Usage, PlanRefused, NoMemory, ReadFault, WriteFault, FeedRefused}
+use Rattle.cube_main.specs.declared.status.Status.TheVariants.{Done, Usage, PlanRefused, NoMemory, ReadFault, WriteFault, FeedRefused, Differs}
 use Rattle.cube_view.specs.Bag.{Counts, EachCounted}
 use Rattle.cube_view.specs.Points.{Point}
 use Rattle.cube_view.specs.declared.schema.Schema.{Schema}
@@ -80,7 +80,7 @@ module _ {P O : Type 0} (p : PlaceSeen P) (s : SinkSeen O) (place place' : P) (o
 
     -- a script that was opened, with what its answers gained
     module _ (opened : p.opened place' ≡ p.opened place ++ name ∷ []) (writes : WritesNoFile p place place') where
-      file_with : (status : Status) → (status ≢ Usage) × (status ≢ PlanRefused) → (status ≡ Done → Told left (Answered false false)) → (status ≡ FeedRefused → Told left (Answered false true)) → Told left (Begun (may_lack status)) → AnswersFile p s place place' out out' schema is_stat (Counts at n) name status
+      file_with : (status : Status) → (status ≢ Usage) × (status ≢ PlanRefused) × (status ≢ Differs) → (status ≡ Done → Told left (Answered false false)) → (status ≡ FeedRefused → Told left (Answered false true)) → Told left (Begun (may_lack status)) → AnswersFile p s place place' out out' schema is_stat (Counts at n) name status
       file_with status form done refused part =
           record {
             form = form;
@@ -95,16 +95,16 @@ module _ {P O : Type 0} (p : PlaceSeen P) (s : SinkSeen O) (place place' : P) (o
 
       -- by the end of its answers
       ended_file : (lacked : Bool) (r : Result (Unit {0}) SessionFault) → OnOk r (Told left (Answered lacked false)) → (IsErrOf r fault.TooMuch → Told left (Answered lacked true)) → Told left (Begun lacked) → AnswersFile p s place place' out out' schema is_stat (Counts at n) name (status_of_end (joined_ends (lacking_end lacked) (answers_end r)))
-      ended_file true (Ok x) done refused part = file_with NoMemory (λ e. cc, λ e. cc) (λ e. cc) (λ e. cc) part
-      ended_file true (Err fault.TooMuch) done refused part = file_with NoMemory (λ e. cc, λ e. cc) (λ e. cc) (λ e. cc) part
-      ended_file true (Err fault.Read) done refused part = file_with NoMemory (λ e. cc, λ e. cc) (λ e. cc) (λ e. cc) part
-      ended_file true (Err fault.Write) done refused part = file_with NoMemory (λ e. cc, λ e. cc) (λ e. cc) (λ e. cc) part
-      ended_file true (Err fault.NoMemory) done refused part = file_with NoMemory (λ e. cc, λ e. cc) (λ e. cc) (λ e. cc) part
-      ended_file false (Ok x) done refused part = file_with Done (λ e. cc, λ e. cc) (λ e. done) (λ e. cc) part
-      ended_file false (Err fault.TooMuch) done refused part = file_with FeedRefused (λ e. cc, λ e. cc) (λ e. cc) (λ e. refused refl) part
-      ended_file false (Err fault.Read) done refused part = file_with ReadFault (λ e. cc, λ e. cc) (λ e. cc) (λ e. cc) part
-      ended_file false (Err fault.Write) done refused part = file_with WriteFault (λ e. cc, λ e. cc) (λ e. cc) (λ e. cc) part
-      ended_file false (Err fault.NoMemory) done refused part = file_with NoMemory (λ e. cc, λ e. cc) (λ e. cc) (λ e. cc) (lacking_front part)
+      ended_file true (Ok x) done refused part = file_with NoMemory (λ e. cc, λ e. cc, λ e. cc) (λ e. cc) (λ e. cc) part
+      ended_file true (Err fault.TooMuch) done refused part = file_with NoMemory (λ e. cc, λ e. cc, λ e. cc) (λ e. cc) (λ e. cc) part
+      ended_file true (Err fault.Read) done refused part = file_with NoMemory (λ e. cc, λ e. cc, λ e. cc) (λ e. cc) (λ e. cc) part
+      ended_file true (Err fault.Write) done refused part = file_with NoMemory (λ e. cc, λ e. cc, λ e. cc) (λ e. cc) (λ e. cc) part
+      ended_file true (Err fault.NoMemory) done refused part = file_with NoMemory (λ e. cc, λ e. cc, λ e. cc) (λ e. cc) (λ e. cc) part
+      ended_file false (Ok x) done refused part = file_with Done (λ e. cc, λ e. cc, λ e. cc) (λ e. done) (λ e. cc) part
+      ended_file false (Err fault.TooMuch) done refused part = file_with FeedRefused (λ e. cc, λ e. cc, λ e. cc) (λ e. cc) (λ e. refused refl) part
+      ended_file false (Err fault.Read) done refused part = file_with ReadFault (λ e. cc, λ e. cc, λ e. cc) (λ e. cc) (λ e. cc) part
+      ended_file false (Err fault.Write) done refused part = file_with WriteFault (λ e. cc, λ e. cc, λ e. cc) (λ e. cc) (λ e. cc) part
+      ended_file false (Err fault.NoMemory) done refused part = file_with NoMemory (λ e. cc, λ e. cc, λ e. cc) (λ e. cc) (λ e. cc) (lacking_front part)
         where
           lacking_front : Told left (Begun false) → Told left (Begun true)
           lacking_front told_front = Told-each left (Begun false) (Begun true) (λ q each h counts. front_lacking schema IsIts h told (s.held out) (s.held out') (asked schema (lines q)) (each h counts)) told_front
@@ -113,7 +113,7 @@ module _ {P O : Type 0} (p : PlaceSeen P) (s : SinkSeen O) (place place' : P) (o
       answered_file e done refused part = ended_file e.lacked e.end done refused part
 
 -- a script that was not answered, with what its opening noted
-pub unopened_file : {P O : Type 0} (p : PlaceSeen P) (s : SinkSeen O) (place place' : P) (out : O) (schema : Schema) (is_stat : Stat → Type 0) (counts : List Point → Type 0) (name : List ℕ) (status : Status) → (status ≢ Usage) × (status ≢ PlanRefused) → status ≢ Done → status ≢ FeedRefused → (k : ℕ) × (p.opened place' ≡ p.opened place ++ take k (name ∷ [])) → WritesNoFile p place place' → AnswersFile p s place place' out out schema is_stat counts name status
+pub unopened_file : {P O : Type 0} (p : PlaceSeen P) (s : SinkSeen O) (place place' : P) (out : O) (schema : Schema) (is_stat : Stat → Type 0) (counts : List Point → Type 0) (name : List ℕ) (status : Status) → (status ≢ Usage) × (status ≢ PlanRefused) × (status ≢ Differs) → status ≢ Done → status ≢ FeedRefused → (k : ℕ) × (p.opened place' ≡ p.opened place ++ take k (name ∷ [])) → WritesNoFile p place place' → AnswersFile p s place place' out out schema is_stat counts name status
 unopened_file p s place place' out schema is_stat counts name status form not_done not_refused opened writes =
     record {
       form = form;

@@ -1,5 +1,5 @@
 -- How a run of the form `demo` ends, by how its feed was loaded and its script answered.
-use Rattle.std.proofs.Common.{◌≡◌, ◌≢◌, ◌≤◌, ℕ, zero, suc, ◌+◌, Bool, true, false, ◌||◌, List, [], ◌∷◌, ◌++◌, take, length, Option, Some, Result, Ok, Err, ◌⊎◌, inl, inr, refl, sym, ◌∙◌, ap, subst, arith, length-append, append_assoc}
+use Rattle.std.proofs.Common.{◌≡◌, ◌≢◌, ◌≤◌, ℕ, zero, suc, Bool, true, false, ◌||◌, List, [], ◌∷◌, ◌++◌, take, length, Some, Ok, Err, inl, inr, refl, sym, ◌∙◌, ap, subst, arith, length-append, append_assoc}
 use Rattle.std.proofs.Math.Bool.{or-true}
 use Rattle.std.proofs.lemmas.List.{append-nil}
 use Rattle.cube_main.proofs.Answered.{nothing_gained}
@@ -7,11 +7,11 @@ use Rattle.cube_main.specs.Answering.{AnswersFile}
 use Rattle.cube_main.specs.BuiltIn.{built_in}
 use Rattle.cube_main.specs.Demo.{is_refused, DemoEnds}
 use Rattle.cube_main.specs.Loading.{Loads}
-use Rattle.cube_main.specs.Outside.{KeepsOutside, WritesNoFile}
+use Rattle.cube_main.specs.Outside.{KeepsOutside}
 use Rattle.run_files.specs.Outside.{PlaceSeen, SinkSeen}
 use Rattle.cube_main.specs.Statuses.{IsRefusedOrEarlier, IsDoneOrNoMemory, may_lack}
 use Rattle.cube_main.specs.declared.status.Status.{Status}
-use Rattle.cube_main.specs.declared.status.Status.TheVariants.{Done, Usage, PlanRefused, NoMemory, ReadFault, WriteFault, FeedRefused}
+use Rattle.cube_main.specs.declared.status.Status.TheVariants.{Done, Usage, PlanRefused, NoMemory, ReadFault, WriteFault, FeedRefused, Differs}
 use Rattle.cube_store.specs.Numbers.{OwnsAllButRoot}
 use Rattle.cube_view.specs.Points.{Point}
 use Rattle.cube_view.specs.declared.schema.Schema.{Schema}
@@ -42,7 +42,7 @@ unfolding is_refused
 taken_both feed script good small = ap (λ b. b || is_script_refused built_in script) good ∙ small
 
 -- a run that is not done ended early
-ends_early : (status : Status) → status ≢ Done → (status ≢ Usage) × (status ≢ PlanRefused) → IsRefusedOrEarlier status
+ends_early : (status : Status) → status ≢ Done → (status ≢ Usage) × (status ≢ PlanRefused) × (status ≢ Differs) → IsRefusedOrEarlier status
 ends_early Done done form = absurd (done refl)
 ends_early Usage done form = absurd (form.0 refl)
 ends_early PlanRefused done form = absurd (form.1 refl)
@@ -50,9 +50,10 @@ ends_early NoMemory done form = inr (inl refl)
 ends_early ReadFault done form = inr (inr (inl refl))
 ends_early WriteFault done form = inr (inr (inr refl))
 ends_early FeedRefused done form = inl refl
+ends_early Differs done form = absurd (form.2 refl)
 
 -- one that has no other cause is done, or memory was wanted
-ends_well : (status : Status) → (status ≢ Usage) × (status ≢ PlanRefused) → status ≢ ReadFault → status ≢ WriteFault → status ≢ FeedRefused → IsDoneOrNoMemory status
+ends_well : (status : Status) → (status ≢ Usage) × (status ≢ PlanRefused) × (status ≢ Differs) → status ≢ ReadFault → status ≢ WriteFault → status ≢ FeedRefused → IsDoneOrNoMemory status
 ends_well Done form read write refused = inl refl
 ends_well Usage form read write refused = absurd (form.0 refl)
 ends_well PlanRefused form read write refused = absurd (form.1 refl)
@@ -60,6 +61,7 @@ ends_well NoMemory form read write refused = inr refl
 ends_well ReadFault form read write refused = absurd (read refl)
 ends_well WriteFault form read write refused = absurd (write refl)
 ends_well FeedRefused form read write refused = absurd (refused refl)
+ends_well Differs form read write refused = absurd (form.2 refl)
 
 take_none : {A : Type 0} (n : ℕ) → take {A = A} n [] ≡ []
 take_none zero = refl
@@ -92,14 +94,14 @@ module _ {P O : Type 0} (p : PlaceSeen P) (s : SinkSeen O) (feed script : List �
   ended_by_feed : (place place' : P) (out : O) (counts : List Point → Type 0) (status : Status) → Loads p place place' feed built_in counts (Err status) → DemoEnds p s place place' out out status feed script
   ended_by_feed place place' out counts status loads =
       record {
-        form = (loads.status.1, loads.status.3);
+        form = (loads.status.1, loads.status.3, loads.status.4);
         done = λ fs told e. absurd (loads.status.0 e);
         part = λ fs told. nothing_gained built_in OwnsAllButRoot _ _ _ (s.held out) _;
         all_before_too_much = λ fs told e good. both_ways (is_feed_refused built_in (file_or_empty fs feed)) (loads.refused fs told (ap (λ st. Err st) e)) good;
         refused = λ fs told e. refused_feed (file_or_empty fs feed) (file_or_empty fs script) (loads.refused fs told (ap (λ st. Err st) e));
-        refused_or_earlier = λ fs told bad. ends_early status loads.status.0 (loads.status.1, loads.status.3);
+        refused_or_earlier = λ fs told bad. ends_early status loads.status.0 (loads.status.1, loads.status.3, loads.status.4);
         refused_feed = λ fs told bad. refl;
-        complete = λ fs told good read write. ends_well status (loads.status.1, loads.status.3) (λ e. read (loads.read.rose (ap (λ st. Err st) e))) loads.status.2
+        complete = λ fs told good read write. ends_well status (loads.status.1, loads.status.3, loads.status.4) (λ e. read (loads.read.rose (ap (λ st. Err st) e))) loads.status.2
             (λ e. both_ways (is_refused (file_or_empty fs feed) (file_or_empty fs script)) (refused_feed (file_or_empty fs feed) (file_or_empty fs script) (loads.refused fs told (ap (λ st. Err st) e))) good);
         opened = opened_feed (p.opened place) (p.opened place') feed script loads.opened_once;
         opened_both = λ e. absurd (loads.status.0 e);
@@ -112,7 +114,7 @@ module _ {P O : Type 0} (p : PlaceSeen P) (s : SinkSeen O) (feed script : List �
   pub ended_at_once : (place : P) (out : O) → DemoEnds p s place place out out NoMemory feed script
   ended_at_once place out =
       record {
-        form = (λ e. cc, λ e. cc);
+        form = (λ e. cc, λ e. cc, λ e. cc);
         done = λ fs told e. cc;
         part = λ fs told. nothing_gained built_in OwnsAllButRoot _ _ _ (s.held out) _;
         all_before_too_much = λ fs told e good. cc;

@@ -2,3 +2,4 @@ mod Points
 mod Loaded
 mod Answered
 mod Ended
+mod Forms

@@ -1,5 +1,5 @@
 -- Why a feed is not loaded, and what loading one gives.
-use Rattle.std.proofs.Common.{◌≡◌, ◌++◌, ℕ, false, List, [], map, Option, Result, Ok, Err, refl, sym, subst, IsErrOf, OnOk}
+use Rattle.std.proofs.Common.{◌≡◌, ℕ, List, [], Option, Result, Ok, Err, refl, sym, subst, IsErrOf, OnOk}
 use Rattle.std.specs.Result.{IsErrAnd}
 use Rattle.cube_main.specs.LoadFaults.{fault_of_head}
 use Rattle.cube_main.specs.Loading.{KeepsRows, TakesFeed}
@@ -8,9 +8,7 @@ use Rattle.cube_main.specs.declared.demo.loading.LoadFault.TheVariants as load
 use Rattle.cube_view.specs.Points.{Point}
 use Rattle.cube_view.specs.declared.schema.Schema.{Schema}
 use Rattle.feed_reader.proofs.FeedLaws.{feed_read}
-use Rattle.feed_reader.specs.Feeds.{points_in}
 use Rattle.feed_reader.specs.Reading.{IsAtStart, LeavesAccepted, ReadsHeader}
-use Rattle.feed_reader.specs.Rows.{row_of_line}
 use Rattle.feed_reader.specs.declared.feed.NoHeader.{NoHeader}
 use Rattle.feed_reader.specs.declared.feed.NoHeader.TheVariants as head
 use Rattle.feed_reader.specs.declared.header.HeadFault.{HeadFault}

@@ -1,5 +1,5 @@
 -- What a row adds to the lists of points that a view counts.
-use Rattle.std.proofs.Common.{◌≡◌, ◌+◌, ◌≤◌, ℕ, List, [], ◌∷◌, ◌++◌, length, map, sym, subst, refl, arith, append-nil, length-append, Result, Ok, Err, OnOk}
+use Rattle.std.proofs.Common.{◌≡◌, ◌+◌, ◌≤◌, ℕ, List, [], ◌∷◌, ◌++◌, map, sym, subst, refl, arith, append-nil, length-append, Result, Ok, Err, OnOk}
 use Rattle.std.proofs.Math.Logic.{∥∥₁_elim}
 use Rattle.std.specs.Coded.{le_prop}
 use Rattle.cube_main.specs.Loading.{CountsMore}

@@ -1,10 +1,10 @@
 -- What answering a script leaves.
-use Rattle.std.specs.Prelude.{◌≡◌, ◌≢◌, ℕ, Bool, true, false, List, [], ◌∷◌, ◌++◌, length, take, Option, Some, Result, Ok, Err}
+use Rattle.std.specs.Prelude.{◌≡◌, ◌≢◌, ℕ, Bool, true, false, List, [], ◌∷◌, ◌++◌, length, take, Some, Result, Ok, Err}
 use Rattle.cube_main.specs.Outside.{WritesNoFile}
 use Rattle.run_files.specs.Outside.{PlaceSeen, SinkSeen}
 use Rattle.cube_main.specs.Statuses.{may_lack, status_of_end}
 use Rattle.cube_main.specs.declared.status.Status.{Status}
-use Rattle.cube_main.specs.declared.status.Status.TheVariants.{Done, Usage, PlanRefused, FeedRefused}
+use Rattle.cube_main.specs.declared.status.Status.TheVariants.{Done, Usage, PlanRefused, FeedRefused, Differs}
 use Rattle.cube_view.specs.Points.{Point}
 use Rattle.cube_view.specs.declared.schema.Schema.{Schema}
 use Rattle.cube_view.specs.declared.stat.Stat.{Stat}
@@ -36,8 +36,8 @@ status_of_script e = status_of_end (joined_ends (lacking_end e.lacked) (answers_
 -- What answering the named script leaves of a place and a sink, over a view of a schema that counts these lists of
 -- points, each point of which was told, and whose structure's numbers meet the test
 pub record AnswersFile {P O : Type 0} (p : PlaceSeen P) (s : SinkSeen O) (place place' : P) (out out' : O) (schema : Schema) (is_stat : Stat → Type 0) (counts : List Point → Type 0) (name : List ℕ) (status : Status) : Type 0 where
-  -- the words are a form, and no plan is read
-  pub form : (status ≢ Usage) × (status ≢ PlanRefused)
+  -- the words are a form, no plan is read and nothing audited
+  pub form : (status ≢ Usage) × (status ≢ PlanRefused) × (status ≢ Differs)
   -- with status 0 the sink gained all answers, and the script is not refused
   pub done : (files : Files) → p.files place ≡ Some files → status ≡ Done
       → ((h : List Point) → counts h → GainsReplies schema is_stat h (length h) false (s.held out) (s.held out') (asked schema (lines (file_or_empty files name)))) × (is_script_refused schema (file_or_empty files name) ≡ false)

@@ -5,7 +5,7 @@ use Rattle.cube_main.specs.Outside.{WritesNoFile}
 use Rattle.run_files.specs.Outside.{PlaceSeen, SinkSeen}
 use Rattle.cube_main.specs.Statuses.{IsRefusedOrEarlier, IsDoneOrNoMemory, may_lack}
 use Rattle.cube_main.specs.declared.status.Status.{Status}
-use Rattle.cube_main.specs.declared.status.Status.TheVariants.{Done, Usage, PlanRefused, FeedRefused}
+use Rattle.cube_main.specs.declared.status.Status.TheVariants.{Done, Usage, PlanRefused, FeedRefused, Differs}
 use Rattle.cube_store.specs.Numbers.{OwnsAllButRoot}
 use Rattle.cube_view.specs.Limits.{same_text}
 use Rattle.feed_reader.specs.Feeds.{accepted, is_feed_refused}
@@ -40,33 +40,33 @@ GainsSomeAnswers lacks before after feed script = let h = accepted built_in feed
 -- what a run leaves of a place and a sink, by its status and the names of its feed and its script
 module _ {P O : Type 0} (p : PlaceSeen P) (s : SinkSeen O) (place place' : P) (out out' : O) (status : Status) (feed script : List ℕ) where
   -- the claim holds of the bytes of the feed and of the script, where the place tells its files
-  abbrev pub OfFiles : (List ℕ → List ℕ → Type 0) → Type 0
-  OfFiles Claim = (files : Files) → p.files place ≡ Some files → Claim (file_or_empty files feed) (file_or_empty files script)
+  abbrev pub OfDemoFiles : (List ℕ → List ℕ → Type 0) → Type 0
+  OfDemoFiles Claim = (files : Files) → p.files place ≡ Some files → Claim (file_or_empty files feed) (file_or_empty files script)
 
   -- How a run of this form ends
   pub record DemoEnds : Type 0 where
-    -- the words are a form, and no plan is read
-    pub form : (status ≢ Usage) × (status ≢ PlanRefused)
+    -- the words are a form, no plan is read and nothing audited
+    pub form : (status ≢ Usage) × (status ≢ PlanRefused) × (status ≢ Differs)
     -- with status 0 the sink gained all answers, and nothing was refused
-    pub done : OfFiles (λ f q. status ≡ Done → GainsAnswers (s.held out) (s.held out') f q × (is_refused f q ≡ false))
+    pub done : OfDemoFiles (λ f q. status ≡ Done → GainsAnswers (s.held out) (s.held out') f q × (is_refused f q ≡ false))
     -- with any status it gained some of them, and nothing else; only for want of memory a reply may be the line that says so
-    pub part : OfFiles (GainsSomeAnswers (may_lack status) (s.held out) (s.held out'))
+    pub part : OfDemoFiles (GainsSomeAnswers (may_lack status) (s.held out) (s.held out'))
     -- all of them also where a script that is refused follows a feed that is not
-    pub all_before_too_much : OfFiles (λ f q. status ≡ FeedRefused → is_feed_refused built_in f ≡ false → GainsAnswers (s.held out) (s.held out') f q)
+    pub all_before_too_much : OfDemoFiles (λ f q. status ≡ FeedRefused → is_feed_refused built_in f ≡ false → GainsAnswers (s.held out) (s.held out') f q)
     -- status 7 comes only where the feed or the script is refused ..
-    pub refused : OfFiles (λ f q. status ≡ FeedRefused → is_refused f q ≡ true)
+    pub refused : OfDemoFiles (λ f q. status ≡ FeedRefused → is_refused f q ≡ true)
     -- .. and where one is, it comes or an earlier one
-    pub refused_or_earlier : OfFiles (λ f q. is_refused f q ≡ true → IsRefusedOrEarlier status)
+    pub refused_or_earlier : OfDemoFiles (λ f q. is_refused f q ≡ true → IsRefusedOrEarlier status)
     -- a feed that is refused writes nothing
-    pub refused_feed : OfFiles (λ f q. is_feed_refused built_in f ≡ true → out' ≡ out)
+    pub refused_feed : OfDemoFiles (λ f q. is_feed_refused built_in f ≡ true → out' ≡ out)
     -- with nothing refused and no count risen the run is done, or memory was wanted
-    pub complete : OfFiles (λ f q. is_refused f q ≡ false → ¬ Rose (p.read_faults place) (p.read_faults place') → ¬ Rose (s.faults out) (s.faults out') → IsDoneOrNoMemory status)
+    pub complete : OfDemoFiles (λ f q. is_refused f q ≡ false → ¬ Rose (p.read_faults place) (p.read_faults place') → ¬ Rose (s.faults out) (s.faults out') → IsDoneOrNoMemory status)
     -- what was opened is the feed and then the script, each once at most
     pub opened : (k : ℕ) × (p.opened place' ≡ p.opened place ++ take k (feed ∷ script ∷ []))
     -- both with status 0
     pub opened_both : status ≡ Done → p.opened place' ≡ p.opened place ++ feed ∷ script ∷ []
     -- the script only after a feed that is not refused
-    pub read_before : OfFiles (λ f q. p.opened place' ≡ p.opened place ++ feed ∷ script ∷ [] → is_feed_refused built_in f ≡ false)
+    pub read_before : OfDemoFiles (λ f q. p.opened place' ≡ p.opened place ++ feed ∷ script ∷ [] → is_feed_refused built_in f ≡ false)
     -- where the feed alone was opened, nothing was written
     pub untouched : p.opened place' ≡ p.opened place ++ feed ∷ [] → out' ≡ out
     -- no file is written

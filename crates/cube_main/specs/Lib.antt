@@ -1,7 +1,11 @@
 pub mod Answering
+pub mod Big
 pub mod BuiltIn
 pub mod Demo
 pub mod LoadFaults
 pub mod Loading
 pub mod Outside
+pub mod Recount
+pub mod Run
 pub mod Statuses
+pub mod Words

@@ -1,7 +1,7 @@
 -- The statuses of a run.
 use Rattle.std.specs.Prelude.{ℕ, Bool, true, false, ◌≡◌, ◌⊎◌, Result, Ok, Err}
 use Rattle.cube_main.specs.declared.status.Status.{Status}
-use Rattle.cube_main.specs.declared.status.Status.TheVariants.{Done, Usage, PlanRefused, NoMemory, ReadFault, WriteFault, FeedRefused}
+use Rattle.cube_main.specs.declared.status.Status.TheVariants.{Done, Usage, PlanRefused, NoMemory, ReadFault, WriteFault, FeedRefused, Differs}
 use Rattle.run_files.specs.declared.stop.Stop.{Stop}
 use Rattle.run_files.specs.declared.stop.Stop.TheVariants as stop
 
@@ -14,6 +14,7 @@ code_of NoMemory = 4
 code_of ReadFault = 5
 code_of WriteFault = 6
 code_of FeedRefused = 7
+code_of Differs = 9
 
 -- how a run ended that ends by this cause
 abbrev pub status_of_stop : Stop → Status
@@ -45,3 +46,4 @@ may_lack NoMemory = true
 may_lack ReadFault = false
 may_lack WriteFault = false
 may_lack FeedRefused = false
+may_lack Differs = false

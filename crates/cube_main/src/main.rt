@@ -6,12 +6,13 @@
 //!
 //! ```text
 //! let mut place = MemPlace::new(alloc);                        // or FilePlace::new(alloc, &rt)
-//! let status = nanocube(&rt, &words, &mut place, &mut out);    // words: demo a.csv q.txt
+//! let status = nanocube(&rt, &words, &mut place, &mut out);    // words: run plan.json
 //! ```
 #![tactic(auto)]
 
 mod built_in;
 mod demo;
+mod line_words;
 mod nanocube;
 mod status;
 #[cfg(test)]

@@ -1,44 +1,89 @@
 //! The top call.
-ghost use Rattle.std.specs.Prelude.{◌≡◌, ◌↔◌, map, None, option_map, string_bytes};
-ghost use Rattle.cube_main.specs.Demo.{demo_names, DemoEnds, IfDemo};
-ghost use Rattle.cube_main.specs.Outside.{KeepsOutside};
+ghost use Rattle.std.specs.Prelude.{◌≡◌, ◌≤◌, ◌↔◌, map, string_bytes};
+ghost use Rattle.cube_main.specs.Big.{BigRunEnds, IfBig, most_generated_rows};
+ghost use Rattle.cube_main.specs.Demo.{DemoEnds, IfDemo};
+ghost use Rattle.cube_main.specs.Outside.{HasCauses, KeepsOutside};
+ghost use Rattle.cube_main.specs.Recount.{AuditEnds, IfRecount};
+ghost use Rattle.cube_main.specs.Run.{IfRun, PlanRunEnds};
+ghost use Rattle.cube_main.specs.Words.{AreNoForm};
 ghost use Rattle.run_files.specs.Outside.{seen_place, seen_sink};
 
 use crate::demo::demo;
+use crate::line_words::{big_rows, demo_files, recount_names, run_file};
 use crate::status::Status;
-use cube_view::is_same_text;
+use big_run::run_big;
 use outer_io::{Place, Sink};
+use plan_run::run_plan;
+use recount_run::{RecountNames, recount_files};
+use std::alloc::Global;
+use std::sync::Wait;
+use std::thread::Threads;
 
-// The names of the feed and the script, where the words are `demo FEED SCRIPT`.
-fn demo_files(words: &[String]) -> Option<(&str, &str)>
-    ensures { option_map (λ names. (names.0.now, names.1.now)) result ≡ demo_names (map string_bytes words.now) }
+// Runs the named plan, and says how that ended.
+fn run<R: AllocGlobal + Threads + Wait + Sync, P: Place, O: Sink>(
+    rt: &R,
+    plan: &str,
+    place: &mut P,
+    out: &mut O,
+) -> Status
+    ensures ends { PlanRunEnds (seen_place P.files P.read_faults P.write_faults P.opened P.created) (seen_sink O.held O.faults O.name) place.old place.new out.old out.new result plan.now }
 {
-    if words.len() == 3 && is_same_text(words[0].as_str().as_bytes(), b"demo") {
-        Some((words[1].as_str(), words[2].as_str()))
-    } else {
-        None
-    }
+    Status::of_end(run_plan(rt, rt.alloc(), plan, place, out))
+}
+
+// Runs two generated feeds of so many rows, and says how that ended.
+fn big<R: AllocGlobal + Threads + Wait + Sync, O: Sink>(rt: &R, rows: u32, out: &mut O) -> Status
+    requires rows { rows ≤ most_generated_rows }
+    ensures ends { BigRunEnds (seen_sink O.held O.faults O.name) out.old out.new result rows }
+{
+    Status::of_end(run_big(rt, rt.alloc(), rows, out))
+}
+
+// Audits a session's transcript from the named files, and says how that ended.
+fn audit<P: Place, O: Sink>(
+    alloc: Global,
+    names: &RecountNames<'_>,
+    place: &mut P,
+    out: &mut O,
+) -> Status
+    ensures ends { AuditEnds (seen_place P.files P.read_faults P.write_faults P.opened P.created) (seen_sink O.held O.faults O.name) place.old place.new out.old out.new result names.now.plan.now names.now.journal.now names.now.script.now names.now.replies.now }
+{
+    Status::of_audit(recount_files(alloc, names, place, out))
 }
 
 /// Runs what the words say over a place and a sink, and says how it ended.
 ///
-/// The form that is built is `demo FEED SCRIPT`: the feed is loaded, and then each line of the script has one reply on `out`.
-pub fn nanocube<R: AllocGlobal, P: Place, O: Sink>(
+/// `demo FEED SCRIPT` loads the feed, and then each line of the script has one reply on `out`. `run PLAN` loads the plan's
+/// feeds by threads while its scripts are answered, writes the replies and the journal to files, and a report to `out`.
+/// `big N` runs two generated feeds of N rows and puts a summary on `out`. `recount PLAN JOURNAL SCRIPT REPLIES` checks one
+/// session's transcript against the journal by plain filters, and puts one line on `out`.
+pub fn nanocube<R: AllocGlobal + Threads + Wait + Sync, P: Place, O: Sink>(
     rt: &R,
     words: &[String],
     place: &mut P,
     out: &mut O,
 ) -> Status
     // Which words are a form that is built. For others nothing is read or written.
-    ensures usage { (result ≡ Status.Usage) ↔ (demo_names (map string_bytes words.now) ≡ None) }
+    ensures usage { (result ≡ Status.Usage) ↔ AreNoForm (map string_bytes words.now) }
     ensures usage_leaves_all { result ≡ Status.Usage → (place.new ≡ place.old) × (out.new ≡ out.old) }
 
-    // How each form ends, and what all of them keep.
+    // How each form ends.
     ensures demo { IfDemo (map string_bytes words.now) (DemoEnds (seen_place P.files P.read_faults P.write_faults P.opened P.created) (seen_sink O.held O.faults O.name) place.old place.new out.old out.new result) }
-    ensures keeps { KeepsOutside (seen_place P.files P.read_faults P.write_faults P.opened P.created) (seen_sink O.held O.faults O.name) place.old place.new out.old out.new result }
+    ensures demo_keeps { IfDemo (map string_bytes words.now) (λ _ _. KeepsOutside (seen_place P.files P.read_faults P.write_faults P.opened P.created) (seen_sink O.held O.faults O.name) place.old place.new out.old out.new result) }
+    ensures run { IfRun (map string_bytes words.now) (PlanRunEnds (seen_place P.files P.read_faults P.write_faults P.opened P.created) (seen_sink O.held O.faults O.name) place.old place.new out.old out.new result) }
+    ensures big { IfBig (map string_bytes words.now) (λ rows. BigRunEnds (seen_sink O.held O.faults O.name) out.old out.new result rows × (place.new ≡ place.old)) }
+    ensures recount { IfRecount (map string_bytes words.now) (AuditEnds (seen_place P.files P.read_faults P.write_faults P.opened P.created) (seen_sink O.held O.faults O.name) place.old place.new out.old out.new result) }
+
+    // The causes of faults, whatever the form.
+    ensures causes { HasCauses (seen_place P.files P.read_faults P.write_faults P.opened P.created) (seen_sink O.held O.faults O.name) place.old place.new out.old out.new result }
 {
-    match demo_files(words) {
-        Some((feed, script)) => demo(rt.alloc(), feed, script, place, out),
-        None => Status::Usage,
+    if let Some(names) = recount_names(words) {
+        return audit(rt.alloc(), &names, place, out);
+    }
+    match (demo_files(words), run_file(words), big_rows(words)) {
+        (Some((feed, script)), _, _) => demo(rt.alloc(), feed, script, place, out),
+        (None, Some(plan), _) => run(rt, plan, place, out),
+        (None, None, Some(rows)) => big(rt, rows, out),
+        (None, None, None) => Status::Usage,
     }
 }

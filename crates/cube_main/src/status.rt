@@ -1,7 +1,9 @@
 //! How a run ended.
 ghost use Rattle.std.specs.Prelude.{◌≡◌};
+ghost use Rattle.cube_main.specs.Recount.{status_of_audit};
 ghost use Rattle.cube_main.specs.Statuses.{code_of, status_of_end};
 
+use recount_run::Audit;
 use run_files::Stop;
 
 /// How a run ended. Where several hold at the end, [`Stop`] has the order in which one is answered.
@@ -14,6 +16,7 @@ pub enum Status {
     ReadFault,
     WriteFault,
     FeedRefused,
+    Differs,
 }
 
 impl Status {
@@ -31,7 +34,18 @@ impl Status {
         }
     }
 
-    /// The exit code: 0, 2, 3, 4, 5, 6, 7 in the order written.
+    /// How an audit ended.
+    pub fn of_audit(end: Result<Audit, Stop>) -> Status
+        ensures { result ≡ status_of_audit end }
+    {
+        match end {
+            Ok(Audit::Agrees) => Status::Done,
+            Ok(Audit::Differs) => Status::Differs,
+            Err(stop) => Status::of_end(Err(stop)),
+        }
+    }
+
+    /// The exit code: 0, 2, 3, 4, 5, 6, 7, 9 in the order written.
     pub fn code(&self) -> u8
         ensures { result ≡ code_of self.now }
     {
@@ -43,6 +57,7 @@ impl Status {
             Status::ReadFault => 5,
             Status::WriteFault => 6,
             Status::FeedRefused => 7,
+            Status::Differs => 9,
         }
     }
 }

@@ -6,7 +6,9 @@ use crate::status::Status;
 use outer_io::{List, MemPlace, MemSink, StillPlace, StillSink};
 use std::alloc::{AllocError, Global};
 use std::process::Abort;
+use std::sync::Wait;
 use std::test::Fail;
+use std::thread::Threads;
 
 const FEED: &str = "x,y,kind,time\n0,0,a,5\n7,7,b,12\n0,0,a,15\n";
 
@@ -35,7 +37,7 @@ struct Case<'a> {
 
 /// Runs the case over files that fail at the given reads and a sink that fails at the given puts.
 fn run(
-    rt: &(impl Abort + AllocGlobal),
+    rt: &(impl Abort + AllocGlobal + Threads + Wait + Sync),
     case: &Case,
     feed_fails: &[u32],
     script_fails: &[u32],
@@ -65,7 +67,7 @@ fn run(
 
 /// A run over files and a sink that cannot fail has no fault of the outside.
 fn still_status(
-    rt: &impl AllocGlobal,
+    rt: &(impl AllocGlobal + Threads + Wait + Sync),
     line: &[String],
     place: &mut StillPlace,
     out: &mut StillSink,
@@ -77,7 +79,10 @@ fn still_status(
 }
 
 /// Runs the case over files and a sink that cannot fail.
-fn run_still(rt: &(impl Abort + AllocGlobal), case: &Case) -> Result<(), AllocError> {
+fn run_still(
+    rt: &(impl Abort + AllocGlobal + Threads + Wait + Sync),
+    case: &Case,
+) -> Result<(), AllocError> {
     let alloc = rt.alloc();
     let mut place = StillPlace::new(alloc);
     let feed = list(alloc, case.feed.as_bytes())?;
@@ -93,7 +98,10 @@ fn run_still(rt: &(impl Abort + AllocGlobal), case: &Case) -> Result<(), AllocEr
 }
 
 /// Runs the case over files of either kind, none of which fails.
-fn check(rt: &(impl Abort + AllocGlobal), case: &Case) -> Result<(), AllocError> {
+fn check(
+    rt: &(impl Abort + AllocGlobal + Threads + Wait + Sync),
+    case: &Case,
+) -> Result<(), AllocError> {
     run(rt, case, &[], &[], &[])?;
     run_still(rt, case)
 }
@@ -213,7 +221,10 @@ fn joined(alloc: Global, lines: &[(&[u8], &str)]) -> Result<(Vec<u8>, Vec<u8>), 
 }
 
 /// Runs the lines as a script, over the feed of three records.
-fn check_lines(rt: &(impl Abort + AllocGlobal), lines: &[(&[u8], &str)]) -> Result<(), AllocError> {
+fn check_lines(
+    rt: &(impl Abort + AllocGlobal + Threads + Wait + Sync),
+    lines: &[(&[u8], &str)],
+) -> Result<(), AllocError> {
     let (script, replies) = joined(rt.alloc(), lines)?;
     let case = Case {
         feed: FEED,
@@ -323,11 +334,25 @@ fn names_the_fault_of_the_outside(rt: HostRuntime) -> Result<(), Fail> {
 #[test]
 fn refuses_words_of_no_form_and_absent_feeds(rt: HostRuntime) -> Result<(), Fail> {
     let alloc = rt.alloc();
-    let lines: [(&[&str], Status); 4] = [
+    let lines: [(&[&str], Status); 15] = [
         (&[], Status::Usage),
+        (&["big"], Status::Usage),
         (&["big", "0"], Status::Usage),
+        (&["big", "01"], Status::Usage),
+        (&["big", "+1"], Status::Usage),
+        (&["big", "100001"], Status::Usage),
+        (&["big", "18446744073709551617"], Status::Usage),
+        (&["big", "1", "2"], Status::Usage),
         (&["demo", "a"], Status::Usage),
+        (&["run"], Status::Usage),
+        (&["run", "a", "b"], Status::Usage),
+        (&["recount", "a", "b", "c"], Status::Usage),
         (&["demo", "a.csv", "q.txt"], Status::ReadFault),
+        (&["run", "p.json"], Status::ReadFault),
+        (
+            &["recount", "p.json", "j.txt", "q.txt", "q.txt.out"],
+            Status::ReadFault,
+        ),
     ];
     for (line, status) in lines {
         let mut place = MemPlace::new(alloc);
@@ -339,5 +364,79 @@ fn refuses_words_of_no_form_and_absent_feeds(rt: HostRuntime) -> Result<(), Fail
         );
         assert_eq!(rt; out.bytes(), [].as_slice());
     }
+    Ok(())
+}
+
+/// The plan of one feed and one final.
+const PLAN: &str =
+    "{\"asks\":[],\"batch\":1,\"categories\":[{\"name\":\"kind\",\"values\":[\"a\",\"b\"]}],\"depth\":3,\"feeds\":[\"a.csv\"],\"finals\":[\"f.txt\"],\"journal\":\"j.txt\",\"start\":0,\"version\":1,\"width\":10}";
+
+/// What these words give over the place: the status, and what the sink has.
+fn given(
+    rt: &(impl Abort + AllocGlobal + Threads + Wait + Sync),
+    place: &mut MemPlace,
+    line: &[&str],
+) -> Result<(Status, MemSink), AllocError> {
+    let alloc = rt.alloc();
+    let mut out = MemSink::new(alloc, list(alloc, &[])?);
+    let line = words(alloc, line)?;
+    let status = nanocube(rt, line.as_slice(), place, &mut out);
+    Ok((status, out))
+}
+
+#[test]
+fn a_run_is_audited_from_its_files(rt: HostRuntime) -> Result<(), Fail> {
+    let alloc = rt.alloc();
+    let mut place = MemPlace::new(alloc);
+    for (name, text) in [
+        ("p.json", PLAN),
+        ("a.csv", FEED),
+        ("f.txt", "count\ntold\n"),
+    ] {
+        assert!(rt;
+            place
+                .put_file(name, list(alloc, text.as_bytes())?, 16, list(alloc, &[])?)
+                .is_ok()
+        );
+    }
+    let (status, out) = given(&rt, &mut place, &["run", "p.json"])?;
+    assert_eq!(rt; status, Status::Done);
+    assert_eq!(rt;
+        out.bytes(),
+        b"feed a.csv: 3 accepted, 0 blank, 0 refused\nscript f.txt: 2 replies, seen 3\njournal: 3 entries\n".as_slice()
+    );
+    let audit = ["recount", "p.json", "j.txt", "f.txt", "f.txt.out"];
+    let (status, out) = given(&rt, &mut place, &audit)?;
+    assert_eq!(rt; status, Status::Done);
+    assert_eq!(rt;
+        out.bytes(),
+        b"recount: 2 replies agree, 0 without memory\n".as_slice()
+    );
+    let wrong = "{\"rows\":[[4]],\"seen\":3}\n{\"told\":3}\n";
+    assert!(rt;
+        place
+            .put_file(
+                "f.txt.out",
+                list(alloc, wrong.as_bytes())?,
+                16,
+                list(alloc, &[])?
+            )
+            .is_ok()
+    );
+    let (status, out) = given(&rt, &mut place, &audit)?;
+    assert_eq!(rt; status, Status::Differs);
+    assert_eq!(rt; out.bytes(), b"recount: reply 1: Wrong\n".as_slice());
+    Ok(())
+}
+
+#[test]
+fn a_large_run_of_one_row_writes_six_lines(rt: HostRuntime) -> Result<(), Fail> {
+    let mut place = MemPlace::new(rt.alloc());
+    let (status, out) = given(&rt, &mut place, &["big", "1"])?;
+    assert_eq!(rt; status, Status::Done);
+    assert_eq!(rt;
+        out.bytes(),
+        b"feed gen1: 1 accepted, 0 blank, 0 refused\nfeed gen2: 1 accepted, 0 blank, 0 refused\n{\"rows\":[[2]],\"seen\":2}\n{\"rows\":[[\"a\",1],[\"b\",0],[\"c\",0],[\"d\",1]],\"seen\":2}\n{\"rows\":[[1,0,0,1],[1,1,1,1]],\"seen\":2}\n{\"rows\":[[0,0],[256,0],[512,0],[768,2]],\"seen\":2}\n".as_slice()
+    );
     Ok(())
 }

@@ -30,8 +30,8 @@ use Rattle.plan_run.proofs.Said.{completes, opening_refused, opening_said, silen
 use Rattle.plan_run.proofs.Whole.{all_quiet, completed}
 use Rattle.plan_run.proofs.Zips.{AllZip-right}
 use Rattle.plan_run.specs.Completed.{IsCompleted}
-use Rattle.plan_run.specs.Ends.{IsDone, IsRefused, LeavesNames, PutsOrFails, RunEnds, Says}
-use Rattle.plan_run.specs.Parts.{GivesBack, RunsParts, done_of, jobs_of}
+use Rattle.plan_run.specs.Ends.{IsDone, HasRefusedInput, LeavesNames, PutsOrFails, RunEnds, SaysOfRun}
+use Rattle.plan_run.specs.Parts.{GivesBack, RunsParts, run_done_of, jobs_of}
 use Rattle.plan_run.specs.Seen.{PartSeen}
 use Rattle.run_files.proofs.Stages.{KeepsOthers-after, KeepsOthers-more, all_opened}
 use Rattle.run_files.specs.Leaving.{KeepsOthers, LeavesPlace}
@@ -89,7 +89,7 @@ module _ {P T : Type 0} (p : PlaceSeen P) (t : SinkSeen T) where
     complete = completes p t place mid out out1 name opens.plan (Err stop) (λ e. (opens.refused_plan (same_stop stop PlanRefused e)).0) refused (λ e. opens.leaves.read (same_stop stop ReadFault e)) write;
   }
     where
-      refused : ended stop ≡ Err FeedRefused → (which : Plan) × (opens.plan ≡ Some which) × Told (p.files place) (λ files. IsRefused files which)
+      refused : ended stop ≡ Err FeedRefused → (which : Plan) × (opens.plan ≡ Some which) × Told (p.files place) (λ files. HasRefusedInput files which)
       refused e = opening_refused p t place mid out out1 name stop opens.plan opens.leaves.opens opens.leaves.makes (cc e) opens.unplanned opens.order
 
       write : ended stop ≡ Err WriteFault → Rose (p.write_faults place) (p.write_faults mid) ⊎ Rose (t.faults out) (t.faults out1)
@@ -119,7 +119,7 @@ module _ {P T : Type 0} (p : PlaceSeen P) (t : SinkSeen T) where
       both_named asks finals one two = map-append s.name asks finals ∙ ap (λ ns. ns ++ map s.name finals) one ∙ ap (λ ns. outputs plan.asks ++ ns) two
 
       module _ (result : Result (Unit {0}) Stop) (crewed : Crewed I O) (ran : IsCrewed i.left i.faults s.held s.faults s.name OwnsAllButRoot plan.schema (jobs_of parts) crewed)
-          (closes : ClosesRun plan (done_of crewed parts.journal) p s t i.faults mid place' out1 out' result) where
+          (closes : ClosesRun plan (run_done_of crewed parts.journal) p s t i.faults mid place' out1 out' result) where
         fresh : All (λ (job : FeedJob I). i.faults job.cutter.source ≡ 0) parts.feeds
         fresh = AllZip-right (λ name. IsJobOf i.left i.faults plan.schema (file_of (p.files place) name)) (λ (job : FeedJob I). i.faults job.cutter.source ≡ 0) plan.feeds parts.feeds (λ name job is. is.fresh) ready.feeds
 
@@ -166,7 +166,7 @@ module _ {P T : Type 0} (p : PlaceSeen P) (t : SinkSeen T) where
 
         is_done : result ≡ Ok tt → IsDone p t place place' out out' name plan
         is_done well =
-            let closed : ClosesRun plan (done_of crewed parts.journal) p s t i.faults mid place' out1 out' (Ok tt) = subst (ClosesRun plan (done_of crewed parts.journal) p s t i.faults mid place' out1 out') well closes in
+            let closed : ClosesRun plan (run_done_of crewed parts.journal) p s t i.faults mid place' out1 out' (Ok tt) = subst (ClosesRun plan (run_done_of crewed parts.journal) p s t i.faults mid place' out1 out') well closes in
             let quiet = all_quiet p i s t plan parts mid place' out1 out' (p.files place) crewed ready ran closed in
             record {
               opened = opened ∙ leaves.opened ∙ ap (λ ns. p.opened place ++ ns) (sym (all_opened p place mid (name ∷ input_names plan) (output_names plan) leaves));
@@ -179,7 +179,7 @@ module _ {P T : Type 0} (p : PlaceSeen P) (t : SinkSeen T) where
             }
 
         abbrev done : RunDone I O
-        done = done_of crewed parts.journal
+        done = run_done_of crewed parts.journal
 
         abbrev feed_ends : FeedDone I → End
         feed_ends d = feed_end d.fault
@@ -188,7 +188,7 @@ module _ {P T : Type 0} (p : PlaceSeen P) (t : SinkSeen T) where
         session_ends d = session_end d.fault
 
         -- which feed or script is refused
-        is_refused : result ≡ Err FeedRefused → (files : Files) → p.files place ≡ Some files → IsRefused files plan
+        is_refused : result ≡ Err FeedRefused → (files : Files) → p.files place ≡ Some files → HasRefusedInput files plan
         is_refused is files told = by (all_err (threads_end done ∷ write_end closes.wrote ∷ closes.given ∷ write_end closes.kept ∷ closes.said ∷ []) FeedRefused (sym closes.ends ∙ is))
           where
             it_is : AreReady i.left i.faults s (Some files) plan parts
@@ -200,10 +200,10 @@ module _ {P T : Type 0} (p : PlaceSeen P) (t : SinkSeen T) where
                 large_scripts i s OwnsAllButRoot plan.schema final crewed.closed crewed.starved (entry_points crewed.journal) files names befores dones are leave
                 (any_unmapped session_ends (λ end. end ≡ Err FeedRefused) dones (all_err (map session_ends dones) FeedRefused end))
 
-            among : AnyOf (λ name. input_limit < length (file_or_empty files name)) (plan.asks ++ plan.finals) → IsRefused files plan
+            among : AnyOf (λ name. input_limit < length (file_or_empty files name)) (plan.asks ++ plan.finals) → HasRefusedInput files plan
             among any = inr (any_in (λ name. input_limit < length (file_or_empty files name)) (plan.asks ++ plan.finals) any)
 
-            threads : AnyOf (λ end. end ≡ Err FeedRefused) (starved_end crewed.starved ∷ feeds_end crewed.feeds ∷ sessions_end crewed.asks ∷ sessions_end crewed.finals ∷ []) → IsRefused files plan
+            threads : AnyOf (λ end. end ≡ Err FeedRefused) (starved_end crewed.starved ∷ feeds_end crewed.feeds ∷ sessions_end crewed.asks ∷ sessions_end crewed.finals ∷ []) → HasRefusedInput files plan
             threads (inl starved) = absurd (starved_of crewed.starved FeedRefused (λ e. cc e) starved)
             threads (inr (inl fed)) =
                 inl (any_in (λ name. is_feed_refused plan.schema (file_or_empty files name) ≡ true) plan.feeds
@@ -212,7 +212,7 @@ module _ {P T : Type 0} (p : PlaceSeen P) (t : SinkSeen T) where
             threads (inr (inr (inr (inl last)))) = among (any_right (λ name. input_limit < length (file_or_empty files name)) plan.asks plan.finals (script true plan.finals parts.finals crewed.finals it_is.finals ran.finals last))
             threads (inr (inr (inr (inr none)))) = absurd none
 
-            by : AnyOf (λ end. end ≡ Err FeedRefused) (threads_end done ∷ write_end closes.wrote ∷ closes.given ∷ write_end closes.kept ∷ closes.said ∷ []) → IsRefused files plan
+            by : AnyOf (λ end. end ≡ Err FeedRefused) (threads_end done ∷ write_end closes.wrote ∷ closes.given ∷ write_end closes.kept ∷ closes.said ∷ []) → HasRefusedInput files plan
             by (inl e) = threads (all_err (starved_end crewed.starved ∷ feeds_end crewed.feeds ∷ sessions_end crewed.asks ∷ sessions_end crewed.finals ∷ []) FeedRefused e)
             by (inr (inl wrote)) = absurd (write_not_refused closes.wrote wrote)
             by (inr (inr (inl given))) = absurd (closes.parts.sinks_back.only.2 given)
@@ -220,17 +220,17 @@ module _ {P T : Type 0} (p : PlaceSeen P) (t : SinkSeen T) where
             by (inr (inr (inr (inr (inl said))))) = absurd (closes.report.ends.2 said)
             by (inr (inr (inr (inr (inr none))))) = absurd none
 
-        refused : result ≡ Err FeedRefused → (which : Plan) × (Some plan ≡ Some which) × Told (p.files place) (λ files. IsRefused files which)
-        refused e = (plan, refl, told_by (p.files place) (λ files. IsRefused files plan) (λ files told. is_refused e files told))
+        refused : result ≡ Err FeedRefused → (which : Plan) × (Some plan ≡ Some which) × Told (p.files place) (λ files. HasRefusedInput files which)
+        refused e = (plan, refl, told_by (p.files place) (λ files. HasRefusedInput files plan) (λ files told. is_refused e files told))
 
         not_plan : result ≢ Err PlanRefused
-        not_plan e = closing_not_plan p i.faults s t plan (done_of crewed parts.journal) mid place' out1 out' result ready.journal.fresh feeds asks finals closes e
+        not_plan e = closing_not_plan p i.faults s t plan (run_done_of crewed parts.journal) mid place' out1 out' result ready.journal.fresh feeds asks finals closes e
 
         read_rose : result ≡ Err ReadFault → Rose (p.read_faults place) (p.read_faults place')
-        read_rose e = subst (λ n. Rose n (p.read_faults place')) read_before (closing_read p i.faults s t plan (done_of crewed parts.journal) mid place' out1 out' result ready.journal.fresh feeds asks finals closes e)
+        read_rose e = subst (λ n. Rose n (p.read_faults place')) read_before (closing_read p i.faults s t plan (run_done_of crewed parts.journal) mid place' out1 out' result ready.journal.fresh feeds asks finals closes e)
 
         write_rose : result ≡ Err WriteFault → Rose (p.write_faults place) (p.write_faults place') ⊎ Rose (t.faults out) (t.faults out')
-        write_rose e = written (closing_write p i.faults s t plan (done_of crewed parts.journal) mid place' out1 out' result ready.journal.fresh feeds asks finals closes e)
+        write_rose e = written (closing_write p i.faults s t plan (run_done_of crewed parts.journal) mid place' out1 out' result ready.journal.fresh feeds asks finals closes e)
           where
             written : Rose (p.write_faults mid) (p.write_faults place') ⊎ Rose (t.faults out1) (t.faults out') → Rose (p.write_faults place) (p.write_faults place') ⊎ Rose (t.faults out) (t.faults out')
             written (inl rose) = inl (subst (λ n. Rose n (p.write_faults place')) write_before rose)
@@ -255,7 +255,7 @@ module _ {P T : Type 0} (p : PlaceSeen P) (t : SinkSeen T) where
             by (Ok x) is = (plan, refl, is_done is)
             by (Err e) is = tt
 
-            says : Silent t out out' ⊎ PutsOrFails t out out' (run_text plan done) → Says p t place place' out out' name (Some plan)
+            says : Silent t out out' ⊎ PutsOrFails t out out' (run_text plan done) → SaysOfRun p t place place' out out' name (Some plan)
             says (inl quiet) = inl quiet
             says (inr puts) = inr (inr (map feed_counts crewed.feeds, map script_counts crewed.asks, map script_counts crewed.finals, crewed.closed, length crewed.journal, puts))
 

@@ -12,7 +12,7 @@ use Rattle.outer_io.specs.Faults.{Rose}
 use Rattle.outer_io.specs.Files.{Files, file_or_empty}
 use Rattle.outer_io.specs.Lines.{input_limit}
 use Rattle.outer_io.specs.Told.{Told}
-use Rattle.plan_run.specs.Ends.{IsDoneOrLacking, IsRefused, PutsOrFails, Says}
+use Rattle.plan_run.specs.Ends.{IsDoneOrLacking, HasRefusedInput, PutsOrFails, SaysOfRun}
 use Rattle.run_files.specs.Headed.{RefusesLast}
 use Rattle.run_files.specs.Outside.{FailsToPut, file_of, PlaceSeen, Puts, Silent, SinkSeen}
 use Rattle.run_files.specs.declared.stop.Stop.{Stop}
@@ -62,7 +62,7 @@ module _ {P T : Type 0} (p : PlaceSeen P) (t : SinkSeen T) (place mid : P) (out 
   InOrder stop opens makes plan = (later : List (List ℕ)) × (opens ≡ name ∷ later) × OpensInOrder t plan (p.files place) (p.write_faults place) (p.write_faults mid) out out1 later makes (Some stop)
 
   -- what is said where opening ends a run
-  pub opening_said : (stop : Stop) (plan : Option Plan) (opens makes : List (List ℕ)) → OpensRun p t place mid out out1 name None (Some stop) → (plan ≡ None → Unplanned stop) → IfSome plan (InOrder stop opens makes) → Says p t place mid out out1 name plan
+  pub opening_said : (stop : Stop) (plan : Option Plan) (opens makes : List (List ℕ)) → OpensRun p t place mid out out1 name None (Some stop) → (plan ≡ None → Unplanned stop) → IfSome plan (InOrder stop opens makes) → SaysOfRun p t place mid out out1 name plan
   opening_said NoMemory None opens makes run unplanned order = inl (run.silent (λ e. cc) (λ e. cc) (λ e. cc))
   opening_said ReadFault None opens makes run unplanned order = inl (run.silent (λ e. cc) (λ e. cc) (λ e. cc))
   opening_said PlanRefused None opens makes run unplanned order = inr (run.refused_plan refl).1
@@ -88,7 +88,7 @@ module _ {P T : Type 0} (p : PlaceSeen P) (t : SinkSeen T) (place mid : P) (out 
       inr (inl (later, said_else plan.schema (file_of (p.files place)) later (Puts t out out1) (PutsOrFails t out out1) (λ text puts. inl puts) (feeds.refused refl)))
 
   -- and which feed is refused where it says so
-  pub opening_refused : (stop : Stop) (plan : Option Plan) (opens makes : List (List ℕ)) → stop ≡ FeedRefused → (plan ≡ None → Unplanned stop) → IfSome plan (InOrder stop opens makes) → (which : Plan) × (plan ≡ Some which) × Told (p.files place) (λ files. IsRefused files which)
+  pub opening_refused : (stop : Stop) (plan : Option Plan) (opens makes : List (List ℕ)) → stop ≡ FeedRefused → (plan ≡ None → Unplanned stop) → IfSome plan (InOrder stop opens makes) → (which : Plan) × (plan ≡ Some which) × Told (p.files place) (λ files. HasRefusedInput files which)
   opening_refused stop None opens makes is unplanned order = absurd (none (unplanned refl))
     where
       none : ¬ Unplanned stop
@@ -102,14 +102,14 @@ module _ {P T : Type 0} (p : PlaceSeen P) (t : SinkSeen T) (place mid : P) (out 
       subst (λ names. Contains names last.name) (sym feeds.feeds_are) (Contains-append_left later feeds.unopened last.name (subst (λ names. Contains names last.name) (sym last.names_are) (Contains-push last.earlier last.name))) in
       (plan, refl, of_files (p.files place) last.name among last.refuses.fault last.refuses.refused)
     where
-      of_files : (files : Option Files) (feed : List ℕ) → Contains plan.feeds feed → (fault : HeadFault) → Told (file_of files feed) (λ bytes. feed_head plan.schema bytes ≡ Err fault) → Told files (λ files. IsRefused files plan)
+      of_files : (files : Option Files) (feed : List ℕ) → Contains plan.feeds feed → (fault : HeadFault) → Told (file_of files feed) (λ bytes. feed_head plan.schema bytes ≡ Err fault) → Told files (λ files. HasRefusedInput files plan)
       of_files None feed among fault refused = tt
       of_files (Some files) feed among fault refused = inl (feed, among, headless plan.schema (file_or_empty files feed) fault refused)
 
   -- where nothing is refused and no count rose a run is done, or memory was wanted
-  pub completes : (plan : Option Plan) (result : Result (Unit {0}) Stop) → (result ≡ Err PlanRefused → plan ≡ None) → (result ≡ Err FeedRefused → (which : Plan) × (plan ≡ Some which) × Told (p.files place) (λ files. IsRefused files which))
+  pub completes : (plan : Option Plan) (result : Result (Unit {0}) Stop) → (result ≡ Err PlanRefused → plan ≡ None) → (result ≡ Err FeedRefused → (which : Plan) × (plan ≡ Some which) × Told (p.files place) (λ files. HasRefusedInput files which))
       → (result ≡ Err ReadFault → Rose (p.read_faults place) (p.read_faults mid)) → (result ≡ Err WriteFault → Rose (p.write_faults place) (p.write_faults mid) ⊎ Rose (t.faults out) (t.faults out1))
-      → ¬ Rose (p.read_faults place) (p.read_faults mid) → ¬ Rose (p.write_faults place) (p.write_faults mid) → ¬ Rose (t.faults out) (t.faults out1) → (files : Files) → p.files place ≡ Some files → IfSome plan (λ which. ¬ IsRefused files which → IsDoneOrLacking result)
+      → ¬ Rose (p.read_faults place) (p.read_faults mid) → ¬ Rose (p.write_faults place) (p.write_faults mid) → ¬ Rose (t.faults out) (t.faults out1) → (files : Files) → p.files place ≡ Some files → IfSome plan (λ which. ¬ HasRefusedInput files which → IsDoneOrLacking result)
   completes None result refused_plan refused read write no_read no_write no_out files told = tt
   completes (Some plan) (Ok x) refused_plan refused read write no_read no_write no_out files told = λ fine. inl refl
   completes (Some plan) (Err NoMemory) refused_plan refused read write no_read no_write no_out files told = λ fine. inr refl
@@ -123,4 +123,4 @@ module _ {P T : Type 0} (p : PlaceSeen P) (t : SinkSeen T) (place mid : P) (out 
   completes (Some plan) (Err FeedRefused) refused_plan refused read write no_read no_write no_out files told = λ fine.
       let one = refused refl in
       let same : one.0 ≡ plan = cc (one.1) in
-      absurd (fine (subst (IsRefused files) same (Told-some (p.files place) files (λ files. IsRefused files one.0) told one.2)))
+      absurd (fine (subst (HasRefusedInput files) same (Told-some (p.files place) files (λ files. HasRefusedInput files one.0) told one.2)))

@@ -29,7 +29,7 @@ use Rattle.plan_run.proofs.Joined.{All-unmapped, IsWell, all_well, feed_well, se
 use Rattle.plan_run.proofs.Landed.{All-back, All-front, AllPairs-back, AllPairs-front, AllPairs-last, all_landed, some_is, told_pair}
 use Rattle.plan_run.proofs.Zips.{AllZip-length, AllZip-right}
 use Rattle.plan_run.specs.Completed.{IsCompleted, reply_counts, whole_rows}
-use Rattle.plan_run.specs.Parts.{done_of, jobs_of}
+use Rattle.plan_run.specs.Parts.{run_done_of, jobs_of}
 use Rattle.plan_run.specs.Seen.{PartSeen}
 use Rattle.run_files.specs.GivingBack.{Lands, TakesSinks}
 use Rattle.run_files.specs.Outside.{file_of, PlaceSeen, Puts as Said, SinkSeen}
@@ -58,7 +58,7 @@ none_is_none o f none is = cc
 
 module _ {P I O T : Type 0} (p : PlaceSeen P) (i : PartSeen I) (s : SinkSeen O) (t : SinkSeen T) (plan : Plan) (parts : RunParts I O) (place place' : P) (out out' : T) where
   -- What ended well of a run that was closed, and was to end well
-  pub record EndsWell (crewed : Crewed I O) (closes : ClosesRun plan (done_of crewed parts.journal) p s t i.faults place place' out out' (Ok tt)) : Type 0 where
+  pub record EndsWell (crewed : Crewed I O) (closes : ClosesRun plan (run_done_of crewed parts.journal) p s t i.faults place place' out out' (Ok tt)) : Type 0 where
     pub fed : crewed.starved ≡ false
     pub feeds : All (λ (done : FeedDone I). done.fault ≡ None) crewed.feeds
     pub asks : All (λ (done : SessionDone I O). done.fault ≡ None) crewed.asks
@@ -68,9 +68,9 @@ module _ {P I O T : Type 0} (p : PlaceSeen P) (i : PartSeen I) (s : SinkSeen O) 
     pub kept : closes.kept ≡ Ok tt
     pub said : closes.said ≡ Ok tt
 
-  pub ends_well : (crewed : Crewed I O) (closes : ClosesRun plan (done_of crewed parts.journal) p s t i.faults place place' out out' (Ok tt)) → EndsWell crewed closes
+  pub ends_well : (crewed : Crewed I O) (closes : ClosesRun plan (run_done_of crewed parts.journal) p s t i.faults place place' out out' (Ok tt)) → EndsWell crewed closes
   ends_well crewed closes =
-      let done = done_of crewed parts.journal in
+      let done = run_done_of crewed parts.journal in
       let five = all_well (threads_end done ∷ write_end closes.wrote ∷ closes.given ∷ write_end closes.kept ∷ closes.said ∷ []) (sym closes.ends) in
       let threads = All-head IsWell (threads_end done) (write_end closes.wrote ∷ closes.given ∷ write_end closes.kept ∷ closes.said ∷ []) five in
       let four = All-tail IsWell (threads_end done) (write_end closes.wrote ∷ closes.given ∷ write_end closes.kept ∷ closes.said ∷ []) five in
@@ -102,7 +102,7 @@ module _ {P I O T : Type 0} (p : PlaceSeen P) (i : PartSeen I) (s : SinkSeen O) 
 
   -- the files of a run that was closed and ended well
   pub completed : (files now : Files) (crewed : Crewed I O) → NamesFiles plan → AreReady i.left i.faults s (Some files) plan parts → IsCrewed i.left i.faults s.held s.faults s.name OwnsAllButRoot plan.schema (jobs_of parts) crewed
-      → p.files place ≡ Some now → (closes : ClosesRun plan (done_of crewed parts.journal) p s t i.faults place place' out out' (Ok tt)) → IsSomeAnd (p.files place') (λ files'. IsCompleted plan files files' (t.held out) (t.held out'))
+      → p.files place ≡ Some now → (closes : ClosesRun plan (run_done_of crewed parts.journal) p s t i.faults place place' out out' (Ok tt)) → IsSomeAnd (p.files place') (λ files'. IsCompleted plan files files' (t.held out) (t.held out'))
   completed files now crewed names ready ran told closes =
       let well = ends_well crewed closes in
       let found = ran.found well.fed in
@@ -171,7 +171,7 @@ module _ {P I O T : Type 0} (p : PlaceSeen P) (i : PartSeen I) (s : SinkSeen O) 
 
   -- no count rose in a run that was closed and ended well
   pub all_quiet : (files : Option Files) (crewed : Crewed I O) → AreReady i.left i.faults s files plan parts → IsCrewed i.left i.faults s.held s.faults s.name OwnsAllButRoot plan.schema (jobs_of parts) crewed
-      → (closes : ClosesRun plan (done_of crewed parts.journal) p s t i.faults place place' out out' (Ok tt)) → (p.read_faults place' ≡ p.read_faults place) × (p.write_faults place' ≡ p.write_faults place) × (t.faults out' ≡ t.faults out)
+      → (closes : ClosesRun plan (run_done_of crewed parts.journal) p s t i.faults place place' out out' (Ok tt)) → (p.read_faults place' ≡ p.read_faults place) × (p.write_faults place' ≡ p.write_faults place) × (t.faults out' ≡ t.faults out)
   all_quiet files crewed ready ran closes =
       let well = ends_well crewed closes in
       let points = entry_points crewed.journal in
@@ -191,7 +191,7 @@ module _ {P I O T : Type 0} (p : PlaceSeen P) (i : PartSeen I) (s : SinkSeen O) 
       let kept = (closes.journal.counts.cause journal_quiet).quiet (λ bad. ok_is_no_fault (subst (λ r. IsErrOf r io.Failed) well.kept bad)) in (
         closes.journal.read_faults ∙ back.sinks_back.read_faults ∙ read,
         kept ∙ sinks_back sinks_quiet ∙ back.finals_back.write_faults ∙ back.asks_back.write_faults ∙ back.feeds_back.write_faults,
-        (subst (λ r. OnOk r (Said t out out' (run_text plan (done_of crewed parts.journal)))) well.said closes.report.puts).faults,
+        (subst (λ r. OnOk r (Said t out out' (run_text plan (run_done_of crewed parts.journal)))) well.said closes.report.puts).faults,
       )
     where
       quiet_feeds : (dones : List (FeedDone I)) → All (FeedCause i.faults) dones → All (λ (done : FeedDone I). done.fault ≡ None) dones → All (λ n. n ≡ 0) (map (λ (done : FeedDone I). i.faults done.source) dones)

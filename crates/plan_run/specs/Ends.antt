@@ -37,8 +37,8 @@ pub record LeavesNames {P : Type 0} (p : PlaceSeen P) (before after : P) (inputs
   pub others : KeepsOthers (p.files before) (p.files after) makes
 
 -- a feed of the plan is refused, by its header or its length, or a script of it has more than 2^30 bytes
-abbrev pub IsRefused : Files → Plan → Type 0
-IsRefused files plan =
+abbrev pub HasRefusedInput : Files → Plan → Type 0
+HasRefusedInput files plan =
     ((name : List ℕ) × Contains plan.feeds name × (is_feed_refused plan.schema (file_or_empty files name) ≡ true))
     ⊎ ((name : List ℕ) × Contains (plan.asks ++ plan.finals) name × (input_limit < length (file_or_empty files name)))
 
@@ -66,9 +66,9 @@ module _ {P T : Type 0} (p : PlaceSeen P) (s : SinkSeen T) (place place' : P) (o
   Reports plan = (feeds : List FeedCounts) × (asks : List ScriptCounts) × (finals : List ScriptCounts) × (closed : Bool) × (count : ℕ) × PutsOrFails s out out' (counts_text plan feeds asks finals closed count)
 
   -- what a run puts: nothing, or the line of a refused plan, or that of the refused feed which was opened last, or a report
-  abbrev pub Says : List ℕ → Option Plan → Type 0
-  Says name None = Silent s out out' ⊎ RefusesPlan s out out' (file_of (p.files place) name)
-  Says name (Some plan) = Silent s out out' ⊎ ((opens : List (List ℕ)) × RefusesLast plan.schema (file_of (p.files place)) opens (PutsOrFails s out out')) ⊎ Reports plan
+  abbrev pub SaysOfRun : List ℕ → Option Plan → Type 0
+  SaysOfRun name None = Silent s out out' ⊎ RefusesPlan s out out' (file_of (p.files place) name)
+  SaysOfRun name (Some plan) = Silent s out out' ⊎ ((opens : List (List ℕ)) × RefusesLast plan.schema (file_of (p.files place)) opens (PutsOrFails s out out')) ⊎ Reports plan
 
   -- How a run of the plan of that name ends
   pub record RunEnds (name : List ℕ) (result : Result (Unit {0}) Stop) : Type 0 where
@@ -84,12 +84,12 @@ module _ {P T : Type 0} (p : PlaceSeen P) (s : SinkSeen T) (place place' : P) (o
     -- with Ok the run is completed
     pub done : OnOk result ((which : Plan) × (plan ≡ Some which) × IsDone name which)
     -- of what it puts nothing else comes
-    pub said : Says name plan
+    pub said : SaysOfRun name plan
     -- a feed is refused only where one is, or a script is too large
-    pub refused : result ≡ Err FeedRefused → (which : Plan) × (plan ≡ Some which) × Told (p.files place) (λ files. IsRefused files which)
+    pub refused : result ≡ Err FeedRefused → (which : Plan) × (plan ≡ Some which) × Told (p.files place) (λ files. HasRefusedInput files which)
     -- a read fault comes only where the place's count of reading rose
     pub read : result ≡ Err ReadFault → Rose (p.read_faults place) (p.read_faults place')
     -- a write fault only where its count of writing rose, or the sink's
     pub write : result ≡ Err WriteFault → Rose (p.write_faults place) (p.write_faults place') ⊎ Rose (s.faults out) (s.faults out')
     -- where there is a plan, nothing is refused and no count rose, the run is done, or memory was wanted
-    pub complete : ¬ Rose (p.read_faults place) (p.read_faults place') → ¬ Rose (p.write_faults place) (p.write_faults place') → ¬ Rose (s.faults out) (s.faults out') → (files : Files) → p.files place ≡ Some files → IfSome plan (λ which. ¬ IsRefused files which → IsDoneOrLacking result)
+    pub complete : ¬ Rose (p.read_faults place) (p.read_faults place') → ¬ Rose (p.write_faults place) (p.write_faults place') → ¬ Rose (s.faults out) (s.faults out') → (files : Files) → p.files place ≡ Some files → IfSome plan (λ which. ¬ HasRefusedInput files which → IsDoneOrLacking result)

@@ -22,8 +22,8 @@ abbrev pub jobs_of : {I O : Type 0} → RunParts I O → Jobs I O
 jobs_of parts = record { feeds = parts.feeds; asks = parts.asks; finals = parts.finals }
 
 -- what is closed once they have run
-abbrev pub done_of : {I O : Type 0} → Crewed I O → O → RunDone I O
-done_of c journal = record { feeds = c.feeds; asks = c.asks; finals = c.finals; entries = c.journal; journal = journal; closed = c.closed; starved = c.starved }
+abbrev pub run_done_of : {I O : Type 0} → Crewed I O → O → RunDone I O
+run_done_of c journal = record { feeds = c.feeds; asks = c.asks; finals = c.finals; entries = c.journal; journal = journal; closed = c.closed; starved = c.starved }
 
 module _ {P I O : Type 0} (p : PlaceSeen P) (i : PartSeen I) (s : SinkSeen O) where
   -- The parts were given back as they were: the sources, and then the sinks, the journal's last
@@ -45,7 +45,7 @@ module _ {P I O T : Type 0} (p : PlaceSeen P) (i : PartSeen I) (s : SinkSeen O) 
   pub record Runs (plan : Plan) (parts : RunParts I O) (place place' : P) (out out' : T) (result : Result (Unit {0}) Stop) : Type 0 where
     pub crewed : Crewed I O
     pub ran : IsCrewed i.left i.faults s.held s.faults s.name OwnsAllButRoot plan.schema (jobs_of parts) crewed
-    pub closes : ClosesRun plan (done_of crewed parts.journal) p s t i.faults place place' out out' result
+    pub closes : ClosesRun plan (run_done_of crewed parts.journal) p s t i.faults place place' out out' result
 
   -- The parts ran, or, where that found no memory to begin with, were given back
   abbrev pub RunsParts : Plan → RunParts I O → P → P → T → T → Result (Unit {0}) Stop → Type 0

@@ -4,7 +4,7 @@ ghost use Rattle.cube_crew.specs.Begins.{MayRun};
 ghost use Rattle.cube_crew.specs.Crewed.{IsCrewed};
 ghost use Rattle.cube_store.specs.Numbers.{OwnsAllButRoot};
 ghost use Rattle.plan_run.specs.Ends.{RunEnds};
-ghost use Rattle.plan_run.specs.Parts.{RunsParts, done_of};
+ghost use Rattle.plan_run.specs.Parts.{RunsParts, run_done_of};
 ghost use Rattle.plan_run.specs.Seen.{seen_part};
 ghost use Rattle.run_files.specs.Outside.{seen_place, seen_sink};
 ghost use Rattle.run_opening.specs.Opening.{AreFit};
@@ -40,8 +40,8 @@ fn run_jobs<R: Threads + Wait + Sync, I: Source + Send, O: Sink + Send>(
 }
 
 /// What is closed of a run once its jobs have run.
-fn done_of<I: Source, O: Sink>(crewed: Crewed<I, O>, journal: O) -> RunDone<I, O>
-    ensures { result ≡ done_of crewed journal }
+fn run_done_of<I: Source, O: Sink>(crewed: Crewed<I, O>, journal: O) -> RunDone<I, O>
+    ensures { result ≡ run_done_of crewed journal }
 {
     let Crewed {
         feeds,
@@ -89,7 +89,7 @@ fn run_parts<R: Threads + Wait + Sync, P: Place, O: Sink>(
         finals,
     };
     match run_jobs(rt, alloc, &plan.schema, jobs) {
-        Ok(crewed) => close_run(alloc, plan, done_of(crewed, journal), room, place, out),
+        Ok(crewed) => close_run(alloc, plan, run_done_of(crewed, journal), room, place, out),
         Err(jobs) => {
             let Jobs {
                 feeds,

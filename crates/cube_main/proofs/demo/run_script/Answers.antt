@@ -1,7 +1,7 @@
-use Rattle.std.proofs.Common.{◌∙◌, ◌≡◌, ◌++◌, ◌∷◌, [], refl, sym, subst}
+use Rattle.std.proofs.Common.{◌∙◌, sym, subst}
 use Rattle.std.proofs.lemmas.List.{append-nil}
 use Rattle.cube_main.proofs.Answered.{answered_file, unopened_file}
-use Rattle.cube_main.specs.Answering.{status_of_script, AnswersFile}
+use Rattle.cube_main.specs.Answering.{AnswersFile}
 use Rattle.run_files.specs.Outside.{seen_place, seen_sink}
 use Rattle.cube_main.specs.declared.status.Status.{Status}
 use Rattle.cube_view.specs.Bag.{Counts}
@@ -27,12 +27,12 @@ returns-in-Ok-clause-answers g c =
 
 pub returns-in-Err-Failed-clause-answers : goal.returns-in-Err-Failed-clause-answers
 returns-in-Err-Failed-clause-answers g c =
-    unopened_file _ _ _ _ _ _ _ _ _ _ (λ e. cc, λ e. cc) (λ e. cc) (λ e. cc)
+    unopened_file _ _ _ _ _ _ _ _ _ _ (λ e. cc, λ e. cc, λ e. cc) (λ e. cc) (λ e. cc)
     (1, c.in-Err-Failed.ensures.opened.noted (λ e. cc))
     (record { files = c.in-Err-Failed.ensures.files; created = c.in-Err-Failed.ensures.writing.1; write_faults = c.in-Err-Failed.ensures.writing.0 })
 
 pub returns-in-Err-NoMemory-clause-answers : goal.returns-in-Err-NoMemory-clause-answers
 returns-in-Err-NoMemory-clause-answers g c =
-    unopened_file _ _ _ _ _ _ _ _ _ _ (λ e. cc, λ e. cc) (λ e. cc) (λ e. cc)
+    unopened_file _ _ _ _ _ _ _ _ _ _ (λ e. cc, λ e. cc, λ e. cc) (λ e. cc) (λ e. cc)
     (0, c.in-Err-NoMemory.ensures.opened.unnoted (cc) ∙ sym (append-nil _))
     (record { files = c.in-Err-NoMemory.ensures.files; created = c.in-Err-NoMemory.ensures.writing.1; write_faults = c.in-Err-NoMemory.ensures.writing.0 })

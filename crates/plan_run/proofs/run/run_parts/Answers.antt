@@ -14,6 +14,6 @@ close_run-requires-clause-room g c κs within =
     let schema = c.args.plan.now.schema in
     let asks = AllZip-length (LeavesTranscript g.P.In.Source.left g.P.In.Source.faults g.P.Out.Sink.held g.P.Out.Sink.faults g.P.Out.Sink.name OwnsAllButRoot schema false crewed.closed crewed.starved (entry_points crewed.journal)) parts.asks crewed.asks ran.asks in
     let finals = AllZip-length (LeavesTranscript g.P.In.Source.left g.P.In.Source.faults g.P.Out.Sink.held g.P.Out.Sink.faults g.P.Out.Sink.name OwnsAllButRoot schema true crewed.closed crewed.starved (entry_points crewed.journal)) parts.finals crewed.finals ran.finals in
-    let same_asks = ap (λ (d : RunDone g.row.P-In.Denot g.row.P-Out.Denot). length d.asks) c.done_of.ensures in
-    let same_finals = ap (λ (d : RunDone g.row.P-In.Denot g.row.P-Out.Denot). length d.finals) c.done_of.ensures in
+    let same_asks = ap (λ (d : RunDone g.row.P-In.Denot g.row.P-Out.Denot). length d.asks) c.run_done_of.ensures in
+    let same_finals = ap (λ (d : RunDone g.row.P-In.Denot g.row.P-Out.Denot). length d.finals) c.run_done_of.ensures in
     omega (arith, asks, finals, same_asks, same_finals, c.requires.room)

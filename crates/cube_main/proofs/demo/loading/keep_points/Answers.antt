@@ -1,4 +1,4 @@
-use Rattle.std.proofs.Common.{◌∷◌, ◌++◌, ◌+◌, ◌≤◌, [], ◌∙◌, ap, arith, ℕ, refl, subst, sym}
+use Rattle.std.proofs.Common.{◌∷◌, ◌++◌, ◌≤◌, [], ◌∙◌, ap, arith, ℕ, refl, subst, sym}
 use Rattle.cube_main.proofs.Points.{counts_none, counts_on}
 use Rattle.cube_view.specs.Bag.{Counts}
 use Rattle.feed_reader.specs.Rows.{row_of_line}

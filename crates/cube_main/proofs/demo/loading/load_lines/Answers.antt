@@ -1,4 +1,4 @@
-use Rattle.std.proofs.Common.{ap, sym, subst, Err, ◌∙◌}
+use Rattle.std.proofs.Common.{ap, subst, Err}
 use Rattle.cube_main.proofs.Loaded.{head_of_refused, taken}
 use Rattle.cube_view.specs.Bag.{Counts}
 use Rattle.cube_view.specs.declared.schema.Schema.{Schema}
