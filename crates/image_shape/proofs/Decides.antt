@@ -1,0 +1,99 @@
+-- The conditions hold exactly of a shape.
+use Rattle.std.proofs.Common.{◌≡◌, ◌↔◌, ◌⊎◌, inl, inr, ℕ, zero, suc, ◌<◌, ◌≤◌, List, [], ◌∷◌, length, map, Some, Contains, sum_by, refl, sym, ap, ◌∙◌, subst, arith}
+use Rattle.std.proofs.Math.ListN.{get_or-eq_default}
+use Rattle.std.proofs.lemmas.Bool.{cases_lt}
+use Rattle.cube_view.specs.Walks.{down, across, Walk, SpotPath, Cursor, cursor, Under, dimension, HasSpot}
+use Rattle.cube_view.proofs.Walking.{under-some}
+use Rattle.node_arena.specs.Amounts.{Weighted, spots_in}
+use Rattle.node_arena.specs.Shape.{home_of, HasShape}
+use Rattle.node_arena.specs.Slots.{proper, Slot, empty_node, slot_of, children_of, link}
+use Rattle.node_arena.specs.Stats.{AllRising}
+use Rattle.node_arena.proofs.Reaching.{walk_home}
+use Rattle.image_shape.specs.Levels.{Levels, left, no_levels, lengths_of}
+use Rattle.image_shape.specs.Local.{HasLevels, IsFilled, IsLocal}
+use Rattle.image_shape.specs.Ways.{Way, along, count_below, IsFinest, Merges}
+use Rattle.image_shape.proofs.Listed.{joined, ListsRows}
+use Rattle.image_shape.proofs.Apart.{all_apart}
+use Rattle.image_shape.proofs.Back.{found_counts, left_along, shape_merges}
+use Rattle.image_shape.proofs.Core.{HasAmounts, no_step, counted}
+use Rattle.image_shape.proofs.Local.{levels_of, left_spot, own_way, local_shaped}
+use Rattle.image_shape.proofs.Root.{root_tells}
+
+module _ (dims : ℕ) (levels : List ℕ) (first : Levels) (begins_at : left levels [] ≡ Some first) (time : (a : Walk) (c : Levels) → left levels a ≡ Some c → (dimension a ≡ dims) ↔ (c ≡ no_levels)) where
+  ends : (a : Walk) → left levels a ≡ Some (record { rest = 0; later = [] }) → dimension a ≡ dims
+  ends a at = (time a (record { rest = 0; later = [] }) at).1 refl
+
+  -- one way: the list is the rows of the tables at whole addresses
+  pub local_is_shape : (slots : List Slot) (homes : List Walk) → IsLocal dims levels slots homes → (rows : ℕ → List Weighted) → ListsRows levels slots homes rows → HasAmounts (joined rows (length slots)) → ((q : SpotPath) → Contains (spots_in (joined rows (length slots))) q → lengths_of q ≡ levels) → length levels ≡ dims → HasShape dims slots homes (joined rows (length slots))
+  local_is_shape slots homes L rows R heavy spots all = record {
+    shaped = local_shaped dims levels slots homes (joined rows (length slots)) L heavy spots (root_tells dims levels slots homes L (λ a at. (time a (record { rest = 0; later = [] }) at).1 refl) rows R);
+    shares = L.shares;
+    alike = record { lengths = levels; all = all; same = spots };
+  }
+
+  -- the other: of any list
+  module _ (slots : List Slot) (homes : List Walk) (h : List Weighted) (S : HasShape dims slots homes h) (heavy : HasAmounts h) (spots : (q : SpotPath) → Contains (spots_in h) q → lengths_of q ≡ levels) (rising : AllRising slots) where
+    -- a spot lies under the home of each slot but the root
+    under_home : (j : ℕ) → 0 < j → j < length slots → HasSpot (spots_in h) (home_of homes j)
+    under_home j some l =
+        let o = S.has_homes.owner j some l in
+        let w = S.holds.wanted o.by o.step (proper j) o.owns in
+        let e = (S.has_homes.at_home o.by j o.step o.owns).1 in
+        record { spot = w.spot; is_in = w.is_in; lies = subst (Under w.spot) (sym e) w.lies }
+
+    spot_left : (a : Walk) (w : HasSpot (spots_in h) a) → HasLevels levels a
+    spot_left a w =
+        let s = under-some w.spot a w.lies in
+        record { levels_left = levels_of s.0; is = ap (λ (z : List ℕ). left z a) (sym (spots w.spot w.is_in)) ∙ left_spot w.spot a s.0 s.1 }
+
+    within : (i : ℕ) → i < length slots → HasLevels levels (home_of homes i)
+    within zero l = record { levels_left = first; is = ap (left levels) S.has_homes.root ∙ begins_at }
+    within (suc i) l = spot_left (home_of homes (suc i)) (under_home (suc i) (omega arith) l)
+
+    filled : (j : ℕ) → 0 < j → j < length slots → IsFilled levels slots homes j
+    filled j some l = record { way = way.0; bin = w.spot.bin; finest = finest; some = count }
+      where
+        w : HasSpot (spots_in h) (home_of homes j)
+        w = under_home j some l
+
+        s : (c : Cursor) × (cursor w.spot (home_of homes j) ≡ Some c)
+        s = under-some w.spot (home_of homes j) w.lies
+
+        way : (way : Way) × IsFinest (length s.0.rest) (map length s.0.later) way × Under w.spot (along (home_of homes j) way)
+        way = own_way w.spot s.0.later s.0.rest (home_of homes j) s.1
+
+        at : left levels (home_of homes j) ≡ Some (levels_of s.0)
+        at = ap (λ (z : List ℕ). left z (home_of homes j)) (sym (spots w.spot w.is_in)) ∙ left_spot w.spot (home_of homes j) s.0 s.1
+
+        finest : (c : Levels) → left levels (home_of homes j) ≡ Some c → IsFinest c.rest c.later way.0
+        finest c e =
+            let x : Some (levels_of s.0) ≡ Some c = sym at ∙ e in
+            let y : levels_of s.0 ≡ c = cc in
+            subst (λ (z : Levels). IsFinest z.rest z.later way.0) y way.1
+
+        count : 0 < count_below slots j way.0 w.spot.bin
+        count =
+            let f = found_counts dims levels slots homes h S.shaped spots ends (home_of homes j) j way.0 w.spot.bin (walk_home slots homes S.has_homes (home_of homes j) j l refl) (left_along levels (home_of homes j) (length s.0.rest) (map length s.0.later) way.0 way.1 at) in
+            let n = counted w.spot (along (home_of homes j) way.0) h heavy w.is_in way.2 in
+            omega (arith, f, n)
+
+    merges : (i n m : ℕ) (later : List ℕ) → left levels (home_of homes i) ≡ Some (record { rest = suc n; later = m ∷ later }) → (way : Way) → IsFinest m later way → (bin : ℕ) → Merges slots i way bin
+    merges i n m later at way f bin = go (cases_lt i (length slots))
+      where
+        go : (i < length slots) ⊎ (length slots ≤ i) → Merges slots i way bin
+        go (inl l) = shape_merges dims levels slots homes h S.shaped spots ends i n m later l at (all_apart slots rising i) way f bin
+        go (inr l) =
+            let e : slot_of slots i ≡ empty_node = get_or-eq_default slots empty_node l in
+            no_step slots i across way bin (ap (λ (s : Slot). link s across) e) ∙ sym (ap (λ (s : Slot). sum_by (λ k. count_below slots i (down k.0 ∷ across ∷ way) bin) (children_of s)) e)
+
+    pub shape_is_local : IsLocal dims levels slots homes
+    shape_is_local = record {
+      has_homes = S.has_homes;
+      has_tables = S.has_tables;
+      within = within;
+      at_time = λ i l t. let c = within i l in c.is ∙ ap Some ((time (home_of homes i) c.levels_left c.is).0 ((S.has_tables.tables i l).0 t));
+      filled = filled;
+      shares = S.shares;
+      rising = rising;
+      merges = merges;
+    }

@@ -1,0 +1,13 @@
+pub mod Apart
+pub mod Back
+pub mod Bag
+pub mod Core
+pub mod Decides
+pub mod Listed
+pub mod Local
+pub mod OnlyChild
+pub mod Root
+pub mod Rows
+pub mod Summing
+pub mod Timing
+pub mod Words

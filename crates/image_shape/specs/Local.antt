@@ -1,0 +1,37 @@
+-- What makes slots a cube, said of each slot by itself: no spot is named.
+use Rattle.std.specs.Prelude.{◌≡◌, ℕ, suc, ◌<◌, List, ◌∷◌, length, Some}
+use Rattle.cube_view.specs.Walks.{Walk}
+use Rattle.node_arena.specs.Shape.{home_of, HasHomes, HasTables, SharesOnlyContent}
+use Rattle.node_arena.specs.Slots.{Slot, IsTable, slot_of}
+use Rattle.node_arena.specs.Stats.{AllRising}
+use Rattle.image_shape.specs.Levels.{Levels, left, no_levels}
+use Rattle.image_shape.specs.Ways.{Way, IsFinest, Merges, count_below}
+
+-- something is left at an address
+pub record HasLevels (levels : List ℕ) (a : Walk) : Type 0 where
+  pub levels_left : Levels
+  pub is : left levels a ≡ Some levels_left
+
+-- along some finest way from the slot there is a count
+pub record IsFilled (levels : List ℕ) (slots : List Slot) (homes : List Walk) (j : ℕ) : Type 0 where
+  pub way : Way
+  pub bin : ℕ
+  pub finest : (c : Levels) → left levels (home_of homes j) ≡ Some c → IsFinest c.rest c.later way
+  pub some : 0 < count_below slots j way bin
+
+-- The conditions on slots whose homes are given, where the dimensions have those levels.
+pub record IsLocal (dims : ℕ) (levels : List ℕ) (slots : List Slot) (homes : List Walk) : Type 0 where
+  -- proper links lead to each home, shared ones from coarser addresses; time tables are where time is
+  pub has_homes : HasHomes slots homes
+  pub has_tables : HasTables dims slots homes
+  -- no home goes past the levels, and a time table's goes through all
+  pub within : (i : ℕ) → i < length slots → HasLevels levels (home_of homes i)
+  pub at_time : (i : ℕ) → i < length slots → IsTable (slot_of slots i) → left levels (home_of homes i) ≡ Some no_levels
+  -- below each slot but the root there is a count
+  pub filled : (j : ℕ) → 0 < j → j < length slots → IsFilled levels slots homes j
+  -- a node with one child shares its content
+  pub shares : SharesOnlyContent slots
+  -- labels rise
+  pub rising : AllRising slots
+  -- along finest ways each content counts what the contents of the children count together
+  pub merges : (i n m : ℕ) (later : List ℕ) → left levels (home_of homes i) ≡ Some (record { rest = suc n; later = m ∷ later }) → (way : Way) → IsFinest m later way → (bin : ℕ) → Merges slots i way bin
