@@ -1,8 +1,9 @@
 //! Audits of files in memory.
 use crate::{Audit, RecountNames, recount_files};
-use outer_io::{List, MemPlace, MemSink, NoMemory, Place, StillPlace, StillSink};
+use outer_io::{List, MemPlace, MemSink, NoMemory};
 use run_files::Stop;
 use std::alloc::Global;
+use std::process::Abort;
 use std::test::Fail;
 
 /// A plan of one feed, with two values of its category.
@@ -20,177 +21,6 @@ const NAMES: RecountNames<'static> = RecountNames {
     replies: "q.txt.out",
 };
 
-/// The texts of a journal, a script and replies, what is answered, and the line.
-#[derive(Clone, Copy)]
-struct Case<'a>(&'a str, &'a str, &'a str, Audit, &'a str);
-
-/// A script of two lines.
-const ASKED: &str = "count\ntold\n";
-
-/// Audits, by what they are of and what is said.
-const CASES: [Case<'static>; 16] = [
-    Case(
-        JOURNAL,
-        ASKED,
-        "{\"rows\":[[2]],\"seen\":2}\n{\"told\":1}\n",
-        Audit::Agrees,
-        "recount: 2 replies agree, 0 without memory\n",
-    ),
-    Case(
-        JOURNAL,
-        ASKED,
-        "{\"rows\":[[3]],\"seen\":2}\n{\"told\":1}\n",
-        Audit::Differs,
-        "recount: reply 1: Wrong\n",
-    ),
-    Case(
-        JOURNAL,
-        ASKED,
-        "{\"rows\":[[4]],\"seen\":4}\n{\"told\":1}\n",
-        Audit::Differs,
-        "recount: reply 1: PastEnd\n",
-    ),
-    Case(
-        JOURNAL,
-        ASKED,
-        "{\"rows\":[[2]],\"seen\":2}\n",
-        Audit::Differs,
-        "recount: reply 2: TooFew\n",
-    ),
-    Case(
-        JOURNAL,
-        ASKED,
-        "{\"rows\":[[2]],\"seen\":2}\n{\"told\":1}\n{\"told\":1}\n",
-        Audit::Differs,
-        "recount: reply 3: TooMany\n",
-    ),
-    Case(
-        JOURNAL,
-        "count\ntold\ntold\n",
-        "{\"rows\":[[2]],\"seen\":2}\n{\"told\":1}\n{\"told\":0}\n",
-        Audit::Differs,
-        "recount: reply 3: Fell\n",
-    ),
-    Case(
-        JOURNAL,
-        ASKED,
-        "{\"rows\":[[2]],\"seen\":2}\n{\"told\":1}",
-        Audit::Differs,
-        "recount: reply 2: NotReply\n",
-    ),
-    Case(
-        JOURNAL,
-        "count\ncount\n",
-        "{\"rows\":[[3]],\"seen\":3}\n{\"rows\":[[3]",
-        Audit::Differs,
-        "recount: reply 2: NotReply\n",
-    ),
-    Case(
-        JOURNAL,
-        "count\ncount\n",
-        "{\"rows\":[[3]],\"seen\":3}\n{\"rows\":[[3]],\"seen\":3}\n",
-        Audit::Agrees,
-        "recount: 2 replies agree, 0 without memory\n",
-    ),
-    Case(
-        JOURNAL,
-        ASKED,
-        "{\"rows\":[[2]],\"seen\":2} \n{\"told\":1}\n",
-        Audit::Differs,
-        "recount: reply 1: NotReply\n",
-    ),
-    Case(
-        JOURNAL,
-        ASKED,
-        "{\"fault\":\"NoMemory\"}\n{\"told\":1}\n",
-        Audit::Agrees,
-        "recount: 2 replies agree, 1 without memory\n",
-    ),
-    Case(
-        "1 0 0 0 0 0\n1 2 7 7 1 1\n1 2 0 0 0 1\n",
-        ASKED,
-        "{\"rows\":[[2]],\"seen\":2}\n{\"told\":1}\n",
-        Audit::Differs,
-        "recount: journal line 2: WrongNumber\n",
-    ),
-    Case(
-        "9 0 0 0 0 0\n",
-        "",
-        "",
-        Audit::Differs,
-        "recount: journal line 1: NotEntry\n",
-    ),
-    Case(
-        "1 0 0 0 0 0\n1 1 7 7 1 1",
-        "",
-        "",
-        Audit::Differs,
-        "recount: journal line 2: NotEntry\n",
-    ),
-    Case(
-        "2 0 0 0 0 0\n",
-        "",
-        "",
-        Audit::Differs,
-        "recount: journal line 1: WrongNumber\n",
-    ),
-    Case(
-        "",
-        "",
-        "",
-        Audit::Agrees,
-        "recount: 0 replies agree, 0 without memory\n",
-    ),
-];
-
-/// A place that cannot fail, with the plan and the texts.
-fn still_place(alloc: Global, case: &Case<'_>) -> Result<StillPlace, Fail> {
-    let mut place = StillPlace::new(alloc);
-    let files = [
-        (NAMES.plan, PLAN),
-        (NAMES.journal, case.0),
-        (NAMES.script, case.1),
-        (NAMES.replies, case.2),
-    ];
-    for (name, text) in files {
-        let text = List::from_vec(Vec::from_slice(alloc, text.as_bytes())?);
-        if place.put_file(name, text, 16).is_err() {
-            return Err(Fail::from("no room"));
-        }
-    }
-    Ok(place)
-}
-
-#[test]
-fn one_line_says_whether_the_files_agree(rt: HostRuntime) -> Result<(), Fail> {
-    let alloc = rt.alloc();
-    for case in &CASES {
-        let mut place = still_place(alloc, case)?;
-        let mut out = StillSink::new(alloc);
-        let end = recount_files(alloc, &NAMES, &mut place, &mut out);
-        assert_eq!(rt; end, Ok(case.3), "{}", case.4);
-        assert_eq!(rt; out.bytes(), case.4.as_bytes());
-    }
-    Ok(())
-}
-
-/// A place with the plan and the texts of a session that agree, but for one file that is absent.
-fn place_without(alloc: Global, absent: &str) -> Result<MemPlace, Fail> {
-    let mut place = MemPlace::new(alloc);
-    let files = [
-        (NAMES.plan, PLAN),
-        (NAMES.journal, JOURNAL),
-        (NAMES.script, "count\n"),
-        (NAMES.replies, "{\"rows\":[[2]],\"seen\":2}\n"),
-    ];
-    for (name, text) in files {
-        if name != absent {
-            put_file(alloc, &mut place, name, text, &[])?;
-        }
-    }
-    Ok(place)
-}
-
 /// Puts a file whose reads of those numbers fail.
 fn put_file(
     alloc: Global,
@@ -207,6 +37,31 @@ fn put_file(
     }
 }
 
+/// Puts a file, unless it is to be absent.
+fn put_but(
+    alloc: Global,
+    place: &mut MemPlace,
+    name: &str,
+    text: &str,
+    absent: &str,
+) -> Result<(), Fail> {
+    if name == absent {
+        return Ok(());
+    }
+    put_file(alloc, place, name, text, &[])
+}
+
+/// A place with the plan and the texts of a session that agree, but for one file that is absent.
+fn place_without(alloc: Global, absent: &str) -> Result<MemPlace, Fail> {
+    let mut place = MemPlace::new(alloc);
+    let replies = "{\"rows\":[[2]],\"seen\":2}\n";
+    put_but(alloc, &mut place, NAMES.plan, PLAN, absent)?;
+    put_but(alloc, &mut place, NAMES.journal, JOURNAL, absent)?;
+    put_but(alloc, &mut place, NAMES.script, "count\n", absent)?;
+    put_but(alloc, &mut place, NAMES.replies, replies, absent)?;
+    Ok(place)
+}
+
 /// How an audit of the place ends whose puts of those numbers fail, and what it has put.
 fn audited(
     alloc: Global,
@@ -219,19 +74,22 @@ fn audited(
     Ok((end, out))
 }
 
+/// An audit of the place is ended by a read fault, and nothing is put.
+fn expect_unread(rt: &impl Abort, alloc: Global, place: &mut MemPlace) -> Result<(), Fail> {
+    let (end, out) = audited(alloc, place, &[])?;
+    assert_eq!(rt; end, Err(Stop::ReadFault));
+    assert_eq!(rt; out.bytes(), b"".as_slice());
+    Ok(())
+}
+
 #[test]
 fn a_file_that_is_not_read_ends_an_audit_with_nothing_put(rt: HostRuntime) -> Result<(), Fail> {
     let alloc = rt.alloc();
     for name in [NAMES.plan, NAMES.journal, NAMES.script, NAMES.replies] {
-        let mut absent = place_without(alloc, name)?;
-        let (end, out) = audited(alloc, &mut absent, &[])?;
-        assert_eq!(rt; end, Err(Stop::ReadFault), "{name}");
-        assert_eq!(rt; out.bytes(), b"".as_slice());
-        let mut failing = place_without(alloc, name)?;
-        put_file(alloc, &mut failing, name, "1 0 0 0 0 0\n", &[2])?;
-        let (end, out) = audited(alloc, &mut failing, &[])?;
-        assert_eq!(rt; end, Err(Stop::ReadFault), "{name}");
-        assert_eq!(rt; out.bytes(), b"".as_slice());
+        let mut place = place_without(alloc, name)?;
+        expect_unread(&rt, alloc, &mut place)?;
+        put_file(alloc, &mut place, name, "1 0 0 0 0 0\n", &[2])?;
+        expect_unread(&rt, alloc, &mut place)?;
     }
     Ok(())
 }
