@@ -8,7 +8,7 @@ use Rattle.node_arena.specs.Reach.{count_reached}
 use Rattle.node_arena.specs.Shape.{home_of, IsShaped}
 use Rattle.node_arena.specs.Slots.{Slot, child, slot_of, children_of, walk_end}
 use Rattle.node_arena.proofs.Reaching.{walk-lt, walk_coarser, walk_home, walk_reaches, walk_counts}
-use Rattle.image_shape.specs.Levels.{Levels, level_down, level_across, then_level, left, lengths_of}
+use Rattle.image_shape.specs.Levels.{Levels, level_down, level_across, then_level, left, label_counts}
 use Rattle.image_shape.specs.Ways.{Way, found, along, count_below, IsFinest, Merges}
 use Rattle.image_shape.proofs.Core.{IsApart, sum_same, splits, GoesDown, absent, link_down, under_along}
 use Rattle.image_shape.proofs.Local.{left_spot, own_way, levels_of}
@@ -22,7 +22,7 @@ left_along levels a n later [] f at = at ∙ ap₂ (λ (x : ℕ) (y : List ℕ).
 left_along levels a n later (down l ∷ way) f at = left_along levels (down l ∷ a) f.0 later way f.2 (ap (λ (o : Option Levels). then_level o (down l)) at ∙ ap (λ (x : ℕ). level_down x later) f.1)
 left_along levels a n later (across ∷ way) f at = left_along levels (across ∷ a) f.0 f.1 way f.4 (ap (λ (o : Option Levels). then_level o across) at ∙ ap level_across f.3)
 
-module _ (dims : ℕ) (levels : List ℕ) (slots : List Slot) (homes : List Walk) (h : List Weighted) (S : IsShaped dims slots homes h) (spots : (q : SpotPath) → Contains (spots_in h) q → lengths_of q ≡ levels) (ends : (a : Walk) → left levels a ≡ Some (record { rest = 0; later = [] }) → dimension a ≡ dims) where
+module _ (dims : ℕ) (levels : List ℕ) (slots : List Slot) (homes : List Walk) (h : List Weighted) (S : IsShaped dims slots homes h) (spots : (q : SpotPath) → Contains (spots_in h) q → label_counts q ≡ levels) (ends : (a : Walk) → left levels a ≡ Some (record { rest = 0; later = [] }) → dimension a ≡ dims) where
   at_address : (b : Walk) (bin : ℕ) → left levels b ≡ Some (record { rest = 0; later = [] }) → count_reached slots (walk_end slots 0 b) bin ≡ amount_under h b bin
   at_address b bin at = go (walk_end slots 0 b) refl
     where

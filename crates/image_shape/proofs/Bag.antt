@@ -1,5 +1,6 @@
 -- The conditions give the shape of a cube of the slots' own bag, and any cube's shape gives the conditions.
 use Rattle.std.proofs.Common.{◌≡◌, ◌⊎◌, inl, inr, ℕ, zero, suc, ◌<◌, ◌≤◌, Bool, true, false, cond, List, [], ◌∷◌, ◌++◌, length, map, Some, Contains, All, refl, sym, ap, ap₂, ◌∙◌, subst, arith}
+use Rattle.std.proofs.lemmas.List.{nil_from_length}
 use Rattle.std.specs.FinMap.{entries, len-entries, len-empty}
 use Rattle.std.specs.Ordering.{nat_cmp}
 use Rattle.std.proofs.lemmas.List.Elements.{All-nil, All-cons, All-head, All-tail, All-append}
@@ -9,9 +10,9 @@ use Rattle.node_arena.specs.Amounts.{Weighted, spots_in, amount_under}
 use Rattle.node_arena.specs.Shape.{home_of, HasShape}
 use Rattle.node_arena.specs.Slots.{Slot, node, table, empty_node, slot_of, counts_of, IsTable}
 use Rattle.image_shape.specs.Laws.{AllTablesCounted, TellsCube, TellsLocal}
-use Rattle.image_shape.specs.Levels.{Levels, level_down, level_across, left, no_levels, lengths_of, EndsWithTime}
+use Rattle.image_shape.specs.Levels.{Levels, level_down, level_across, left, no_levels, label_counts, EndsWithTime}
 use Rattle.image_shape.specs.Local.{IsLocal}
-use Rattle.image_shape.specs.Wholes.{is_whole, paths_along, spot_at, rows_at, rows_of, bag_of, IsCubeOf}
+use Rattle.image_shape.specs.Wholes.{is_whole, paths_along, spot_at, rows_at, spelled_rows, spelled_bag, IsCubeOf}
 use Rattle.image_shape.proofs.Core.{HasAmounts}
 use Rattle.image_shape.proofs.Decides.{local_is_shape, shape_is_local}
 use Rattle.image_shape.proofs.Listed.{IsWhole, joined, ListsRows}
@@ -24,10 +25,6 @@ first_left : (dims : ℕ) (levels : List ℕ) → EndsWithTime dims levels → (
 first_left dims [] T = let a = T.size in let b = T.some in absurd (omega (arith, a, b))
 first_left dims (n ∷ levels) T = (record { rest = n; later = levels }, refl)
 
-nothing : (xs : List ℕ) → length xs ≡ 0 → xs ≡ []
-nothing [] x = refl
-nothing (y ∷ xs) x = absurd (omega (arith, x))
-
 nothing_later : (xs : List (List ℕ)) → map (λ path. length path) xs ≡ [] → xs ≡ []
 nothing_later [] x = refl
 nothing_later (y ∷ xs) x = absurd cc
@@ -36,12 +33,8 @@ nothing_later (y ∷ xs) x = absurd cc
 no_rows : (q : SpotPath) (a : Walk) → Contains (spots_in (map (spot_at a) (entries (counts_of empty_node)))) q → ⊥
 no_rows q a c = let d = subst (λ (es : List (ℕ × ℕ)). Contains (spots_in (map (spot_at a) es)) q) entries-empty c in omega (arith, d.1)
   where
-    none_of : (es : List (ℕ × ℕ)) → length es ≡ 0 → es ≡ []
-    none_of [] e = refl
-    none_of (x ∷ es) e = absurd (omega (arith, e))
-
     entries-empty : entries (counts_of empty_node) ≡ []
-    entries-empty = none_of (entries (counts_of empty_node)) (sym (len-entries (counts_of empty_node)) ∙ len-empty nat_cmp ℕ)
+    entries-empty = nil_from_length (entries (counts_of empty_node)) (sym (len-entries (counts_of empty_node)) ∙ len-empty nat_cmp ℕ)
 
 -- the labels of a whole address with nothing left are as many as the levels
 lengths_along : (levels : List ℕ) (a : Walk) (path : List ℕ) (later : List (List ℕ)) → IsWhole levels a → left levels a ≡ Some (record { rest = length path; later = map (λ p. length p) later }) → map (λ p. length p) (paths_along a path later) ≡ levels
@@ -79,7 +72,7 @@ module _ (levels : List ℕ) (slots : List Slot) (homes : List Walk) where
   abbrev rows : ℕ → List Weighted
   rows i = rows_at levels (home_of homes i) (slot_of slots i)
 
-  joined_rows : (n : ℕ) → joined rows n ≡ rows_of levels slots homes n
+  joined_rows : (n : ℕ) → joined rows n ≡ spelled_rows levels slots homes n
   joined_rows zero = refl
   joined_rows (suc n) = ap (λ (h : List Weighted). h ++ rows_at levels (home_of homes n) (slot_of slots n)) (joined_rows n)
 
@@ -106,7 +99,7 @@ module _ (levels : List ℕ) (slots : List Slot) (homes : List Walk) where
 
   module _ (dims : ℕ) (T : EndsWithTime dims levels) (counted : AllTablesCounted slots) (L : IsLocal dims levels slots homes) where
     -- the labels of a whole table's home are as many as the levels
-    home_lengths : (i : ℕ) → i < length slots → is_whole levels (home_of homes i) ≡ true → IsTable (slot_of slots i) → (q : SpotPath) → q.paths ≡ paths_along (home_of homes i) [] [] → lengths_of q ≡ levels
+    home_lengths : (i : ℕ) → i < length slots → is_whole levels (home_of homes i) ≡ true → IsTable (slot_of slots i) → (q : SpotPath) → q.paths ≡ paths_along (home_of homes i) [] [] → label_counts q ≡ levels
     home_lengths i lt w t q e = ap (λ (z : List (List ℕ)). map (λ path. length path) z) e ∙ lengths_along levels (home_of homes i) [] [] (whole_from_test levels (home_of homes i) w) (L.at_time i lt t)
 
     -- a row's slot is a table
@@ -130,7 +123,7 @@ module _ (levels : List ℕ) (slots : List Slot) (homes : List Walk) where
           let len = home_lengths i lt p.0 (has_rows i q c) q p.1 in
           let e : Some (levels_of s.0) ≡ Some no_levels = sym (ap (λ (z : List ℕ). left z a) (sym len) ∙ left_spot q a s.0 s.1) ∙ at in
           let f : levels_of s.0 ≡ no_levels = cc in
-          let none : s.0.rest ≡ [] = nothing s.0.rest (ap (λ (z : Levels). z.rest) f) in
+          let none : s.0.rest ≡ [] = nil_from_length s.0.rest (ap (λ (z : Levels). z.rest) f) in
           let nolater : s.0.later ≡ [] = nothing_later s.0.later (ap (λ (z : Levels). z.later) f) in
           same_labels a (home_of homes i) (sym (ap₂ (paths_along a) none nolater) ∙ (sym (labels_are levels q a s.0 len w s.1) ∙ p.1));
     }
@@ -150,13 +143,13 @@ module _ (levels : List ℕ) (slots : List Slot) (homes : List Walk) where
     amounts zero le = All-nil (λ (w : Weighted). 0 < w.amount)
     amounts (suc n) le = All-append (λ (w : Weighted). 0 < w.amount) (joined rows n) (rows n) (amounts n (omega arith)) (amounts_at n (omega arith))
 
-    lengths_all : (q : SpotPath) → Contains (spots_in (joined rows (length slots))) q → lengths_of q ≡ levels
+    lengths_all : (q : SpotPath) → Contains (spots_in (joined rows (length slots))) q → label_counts q ≡ levels
     lengths_all q c =
         let s = spot_from (length slots) q c in
         let p = rows_at-paths levels (home_of homes s.0) (slot_of slots s.0) q s.2 in
         home_lengths s.0 s.1 p.0 (has_rows s.0 q s.2) q p.1
 
-    own_cube : IsCubeOf dims levels slots homes (bag_of levels slots homes)
+    own_cube : IsCubeOf dims levels slots homes (spelled_bag levels slots homes)
     own_cube =
         let f = first_left dims levels T in
         let S = local_is_shape dims levels f.0 f.1 (time_of dims levels T) slots homes L rows lists (amounts (length slots) (omega arith)) lengths_all T.size in

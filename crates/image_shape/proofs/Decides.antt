@@ -9,8 +9,8 @@ use Rattle.node_arena.specs.Shape.{home_of, HasShape}
 use Rattle.node_arena.specs.Slots.{proper, Slot, empty_node, slot_of, children_of, link}
 use Rattle.node_arena.specs.Stats.{AllRising}
 use Rattle.node_arena.proofs.Reaching.{walk_home}
-use Rattle.image_shape.specs.Levels.{Levels, left, no_levels, lengths_of}
-use Rattle.image_shape.specs.Local.{HasLevels, IsFilled, IsLocal}
+use Rattle.image_shape.specs.Levels.{Levels, left, no_levels, label_counts}
+use Rattle.image_shape.specs.Local.{HasLevels, HasCountBelow, IsLocal}
 use Rattle.image_shape.specs.Ways.{Way, along, count_below, IsFinest, Merges}
 use Rattle.image_shape.proofs.Listed.{joined, ListsRows}
 use Rattle.image_shape.proofs.Apart.{all_apart}
@@ -24,7 +24,7 @@ module _ (dims : ℕ) (levels : List ℕ) (first : Levels) (begins_at : left lev
   ends a at = (time a (record { rest = 0; later = [] }) at).1 refl
 
   -- one way: the list is the rows of the tables at whole addresses
-  pub local_is_shape : (slots : List Slot) (homes : List Walk) → IsLocal dims levels slots homes → (rows : ℕ → List Weighted) → ListsRows levels slots homes rows → HasAmounts (joined rows (length slots)) → ((q : SpotPath) → Contains (spots_in (joined rows (length slots))) q → lengths_of q ≡ levels) → length levels ≡ dims → HasShape dims slots homes (joined rows (length slots))
+  pub local_is_shape : (slots : List Slot) (homes : List Walk) → IsLocal dims levels slots homes → (rows : ℕ → List Weighted) → ListsRows levels slots homes rows → HasAmounts (joined rows (length slots)) → ((q : SpotPath) → Contains (spots_in (joined rows (length slots))) q → label_counts q ≡ levels) → length levels ≡ dims → HasShape dims slots homes (joined rows (length slots))
   local_is_shape slots homes L rows R heavy spots all = record {
     shaped = local_shaped dims levels slots homes (joined rows (length slots)) L heavy spots (root_tells dims levels slots homes L (λ a at. (time a (record { rest = 0; later = [] }) at).1 refl) rows R);
     shares = L.shares;
@@ -32,7 +32,7 @@ module _ (dims : ℕ) (levels : List ℕ) (first : Levels) (begins_at : left lev
   }
 
   -- the other: of any list
-  module _ (slots : List Slot) (homes : List Walk) (h : List Weighted) (S : HasShape dims slots homes h) (heavy : HasAmounts h) (spots : (q : SpotPath) → Contains (spots_in h) q → lengths_of q ≡ levels) (rising : AllRising slots) where
+  module _ (slots : List Slot) (homes : List Walk) (h : List Weighted) (S : HasShape dims slots homes h) (heavy : HasAmounts h) (spots : (q : SpotPath) → Contains (spots_in h) q → label_counts q ≡ levels) (rising : AllRising slots) where
     -- a spot lies under the home of each slot but the root
     under_home : (j : ℕ) → 0 < j → j < length slots → HasSpot (spots_in h) (home_of homes j)
     under_home j some l =
@@ -50,7 +50,7 @@ module _ (dims : ℕ) (levels : List ℕ) (first : Levels) (begins_at : left lev
     within zero l = record { levels_left = first; is = ap (left levels) S.has_homes.root ∙ begins_at }
     within (suc i) l = spot_left (home_of homes (suc i)) (under_home (suc i) (omega arith) l)
 
-    filled : (j : ℕ) → 0 < j → j < length slots → IsFilled levels slots homes j
+    filled : (j : ℕ) → 0 < j → j < length slots → HasCountBelow levels slots homes j
     filled j some l = record { way = way.0; bin = w.spot.bin; finest = finest; some = count }
       where
         w : HasSpot (spots_in h) (home_of homes j)

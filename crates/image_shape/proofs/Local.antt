@@ -8,7 +8,7 @@ use Rattle.node_arena.specs.Slots.{proper, target, Slot, link_of}
 use Rattle.node_arena.specs.Shape.{home_of, IsLinked, IsShaped}
 use Rattle.node_arena.proofs.Linked.{linked-lt}
 use Rattle.node_arena.proofs.Reaching.{link_coarser, target-lt}
-use Rattle.image_shape.specs.Levels.{Levels, level_down, level_across, level_step, then_level, left, lengths_of}
+use Rattle.image_shape.specs.Levels.{Levels, level_down, level_across, level_step, then_level, left, label_counts}
 use Rattle.image_shape.specs.Local.{IsLocal}
 use Rattle.image_shape.specs.Ways.{Way, along, count_below, IsFinest}
 use Rattle.image_shape.proofs.Apart.{all_apart}
@@ -30,7 +30,7 @@ across_levels : (later : List (List ℕ)) (c : Cursor) → after_across later �
 across_levels [] c h = absurd cc
 across_levels (x ∷ later) c h = let e : record { rest = x; later = later } ≡ c = cc in ap (λ (z : Cursor). Some (levels_of z)) e
 
-pub left_spot : (q : SpotPath) (a : Walk) (c : Cursor) → cursor q a ≡ Some c → left (lengths_of q) a ≡ Some (levels_of c)
+pub left_spot : (q : SpotPath) (a : Walk) (c : Cursor) → cursor q a ≡ Some c → left (label_counts q) a ≡ Some (levels_of c)
 left_spot q [] c h = across_levels q.paths c h
 left_spot q (down l ∷ a) c h =
     let b = begun (cursor q a) (down l) c h in
@@ -102,7 +102,7 @@ present (x ∷ h) a bin some = go (under x.spot a) refl (λ s. present h a bin s
         let r = rest (omega (arith, s, z, some)) in
         record { spot = r.spot; is_in = Contains-cons (spots_in h) x.spot r.spot r.is_in; lies = r.lies }
 
-module _ (dims : ℕ) (levels : List ℕ) (slots : List Slot) (homes : List Walk) (h : List Weighted) (L : IsLocal dims levels slots homes) (heavy : HasAmounts h) (spots : (q : SpotPath) → Contains (spots_in h) q → lengths_of q ≡ levels) (root : (c : Levels) → left levels [] ≡ Some c → Tells slots h 0 [] c.rest c.later) where
+module _ (dims : ℕ) (levels : List ℕ) (slots : List Slot) (homes : List Walk) (h : List Weighted) (L : IsLocal dims levels slots homes) (heavy : HasAmounts h) (spots : (q : SpotPath) → Contains (spots_in h) q → label_counts q ≡ levels) (root : (c : Levels) → left levels [] ≡ Some c → Tells slots h 0 [] c.rest c.later) where
   At : Walk → ℕ → List ℕ → Type 0
   At a n later = left levels a ≡ Some (record { rest = n; later = later })
 

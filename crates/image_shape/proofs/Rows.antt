@@ -1,5 +1,6 @@
 -- The rows of the tables at whole addresses, as spots.
 use Rattle.std.proofs.Common.{◌≡◌, ◌⊎◌, inl, inr, ℕ, ◌<◌, Bool, true, false, cond, ◌&&◌, eqb, eq-eqb, ne_eqb, eqb-true, List, [], ◌∷◌, length, map, Option, Some, None, is_some, unwrap_or, Contains, sum_by, refl, sym, ap, ap₂, ◌∙◌, arith, true≢false, nat_cmp, ltb, ltb-true, T}
+use Rattle.std.proofs.lemmas.List.{nil_from_length}
 use Rattle.std.specs.FinMap.{entries, entries_sorted, get-entries, find}
 use Rattle.std.specs.FinMap.Entries.{is_sorted, below_all}
 use Rattle.std.specs.Cmp.{unsigned_tied}
@@ -12,7 +13,7 @@ use Rattle.cube_view.proofs.Walking.{begun, Contains-cases}
 use Rattle.time_table.specs.Counts.{BinCounts, count_of}
 use Rattle.node_arena.specs.Amounts.{spots_in, amount_under}
 use Rattle.node_arena.specs.Slots.{Slot, counts_of}
-use Rattle.image_shape.specs.Levels.{Levels, left, lengths_of}
+use Rattle.image_shape.specs.Levels.{Levels, left, label_counts}
 use Rattle.image_shape.specs.Wholes.{is_deepest, is_whole, paths_along, spot_at, rows_at}
 use Rattle.image_shape.proofs.Core.{one_under, amount-cons}
 use Rattle.image_shape.proofs.Local.{levels_of, left_spot}
@@ -52,7 +53,7 @@ whole_test levels (down l ∷ a) w = whole_test levels a w
 whole_test levels (across ∷ a) w = ap₂ ◌&&◌ (whole_test levels a w.0) (ap is_deepest w.2)
 
 -- a spot of those levels that lies under a whole address has its labels
-pub labels_are : (levels : List ℕ) (q : SpotPath) (a : Walk) (c : Cursor) → lengths_of q ≡ levels → IsWhole levels a → cursor q a ≡ Some c → q.paths ≡ paths_along a c.rest c.later
+pub labels_are : (levels : List ℕ) (q : SpotPath) (a : Walk) (c : Cursor) → label_counts q ≡ levels → IsWhole levels a → cursor q a ≡ Some c → q.paths ≡ paths_along a c.rest c.later
 labels_are levels q [] c len w h = first q.paths h
   where
     first : (paths : List (List ℕ)) → after_across paths ≡ Some c → paths ≡ c.rest ∷ c.later
@@ -76,13 +77,9 @@ labels_are levels q (across ∷ a) c len w h =
     let at : left levels a ≡ Some (levels_of b.0) = ap (λ (z : List ℕ). left z a) (sym len) ∙ left_spot q a b.0 b.1 in
     let same : Some (levels_of b.0) ≡ Some (record { rest = 0; later = w.1 }) = sym at ∙ w.2 in
     let e : levels_of b.0 ≡ record { rest = 0; later = w.1 } = cc in
-    let none : b.0.rest ≡ [] = nothing b.0.rest (ap (λ (z : Levels). z.rest) e) in
+    let none : b.0.rest ≡ [] = nil_from_length b.0.rest (ap (λ (z : Levels). z.rest) e) in
     labels_are levels q a b.0 len w.0 b.1 ∙ (ap (λ (z : List ℕ). paths_along a z b.0.later) none ∙ ap (λ (z : List (List ℕ)). paths_along a [] z) (next b.0.later b.2))
   where
-    nothing : (xs : List ℕ) → length xs ≡ 0 → xs ≡ []
-    nothing [] x = refl
-    nothing (y ∷ xs) x = absurd (omega (arith, x))
-
     next : (later : List (List ℕ)) → after_across later ≡ Some c → later ≡ c.rest ∷ c.later
     next [] x = absurd cc
     next (p ∷ later) x = let e : record { rest = p; later = later } ≡ c = cc in ap (λ (z : Cursor). z.rest ∷ z.later) e

@@ -1,5 +1,6 @@
 -- Which addresses are at time: those that go through all levels.
 use Rattle.std.proofs.Common.{◌≡◌, ◌↔◌, ℕ, zero, suc, ◌+◌, ◌-◌, ◌≤◌, List, [], ◌∷◌, ◌++◌, length, get_or, Some, refl, sym, ap, ◌∙◌, arith, append_assoc, length-append}
+use Rattle.std.proofs.lemmas.List.{nil_from_length}
 use Rattle.cube_view.specs.Walks.{down, across, Walk, dimension}
 use Rattle.image_shape.specs.Levels.{Levels, level_down, level_across, left, no_levels, EndsWithTime}
 use Rattle.image_shape.proofs.Local.{level_begun}
@@ -56,10 +57,6 @@ stands levels (across ∷ a) c h =
               number = omega (arith, size, number);
             }
 
-none_of_length : (xs : List ℕ) → length xs ≡ 0 → xs ≡ []
-none_of_length [] e = refl
-none_of_length (x ∷ xs) e = absurd (omega (arith, e))
-
 at_last : (before : List ℕ) (k n : ℕ) → n ≡ length before → get_or (before ++ k ∷ []) n 0 ≡ k
 at_last [] k zero e = refl
 at_last [] k (suc n) e = absurd (omega (arith, e))
@@ -79,7 +76,7 @@ time_of dims levels T a c h = (forth, back)
     forth : dimension a ≡ dims → c ≡ no_levels
     forth d =
         let n = s.number in
-        let none : c.later ≡ [] = none_of_length c.later (omega (arith, size, n, d)) in
+        let none : c.later ≡ [] = nil_from_length c.later (omega (arith, size, n, d)) in
         let at : get_or (s.before ++ s.here ∷ []) (dims - 1) 0 ≡ s.here = at_last s.before s.here (dims - 1) (omega (arith, n, d)) in
         let last : get_or levels (dims - 1) 0 ≡ 0 = T.last in
         let there : get_or levels (dims - 1) 0 ≡ s.here = ap (λ (z : List ℕ). get_or z (dims - 1) 0) (s.is ∙ ap (λ (z : List ℕ). s.before ++ s.here ∷ z) none) ∙ at in

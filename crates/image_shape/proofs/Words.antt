@@ -8,7 +8,7 @@ use Rattle.node_arena.specs.Shape.{home_of, HasHomes}
 use Rattle.node_arena.proofs.Linked.{linked-lt}
 use Rattle.node_arena.proofs.Reaching.{link_coarser, target-lt}
 use Rattle.image_shape.specs.Levels.{Levels, level_step, then_level, left}
-use Rattle.image_shape.specs.Local.{HasLevels, IsFilled}
+use Rattle.image_shape.specs.Local.{HasLevels, HasCountBelow}
 use Rattle.image_shape.specs.Ways.{Way, count_below, IsFinest}
 use Rattle.image_shape.proofs.Core.{step_first}
 use Rattle.image_shape.proofs.Local.{finer_left, finer_root}
@@ -50,7 +50,7 @@ module _ (levels : List ℕ) (slots : List Slot) (homes : List Walk) (H : HasHom
       let s = step_first slots j (down k.0) k.1 r.0 r.1 k.2 in
       (down k.0 ∷ r.0, r.1, (n, refl, r.2), omega (arith, s, r.3))
 
-  pub filled : (j : ℕ) → 0 < j → j < length slots → IsFilled levels slots homes j
+  pub filled : (j : ℕ) → 0 < j → j < length slots → HasCountBelow levels slots homes j
   filled j some l =
       let c = within j l in
       let r = descend c.levels_left.later c.levels_left.rest j some l c.is in

@@ -7,7 +7,7 @@ use Rattle.node_arena.specs.Stats.{AllRising}
 use Rattle.time_table.specs.Counts.{AllCounted}
 use Rattle.image_shape.specs.Levels.{EndsWithTime}
 use Rattle.image_shape.specs.Local.{IsLocal}
-use Rattle.image_shape.specs.Wholes.{bag_of, IsCubeOf}
+use Rattle.image_shape.specs.Wholes.{spelled_bag, IsCubeOf}
 
 -- no table has a row without a record
 abbrev pub AllTablesCounted : List Slot → Type 0
@@ -15,7 +15,7 @@ AllTablesCounted slots = All (λ s. AllCounted (counts_of s)) slots
 
 -- slots of which the conditions hold are a cube of their own bag
 abbrev pub TellsCube : Type 0
-TellsCube = (dims : ℕ) (levels : List ℕ) (slots : List Slot) (homes : List Walk) → EndsWithTime dims levels → AllTablesCounted slots → IsLocal dims levels slots homes → IsCubeOf dims levels slots homes (bag_of levels slots homes)
+TellsCube = (dims : ℕ) (levels : List ℕ) (slots : List Slot) (homes : List Walk) → EndsWithTime dims levels → AllTablesCounted slots → IsLocal dims levels slots homes → IsCubeOf dims levels slots homes (spelled_bag levels slots homes)
 
 -- of a cube, whatever it counts, the conditions hold
 abbrev pub TellsLocal : Type 0

@@ -37,8 +37,8 @@ abbrev pub no_levels : Levels
 no_levels = record { rest = 0; later = [] }
 
 -- how many labels a spot has in each dimension
-abbrev pub lengths_of : SpotPath → List ℕ
-lengths_of q = map (λ path. length path) q.paths
+abbrev pub label_counts : SpotPath → List ℕ
+label_counts q = map (λ path. length path) q.paths
 
 -- There are as many levels as dimensions, of which time, the last, has 0.
 pub record EndsWithTime (dims : ℕ) (levels : List ℕ) : Type 0 where

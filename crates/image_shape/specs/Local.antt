@@ -13,7 +13,7 @@ pub record HasLevels (levels : List ℕ) (a : Walk) : Type 0 where
   pub is : left levels a ≡ Some levels_left
 
 -- along some finest way from the slot there is a count
-pub record IsFilled (levels : List ℕ) (slots : List Slot) (homes : List Walk) (j : ℕ) : Type 0 where
+pub record HasCountBelow (levels : List ℕ) (slots : List Slot) (homes : List Walk) (j : ℕ) : Type 0 where
   pub way : Way
   pub bin : ℕ
   pub finest : (c : Levels) → left levels (home_of homes j) ≡ Some c → IsFinest c.rest c.later way
@@ -28,7 +28,7 @@ pub record IsLocal (dims : ℕ) (levels : List ℕ) (slots : List Slot) (homes :
   pub within : (i : ℕ) → i < length slots → HasLevels levels (home_of homes i)
   pub at_time : (i : ℕ) → i < length slots → IsTable (slot_of slots i) → left levels (home_of homes i) ≡ Some no_levels
   -- below each slot but the root there is a count
-  pub filled : (j : ℕ) → 0 < j → j < length slots → IsFilled levels slots homes j
+  pub filled : (j : ℕ) → 0 < j → j < length slots → HasCountBelow levels slots homes j
   -- a node with one child shares its content
   pub shares : SharesOnlyContent slots
   -- labels rise

@@ -5,7 +5,7 @@ use Rattle.cube_view.specs.Walks.{down, across, Walk, SpotPath}
 use Rattle.node_arena.specs.Amounts.{Weighted, spots_in}
 use Rattle.node_arena.specs.Shape.{home_of, HasShape}
 use Rattle.node_arena.specs.Slots.{Slot, slot_of, counts_of}
-use Rattle.image_shape.specs.Levels.{Levels, left, lengths_of}
+use Rattle.image_shape.specs.Levels.{Levels, left, label_counts}
 
 -- no level is left of the dimension
 abbrev pub is_deepest : Option Levels → Bool
@@ -33,16 +33,16 @@ abbrev pub rows_at : List ℕ → Walk → Slot → List Weighted
 rows_at levels a s = if is_whole levels a then map (spot_at a) (entries (counts_of s)) else []
 
 -- the rows of the first n slots
-abbrev pub rows_of : List ℕ → List Slot → List Walk → ℕ → List Weighted
-rows_of levels slots homes zero = []
-rows_of levels slots homes (suc n) = rows_of levels slots homes n ++ rows_at levels (home_of homes n) (slot_of slots n)
+abbrev pub spelled_rows : List ℕ → List Slot → List Walk → ℕ → List Weighted
+spelled_rows levels slots homes zero = []
+spelled_rows levels slots homes (suc n) = spelled_rows levels slots homes n ++ rows_at levels (home_of homes n) (slot_of slots n)
 
 -- the spots that the tables at whole addresses count: the bag of the slots
-abbrev pub bag_of : List ℕ → List Slot → List Walk → List Weighted
-bag_of levels slots homes = rows_of levels slots homes (length slots)
+abbrev pub spelled_bag : List ℕ → List Slot → List Walk → List Weighted
+spelled_bag levels slots homes = spelled_rows levels slots homes (length slots)
 
 -- The slots have the shape of a cube of spots of those levels, each with an amount.
 pub record IsCubeOf (dims : ℕ) (levels : List ℕ) (slots : List Slot) (homes : List Walk) (h : List Weighted) : Type 0 where
   pub shape : HasShape dims slots homes h
-  pub lengths : (q : SpotPath) → Contains (spots_in h) q → lengths_of q ≡ levels
+  pub lengths : (q : SpotPath) → Contains (spots_in h) q → label_counts q ≡ levels
   pub amounts : All (λ w. 0 < w.amount) h

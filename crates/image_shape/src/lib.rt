@@ -6,6 +6,10 @@
 //! its children count together. They hold exactly of a cube, and then of the list that the time tables at whole addresses
 //! spell out (`specs/Wholes.antt`). The crate stands on `node_arena` for slots and their shape; bytes and points it leaves to
 //! the crates above.
+//!
+//! ```text
+//! let is_shared = shares_only(&arena, id, &mut steps);   // true of a node with two children
+//! ```
 #![tactic(auto)]
 
 mod laws;
