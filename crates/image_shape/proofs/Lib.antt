@@ -8,6 +8,4 @@ pub mod Local
 pub mod OnlyChild
 pub mod Root
 pub mod Rows
-pub mod Summing
 pub mod Timing
-pub mod Words
