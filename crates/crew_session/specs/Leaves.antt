@@ -3,6 +3,7 @@ use Rattle.std.specs.Prelude.{◌≡◌, ℕ, true, false, List, Option, OnOk, I
 use Rattle.crew_session.specs.Work.{WorkState}
 use Rattle.cube_view.specs.declared.stat.Stat.{Stat}
 use Rattle.live_session.specs.News.{Goes, news_of}
+use Rattle.live_session.specs.Refusing.{RefusesExactly}
 use Rattle.live_session.specs.SoFar.{AnswersAll, HasDone}
 use Rattle.outer_io.specs.Faults.{HasCause}
 use Rattle.outer_io.specs.Progress.{IsTooLarge}
@@ -20,6 +21,8 @@ pub record LeavesSession {I O : Type 0} (left : I → Option (List ℕ)) (faults
   pub all : OnOk after.end (AnswersAll left before.schema before.session after.session)
   -- and where there was too much: then the script is over its limit
   pub too_much : IsErrOf after.end fault.TooMuch → AnswersAll left before.schema before.session after.session × IsTooLarge left before.session.source
+  -- a script that is refused exactly then, and not where it ended without a fault, of a session whose cutter had given nothing
+  pub refused : RefusesExactly left before.schema before.session.source after.end
   -- `Read` only where the source's count of faults rose, which else stands
   pub read : HasCause (faults before.session.source.source) (faults after.session.source.source) after.end fault.Read
   -- `Write` only where the sink's count rose, which else stands

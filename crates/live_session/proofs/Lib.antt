@@ -4,3 +4,4 @@ mod Turning
 mod OneTurn
 mod SoFarLaws
 mod Running
+mod Refused

@@ -4,4 +4,5 @@ pub mod State
 pub mod Turned
 pub mod Answered
 pub mod SoFar
+pub mod Refusing
 pub mod TranscriptLaws

@@ -3,6 +3,7 @@ ghost use Rattle.std.specs.Prelude.{◌≡◌, ◌≢◌, ℕ, ◌+◌, ◌<◌,
 ghost use Rattle.cube_view.specs.Points.{Point};
 ghost use Rattle.live_session.specs.Answered.{Answered, IsBroken};
 ghost use Rattle.live_session.specs.News.{Goes, HasNews, News, news_of, seen_asked};
+ghost use Rattle.live_session.specs.Refusing.{RefusesExactly};
 ghost use Rattle.live_session.specs.Saying.{IsNewsOf, IsShown, SaysOver};
 ghost use Rattle.live_session.specs.SoFar.{AnswersAll, HasAnswered, HasDone};
 ghost use Rattle.live_session.specs.State.{SessionState, new_session};
@@ -274,7 +275,8 @@ impl<I: Source, O: Sink> Session<I, O> {
     }
 
     /// Takes turns to the script's end or a fault. Where it ends without a fault, or with too much, all that the script
-    /// asks is answered. Of a viewer that has learned the ended list, the replies are a final transcript over it: each
+    /// asks is answered. A script that it goes over from its front is refused where there was too much, and is not where it
+    /// ends without a fault. Of a viewer that has learned the ended list, the replies are a final transcript over it: each
     /// number of points that they print is its length.
     pub fn run<V: Grow, R: Wait, L: Ledger>(
         &mut self,
@@ -289,10 +291,10 @@ impl<I: Source, O: Sink> Session<I, O> {
         ensures finals { IfSome viewer.last (λ w. HasDone I.left I.faults O.held viewer.schema V.is_stat true mail.old.takes (news_of w w mail.new) self.old self.new result.1) }
         ensures all { OnOk result.1 (AnswersAll I.left viewer.schema self.old self.new) }
         ensures too_much { IsErrOf result.1 SessionFault.TooMuch → AnswersAll I.left viewer.schema self.old self.new × IsTooLarge I.left self.old.source }
+        ensures refused { RefusesExactly I.left viewer.schema self.old.source result.1 }
         ensures causes { HasCause (I.faults self.old.source.source) (I.faults self.new.source.source) result.1 SessionFault.Read × HasCause (O.faults self.old.sink) (O.faults self.new.sink) result.1 SessionFault.Write }
         ensures viewer { Goes viewer.shown viewer.learned viewer.last result.0.shown result.0.learned × (result.0.last ≡ viewer.last) × (result.0.schema ≡ viewer.schema) }
-        ensures mail { (mail.new.mailbox ≡ mail.old.mailbox) × (mail.new.pair ≡ mail.old.pair) }
-        ensures ended { (self.new.ended ≡ true) × (O.name self.new.sink ≡ O.name self.old.sink) }
+        ensures ended { (self.new.ended ≡ true) × (O.name self.new.sink ≡ O.name self.old.sink) × (mail.new.mailbox ≡ mail.old.mailbox) × (mail.new.pair ≡ mail.old.pair) }
     {
         let mut viewer = viewer;
         'turns: loop {

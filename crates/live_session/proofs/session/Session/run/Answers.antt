@@ -2,6 +2,7 @@ use Rattle.std.proofs.Common.{◌∙◌, sym, refl, arith, true, false}
 use Rattle.live_session.specs.News.{news_of}
 use Rattle.live_session.specs.Saying.{IsShown}
 use Rattle.live_session.proofs.OneTurn.{goes_on, goes_unseen, if_some, ok_answer, prefix-same, shown_numbers}
+use Rattle.live_session.proofs.Refused.{refused_at_too_much, taken_at_end}
 use Rattle.live_session.proofs.Running.{all_ended, all_too_much, answered_on, done_fault, mail_same, not_last, replied_not_last, skipped_not_last, some_on, still_going}
 use Rattle.live_session.proofs.SoFarLaws.{answered_nothing}
 use Rattle.session_core.proofs.SoFar.{fault_is}
@@ -99,3 +100,24 @@ returns-in-Err-clause-finals g c =
     let was = c.turns.invariant in
     let turn = c.turn-after.ensures in
     some_on c.args.viewer.last c.turns.viewer.last was.last (λ w. done_fault g.I.Source.left g.I.Source.faults g.O.Sink.held g.V.CubeView.is_stat c.args.mail.now.takes true (news_of w w c.turns.mail) (news_of w w c.turn-after.new.mail) c.args.self.now c.turns.self c.turn-after.new.self c.turns.viewer.schema c.args.viewer.schema c.turn-after.result.1 c.in-Err.fault was.schema c.in-Err.is) (turn.finals c.args.self.now c.args.mail.now.takes) was.finals
+
+pub returns-in-Ok-Ended-clause-refused : goal.returns-in-Ok-Ended-clause-refused
+returns-in-Ok-Ended-clause-refused g c =
+    let was = c.turns.invariant in
+    let turn = c.turn-after.ensures in
+    let after = c.turn-after.result.0 in (
+      taken_at_end g.I.Source.left g.I.Source.faults g.O.Sink.held g.V.CubeView.is_stat c.args.mail.now.takes false (news_of c.turns.viewer.shown c.turns.viewer.learned c.turns.mail) (news_of after.shown after.learned c.turn-after.new.mail) c.args.self.now c.turns.self c.turn-after.new.self
+          (IsShown g.V.CubeView.weight_at g.V.CubeView.seen g.V.CubeView.schema g.V.CubeView.numbers c.turns.viewer.schema after.shown.points)
+          c.turns.viewer.schema c.args.viewer.schema c.turn-after.result.1 c.in-Ok-Ended.field-0 was.schema c.in-Ok-Ended.is (rw c.in-Ok-Ended.is at c.in-Ok-Ended.field-0-is) was.going was.so_far turn.turned,
+      λ e. cc,
+    )
+
+pub returns-in-Err-clause-refused : goal.returns-in-Err-clause-refused
+returns-in-Err-clause-refused g c =
+    let was = c.turns.invariant in
+    let turn = c.turn-after.ensures in
+    let after = c.turn-after.result.0 in (
+      tt,
+      λ e. refused_at_too_much g.I.Source.left g.I.Source.faults g.O.Sink.held g.V.CubeView.is_stat c.args.mail.now.takes false (news_of c.turns.viewer.shown c.turns.viewer.learned c.turns.mail) (news_of after.shown after.learned c.turn-after.new.mail) c.args.self.now c.turns.self c.turn-after.new.self
+          {put_faults = g.O.Sink.faults} c.args.viewer.schema c.turn-after.result.1 c.in-Err.fault c.in-Err.is (fault_is {T = Unit {0}} c.in-Err.fault _ e) was.going was.so_far turn.faults.0,
+    )
