@@ -104,6 +104,8 @@ module _ {I O : Type 0} (left : I → Option (List ℕ)) (faults : I → ℕ) (h
             (subst (λ (n : ℕ). HasDone left faults held schema is_stat false n (news_of work.shown work.learned work.mail) session work.session work.end) none ran.replied);
         all = λ is_closed. ran.all;
         too_much = ran.too_much;
+        taken = λ is_closed. ran.refused.0;
+        refused = ran.refused.1;
         read = ran.read;
         write = ran.write;
         named = ran.ended.1;
@@ -183,6 +185,8 @@ module _ {I O : Type 0} (left : I → Option (List ℕ)) (faults : I → ℕ) (h
         replied = λ is_closed. subst (λ (n : ℕ). HasDone left faults held schema is_stat true n (news_over whole.points after.mail) session after.session after.end) none ran.final;
         all = λ is_closed. ran.all;
         too_much = ran.too_much;
+        taken = λ is_closed. ran.refused.0;
+        refused = ran.refused.1;
         read = ran.read;
         write = ran.write;
         named = ran.ended.1;
@@ -215,6 +219,8 @@ module _ {I O : Type 0} (left : I → Option (List ℕ)) (faults : I → ℕ) (h
         replied = λ is. absurd (false≢true is);
         all = λ is. absurd (false≢true is);
         too_much = λ e. absurd (no_fault fault.TooMuch e);
+        taken = λ is. absurd (false≢true is);
+        refused = λ e. absurd (no_fault fault.TooMuch e);
         read = record { rose = λ e. absurd (no_fault fault.Read e); quiet = λ e. refl };
         write = record { rose = λ e. absurd (no_fault fault.Write e); quiet = λ e. refl };
         named = refl;

@@ -16,6 +16,7 @@ use Rattle.cube_view.specs.declared.stat.Stat.{Stat}
 use Rattle.feed_reader.specs.Feeds.{points_in}
 use Rattle.feed_reader.specs.Rows.{row_of_line}
 use Rattle.feed_reader.specs.declared.row.Row.{Row}
+use Rattle.live_session.specs.Refusing.{TellsRefused}
 use Rattle.live_session.specs.SoFar.{AnswersAll, HasDone}
 use Rattle.live_session.specs.State.{SessionState}
 use Rattle.mailbox.specs.Ends.{InEnd}
@@ -76,6 +77,11 @@ module _ {I O : Type 0} (left : I → Option (List ℕ)) (faults : I → ℕ) (h
     pub all : closed ≡ true → OnOk end (AnswersAll left schema before after)
     -- and with too much: then the script is over its limit
     pub too_much : IsErrOf end fault.TooMuch → AnswersAll left schema before after × IsTooLarge left before.source
+    -- of a session whose cutter had given nothing, the script is not refused where the viewers were closed and no fault
+    -- ended it
+    pub taken : closed ≡ true → OnOk end (TellsRefused left schema before.source false)
+    -- and it is refused where there was too much
+    pub refused : IsErrOf end fault.TooMuch → TellsRefused left schema before.source true
     -- `Read` only where the source's count of faults rose, which else stands
     pub read : HasCause (faults before.source.source) (faults done.source) end fault.Read
     -- `Write` only where the sink's count rose, which else stands
