@@ -4,6 +4,7 @@ use Rattle.std.proofs.lemmas.List.{map-append}
 use Rattle.std.specs.Prelude.{Contains, IfSome}
 use Rattle.std.specs.FinMap.{get}
 use Rattle.std.specs.List.{AllZip}
+use Rattle.std.proofs.lemmas.List.Elements.{All-weaker}
 use Rattle.crew_feeder.specs.declared.job.FeedDone.{FeedDone}
 use Rattle.crew_feeder.specs.declared.job.FeedJob.{FeedJob}
 use Rattle.crew_session.specs.declared.done.SessionDone.{SessionDone}
@@ -15,27 +16,32 @@ use Rattle.cube_schema.specs.declared.plan.Plan.{Plan}
 use Rattle.cube_store.specs.Numbers.{OwnsAllButRoot}
 use Rattle.feed_reader.specs.Feeds.{is_feed_refused}
 use Rattle.live_session.specs.State.{SessionState}
-use Rattle.outer_io.specs.Faults.{Rose}
-use Rattle.outer_io.specs.Files.{Files, file_or_empty}
+use Rattle.outer_io.proofs.ToldLaws.{Told-each, Told-some}
+use Rattle.outer_io.specs.Faults.{Rose, RoseBy}
+use Rattle.outer_io.specs.Files.{Files, HasFile, file_or_empty}
 use Rattle.outer_io.specs.Lines.{input_limit}
 use Rattle.outer_io.specs.Told.{Told}
+use Rattle.outer_io.specs.declared.fault.IoFault.TheVariants as io
 use Rattle.plan_run.proofs.Causes.{FeedCause, SessionCause, feed_causes, session_causes}
 use Rattle.plan_run.proofs.Joined.{End, ended}
-use Rattle.plan_run.proofs.Landed.{told_pair}
+use Rattle.plan_run.proofs.Landed.{some_is, told_pair}
 use Rattle.plan_run.proofs.Named.{KeepsOthers-one, dones_named, names_of, names_then, sessions_named}
 use Rattle.plan_run.proofs.Blamed.{AnyOf, all_err, any_in, any_left, any_right, any_unmapped}
 use Rattle.plan_run.proofs.Raised.{closing_not_plan, closing_read, closing_write, starved_of}
 use Rattle.plan_run.proofs.Refused.{large_feeds, large_scripts, write_not_refused}
-use Rattle.plan_run.proofs.Said.{completes, opening_refused, opening_said, silent_after, text_after}
+use Rattle.plan_run.proofs.Said.{completes, opening_refused, opening_said, opening_truth, opening_wrote, puts_after, silent_after, text_after}
 use Rattle.plan_run.proofs.Whole.{all_quiet, completed}
+use Rattle.plan_run.proofs.Truth.{account, account_is, holds_files, kept_found, kept_well, kept_where, reads_counted, said_found, wrote_found, wrote_well, wrote_where}
 use Rattle.plan_run.proofs.Zips.{AllZip-right}
 use Rattle.plan_run.specs.Completed.{IsCompleted}
-use Rattle.plan_run.specs.Ends.{IsDone, HasRefusedInput, LeavesNames, PutsOrFails, RunEnds, SaysOfRun}
+use Rattle.plan_run.specs.Ends.{AreHeaded, HasReported, IsDone, HasRefusedInput, LeavesNames, MissesNothing, PutsOrFails, RunEnds, SaysOfRun, TellsTruth}
+use Rattle.plan_run.specs.Interrupted.{Account, HoldsFiles, read_stops}
 use Rattle.plan_run.specs.Parts.{GivesBack, RunsParts, run_done_of, jobs_of}
 use Rattle.plan_run.specs.Seen.{PartSeen}
 use Rattle.run_files.proofs.Stages.{KeepsOthers-after, KeepsOthers-more, all_opened}
+use Rattle.run_files.specs.Headed.{RefusesLast}
 use Rattle.run_files.specs.Leaving.{KeepsOthers, LeavesPlace}
-use Rattle.run_files.specs.Outside.{file_of, PlaceSeen, Silent, SinkSeen}
+use Rattle.run_files.specs.Outside.{file_of, PlaceSeen, Puts as Said, Silent, SinkSeen}
 use Rattle.run_files.specs.Planned.{IsPlanOf}
 use Rattle.run_files.specs.Stops.{write_end}
 use Rattle.run_files.specs.declared.stop.Stop.{Stop}
@@ -46,9 +52,14 @@ use Rattle.run_opening.specs.declared.parts.RunParts.{RunParts}
 use Rattle.run_stages.specs.Closing.{ClosesRun, run_text, threads_end}
 use Rattle.run_stages.specs.Counted.{feed_counts, script_counts}
 use Rattle.run_stages.specs.Ends.{feed_end, feeds_end, session_end, sessions_end, starved_end}
+use Rattle.run_stages.specs.Said.{SaysText}
 use Rattle.run_stages.specs.declared.done.RunDone.{RunDone}
 use Rattle.session_core.proofs.WholeScripts.{told_by}
 use Rattle.world_core.specs.Interleaving.{entry_points}
+
+some_each : {A : Type 0} (o : Option A) (P Q : A → Type 0) → ((x : A) → P x → Q x) → IsSomeAnd o P → IsSomeAnd o Q
+some_each None P Q f some = absurd some
+some_each (Some x) P Q f some = f x some
 
 module _ {P T : Type 0} (p : PlaceSeen P) (t : SinkSeen T) where
   -- ---- a run that opening ended
@@ -86,6 +97,8 @@ module _ {P T : Type 0} (p : PlaceSeen P) (t : SinkSeen T) where
     write = write;
     said = opening_said p t place mid out out1 name stop opens.plan opens.leaves.opens opens.leaves.makes opens opens.unplanned opens.order;
     refused = refused;
+    truth = λ no_write no_out. opening_truth p t place mid out out1 name stop opens.plan opens.leaves.opens opens.leaves.makes no_out opens.order;
+    unsaid = λ e no_write. opening_wrote p t place mid out out1 name stop opens.plan opens.leaves.opens opens.leaves.makes (cc e) no_write opens.leaves.created opens.order;
     complete = completes p t place mid out out1 name opens.plan (Err stop) (λ e. (opens.refused_plan (same_stop stop PlanRefused e)).0) refused (λ e. opens.leaves.read (same_stop stop ReadFault e)) write;
   }
     where
@@ -236,6 +249,70 @@ module _ {P T : Type 0} (p : PlaceSeen P) (t : SinkSeen T) where
             written (inl rose) = inl (subst (λ n. Rose n (p.write_faults place')) write_before rose)
             written (inr rose) = inr (subst (λ n. Rose n (t.faults out')) silent.faults rose)
 
+        -- ---- where no writing failed
+
+        -- each output was empty when the threads began
+        empty_outputs : (files now : Files) → p.files place ≡ Some files → p.files mid ≡ Some now → All (λ name. get now name ≡ Some []) (output_names plan)
+        empty_outputs files now told told' =
+            All-weaker (λ name. HasFile (p.files mid) name []) (λ name. get now name ≡ Some []) (λ name has. Told-some (p.files mid) now (λ f. get f name ≡ Some []) told' has) (output_names plan)
+            (subst (λ o. All (λ name. HasFile (p.files mid) name []) (outputs_of o)) its_plan (opens.emptied refl (some_is (p.files place) files told)))
+
+        its_account : Account
+        its_account = account p i s t plan parts mid place' out1 out' (p.files place) ready crewed ran feeds asks finals result not_plan closes
+
+        its_files : ¬ Rose (p.write_faults place) (p.write_faults place') → closes.wrote ≢ Err io.NoMemory → closes.kept ≢ Err io.NoMemory → Told (p.files place) (λ files. IsSomeAnd (p.files place') (HoldsFiles plan result its_account files))
+        unfolding its_account
+        its_files no_write wrote kept = told_by (p.files place) (λ files. IsSomeAnd (p.files place') (HoldsFiles plan result its_account files)) (λ files told.
+            let now = told_pair (p.files place) (p.files mid) files (λ a b. (other : List ℕ) → ¬ Contains leaves.makes other → get b other ≡ get a other) told leaves.others in
+            let quiet : ¬ Rose (p.write_faults mid) (p.write_faults place') = subst (λ n. ¬ Rose n (p.write_faults place')) (sym write_before) no_write in
+            holds_files p i s t plan parts mid place' out1 out' (p.files place) ready crewed ran feeds asks finals result not_plan closes quiet files now.0 told plan_is.files now.1 (empty_outputs files now.0 told now.1)
+            (wrote_well p i s t plan parts mid place' out1 out' (p.files place) ready crewed ran feeds asks finals result not_plan closes quiet wrote) (kept_well p i s t plan parts mid place' out1 out' (p.files place) ready crewed ran feeds asks finals result not_plan closes quiet kept))
+
+        reported : ¬ Rose (p.write_faults place) (p.write_faults place') → closes.said ≢ Err NoMemory → Said t out1 out' (run_text plan done) → HasReported p t place place' out out' plan result
+        unfolding its_account
+        reported no_write found puts =
+            let quiet : ¬ Rose (p.write_faults mid) (p.write_faults place') = subst (λ n. ¬ Rose n (p.write_faults place')) (sym write_before) no_write in
+            record {
+              account = its_account;
+              puts = subst (Said t out out') (account_is p i s t plan parts mid place' out1 out' (p.files place) ready crewed ran feeds asks finals result not_plan closes) (puts_after t out out1 out' silent (run_text plan done) puts);
+              files = its_files no_write (wrote_where p i s t plan parts mid place' out1 out' (p.files place) ready crewed ran feeds asks finals result not_plan closes quiet found) (kept_where p i s t plan parts mid place' out1 out' (p.files place) ready crewed ran feeds asks finals result not_plan closes quiet found);
+              reads = subst (λ n. RoseBy (read_stops its_account) n (p.read_faults place')) read_before (reads_counted p i s t plan parts mid place' out1 out' (p.files place) ready crewed ran feeds asks finals result not_plan closes);
+            }
+
+        tells : ¬ Rose (p.write_faults place) (p.write_faults place') → ¬ Rose (t.faults out) (t.faults out') → TellsTruth p t place place' out out' plan result
+        tells no_write no_out = record {
+          says = says closes.said refl closes.report;
+          refused = λ is. told_by (p.files place) (λ files. AreHeaded p t place place' out out' plan files → HasReported p t place place' out out' plan result)
+              (λ files told headed. reports closes.said refl closes.report (said_found p i s t plan parts mid place' out1 out' (p.files place) ready crewed ran feeds asks finals result not_plan closes (λ bad. cc (is, bad))));
+        }
+          where
+            no_later : ¬ Rose (t.faults out1) (t.faults out')
+            no_later = subst (λ n. ¬ Rose n (t.faults out')) (sym silent.faults) no_out
+
+            reports : (r : End) → closes.said ≡ r → SaysText t out1 out' (run_text plan done) r → closes.said ≢ Err NoMemory → HasReported p t place place' out out' plan result
+            reports (Ok x) is says found = reported no_write found says.puts
+            reports (Err NoMemory) is says found = absurd (found is)
+            reports (Err PlanRefused) is says found = absurd (says.ends.0 refl)
+            reports (Err ReadFault) is says found = absurd (says.ends.1 refl)
+            reports (Err WriteFault) is says found = absurd (no_later (says.fails refl).faults)
+            reports (Err FeedRefused) is says found = absurd (says.ends.2 refl)
+
+            says : (r : End) → closes.said ≡ r → SaysText t out1 out' (run_text plan done) r
+                → Silent t out out' ⊎ ((opens : List (List ℕ)) × RefusesLast plan.schema (file_of (p.files place)) opens (Said t out out')) ⊎ HasReported p t place place' out out' plan result
+            says (Ok x) is text = inr (inr (reports (Ok x) is text (λ bad. cc (is, bad))))
+            says (Err NoMemory) is text = inl (silent_after t out out1 out' silent (text.silent refl))
+            says (Err PlanRefused) is text = absurd (text.ends.0 refl)
+            says (Err ReadFault) is text = absurd (text.ends.1 refl)
+            says (Err WriteFault) is text = absurd (no_later (text.fails refl).faults)
+            says (Err FeedRefused) is text = absurd (text.ends.2 refl)
+
+        misses_nothing : result ≡ Err WriteFault → ¬ Rose (p.write_faults place) (p.write_faults place') → MissesNothing p t place place' out out' plan
+        misses_nothing is no_write =
+            let found : result ≢ Err NoMemory = λ bad. cc (is, bad) in
+            let unread : result ≢ Err ReadFault = λ bad. cc (is, bad) in
+            Told-each (p.files place) _ _ (λ files some. some_each (p.files place') _ _ (λ files' holds. (its_account.entries, holds.journal, holds.all found unread)) some)
+            (its_files no_write (wrote_found p i s t plan parts mid place' out1 out' (p.files place) ready crewed ran feeds asks finals result not_plan closes found) (kept_found p i s t plan parts mid place' out1 out' (p.files place) ready crewed ran feeds asks finals result not_plan closes found))
+
         pub ended_by_closing : RunEnds p t place place' out out' name result
         ended_by_closing = record {
           plan = Some plan;
@@ -248,6 +325,8 @@ module _ {P T : Type 0} (p : PlaceSeen P) (t : SinkSeen T) where
           refused = refused;
           read = read_rose;
           write = write_rose;
+          truth = tells;
+          unsaid = λ e no_write all. misses_nothing e no_write;
           complete = completes p t place place' out out' name (Some plan) result (λ e. absurd (not_plan e)) refused read_rose write_rose;
         }
           where
@@ -282,6 +361,11 @@ module _ {P T : Type 0} (p : PlaceSeen P) (t : SinkSeen T) where
             refused = λ e. absurd (cc (is, e));
             read = λ e. absurd (cc (is, e));
             write = λ e. absurd (cc (is, e));
+            truth = λ no_write no_out. record {
+              says = inl (silent_after t out out1 out' silent (record { held = ap t.held said; faults = ap t.faults said; name = ap t.name said }));
+              refused = λ e. absurd (cc (is, e));
+            };
+            unsaid = λ e. absurd (cc (is, e));
             complete = completes p t place place' out out' name (Some plan) result (λ e. absurd (cc (is, e))) (λ e. absurd (cc (is, e))) (λ e. absurd (cc (is, e))) (λ e. absurd (cc (is, e)));
           }
 

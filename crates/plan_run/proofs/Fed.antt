@@ -28,7 +28,7 @@ pub new_lines : {S : Type 0} (left : S → Option (List ℕ)) (c : Cutter S) (so
 new_lines left c source bytes new told = ap (λ k. lines_left left k) new ∙ ap (λ (o : Option (List ℕ)). option_map (lines_from 0 0) (option_map (λ more. [] ++ more) o)) told
 
 -- all rows of a feed, by its lines
-rows_read : (schema : Schema) (bytes places : List ℕ) (line : Line) (rest : List Line) → lines bytes ≡ line ∷ rest → head_of_lines schema (line ∷ []) ≡ Ok places → rows schema bytes ≡ map (row_of_line schema places) rest
+pub rows_read : (schema : Schema) (bytes places : List ℕ) (line : Line) (rest : List Line) → lines bytes ≡ line ∷ rest → head_of_lines schema (line ∷ []) ≡ Ok places → rows schema bytes ≡ map (row_of_line schema places) rest
 unfolding rows feed_head
 rows_read schema bytes places line rest is head =
     ap (λ (all : List Line). rows_under schema (head_of_lines schema all) (drop 1 all)) is

@@ -12,4 +12,12 @@ mod Named
 mod Raised
 mod Refused
 mod Said
+mod Ranked
+mod Taken
+mod Landing
+mod Answering
+mod Holding
+mod Counting
+mod Truth
+mod Fronts
 mod Ended

@@ -77,10 +77,10 @@ module _ {I : Type 0} (left : I → Option (List ℕ)) (faults : I → ℕ) (sch
   large_feeds (n ∷ names) (j ∷ jobs) (s ∷ sents) (d ∷ dones) ready leave (inr any) = inr (large_feeds names jobs sents dones ready.1 leave.1 any)
 
 module _ {I O : Type 0} (i : PartSeen I) (s : SinkSeen O) (is_stat : Stat → Type 0) (schema : Schema) (final closed starved : Bool) (points : List Point) (files : Files) where
-  abbrev IsLarge : List ℕ → Type 0
+  abbrev pub IsLarge : List ℕ → Type 0
   IsLarge name = input_limit < length (file_or_empty files name)
 
-  large_script : (name : List ℕ) (before : SessionState I O) (done : SessionDone I O) → IsSessionOf i.left i.faults s (Some files) name before → LeavesTranscript i.left i.faults s.held s.faults s.name is_stat schema final closed starved points before done
+  pub large_script : (name : List ℕ) (before : SessionState I O) (done : SessionDone I O) → IsSessionOf i.left i.faults s (Some files) name before → LeavesTranscript i.left i.faults s.held s.faults s.name is_stat schema final closed starved points before done
       → session_end done.fault ≡ Err FeedRefused → IsLarge name
   large_script name before done ready leaves end =
       let much : IsErrOf leaves.end fault.TooMuch = ended_by leaves.end fault.TooMuch (sym leaves.numbers.2 ∙ session_refused_end done.fault end) in

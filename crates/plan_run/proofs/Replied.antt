@@ -27,7 +27,7 @@ use Rattle.session_core.specs.Transcript.{AllAnswered, IsTranscript, replies_tex
 use Rattle.session_core.specs.declared.fault.SessionFault.{SessionFault}
 
 -- as many replies answer as were asked for
-answered_length : (schema : Schema) (is_stat : Stat → Type 0) (final : Bool) (l : List Point) (u : ℕ) (lacks : Bool) (ps : List Parsed) (replies : List Reply) → AllAnswered schema is_stat final l u lacks ps replies → length replies ≡ length ps
+pub answered_length : (schema : Schema) (is_stat : Stat → Type 0) (final : Bool) (l : List Point) (u : ℕ) (lacks : Bool) (ps : List Parsed) (replies : List Reply) → AllAnswered schema is_stat final l u lacks ps replies → length replies ≡ length ps
 answered_length schema is_stat final l u lacks [] [] all = refl
 answered_length schema is_stat final l u lacks [] (reply ∷ replies) all = absurd all
 answered_length schema is_stat final l u lacks (p ∷ ps) [] all = absurd all

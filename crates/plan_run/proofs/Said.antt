@@ -1,7 +1,9 @@
 -- What a run puts, and what follows where nothing is refused and no count rose.
-use Rattle.std.proofs.Common.{◌≡◌, ◌⊎◌, inl, inr, ℕ, true, not, ◌||◌, nat_lt, List, ◌∷◌, length, Option, Some, None, Result, Ok, Err, refl, sym, ap, subst, ◌∙◌}
-use Rattle.std.specs.Prelude.{Contains, IfSome, is_ok}
-use Rattle.std.proofs.lemmas.List.Elements.{Contains-append_left, Contains-push}
+use Rattle.std.proofs.Common.{◌≡◌, ◌⊎◌, inl, inr, ℕ, true, not, ◌||◌, nat_lt, List, [], ◌∷◌, ◌++◌, length, length-append, arith, Option, Some, None, Result, Ok, Err, refl, sym, ap, subst, ◌∙◌}
+use Rattle.std.specs.Prelude.{Contains, IfSome, IsOk, is_ok}
+use Rattle.std.proofs.lemmas.List.Elements.{All-contains, Contains-append_left, Contains-push}
+use Rattle.cube_schema.specs.Files.{output_names}
+use Rattle.cube_schema.specs.Repeats.{outputs}
 use Rattle.cube_schema.specs.declared.plan.Plan.{Plan}
 use Rattle.cube_view.specs.declared.schema.Schema.{Schema}
 use Rattle.feed_reader.specs.Feeds.{feed_head, is_feed_refused}
@@ -12,13 +14,14 @@ use Rattle.outer_io.specs.Faults.{Rose}
 use Rattle.outer_io.specs.Files.{Files, file_or_empty}
 use Rattle.outer_io.specs.Lines.{input_limit}
 use Rattle.outer_io.specs.Told.{Told}
-use Rattle.plan_run.specs.Ends.{IsDoneOrLacking, HasRefusedInput, PutsOrFails, SaysOfRun}
+use Rattle.plan_run.specs.Ends.{AreHeaded, HasReported, IsDoneOrLacking, HasRefusedInput, MissesNothing, PutsOrFails, SaysOfRun, TellsTruth}
 use Rattle.run_files.specs.Headed.{RefusesLast}
 use Rattle.run_files.specs.Outside.{FailsToPut, file_of, PlaceSeen, Puts, Silent, SinkSeen}
 use Rattle.run_files.specs.declared.stop.Stop.{Stop}
 use Rattle.run_files.specs.declared.stop.Stop.TheVariants.{NoMemory, PlanRefused, ReadFault, WriteFault, FeedRefused}
-use Rattle.run_opening.specs.Opening.{OpensInOrder, OpensRun}
+use Rattle.run_opening.specs.Opening.{EndsAtFeeds, OpensInOrder, OpensRun}
 use Rattle.run_stages.specs.Said.{SaysText}
+use Rattle.session_core.proofs.WholeScripts.{told_by}
 
 -- a feed whose first line is no header is refused
 headless : (schema : Schema) (feed : List ℕ) (fault : HeadFault) → feed_head schema feed ≡ Err fault → is_feed_refused schema feed ≡ true
@@ -124,3 +127,52 @@ module _ {P T : Type 0} (p : PlaceSeen P) (t : SinkSeen T) (place mid : P) (out 
       let one = refused refl in
       let same : one.0 ≡ plan = cc (one.1) in
       absurd (fine (subst (HasRefusedInput files) same (Told-some (p.files place) files (λ files. HasRefusedInput files one.0) told one.2)))
+
+  -- ---- where no write failed
+
+  headless_here : (files : Files) (plan : Plan) (feed : List ℕ) (fault : HeadFault) → Contains plan.feeds feed → feed_head plan.schema (file_or_empty files feed) ≡ Err fault → ¬ AreHeaded p t place mid out out1 plan files
+  headless_here files plan feed fault among bad headed =
+      let good = All-contains (λ name. IsOk (feed_head plan.schema (file_or_empty files name))) plan.feeds feed headed among in
+      let none = subst (λ (r : Result (List ℕ) HeadFault). IsOk r) bad good in
+      cc none
+
+  says_at_feeds : (stop : Stop) (plan : Plan) (opens makes : List (List ℕ)) → ¬ Rose (t.faults out) (t.faults out1) → EndsAtFeeds t plan (p.files place) out out1 opens makes (Some stop)
+      → Silent t out out1 ⊎ ((opens : List (List ℕ)) × RefusesLast plan.schema (file_of (p.files place)) opens (Puts t out out1)) ⊎ HasReported p t place mid out out1 plan (Err stop)
+  says_at_feeds NoMemory plan opens makes quiet feeds = inl (feeds.silent (λ e. cc) (λ e. cc))
+  says_at_feeds ReadFault plan opens makes quiet feeds = inl (feeds.silent (λ e. cc) (λ e. cc))
+  says_at_feeds PlanRefused plan opens makes quiet feeds = absurd (feeds.ends.1 refl)
+  says_at_feeds WriteFault plan opens makes quiet feeds = absurd (quiet (feeds.unsaid refl).refuses.says.faults)
+  says_at_feeds FeedRefused plan opens makes quiet feeds = inr (inl (opens, feeds.refused refl))
+
+  -- the feed that is refused has no header
+  refused_at_feeds : (stop : Stop) (plan : Plan) (opens makes : List (List ℕ)) → EndsAtFeeds t plan (p.files place) out out1 opens makes (Some stop) → stop ≡ FeedRefused
+      → Told (p.files place) (λ files. AreHeaded p t place mid out out1 plan files → HasReported p t place mid out out1 plan (Err stop))
+  refused_at_feeds stop plan opens makes feeds is =
+      let last = feeds.refused (ap (λ s. Some s) is) in
+      let among : Contains plan.feeds last.name =
+      subst (λ names. Contains names last.name) (sym feeds.feeds_are) (Contains-append_left opens feeds.unopened last.name (subst (λ names. Contains names last.name) (sym last.names_are) (Contains-push last.earlier last.name))) in
+      told_by (p.files place) (λ files. AreHeaded p t place mid out out1 plan files → HasReported p t place mid out out1 plan (Err stop)) (λ files told headed.
+      let bad : feed_head plan.schema (file_or_empty files last.name) ≡ Err last.refuses.fault = subst (λ o. Told (file_of o last.name) (λ feed. feed_head plan.schema feed ≡ Err last.refuses.fault)) told last.refuses.refused in
+      absurd (headless_here files plan last.name last.refuses.fault among bad headed))
+
+  pub opening_truth : (stop : Stop) (plan : Option Plan) (opens makes : List (List ℕ)) → ¬ Rose (t.faults out) (t.faults out1) → IfSome plan (InOrder stop opens makes) → IfSome plan (λ which. TellsTruth p t place mid out out1 which (Err stop))
+  opening_truth stop None opens makes quiet order = tt
+  opening_truth stop (Some plan) opens makes quiet (later, e, inl feeds) = record {
+    says = says_at_feeds stop plan later makes quiet feeds;
+    refused = λ is. refused_at_feeds stop plan later makes feeds (cc is);
+  }
+  opening_truth stop (Some plan) opens makes quiet (later, e, inr scripts) = record {
+    says = inl scripts.silent;
+    refused = λ is. absurd (scripts.ends.1 (cc is));
+  }
+
+  -- a run that created all its outputs did not end by a write while they were opened, unless the place's count rose
+  pub opening_wrote : (stop : Stop) (plan : Option Plan) (opens makes : List (List ℕ)) → stop ≡ WriteFault → ¬ Rose (p.write_faults place) (p.write_faults mid) → p.created mid ≡ p.created place ++ makes → IfSome plan (InOrder stop opens makes)
+      → IfSome plan (λ which. p.created mid ≡ p.created place ++ output_names which → MissesNothing p t place mid out out1 which)
+  opening_wrote stop None opens makes is quiet made order = tt
+  opening_wrote stop (Some plan) opens makes is quiet made (later, e, inr scripts) = λ all. absurd (quiet (scripts.write (ap (λ s. Some s) is)))
+  opening_wrote stop (Some plan) opens makes is quiet made (later, e, inl feeds) = λ all.
+      let none = length-append (p.created place) makes in
+      let some = length-append (p.created place) (output_names plan) in
+      let last = length-append (outputs plan.asks ++ outputs plan.finals) (plan.journal ∷ []) in
+      absurd (omega (arith, none, some, last, ap length made, ap length all, ap length feeds.unmade))

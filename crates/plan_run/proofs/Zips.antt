@@ -55,6 +55,20 @@ module _ {A B : Type 0} (R : A → B → Type 0) where
   AllZip-unmapped f (x ∷ xs) [] z = absurd z
   AllZip-unmapped f (x ∷ xs) (y ∷ ys) z = (z.0, AllZip-unmapped f xs ys z.1)
 
+  -- and those that belong to each other's values belong together
+  pub AllZip-mapped : {C : Type 0} (g : C → B) (xs : List A) (ys : List C) → AllZip (λ x y. R x (g y)) xs ys → AllZip R xs (map g ys)
+  AllZip-mapped g [] [] z = tt
+  AllZip-mapped g [] (y ∷ ys) z = absurd z
+  AllZip-mapped g (x ∷ xs) [] z = absurd z
+  AllZip-mapped g (x ∷ xs) (y ∷ ys) z = (z.0, AllZip-mapped g xs ys z.1)
+
+  -- what two values of each pair are to each other
+  pub AllZip-ap : {C D : Type 0} (S : C → D → Type 0) (f : A → D) (g : B → C) (xs : List A) (ys : List B) → ((x : A) (y : B) → R x y → S (g y) (f x)) → AllZip R xs ys → AllZip S (map g ys) (map f xs)
+  AllZip-ap S f g [] [] k z = tt
+  AllZip-ap S f g [] (y ∷ ys) k z = absurd z
+  AllZip-ap S f g (x ∷ xs) [] k z = absurd z
+  AllZip-ap S f g (x ∷ xs) (y ∷ ys) k z = (k x y z.0, AllZip-ap S f g xs ys k z.1)
+
   pub AllZip-length : (xs : List A) (ys : List B) → AllZip R xs ys → length ys ≡ length xs
   AllZip-length [] [] z = refl
   AllZip-length [] (y ∷ ys) z = absurd z

@@ -1,13 +1,16 @@
 -- How a run of a plan ends, and what it leaves of a place and of the sink of its report.
-use Rattle.std.specs.Prelude.{◌≡◌, ◌⊎◌, ℕ, ◌<◌, Bool, true, List, [], ◌∷◌, ◌++◌, Contains, length, Option, Some, None, IfSome, IsSomeAnd, Result, Ok, Err, OnOk}
+use Rattle.std.specs.Prelude.{◌≡◌, ◌⊎◌, ℕ, ◌<◌, Bool, true, List, [], ◌∷◌, ◌++◌, Contains, length, Option, Some, None, IfSome, IsSomeAnd, Result, Ok, Err, IsOk, OnOk, All}
+use Rattle.std.specs.FinMap.{get}
 use Rattle.cube_schema.specs.Files.{input_names, output_names}
 use Rattle.cube_schema.specs.declared.plan.Plan.{Plan}
-use Rattle.feed_reader.specs.Feeds.{is_feed_refused}
-use Rattle.outer_io.specs.Faults.{Rose}
+use Rattle.feed_queue.specs.Journal.{journal_text}
+use Rattle.feed_reader.specs.Feeds.{feed_head, is_feed_refused}
+use Rattle.outer_io.specs.Faults.{Rose, RoseBy}
 use Rattle.outer_io.specs.Files.{Files, file_or_empty}
 use Rattle.outer_io.specs.Lines.{input_limit}
 use Rattle.outer_io.specs.Told.{Told}
 use Rattle.plan_run.specs.Completed.{IsCompleted}
+use Rattle.plan_run.specs.Interrupted.{Account, HoldsAll, HoldsFiles, account_text, read_stops}
 use Rattle.run_files.specs.Headed.{RefusesLast}
 use Rattle.run_files.specs.Leaving.{KeepsOthers}
 use Rattle.run_files.specs.Outside.{FailsToPut, file_of, PlaceSeen, Puts, Silent, SinkSeen}
@@ -18,6 +21,7 @@ use Rattle.run_opening.specs.Opening.{inputs_of, outputs_of}
 use Rattle.run_report.specs.Reports.{counts_text}
 use Rattle.run_report.specs.declared.counts.FeedCounts.{FeedCounts}
 use Rattle.run_report.specs.declared.counts.ScriptCounts.{ScriptCounts}
+use Rattle.world_core.specs.declared.entry.Entry.{Entry}
 
 -- What a run leaves of the names and the files of a place, which is to open and then to create these names
 pub record LeavesNames {P : Type 0} (p : PlaceSeen P) (before after : P) (inputs outputs : List (List ℕ)) : Type 0 where
@@ -70,6 +74,36 @@ module _ {P T : Type 0} (p : PlaceSeen P) (s : SinkSeen T) (place place' : P) (o
   SaysOfRun name None = Silent s out out' ⊎ RefusesPlan s out out' (file_of (p.files place) name)
   SaysOfRun name (Some plan) = Silent s out out' ⊎ ((opens : List (List ℕ)) × RefusesLast plan.schema (file_of (p.files place)) opens (PutsOrFails s out out')) ⊎ Reports plan
 
+  -- the claim holds of the files before and after, where the place tells its files
+  abbrev pub OfFiles : (Files → Files → Type 0) → Type 0
+  OfFiles Claim = Told (p.files place) (λ files. IsSomeAnd (p.files place') (Claim files))
+
+  -- A run of the plan that ended so has put its report, and it is true
+  pub record HasReported (plan : Plan) (end : Result (Unit {0}) Stop) : Type 0 where
+    -- what it reports
+    pub account : Account
+    -- in one put, to the last line
+    pub puts : Puts s out out' (account_text plan account)
+    -- it is what the files hold
+    pub files : OfFiles (HoldsFiles plan end account)
+    -- no more of its lines say `stopped: Read` than the place's count of reading rose by
+    pub reads : RoseBy (read_stops account) (p.read_faults place) (p.read_faults place')
+
+  -- each feed's first line is a header of the plan's schema
+  abbrev pub AreHeaded : Plan → Files → Type 0
+  AreHeaded plan files = All (λ name. IsOk (feed_head plan.schema (file_or_empty files name))) plan.feeds
+
+  -- What a run of the plan that ended so says where no write failed
+  pub record TellsTruth (plan : Plan) (end : Result (Unit {0}) Stop) : Type 0 where
+    -- nothing, or the line of a refused feed which was opened last, or its whole report, which is true
+    pub says : Silent s out out' ⊎ ((opens : List (List ℕ)) × RefusesLast plan.schema (file_of (p.files place)) opens (Puts s out out')) ⊎ HasReported plan end
+    -- with a refused feed it reports where each feed has a header
+    pub refused : end ≡ Err FeedRefused → Told (p.files place) (λ files. AreHeaded plan files → HasReported plan end)
+
+  -- the files of a run of the plan miss nothing
+  abbrev pub MissesNothing : Plan → Type 0
+  MissesNothing plan = OfFiles (λ files files'. (entries : List Entry) × (get files' plan.journal ≡ Some (journal_text plan.schema entries)) × HoldsAll plan entries files files')
+
   -- How a run of the plan of that name ends
   pub record RunEnds (name : List ℕ) (result : Result (Unit {0}) Stop) : Type 0 where
     -- the plan, where the file of that name was read and is one
@@ -93,3 +127,7 @@ module _ {P T : Type 0} (p : PlaceSeen P) (s : SinkSeen T) (place place' : P) (o
     pub write : result ≡ Err WriteFault → Rose (p.write_faults place) (p.write_faults place') ⊎ Rose (s.faults out) (s.faults out')
     -- where there is a plan, nothing is refused and no count rose, the run is done, or memory was wanted
     pub complete : ¬ Rose (p.read_faults place) (p.read_faults place') → ¬ Rose (p.write_faults place) (p.write_faults place') → ¬ Rose (s.faults out) (s.faults out') → (files : Files) → p.files place ≡ Some files → IfSome plan (λ which. ¬ HasRefusedInput files which → IsDoneOrLacking result)
+    -- where no write failed what it says is true
+    pub truth : ¬ Rose (p.write_faults place) (p.write_faults place') → ¬ Rose (s.faults out) (s.faults out') → IfSome plan (λ which. TellsTruth which result)
+    -- where putting the report alone failed, the files of a run that created all its outputs miss nothing
+    pub unsaid : result ≡ Err WriteFault → ¬ Rose (p.write_faults place) (p.write_faults place') → IfSome plan (λ which. p.created place' ≡ p.created place ++ output_names which → MissesNothing which)

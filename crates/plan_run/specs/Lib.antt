@@ -1,4 +1,5 @@
 pub mod Completed
 pub mod Ends
+pub mod Interrupted
 pub mod Parts
 pub mod Seen

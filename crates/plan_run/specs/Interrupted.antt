@@ -1,0 +1,161 @@
+-- What the files of a run of a plan hold, whatever interrupted it, and what its report says of them.
+use Rattle.std.specs.Prelude.{◌≡◌, ◌≢◌, ◌⊎◌, ℕ, ◌+◌, ◌<◌, ◌≤◌, Bool, true, false, List, [], length, map, take, count_by, Option, Some, None, Result, Ok, Err}
+use Rattle.std.specs.FinMap.{get}
+use Rattle.std.specs.List.{AllZip}
+use Rattle.crew_session.specs.Work.{last_number}
+use Rattle.cube_schema.specs.declared.plan.Plan.{Plan}
+use Rattle.cube_store.specs.Numbers.{OwnsAllButRoot}
+use Rattle.cube_view.specs.Points.{Point}
+use Rattle.cube_view.specs.declared.schema.Schema.{Schema}
+use Rattle.feed_queue.specs.Journal.{journal_text}
+use Rattle.feed_reader.specs.Feeds.{accepted, points_in, rows}
+use Rattle.live_session.specs.Turned.{seens_of}
+use Rattle.outer_io.specs.Files.{Files, file_or_empty}
+use Rattle.outer_io.specs.Lines.{input_limit, lines}
+use Rattle.outer_io.specs.declared.cutter.CutFault.{CutFault}
+use Rattle.outer_io.specs.declared.cutter.CutFault.TheVariants as cut
+use Rattle.plan_run.specs.Completed.{HasTranscript, output_of}
+use Rattle.reply_json.specs.declared.reply.Reply.{Reply}
+use Rattle.run_files.specs.declared.stop.Stop.{Stop}
+use Rattle.run_files.specs.declared.stop.Stop.TheVariants.{NoMemory, PlanRefused, ReadFault, WriteFault, FeedRefused}
+use Rattle.run_report.specs.Reports.{FeedRows, report_text}
+use Rattle.run_report.specs.declared.counts.ScriptCounts.{ScriptCounts}
+use Rattle.session_core.specs.Asked.{asked}
+use Rattle.session_core.specs.Transcript.{IsTranscript, replies_text}
+use Rattle.session_core.specs.declared.fault.SessionFault.{SessionFault}
+use Rattle.session_core.specs.declared.fault.SessionFault.TheVariants as fault
+use Rattle.world_core.specs.Interleaving.{IsInterleaving, entry_points, list_of}
+use Rattle.world_core.specs.PairFact.{IsPrefix}
+use Rattle.world_core.specs.declared.entry.Entry.{Entry}
+
+-- What a run reports
+pub record Account : Type 0 where
+  -- the rows that each feed gave, and the fault that ended it
+  pub feeds : List FeedRows
+  -- what is counted of each ask, and of each final
+  pub asks : List ScriptCounts
+  pub finals : List ScriptCounts
+  -- whether the sessions were closed
+  pub closed : Bool
+  -- the journal's entries
+  pub entries : List Entry
+
+-- the report that says so
+abbrev pub account_text : Plan → Account → List ℕ
+account_text plan account = report_text plan account.feeds account.asks account.finals account.closed (length account.entries)
+
+-- a feed was ended by a read that failed
+abbrev pub is_unread : Option CutFault → Bool
+is_unread None = false
+is_unread (Some cut.Read) = true
+is_unread (Some cut.TooMuch) = false
+is_unread (Some cut.NoMemory) = false
+
+-- a session was
+abbrev pub is_script_unread : Option SessionFault → Bool
+is_script_unread None = false
+is_script_unread (Some fault.Read) = true
+is_script_unread (Some fault.Write) = false
+is_script_unread (Some fault.TooMuch) = false
+is_script_unread (Some fault.NoMemory) = false
+
+-- how many lines of the report say `stopped: Read`
+abbrev pub read_stops : Account → ℕ
+read_stops account =
+    count_by (λ (feed : FeedRows). is_unread feed.fault) account.feeds + count_by (λ (ask : ScriptCounts). is_script_unread ask.fault) account.asks + count_by (λ (final : ScriptCounts). is_script_unread final.fault) account.finals
+
+-- the run ended for want of memory
+abbrev pub wants_memory : Result (Unit {0}) Stop → Bool
+wants_memory (Ok x) = false
+wants_memory (Err NoMemory) = true
+wants_memory (Err PlanRefused) = false
+wants_memory (Err ReadFault) = false
+wants_memory (Err WriteFault) = false
+wants_memory (Err FeedRefused) = false
+
+-- the run ended by a read fault, or for want of memory
+abbrev pub IsReadOrLacking : Result (Unit {0}) Stop → Type 0
+IsReadOrLacking end = (end ≡ Err ReadFault) ⊎ (end ≡ Err NoMemory)
+
+-- the records that a run of the plan may load, feed by feed
+abbrev pub accepted_lists : Plan → Files → List (List Point)
+accepted_lists plan files = map (λ name. accepted plan.schema (file_or_empty files name)) plan.feeds
+
+-- The entries are an interleaving of prefixes of these lists
+pub record InterleavesFronts (lists : List (List Point)) (entries : List Entry) : Type 0 where
+  -- the prefix of the list of feeder f, from 1 on
+  pub front : ℕ → List Point
+  pub is_front : (f : ℕ) → 1 ≤ f → f ≤ length lists → IsPrefix (front f) (list_of lists f)
+  -- they are an interleaving of those
+  pub order : IsInterleaving (length lists) front entries
+
+-- What a run that ended so says of the feed of that name
+pub record TakesFeed (schema : Schema) (end : Result (Unit {0}) Stop) (files : Files) (name : List ℕ) (feed : FeedRows) : Type 0 where
+  -- its rows are a beginning of the file's
+  pub begins : IsPrefix feed.rows (rows schema (file_or_empty files name))
+  -- and all of them where neither a read fault nor want of memory ended it
+  pub whole : feed.fault ≢ Some cut.Read → feed.fault ≢ Some cut.NoMemory → feed.rows ≡ rows schema (file_or_empty files name)
+  -- `stopped: Read` comes only where the run ends so, or for want of memory
+  pub read : feed.fault ≡ Some cut.Read → IsReadOrLacking end
+  -- `stopped: TooMuch` only for a file of more than 2^30 bytes
+  pub too_much : feed.fault ≡ Some cut.TooMuch → input_limit < length (file_or_empty files name)
+  -- `stopped: NoMemory` only where the run ends so
+  pub no_memory : feed.fault ≡ Some cut.NoMemory → end ≡ Err NoMemory
+
+-- Why a run that ended so says that the script of that name was stopped
+pub record StopsScript (end : Result (Unit {0}) Stop) (files : Files) (name : List ℕ) (script : ScriptCounts) : Type 0 where
+  -- `stopped: Read` comes only where the run ends so, or for want of memory
+  pub read : script.fault ≡ Some fault.Read → IsReadOrLacking end
+  -- `stopped: TooMuch` only for a file of more than 2^30 bytes
+  pub too_much : script.fault ≡ Some fault.TooMuch → input_limit < length (file_or_empty files name)
+  -- `stopped: NoMemory` only where the run ends so
+  pub no_memory : script.fault ≡ Some fault.NoMemory → end ≡ Err NoMemory
+  -- `stopped: Write` does not come
+  pub write : script.fault ≢ Some fault.Write
+
+module _ (schema : Schema) (final : Bool) (points : List Point) (end : Result (Unit {0}) Stop) (files files' : Files) where
+  -- What a run that ended so leaves of the script of that name, and says of it
+  pub record AnswersScript (name : List ℕ) (script : ScriptCounts) : Type 0 where
+    -- the replies to it
+    pub replies : List Reply
+    -- they answer the first of what the script asks, over these points, by the line for want of memory only where the run ends so
+    pub transcript : IsTranscript schema OwnsAllButRoot final points (length points) (wants_memory end) (take (length replies) (asked schema (lines (file_or_empty files name)))) replies
+    -- its output holds them, or nothing where want of memory kept it from being given back
+    pub text : (get files' (output_of name) ≡ Some (replies_text replies)) ⊎ ((end ≡ Err NoMemory) × (get files' (output_of name) ≡ Some []))
+    -- the report says how many they are, and the last number of points seen that they print
+    pub counted : (script.replies ≡ length replies) × (script.seen ≡ last_number (seens_of replies))
+    -- they answer all where neither a read fault nor want of memory ended the session
+    pub all : script.fault ≢ Some fault.Read → script.fault ≢ Some fault.NoMemory → script.replies ≡ length (asked schema (lines (file_or_empty files name)))
+
+-- Nothing is missing in the files of a run with these entries
+pub record HoldsAll (plan : Plan) (entries : List Entry) (files files' : Files) : Type 0 where
+  -- each feed's accepted records are among the entries, once each, in that feed's order, and nothing else is
+  pub order : IsInterleaving (length plan.feeds) (list_of (accepted_lists plan files)) entries
+  -- each ask's output holds a transcript for all that it asks, over the entries' points
+  pub ask_replies : List (List Reply)
+  pub asks : AllZip (HasTranscript plan.schema false (entry_points entries) files files') plan.asks ask_replies
+  -- each final's a transcript in which every number of points is that of all entries
+  pub final_replies : List (List Reply)
+  pub finals : AllZip (HasTranscript plan.schema true (entry_points entries) files files') plan.finals final_replies
+
+-- What the files of a run that ended so hold, of which it gives this account
+pub record HoldsFiles (plan : Plan) (end : Result (Unit {0}) Stop) (account : Account) (files files' : Files) : Type 0 where
+  -- the journal's file is the text of the entries
+  pub journal : get files' plan.journal ≡ Some (journal_text plan.schema account.entries)
+  -- they are an interleaving of prefixes of the feeds' accepted records
+  pub order : InterleavesFronts (accepted_lists plan files) account.entries
+  -- where memory was not wanted, of all the points among the rows that each feed gave
+  pub drawn : end ≢ Err NoMemory → IsInterleaving (length plan.feeds) (list_of (map (λ (feed : FeedRows). points_in feed.rows) account.feeds)) account.entries
+  -- of each feed the rows are a beginning of the file's, or all
+  pub feeds : AllZip (TakesFeed plan.schema end files) plan.feeds account.feeds
+  -- the sessions were closed unless memory was wanted
+  pub closed : account.closed ≡ false → end ≡ Err NoMemory
+  -- where they were, each script's output holds a transcript over the entries' points
+  pub asks : account.closed ≡ true → AllZip (AnswersScript plan.schema false (entry_points account.entries) end files files') plan.asks account.asks
+  -- in which each number of points of a final is that of all entries
+  pub finals : account.closed ≡ true → AllZip (AnswersScript plan.schema true (entry_points account.entries) end files files') plan.finals account.finals
+  -- a script is stopped only with its cause
+  pub asks_stop : AllZip (StopsScript end files) plan.asks account.asks
+  pub finals_stop : AllZip (StopsScript end files) plan.finals account.finals
+  -- where neither memory was wanted nor a read failed, nothing is missing
+  pub all : end ≢ Err NoMemory → end ≢ Err ReadFault → HoldsAll plan account.entries files files'
