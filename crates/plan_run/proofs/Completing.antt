@@ -27,6 +27,7 @@ use Rattle.run_files.specs.Outside.{SinkSeen}
 use Rattle.run_opening.specs.Ready.{IsJobOf, IsSessionOf}
 use Rattle.run_report.specs.Reports.{counts_of_rows}
 use Rattle.run_stages.specs.Counted.{feed_counts, script_counts}
+use Rattle.session_core.specs.Scripts.{is_script_refused}
 use Rattle.session_core.specs.Transcript.{replies_text}
 
 -- ---- feeds
@@ -89,6 +90,13 @@ module _ {I O : Type 0} (i : PartSeen I) (s : SinkSeen O) (schema : Schema) (fin
       (λ name done both none. is_replied i.left i.faults s OwnsAllButRoot schema final closed starved points files (file_or_empty files name) (output_of name) both.0 done shut fed none both.1.no_turn both.1.script both.1.output both.2)
       (AllZip-then (IsSessionOf i.left i.faults s (Some files)) (LeavesTranscript i.left i.faults s.held s.faults s.name OwnsAllButRoot schema final closed starved points) _ names befores dones (λ name before done r l. (before, r, l)) ready leave)
       well
+
+  -- none of their scripts is refused
+  pub all_taken : (names : List (List ℕ)) (dones : List (SessionDone I O)) → AllZip RepliesTo names dones → All (λ name. is_script_refused schema (file_or_empty files name) ≡ false) names
+  all_taken [] [] all = All-nil (λ name. is_script_refused schema (file_or_empty files name) ≡ false)
+  all_taken [] (d ∷ dones) all = absurd all
+  all_taken (n ∷ names) [] all = absurd all
+  all_taken (n ∷ names) (d ∷ dones) all = All-cons (λ name. is_script_refused schema (file_or_empty files name) ≡ false) n names all.0.taken (all_taken names dones all.1)
 
   -- their sinks have the names of the outputs
   pub sinks_named : (names : List (List ℕ)) (dones : List (SessionDone I O)) → AllZip RepliesTo names dones → map s.name (map (λ (done : SessionDone I O). done.sink) dones) ≡ outputs names

@@ -19,7 +19,6 @@ use Rattle.live_session.specs.State.{SessionState}
 use Rattle.outer_io.proofs.ToldLaws.{Told-each, Told-some}
 use Rattle.outer_io.specs.Faults.{Rose, RoseBy}
 use Rattle.outer_io.specs.Files.{Files, HasFile, file_or_empty}
-use Rattle.outer_io.specs.Lines.{input_limit}
 use Rattle.outer_io.specs.Told.{Told}
 use Rattle.outer_io.specs.declared.fault.IoFault.TheVariants as io
 use Rattle.plan_run.proofs.Causes.{FeedCause, SessionCause, feed_causes, session_causes}
@@ -28,7 +27,7 @@ use Rattle.plan_run.proofs.Landed.{some_is, told_pair}
 use Rattle.plan_run.proofs.Named.{KeepsOthers-one, dones_named, names_of, names_then, sessions_named}
 use Rattle.plan_run.proofs.Blamed.{AnyOf, all_err, any_in, any_left, any_right, any_unmapped}
 use Rattle.plan_run.proofs.Raised.{closing_not_plan, closing_read, closing_write, starved_of}
-use Rattle.plan_run.proofs.Refused.{large_feeds, large_scripts, write_not_refused}
+use Rattle.plan_run.proofs.Refused.{large_feeds, refused_scripts, write_not_refused}
 use Rattle.plan_run.proofs.Said.{completes, opening_refused, opening_said, opening_truth, opening_wrote, puts_after, silent_after, text_after}
 use Rattle.plan_run.proofs.Whole.{all_quiet, completed}
 use Rattle.plan_run.proofs.Truth.{account, account_is, holds_files, kept_found, kept_well, kept_where, reads_counted, said_found, wrote_found, wrote_well, wrote_where}
@@ -55,6 +54,7 @@ use Rattle.run_stages.specs.Ends.{feed_end, feeds_end, session_end, sessions_end
 use Rattle.run_stages.specs.Said.{SaysText}
 use Rattle.run_stages.specs.declared.done.RunDone.{RunDone}
 use Rattle.session_core.proofs.WholeScripts.{told_by}
+use Rattle.session_core.specs.Scripts.{is_script_refused}
 use Rattle.world_core.specs.Interleaving.{entry_points}
 
 some_each : {A : Type 0} (o : Option A) (P Q : A → Type 0) → ((x : A) → P x → Q x) → IsSomeAnd o P → IsSomeAnd o Q
@@ -208,21 +208,21 @@ module _ {P T : Type 0} (p : PlaceSeen P) (t : SinkSeen T) where
             it_is = subst (λ o. AreReady i.left i.faults s o plan parts) told ready
 
             script : (final : Bool) (names : List (List ℕ)) (befores : List (SessionState I O)) (dones : List (SessionDone I O)) → AllZip (IsSessionOf i.left i.faults s (Some files)) names befores
-                → AllZip (LeavesTranscript i.left i.faults s.held s.faults s.name OwnsAllButRoot plan.schema final crewed.closed crewed.starved (entry_points crewed.journal)) befores dones → sessions_end dones ≡ Err FeedRefused → AnyOf (λ name. input_limit < length (file_or_empty files name)) names
+                → AllZip (LeavesTranscript i.left i.faults s.held s.faults s.name OwnsAllButRoot plan.schema final crewed.closed crewed.starved (entry_points crewed.journal)) befores dones → sessions_end dones ≡ Err FeedRefused → AnyOf (λ name. is_script_refused plan.schema (file_or_empty files name) ≡ true) names
             script final names befores dones are leave end =
-                large_scripts i s OwnsAllButRoot plan.schema final crewed.closed crewed.starved (entry_points crewed.journal) files names befores dones are leave
+                refused_scripts i s OwnsAllButRoot plan.schema final crewed.closed crewed.starved (entry_points crewed.journal) files names befores dones are leave
                 (any_unmapped session_ends (λ end. end ≡ Err FeedRefused) dones (all_err (map session_ends dones) FeedRefused end))
 
-            among : AnyOf (λ name. input_limit < length (file_or_empty files name)) (plan.asks ++ plan.finals) → HasRefusedInput files plan
-            among any = inr (any_in (λ name. input_limit < length (file_or_empty files name)) (plan.asks ++ plan.finals) any)
+            among : AnyOf (λ name. is_script_refused plan.schema (file_or_empty files name) ≡ true) (plan.asks ++ plan.finals) → HasRefusedInput files plan
+            among any = inr (any_in (λ name. is_script_refused plan.schema (file_or_empty files name) ≡ true) (plan.asks ++ plan.finals) any)
 
             threads : AnyOf (λ end. end ≡ Err FeedRefused) (starved_end crewed.starved ∷ feeds_end crewed.feeds ∷ sessions_end crewed.asks ∷ sessions_end crewed.finals ∷ []) → HasRefusedInput files plan
             threads (inl starved) = absurd (starved_of crewed.starved FeedRefused (λ e. cc e) starved)
             threads (inr (inl fed)) =
                 inl (any_in (λ name. is_feed_refused plan.schema (file_or_empty files name) ≡ true) plan.feeds
                 (large_feeds i.left i.faults plan.schema (file_or_empty files) plan.feeds parts.feeds ran.sent crewed.feeds it_is.feeds ran.feeds (any_unmapped feed_ends (λ end. end ≡ Err FeedRefused) crewed.feeds (all_err (map feed_ends crewed.feeds) FeedRefused fed))))
-            threads (inr (inr (inl asked))) = among (any_left (λ name. input_limit < length (file_or_empty files name)) plan.asks plan.finals (script false plan.asks parts.asks crewed.asks it_is.asks ran.asks asked))
-            threads (inr (inr (inr (inl last)))) = among (any_right (λ name. input_limit < length (file_or_empty files name)) plan.asks plan.finals (script true plan.finals parts.finals crewed.finals it_is.finals ran.finals last))
+            threads (inr (inr (inl asked))) = among (any_left (λ name. is_script_refused plan.schema (file_or_empty files name) ≡ true) plan.asks plan.finals (script false plan.asks parts.asks crewed.asks it_is.asks ran.asks asked))
+            threads (inr (inr (inr (inl last)))) = among (any_right (λ name. is_script_refused plan.schema (file_or_empty files name) ≡ true) plan.asks plan.finals (script true plan.finals parts.finals crewed.finals it_is.finals ran.finals last))
             threads (inr (inr (inr (inr none)))) = absurd none
 
             by : AnyOf (λ end. end ≡ Err FeedRefused) (threads_end done ∷ write_end closes.wrote ∷ closes.given ∷ write_end closes.kept ∷ closes.said ∷ []) → HasRefusedInput files plan

@@ -30,6 +30,7 @@ use Rattle.run_files.specs.Stops.{write_end}
 use Rattle.run_files.specs.declared.stop.Stop.TheVariants.{FeedRefused}
 use Rattle.run_opening.specs.Ready.{IsJobOf, IsSessionOf}
 use Rattle.run_stages.specs.Ends.{feed_end, session_end}
+use Rattle.session_core.specs.Scripts.{is_script_refused}
 use Rattle.session_core.specs.declared.fault.SessionFault.{SessionFault}
 use Rattle.session_core.specs.declared.fault.SessionFault.TheVariants as fault
 
@@ -77,8 +78,11 @@ module _ {I : Type 0} (left : I → Option (List ℕ)) (faults : I → ℕ) (sch
   large_feeds (n ∷ names) (j ∷ jobs) (s ∷ sents) (d ∷ dones) ready leave (inr any) = inr (large_feeds names jobs sents dones ready.1 leave.1 any)
 
 module _ {I O : Type 0} (i : PartSeen I) (s : SinkSeen O) (is_stat : Stat → Type 0) (schema : Schema) (final closed starved : Bool) (points : List Point) (files : Files) where
-  abbrev pub IsLarge : List ℕ → Type 0
+  abbrev IsLarge : List ℕ → Type 0
   IsLarge name = input_limit < length (file_or_empty files name)
+
+  abbrev pub IsRefusedScript : List ℕ → Type 0
+  IsRefusedScript name = is_script_refused schema (file_or_empty files name) ≡ true
 
   pub large_script : (name : List ℕ) (before : SessionState I O) (done : SessionDone I O) → IsSessionOf i.left i.faults s (Some files) name before → LeavesTranscript i.left i.faults s.held s.faults s.name is_stat schema final closed starved points before done
       → session_end done.fault ≡ Err FeedRefused → IsLarge name
@@ -92,12 +96,19 @@ module _ {I O : Type 0} (i : PartSeen I) (s : SinkSeen O) (is_stat : Stat → Ty
       let large = Told-some (input_size i.left cutter) (0 + length script) (λ n. input_limit < n) size (leaves.too_much much).1 in
       omega (arith, large)
 
-  pub large_scripts : (names : List (List ℕ)) (befores : List (SessionState I O)) (dones : List (SessionDone I O)) → AllZip (IsSessionOf i.left i.faults s (Some files)) names befores
-      → AllZip (LeavesTranscript i.left i.faults s.held s.faults s.name is_stat schema final closed starved points) befores dones → AnyOf (λ (d : SessionDone I O). session_end d.fault ≡ Err FeedRefused) dones → AnyOf IsLarge names
-  large_scripts [] [] [] ready leave any = absurd any
-  large_scripts [] [] (d ∷ dones) ready leave any = absurd leave
-  large_scripts [] (b ∷ befores) dones ready leave any = absurd ready
-  large_scripts (n ∷ names) [] dones ready leave any = absurd ready
-  large_scripts (n ∷ names) (b ∷ befores) [] ready leave any = absurd any
-  large_scripts (n ∷ names) (b ∷ befores) (d ∷ dones) ready leave (inl end) = inl (large_script n b d ready.0 leave.0 end)
-  large_scripts (n ∷ names) (b ∷ befores) (d ∷ dones) ready leave (inr any) = inr (large_scripts names befores dones ready.1 leave.1 any)
+  -- the script of a session that had too much is refused
+  refused_script : (name : List ℕ) (before : SessionState I O) (done : SessionDone I O) → IsSessionOf i.left i.faults s (Some files) name before → LeavesTranscript i.left i.faults s.held s.faults s.name is_stat schema final closed starved points before done
+      → session_end done.fault ≡ Err FeedRefused → IsRefusedScript name
+  refused_script name before done ready leaves end =
+      let much : IsErrOf leaves.end fault.TooMuch = ended_by leaves.end fault.TooMuch (sym leaves.numbers.2 ∙ session_refused_end done.fault end) in
+      Told-some (i.left before.source.source) (file_or_empty files name) (λ script. is_script_refused schema script ≡ true) ready.script.left_is (leaves.refused much ready.script.is_new)
+
+  pub refused_scripts : (names : List (List ℕ)) (befores : List (SessionState I O)) (dones : List (SessionDone I O)) → AllZip (IsSessionOf i.left i.faults s (Some files)) names befores
+      → AllZip (LeavesTranscript i.left i.faults s.held s.faults s.name is_stat schema final closed starved points) befores dones → AnyOf (λ (d : SessionDone I O). session_end d.fault ≡ Err FeedRefused) dones → AnyOf IsRefusedScript names
+  refused_scripts [] [] [] ready leave any = absurd any
+  refused_scripts [] [] (d ∷ dones) ready leave any = absurd leave
+  refused_scripts [] (b ∷ befores) dones ready leave any = absurd ready
+  refused_scripts (n ∷ names) [] dones ready leave any = absurd ready
+  refused_scripts (n ∷ names) (b ∷ befores) [] ready leave any = absurd any
+  refused_scripts (n ∷ names) (b ∷ befores) (d ∷ dones) ready leave (inl end) = inl (refused_script n b d ready.0 leave.0 end)
+  refused_scripts (n ∷ names) (b ∷ befores) (d ∷ dones) ready leave (inr any) = inr (refused_scripts names befores dones ready.1 leave.1 any)

@@ -23,6 +23,7 @@ use Rattle.run_files.specs.Outside.{SinkSeen}
 use Rattle.run_files.specs.Scripted.{IsOutput, IsScript}
 use Rattle.run_stages.specs.Counted.{script_counts}
 use Rattle.session_core.specs.Asked.{asked}
+use Rattle.session_core.specs.Scripts.{is_script_refused}
 use Rattle.session_core.specs.Transcript.{AllAnswered, IsTranscript, replies_text}
 use Rattle.session_core.specs.declared.fault.SessionFault.{SessionFault}
 
@@ -32,6 +33,11 @@ answered_length schema is_stat final l u lacks [] [] all = refl
 answered_length schema is_stat final l u lacks [] (reply ∷ replies) all = absurd all
 answered_length schema is_stat final l u lacks (p ∷ ps) [] all = absurd all
 answered_length schema is_stat final l u lacks (p ∷ ps) (reply ∷ replies) all = ap suc (answered_length schema is_stat final l u lacks ps replies all.1)
+
+-- what is said of an end without a fault, of one that has none
+unfaulted_is : {X : Type 0} (end : Result (Unit {0}) SessionFault) → ending_fault end ≡ None → OnOk end X → X
+unfaulted_is (Ok x) none said = said
+unfaulted_is (Err f) none said = absurd (cc none)
 
 no_more : {A : Type 0} (xs ys zs : List A) → xs ≡ ys ++ zs → length xs ≡ length ys → xs ≡ ys
 no_more xs ys [] is same = is ∙ append-nil ys
@@ -44,6 +50,7 @@ pub record IsReplied {I O : Type 0} (s : SinkSeen O) (is_stat : Stat → Type 0)
   pub held : s.held done.sink ≡ Some (replies_text replies)
   pub counts : script_counts done ≡ reply_counts replies
   pub named : s.name done.sink ≡ name
+  pub taken : is_script_refused schema script ≡ false
 
 module _ {I O : Type 0} (left : I → Option (List ℕ)) (faults : I → ℕ) (s : SinkSeen O) (is_stat : Stat → Type 0) (schema : Schema) (final : Bool) where
   -- a session that ended without a fault answered all that its script asks
@@ -84,4 +91,5 @@ module _ {I O : Type 0} (left : I → Option (List ℕ)) (faults : I → ℕ) (s
           fault = none i;
         };
         named = leaves.named ∙ output.name_is;
+        taken = Told-some (left before.source.source) script (λ bytes. is_script_refused schema bytes ≡ false) is_script.left_is (unfaulted_is leaves.end unfaulted (leaves.taken shut) is_script.is_new);
       }

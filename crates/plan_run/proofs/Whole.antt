@@ -24,7 +24,7 @@ use Rattle.outer_io.specs.declared.cutter.CutFault.TheVariants as cut
 use Rattle.outer_io.specs.declared.fault.IoFault.{IoFault}
 use Rattle.outer_io.specs.declared.fault.IoFault.TheVariants as io
 use Rattle.plan_run.proofs.Causes.{FeedCause, SessionCause, feed_causes, session_causes}
-use Rattle.plan_run.proofs.Completing.{all_replied, are_fed, sinks_named, transcripts}
+use Rattle.plan_run.proofs.Completing.{all_replied, all_taken, are_fed, sinks_named, transcripts}
 use Rattle.plan_run.proofs.Joined.{All-unmapped, IsWell, all_well, feed_well, session_well, starved_well, written_well}
 use Rattle.plan_run.proofs.Landed.{All-back, All-front, AllPairs-back, AllPairs-front, AllPairs-last, all_landed, some_is, told_pair}
 use Rattle.plan_run.proofs.Zips.{AllZip-length, AllZip-right}
@@ -44,6 +44,7 @@ use Rattle.run_report.specs.declared.counts.ScriptCounts.{ScriptCounts}
 use Rattle.run_stages.specs.Closing.{ClosesRun, run_text, threads_end}
 use Rattle.run_stages.specs.Counted.{feed_counts, script_counts}
 use Rattle.run_stages.specs.Ends.{feed_end, feeds_end, session_end, sessions_end, starved_end}
+use Rattle.session_core.specs.Scripts.{is_script_refused}
 use Rattle.session_core.specs.declared.fault.SessionFault.TheVariants as fault
 use Rattle.world_core.specs.Interleaving.{IsInterleaving, entry_points, list_of}
 
@@ -162,6 +163,8 @@ module _ {P I O T : Type 0} (p : PlaceSeen P) (i : PartSeen I) (s : SinkSeen O) 
         journal = journal;
         order = subst (λ ls. IsInterleaving (length plan.feeds) (list_of ls) crewed.journal) fed.sent drawn;
         taken = fed.taken;
+        answered = All-append (λ name. is_script_refused plan.schema (file_or_empty files name) ≡ false) plan.asks plan.finals (all_taken i s plan.schema false points files plan.asks crewed.asks asks)
+            (all_taken i s plan.schema true points files plan.finals crewed.finals finals);
         ask_replies = to_asks.0;
         asks = to_asks.1;
         final_replies = to_finals.0;

@@ -17,6 +17,7 @@ use Rattle.reply_json.specs.declared.reply.Reply.{Reply}
 use Rattle.run_report.specs.Reports.{FeedRows, report_text}
 use Rattle.run_report.specs.declared.counts.ScriptCounts.{ScriptCounts}
 use Rattle.session_core.specs.Asked.{asked}
+use Rattle.session_core.specs.Scripts.{is_script_refused}
 use Rattle.session_core.specs.Transcript.{IsTranscript, replies_text}
 use Rattle.world_core.specs.Interleaving.{IsInterleaving, entry_points, list_of}
 use Rattle.world_core.specs.declared.entry.Entry.{Entry}
@@ -49,6 +50,8 @@ pub record IsCompleted (plan : Plan) (files files' : Files) (held held' : Option
   pub order : IsInterleaving (length plan.feeds) (list_of (map (λ name. accepted plan.schema (file_or_empty files name)) plan.feeds)) entries
   -- no feed is refused
   pub taken : All (λ name. is_feed_refused plan.schema (file_or_empty files name) ≡ false) plan.feeds
+  -- and no script
+  pub answered : All (λ name. is_script_refused plan.schema (file_or_empty files name) ≡ false) (plan.asks ++ plan.finals)
   -- each ask's output holds a transcript over the entries' points
   pub ask_replies : List (List Reply)
   pub asks : AllZip (HasTranscript plan.schema false (entry_points entries) files files') plan.asks ask_replies

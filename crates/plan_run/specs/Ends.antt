@@ -7,7 +7,6 @@ use Rattle.feed_queue.specs.Journal.{journal_text}
 use Rattle.feed_reader.specs.Feeds.{feed_head, is_feed_refused}
 use Rattle.outer_io.specs.Faults.{Rose, RoseBy}
 use Rattle.outer_io.specs.Files.{Files, file_or_empty}
-use Rattle.outer_io.specs.Lines.{input_limit}
 use Rattle.outer_io.specs.Told.{Told}
 use Rattle.plan_run.specs.Completed.{IsCompleted}
 use Rattle.plan_run.specs.Interrupted.{Account, HoldsAll, HoldsFiles, account_text, read_stops}
@@ -21,6 +20,7 @@ use Rattle.run_opening.specs.Opening.{inputs_of, outputs_of}
 use Rattle.run_report.specs.Reports.{counts_text}
 use Rattle.run_report.specs.declared.counts.FeedCounts.{FeedCounts}
 use Rattle.run_report.specs.declared.counts.ScriptCounts.{ScriptCounts}
+use Rattle.session_core.specs.Scripts.{is_script_refused}
 use Rattle.world_core.specs.declared.entry.Entry.{Entry}
 
 -- What a run leaves of the names and the files of a place, which is to open and then to create these names
@@ -40,11 +40,11 @@ pub record LeavesNames {P : Type 0} (p : PlaceSeen P) (before after : P) (inputs
   -- every file that was not created is as before
   pub others : KeepsOthers (p.files before) (p.files after) makes
 
--- a feed of the plan is refused, by its header or its length, or a script of it has more than 2^30 bytes
+-- a feed of the plan is refused, by its header or its length, or a script of it, which has no `quit` and more than 2^30 bytes
 abbrev pub HasRefusedInput : Files → Plan → Type 0
 HasRefusedInput files plan =
     ((name : List ℕ) × Contains plan.feeds name × (is_feed_refused plan.schema (file_or_empty files name) ≡ true))
-    ⊎ ((name : List ℕ) × Contains (plan.asks ++ plan.finals) name × (input_limit < length (file_or_empty files name)))
+    ⊎ ((name : List ℕ) × Contains (plan.asks ++ plan.finals) name × (is_script_refused plan.schema (file_or_empty files name) ≡ true))
 
 -- the run was done, or memory was wanted
 abbrev pub IsDoneOrLacking : Result (Unit {0}) Stop → Type 0
