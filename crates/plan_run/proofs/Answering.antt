@@ -53,12 +53,11 @@ module _ {I O : Type 0} (i : PartSeen I) (s : SinkSeen O) (schema : Schema) (fin
     pub ready : IsSessionOf i.left i.faults s (Some files) name before
     pub leaves : LeavesTranscript i.left i.faults s.held s.faults s.name OwnsAllButRoot schema final closed starved points before done
 
-  pub stops_script : end ≢ Err PlanRefused → (name : List ℕ) (done : SessionDone I O) → HasRun name done → (rank_end end ≤ rank_end (session_end done.fault)) × (done.fault ≢ Some fault.Write) → StopsScript end files name (script_counts done)
-  stops_script planned name done run good = record {
-    read = session_read end planned done.fault good.0;
+  pub stops_script : end ≢ Err PlanRefused → (name : List ℕ) (done : SessionDone I O) → HasRun name done → rank_end end ≤ rank_end (session_end done.fault) → StopsScript end files name (script_counts done)
+  stops_script planned name done run first = record {
+    read = session_read end planned done.fault first;
     too_much = λ much. large_script i s OwnsAllButRoot schema final closed starved points files name run.before done run.ready run.leaves (ap session_end much);
-    no_memory = session_lacking end planned done.fault good.0;
-    write = good.1;
+    no_memory = session_lacking end planned done.fault first;
   }
 
   abbrev Answered : (done : SessionDone I O) (before after : SessionState I O) → Type 0

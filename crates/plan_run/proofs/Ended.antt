@@ -30,11 +30,11 @@ use Rattle.plan_run.proofs.Raised.{closing_not_plan, closing_read, closing_write
 use Rattle.plan_run.proofs.Refused.{large_feeds, refused_scripts, write_not_refused}
 use Rattle.plan_run.proofs.Said.{completes, opening_refused, opening_said, opening_truth, opening_wrote, puts_after, silent_after, text_after}
 use Rattle.plan_run.proofs.Whole.{all_quiet, completed}
-use Rattle.plan_run.proofs.Truth.{account, account_is, holds_files, kept_found, kept_well, kept_where, reads_counted, said_found, wrote_found, wrote_well, wrote_where}
+use Rattle.plan_run.proofs.Truth.{account, account_is, begins_files, holds_files, kept_found, kept_well, kept_where, reads_counted, said_found, wrote_found, wrote_well, wrote_where}
 use Rattle.plan_run.proofs.Zips.{AllZip-right}
 use Rattle.plan_run.specs.Completed.{IsCompleted}
 use Rattle.plan_run.specs.Ends.{AreHeaded, HasReported, IsDone, HasRefusedInput, LeavesNames, MissesNothing, PutsOrFails, RunEnds, SaysOfRun, TellsTruth}
-use Rattle.plan_run.specs.Interrupted.{Account, HoldsFiles, read_stops}
+use Rattle.plan_run.specs.Interrupted.{Account, BeginsFiles, HoldsFiles, account_text, read_stops}
 use Rattle.plan_run.specs.Parts.{GivesBack, RunsParts, run_done_of, jobs_of}
 use Rattle.plan_run.specs.Seen.{PartSeen}
 use Rattle.run_files.proofs.Stages.{KeepsOthers-after, KeepsOthers-more, all_opened}
@@ -49,7 +49,6 @@ use Rattle.run_opening.specs.Opening.{AreReady, OpensInOrder, OpensRun, inputs_o
 use Rattle.run_opening.specs.Ready.{IsJobOf, IsSessionOf}
 use Rattle.run_opening.specs.declared.parts.RunParts.{RunParts}
 use Rattle.run_stages.specs.Closing.{ClosesRun, run_text, threads_end}
-use Rattle.run_stages.specs.Counted.{feed_counts, script_counts}
 use Rattle.run_stages.specs.Ends.{feed_end, feeds_end, session_end, sessions_end, starved_end}
 use Rattle.run_stages.specs.Said.{SaysText}
 use Rattle.run_stages.specs.declared.done.RunDone.{RunDone}
@@ -260,23 +259,40 @@ module _ {P T : Type 0} (p : PlaceSeen P) (t : SinkSeen T) where
         its_account : Account
         its_account = account p i s t plan parts mid place' out1 out' (p.files place) ready crewed ran feeds asks finals result not_plan closes
 
+        -- the files once the threads begin
+        at_start : (files : Files) → p.files place ≡ Some files → (now : Files) × (p.files mid ≡ Some now) × ((other : List ℕ) → ¬ Contains leaves.makes other → get now other ≡ get files other)
+        at_start files told = told_pair (p.files place) (p.files mid) files (λ a b. (other : List ℕ) → ¬ Contains leaves.makes other → get b other ≡ get a other) told leaves.others
+
+        its_beginnings : Told (p.files place) (λ files. IsSomeAnd (p.files place') (BeginsFiles plan result its_account files))
+        unfolding its_account
+        its_beginnings = told_by (p.files place) (λ files. IsSomeAnd (p.files place') (BeginsFiles plan result its_account files)) (λ files told.
+            let now = at_start files told in
+            begins_files p i s t plan parts mid place' out1 out' (p.files place) ready crewed ran feeds asks finals result not_plan closes files now.0 told plan_is.files now.1 (empty_outputs files now.0 told now.1))
+
         its_files : ¬ Rose (p.write_faults place) (p.write_faults place') → closes.wrote ≢ Err io.NoMemory → closes.kept ≢ Err io.NoMemory → Told (p.files place) (λ files. IsSomeAnd (p.files place') (HoldsFiles plan result its_account files))
         unfolding its_account
         its_files no_write wrote kept = told_by (p.files place) (λ files. IsSomeAnd (p.files place') (HoldsFiles plan result its_account files)) (λ files told.
-            let now = told_pair (p.files place) (p.files mid) files (λ a b. (other : List ℕ) → ¬ Contains leaves.makes other → get b other ≡ get a other) told leaves.others in
+            let now = at_start files told in
             let quiet : ¬ Rose (p.write_faults mid) (p.write_faults place') = subst (λ n. ¬ Rose n (p.write_faults place')) (sym write_before) no_write in
-            holds_files p i s t plan parts mid place' out1 out' (p.files place) ready crewed ran feeds asks finals result not_plan closes quiet files now.0 told plan_is.files now.1 (empty_outputs files now.0 told now.1)
+            holds_files p i s t plan parts mid place' out1 out' (p.files place) ready crewed ran feeds asks finals result not_plan closes files now.0 told plan_is.files now.1 (empty_outputs files now.0 told now.1) quiet
             (wrote_well p i s t plan parts mid place' out1 out' (p.files place) ready crewed ran feeds asks finals result not_plan closes quiet wrote) (kept_well p i s t plan parts mid place' out1 out' (p.files place) ready crewed ran feeds asks finals result not_plan closes quiet kept))
 
-        reported : ¬ Rose (p.write_faults place) (p.write_faults place') → closes.said ≢ Err NoMemory → Said t out1 out' (run_text plan done) → HasReported p t place place' out out' plan result
+        its_text : run_text plan done ≡ account_text plan its_account
         unfolding its_account
+        its_text = account_is p i s t plan parts mid place' out1 out' (p.files place) ready crewed ran feeds asks finals result not_plan closes
+
+        its_reads : RoseBy (read_stops its_account) (p.read_faults place) (p.read_faults place')
+        unfolding its_account
+        its_reads = subst (λ n. RoseBy (read_stops its_account) n (p.read_faults place')) read_before (reads_counted p i s t plan parts mid place' out1 out' (p.files place) ready crewed ran feeds asks finals result not_plan closes)
+
+        reported : ¬ Rose (p.write_faults place) (p.write_faults place') → closes.said ≢ Err NoMemory → Said t out1 out' (run_text plan done) → HasReported p t place place' out out' plan result
         reported no_write found puts =
             let quiet : ¬ Rose (p.write_faults mid) (p.write_faults place') = subst (λ n. ¬ Rose n (p.write_faults place')) (sym write_before) no_write in
             record {
               account = its_account;
-              puts = subst (Said t out out') (account_is p i s t plan parts mid place' out1 out' (p.files place) ready crewed ran feeds asks finals result not_plan closes) (puts_after t out out1 out' silent (run_text plan done) puts);
+              puts = subst (Said t out out') its_text (puts_after t out out1 out' silent (run_text plan done) puts);
               files = its_files no_write (wrote_where p i s t plan parts mid place' out1 out' (p.files place) ready crewed ran feeds asks finals result not_plan closes quiet found) (kept_where p i s t plan parts mid place' out1 out' (p.files place) ready crewed ran feeds asks finals result not_plan closes quiet found);
-              reads = subst (λ n. RoseBy (read_stops its_account) n (p.read_faults place')) read_before (reads_counted p i s t plan parts mid place' out1 out' (p.files place) ready crewed ran feeds asks finals result not_plan closes);
+              reads = its_reads;
             }
 
         tells : ¬ Rose (p.write_faults place) (p.write_faults place') → ¬ Rose (t.faults out) (t.faults out') → TellsTruth p t place place' out out' plan result
@@ -334,9 +350,9 @@ module _ {P T : Type 0} (p : PlaceSeen P) (t : SinkSeen T) where
             by (Ok x) is = (plan, refl, is_done is)
             by (Err e) is = tt
 
-            says : Silent t out out' ⊎ PutsOrFails t out out' (run_text plan done) → SaysOfRun p t place place' out out' name (Some plan)
+            says : Silent t out out' ⊎ PutsOrFails t out out' (run_text plan done) → SaysOfRun p t place place' out out' name result (Some plan)
             says (inl quiet) = inl quiet
-            says (inr puts) = inr (inr (map feed_counts crewed.feeds, map script_counts crewed.asks, map script_counts crewed.finals, crewed.closed, length crewed.journal, puts))
+            says (inr puts) = inr (inr (record { account = its_account; puts = subst (PutsOrFails t out out') its_text puts; files = its_beginnings; reads = its_reads }))
 
       -- a run that found no memory to begin with
       pub ended_unrun : (result : Result (Unit {0}) Stop) → result ≡ Err NoMemory → out' ≡ out1 → GivesBack p i s parts mid place' → RunEnds p t place place' out out' name result

@@ -65,7 +65,7 @@ module _ {P T : Type 0} (p : PlaceSeen P) (t : SinkSeen T) (place mid : P) (out 
   InOrder stop opens makes plan = (later : List (List ℕ)) × (opens ≡ name ∷ later) × OpensInOrder t plan (p.files place) (p.write_faults place) (p.write_faults mid) out out1 later makes (Some stop)
 
   -- what is said where opening ends a run
-  pub opening_said : (stop : Stop) (plan : Option Plan) (opens makes : List (List ℕ)) → OpensRun p t place mid out out1 name None (Some stop) → (plan ≡ None → Unplanned stop) → IfSome plan (InOrder stop opens makes) → SaysOfRun p t place mid out out1 name plan
+  pub opening_said : (stop : Stop) (plan : Option Plan) (opens makes : List (List ℕ)) → OpensRun p t place mid out out1 name None (Some stop) → (plan ≡ None → Unplanned stop) → IfSome plan (InOrder stop opens makes) → SaysOfRun p t place mid out out1 name (Err stop) plan
   opening_said NoMemory None opens makes run unplanned order = inl (run.silent (λ e. cc) (λ e. cc) (λ e. cc))
   opening_said ReadFault None opens makes run unplanned order = inl (run.silent (λ e. cc) (λ e. cc) (λ e. cc))
   opening_said PlanRefused None opens makes run unplanned order = inr (run.refused_plan refl).1

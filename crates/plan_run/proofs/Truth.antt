@@ -1,10 +1,12 @@
 -- What a run that was closed leaves and says, whatever interrupted it.
-use Rattle.std.proofs.Common.{◌≡◌, ◌≢◌, ◌+◌, ◌≤◌, ℕ, Bool, true, false, List, [], ◌∷◌, ◌++◌, All, length, map, Option, Some, Result, Ok, Err, IsSomeAnd, refl, sym, ap, subst, ◌∙◌, arith}
-use Rattle.std.specs.Prelude.{AllPairs, Contains, IsErrOf, OnOk, count_by}
+use Rattle.std.proofs.Common.{◌≡◌, ◌≢◌, ◌+◌, ◌≤◌, ℕ, Bool, true, false, List, [], ◌∷◌, ◌++◌, All, length, map, nat_lt, take, Option, Some, Result, Ok, Err, IsSomeAnd, refl, sym, ap, subst, ◌∙◌, arith}
+use Rattle.std.specs.Prelude.{AllPairs, Contains, IsErrOf, OnErr, OnOk, count_by}
 use Rattle.std.specs.FinMap.{get}
 use Rattle.std.specs.List.{AllZip}
-use Rattle.std.proofs.lemmas.List.{length-map, map-append}
-use Rattle.std.proofs.lemmas.List.Elements.{All-contains_itself, All-map, All-weaker}
+use Rattle.std.proofs.Math.Seq.{take-length}
+use Rattle.std.proofs.lemmas.Bool.{ltb-false, ltb-true}
+use Rattle.std.proofs.lemmas.List.{length-map, length-take, map-append, take-take, take_all}
+use Rattle.std.proofs.lemmas.List.Elements.{All-contains, All-contains_itself, All-head, All-map, All-weaker}
 use Rattle.crew_feeder.specs.declared.job.FeedDone.{FeedDone}
 use Rattle.crew_feeder.specs.declared.job.FeedJob.{FeedJob}
 use Rattle.crew_session.specs.declared.done.SessionDone.{SessionDone}
@@ -18,9 +20,9 @@ use Rattle.cube_view.specs.Points.{Point}
 use Rattle.feed_queue.specs.Journal.{journal_text}
 use Rattle.feed_reader.specs.Feeds.{accepted, points_in}
 use Rattle.outer_io.proofs.ToldLaws.{Told-some}
-use Rattle.outer_io.specs.Bytes.{Gains}
+use Rattle.outer_io.specs.Bytes.{Gains, GainsPart}
 use Rattle.outer_io.specs.Faults.{Rose, RoseBy}
-use Rattle.outer_io.specs.Files.{Files, HasFile, SameBut, file_or_empty}
+use Rattle.outer_io.specs.Files.{Files, HasFile, HasPart, SameBut, file_or_empty}
 use Rattle.outer_io.specs.Told.{Told}
 use Rattle.outer_io.specs.declared.cutter.CutFault.{CutFault}
 use Rattle.outer_io.specs.declared.fault.IoFault.{IoFault}
@@ -39,7 +41,7 @@ use Rattle.plan_run.proofs.Raised.{counts_failed, counts_grow, rose_from_before}
 use Rattle.plan_run.proofs.Ranked.{ComesFirst, all_ranked, lacking, rank_end}
 use Rattle.plan_run.proofs.Taken.{Gave, GaveRows, StandsAfterOne, all_gave, points_begin, takes_feed}
 use Rattle.plan_run.proofs.Zips.{AllZip-ap, AllZip-length, AllZip-mapped, AllZip-right, AllZip-then, AllZip-with}
-use Rattle.plan_run.specs.Interrupted.{Account, AnswersScript, HoldsFiles, InterleavesFronts, StopsScript, TakesFeed, account_text, accepted_lists, is_script_unread, is_unread, read_stops}
+use Rattle.plan_run.specs.Interrupted.{Account, BeginsFiles, AnswersScript, HoldsFiles, InterleavesFronts, StopsScript, TakesFeed, account_text, accepted_lists, is_script_unread, is_unread, read_stops}
 use Rattle.plan_run.specs.Parts.{run_done_of, jobs_of}
 use Rattle.plan_run.specs.Seen.{PartSeen}
 use Rattle.run_files.specs.GivingBack.{Lands, faulty}
@@ -93,6 +95,28 @@ joined_right (Err PlanRefused) = refl
 joined_right (Err ReadFault) = refl
 joined_right (Err WriteFault) = refl
 joined_right (Err FeedRefused) = refl
+
+-- a sink that held nothing holds a beginning of what was put into it
+part_held : (before after : Option (List ℕ)) (text : List ℕ) (r : Answer) → OnOk r (Gains before after text) → OnErr r (GainsPart before after text) → before ≡ Some [] → (n : ℕ) × (after ≡ Some (take n text))
+part_held before after text (Ok x) whole part none = (length text, subst (λ o. Gains o after text) none whole ∙ ap (λ (bytes : List ℕ). Some bytes) (sym (take-length text)))
+part_held before after text (Err e) whole part none = (part.0, subst (λ o. Gains o after (take part.0 text)) none part.1)
+
+-- a beginning of a beginning is one
+take_twice : (m n : ℕ) (text : List ℕ) → (k : ℕ) × (take m (take n text) ≡ take k text)
+take_twice m n text = by (nat_lt n m) refl
+  where
+    by : (b : Bool) → nat_lt n m ≡ b → (k : ℕ) × (take m (take n text) ≡ take k text)
+    by true is = (n, take_all m (take n text) (omega (arith, length-take n text, ltb-true n m is)))
+    by false is = (m, take-take m n text (ltb-false n m is))
+
+-- and so does its file
+part_lands : (f g : Files) (after : Option Files) (name text : List ℕ) (held : Option (List ℕ)) (n : ℕ) → held ≡ Some (take n text) → after ≡ Some g → get f name ≡ Some [] → (r : Answer) → Lands (Some f) after name held r → (m : ℕ) × (get g name ≡ Some (take m text))
+part_lands f g after name text held n is told empty (Ok x) lands = (n, Told-some after g (λ now. get now name ≡ Some (take n text)) told (Told-some held (take n text) (HasFile after name) is lands))
+part_lands f g after name text held n is told empty (Err io.Failed) lands =
+    let part = Told-some held (take n text) (HasPart after name) is lands in
+    let twice = take_twice part.0 n text in
+    (twice.0, Told-some after g (λ now. get now name ≡ Some (take part.0 (take n text))) told part.1 ∙ ap (λ (bytes : List ℕ). Some bytes) twice.1)
+part_lands f g after name text held n is told empty (Err io.NoMemory) lands = (0, subst (λ o. IsSomeAnd o (λ now. get now name ≡ get f name)) told lands ∙ empty)
 
 module _ {P I O T : Type 0} (p : PlaceSeen P) (i : PartSeen I) (s : SinkSeen O) (t : SinkSeen T) (plan : Plan) (parts : RunParts I O) (place place' : P) (out out' : T) (o : Option Files) (ready : AreReady i.left i.faults s o plan parts) (crewed : Crewed I O)
     (ran : IsCrewed i.left i.faults s.held s.faults s.name OwnsAllButRoot plan.schema (jobs_of parts) crewed)
@@ -201,6 +225,12 @@ module _ {P I O T : Type 0} (p : PlaceSeen P) (i : PartSeen I) (s : SinkSeen O) 
   pub kept_found : result ≢ Err NoMemory → closes.kept ≢ Err io.NoMemory
   kept_found found lost = found (lacking result (subst (λ (r : Answer). rank_end result ≤ rank_end (write_end r)) lost kept_first))
 
+  abbrev Unbroken : SessionDone I O → Type 0
+  Unbroken d = d.fault ≢ Some fault.Write
+
+  abbrev sinks : List O
+  sinks = map sink_of crewed.asks ++ map sink_of crewed.finals
+
   -- ---- where no writing failed
 
   module _ (quiet : ¬ Rose (p.write_faults place) (p.write_faults place')) where
@@ -229,14 +259,8 @@ module _ {P I O T : Type 0} (p : PlaceSeen P) (i : PartSeen I) (s : SinkSeen O) 
     pub kept_well : closes.kept ≢ Err io.NoMemory → closes.kept ≡ Ok tt
     kept_well found = fine closes.kept (λ bad. journal_quiet (counts_failed _ _ (s.faults closes.sink) closes.kept bad closes.journal.counts)) found
 
-    abbrev sinks : List O
-    sinks = map sink_of crewed.asks ++ map sink_of crewed.finals
-
     unmet : All (λ sink. ¬ Rose 0 (s.faults sink)) sinks
     unmet = All-weaker (Contains sinks) (λ sink. ¬ Rose 0 (s.faults sink)) (λ sink among rose. sinks_quiet (closes.parts.sinks_back.met sink among rose)) sinks (All-contains_itself sinks)
-
-    abbrev Unbroken : SessionDone I O → Type 0
-    Unbroken d = d.fault ≢ Some fault.Write
 
     unbroken : (sessions : List (SessionDone I O)) → All (SessionCause i.faults s.faults) sessions → All (λ sink. ¬ Rose 0 (s.faults sink)) (map sink_of sessions) → All Unbroken sessions
     unbroken sessions causes none = λ k d low is. All-unmapped sink_of (λ sink. ¬ Rose 0 (s.faults sink)) sessions none k d low ((causes k d low).write is)
@@ -247,60 +271,124 @@ module _ {P I O T : Type 0} (p : PlaceSeen P) (i : PartSeen I) (s : SinkSeen O) 
     finals_unbroken : All Unbroken crewed.finals
     finals_unbroken = unbroken crewed.finals final_causes (All-back (λ sink. ¬ Rose 0 (s.faults sink)) (map sink_of crewed.asks) (map sink_of crewed.finals) unmet)
 
-    -- the files of a run whose journal was written hold what it reports
-    module _ (files now : Files) (told : o ≡ Some files) (names : NamesFiles plan) (now_told : p.files place ≡ Some now) (emptied : All (λ name. get now name ≡ Some []) (output_names plan)) (wrote : closes.wrote ≡ Ok tt) (kept : closes.kept ≡ Ok tt) where
-      it_is : AreReady i.left i.faults s (Some files) plan parts
-      it_is = subst (λ o. AreReady i.left i.faults s o plan parts) told ready
+  -- ---- where the files are told
 
-      abbrev points : List Point
-      points = entry_points crewed.journal
+  module _ (files now : Files) (told : o ≡ Some files) (names : NamesFiles plan) (now_told : p.files place ≡ Some now) (emptied : All (λ name. get now name ≡ Some []) (output_names plan)) where
+    it_is : AreReady i.left i.faults s (Some files) plan parts
+    it_is = subst (λ o. AreReady i.left i.faults s o plan parts) told ready
 
-      asks_run : AllZip (HasRun i s plan.schema false crewed.closed crewed.starved points files result) plan.asks crewed.asks
-      asks_run =
-          AllZip-then (IsSessionOf i.left i.faults s (Some files)) (LeavesTranscript i.left i.faults s.held s.faults s.name OwnsAllButRoot plan.schema false crewed.closed crewed.starved points) (HasRun i s plan.schema false crewed.closed crewed.starved points files result)
-          plan.asks parts.asks crewed.asks (λ name before d r l. record { before = before; ready = r; leaves = l }) it_is.asks ran.asks
+    abbrev points : List Point
+    points = entry_points crewed.journal
 
-      finals_run : AllZip (HasRun i s plan.schema true crewed.closed crewed.starved points files result) plan.finals crewed.finals
-      finals_run =
-          AllZip-then (IsSessionOf i.left i.faults s (Some files)) (LeavesTranscript i.left i.faults s.held s.faults s.name OwnsAllButRoot plan.schema true crewed.closed crewed.starved points) (HasRun i s plan.schema true crewed.closed crewed.starved points files result)
-          plan.finals parts.finals crewed.finals (λ name before d r l. record { before = before; ready = r; leaves = l }) it_is.finals ran.finals
+    asks_run : AllZip (HasRun i s plan.schema false crewed.closed crewed.starved points files result) plan.asks crewed.asks
+    asks_run =
+        AllZip-then (IsSessionOf i.left i.faults s (Some files)) (LeavesTranscript i.left i.faults s.held s.faults s.name OwnsAllButRoot plan.schema false crewed.closed crewed.starved points) (HasRun i s plan.schema false crewed.closed crewed.starved points files result)
+        plan.asks parts.asks crewed.asks (λ name before d r l. record { before = before; ready = r; leaves = l }) it_is.asks ran.asks
 
-      stopped : (final : Bool) (scripts : List (List ℕ)) (sessions : List (SessionDone I O)) → AllZip (HasRun i s plan.schema final crewed.closed crewed.starved points files result) scripts sessions → All SessionFirst sessions → All Unbroken sessions → AllZip (StopsScript result files) scripts (map script_counts sessions)
-      stopped final scripts sessions run first whole =
-          AllZip-mapped (StopsScript result files) script_counts scripts sessions
-          (AllZip-with (HasRun i s plan.schema final crewed.closed crewed.starved points files result) (λ (d : SessionDone I O). SessionFirst d × Unbroken d) (λ name d. StopsScript result files name (script_counts d)) scripts sessions
-          (stops_script i s plan.schema final crewed.closed crewed.starved points files result planned) run (λ k d low. (first k d low, whole k d low)))
+    finals_run : AllZip (HasRun i s plan.schema true crewed.closed crewed.starved points files result) plan.finals crewed.finals
+    finals_run =
+        AllZip-then (IsSessionOf i.left i.faults s (Some files)) (LeavesTranscript i.left i.faults s.held s.faults s.name OwnsAllButRoot plan.schema true crewed.closed crewed.starved points) (HasRun i s plan.schema true crewed.closed crewed.starved points files result)
+        plan.finals parts.finals crewed.finals (λ name before d r l. record { before = before; ready = r; leaves = l }) it_is.finals ran.finals
 
-      told_read : p.files closes.parts.read ≡ Some now
-      told_read = closes.parts.finals_back.files ∙ closes.parts.asks_back.files ∙ closes.parts.feeds_back.files ∙ now_told
+    stopped : (final : Bool) (scripts : List (List ℕ)) (sessions : List (SessionDone I O)) → AllZip (HasRun i s plan.schema final crewed.closed crewed.starved points files result) scripts sessions → All SessionFirst sessions → AllZip (StopsScript result files) scripts (map script_counts sessions)
+    stopped final scripts sessions run first =
+        AllZip-mapped (StopsScript result files) script_counts scripts sessions
+        (AllZip-with (HasRun i s plan.schema final crewed.closed crewed.starved points files result) SessionFirst (λ name d. StopsScript result files name (script_counts d)) scripts sessions
+        (stops_script i s plan.schema final crewed.closed crewed.starved points files result planned) run first)
 
-      replied : (f : Files) × (p.files closes.replied ≡ Some f) × ((other : List ℕ) → ¬ Contains (map s.name sinks) other → get f other ≡ get now other)
-      replied = told_pair (p.files closes.parts.read) (p.files closes.replied) now (λ a b. (other : List ℕ) → ¬ Contains (map s.name sinks) other → get b other ≡ get a other) told_read closes.parts.sinks_back.others
+    told_read : p.files closes.parts.read ≡ Some now
+    told_read = closes.parts.finals_back.files ∙ closes.parts.asks_back.files ∙ closes.parts.feeds_back.files ∙ now_told
 
-      last : (g : Files) × (p.files place' ≡ Some g) × SameBut replied.0 g (s.name closes.sink)
-      last = told_pair (p.files closes.replied) (p.files place') replied.0 (λ a b. SameBut a b (s.name closes.sink)) replied.1 closes.journal.others
+    replied : (f : Files) × (p.files closes.replied ≡ Some f) × ((other : List ℕ) → ¬ Contains (map s.name sinks) other → get f other ≡ get now other)
+    replied = told_pair (p.files closes.parts.read) (p.files closes.replied) now (λ a b. (other : List ℕ) → ¬ Contains (map s.name sinks) other → get b other ≡ get a other) told_read closes.parts.sinks_back.others
 
-      journal_named : s.name closes.sink ≡ plan.journal
-      journal_named = closes.written.name ∙ ready.journal.name_is
+    last : (g : Files) × (p.files place' ≡ Some g) × SameBut replied.0 g (s.name closes.sink)
+    last = told_pair (p.files closes.replied) (p.files place') replied.0 (λ a b. SameBut a b (s.name closes.sink)) replied.1 closes.journal.others
 
-      same : SameBut replied.0 last.0 plan.journal
-      same = subst (SameBut replied.0 last.0) journal_named last.2
+    journal_named : s.name closes.sink ≡ plan.journal
+    journal_named = closes.written.name ∙ ready.journal.name_is
 
-      abbrev outs : List (List ℕ)
-      outs = outputs plan.asks ++ outputs plan.finals
+    same : SameBut replied.0 last.0 plan.journal
+    same = subst (SameBut replied.0 last.0) journal_named last.2
 
-      apart : AllPairs (λ n m. n ≢ m) (outs ++ plan.journal ∷ [])
-      apart = AllPairs-back (λ n m. n ≢ m) (input_names plan) (output_names plan) names.apart
+    abbrev outs : List (List ℕ)
+    outs = outputs plan.asks ++ outputs plan.finals
 
-      sinks_named : map s.name sinks ≡ outs
-      sinks_named =
-          map-append s.name (map sink_of crewed.asks) (map sink_of crewed.finals)
-          ∙ ap (λ ns. ns ++ map s.name (map sink_of crewed.finals)) (dones_named i s o OwnsAllButRoot plan.schema false crewed.closed crewed.starved points plan.asks parts.asks crewed.asks ready.asks ran.asks)
-          ∙ ap (λ ns. outputs plan.asks ++ ns) (dones_named i s o OwnsAllButRoot plan.schema true crewed.closed crewed.starved points plan.finals parts.finals crewed.finals ready.finals ran.finals)
+    apart : AllPairs (λ n m. n ≢ m) (outs ++ plan.journal ∷ [])
+    apart = AllPairs-back (λ n m. n ≢ m) (input_names plan) (output_names plan) names.apart
 
-      -- what is said of the outputs' names is said of those of the sinks
-      of_sinks : (Q : List ℕ → Type 0) → All Q outs → All (λ sink. Q (s.name sink)) sinks
-      of_sinks Q all = All-unmapped s.name Q sinks (subst (All Q) (sym sinks_named) all)
+    sinks_named : map s.name sinks ≡ outs
+    sinks_named =
+        map-append s.name (map sink_of crewed.asks) (map sink_of crewed.finals)
+        ∙ ap (λ ns. ns ++ map s.name (map sink_of crewed.finals)) (dones_named i s o OwnsAllButRoot plan.schema false crewed.closed crewed.starved points plan.asks parts.asks crewed.asks ready.asks ran.asks)
+        ∙ ap (λ ns. outputs plan.asks ++ ns) (dones_named i s o OwnsAllButRoot plan.schema true crewed.closed crewed.starved points plan.finals parts.finals crewed.finals ready.finals ran.finals)
+
+    -- what is said of the outputs' names is said of those of the sinks
+    of_sinks : (Q : List ℕ → Type 0) → All Q outs → All (λ sink. Q (s.name sink)) sinks
+    of_sinks Q all = All-unmapped s.name Q sinks (subst (All Q) (sym sinks_named) all)
+
+    takes : AllZip (TakesFeed plan.schema result files) plan.feeds gave.feeds
+    takes =
+        AllZip-with (λ name feed. (job : FeedJob I) × IsJobOf i.left i.faults plan.schema (Some (file_or_empty files name)) job × GaveRows i.left i.faults job feed) (λ (feed : FeedRows). FeedFirst feed.fault) (TakesFeed plan.schema result files) plan.feeds gave.feeds
+        (λ name feed is first. takes_feed i.left i.faults plan.schema result planned files name is.0 feed is.1 is.2 first)
+        (AllZip-then (λ name. IsJobOf i.left i.faults plan.schema (Some (file_or_empty files name))) (GaveRows i.left i.faults) _ plan.feeds parts.feeds gave.feeds (λ name job feed is gives. (job, is, gives)) it_is.feeds gave.gave)
+        (All-unmapped (λ (feed : FeedRows). feed.fault) FeedFirst gave.feeds (subst (All FeedFirst) (sym gave.faults_are) (All-map FeedFirst (λ (d : FeedDone I). d.fault) crewed.feeds feeds_first)))
+
+    text : List ℕ
+    text = journal_text plan.schema crewed.journal
+
+    count : length parts.feeds ≡ length plan.feeds
+    count = AllZip-length (λ name job. IsJobOf i.left i.faults plan.schema (Some (file_or_empty files name)) job) plan.feeds parts.feeds it_is.feeds
+
+    fronts : InterleavesFronts (accepted_lists plan files) crewed.journal
+    fronts =
+        let acc : List ℕ → List Point = λ name. accepted plan.schema (file_or_empty files name) in
+        let prefixes : AllZip IsPrefix (map (λ (feed : FeedRows). points_in feed.rows) gave.feeds) (accepted_lists plan files) =
+        AllZip-ap (TakesFeed plan.schema result files) IsPrefix (λ name. accepted plan.schema (file_or_empty files name)) (λ (feed : FeedRows). points_in feed.rows) plan.feeds gave.feeds (points_begin plan.schema result files) takes in
+        interleaves_fronts (accepted_lists plan files) ran.sent (length parts.feeds) crewed.journal crewed.drawn (count ∙ sym (length-map plan.feeds acc)) (subst (λ ls. AllZip IsPrefix ls (accepted_lists plan files)) (sym gave.points) prefixes) ran.drawn ran.journal
+
+    drawn : result ≢ Err NoMemory → IsInterleaving (length plan.feeds) (list_of (map (λ (feed : FeedRows). points_in feed.rows) gave.feeds)) crewed.journal
+    drawn found =
+        let all = ran.found (fed_where crewed.starved refl found) in
+        subst (λ ls. IsInterleaving (length plan.feeds) (list_of ls) crewed.journal) gave.points (subst (λ n. IsInterleaving n (list_of ran.sent) crewed.journal) count (subst (IsInterleaving (length parts.feeds) (list_of ran.sent)) (sym all.journal) ran.drawn))
+
+    abbrev WasEmpty : List ℕ → Type 0
+    WasEmpty name = get now name ≡ Some []
+
+    -- the journal was empty before its sink was given back
+    journal_empty : get replied.0 plan.journal ≡ Some []
+    journal_empty =
+        let others : All (λ name. name ≢ plan.journal) (map s.name sinks) = subst (All (λ name. name ≢ plan.journal)) (sym sinks_named) (AllPairs-last (λ n m. n ≢ m) outs plan.journal apart) in
+        replied.2 plan.journal (λ among. All-contains (λ name. name ≢ plan.journal) (map s.name sinks) plan.journal others among refl)
+        ∙ All-head WasEmpty plan.journal [] (All-back WasEmpty outs (plan.journal ∷ []) emptied)
+
+    journal_begins : (n : ℕ) × (get last.0 plan.journal ≡ Some (take n text))
+    unfolding text
+    journal_begins =
+        let held = part_held (s.held parts.journal) (s.held closes.sink) text closes.wrote closes.written.whole closes.written.part it_is.journal.holds_nothing in
+        let lands : Lands (Some replied.0) (p.files place') plan.journal (s.held closes.sink) closes.kept = subst (λ name. Lands (Some replied.0) (p.files place') name (s.held closes.sink) closes.kept) journal_named (subst (λ f. Lands f (p.files place') (s.name closes.sink) (s.held closes.sink) closes.kept) replied.1 closes.journal.lands) in
+        part_lands replied.0 last.0 (p.files place') plan.journal text (s.held closes.sink) held.0 held.1 last.1 journal_empty closes.kept lands
+
+    begins : BeginsFiles plan result account files last.0
+    unfolding account text
+    begins = record {
+      journal = journal_begins;
+      order = fronts;
+      drawn = drawn;
+      feeds = takes;
+      asks = stopped false plan.asks crewed.asks asks_run asks_first;
+      finals = stopped true plan.finals crewed.finals finals_run finals_first;
+      closed = unclosed crewed.starved refl;
+    }
+
+    pub begins_files : IsSomeAnd (p.files place') (BeginsFiles plan result account files)
+    begins_files = subst (λ f. IsSomeAnd f (BeginsFiles plan result account files)) (sym last.1) begins
+
+    -- ---- and no writing failed
+
+    module _ (quiet : ¬ Rose (p.write_faults place) (p.write_faults place')) (wrote : closes.wrote ≡ Ok tt) (kept : closes.kept ≡ Ok tt) where
+      abbrev Whole : ScriptCounts → Type 0
+      Whole script = script.fault ≢ Some fault.Write
 
       landed : All (LandsAs s result last.0) sinks
       landed =
@@ -308,7 +396,7 @@ module _ {P I O T : Type 0} (p : PlaceSeen P) (i : PartSeen I) (s : SinkSeen O) 
           (of_sinks (λ name. name ≢ plan.journal) (AllPairs-last (λ n m. n ≢ m) outs plan.journal apart))
           (of_sinks (λ name. get now name ≡ Some []) (All-front (λ name. get now name ≡ Some []) outs (plan.journal ∷ []) emptied))
           (subst (AllPairs (λ n m. n ≢ m)) (sym sinks_named) (AllPairs-front (λ n m. n ≢ m) outs (plan.journal ∷ []) apart))
-          closes.parts.sinks_back sinks_quiet given_first
+          closes.parts.sinks_back (sinks_quiet quiet) given_first
 
       answered : (final : Bool) (scripts : List (List ℕ)) (sessions : List (SessionDone I O)) → crewed.closed ≡ true → AllZip (HasRun i s plan.schema final crewed.closed crewed.starved points files result) scripts sessions → All Unbroken sessions → All (LandsAs s result last.0) (map sink_of sessions)
           → AllZip (AnswersScript plan.schema final points result files last.0) scripts (map script_counts sessions)
@@ -316,16 +404,6 @@ module _ {P I O T : Type 0} (p : PlaceSeen P) (i : PartSeen I) (s : SinkSeen O) 
           AllZip-mapped (AnswersScript plan.schema final points result files last.0) script_counts scripts sessions
           (AllZip-with (HasRun i s plan.schema final crewed.closed crewed.starved points files result) (λ (d : SessionDone I O). Unbroken d × LandsAs s result last.0 d.sink) (λ name d. AnswersScript plan.schema final points result files last.0 name (script_counts d)) scripts sessions
           (answers_script i s plan.schema final crewed.closed crewed.starved points files result last.0 shut starving) run (λ k d low. (whole k d low, All-unmapped sink_of (LandsAs s result last.0) sessions lands k d low)))
-
-      takes : AllZip (TakesFeed plan.schema result files) plan.feeds gave.feeds
-      takes =
-          AllZip-with (λ name feed. (job : FeedJob I) × IsJobOf i.left i.faults plan.schema (Some (file_or_empty files name)) job × GaveRows i.left i.faults job feed) (λ (feed : FeedRows). FeedFirst feed.fault) (TakesFeed plan.schema result files) plan.feeds gave.feeds
-          (λ name feed is first. takes_feed i.left i.faults plan.schema result planned files name is.0 feed is.1 is.2 first)
-          (AllZip-then (λ name. IsJobOf i.left i.faults plan.schema (Some (file_or_empty files name))) (GaveRows i.left i.faults) _ plan.feeds parts.feeds gave.feeds (λ name job feed is gives. (job, is, gives)) it_is.feeds gave.gave)
-          (All-unmapped (λ (feed : FeedRows). feed.fault) FeedFirst gave.feeds (subst (All FeedFirst) (sym gave.faults_are) (All-map FeedFirst (λ (d : FeedDone I). d.fault) crewed.feeds feeds_first)))
-
-      text : List ℕ
-      text = journal_text plan.schema crewed.journal
 
       journal_file : get last.0 plan.journal ≡ Some text
       unfolding text
@@ -336,41 +414,22 @@ module _ {P I O T : Type 0} (p : PlaceSeen P) (i : PartSeen I) (s : SinkSeen O) 
           Told-some (p.files place') last.0 (λ f. get f plan.journal ≡ Some text) last.1
           (subst (λ name. HasFile (p.files place') name text) journal_named (Told-some (s.held closes.sink) text (HasFile (p.files place') (s.name closes.sink)) held lands))
 
-      count : length parts.feeds ≡ length plan.feeds
-      count = AllZip-length (λ name job. IsJobOf i.left i.faults plan.schema (Some (file_or_empty files name)) job) plan.feeds parts.feeds it_is.feeds
-
-      fronts : InterleavesFronts (accepted_lists plan files) crewed.journal
-      fronts =
-          let acc : List ℕ → List Point = λ name. accepted plan.schema (file_or_empty files name) in
-          let prefixes : AllZip IsPrefix (map (λ (feed : FeedRows). points_in feed.rows) gave.feeds) (accepted_lists plan files) =
-          AllZip-ap (TakesFeed plan.schema result files) IsPrefix (λ name. accepted plan.schema (file_or_empty files name)) (λ (feed : FeedRows). points_in feed.rows) plan.feeds gave.feeds (points_begin plan.schema result files) takes in
-          interleaves_fronts (accepted_lists plan files) ran.sent (length parts.feeds) crewed.journal crewed.drawn (count ∙ sym (length-map plan.feeds acc)) (subst (λ ls. AllZip IsPrefix ls (accepted_lists plan files)) (sym gave.points) prefixes) ran.drawn ran.journal
-
-      drawn : result ≢ Err NoMemory → IsInterleaving (length plan.feeds) (list_of (map (λ (feed : FeedRows). points_in feed.rows) gave.feeds)) crewed.journal
-      drawn found =
-          let all = ran.found (fed_where crewed.starved refl found) in
-          subst (λ ls. IsInterleaving (length plan.feeds) (list_of ls) crewed.journal) gave.points (subst (λ n. IsInterleaving n (list_of ran.sent) crewed.journal) count (subst (IsInterleaving (length parts.feeds) (list_of ran.sent)) (sym all.journal) ran.drawn))
-
       pub holds_files : IsSomeAnd (p.files place') (HoldsFiles plan result account files)
       unfolding account text
       holds_files =
           let front = All-front (LandsAs s result last.0) (map sink_of crewed.asks) (map sink_of crewed.finals) landed in
           let back = All-back (LandsAs s result last.0) (map sink_of crewed.asks) (map sink_of crewed.finals) landed in
-          let asks_answered = λ (shut : crewed.closed ≡ true). answered false plan.asks crewed.asks shut asks_run asks_unbroken front in
-          let finals_answered = λ (shut : crewed.closed ≡ true). answered true plan.finals crewed.finals shut finals_run finals_unbroken back in
-          let asks_stopped = stopped false plan.asks crewed.asks asks_run asks_first asks_unbroken in
-          let finals_stopped = stopped true plan.finals crewed.finals finals_run finals_first finals_unbroken in
+          let asks_answered = λ (shut : crewed.closed ≡ true). answered false plan.asks crewed.asks shut asks_run (asks_unbroken quiet) front in
+          let finals_answered = λ (shut : crewed.closed ≡ true). answered true plan.finals crewed.finals shut finals_run (finals_unbroken quiet) back in
+          let asks_stopped = stopped false plan.asks crewed.asks asks_run asks_first in
+          let finals_stopped = stopped true plan.finals crewed.finals finals_run finals_first in
           subst (λ f. IsSomeAnd f (HoldsFiles plan result account files)) (sym last.1)
           (record {
+            begins = begins;
             journal = journal_file;
-            order = fronts;
-            drawn = drawn;
-            feeds = takes;
-            closed = unclosed crewed.starved refl;
             asks = asks_answered;
             finals = finals_answered;
-            asks_stop = asks_stopped;
-            finals_stop = finals_stopped;
+            unbroken = (All-map Whole script_counts crewed.asks (asks_unbroken quiet), All-map Whole script_counts crewed.finals (finals_unbroken quiet));
             all = λ found unread.
                 let shut = (ran.found (fed_where crewed.starved refl found)).closed in
                 all_held plan result files last.0 found unread gave.feeds (map script_counts crewed.asks) (map script_counts crewed.finals) crewed.journal takes (drawn found) (asks_answered shut) asks_stopped (finals_answered shut) finals_stopped;

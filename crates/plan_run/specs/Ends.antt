@@ -1,5 +1,5 @@
 -- How a run of a plan ends, and what it leaves of a place and of the sink of its report.
-use Rattle.std.specs.Prelude.{◌≡◌, ◌⊎◌, ℕ, ◌<◌, Bool, true, List, [], ◌∷◌, ◌++◌, Contains, length, Option, Some, None, IfSome, IsSomeAnd, Result, Ok, Err, IsOk, OnOk, All}
+use Rattle.std.specs.Prelude.{◌≡◌, ◌⊎◌, ℕ, ◌<◌, true, List, [], ◌∷◌, ◌++◌, Contains, length, Option, Some, None, IfSome, IsSomeAnd, Result, Ok, Err, IsOk, OnOk, All}
 use Rattle.std.specs.FinMap.{get}
 use Rattle.cube_schema.specs.Files.{input_names, output_names}
 use Rattle.cube_schema.specs.declared.plan.Plan.{Plan}
@@ -9,7 +9,7 @@ use Rattle.outer_io.specs.Faults.{Rose, RoseBy}
 use Rattle.outer_io.specs.Files.{Files, file_or_empty}
 use Rattle.outer_io.specs.Told.{Told}
 use Rattle.plan_run.specs.Completed.{IsCompleted}
-use Rattle.plan_run.specs.Interrupted.{Account, HoldsAll, HoldsFiles, account_text, read_stops}
+use Rattle.plan_run.specs.Interrupted.{Account, BeginsFiles, HoldsAll, HoldsFiles, account_text, read_stops}
 use Rattle.run_files.specs.Headed.{RefusesLast}
 use Rattle.run_files.specs.Leaving.{KeepsOthers}
 use Rattle.run_files.specs.Outside.{FailsToPut, file_of, PlaceSeen, Puts, Silent, SinkSeen}
@@ -17,9 +17,6 @@ use Rattle.run_files.specs.Planned.{IsPlanOf, RefusesPlan}
 use Rattle.run_files.specs.declared.stop.Stop.{Stop}
 use Rattle.run_files.specs.declared.stop.Stop.TheVariants.{NoMemory, PlanRefused, ReadFault, WriteFault, FeedRefused}
 use Rattle.run_opening.specs.Opening.{inputs_of, outputs_of}
-use Rattle.run_report.specs.Reports.{counts_text}
-use Rattle.run_report.specs.declared.counts.FeedCounts.{FeedCounts}
-use Rattle.run_report.specs.declared.counts.ScriptCounts.{ScriptCounts}
 use Rattle.session_core.specs.Scripts.{is_script_refused}
 use Rattle.world_core.specs.declared.entry.Entry.{Entry}
 
@@ -65,20 +62,26 @@ module _ {P T : Type 0} (p : PlaceSeen P) (s : SinkSeen T) (place place' : P) (o
     -- the files hold what they should, and the report was put, where the place tells its files
     pub files : Told (p.files place) (λ files. IsSomeAnd (p.files place') (λ files'. IsCompleted plan files files' (s.held out) (s.held out')))
 
-  -- a report of some counts was put
-  abbrev pub Reports : Plan → Type 0
-  Reports plan = (feeds : List FeedCounts) × (asks : List ScriptCounts) × (finals : List ScriptCounts) × (closed : Bool) × (count : ℕ) × PutsOrFails s out out' (counts_text plan feeds asks finals closed count)
-
-  -- what a run puts: nothing, or the line of a refused plan, or that of the refused feed which was opened last, or a report
-  abbrev pub SaysOfRun : List ℕ → Option Plan → Type 0
-  SaysOfRun name None = Silent s out out' ⊎ RefusesPlan s out out' (file_of (p.files place) name)
-  SaysOfRun name (Some plan) = Silent s out out' ⊎ ((opens : List (List ℕ)) × RefusesLast plan.schema (file_of (p.files place)) opens (PutsOrFails s out out')) ⊎ Reports plan
-
   -- the claim holds of the files before and after, where the place tells its files
   abbrev pub OfFiles : (Files → Files → Type 0) → Type 0
   OfFiles Claim = Told (p.files place) (λ files. IsSomeAnd (p.files place') (Claim files))
 
-  -- A run of the plan that ended so has put its report, and it is true
+  -- A run of the plan that ended so has put its report, or a part of it, whatever failed
+  pub record Reports (plan : Plan) (end : Result (Unit {0}) Stop) : Type 0 where
+    -- what it reports
+    pub account : Account
+    pub puts : PutsOrFails s out out' (account_text plan account)
+    -- the files begin with it
+    pub files : OfFiles (BeginsFiles plan end account)
+    -- no more of its lines say `stopped: Read` than the place's count of reading rose by
+    pub reads : RoseBy (read_stops account) (p.read_faults place) (p.read_faults place')
+
+  -- what a run puts: nothing, or the line of a refused plan, or that of the refused feed which was opened last, or a report
+  abbrev pub SaysOfRun : List ℕ → Result (Unit {0}) Stop → Option Plan → Type 0
+  SaysOfRun name end None = Silent s out out' ⊎ RefusesPlan s out out' (file_of (p.files place) name)
+  SaysOfRun name end (Some plan) = Silent s out out' ⊎ ((opens : List (List ℕ)) × RefusesLast plan.schema (file_of (p.files place)) opens (PutsOrFails s out out')) ⊎ Reports plan end
+
+  -- One that did so where no write failed
   pub record HasReported (plan : Plan) (end : Result (Unit {0}) Stop) : Type 0 where
     -- what it reports
     pub account : Account
@@ -118,8 +121,8 @@ module _ {P T : Type 0} (p : PlaceSeen P) (s : SinkSeen T) (place place' : P) (o
     -- with Ok the run is completed
     pub done : OnOk result ((which : Plan) × (plan ≡ Some which) × IsDone name which)
     -- of what it puts nothing else comes
-    pub said : SaysOfRun name plan
-    -- a feed is refused only where one is, or a script is too large
+    pub said : SaysOfRun name result plan
+    -- a refused feed is the end only where a feed or a script of the plan is refused
     pub refused : result ≡ Err FeedRefused → (which : Plan) × (plan ≡ Some which) × Told (p.files place) (λ files. HasRefusedInput files which)
     -- a read fault comes only where the place's count of reading rose
     pub read : result ≡ Err ReadFault → Rose (p.read_faults place) (p.read_faults place')

@@ -1,5 +1,5 @@
 -- What the files of a run of a plan hold, whatever interrupted it, and what its report says of them.
-use Rattle.std.specs.Prelude.{◌≡◌, ◌≢◌, ◌⊎◌, ℕ, ◌+◌, ◌<◌, ◌≤◌, Bool, true, false, List, [], length, map, take, count_by, Option, Some, None, Result, Ok, Err}
+use Rattle.std.specs.Prelude.{◌≡◌, ◌≢◌, ◌⊎◌, ℕ, ◌+◌, ◌<◌, ◌≤◌, Bool, true, false, List, [], All, length, map, take, count_by, Option, Some, None, Result, Ok, Err}
 use Rattle.std.specs.FinMap.{get}
 use Rattle.std.specs.List.{AllZip}
 use Rattle.crew_session.specs.Work.{last_number}
@@ -110,8 +110,6 @@ pub record StopsScript (end : Result (Unit {0}) Stop) (files : Files) (name : Li
   pub too_much : script.fault ≡ Some fault.TooMuch → input_limit < length (file_or_empty files name)
   -- `stopped: NoMemory` only where the run ends so
   pub no_memory : script.fault ≡ Some fault.NoMemory → end ≡ Err NoMemory
-  -- `stopped: Write` does not come
-  pub write : script.fault ≢ Some fault.Write
 
 module _ (schema : Schema) (final : Bool) (points : List Point) (end : Result (Unit {0}) Stop) (files files' : Files) where
   -- What a run that ended so leaves of the script of that name, and says of it
@@ -138,24 +136,32 @@ pub record HoldsAll (plan : Plan) (entries : List Entry) (files files' : Files) 
   pub final_replies : List (List Reply)
   pub finals : AllZip (HasTranscript plan.schema true (entry_points entries) files files') plan.finals final_replies
 
--- What the files of a run that ended so hold, of which it gives this account
-pub record HoldsFiles (plan : Plan) (end : Result (Unit {0}) Stop) (account : Account) (files files' : Files) : Type 0 where
-  -- the journal's file is the text of the entries
-  pub journal : get files' plan.journal ≡ Some (journal_text plan.schema account.entries)
+-- What the files of a run that ended so hold, whatever failed, of which it gives this account
+pub record BeginsFiles (plan : Plan) (end : Result (Unit {0}) Stop) (account : Account) (files files' : Files) : Type 0 where
+  -- the journal's file is a beginning of the text of the entries
+  pub journal : (n : ℕ) × (get files' plan.journal ≡ Some (take n (journal_text plan.schema account.entries)))
   -- they are an interleaving of prefixes of the feeds' accepted records
   pub order : InterleavesFronts (accepted_lists plan files) account.entries
   -- where memory was not wanted, of all the points among the rows that each feed gave
   pub drawn : end ≢ Err NoMemory → IsInterleaving (length plan.feeds) (list_of (map (λ (feed : FeedRows). points_in feed.rows) account.feeds)) account.entries
   -- of each feed the rows are a beginning of the file's, or all
   pub feeds : AllZip (TakesFeed plan.schema end files) plan.feeds account.feeds
+  -- a script is stopped only with its cause
+  pub asks : AllZip (StopsScript end files) plan.asks account.asks
+  pub finals : AllZip (StopsScript end files) plan.finals account.finals
   -- the sessions were closed unless memory was wanted
   pub closed : account.closed ≡ false → end ≡ Err NoMemory
-  -- where they were, each script's output holds a transcript over the entries' points
+
+-- What they hold where no write failed and the journal found memory
+pub record HoldsFiles (plan : Plan) (end : Result (Unit {0}) Stop) (account : Account) (files files' : Files) : Type 0 where
+  pub begins : BeginsFiles plan end account files files'
+  -- the journal's file is the whole text
+  pub journal : get files' plan.journal ≡ Some (journal_text plan.schema account.entries)
+  -- where the sessions were closed, each script's output holds a transcript over the entries' points
   pub asks : account.closed ≡ true → AllZip (AnswersScript plan.schema false (entry_points account.entries) end files files') plan.asks account.asks
   -- in which each number of points of a final is that of all entries
   pub finals : account.closed ≡ true → AllZip (AnswersScript plan.schema true (entry_points account.entries) end files files') plan.finals account.finals
-  -- a script is stopped only with its cause
-  pub asks_stop : AllZip (StopsScript end files) plan.asks account.asks
-  pub finals_stop : AllZip (StopsScript end files) plan.finals account.finals
+  -- `stopped: Write` does not come
+  pub unbroken : All (λ (script : ScriptCounts). script.fault ≢ Some fault.Write) account.asks × All (λ (script : ScriptCounts). script.fault ≢ Some fault.Write) account.finals
   -- where neither memory was wanted nor a read failed, nothing is missing
   pub all : end ≢ Err NoMemory → end ≢ Err ReadFault → HoldsAll plan account.entries files files'
