@@ -1,5 +1,5 @@
 -- How a run ends, by how it was opened and by what became of its parts.
-use Rattle.std.proofs.Common.{◌≡◌, ◌≢◌, ◌⊎◌, inl, inr, ◌<◌, ℕ, Bool, true, false, List, [], ◌∷◌, ◌++◌, All, length, map, append-nil, Option, Some, None, Result, Ok, Err, IsSomeAnd, OnOk, refl, sym, ap, subst, ◌∙◌}
+use Rattle.std.proofs.Common.{◌≡◌, ◌≢◌, ◌⊎◌, inl, inr, ℕ, Bool, true, false, List, [], ◌∷◌, ◌++◌, All, map, append-nil, Option, Some, None, Result, Ok, Err, IsSomeAnd, OnOk, refl, sym, ap, subst, ◌∙◌}
 use Rattle.std.proofs.lemmas.List.{map-append}
 use Rattle.std.specs.Prelude.{Contains, IfSome}
 use Rattle.std.specs.FinMap.{get}

@@ -1,5 +1,5 @@
 -- How a run of a plan ends, and what it leaves of a place and of the sink of its report.
-use Rattle.std.specs.Prelude.{◌≡◌, ◌⊎◌, ℕ, ◌<◌, true, List, [], ◌∷◌, ◌++◌, Contains, length, Option, Some, None, IfSome, IsSomeAnd, Result, Ok, Err, IsOk, OnOk, All}
+use Rattle.std.specs.Prelude.{◌≡◌, ◌⊎◌, ℕ, true, List, [], ◌∷◌, ◌++◌, Contains, Option, Some, None, IfSome, IsSomeAnd, Result, Ok, Err, IsOk, OnOk, All}
 use Rattle.std.specs.FinMap.{get}
 use Rattle.cube_schema.specs.Files.{input_names, output_names}
 use Rattle.cube_schema.specs.declared.plan.Plan.{Plan}
