@@ -1,0 +1,3 @@
+pub mod Labels
+pub mod Fits
+pub mod Laws
