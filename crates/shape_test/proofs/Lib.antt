@@ -1,3 +1,5 @@
+pub mod Coarser
 pub mod Labelled
 pub mod Deciding
 pub mod OneHome
+pub mod Placing

@@ -1,3 +1,5 @@
 pub mod Labels
 pub mod Fits
+pub mod Homes
 pub mod Laws
+pub mod Places

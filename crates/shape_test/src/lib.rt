@@ -10,6 +10,10 @@
 //! ```
 #![tactic(auto)]
 
+mod home;
 mod laws;
+mod place;
 
+pub use home::{Move, is_coarser};
 pub use laws::fit_laws;
+pub use place::{Place, place_of};
