@@ -134,3 +134,30 @@ module _ (loose may : Bool) (a b owner : List Move) (e : Move) (begins : b ≡ e
             let z : step_of e ∷ walk_of above ≡ step_of e ∷ g.above = sym own ∙ g.is in
             let s : g.above ≡ walk_of above = cc in
             R.1 (subst (λ (z : Bool). Finer z (walk_of above) (walk_of owner)) (sym xs) (subst (λ (z : Walk). Finer (is_across e) z (walk_of owner)) s g.finer))
+
+-- an address with one more step
+pub after_step : (e last : Move) (a b owner : List Move) (same x r : Bool) → b ≡ last ∷ owner → (same ≡ true) ↔ (e ≡ last) → same ≡ true → x ≡ is_across e → (r ≡ true) ↔ Finer x (walk_of a) (walk_of owner) → (r ≡ true) ↔ Finer false (step_of e ∷ walk_of a) (walk_of b)
+after_step e last a b owner same x r begins S s xs R = (forth, back)
+  where
+    parts : walk_of b ≡ step_of e ∷ walk_of owner
+    parts = ap walk_of begins ∙ ap (λ (m : Move). step_of m ∷ walk_of owner) (sym (S.0 s))
+
+    forth : r ≡ true → Finer false (step_of e ∷ walk_of a) (walk_of b)
+    forth y = subst (Finer false (step_of e ∷ walk_of a)) (sym parts) (same_step false e (walk_of a) (walk_of owner) (subst (λ (z : Bool). Finer z (walk_of a) (walk_of owner)) xs (R.0 y)))
+
+    back : Finer false (step_of e ∷ walk_of a) (walk_of b) → r ≡ true
+    back f =
+        let g = went_on false e (step_of e ∷ walk_of a) (walk_of owner) (subst (Finer false (step_of e ∷ walk_of a)) parts f) (λ z. absurd (true≢false (sym z))) in
+        let z : step_of e ∷ walk_of a ≡ step_of e ∷ g.above = g.is in
+        let w : g.above ≡ walk_of a = cc in
+        R.1 (subst (λ (z : Bool). Finer z (walk_of a) (walk_of owner)) (sym xs) (subst (λ (z : Walk). Finer (is_across e) z (walk_of owner)) w g.finer))
+
+pub other_step : (e last : Move) (a b owner : List Move) (same : Bool) → b ≡ last ∷ owner → (same ≡ true) ↔ (e ≡ last) → same ≡ false → (same ≡ true) ↔ Finer false (step_of e ∷ walk_of a) (walk_of b)
+other_step e last a b owner same begins S n = (λ z. absurd cc, back)
+  where
+    back : Finer false (step_of e ∷ walk_of a) (walk_of b) → same ≡ true
+    back f =
+        let g = went_on false last (step_of e ∷ walk_of a) (walk_of owner) (subst (Finer false (step_of e ∷ walk_of a)) (ap walk_of begins) f) (λ z. absurd (true≢false (sym z))) in
+        let z : step_of e ≡ step_of last = (let w = g.is in cc) in
+        let y = S.1 (same_move e last z) in
+        absurd cc

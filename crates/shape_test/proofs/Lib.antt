@@ -1,3 +1,4 @@
+pub mod Childwise
 pub mod Coarser
 pub mod Labelled
 pub mod Deciding

@@ -1,7 +1,7 @@
 //! The home of a slot: the steps that lead to it along proper links.
-ghost use Rattle.std.specs.Prelude.{◌≡◌, ◌↔◌, ◌&&◌, not, IsTrue, Some, slice_get};
-ghost use Rattle.cube_view.specs.Walks.{Finer};
-ghost use Rattle.shape_test.specs.Homes.{is_across, walk_of};
+ghost use Rattle.std.specs.Prelude.{◌≡◌, ◌↔◌, ◌&&◌, ◌∷◌, not, IsTrue, Some, slice_get};
+ghost use Rattle.cube_view.specs.Walks.{Finer, IsCoarser};
+ghost use Rattle.shape_test.specs.Homes.{is_across, step_of, walk_of};
 
 /// One step: down to the child of a label, or across to the content.
 #[derive(Clone, Copy)]
@@ -50,7 +50,7 @@ fn may_go_down(loose: bool, step: Move) -> bool
 
 /// Whether an address is another one's or coarser, the last step of each standing first. A loose address may have
 /// fewer labels in its last dimension.
-pub fn is_coarser(loose: bool, a: &[Move], b: &[Move]) -> bool
+fn is_coarser(loose: bool, a: &[Move], b: &[Move]) -> bool
     ensures { IsTrue result ↔ Finer loose (walk_of a.now) (walk_of b.now) }
 {
     let [last, owner @ ..] = b else {
@@ -63,4 +63,14 @@ pub fn is_coarser(loose: bool, a: &[Move], b: &[Move]) -> bool
         return false;
     }
     is_coarser(leads_across(*last), &a[1..], owner)
+}
+
+/// Whether an address with one more step is another one's or coarser, the last step of each standing first.
+pub fn is_coarser_after(step: Move, a: &[Move], b: &[Move]) -> bool
+    ensures { IsTrue result ↔ IsCoarser (step_of step ∷ walk_of a.now) (walk_of b.now) }
+{
+    let [last, owner @ ..] = b else {
+        return false;
+    };
+    is_same(step, *last) && is_coarser(leads_across(step), a, owner)
 }

@@ -10,10 +10,13 @@
 //! ```
 #![tactic(auto)]
 
+mod children;
 mod home;
 mod laws;
+mod links;
 mod place;
 
-pub use home::{Move, is_coarser};
+pub use home::{Move, is_coarser_after};
 pub use laws::fit_laws;
+pub use links::links_fit;
 pub use place::{Place, place_of};
