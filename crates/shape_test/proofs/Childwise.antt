@@ -15,11 +15,11 @@ pub record IsFirst (children : Children) (from : ℕ) (x : ℕ × Link) : Type 0
   pub least : (m : ℕ) → from ≤ m → m < x.0 → child children m ≡ None
 
 -- the child at another label than the first is one of the others
-past : (x : ℕ × Link) (children : Children) (m : ℕ) → (x.0 ≡ m → ⊥) → child (x ∷ children) m ≡ child children m
+pub past : (x : ℕ × Link) (children : Children) (m : ℕ) → (x.0 ≡ m → ⊥) → child (x ∷ children) m ≡ child children m
 past x children m other = ap (λ (b : Bool). cond b (Some x.1) (child children m)) (ne_eqb x.0 m other)
 
 -- before the first label there is no child
-before : (children : Children) (m : ℕ) → ((i : ℕ) (d : ℕ × Link) → i < length children → m < (get_or children i d).0) → child children m ≡ None
+pub before : (children : Children) (m : ℕ) → ((i : ℕ) (d : ℕ × Link) → i < length children → m < (get_or children i d).0) → child children m ≡ None
 before [] m all = refl
 before (x ∷ children) m all =
     let first = all 0 x (omega arith) in
@@ -71,6 +71,7 @@ first_told slots i from (Some c) S R is =
       small = S i c.0 c.1 there;
       there = there;
       least = λ m le less. link_down (slot_of slots i) m ∙ F.least m le less;
+      rising = R;
     }
 
 -- from 256 on there is none

@@ -3,7 +3,7 @@ use Rattle.std.specs.Prelude.{◌≡◌, ℕ, ◌<◌, ◌≤◌, List, ◌∷�
 use Rattle.cube_view.specs.Walks.{Step, down, Walk, IsCoarser}
 use Rattle.node_arena.specs.declared.link.Link.{Link}
 use Rattle.node_arena.specs.Shape.{home_of}
-use Rattle.node_arena.specs.Slots.{target, Slot, link_of}
+use Rattle.node_arena.specs.Slots.{target, Slot, IsRising, children_of, slot_of, link_of}
 
 -- each label is a byte, as the calls of an arena can tell it
 abbrev pub HasSmallLabels : List Slot → Type 0
@@ -13,12 +13,13 @@ HasSmallLabels slots = (i label : ℕ) (l : Link) → link_of slots i (down labe
 abbrev pub NoneFrom : List Slot → ℕ → ℕ → Type 0
 NoneFrom slots i from = (m : ℕ) → from ≤ m → link_of slots i (down m) ≡ None
 
--- the label and the link are the first child's from a label on
+-- the label and the link are the first child's from a label on, where labels rise
 pub record IsFirstLink (slots : List Slot) (i from : ℕ) (c : ℕ × Link) : Type 0 where
   pub low : from ≤ c.0
   pub small : c.0 < 256
   pub there : link_of slots i (down c.0) ≡ Some c.1
   pub least : (m : ℕ) → from ≤ m → m < c.0 → link_of slots i (down m) ≡ None
+  pub rising : IsRising (children_of (slot_of slots i))
 
 -- The link of a slot leads to a slot whose home is the link's address or finer.
 pub record LinkFits (homes : List Walk) (i : ℕ) (e : Step) (l : Link) : Type 0 where
