@@ -1,0 +1,9 @@
+pub mod Adding
+pub mod Childwise
+pub mod Coarser
+pub mod Filling
+pub mod Labelled
+pub mod Counting
+pub mod Deciding
+pub mod OneHome
+pub mod Placing

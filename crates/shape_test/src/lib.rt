@@ -1,0 +1,31 @@
+//! Which slots fit a schema, said and tested of single slots.
+//!
+//! Slots with a size fit a schema if they are a cube of the spots that their time tables count, all labels are the
+//! schema's, and some list of so many points has these spots with their weights. The laws of this crate say it of single
+//! slots and their homes. Slots that come from outside can so be tested one by one: where a home stands, whether each
+//! link leads where it may, whether a node or a table has what it needs, and whether a content counts what the contents
+//! of the children do. The crate stands on `image_shape` for the conditions on slots; bytes, and the homes themselves, it
+//! leaves to the crates above.
+//!
+//! ```text
+//! let place = place_of(&schema, home);                          // None past the schema's levels or labels
+//! let fits = links_fit(&arena, &homes, id, &mut steps);         // each link's address is its target's home or coarser
+//! ```
+#![tactic(auto)]
+
+mod children;
+mod counts;
+mod filled;
+mod home;
+mod laws;
+mod links;
+mod merges;
+mod place;
+
+pub use counts::has_row;
+pub use filled::is_filled;
+pub use home::{Move, is_coarser_after};
+pub use laws::fit_laws;
+pub use links::links_fit;
+pub use merges::merges_at;
+pub use place::{Place, place_of};
