@@ -12,6 +12,8 @@
 //! ```
 #![tactic(auto)]
 
+#[cfg(test)]
+mod against_plain_tests;
 mod built_in;
 mod feeds;
 mod jobs;

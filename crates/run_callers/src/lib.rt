@@ -12,6 +12,8 @@
 #[cfg(test)]
 mod beside_tests;
 #[cfg(test)]
+mod endless_tests;
+#[cfg(test)]
 mod tests;
 #[cfg(test)]
 mod views_tests;
