@@ -24,7 +24,7 @@ use Rattle.plan_run.proofs.Ranked.{rank_end, session_lacking, session_read}
 use Rattle.plan_run.proofs.Refused.{large_script}
 use Rattle.plan_run.proofs.Replied.{answered_length}
 use Rattle.plan_run.specs.Completed.{output_of}
-use Rattle.plan_run.specs.Interrupted.{AnswersScript, StopsScript, wants_memory}
+use Rattle.plan_run.specs.Interrupted.{AnswersInFile, StopsScript, is_lacking}
 use Rattle.plan_run.specs.Seen.{PartSeen}
 use Rattle.run_files.specs.Outside.{SinkSeen}
 use Rattle.run_files.specs.declared.stop.Stop.{Stop}
@@ -82,7 +82,7 @@ module _ {I O : Type 0} (i : PartSeen I) (s : SinkSeen O) (schema : Schema) (fin
   lands_text after sink name bytes named held (inl has) = inl (subst (λ n. get after n ≡ Some bytes) named (Told-some (s.held sink) bytes (λ b. get after (s.name sink) ≡ Some b) held has))
   lands_text after sink name bytes named held (inr lost) = inr (lost.0, subst (λ n. get after n ≡ Some []) named lost.1)
 
-  pub answers_script : (after : Files) → closed ≡ true → (starved ≡ true → end ≡ Err NoMemory) → (name : List ℕ) (done : SessionDone I O) → HasRun name done → (done.fault ≢ Some fault.Write) × LandsAs s end after done.sink → AnswersScript schema final points end files after name (script_counts done)
+  pub answers_script : (after : Files) → closed ≡ true → (starved ≡ true → end ≡ Err NoMemory) → (name : List ℕ) (done : SessionDone I O) → HasRun name done → (done.fault ≢ Some fault.Write) × LandsAs s end after done.sink → AnswersInFile schema final points end files after name (script_counts done)
   answers_script after shut starving name done run good =
       let before = run.before in
       let leaves = run.leaves in
@@ -94,15 +94,15 @@ module _ {I O : Type 0} (i : PartSeen I) (s : SinkSeen O) (schema : Schema) (fin
       let count : length h.replies ≡ length (asked schema h.lines) = answered_length schema OwnsAllButRoot final points (length points) leaves.after.lacked (asked schema h.lines) h.replies h.transcript.each in
       let front : take (length h.replies) (asked schema (lines script)) ≡ asked schema h.lines =
       ap (take (length h.replies)) first.1 ∙ take_at (asked schema h.lines) first.0 (length h.replies) (sym count) in
-      let wants : leaves.after.lacked ≡ true → wants_memory end ≡ true =
-      lacks_only starved leaves.after.lacked (wants_memory end) (λ is. ap wants_memory (starving is)) (λ is. (leaves.found is).0) in
+      let wants : leaves.after.lacked ≡ true → is_lacking end ≡ true =
+      lacks_only starved leaves.after.lacked (is_lacking end) (λ is. ap is_lacking (starving is)) (λ is. (leaves.found is).0) in
       let text : s.held leaves.after.sink ≡ Some (replies_text h.replies) = subst (λ o. Gains o (s.held leaves.after.sink) (replies_text h.replies)) run.ready.output.holds_nothing h.gained in
       let start : before.replies ≡ 0 = ap (λ (b : SessionState I O). b.replies) run.ready.no_turn in
       let seens : before.seens ≡ [] = ap (λ (b : SessionState I O). b.seens) run.ready.no_turn in
       record {
         replies = h.replies;
-        transcript = subst (λ ps. IsTranscript schema OwnsAllButRoot final points (length points) (wants_memory end) ps h.replies) (sym front)
-            (transcript_lacking schema OwnsAllButRoot leaves.after.lacked (wants_memory end) final points (length points) (asked schema h.lines) h.replies wants h.transcript);
+        transcript = subst (λ ps. IsTranscript schema OwnsAllButRoot final points (length points) (is_lacking end) ps h.replies) (sym front)
+            (transcript_lacking schema OwnsAllButRoot leaves.after.lacked (is_lacking end) final points (length points) (asked schema h.lines) h.replies wants h.transcript);
         text = lands_text after done.sink (output_of name) (replies_text h.replies) (leaves.named ∙ run.ready.output.name_is) (ap s.held leaves.parts.1 ∙ text) good.1;
         counted = (
           leaves.numbers.0 ∙ h.counted ∙ ap (λ (n : ℕ). n + length h.replies) start ∙ zero-add (length h.replies),

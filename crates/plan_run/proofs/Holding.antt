@@ -12,7 +12,7 @@ use Rattle.plan_run.proofs.Joined.{End}
 use Rattle.plan_run.proofs.Taken.{points_all}
 use Rattle.plan_run.proofs.Zips.{AllZip-map}
 use Rattle.plan_run.specs.Completed.{HasTranscript}
-use Rattle.plan_run.specs.Interrupted.{AnswersScript, HoldsAll, IsReadOrLacking, StopsScript, TakesFeed, accepted_lists, wants_memory}
+use Rattle.plan_run.specs.Interrupted.{AnswersInFile, HoldsAll, IsReadOrLacking, StopsScript, ReportsFeed, accepted_lists, is_lacking}
 use Rattle.reply_json.specs.declared.reply.Reply.{Reply}
 use Rattle.run_files.specs.declared.stop.Stop.{Stop}
 use Rattle.run_files.specs.declared.stop.Stop.TheVariants.{NoMemory, PlanRefused, ReadFault, WriteFault, FeedRefused}
@@ -23,7 +23,7 @@ use Rattle.session_core.specs.Transcript.{IsTranscript}
 use Rattle.world_core.specs.Interleaving.{IsInterleaving, entry_points, list_of}
 use Rattle.world_core.specs.declared.entry.Entry.{Entry}
 
-wants_none : (e : End) → e ≢ Err NoMemory → wants_memory e ≡ false
+wants_none : (e : End) → e ≢ Err NoMemory → is_lacking e ≡ false
 wants_none (Ok x) found = refl
 wants_none (Err NoMemory) found = absurd (found refl)
 wants_none (Err PlanRefused) found = refl
@@ -37,7 +37,7 @@ module _ (plan : Plan) (end : Result (Unit {0}) Stop) (files files' : Files) (fo
   neither (inr lacking) = found lacking
 
   module _ (final : Bool) (points : List Point) where
-    script_held : (name : List ℕ) (script : ScriptCounts) → AnswersScript plan.schema final points end files files' name script → StopsScript end files name script → (replies : List Reply) × HasTranscript plan.schema final points files files' name replies
+    script_held : (name : List ℕ) (script : ScriptCounts) → AnswersInFile plan.schema final points end files files' name script → StopsScript end files name script → (replies : List Reply) × HasTranscript plan.schema final points files files' name replies
     script_held name script answers stops =
         let asks = asked plan.schema (lines (file_or_empty files name)) in
         let count : length answers.replies ≡ length asks = sym answers.counted.0 ∙ answers.all (λ is. neither (stops.read is)) (λ is. found (stops.no_memory is)) in
@@ -50,7 +50,7 @@ module _ (plan : Plan) (end : Result (Unit {0}) Stop) (files files' : Files) (fo
           },
         )
 
-    pub scripts_held : (names : List (List ℕ)) (scripts : List ScriptCounts) → AllZip (AnswersScript plan.schema final points end files files') names scripts → AllZip (StopsScript end files) names scripts
+    pub scripts_held : (names : List (List ℕ)) (scripts : List ScriptCounts) → AllZip (AnswersInFile plan.schema final points end files files') names scripts → AllZip (StopsScript end files) names scripts
         → (replies : List (List Reply)) × AllZip (HasTranscript plan.schema final points files files') names replies
     scripts_held [] [] answers stops = ([], tt)
     scripts_held [] (c ∷ scripts) answers stops = absurd answers
@@ -60,16 +60,16 @@ module _ (plan : Plan) (end : Result (Unit {0}) Stop) (files files' : Files) (fo
         let later = scripts_held names scripts answers.1 stops.1 in
         (one.0 ∷ later.0, (one.1, later.1))
 
-  pub all_held : (feeds : List FeedRows) (asks finals : List ScriptCounts) (entries : List Entry) → AllZip (TakesFeed plan.schema end files) plan.feeds feeds
+  pub all_held : (feeds : List FeedRows) (asks finals : List ScriptCounts) (entries : List Entry) → AllZip (ReportsFeed plan.schema end files) plan.feeds feeds
       → IsInterleaving (length plan.feeds) (list_of (map (λ (feed : FeedRows). points_in feed.rows) feeds)) entries
-      → AllZip (AnswersScript plan.schema false (entry_points entries) end files files') plan.asks asks → AllZip (StopsScript end files) plan.asks asks
-      → AllZip (AnswersScript plan.schema true (entry_points entries) end files files') plan.finals finals → AllZip (StopsScript end files) plan.finals finals
+      → AllZip (AnswersInFile plan.schema false (entry_points entries) end files files') plan.asks asks → AllZip (StopsScript end files) plan.asks asks
+      → AllZip (AnswersInFile plan.schema true (entry_points entries) end files files') plan.finals finals → AllZip (StopsScript end files) plan.finals finals
       → HoldsAll plan entries files files'
   all_held feeds asks finals entries takes order asked stopped ended stopped' =
       let to_asks = scripts_held false (entry_points entries) plan.asks asks asked stopped in
       let to_finals = scripts_held true (entry_points entries) plan.finals finals ended stopped' in
       let lists : map (λ (feed : FeedRows). points_in feed.rows) feeds ≡ accepted_lists plan files =
-      AllZip-map (TakesFeed plan.schema end files) (λ name. accepted plan.schema (file_or_empty files name)) (λ (feed : FeedRows). points_in feed.rows) plan.feeds feeds
+      AllZip-map (ReportsFeed plan.schema end files) (λ name. accepted plan.schema (file_or_empty files name)) (λ (feed : FeedRows). points_in feed.rows) plan.feeds feeds
       (λ name feed takes. points_all plan.schema end files name feed (takes.whole (λ is. neither (takes.read is)) (λ is. found (takes.no_memory is)))) takes in
       record {
         order = subst (λ ls. IsInterleaving (length plan.feeds) (list_of ls) entries) lists order;

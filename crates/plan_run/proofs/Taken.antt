@@ -23,7 +23,7 @@ use Rattle.outer_io.specs.declared.cutter.CutFault.TheVariants as cut
 use Rattle.plan_run.proofs.Fed.{new_lines, rows_read}
 use Rattle.plan_run.proofs.Landed.{told_pair}
 use Rattle.plan_run.proofs.Ranked.{feed_lacking, feed_read, rank_end}
-use Rattle.plan_run.specs.Interrupted.{TakesFeed}
+use Rattle.plan_run.specs.Interrupted.{ReportsFeed}
 use Rattle.run_files.specs.declared.stop.Stop.{Stop}
 use Rattle.run_files.specs.declared.stop.Stop.TheVariants.{PlanRefused}
 use Rattle.run_opening.specs.Ready.{IsJobOf}
@@ -104,7 +104,7 @@ module _ {I : Type 0} (left : I → Option (List ℕ)) (faults : I → ℕ) wher
       Told-some (input_size left start) size (λ n. input_limit < n) told it.1
 
   module _ (schema : Schema) (end : Result (Unit {0}) Stop) (planned : end ≢ Err PlanRefused) (files : Files) where
-    pub takes_feed : (name : List ℕ) (job : FeedJob I) (feed : FeedRows) → IsJobOf left faults schema (Some (file_or_empty files name)) job → GaveRows job feed → rank_end end ≤ rank_end (feed_end feed.fault) → TakesFeed schema end files name feed
+    pub takes_feed : (name : List ℕ) (job : FeedJob I) (feed : FeedRows) → IsJobOf left faults schema (Some (file_or_empty files name)) job → GaveRows job feed → rank_end end ≤ rank_end (feed_end feed.fault) → ReportsFeed schema end files name feed
     takes_feed name job feed is gave first =
         let bytes = file_or_empty files name in
         let headed = is.headed in
@@ -132,7 +132,7 @@ module _ {I : Type 0} (left : I → Option (List ℕ)) (faults : I → ℕ) wher
 
 module _ (schema : Schema) (end : Result (Unit {0}) Stop) (files : Files) where
   -- the points of a feed's rows are a beginning of the accepted records
-  pub points_begin : (name : List ℕ) (feed : FeedRows) → TakesFeed schema end files name feed → IsPrefix (points_in feed.rows) (accepted schema (file_or_empty files name))
+  pub points_begin : (name : List ℕ) (feed : FeedRows) → ReportsFeed schema end files name feed → IsPrefix (points_in feed.rows) (accepted schema (file_or_empty files name))
   unfolding accepted
   points_begin name feed takes = (points_in takes.begins.0, ap points_in takes.begins.1 ∙ points_in-append feed.rows takes.begins.0)
 

@@ -41,7 +41,7 @@ use Rattle.plan_run.proofs.Raised.{counts_failed, counts_grow, rose_from_before}
 use Rattle.plan_run.proofs.Ranked.{ComesFirst, all_ranked, lacking, rank_end}
 use Rattle.plan_run.proofs.Taken.{Gave, GaveRows, StandsAfterOne, all_gave, points_begin, takes_feed}
 use Rattle.plan_run.proofs.Zips.{AllZip-ap, AllZip-length, AllZip-mapped, AllZip-right, AllZip-then, AllZip-with}
-use Rattle.plan_run.specs.Interrupted.{Account, BeginsFiles, AnswersScript, HoldsFiles, InterleavesFronts, StopsScript, TakesFeed, account_text, accepted_lists, is_script_unread, is_unread, read_stops}
+use Rattle.plan_run.specs.Interrupted.{Account, BeginsFiles, AnswersInFile, HoldsFiles, InterleavesFronts, StopsScript, ReportsFeed, account_text, accepted_lists, is_script_unread, is_unread, read_stops}
 use Rattle.plan_run.specs.Parts.{run_done_of, jobs_of}
 use Rattle.plan_run.specs.Seen.{PartSeen}
 use Rattle.run_files.specs.GivingBack.{Lands, faulty}
@@ -327,9 +327,9 @@ module _ {P I O T : Type 0} (p : PlaceSeen P) (i : PartSeen I) (s : SinkSeen O) 
     of_sinks : (Q : List ℕ → Type 0) → All Q outs → All (λ sink. Q (s.name sink)) sinks
     of_sinks Q all = All-unmapped s.name Q sinks (subst (All Q) (sym sinks_named) all)
 
-    takes : AllZip (TakesFeed plan.schema result files) plan.feeds gave.feeds
+    takes : AllZip (ReportsFeed plan.schema result files) plan.feeds gave.feeds
     takes =
-        AllZip-with (λ name feed. (job : FeedJob I) × IsJobOf i.left i.faults plan.schema (Some (file_or_empty files name)) job × GaveRows i.left i.faults job feed) (λ (feed : FeedRows). FeedFirst feed.fault) (TakesFeed plan.schema result files) plan.feeds gave.feeds
+        AllZip-with (λ name feed. (job : FeedJob I) × IsJobOf i.left i.faults plan.schema (Some (file_or_empty files name)) job × GaveRows i.left i.faults job feed) (λ (feed : FeedRows). FeedFirst feed.fault) (ReportsFeed plan.schema result files) plan.feeds gave.feeds
         (λ name feed is first. takes_feed i.left i.faults plan.schema result planned files name is.0 feed is.1 is.2 first)
         (AllZip-then (λ name. IsJobOf i.left i.faults plan.schema (Some (file_or_empty files name))) (GaveRows i.left i.faults) _ plan.feeds parts.feeds gave.feeds (λ name job feed is gives. (job, is, gives)) it_is.feeds gave.gave)
         (All-unmapped (λ (feed : FeedRows). feed.fault) FeedFirst gave.feeds (subst (All FeedFirst) (sym gave.faults_are) (All-map FeedFirst (λ (d : FeedDone I). d.fault) crewed.feeds feeds_first)))
@@ -344,7 +344,7 @@ module _ {P I O T : Type 0} (p : PlaceSeen P) (i : PartSeen I) (s : SinkSeen O) 
     fronts =
         let acc : List ℕ → List Point = λ name. accepted plan.schema (file_or_empty files name) in
         let prefixes : AllZip IsPrefix (map (λ (feed : FeedRows). points_in feed.rows) gave.feeds) (accepted_lists plan files) =
-        AllZip-ap (TakesFeed plan.schema result files) IsPrefix (λ name. accepted plan.schema (file_or_empty files name)) (λ (feed : FeedRows). points_in feed.rows) plan.feeds gave.feeds (points_begin plan.schema result files) takes in
+        AllZip-ap (ReportsFeed plan.schema result files) IsPrefix (λ name. accepted plan.schema (file_or_empty files name)) (λ (feed : FeedRows). points_in feed.rows) plan.feeds gave.feeds (points_begin plan.schema result files) takes in
         interleaves_fronts (accepted_lists plan files) ran.sent (length parts.feeds) crewed.journal crewed.drawn (count ∙ sym (length-map plan.feeds acc)) (subst (λ ls. AllZip IsPrefix ls (accepted_lists plan files)) (sym gave.points) prefixes) ran.drawn ran.journal
 
     drawn : result ≢ Err NoMemory → IsInterleaving (length plan.feeds) (list_of (map (λ (feed : FeedRows). points_in feed.rows) gave.feeds)) crewed.journal
@@ -399,10 +399,10 @@ module _ {P I O T : Type 0} (p : PlaceSeen P) (i : PartSeen I) (s : SinkSeen O) 
           closes.parts.sinks_back (sinks_quiet quiet) given_first
 
       answered : (final : Bool) (scripts : List (List ℕ)) (sessions : List (SessionDone I O)) → crewed.closed ≡ true → AllZip (HasRun i s plan.schema final crewed.closed crewed.starved points files result) scripts sessions → All Unbroken sessions → All (LandsAs s result last.0) (map sink_of sessions)
-          → AllZip (AnswersScript plan.schema final points result files last.0) scripts (map script_counts sessions)
+          → AllZip (AnswersInFile plan.schema final points result files last.0) scripts (map script_counts sessions)
       answered final scripts sessions shut run whole lands =
-          AllZip-mapped (AnswersScript plan.schema final points result files last.0) script_counts scripts sessions
-          (AllZip-with (HasRun i s plan.schema final crewed.closed crewed.starved points files result) (λ (d : SessionDone I O). Unbroken d × LandsAs s result last.0 d.sink) (λ name d. AnswersScript plan.schema final points result files last.0 name (script_counts d)) scripts sessions
+          AllZip-mapped (AnswersInFile plan.schema final points result files last.0) script_counts scripts sessions
+          (AllZip-with (HasRun i s plan.schema final crewed.closed crewed.starved points files result) (λ (d : SessionDone I O). Unbroken d × LandsAs s result last.0 d.sink) (λ name d. AnswersInFile plan.schema final points result files last.0 name (script_counts d)) scripts sessions
           (answers_script i s plan.schema final crewed.closed crewed.starved points files result last.0 shut starving) run (λ k d low. (whole k d low, All-unmapped sink_of (LandsAs s result last.0) sessions lands k d low)))
 
       journal_file : get last.0 plan.journal ≡ Some text

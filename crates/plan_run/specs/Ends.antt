@@ -63,8 +63,8 @@ module _ {P T : Type 0} (p : PlaceSeen P) (s : SinkSeen T) (place place' : P) (o
     pub files : Told (p.files place) (λ files. IsSomeAnd (p.files place') (λ files'. IsCompleted plan files files' (s.held out) (s.held out')))
 
   -- the claim holds of the files before and after, where the place tells its files
-  abbrev pub OfFiles : (Files → Files → Type 0) → Type 0
-  OfFiles Claim = Told (p.files place) (λ files. IsSomeAnd (p.files place') (Claim files))
+  abbrev pub OfBothFiles : (Files → Files → Type 0) → Type 0
+  OfBothFiles Claim = Told (p.files place) (λ files. IsSomeAnd (p.files place') (Claim files))
 
   -- A run of the plan that ended so has put its report, or a part of it, whatever failed
   pub record Reports (plan : Plan) (end : Result (Unit {0}) Stop) : Type 0 where
@@ -72,7 +72,7 @@ module _ {P T : Type 0} (p : PlaceSeen P) (s : SinkSeen T) (place place' : P) (o
     pub account : Account
     pub puts : PutsOrFails s out out' (account_text plan account)
     -- the files begin with it
-    pub files : OfFiles (BeginsFiles plan end account)
+    pub files : OfBothFiles (BeginsFiles plan end account)
     -- no more of its lines say `stopped: Read` than the place's count of reading rose by
     pub reads : RoseBy (read_stops account) (p.read_faults place) (p.read_faults place')
 
@@ -88,7 +88,7 @@ module _ {P T : Type 0} (p : PlaceSeen P) (s : SinkSeen T) (place place' : P) (o
     -- in one put, to the last line
     pub puts : Puts s out out' (account_text plan account)
     -- it is what the files hold
-    pub files : OfFiles (HoldsFiles plan end account)
+    pub files : OfBothFiles (HoldsFiles plan end account)
     -- no more of its lines say `stopped: Read` than the place's count of reading rose by
     pub reads : RoseBy (read_stops account) (p.read_faults place) (p.read_faults place')
 
@@ -105,7 +105,7 @@ module _ {P T : Type 0} (p : PlaceSeen P) (s : SinkSeen T) (place place' : P) (o
 
   -- the files of a run of the plan miss nothing
   abbrev pub MissesNothing : Plan → Type 0
-  MissesNothing plan = OfFiles (λ files files'. (entries : List Entry) × (get files' plan.journal ≡ Some (journal_text plan.schema entries)) × HoldsAll plan entries files files')
+  MissesNothing plan = OfBothFiles (λ files files'. (entries : List Entry) × (get files' plan.journal ≡ Some (journal_text plan.schema entries)) × HoldsAll plan entries files files')
 
   -- How a run of the plan of that name ends
   pub record RunEnds (name : List ℕ) (result : Result (Unit {0}) Stop) : Type 0 where

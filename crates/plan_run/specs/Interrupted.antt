@@ -65,13 +65,13 @@ read_stops account =
     count_by (λ (feed : FeedRows). is_unread feed.fault) account.feeds + count_by (λ (ask : ScriptCounts). is_script_unread ask.fault) account.asks + count_by (λ (final : ScriptCounts). is_script_unread final.fault) account.finals
 
 -- the run ended for want of memory
-abbrev pub wants_memory : Result (Unit {0}) Stop → Bool
-wants_memory (Ok x) = false
-wants_memory (Err NoMemory) = true
-wants_memory (Err PlanRefused) = false
-wants_memory (Err ReadFault) = false
-wants_memory (Err WriteFault) = false
-wants_memory (Err FeedRefused) = false
+abbrev pub is_lacking : Result (Unit {0}) Stop → Bool
+is_lacking (Ok x) = false
+is_lacking (Err NoMemory) = true
+is_lacking (Err PlanRefused) = false
+is_lacking (Err ReadFault) = false
+is_lacking (Err WriteFault) = false
+is_lacking (Err FeedRefused) = false
 
 -- the run ended by a read fault, or for want of memory
 abbrev pub IsReadOrLacking : Result (Unit {0}) Stop → Type 0
@@ -90,7 +90,7 @@ pub record InterleavesFronts (lists : List (List Point)) (entries : List Entry) 
   pub order : IsInterleaving (length lists) front entries
 
 -- What a run that ended so says of the feed of that name
-pub record TakesFeed (schema : Schema) (end : Result (Unit {0}) Stop) (files : Files) (name : List ℕ) (feed : FeedRows) : Type 0 where
+pub record ReportsFeed (schema : Schema) (end : Result (Unit {0}) Stop) (files : Files) (name : List ℕ) (feed : FeedRows) : Type 0 where
   -- its rows are a beginning of the file's
   pub begins : IsPrefix feed.rows (rows schema (file_or_empty files name))
   -- and all of them where neither a read fault nor want of memory ended it
@@ -113,11 +113,11 @@ pub record StopsScript (end : Result (Unit {0}) Stop) (files : Files) (name : Li
 
 module _ (schema : Schema) (final : Bool) (points : List Point) (end : Result (Unit {0}) Stop) (files files' : Files) where
   -- What a run that ended so leaves of the script of that name, and says of it
-  pub record AnswersScript (name : List ℕ) (script : ScriptCounts) : Type 0 where
+  pub record AnswersInFile (name : List ℕ) (script : ScriptCounts) : Type 0 where
     -- the replies to it
     pub replies : List Reply
     -- they answer the first of what the script asks, over these points, by the line for want of memory only where the run ends so
-    pub transcript : IsTranscript schema OwnsAllButRoot final points (length points) (wants_memory end) (take (length replies) (asked schema (lines (file_or_empty files name)))) replies
+    pub transcript : IsTranscript schema OwnsAllButRoot final points (length points) (is_lacking end) (take (length replies) (asked schema (lines (file_or_empty files name)))) replies
     -- its output holds them, or nothing where want of memory kept it from being given back
     pub text : (get files' (output_of name) ≡ Some (replies_text replies)) ⊎ ((end ≡ Err NoMemory) × (get files' (output_of name) ≡ Some []))
     -- the report says how many they are, and the last number of points seen that they print
@@ -145,7 +145,7 @@ pub record BeginsFiles (plan : Plan) (end : Result (Unit {0}) Stop) (account : A
   -- where memory was not wanted, of all the points among the rows that each feed gave
   pub drawn : end ≢ Err NoMemory → IsInterleaving (length plan.feeds) (list_of (map (λ (feed : FeedRows). points_in feed.rows) account.feeds)) account.entries
   -- of each feed the rows are a beginning of the file's, or all
-  pub feeds : AllZip (TakesFeed plan.schema end files) plan.feeds account.feeds
+  pub feeds : AllZip (ReportsFeed plan.schema end files) plan.feeds account.feeds
   -- a script is stopped only with its cause
   pub asks : AllZip (StopsScript end files) plan.asks account.asks
   pub finals : AllZip (StopsScript end files) plan.finals account.finals
@@ -158,9 +158,9 @@ pub record HoldsFiles (plan : Plan) (end : Result (Unit {0}) Stop) (account : Ac
   -- the journal's file is the whole text
   pub journal : get files' plan.journal ≡ Some (journal_text plan.schema account.entries)
   -- where the sessions were closed, each script's output holds a transcript over the entries' points
-  pub asks : account.closed ≡ true → AllZip (AnswersScript plan.schema false (entry_points account.entries) end files files') plan.asks account.asks
+  pub asks : account.closed ≡ true → AllZip (AnswersInFile plan.schema false (entry_points account.entries) end files files') plan.asks account.asks
   -- in which each number of points of a final is that of all entries
-  pub finals : account.closed ≡ true → AllZip (AnswersScript plan.schema true (entry_points account.entries) end files files') plan.finals account.finals
+  pub finals : account.closed ≡ true → AllZip (AnswersInFile plan.schema true (entry_points account.entries) end files files') plan.finals account.finals
   -- `stopped: Write` does not come
   pub unbroken : All (λ (script : ScriptCounts). script.fault ≢ Some fault.Write) account.asks × All (λ (script : ScriptCounts). script.fault ≢ Some fault.Write) account.finals
   -- where neither memory was wanted nor a read failed, nothing is missing
