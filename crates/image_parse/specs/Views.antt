@@ -1,0 +1,63 @@
+-- What functions return, as it is read.
+use Rattle.std.specs.Prelude.{◌≡◌, ℕ, List, sum_by, Option, Some, None, Result, Ok, Err}
+use Rattle.std.specs.FinMap.{from_sorted}
+use Rattle.node_arena.specs.Slots.{Children, Slot, node, table}
+use Rattle.image_parse.specs.Images.{AreChildren, AreRows, AllLight}
+use Rattle.image_parse.specs.Reading.{Linked}
+use Rattle.image_parse.specs.declared.fault.ImageParseFault.{ImageParseFault}
+use Rattle.image_parse.specs.declared.fault.ImageParseFault.TheVariants.{NotImage, NoMemory}
+use Rattle.image_parse.specs.declared.image.ParsedImage.{ParsedImage}
+use Rattle.image_parse.specs.declared.slots.ParsedSlot.{ParsedSlot}
+use Rattle.image_parse.specs.declared.slots.ParsedSlot.TheVariants.{Node, Table}
+
+-- a fault comes where nothing is read, or for want of memory
+abbrev pub Fails : {Y : Type 0} → ImageParseFault → Option Y → Type 0
+Fails NotImage read = read ≡ None
+Fails NoMemory read = Unit {0}
+
+-- what was returned is what is read, unless memory was wanted
+abbrev pub Gives : {X Y : Type 0} → (X → Y) → Result X ImageParseFault → Option Y → Type 0
+Gives view (Ok x) read = read ≡ Some (view x)
+Gives view (Err fault) read = Fails fault read
+
+-- the slot that was parsed
+abbrev pub slot_parsed : ParsedSlot → Slot
+slot_parsed (Node children content) = node children.items content
+slot_parsed (Table rows) = table (from_sorted rows.items)
+
+-- children that an image may have
+pub record AreImageChildren (children : Children) : Type 0 where
+  pub number : ℕ
+  pub fit : AreChildren number 0 children
+
+-- a slot that was parsed is one that an image may have
+abbrev pub IsParsed : ParsedSlot → Type 0
+IsParsed (Node children content) = AreImageChildren children.items
+IsParsed (Table rows) = AreRows 0 rows.items
+
+-- how much rows count together
+abbrev pub row_total : List (ℕ × ℕ) → ℕ
+row_total rows = sum_by (λ e. e.1) rows
+
+-- an arena keeps the slots; none is kept where a table is too heavy for one
+abbrev pub Keeps : Option (List Slot) → List Slot → Type 0
+Keeps None slots = ¬ AllLight slots
+Keeps (Some kept) slots = (kept ≡ slots) × AllLight slots
+
+-- slots that were read are kept
+pub record HasSlots (read : Option (Linked (List Slot))) (kept : Option (List Slot)) (next : ℕ) (rest : List ℕ) : Type 0 where
+  pub slots : List Slot
+  pub read_is : read ≡ Some (slots, next, rest)
+  pub keeps : Keeps kept slots
+
+-- an image that was read is kept with its size
+abbrev pub KeepsImage : Option ParsedImage → ℕ → List Slot → Type 0
+KeepsImage None size slots = ¬ AllLight slots
+KeepsImage (Some found) size slots = (found.size ≡ size) × (found.arena ≡ slots) × AllLight slots
+
+-- an image was read, and is kept
+pub record HasImage (read : Option (ℕ × List Slot)) (kept : Option ParsedImage) : Type 0 where
+  pub size : ℕ
+  pub slots : List Slot
+  pub read_is : read ≡ Some (size, slots)
+  pub keeps : KeepsImage kept size slots
