@@ -50,7 +50,7 @@ fn take_slots<'a>(
     slots: u32,
     next: &mut u32,
 ) -> Result<(Option<Arena>, &'a [u8]), ImageParseFault>
-    ensures { MatchResult result (λ x. HasSlots (slots_at slots slots next.old bytes.now) x.0 next.new x.1.now) (λ fault. Fails fault (slots_at slots slots next.old bytes.now)) }
+    ensures { let read = slots_at slots slots next.old bytes.now in MatchResult result (λ x. HasSlots read x.0 next.new x.1.now) (λ fault. Fails fault read) }
 {
     let mut kept = Some(Arena::new(alloc));
     let mut rest = bytes;
