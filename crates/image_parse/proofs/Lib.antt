@@ -6,3 +6,4 @@ pub mod Tabled
 pub mod Slotted
 pub mod Building
 pub mod Whole
+pub mod Readable
