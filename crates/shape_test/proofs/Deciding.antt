@@ -13,7 +13,7 @@ use Rattle.image_shape.specs.Levels.{EndsWithTime}
 use Rattle.image_shape.specs.Wholes.{rows_at, spelled_rows}
 use Rattle.image_shape.proofs.Bag.{tells_cube, tells_local}
 use Rattle.image_shape.proofs.Rows.{rows_at-paths}
-use Rattle.shape_test.specs.Fits.{IsSchemaCube, IsSchemaLocal, bag_of}
+use Rattle.shape_test.specs.Fits.{IsSchemaCube, IsSchemaLocal, slots_bag}
 use Rattle.shape_test.specs.Labels.{levels_from, schema_levels, labels_fit, paths_fit}
 use Rattle.shape_test.specs.Laws.{DecidesCube, OwnsBag}
 use Rattle.shape_test.proofs.Labelled.{used_fit, paths_of_fit}
@@ -84,14 +84,14 @@ module _ (schema : Schema) (slots : List Slot) (homes : List Walk) (labels : (i 
           let p = rows_at-paths (schema_levels schema) (home_of homes n) (slot_of slots n) q d in
           ap (paths_fit schema 1) p.1 ∙ paths_of_fit schema (home_of homes n) [] [] (labels n (omega arith)) refl refl
 
-pub local_is_cube : (schema : Schema) (slots : List Slot) (homes : List Walk) → AllTablesCounted slots → IsSchemaLocal schema slots homes → IsSchemaCube schema slots homes (bag_of schema slots homes)
+pub local_is_cube : (schema : Schema) (slots : List Slot) (homes : List Walk) → AllTablesCounted slots → IsSchemaLocal schema slots homes → IsSchemaCube schema slots homes (slots_bag schema slots homes)
 local_is_cube schema slots homes A L = record {
   cube = tells_cube (time_dim schema) (schema_levels schema) slots homes (ends_with_time schema) A L.local;
   labels = bag_labels schema slots homes L.labels (length slots) (omega arith);
 }
 
 pub decides_cube : DecidesCube
-decides_cube schema slots homes A R = (cube_is_local schema slots homes (bag_of schema slots homes) R, local_is_cube schema slots homes A)
+decides_cube schema slots homes A R = (cube_is_local schema slots homes (slots_bag schema slots homes) R, local_is_cube schema slots homes A)
 
 pub owns_bag : OwnsBag
 owns_bag schema slots homes h A R C = local_is_cube schema slots homes A (cube_is_local schema slots homes h R C)

@@ -7,3 +7,4 @@ pub mod Counting
 pub mod Deciding
 pub mod OneHome
 pub mod Placing
+pub mod Rowwise

@@ -18,8 +18,8 @@ pub record IsSchemaCube (schema : Schema) (slots : List Slot) (homes : List Walk
   pub labels : (q : SpotPath) → Contains (spots_in h) q → IsTrue (paths_fit schema 1 q.paths)
 
 -- the bag of the slots: the spots that their time tables count, each once
-abbrev pub bag_of : Schema → List Slot → List Walk → List Weighted
-bag_of schema slots homes = spelled_bag (schema_levels schema) slots homes
+abbrev pub slots_bag : Schema → List Slot → List Walk → List Weighted
+slots_bag schema slots homes = spelled_bag (schema_levels schema) slots homes
 
 -- what the spots weigh together
 abbrev pub bag_sum : List Weighted → ℕ
@@ -46,8 +46,8 @@ pub record IsSizeOf (schema : Schema) (h : List Weighted) (size : ℕ) : Type 0 
 -- The slots with the size fit the schema: they are a cube of their bag, and some list of so many points has the bag.
 pub record Fits (schema : Schema) (slots : List Slot) (size : ℕ) : Type 0 where
   pub homes : List Walk
-  pub cube : IsSchemaCube schema slots homes (bag_of schema slots homes)
-  pub sized : IsSizeOf schema (bag_of schema slots homes) size
+  pub cube : IsSchemaCube schema slots homes (slots_bag schema slots homes)
+  pub sized : IsSizeOf schema (slots_bag schema slots homes) size
 
 -- The conditions on single slots: those of a cube, and each label of a home is one of the schema.
 pub record IsSchemaLocal (schema : Schema) (slots : List Slot) (homes : List Walk) : Type 0 where

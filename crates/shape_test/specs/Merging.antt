@@ -1,9 +1,24 @@
 -- What the contents of a node's children count together.
-use Rattle.std.specs.Prelude.{ℕ, List, ◌∷◌, sum_by}
+use Rattle.std.specs.Prelude.{◌≡◌, ℕ, ◌<◌, ◌≤◌, ◌^◌, List, ◌∷◌, sum_by}
 use Rattle.cube_view.specs.Walks.{down, across}
-use Rattle.node_arena.specs.Slots.{Slot, slot_of, children_of}
-use Rattle.image_shape.specs.Ways.{Way, count_below}
+use Rattle.time_table.specs.Counts.{BinCounts, count_of}
+use Rattle.node_arena.specs.Slots.{Slot, slot_of, children_of, count}
+use Rattle.image_shape.specs.Ways.{Way, count_below, Merges}
 
 -- along a way, in a bin
 abbrev pub parts_count : List Slot → ℕ → Way → ℕ → ℕ
 parts_count slots i way bin = sum_by (λ k. count_below slots i (down k.0 ∷ across ∷ way) bin) (children_of (slot_of slots i))
+
+-- no bin from one on has a record
+abbrev pub NoRowFrom : BinCounts → ℕ → Type 0
+NoRowFrom m from = (bin : ℕ) → from ≤ bin → count_of m bin ≡ 0
+
+-- the row is the first from a bin on
+pub record IsFirstRow (m : BinCounts) (from : ℕ) (row : ℕ × ℕ) : Type 0 where
+  pub low : from ≤ row.0
+  pub small : row.0 < 2 ^ 32
+  pub least : (bin : ℕ) → from ≤ bin → bin < row.0 → count_of m bin ≡ 0
+
+-- in each bin of a slot the content of a node counts along the way what the contents of its children count together
+abbrev pub RowsMerge : List Slot → ℕ → ℕ → Way → Type 0
+RowsMerge slots i at way = (bin : ℕ) → 0 < count (slot_of slots at) bin → Merges slots i way bin

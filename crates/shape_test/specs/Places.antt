@@ -28,13 +28,13 @@ abbrev pub levels_at : Schema → Place → Levels
 levels_at schema p = record { rest = deepest schema p.dim - p.level; later = levels_from schema (p.dim + 1) (time_dim schema - p.dim) }
 
 -- the place is one of the schema
-pub record IsPlace (schema : Schema) (p : Place) : Type 0 where
+pub record IsSchemaPlace (schema : Schema) (p : Place) : Type 0 where
   pub dim : (1 ≤ p.dim) × (p.dim ≤ time_dim schema)
   pub level : p.level ≤ deepest schema p.dim
 
 -- The address stands at the place, and has labels of the schema.
 pub record IsPlaceOf (schema : Schema) (a : Walk) (p : Place) : Type 0 where
-  pub placed : IsPlace schema p
+  pub placed : IsSchemaPlace schema p
   pub dim : dimension a ≡ p.dim
   pub levels : left (schema_levels schema) a ≡ Some (levels_at schema p)
   pub labels : IsTrue (labels_fit schema a)

@@ -21,6 +21,7 @@ mod laws;
 mod links;
 mod merges;
 mod place;
+mod rows;
 
 pub use counts::has_row;
 pub use filled::is_filled;
@@ -29,3 +30,4 @@ pub use laws::fit_laws;
 pub use links::links_fit;
 pub use merges::merges_at;
 pub use place::{Place, place_of};
+pub use rows::rows_merge;

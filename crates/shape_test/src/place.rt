@@ -3,7 +3,7 @@ ghost use Rattle.std.specs.Prelude.{◌≡◌, ◌≤◌, MatchOption};
 ghost use Rattle.cube_view.specs.Places.{deepest as deepest_level, time_dim as number_of_time};
 ghost use Rattle.shape_test.specs.Homes.{step_of, walk_of};
 ghost use Rattle.shape_test.specs.Labels.{label_fits};
-ghost use Rattle.shape_test.specs.Places.{IsOutside, IsPlace, IsPlaceOf, next_place as place_after, place_at};
+ghost use Rattle.shape_test.specs.Places.{IsOutside, IsSchemaPlace, IsPlaceOf, next_place as place_after, place_at};
 
 use crate::home::Move;
 use cube_view::Schema;
@@ -51,7 +51,7 @@ fn is_label(schema: &Schema, dim: u8, label: u8) -> bool
 
 /// The place after a step, if the schema has one there.
 fn next_place(schema: &Schema, place: Place, step: Move) -> Option<Place>
-    requires { IsPlace schema.now place }
+    requires { IsSchemaPlace schema.now place }
     ensures { result ≡ place_after schema.now place (step_of step) }
 {
     match step {

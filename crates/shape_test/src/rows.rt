@@ -1,0 +1,57 @@
+//! The rows of a time table, one after another, and whether a node's content and its children's agree in their bins.
+ghost use Rattle.std.specs.Prelude.{◌≡◌, ℕ, ◌<◌, ◌^◌, length, IsTrue, MatchOption};
+ghost use Rattle.time_table.specs.Counts.{count_of};
+ghost use Rattle.node_arena.specs.Slots.{IsNode, IsTable, slot_of};
+ghost use Rattle.image_shape.specs.Sharing.{LeadsWithin};
+ghost use Rattle.image_shape.specs.Ways.{Merges};
+ghost use Rattle.shape_test.specs.Filled.{HasSmallBins};
+ghost use Rattle.shape_test.specs.Homes.{way_of};
+ghost use Rattle.shape_test.specs.Links.{HasSmallLabels};
+ghost use Rattle.shape_test.specs.Merging.{NoRowFrom, IsFirstRow, RowsMerge};
+
+use crate::home::Move;
+use crate::merges::merges_at;
+use node_arena::{Arena, SlotId};
+use probe_core::Steps;
+use std::sync::ledger::Ledger;
+use time_table::TimeTable;
+
+/// The first row from a bin on. From 2^32 on there is none.
+fn first_row<L: Ledger>(table: &TimeTable, from: u64, steps: &mut Steps<L>) -> Option<(u32, u64)>
+    requires { (bin : ℕ) → 0 < count_of table.now bin → bin < 2 ^ 32 }
+    ensures { MatchOption result (NoRowFrom table.now from) (IsFirstRow table.now from) }
+{
+    if from < 1 << 32 {
+        table.next_row(from as u32, steps)
+    } else {
+        None
+    }
+}
+
+/// Whether a node's content counts along a way what its children's contents count together, in each bin that a table
+/// has. It says no only where they don't in some bin.
+pub fn rows_merge<L: Ledger>(
+    arena: &Arena,
+    id: SlotId,
+    table: SlotId,
+    way: &[Move],
+    steps: &mut Steps<L>,
+) -> bool
+    requires in_range { (id.0 < length arena.now) × (table.0 < length arena.now) }
+    requires kinds { IsNode (slot_of arena.now id.0) × IsTable (slot_of arena.now table.0) }
+    requires within { LeadsWithin arena.now }
+    requires labels { HasSmallLabels arena.now }
+    requires bins { HasSmallBins arena.now }
+    ensures told { IsTrue result → RowsMerge arena.now id.0 table.0 (way_of way.now) }
+    ensures all { ((bin : ℕ) → Merges arena.now id.0 (way_of way.now) bin) → IsTrue result }
+{
+    let rows = arena.table(table, steps);
+    let mut from = 0;
+    while let Some((bin, _)) = first_row(rows, from, steps) {
+        if !merges_at(arena, id, way, bin, steps) {
+            return false;
+        }
+        from = u64::from(bin) + 1;
+    }
+    true
+}
