@@ -1,0 +1,110 @@
+-- What the walk from a tile on counts, and what it costs: as much as the walks to its addresses where downs in space
+-- cost nothing.
+use Rattle.std.proofs.Common.{◌≡◌, ℕ, zero, suc, ◌+◌, ◌<◌, ◌≤◌, Bool, true, false, cond, ◌&&◌, eqb, ltb, List, [], ◌∷◌, take, length, Option, Some, None, refl, sym, ◌∙◌, ap, arith}
+use Rattle.std.specs.List.{sum_by}
+use Rattle.std.proofs.lemmas.Bool.{ne_eqb}
+use Rattle.cube_view.proofs.Amounts.{amount-same}
+use Rattle.cube_view.proofs.Costing.{cost_if-true}
+use Rattle.cube_view.specs.Bag.{amount, anywhere}
+use Rattle.cube_view.specs.Costs.{ViewCosts, has_spot, is_found, cost_if, down_in_space, space_cost, categories_cost, after_space_cost, address_cost}
+use Rattle.cube_view.specs.Places.{in_tile, longer, next_dim, region_address, tile_at}
+use Rattle.cube_view.specs.Points.{Point}
+use Rattle.cube_view.specs.declared.address.Address.{Address}
+use Rattle.cube_view.specs.declared.address.Tile.{Tile}
+use Rattle.cube_view.specs.declared.schema.Schema.{Schema}
+use Rattle.query_syntax.specs.Addresses.{addresses, address_at, asked_lists}
+use Rattle.query_syntax.specs.Parts.{with_region}
+use Rattle.query_syntax.specs.Tiles.{is_tile}
+use Rattle.query_syntax.specs.declared.query.Choice.{Choice}
+use Rattle.query_syntax.specs.declared.query.Choice.TheVariants.{All, Only}
+use Rattle.query_syntax.specs.declared.query.Query.{Query}
+use Rattle.query_walk.proofs.Addresses.{across_within, sum_by-map, whole_within}
+use Rattle.query_walk.specs.Costs.{choices_from, rest_cost, search_cost, sum_over}
+use Rattle.query_walk.specs.Walks.{is_left, HasBox}
+use Rattle.window_cover.specs.Costs.{from_tile_cost, tile_cost}
+use Rattle.window_cover.specs.Ways.{is_asked_in}
+
+-- What it counts
+
+opened : (t a : Bool) → (t && true) && a ≡ t && a
+opened true a = refl
+opened false a = refl
+
+-- what is left to count across from a tile is what the query asks for in it
+pub left_is_asked : (z : Schema) (q : Query) (t : Tile) (a b : Address) (h : List Point) → b ≡ region_address t → a ≡ next_dim b → amount (is_left z q a 0) h ≡ amount (is_asked_in z.depth q t) h
+left_is_asked z q t a b h at next =
+    ap (λ (x : Address). amount (is_left z q x 0) h) (next ∙ ap next_dim at)
+    ∙ amount-same (is_left z q (next_dim (region_address t)) 0) (is_asked_in z.depth q t) (λ s. opened (in_tile z.depth t s) _) h
+
+-- The costs of a view, where downs in space are free
+
+module _ (costs : ViewCosts) (z : Schema) (h : List Point) where
+  abbrev free : ViewCosts
+  free = record { down_cost = λ a. cond (eqb a.dim 1) 0 (costs.down_cost a); before_cost = costs.before_cost }
+
+  free_down : (t : Tile) (level : ℕ) → down_in_space free z h t level ≡ 0
+  free_down t level = elim (is_found z h (tile_at t level)) as (λ b. cost_if b 0 ≡ 0) [ true ↦ refl | false ↦ refl ]
+
+  free_space : (t : Tile) (n : ℕ) → space_cost free z h t n ≡ 0
+  free_space t zero = refl
+  free_space t (suc n) = let rest = free_space t n in let here = free_down t n in omega (arith, rest, here)
+
+  -- past space the costs are the same
+  same_down : (a : Address) → 1 < a.dim → free.down_cost a ≡ costs.down_cost a
+  same_down a later = ap (λ b. cond b 0 (costs.down_cost a)) (ne_eqb a.dim 1 (λ (e : a.dim ≡ 1). omega (arith, e, later)))
+
+  same_rest : (cs : List Choice) (a : Address) → 1 < a.dim → rest_cost free z h cs a ≡ rest_cost costs z h cs a
+  same_rest [] a later = refl
+  same_rest (All ∷ cs) a later = ap (λ n. 1 + n) (same_rest cs (next_dim a) (omega (arith, later)))
+  same_rest (Only set ∷ cs) a later =
+      let rest : (v : ℕ) → rest_cost free z h cs (next_dim (longer a v)) ≡ rest_cost costs z h cs (next_dim (longer a v)) = λ v. same_rest cs (next_dim (longer a v)) (omega (arith, later)) in
+      λ i. sum_over set (λ v. same_down a later i + cost_if (has_spot z h (longer a v)) (1 + rest v i))
+
+  same_categories : (values : List (Option ℕ)) (a : Address) → 1 < a.dim → categories_cost free z h values a ≡ categories_cost costs z h values a
+  same_categories [] a later = refl
+  same_categories (None ∷ values) a later = ap (λ n. 1 + n) (same_categories values (next_dim a) (omega (arith, later)))
+  same_categories (Some v ∷ values) a later =
+      let rest = same_categories values (next_dim (longer a v)) (omega (arith, later)) in
+      λ i. same_down a later i + cost_if (has_spot z h (longer a v)) (1 + rest i)
+
+  same_after : (values : List (Option ℕ)) (t : Tile) → after_space_cost free z h values t ≡ after_space_cost costs z h values t
+  same_after values t = ap (λ n. 1 + cost_if (ltb 0 (amount anywhere h)) n) (same_categories values (next_dim (region_address t)) (omega arith))
+
+  sum_same : {A : Type 0} (f g : A → ℕ) → ((x : A) → f x ≡ g x) → (xs : List A) → sum_by f xs ≡ sum_by g xs
+  sum_same f g each xs = λ i. sum_by (λ x. each x i) xs
+
+  module _ (q : Query) (t : Tile) (found : is_found z h t ≡ true) where
+    address_free : (values : List (Option ℕ)) → address_cost free z h (address_at z t values) ≡ from_tile_cost costs z h (address_at z t values)
+    address_free values =
+        let space = free_space t t.z in
+        let rest = same_after (take (length z.categories) values) t in
+        let here = cost_if-true (is_found z h t) (after_space_cost free z h (take (length z.categories) values) t) found in
+        omega (arith, space, rest, here)
+
+    -- the walks to the addresses of the tile, where downs in space are free, are those from the tile on
+    search_free : search_cost free z h (with_region q t) ≡ tile_cost costs z h q t
+    search_free =
+        sum_by-map (address_cost free z h) (address_at z t) (asked_lists q.sets)
+        ∙ (sum_same (λ values. address_cost free z h (address_at z t values)) (λ values. from_tile_cost costs z h (address_at z t values)) address_free (asked_lists q.sets)
+        ∙ (sym (sum_by-map (from_tile_cost costs z h) (address_at z t) (asked_lists q.sets))
+        ∙ sym (cost_if-true (is_found z h t) (sum_by (from_tile_cost costs z h) (addresses z (with_region q t))) found)))
+
+    module _ (has : HasBox z q) (tile : is_tile z.depth t ≡ true) where
+      has_here : HasBox z (with_region q t)
+      has_here = record { region = tile; wide = has.wide; choices = has.choices; order = has.order }
+
+      -- a walk that ends at the step across from the tile
+      pub across_paid : (old new : ℕ) → new ≤ old + 1 → new ≤ old + tile_cost costs z h q t
+      across_paid old new step =
+          let w = across_within free z h (with_region q t) has_here found in
+          let e = search_free in
+          omega (arith, w, e, step)
+
+      -- a walk to its end
+      pub walk_paid : (a b : Address) (old mid new : ℕ) → b ≡ region_address t → a ≡ next_dim b → 0 < amount anywhere h → mid ≤ old + 1 → new ≤ mid + rest_cost costs z h (choices_from z q 0) a → new ≤ old + tile_cost costs z h q t
+      walk_paid a b old mid new at next some step rest =
+          let w = whole_within free z h (with_region q t) has_here found some in
+          let e = search_free in
+          let s = same_rest (choices_from z q 0) (next_dim (region_address t)) (omega arith) in
+          let here = ap (λ (x : Address). rest_cost costs z h (choices_from z q 0) x) (next ∙ ap next_dim at) in
+          omega (arith, w, e, s, here, step, rest)
