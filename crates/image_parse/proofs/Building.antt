@@ -14,7 +14,7 @@ use Rattle.node_arena.specs.declared.link.Link.{Link}
 use Rattle.node_arena.specs.Slots.{Children, Slot, node, table, child, slot_of, link_of, link, counts_of}
 use Rattle.node_arena.specs.Calls.{with_slot, with_child, put_child, put, set_content, with_content, table_add_many, with_many}
 use Rattle.image_parse.specs.Images.{AreChildren, AreRows, AllLight}
-use Rattle.image_parse.specs.Views.{AreImageChildren, Keeps, row_total}
+use Rattle.image_parse.specs.Views.{AreImageChildren, KeepsLight, row_total}
 use Rattle.image_parse.proofs.Tabled.{rows_sorted, entries_of_rows}
 
 -- ---- the last slot
@@ -165,7 +165,7 @@ light_last [] s all = all.0
 light_last (t ∷ slots) s all = light_last slots s all.1
 
 -- an arena keeps a slot more that is light
-pub keeps_light : (arena now slots : List Slot) (s : Slot) → Keeps (Some arena) slots → now ≡ with_slot arena s → total_count (counts_of s) ≤ 2 ^ 63 → Keeps (Some now) (slots ++ s ∷ [])
+pub keeps_light : (arena now slots : List Slot) (s : Slot) → KeepsLight (Some arena) slots → now ≡ with_slot arena s → total_count (counts_of s) ≤ 2 ^ 63 → KeepsLight (Some now) (slots ++ s ∷ [])
 keeps_light arena now slots s K e light = (e ∙ ap (λ (base : List Slot). with_slot base s) K.0, light_more slots s K.1 light)
 
 -- a node is
@@ -173,10 +173,10 @@ pub node_light : (cs : Children) (content : Option Link) → total_count (counts
 node_light cs content = omega (arith, total_count-empty)
 
 -- none keeps more slots than none kept, and none keeps a heavy one
-pub keeps_none : (slots : List Slot) (s : Slot) → Keeps None slots → Keeps None (slots ++ s ∷ [])
+pub keeps_none : (slots : List Slot) (s : Slot) → KeepsLight None slots → KeepsLight None (slots ++ s ∷ [])
 keeps_none slots s K = λ all. K (light_front slots s all)
 
-pub keeps_heavy : (slots : List Slot) (s : Slot) → ¬ (total_count (counts_of s) ≤ 2 ^ 63) → Keeps None (slots ++ s ∷ [])
+pub keeps_heavy : (slots : List Slot) (s : Slot) → ¬ (total_count (counts_of s) ≤ 2 ^ 63) → KeepsLight None (slots ++ s ∷ [])
 keeps_heavy slots s heavy = λ all. heavy (light_last slots s all)
 
 -- a table of rows counts what they do

@@ -10,7 +10,7 @@ use Rattle.node_arena.specs.Slots.{id_of, proper, shared, target}
 use Rattle.cube_image.specs.Bytes.{kind_byte, link_bytes, content_bytes, child_bytes}
 use Rattle.cube_image.specs.Order.{proper_target, owned_content}
 use Rattle.image_parse.specs.Images.{IsContent}
-use Rattle.image_parse.specs.Reading.{◌>>=◌, Linked, byte_at, number_at, link_to, link_at, content_at, child_at}
+use Rattle.image_parse.specs.Reading.{◌>>=◌, Linked, byte_at, width_number_at, link_to, link_at, content_at, child_at}
 use Rattle.image_parse.proofs.Fields.{IsBytes, bind_some, some_is, chosen, fails_some, passes_some, Takes, Takes-then, byte_takes, wide64, number_takes, number_again}
 
 -- the numbers are those from a number on
@@ -83,7 +83,7 @@ pub record IsLink (n next kind : ℕ) (bytes : List ℕ) (x : Linked Link) : Typ
 pub link_takes : (n next kind : ℕ) (bytes : List ℕ) (x : Linked Link) → IsBytes bytes → link_at n next kind bytes ≡ Some x → IsLink n next kind bytes x
 unfolding link_at
 link_takes n next kind bytes x fits e =
-    let a = bind_some (number_at w64 bytes) (λ to. link_to n next kind to.0 >>= λ l. Some (l.0, l.1, to.1)) x e in
+    let a = bind_some (width_number_at w64 bytes) (λ to. link_to n next kind to.0 >>= λ l. Some (l.0, l.1, to.1)) x e in
     let b = bind_some (link_to n next kind a.0.0) (λ l. Some (l.0, l.1, a.0.1)) x a.2 in
     let t = number_takes w64 (2 ^ 64) wide64 bytes a.0 fits a.1 in
     let k = link_to_takes n next kind a.0.0 b.0 b.1 in

@@ -5,8 +5,8 @@ use Rattle.node_arena.specs.declared.link.Link.{Link}
 use Rattle.node_arena.specs.Slots.{Children, Slot}
 use Rattle.image_parse.specs.declared.fault.ImageParseFault.{ImageParseFault}
 use Rattle.image_parse.specs.declared.fault.ImageParseFault.TheVariants.{NotImage, NoMemory}
-use Rattle.image_parse.specs.Reading.{◌>>=◌, Front, Linked, child_at, children_at, row_at, rows_at, slot_at, slots_at}
-use Rattle.image_parse.specs.Views.{Fails, Keeps, HasSlots}
+use Rattle.image_parse.specs.Reading.{◌>>=◌, Front, Linked, child_at, children_at, row_at, table_rows_at, slot_at, slots_at}
+use Rattle.image_parse.specs.Views.{Fails, KeepsLight, HasSlots}
 
 -- what was read before, and what is still read
 abbrev pub with_front : {X : Type 0} → List X → Option (Front (List X)) → Option (Front (List X))
@@ -53,36 +53,36 @@ children_done front count i n from next bytes total le so_far =
 
 -- a row more is read
 pub row_goes : (front : List (ℕ × ℕ)) (count i from : ℕ) (bytes : List ℕ) (e : ℕ × ℕ) (after : List ℕ) (total : Option (Front (List (ℕ × ℕ)))) → i < count → row_at from bytes ≡ Some (e, after)
-    → with_front front (rows_at (count - i) from bytes) ≡ total → with_front (front ++ e ∷ []) (rows_at (count - (i + 1)) (e.0 + 1) after) ≡ total
-unfolding rows_at
+    → with_front front (table_rows_at (count - i) from bytes) ≡ total → with_front (front ++ e ∷ []) (table_rows_at (count - (i + 1)) (e.0 + 1) after) ≡ total
+unfolding table_rows_at
 row_goes front count i from bytes e after total lt h so_far =
     let k : count - i ≡ suc (count - (i + 1)) = omega arith in
-    let one : with_front front (rows_at (count - i) from bytes) ≡ with_front (front ++ e ∷ []) (rows_at (count - (i + 1)) (e.0 + 1) after) = rw (k, h) (regroup_front front e (rows_at (count - (i + 1)) (e.0 + 1) after)) in
+    let one : with_front front (table_rows_at (count - i) from bytes) ≡ with_front (front ++ e ∷ []) (table_rows_at (count - (i + 1)) (e.0 + 1) after) = rw (k, h) (regroup_front front e (table_rows_at (count - (i + 1)) (e.0 + 1) after)) in
     sym one ∙ so_far
 
 -- no row more is read
 pub row_ends : (fault : ImageParseFault) (front : List (ℕ × ℕ)) (count i from : ℕ) (bytes : List ℕ) (total : Option (Front (List (ℕ × ℕ)))) → i < count → Fails fault (row_at from bytes)
-    → with_front front (rows_at (count - i) from bytes) ≡ total → Fails fault total
-unfolding rows_at
+    → with_front front (table_rows_at (count - i) from bytes) ≡ total → Fails fault total
+unfolding table_rows_at
 row_ends NoMemory front count i from bytes total lt h so_far = tt
 row_ends NotImage front count i from bytes total lt h so_far =
     let k : count - i ≡ suc (count - (i + 1)) = omega arith in
-    let one : with_front front (rows_at (count - i) from bytes) ≡ None = rw (k, h) refl in
+    let one : with_front front (table_rows_at (count - i) from bytes) ≡ None = rw (k, h) refl in
     sym so_far ∙ one
 
 -- all rows were read
-pub rows_done : (front : List (ℕ × ℕ)) (count i from : ℕ) (bytes : List ℕ) (total : Option (Front (List (ℕ × ℕ)))) → count ≤ i → with_front front (rows_at (count - i) from bytes) ≡ total → total ≡ Some (front, bytes)
-unfolding rows_at
+pub rows_done : (front : List (ℕ × ℕ)) (count i from : ℕ) (bytes : List ℕ) (total : Option (Front (List (ℕ × ℕ)))) → count ≤ i → with_front front (table_rows_at (count - i) from bytes) ≡ total → total ≡ Some (front, bytes)
+unfolding table_rows_at
 rows_done front count i from bytes total le so_far =
     let k : count - i ≡ 0 = omega arith in
-    let one : with_front front (rows_at (count - i) from bytes) ≡ Some (front, bytes) = rw k (ap (λ (es : List (ℕ × ℕ)). Some (es, bytes)) (append-nil front)) in
+    let one : with_front front (table_rows_at (count - i) from bytes) ≡ Some (front, bytes) = rw k (ap (λ (es : List (ℕ × ℕ)). Some (es, bytes)) (append-nil front)) in
     sym so_far ∙ one
 
 -- Slots that were read are kept, and with those that are still read they are all.
 pub record ReadsOn (all : Option (Linked (List Slot))) (kept : Option (List Slot)) (read : Option (Linked (List Slot))) : Type 0 where
   pub done : List Slot
   pub so_far : with_linked done read ≡ all
-  pub keeps : Keeps kept done
+  pub keeps : KeepsLight kept done
 
 -- nothing was read before
 pub reads_first : (read : Option (Linked (List Slot))) → ReadsOn read (Some []) read
@@ -94,7 +94,7 @@ reads_first read = record { done = []; so_far = whole read; keeps = (refl, tt) }
 
 -- a slot more is read, and kept
 pub slot_goes : (count i n next : ℕ) (bytes : List ℕ) (s : Slot) (later : ℕ) (after : List ℕ) (all : Option (Linked (List Slot))) (kept now : Option (List Slot)) → i < count → slot_at n next bytes ≡ Some (s, later, after)
-    → ((slots : List Slot) → Keeps kept slots → Keeps now (slots ++ s ∷ [])) → ReadsOn all kept (slots_at (count - i) n next bytes) → ReadsOn all now (slots_at (count - (i + 1)) n later after)
+    → ((slots : List Slot) → KeepsLight kept slots → KeepsLight now (slots ++ s ∷ [])) → ReadsOn all kept (slots_at (count - i) n next bytes) → ReadsOn all now (slots_at (count - (i + 1)) n later after)
 unfolding slots_at
 slot_goes count i n next bytes s later after all kept now lt h adds R =
     let k : count - i ≡ suc (count - (i + 1)) = omega arith in

@@ -11,7 +11,7 @@ use Rattle.time_table.specs.Counts.{BinCounts}
 use Rattle.cube_image.specs.Bytes.{row_bytes, table_bytes, slot_bytes}
 use Rattle.cube_image.specs.Rest.{below_number, word_rows}
 use Rattle.image_parse.specs.Images.{AreRows, IsImageSlot}
-use Rattle.image_parse.specs.Reading.{◌>>=◌, Front, number_at, row_at, rows_at, table_at}
+use Rattle.image_parse.specs.Reading.{◌>>=◌, Front, width_number_at, row_at, table_rows_at, table_at}
 use Rattle.image_parse.proofs.Fields.{IsBytes, bind_some, some_is, fails_some, Takes, Takes-then, wide32, wide64, number_takes, number_again}
 
 -- a row that was read
@@ -25,8 +25,8 @@ record IsRowAt (from : ℕ) (bytes : List ℕ) (x : Front (ℕ × ℕ)) : Type 0
 row_takes : (from : ℕ) (bytes : List ℕ) (x : Front (ℕ × ℕ)) → IsBytes bytes → row_at from bytes ≡ Some x → IsRowAt from bytes x
 unfolding row_at
 row_takes from bytes x fits e =
-    let a = bind_some (number_at w32 bytes) (λ bin. number_at w64 bin.1 >>= λ count. cond (ltb bin.0 from) None (cond (eqb count.0 0) None (Some ((bin.0, count.0), count.1)))) x e in
-    let b = bind_some (number_at w64 a.0.1) (λ count. cond (ltb a.0.0 from) None (cond (eqb count.0 0) None (Some ((a.0.0, count.0), count.1)))) x a.2 in
+    let a = bind_some (width_number_at w32 bytes) (λ bin. width_number_at w64 bin.1 >>= λ count. cond (ltb bin.0 from) None (cond (eqb count.0 0) None (Some ((bin.0, count.0), count.1)))) x e in
+    let b = bind_some (width_number_at w64 a.0.1) (λ count. cond (ltb a.0.0 from) None (cond (eqb count.0 0) None (Some ((a.0.0, count.0), count.1)))) x a.2 in
     let g = fails_some (ltb a.0.0 from) (cond (eqb b.0.0 0) None (Some ((a.0.0, b.0.0), b.0.1))) x b.2 in
     let h = fails_some (eqb b.0.0 0) (Some ((a.0.0, b.0.0), b.0.1)) x g.1 in
     let t = number_takes w32 (2 ^ 32) wide32 bytes a.0 fits a.1 in
@@ -55,13 +55,13 @@ record AreRowsAt (k from : ℕ) (bytes : List ℕ) (x : Front (List (ℕ × ℕ)
   count : length x.0 ≡ k
   fit : AreRows from x.0
 
-rows_take : (k from : ℕ) (bytes : List ℕ) (x : Front (List (ℕ × ℕ))) → IsBytes bytes → rows_at k from bytes ≡ Some x → AreRowsAt k from bytes x
-unfolding rows_at
+rows_take : (k from : ℕ) (bytes : List ℕ) (x : Front (List (ℕ × ℕ))) → IsBytes bytes → table_rows_at k from bytes ≡ Some x → AreRowsAt k from bytes x
+unfolding table_rows_at
 rows_take zero from bytes x fits e =
     subst (AreRowsAt 0 from bytes) (some_is ([], bytes) x e) (record { takes = record { parts = refl; rest_fits = fits }; count = refl; fit = tt })
 rows_take (suc k) from bytes x fits e =
-    let a = bind_some (row_at from bytes) (λ first. rows_at k (first.0.0 + 1) first.1 >>= λ others. Some (first.0 ∷ others.0, others.1)) x e in
-    let b = bind_some (rows_at k (a.0.0.0 + 1) a.0.1) (λ others. Some (a.0.0 ∷ others.0, others.1)) x a.2 in
+    let a = bind_some (row_at from bytes) (λ first. table_rows_at k (first.0.0 + 1) first.1 >>= λ others. Some (first.0 ∷ others.0, others.1)) x e in
+    let b = bind_some (table_rows_at k (a.0.0.0 + 1) a.0.1) (λ others. Some (a.0.0 ∷ others.0, others.1)) x a.2 in
     let first = row_takes from bytes a.0 fits a.1 in
     let others = rows_take k (a.0.0.0 + 1) a.0.1 b.0 first.takes.rest_fits b.1 in
     let made : Front (List (ℕ × ℕ)) = (a.0.0 ∷ b.0.0, b.0.1) in
@@ -71,15 +71,15 @@ rows_take (suc k) from bytes x fits e =
       fit = (first.later, first.bin, first.some, first.count, others.fit);
     })
 
-pub rows_found : (k : ℕ) (bytes : List ℕ) (es : List (ℕ × ℕ)) (rest : List ℕ) → IsBytes bytes → rows_at k 0 bytes ≡ Some (es, rest) → AreRows 0 es
+pub rows_found : (k : ℕ) (bytes : List ℕ) (es : List (ℕ × ℕ)) (rest : List ℕ) → IsBytes bytes → table_rows_at k 0 bytes ≡ Some (es, rest) → AreRows 0 es
 rows_found k bytes es rest fits e = (rows_take k 0 bytes (es, rest) fits e).fit
 
-rows_again : (from : ℕ) (es : List (ℕ × ℕ)) (rest : List ℕ) → AreRows from es → rows_at (length es) from (flat_map row_bytes es ++ rest) ≡ Some (es, rest)
-unfolding rows_at
+rows_again : (from : ℕ) (es : List (ℕ × ℕ)) (rest : List ℕ) → AreRows from es → table_rows_at (length es) from (flat_map row_bytes es ++ rest) ≡ Some (es, rest)
+unfolding table_rows_at
 rows_again from [] rest fit = refl
 rows_again from (e ∷ es) rest fit =
     let regrouped : flat_map row_bytes (e ∷ es) ++ rest ≡ row_bytes e ++ (flat_map row_bytes es ++ rest) = append_assoc (row_bytes e) (flat_map row_bytes es) rest in
-    ap (rows_at (suc (length es)) from) regrouped ∙ rw (row_again from e (flat_map row_bytes es ++ rest) fit.0 fit.1 fit.2 fit.3, rows_again (e.0 + 1) es rest fit.4) refl
+    ap (table_rows_at (suc (length es)) from) regrouped ∙ rw (row_again from e (flat_map row_bytes es ++ rest) fit.0 fit.1 fit.2 fit.3, rows_again (e.0 + 1) es rest fit.4) refl
 
 -- all of them have bins of 32 bits
 rows-all : (from : ℕ) (es : List (ℕ × ℕ)) → AreRows from es → below_number (2 ^ 32) es ≡ es
@@ -126,8 +126,8 @@ pub record IsTableAt (bytes : List ℕ) (x : Front Slot) : Type 0 where
 pub table_takes : (bytes : List ℕ) (x : Front Slot) → IsBytes bytes → table_at bytes ≡ Some x → IsTableAt bytes x
 unfolding table_at
 table_takes bytes x fits e =
-    let a = bind_some (number_at w64 bytes) (λ count. rows_at count.0 0 count.1 >>= λ rows. Some (table (from_sorted rows.0), rows.1)) x e in
-    let b = bind_some (rows_at a.0.0 0 a.0.1) (λ rows. Some (table (from_sorted rows.0), rows.1)) x a.2 in
+    let a = bind_some (width_number_at w64 bytes) (λ count. table_rows_at count.0 0 count.1 >>= λ rows. Some (table (from_sorted rows.0), rows.1)) x e in
+    let b = bind_some (table_rows_at a.0.0 0 a.0.1) (λ rows. Some (table (from_sorted rows.0), rows.1)) x a.2 in
     let t = number_takes w64 (2 ^ 64) wide64 bytes a.0 fits a.1 in
     let u = rows_take a.0.0 0 a.0.1 b.0 t.0.rest_fits b.1 in
     let own = entries_of_rows 0 b.0.0 u.fit in

@@ -14,24 +14,24 @@ use Rattle.image_parse.specs.declared.fault.ImageParseFault.TheVariants.{NotImag
 use Rattle.image_parse.specs.declared.image.ParsedImage.{ParsedImage}
 use Rattle.image_parse.specs.Images.{IsImageSlot, IsImage, IsLightImage, IsHeavyImage, IsNoImage}
 use Rattle.image_parse.specs.Laws.{TellsOneMeaning}
-use Rattle.image_parse.specs.Reading.{◌>>=◌, Front, Linked, number_at, slots_at, name_at, head_at, end_at, all_at, image_at}
-use Rattle.image_parse.specs.Views.{Fails, Keeps, HasSlots, HasImage}
+use Rattle.image_parse.specs.Reading.{◌>>=◌, Front, Linked, width_number_at, slots_at, form_name_at, head_at, end_at, all_at, image_at}
+use Rattle.image_parse.specs.Views.{Fails, KeepsLight, HasSlots, HasImage}
 use Rattle.image_parse.proofs.Fields.{IsBytes, bind_some, some_is, fails_some, passes_some, Takes, Takes-then, wide64, number_takes, number_again, IsBytes-drop}
 use Rattle.image_parse.proofs.Linking.{CountsUp, Numbers}
 use Rattle.image_parse.proofs.Slotted.{slots_take, slots_again}
 
 -- ---- the head
 
-name_takes : (bytes rest : List ℕ) → IsBytes bytes → name_at bytes ≡ Some rest → Takes bytes (codes "NANOCUB1") rest
-unfolding name_at
+name_takes : (bytes rest : List ℕ) → IsBytes bytes → form_name_at bytes ≡ Some rest → Takes bytes (codes "NANOCUB1") rest
+unfolding form_name_at
 name_takes bytes rest fits e =
     let g = passes_some (starts_with nat_eq bytes (codes "NANOCUB1")) (Some (drop 8 bytes)) rest e in
     let front : codes "NANOCUB1" ≡ take 8 bytes = same_text (codes "NANOCUB1") (take 8 bytes) (sym g.0) in
     let parts : bytes ≡ codes "NANOCUB1" ++ drop 8 bytes = sym (take-append-drop 8 bytes) ∙ ap (λ (t : List ℕ). t ++ drop 8 bytes) (sym front) in
     subst (λ (r : List ℕ). Takes bytes (codes "NANOCUB1") r) (some_is (drop 8 bytes) rest g.1) (record { parts = parts; rest_fits = IsBytes-drop 8 bytes fits })
 
-name_again : (rest : List ℕ) → name_at (codes "NANOCUB1" ++ rest) ≡ Some rest
-unfolding name_at
+name_again : (rest : List ℕ) → form_name_at (codes "NANOCUB1" ++ rest) ≡ Some rest
+unfolding form_name_at
 name_again rest = refl
 
 -- the head of an image
@@ -43,9 +43,9 @@ record IsHead (bytes : List ℕ) (x : Front (ℕ × ℕ)) : Type 0 where
 head_takes : (bytes : List ℕ) (x : Front (ℕ × ℕ)) → IsBytes bytes → head_at bytes ≡ Some x → IsHead bytes x
 unfolding head_at
 head_takes bytes x fits e =
-    let a = bind_some (name_at bytes) (λ rest. number_at w64 rest >>= λ size. number_at w64 size.1 >>= λ slots. Some ((size.0, slots.0), slots.1)) x e in
-    let b = bind_some (number_at w64 a.0) (λ size. number_at w64 size.1 >>= λ slots. Some ((size.0, slots.0), slots.1)) x a.2 in
-    let c = bind_some (number_at w64 b.0.1) (λ slots. Some ((b.0.0, slots.0), slots.1)) x b.2 in
+    let a = bind_some (form_name_at bytes) (λ rest. width_number_at w64 rest >>= λ size. width_number_at w64 size.1 >>= λ slots. Some ((size.0, slots.0), slots.1)) x e in
+    let b = bind_some (width_number_at w64 a.0) (λ size. width_number_at w64 size.1 >>= λ slots. Some ((size.0, slots.0), slots.1)) x a.2 in
+    let c = bind_some (width_number_at w64 b.0.1) (λ slots. Some ((b.0.0, slots.0), slots.1)) x b.2 in
     let t = name_takes bytes a.0 fits a.1 in
     let u = number_takes w64 (2 ^ 64) wide64 a.0 b.0 t.rest_fits b.1 in
     let v = number_takes w64 (2 ^ 64) wide64 b.0.1 c.0 u.0.rest_fits c.1 in
@@ -154,12 +154,12 @@ all_read n size next bytes rest kept H same none = rw (H.read_is, eq-eqb next n 
 -- else the slots that were read are all
 pub all_some : (n size next : ℕ) (bytes rest : List ℕ) (kept : Option (List Slot)) (arena : List Slot) → HasSlots (slots_at n n 1 bytes) kept next rest → next ≡ n → eqb (length rest) 0 ≡ true → kept ≡ Some arena → HasImage (all_at n size bytes) (Some (record { arena = arena; size = size }))
 all_some n size next bytes rest kept arena H same none is =
-    let K : Keeps (Some arena) H.slots = subst (λ (k : Option (List Slot)). Keeps k H.slots) is H.keeps in
+    let K : KeepsLight (Some arena) H.slots = subst (λ (k : Option (List Slot)). KeepsLight k H.slots) is H.keeps in
     record { size = size; slots = H.slots; read_is = all_read n size next bytes rest kept H same none; keeps = (refl, K.0, K.1) }
 
 pub all_none : (n size next : ℕ) (bytes rest : List ℕ) (kept : Option (List Slot)) → HasSlots (slots_at n n 1 bytes) kept next rest → next ≡ n → eqb (length rest) 0 ≡ true → kept ≡ None → HasImage (all_at n size bytes) None
 all_none n size next bytes rest kept H same none is =
-    record { size = size; slots = H.slots; read_is = all_read n size next bytes rest kept H same none; keeps = subst (λ (k : Option (List Slot)). Keeps k H.slots) is H.keeps }
+    record { size = size; slots = H.slots; read_is = all_read n size next bytes rest kept H same none; keeps = subst (λ (k : Option (List Slot)). KeepsLight k H.slots) is H.keeps }
 
 -- ---- images
 

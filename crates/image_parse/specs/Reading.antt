@@ -26,8 +26,8 @@ byte_at [] = None
 byte_at (b ∷ bytes) = Some (b, bytes)
 
 -- a number of some bytes
-abbrev pub number_at : Width → List ℕ → Option (Front ℕ)
-number_at w bytes = if nat_lt (length bytes) (byte_len w) then None else Some (from_be_bytes w (take (byte_len w) bytes), drop (byte_len w) bytes)
+abbrev pub width_number_at : Width → List ℕ → Option (Front ℕ)
+width_number_at w bytes = if nat_lt (length bytes) (byte_len w) then None else Some (from_be_bytes w (take (byte_len w) bytes), drop (byte_len w) bytes)
 
 -- the link of a kind to one of n slots, where the next proper link leads to a slot
 unfoldable pub link_to : ℕ → ℕ → ℕ → ℕ → Option (Link × ℕ)
@@ -40,7 +40,7 @@ link_to n next kind to =
 -- the rest of a link whose kind was read
 unfoldable pub link_at : ℕ → ℕ → ℕ → List ℕ → Option (Linked Link)
 link_at n next kind bytes = do
-  to ← number_at w64 bytes
+  to ← width_number_at w64 bytes
   l ← link_to n next kind to.0
   Some (l.0, l.1, to.1)
 
@@ -69,7 +69,7 @@ children_at (suc k) n from next bytes = do
 -- the rest of a node
 unfoldable pub node_at : ℕ → ℕ → List ℕ → Option (Linked Slot)
 node_at n next bytes = do
-  count ← number_at w16 bytes
+  count ← width_number_at w16 bytes
   children ← children_at count.0 n 0 next count.1
   content ← content_at n children.1 children.2
   Some (node children.0 content.0, content.1, content.2)
@@ -77,23 +77,23 @@ node_at n next bytes = do
 -- a row of a bin from a number on
 unfoldable pub row_at : ℕ → List ℕ → Option (Front (ℕ × ℕ))
 row_at from bytes = do
-  bin ← number_at w32 bytes
-  count ← number_at w64 bin.1
+  bin ← width_number_at w32 bytes
+  count ← width_number_at w64 bin.1
   if nat_lt bin.0 from then None else (if count.0 == 0 then None else Some ((bin.0, count.0), count.1))
 
 -- so many rows, whose bins rise from a number on
-unfoldable pub rows_at : ℕ → ℕ → List ℕ → Option (Front (List (ℕ × ℕ)))
-rows_at zero from bytes = Some ([], bytes)
-rows_at (suc k) from bytes = do
+unfoldable pub table_rows_at : ℕ → ℕ → List ℕ → Option (Front (List (ℕ × ℕ)))
+table_rows_at zero from bytes = Some ([], bytes)
+table_rows_at (suc k) from bytes = do
   first ← row_at from bytes
-  others ← rows_at k (first.0.0 + 1) first.1
+  others ← table_rows_at k (first.0.0 + 1) first.1
   Some (first.0 ∷ others.0, others.1)
 
 -- the rest of a table
 unfoldable pub table_at : List ℕ → Option (Front Slot)
 table_at bytes = do
-  count ← number_at w64 bytes
-  rows ← rows_at count.0 0 count.1
+  count ← width_number_at w64 bytes
+  rows ← table_rows_at count.0 0 count.1
   Some (table (from_sorted rows.0), rows.1)
 
 -- a slot
@@ -111,15 +111,15 @@ slots_at (suc k) n next bytes = do
   Some (first.0 ∷ others.0, others.1, others.2)
 
 -- the name of the form
-unfoldable pub name_at : List ℕ → Option (List ℕ)
-name_at bytes = if starts_with nat_eq bytes (codes "NANOCUB1") then Some (drop 8 bytes) else None
+unfoldable pub form_name_at : List ℕ → Option (List ℕ)
+form_name_at bytes = if starts_with nat_eq bytes (codes "NANOCUB1") then Some (drop 8 bytes) else None
 
 -- the name, the size, and how many slots there are
 unfoldable pub head_at : List ℕ → Option (Front (ℕ × ℕ))
 head_at bytes = do
-  rest ← name_at bytes
-  size ← number_at w64 rest
-  slots ← number_at w64 size.1
+  rest ← form_name_at bytes
+  size ← width_number_at w64 rest
+  slots ← width_number_at w64 size.1
   Some ((size.0, slots.0), slots.1)
 
 -- the end: no bytes are left, and each of n slots but the root was the target of a proper link

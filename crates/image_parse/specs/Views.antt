@@ -40,15 +40,15 @@ abbrev pub row_total : List (ℕ × ℕ) → ℕ
 row_total rows = sum_by (λ e. e.1) rows
 
 -- an arena keeps the slots; none is kept where a table is too heavy for one
-abbrev pub Keeps : Option (List Slot) → List Slot → Type 0
-Keeps None slots = ¬ AllLight slots
-Keeps (Some kept) slots = (kept ≡ slots) × AllLight slots
+abbrev pub KeepsLight : Option (List Slot) → List Slot → Type 0
+KeepsLight None slots = ¬ AllLight slots
+KeepsLight (Some kept) slots = (kept ≡ slots) × AllLight slots
 
 -- slots that were read are kept
 pub record HasSlots (read : Option (Linked (List Slot))) (kept : Option (List Slot)) (next : ℕ) (rest : List ℕ) : Type 0 where
   pub slots : List Slot
   pub read_is : read ≡ Some (slots, next, rest)
-  pub keeps : Keeps kept slots
+  pub keeps : KeepsLight kept slots
 
 -- an image that was read is kept with its size
 abbrev pub KeepsImage : Option ParsedImage → ℕ → List Slot → Type 0

@@ -4,7 +4,7 @@ ghost use Rattle.std.specs.FinMap.{from_sorted};
 ghost use Rattle.node_arena.specs.Calls.{with_slot};
 ghost use Rattle.node_arena.specs.Slots.{Slot, node, table};
 ghost use Rattle.image_parse.specs.Images.{AreRows};
-ghost use Rattle.image_parse.specs.Views.{AreImageChildren, IsParsed, Keeps, row_total, slot_parsed};
+ghost use Rattle.image_parse.specs.Views.{AreImageChildren, IsParsed, KeepsLight, row_total, slot_parsed};
 
 use crate::slots::ParsedSlot;
 use node_arena::{Arena, Link};
@@ -17,7 +17,7 @@ const MOST_RECORDS: u64 = 1 << 63;
 /// more records than one can hold.
 pub fn add_slot(kept: Option<Arena>, slot: &ParsedSlot) -> Result<Option<Arena>, NoMemory>
     requires { IsParsed slot.now }
-    ensures { IfOk result (λ now. (slots : List Slot) → Keeps kept slots → Keeps now (slots ++ slot_parsed slot.now ∷ [])) }
+    ensures { IfOk result (λ now. (slots : List Slot) → KeepsLight kept slots → KeepsLight now (slots ++ slot_parsed slot.now ∷ [])) }
 {
     let Some(mut arena) = kept else {
         return Ok(None);

@@ -1,7 +1,7 @@
 //! Whole images.
 ghost use Rattle.std.specs.Prelude.{◌≡◌, ◌+◌, ◌≤◌, Some, Err, MatchOption, IfOk, MatchResult};
 ghost use Rattle.image_parse.specs.Images.{IsLightImage, IsHeavyImage, IsNoImage};
-ghost use Rattle.image_parse.specs.Reading.{name_at, head_at, slots_at, all_at, image_at};
+ghost use Rattle.image_parse.specs.Reading.{form_name_at, head_at, slots_at, all_at, image_at};
 ghost use Rattle.image_parse.specs.Views.{Gives, Fails, HasSlots, HasImage};
 
 use crate::build::add_slot;
@@ -22,9 +22,9 @@ pub struct ParsedImage {
 }
 
 /// The bytes after the name of the form.
-#[tactic(auto, unfolding(crate::specs::Reading::name_at))]
+#[tactic(auto, unfolding(crate::specs::Reading::form_name_at))]
 fn take_name(bytes: &[u8]) -> Result<&[u8], ImageParseFault>
-    ensures { Gives (λ x. x.now) result (name_at bytes.now) }
+    ensures { Gives (λ x. x.now) result (form_name_at bytes.now) }
 {
     if !bytes.starts_with(NAME) {
         return Err(ImageParseFault::NotImage);

@@ -3,7 +3,7 @@ ghost use Rattle.std.specs.Prelude.{◌≡◌, ◌<◌, ◌≤◌, IfOk};
 ghost use Rattle.std.specs.FinMap.{from_sorted};
 ghost use Rattle.node_arena.specs.Slots.{node, table};
 ghost use Rattle.image_parse.specs.Images.{AreRows};
-ghost use Rattle.image_parse.specs.Reading.{children_at, node_at, row_at, rows_at, table_at, slot_at};
+ghost use Rattle.image_parse.specs.Reading.{children_at, node_at, row_at, table_rows_at, table_at, slot_at};
 ghost use Rattle.image_parse.specs.Views.{Gives, AreImageChildren, IsParsed, slot_parsed};
 
 use crate::fault::ImageParseFault;
@@ -79,7 +79,7 @@ fn take_rows(
     bytes: &[u8],
     count: u64,
 ) -> Result<(Vec<(u32, u64)>, &[u8]), ImageParseFault>
-    ensures read { Gives (λ x. (x.0.items, x.1.now)) result (rows_at count 0 bytes.now) }
+    ensures read { Gives (λ x. (x.0.items, x.1.now)) result (table_rows_at count 0 bytes.now) }
     ensures fits { IfOk result (λ x. AreRows 0 x.0.items) }
 {
     let mut rows = Vec::new(alloc);

@@ -15,7 +15,7 @@ use Rattle.query_syntax.specs.Queries.{whole_space}
 use Rattle.query_syntax.specs.TileOrder.{quadrants}
 use Rattle.query_syntax.specs.Tiles.{is_tile}
 use Rattle.window_cover.specs.declared.rect.Rect.{Rect}
-use Rattle.window_cover.specs.Covers.{cover, is_largest, parent, Fills, IsLeastCover}
+use Rattle.window_cover.specs.Covers.{cover, is_largest, parent, FillsRect, IsLeastCover}
 use Rattle.window_cover.specs.Rects.{holds, is_inside, tile_rect}
 use Rattle.window_cover.specs.Ways.{cover_below}
 use Rattle.window_cover.proofs.Counting.{apart, exact}
@@ -197,7 +197,7 @@ module _ (depth : ℕ) (r : Rect) where
       (cases_lt u.z c.z)
 
   -- each list that fills the rectangle is as long
-  pub fewest : (others : List Tile) → Fills depth r others → length (cover depth r) ≤ length others
+  pub fewest : (others : List Tile) → FillsRect depth r others → length (cover depth r) ≤ length others
   fewest others fills =
       let part : Tile → Bool = λ u. is_tile depth u && is_inside depth r u in
       let some = each_one in_cover (λ c. count_by (tile_within c) others) (λ c is.

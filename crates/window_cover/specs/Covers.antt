@@ -39,7 +39,7 @@ abbrev pub finest_tiles : ℕ → Tile → List Tile
 finest_tiles depth t = tiles_inside (depth - t.z) t
 
 -- the tiles lie inside the rectangle, and together they hold all its finest tiles
-pub record Fills (depth : ℕ) (r : Rect) (tiles : List Tile) : Type 0 where
+pub record FillsRect (depth : ℕ) (r : Rect) (tiles : List Tile) : Type 0 where
   pub inside : IsTrue (list_all (λ t. is_tile depth t && is_inside depth r t) tiles)
   pub holders : (x y : ℕ) → has_place r x y ≡ true → has_holder depth tiles x y ≡ true
 
@@ -52,4 +52,4 @@ pub record IsLeastCover (depth : ℕ) (r : Rect) (tiles : List Tile) : Type 0 wh
   -- one tile after the other, their finest tiles are those of the rectangle in path order
   pub order : flat_map (finest_tiles depth) tiles ≡ filter (λ f. has_place r f.x f.y) (tiles_of_level depth)
   -- each list of tiles that fills the rectangle is as long or longer
-  pub fewest : (others : List Tile) → Fills depth r others → length tiles ≤ length others
+  pub fewest : (others : List Tile) → FillsRect depth r others → length tiles ≤ length others
