@@ -1,10 +1,13 @@
 pub mod Adding
+pub mod Agreement
 pub mod Childwise
 pub mod Coarser
 pub mod Filling
 pub mod Labelled
 pub mod Counting
 pub mod Deciding
+pub mod Ending
 pub mod OneHome
+pub mod Over
 pub mod Placing
 pub mod Rowwise

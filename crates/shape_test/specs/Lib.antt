@@ -1,3 +1,4 @@
+pub mod Agreeing
 pub mod Labels
 pub mod Fits
 pub mod Filled

@@ -33,7 +33,7 @@ pub fn has_row<L: Ledger>(arena: &Arena, id: SlotId, steps: &mut Steps<L>) -> bo
 }
 
 /// The link that a step goes along.
-fn link_along<L: Ledger>(
+pub fn link_along<L: Ledger>(
     arena: &Arena,
     id: SlotId,
     step: Move,
@@ -73,7 +73,7 @@ fn count_below<L: Ledger>(
 }
 
 /// How many records a slot has in a bin.
-fn slot_count<L: Ledger>(arena: &Arena, id: SlotId, bin: u32, steps: &mut Steps<L>) -> u64
+pub fn slot_count<L: Ledger>(arena: &Arena, id: SlotId, bin: u32, steps: &mut Steps<L>) -> u64
     requires { id.0 < length arena.now }
     ensures { result ≡ count (slot_of arena.now id.0) bin }
 {

@@ -20,6 +20,7 @@ mod home;
 mod laws;
 mod links;
 mod merges;
+mod merging;
 mod place;
 mod rows;
 
@@ -29,5 +30,6 @@ pub use home::{Move, is_coarser_after};
 pub use laws::fit_laws;
 pub use links::links_fit;
 pub use merges::merges_at;
+pub use merging::node_merges;
 pub use place::{Place, place_of};
 pub use rows::rows_merge;
