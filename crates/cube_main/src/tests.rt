@@ -35,6 +35,16 @@ struct Case<'a> {
     out: &'a [u8],
 }
 
+/// The status of the words over files in memory. It promises nothing, so that no test is proved with the whole claim in view.
+fn status_of(
+    rt: &(impl AllocGlobal + Threads + Wait + Sync),
+    line: &[String],
+    place: &mut MemPlace,
+    out: &mut MemSink,
+) -> Status {
+    nanocube(rt, line, place, out)
+}
+
 /// Runs the case over files that fail at the given reads and a sink that fails at the given puts.
 fn run(
     rt: &(impl Abort + AllocGlobal + Threads + Wait + Sync),
@@ -59,7 +69,7 @@ fn run(
     );
     let mut out = MemSink::new(alloc, list(alloc, put_fails)?);
     let words = words(alloc, &["demo", "a.csv", "q.txt"])?;
-    let status = nanocube(rt, words.as_slice(), &mut place, &mut out);
+    let status = status_of(rt, words.as_slice(), &mut place, &mut out);
     assert_eq!(rt; status, case.status);
     assert_eq!(rt; out.bytes(), case.out);
     Ok(())
@@ -359,7 +369,7 @@ fn refuses_words_of_no_form_and_absent_feeds(rt: HostRuntime) -> Result<(), Fail
         let mut out = MemSink::new(alloc, list(alloc, &[])?);
         let line = words(alloc, line)?;
         assert_eq!(rt;
-            nanocube(&rt, line.as_slice(), &mut place, &mut out),
+            status_of(&rt, line.as_slice(), &mut place, &mut out),
             status
         );
         assert_eq!(rt; out.bytes(), [].as_slice());
@@ -371,72 +381,62 @@ fn refuses_words_of_no_form_and_absent_feeds(rt: HostRuntime) -> Result<(), Fail
 const PLAN: &str =
     "{\"asks\":[],\"batch\":1,\"categories\":[{\"name\":\"kind\",\"values\":[\"a\",\"b\"]}],\"depth\":3,\"feeds\":[\"a.csv\"],\"finals\":[\"f.txt\"],\"journal\":\"j.txt\",\"start\":0,\"version\":1,\"width\":10}";
 
-/// What these words give over the place: the status, and what the sink has.
-fn given(
+/// These words give that status over the place, and that text.
+fn expect(
     rt: &(impl Abort + AllocGlobal + Threads + Wait + Sync),
     place: &mut MemPlace,
     line: &[&str],
-) -> Result<(Status, MemSink), AllocError> {
+    status: Status,
+    text: &str,
+) -> Result<(), AllocError> {
     let alloc = rt.alloc();
     let mut out = MemSink::new(alloc, list(alloc, &[])?);
     let line = words(alloc, line)?;
-    let status = nanocube(rt, line.as_slice(), place, &mut out);
-    Ok((status, out))
+    let found = status_of(rt, line.as_slice(), place, &mut out);
+    assert_eq!(rt; found, status);
+    assert_eq!(rt; out.bytes(), text.as_bytes());
+    Ok(())
 }
+
+/// Puts a file into the place.
+fn put(
+    rt: &(impl Abort + AllocGlobal),
+    place: &mut MemPlace,
+    name: &str,
+    text: &str,
+) -> Result<(), AllocError> {
+    let alloc = rt.alloc();
+    let bytes = list(alloc, text.as_bytes())?;
+    assert!(rt; place.put_file(name, bytes, 16, list(alloc, &[])?).is_ok());
+    Ok(())
+}
+
+/// The words that audit the final's replies.
+const AUDIT: [&str; 5] = ["recount", "p.json", "j.txt", "f.txt", "f.txt.out"];
 
 #[test]
 fn a_run_is_audited_from_its_files(rt: HostRuntime) -> Result<(), Fail> {
-    let alloc = rt.alloc();
-    let mut place = MemPlace::new(alloc);
-    for (name, text) in [
-        ("p.json", PLAN),
-        ("a.csv", FEED),
-        ("f.txt", "count\ntold\n"),
-    ] {
-        assert!(rt;
-            place
-                .put_file(name, list(alloc, text.as_bytes())?, 16, list(alloc, &[])?)
-                .is_ok()
-        );
-    }
-    let (status, out) = given(&rt, &mut place, &["run", "p.json"])?;
-    assert_eq!(rt; status, Status::Done);
-    assert_eq!(rt;
-        out.bytes(),
-        b"feed a.csv: 3 accepted, 0 blank, 0 refused\nscript f.txt: 2 replies, seen 3\njournal: 3 entries\n".as_slice()
-    );
-    let audit = ["recount", "p.json", "j.txt", "f.txt", "f.txt.out"];
-    let (status, out) = given(&rt, &mut place, &audit)?;
-    assert_eq!(rt; status, Status::Done);
-    assert_eq!(rt;
-        out.bytes(),
-        b"recount: 2 replies agree, 0 without memory\n".as_slice()
-    );
-    let wrong = "{\"rows\":[[4]],\"seen\":3}\n{\"told\":3}\n";
-    assert!(rt;
-        place
-            .put_file(
-                "f.txt.out",
-                list(alloc, wrong.as_bytes())?,
-                16,
-                list(alloc, &[])?
-            )
-            .is_ok()
-    );
-    let (status, out) = given(&rt, &mut place, &audit)?;
-    assert_eq!(rt; status, Status::Differs);
-    assert_eq!(rt; out.bytes(), b"recount: reply 1: Wrong\n".as_slice());
+    let mut place = MemPlace::new(rt.alloc());
+    put(&rt, &mut place, "p.json", PLAN)?;
+    put(&rt, &mut place, "a.csv", FEED)?;
+    put(&rt, &mut place, "f.txt", "count\ntold\n")?;
+    let report =
+        "feed a.csv: 3 accepted, 0 blank, 0 refused\nscript f.txt: 2 replies, seen 3\njournal: 3 entries\n";
+    expect(&rt, &mut place, &["run", "p.json"], Status::Done, report)?;
+    let agree = "recount: 2 replies agree, 0 without memory\n";
+    expect(&rt, &mut place, &AUDIT, Status::Done, agree)?;
+    let changed = "{\"rows\":[[4]],\"seen\":3}\n{\"told\":3}\n";
+    put(&rt, &mut place, "f.txt.out", changed)?;
+    let wrong = "recount: reply 1: Wrong\n";
+    expect(&rt, &mut place, &AUDIT, Status::Differs, wrong)?;
     Ok(())
 }
 
 #[test]
 fn a_large_run_of_one_row_writes_six_lines(rt: HostRuntime) -> Result<(), Fail> {
     let mut place = MemPlace::new(rt.alloc());
-    let (status, out) = given(&rt, &mut place, &["big", "1"])?;
-    assert_eq!(rt; status, Status::Done);
-    assert_eq!(rt;
-        out.bytes(),
-        b"feed gen1: 1 accepted, 0 blank, 0 refused\nfeed gen2: 1 accepted, 0 blank, 0 refused\n{\"rows\":[[2]],\"seen\":2}\n{\"rows\":[[\"a\",1],[\"b\",0],[\"c\",0],[\"d\",1]],\"seen\":2}\n{\"rows\":[[1,0,0,1],[1,1,1,1]],\"seen\":2}\n{\"rows\":[[0,0],[256,0],[512,0],[768,2]],\"seen\":2}\n".as_slice()
-    );
+    let text =
+        "feed gen1: 1 accepted, 0 blank, 0 refused\nfeed gen2: 1 accepted, 0 blank, 0 refused\n{\"rows\":[[2]],\"seen\":2}\n{\"rows\":[[\"a\",1],[\"b\",0],[\"c\",0],[\"d\",1]],\"seen\":2}\n{\"rows\":[[1,0,0,1],[1,1,1,1]],\"seen\":2}\n{\"rows\":[[0,0],[256,0],[512,0],[768,2]],\"seen\":2}\n";
+    expect(&rt, &mut place, &["big", "1"], Status::Done, text)?;
     Ok(())
 }
