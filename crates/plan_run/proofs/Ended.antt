@@ -1,5 +1,5 @@
 -- How a run ends, by how it was opened and by what became of its parts.
-use Rattle.std.proofs.Common.{◌≡◌, ◌≢◌, ◌⊎◌, inl, inr, ℕ, Bool, true, false, List, [], ◌∷◌, ◌++◌, All, map, append-nil, Option, Some, None, Result, Ok, Err, IsSomeAnd, OnOk, refl, sym, ap, subst, ◌∙◌}
+use Rattle.std.proofs.Common.{◌≡◌, ◌≢◌, ◌⊎◌, inl, inr, ℕ, Bool, true, false, List, [], ◌∷◌, ◌++◌, All, map, Option, Some, None, Result, Ok, Err, IsSomeAnd, OnOk, refl, sym, ap, subst, ◌∙◌}
 use Rattle.std.proofs.lemmas.List.{map-append}
 use Rattle.std.specs.Prelude.{Contains, IfSome}
 use Rattle.std.specs.FinMap.{get}
@@ -24,21 +24,22 @@ use Rattle.outer_io.specs.declared.fault.IoFault.TheVariants as io
 use Rattle.plan_run.proofs.Causes.{FeedCause, SessionCause, feed_causes, session_causes}
 use Rattle.plan_run.proofs.Joined.{End, ended}
 use Rattle.plan_run.proofs.Landed.{some_is, told_pair}
-use Rattle.plan_run.proofs.Named.{KeepsOthers-one, dones_named, names_of, names_then, sessions_named}
+use Rattle.plan_run.proofs.Named.{KeepsOthers-one, KeepsOthers-twice, dones_named, names_of, names_then, sessions_named}
 use Rattle.plan_run.proofs.Blamed.{AnyOf, all_err, any_in, any_left, any_right, any_unmapped}
 use Rattle.plan_run.proofs.Raised.{closing_not_plan, closing_read, closing_write, starved_of}
 use Rattle.plan_run.proofs.Refused.{large_feeds, refused_scripts, write_not_refused}
 use Rattle.plan_run.proofs.Said.{completes, opening_refused, opening_said, opening_truth, opening_wrote, puts_after, silent_after, text_after}
 use Rattle.plan_run.proofs.Whole.{all_quiet, completed}
-use Rattle.plan_run.proofs.Truth.{account, account_is, begins_files, holds_files, kept_found, kept_well, kept_where, reads_counted, said_found, wrote_found, wrote_well, wrote_where}
+use Rattle.plan_run.proofs.Truth.{account, account_is, begins_files, holds_files, kept_found, kept_well, kept_where, reads_counted, said_found, said_lost, wrote_found, wrote_well, wrote_where}
+use Rattle.plan_run.proofs.Unreported.{empty_made, given_back_empty}
 use Rattle.plan_run.proofs.Zips.{AllZip-right}
 use Rattle.plan_run.specs.Completed.{IsCompleted}
-use Rattle.plan_run.specs.Ends.{AreHeaded, HasReported, IsDone, HasRefusedInput, LeavesNames, MissesNothing, PutsOrFails, RunEnds, SaysOfRun, TellsTruth}
+use Rattle.plan_run.specs.Ends.{AreHeaded, EndsBeforeThreads, HasReported, IsDone, HasRefusedInput, LacksReport, LeavesNames, MissesNothing, PutsOrFails, RunEnds, SaysOfRun, TellsTruth}
 use Rattle.plan_run.specs.Interrupted.{Account, BeginsFiles, HoldsFiles, account_text, read_stops}
 use Rattle.plan_run.specs.Parts.{GivesBack, RunsParts, run_done_of, jobs_of}
 use Rattle.plan_run.specs.Seen.{PartSeen}
-use Rattle.run_files.proofs.Stages.{KeepsOthers-after, KeepsOthers-more, all_opened}
-use Rattle.run_files.specs.Headed.{RefusesLast}
+use Rattle.run_files.proofs.Emptied.{told_still}
+use Rattle.run_files.proofs.Stages.{KeepsOthers-after, KeepsOthers-more, all_empty, all_made, all_opened}
 use Rattle.run_files.specs.Leaving.{KeepsOthers, LeavesPlace}
 use Rattle.run_files.specs.Outside.{file_of, PlaceSeen, Puts as Said, Silent, SinkSeen}
 use Rattle.run_files.specs.Planned.{IsPlanOf}
@@ -96,7 +97,7 @@ module _ {P T : Type 0} (p : PlaceSeen P) (t : SinkSeen T) where
     write = write;
     said = opening_said p t place mid out out1 name stop opens.plan opens.leaves.opens opens.leaves.makes opens opens.unplanned opens.order;
     refused = refused;
-    truth = λ no_write no_out. opening_truth p t place mid out out1 name stop opens.plan opens.leaves.opens opens.leaves.makes no_out opens.order;
+    truth = λ no_write no_out. opening_truth p t place mid out out1 name stop opens.plan opens.leaves.opens opens.leaves.makes (name ∷ inputs_of opens.plan) (outputs_of opens.plan) no_write no_out opens.leaves opens.order;
     unsaid = λ e no_write. opening_wrote p t place mid out out1 name stop opens.plan opens.leaves.opens opens.leaves.makes (cc e) no_write opens.leaves.created opens.order;
     complete = completes p t place mid out out1 name opens.plan (Err stop) (λ e. (opens.refused_plan (same_stop stop PlanRefused e)).0) refused (λ e. opens.leaves.read (same_stop stop ReadFault e)) write;
   }
@@ -176,13 +177,16 @@ module _ {P T : Type 0} (p : PlaceSeen P) (t : SinkSeen T) where
         write_before : p.write_faults mid ≡ p.write_faults place
         write_before = leaves.write_quiet (λ e. cc e) (λ e. cc e)
 
+        all_created : p.created place' ≡ p.created place ++ output_names plan
+        all_created = created ∙ leaves.created ∙ ap (λ ns. p.created place ++ ns) (sym (all_made p place mid (name ∷ input_names plan) (output_names plan) leaves))
+
         is_done : result ≡ Ok tt → IsDone p t place place' out out' name plan
         is_done well =
             let closed : ClosesRun plan (run_done_of crewed parts.journal) p s t i.faults mid place' out1 out' (Ok tt) = subst (ClosesRun plan (run_done_of crewed parts.journal) p s t i.faults mid place' out1 out') well closes in
             let quiet = all_quiet p i s t plan parts mid place' out1 out' (p.files place) crewed ready ran closed in
             record {
               opened = opened ∙ leaves.opened ∙ ap (λ ns. p.opened place ++ ns) (sym (all_opened p place mid (name ∷ input_names plan) (output_names plan) leaves));
-              created = created ∙ leaves.created ∙ ap (λ ns. p.created place ++ ns) (sym (leaves.outputs_are ∙ ap (λ ns. leaves.makes ++ ns) (leaves.makes_all refl) ∙ append-nil leaves.makes));
+              created = all_created;
               quiet = (quiet.0 ∙ read_before, quiet.1 ∙ write_before, quiet.2 ∙ silent.faults);
               files = told_by (p.files place) (λ files. IsSomeAnd (p.files place') (λ files'. IsCompleted plan files files' (t.held out) (t.held out'))) (λ files told.
                   let now = told_pair (p.files place) (p.files mid) files (λ a b. (other : List ℕ) → ¬ Contains leaves.makes other → get b other ≡ get a other) told leaves.others in
@@ -254,7 +258,7 @@ module _ {P T : Type 0} (p : PlaceSeen P) (t : SinkSeen T) where
         empty_outputs : (files now : Files) → p.files place ≡ Some files → p.files mid ≡ Some now → All (λ name. get now name ≡ Some []) (output_names plan)
         empty_outputs files now told told' =
             All-weaker (λ name. HasFile (p.files mid) name []) (λ name. get now name ≡ Some []) (λ name has. Told-some (p.files mid) now (λ f. get f name ≡ Some []) told' has) (output_names plan)
-            (subst (λ o. All (λ name. HasFile (p.files mid) name []) (outputs_of o)) its_plan (opens.emptied refl (some_is (p.files place) files told)))
+            (all_empty p place mid (name ∷ input_names plan) (output_names plan) leaves (some_is (p.files place) files told))
 
         its_account : Account
         its_account = account p i s t plan parts mid place' out1 out' (p.files place) ready crewed ran feeds asks finals result not_plan closes
@@ -300,6 +304,7 @@ module _ {P T : Type 0} (p : PlaceSeen P) (t : SinkSeen T) where
           says = says closes.said refl closes.report;
           refused = λ is. told_by (p.files place) (λ files. AreHeaded p t place place' out out' plan files → HasReported p t place place' out out' plan result)
               (λ files told headed. reports closes.said refl closes.report (said_found p i s t plan parts mid place' out1 out' (p.files place) ready crewed ran feeds asks finals result not_plan closes (λ bad. cc (is, bad))));
+          read = λ is all. reports closes.said refl closes.report (said_found p i s t plan parts mid place' out1 out' (p.files place) ready crewed ran feeds asks finals result not_plan closes (λ bad. cc (is, bad)));
         }
           where
             no_later : ¬ Rose (t.faults out1) (t.faults out')
@@ -314,9 +319,15 @@ module _ {P T : Type 0} (p : PlaceSeen P) (t : SinkSeen T) where
             reports (Err FeedRefused) is says found = absurd (says.ends.2 refl)
 
             says : (r : End) → closes.said ≡ r → SaysText t out1 out' (run_text plan done) r
-                → Silent t out out' ⊎ ((opens : List (List ℕ)) × RefusesLast plan.schema (file_of (p.files place)) opens (Said t out out')) ⊎ HasReported p t place place' out out' plan result
+                → EndsBeforeThreads p t place place' out out' plan ⊎ LacksReport p t place place' out out' plan result ⊎ HasReported p t place place' out out' plan result
             says (Ok x) is text = inr (inr (reports (Ok x) is text (λ bad. cc (is, bad))))
-            says (Err NoMemory) is text = inl (silent_after t out out1 out' silent (text.silent refl))
+            says (Err NoMemory) is text = inr (inl (record {
+              lacking = said_lost p i s t plan parts mid place' out1 out' (p.files place) ready crewed ran feeds asks finals result not_plan closes is;
+              silent = silent_after t out out1 out' silent (text.silent refl);
+              created = all_created;
+              account = its_account;
+              files = its_beginnings;
+            }))
             says (Err PlanRefused) is text = absurd (text.ends.0 refl)
             says (Err ReadFault) is text = absurd (text.ends.1 refl)
             says (Err WriteFault) is text = absurd (no_later (text.fails refl).faults)
@@ -359,6 +370,7 @@ module _ {P T : Type 0} (p : PlaceSeen P) (t : SinkSeen T) where
       ended_unrun result is said back =
           let named : map s.name (map sink_in parts.asks ++ map sink_in parts.finals) ≡ outputs plan.asks ++ outputs plan.finals =
           both_named (map sink_in parts.asks) (map sink_in parts.finals) (sessions_named i s (p.files place) plan.asks parts.asks ready.asks) (sessions_named i s (p.files place) plan.finals parts.finals ready.finals) in
+          let created : p.created place' ≡ p.created mid = back.journal_back.created ∙ back.sinks_back.created ∙ back.finals_back.created ∙ back.asks_back.created ∙ back.feeds_back.created in
           let kept : KeepsOthers (p.files mid) (p.files place') (output_names plan) =
           KeepsOthers-after (p.files mid) (p.files back.read) (p.files place') (output_names plan) (back.finals_back.files ∙ back.asks_back.files ∙ back.feeds_back.files)
           (KeepsOthers-more (p.files back.read) (p.files back.replied) (p.files place') (outputs plan.asks ++ outputs plan.finals) (plan.journal ∷ [])
@@ -371,15 +383,22 @@ module _ {P T : Type 0} (p : PlaceSeen P) (t : SinkSeen T) where
             refused_plan = λ e. absurd (cc (is, e));
             names = names_then p place mid place' (name ∷ input_names plan) (output_names plan) leaves
                 (back.journal_back.opened ∙ back.sinks_back.opened ∙ back.finals_back.opened ∙ back.asks_back.opened ∙ back.feeds_back.opened)
-                (back.journal_back.created ∙ back.sinks_back.created ∙ back.finals_back.created ∙ back.asks_back.created ∙ back.feeds_back.created) kept;
+                created kept;
             done = subst (λ r. OnOk r ((which : Plan) × (Some plan ≡ Some which) × IsDone p t place place' out out' name which)) (sym is) tt;
             said = inl (silent_after t out out1 out' silent (record { held = ap t.held said; faults = ap t.faults said; name = ap t.name said }));
             refused = λ e. absurd (cc (is, e));
             read = λ e. absurd (cc (is, e));
             write = λ e. absurd (cc (is, e));
             truth = λ no_write no_out. record {
-              says = inl (silent_after t out out1 out' silent (record { held = ap t.held said; faults = ap t.faults said; name = ap t.name said }));
+              says = inl (record {
+                puts = inl (silent_after t out out1 out' silent (record { held = ap t.held said; faults = ap t.faults said; name = ap t.name said }));
+                makes = leaves.makes;
+                created = created ∙ leaves.created;
+                empty = empty_made p place place' leaves.makes (KeepsOthers-twice (p.files place) (p.files mid) (p.files place') leaves.makes leaves.others (subst (KeepsOthers (p.files mid) (p.files place')) (all_made p place mid (name ∷ input_names plan) (output_names plan) leaves) kept)) (λ told.
+                    given_back_empty p i s plan parts (p.files place) ready told mid place' leaves.makes (told_still (p.files place) (p.files mid) leaves.makes leaves.others told) back (leaves.emptied (λ other. absurd (other refl)) told));
+              });
               refused = λ e. absurd (cc (is, e));
+              read = λ e. absurd (cc (is, e));
             };
             unsaid = λ e. absurd (cc (is, e));
             complete = completes p t place place' out out' name (Some plan) result (λ e. absurd (cc (is, e))) (λ e. absurd (cc (is, e))) (λ e. absurd (cc (is, e))) (λ e. absurd (cc (is, e)));

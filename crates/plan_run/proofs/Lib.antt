@@ -11,6 +11,7 @@ mod Blamed
 mod Named
 mod Raised
 mod Refused
+mod Unreported
 mod Said
 mod Ranked
 mod Taken

@@ -14,8 +14,10 @@ use Rattle.outer_io.specs.Faults.{Rose}
 use Rattle.outer_io.specs.Files.{Files, file_or_empty}
 use Rattle.outer_io.specs.Lines.{input_limit}
 use Rattle.outer_io.specs.Told.{Told}
+use Rattle.plan_run.proofs.Unreported.{ended_early, read_unmade}
 use Rattle.plan_run.specs.Ends.{AreHeaded, HasReported, IsDoneOrLacking, HasRefusedInput, MissesNothing, PutsOrFails, SaysOfRun, TellsTruth}
 use Rattle.run_files.specs.Headed.{RefusesLast}
+use Rattle.run_files.specs.Leaving.{LeavesPlace}
 use Rattle.run_files.specs.Outside.{FailsToPut, file_of, PlaceSeen, Puts, Silent, SinkSeen}
 use Rattle.run_files.specs.declared.stop.Stop.{Stop}
 use Rattle.run_files.specs.declared.stop.Stop.TheVariants.{NoMemory, PlanRefused, ReadFault, WriteFault, FeedRefused}
@@ -137,12 +139,12 @@ module _ {P T : Type 0} (p : PlaceSeen P) (t : SinkSeen T) (place mid : P) (out 
       cc none
 
   says_at_feeds : (stop : Stop) (plan : Plan) (opens makes : List (List ℕ)) → ¬ Rose (t.faults out) (t.faults out1) → EndsAtFeeds t plan (p.files place) out out1 opens makes (Some stop)
-      → Silent t out out1 ⊎ ((opens : List (List ℕ)) × RefusesLast plan.schema (file_of (p.files place)) opens (Puts t out out1)) ⊎ HasReported p t place mid out out1 plan (Err stop)
+      → Silent t out out1 ⊎ ((opens : List (List ℕ)) × RefusesLast plan.schema (file_of (p.files place)) opens (Puts t out out1))
   says_at_feeds NoMemory plan opens makes quiet feeds = inl (feeds.silent (λ e. cc) (λ e. cc))
   says_at_feeds ReadFault plan opens makes quiet feeds = inl (feeds.silent (λ e. cc) (λ e. cc))
   says_at_feeds PlanRefused plan opens makes quiet feeds = absurd (feeds.ends.1 refl)
   says_at_feeds WriteFault plan opens makes quiet feeds = absurd (quiet (feeds.unsaid refl).refuses.says.faults)
-  says_at_feeds FeedRefused plan opens makes quiet feeds = inr (inl (opens, feeds.refused refl))
+  says_at_feeds FeedRefused plan opens makes quiet feeds = inr (opens, feeds.refused refl)
 
   -- the feed that is refused has no header
   refused_at_feeds : (stop : Stop) (plan : Plan) (opens makes : List (List ℕ)) → EndsAtFeeds t plan (p.files place) out out1 opens makes (Some stop) → stop ≡ FeedRefused
@@ -155,15 +157,18 @@ module _ {P T : Type 0} (p : PlaceSeen P) (t : SinkSeen T) (place mid : P) (out 
       let bad : feed_head plan.schema (file_or_empty files last.name) ≡ Err last.refuses.fault = subst (λ o. Told (file_of o last.name) (λ feed. feed_head plan.schema feed ≡ Err last.refuses.fault)) told last.refuses.refused in
       absurd (headless_here files plan last.name last.refuses.fault among bad headed))
 
-  pub opening_truth : (stop : Stop) (plan : Option Plan) (opens makes : List (List ℕ)) → ¬ Rose (t.faults out) (t.faults out1) → IfSome plan (InOrder stop opens makes) → IfSome plan (λ which. TellsTruth p t place mid out out1 which (Err stop))
-  opening_truth stop None opens makes quiet order = tt
-  opening_truth stop (Some plan) opens makes quiet (later, e, inl feeds) = record {
-    says = says_at_feeds stop plan later makes quiet feeds;
+  pub opening_truth : (stop : Stop) (plan : Option Plan) (opens makes inputs outs : List (List ℕ)) → ¬ Rose (p.write_faults place) (p.write_faults mid) → ¬ Rose (t.faults out) (t.faults out1) → LeavesPlace p place mid inputs outs (Some stop) → IfSome plan (InOrder stop opens makes)
+      → IfSome plan (λ which. TellsTruth p t place mid out out1 which (Err stop))
+  opening_truth stop None opens makes inputs outs no_write quiet leaves order = tt
+  opening_truth stop (Some plan) opens makes inputs outs no_write quiet leaves (later, e, inl feeds) = record {
+    says = inl (ended_early p t place mid out out1 plan inputs outs (Some stop) leaves no_write (says_at_feeds stop plan later makes quiet feeds));
     refused = λ is. refused_at_feeds stop plan later makes feeds (cc is);
+    read = λ is all. absurd (read_unmade p place mid plan inputs outs (Some stop) leaves (cc is) all);
   }
-  opening_truth stop (Some plan) opens makes quiet (later, e, inr scripts) = record {
-    says = inl scripts.silent;
+  opening_truth stop (Some plan) opens makes inputs outs no_write quiet leaves (later, e, inr scripts) = record {
+    says = inl (ended_early p t place mid out out1 plan inputs outs (Some stop) leaves no_write (inl scripts.silent));
     refused = λ is. absurd (scripts.ends.1 (cc is));
+    read = λ is all. absurd (read_unmade p place mid plan inputs outs (Some stop) leaves (cc is) all);
   }
 
   -- a run that created all its outputs did not end by a write while they were opened, unless the place's count rose

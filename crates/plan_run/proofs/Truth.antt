@@ -215,9 +215,12 @@ module _ {P I O T : Type 0} (p : PlaceSeen P) (i : PartSeen I) (s : SinkSeen O) 
       omega (arith, fed, asked, ended) in
       subst (λ k. RoseBy k (p.read_faults place) (p.read_faults place')) (sym same) (subst (RoseBy _ (p.read_faults place)) (sym (closes.journal.read_faults ∙ back.sinks_back.read_faults)) rose)
 
-  -- the report was not left out where the run did not end for want of memory
+  -- the report is left out only where the run ends for want of memory
+  pub said_lost : closes.said ≡ Err NoMemory → result ≡ Err NoMemory
+  said_lost lost = lacking result (subst (λ (e : End). rank_end result ≤ rank_end e) lost said_first)
+
   pub said_found : result ≢ Err NoMemory → closes.said ≢ Err NoMemory
-  said_found found lost = found (lacking result (subst (λ (e : End). rank_end result ≤ rank_end e) lost said_first))
+  said_found found lost = found (said_lost lost)
 
   pub wrote_found : result ≢ Err NoMemory → closes.wrote ≢ Err io.NoMemory
   wrote_found found lost = found (lacking result (subst (λ (r : Answer). rank_end result ≤ rank_end (write_end r)) lost wrote_first))

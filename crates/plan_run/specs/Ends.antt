@@ -92,16 +92,39 @@ module _ {P T : Type 0} (p : PlaceSeen P) (s : SinkSeen T) (place place' : P) (o
     -- no more of its lines say `stopped: Read` than the place's count of reading rose by
     pub reads : RoseBy (read_stops account) (p.read_faults place) (p.read_faults place')
 
+  -- The run of the plan ended before its threads, and put no report
+  pub record EndsBeforeThreads (plan : Plan) : Type 0 where
+    -- it put nothing, or the line of a refused feed which was opened last
+    pub puts : Silent s out out' ⊎ ((opens : List (List ℕ)) × RefusesLast plan.schema (file_of (p.files place)) opens (Puts s out out'))
+    -- it created these files
+    pub makes : List (List ℕ)
+    pub created : p.created place' ≡ p.created place ++ makes
+    -- and they are empty
+    pub empty : OfBothFiles (λ files files'. All (λ name. get files' name ≡ Some []) makes)
+
+  -- Its threads ran, and it put no report, for want of memory
+  pub record LacksReport (plan : Plan) (end : Result (Unit {0}) Stop) : Type 0 where
+    pub lacking : end ≡ Err NoMemory
+    -- it put nothing
+    pub silent : Silent s out out'
+    -- it created all its outputs
+    pub created : p.created place' ≡ p.created place ++ output_names plan
+    -- and the files begin with this, which it would have reported
+    pub account : Account
+    pub files : OfBothFiles (BeginsFiles plan end account)
+
   -- each feed's first line is a header of the plan's schema
   abbrev pub AreHeaded : Plan → Files → Type 0
   AreHeaded plan files = All (λ name. IsOk (feed_head plan.schema (file_or_empty files name))) plan.feeds
 
   -- What a run of the plan that ended so says where no write failed
   pub record TellsTruth (plan : Plan) (end : Result (Unit {0}) Stop) : Type 0 where
-    -- nothing, or the line of a refused feed which was opened last, or its whole report, which is true
-    pub says : Silent s out out' ⊎ ((opens : List (List ℕ)) × RefusesLast plan.schema (file_of (p.files place)) opens (Puts s out out')) ⊎ HasReported plan end
+    -- it ended before its threads and left its outputs empty, or found no memory for its report, or put it whole, and it is true
+    pub says : EndsBeforeThreads plan ⊎ LacksReport plan end ⊎ HasReported plan end
     -- with a refused feed it reports where each feed has a header
     pub refused : end ≡ Err FeedRefused → Told (p.files place) (λ files. AreHeaded plan files → HasReported plan end)
+    -- with a read fault it reports where it created all its outputs
+    pub read : end ≡ Err ReadFault → p.created place' ≡ p.created place ++ output_names plan → HasReported plan end
 
   -- the files of a run of the plan miss nothing
   abbrev pub MissesNothing : Plan → Type 0

@@ -1,5 +1,6 @@
 mod Apart
 mod Lists
+pub mod Emptied
 pub mod Stages
 pub mod Returning
 mod PlanReads

@@ -5,6 +5,7 @@ use Rattle.std.proofs.lemmas.List.Elements.{All-get_or}
 use Rattle.run_files.proofs.Lists.{All-front, All-back}
 use Rattle.outer_io.proofs.CountLaws.{RoseBy-zero, RoseBy-add}
 use Rattle.outer_io.specs.Faults.{Rose, RoseBy}
+use Rattle.outer_io.specs.Files.{Files, HasFile}
 use Rattle.run_files.specs.GivingBack.{faulty, TakesSources}
 use Rattle.run_files.proofs.Stages.{KeepsOthers-then}
 use Rattle.run_files.specs.Leaving.{LeavesPlace}
@@ -49,6 +50,10 @@ module _ {P : Type 0} (p : PlaceSeen P) where
     created = back.created ∙ stage.created;
     makes_all = stage.makes_all;
     opens_first = stage.opens_first;
+    read_first = stage.read_first;
+    emptied = λ quiet told.
+        subst (λ (files : Option Files). All (λ n. HasFile files n []) stage.makes) (sym back.files)
+        (stage.emptied (λ other. subst (λ n. ¬ Rose (p.write_faults a) n) back.write_faults (quiet other)) told);
     read = λ e. subst (λ n. Rose (p.read_faults a) n) (sym (back.quiet none)) (stage.read e);
     read_quiet = λ e. back.quiet none ∙ stage.read_quiet e;
     unwritten = λ e. back.write_faults ∙ stage.unwritten e;

@@ -1,17 +1,17 @@
 -- Scripts that are opened, and outputs that are created, one after another.
-use Rattle.std.proofs.Common.{All, Err, List, None, Ok, Option, Result, Some, [], ap, append_assoc, arith, inl, inr, lit<, map, refl, subst, sym, ℕ, ◌++◌, ◌∙◌, ◌∷◌, ◌≡◌, ◌≢◌, ◌⊎◌}
-use Rattle.std.proofs.lemmas.Bool.{cases_eq, false≢true}
-use Rattle.std.proofs.lemmas.List.Elements.{All-append, All-cons, All-contains, All-nil, All-weaker, Contains-append_cases, Contains-append_right}
-use Rattle.run_files.proofs.Apart.{none_not_some}
+use Rattle.std.proofs.Common.{All, Err, List, None, Ok, Option, Result, Some, [], ap, append_assoc, inl, inr, lit<, map, refl, subst, sym, ℕ, ◌++◌, ◌∙◌, ◌∷◌, ◌≡◌, ◌≢◌}
+use Rattle.std.proofs.lemmas.Bool.{false≢true}
+use Rattle.std.proofs.lemmas.List.Elements.{All-cons, All-nil}
 use Rattle.std.proofs.lemmas.List.{append-nil, map-append}
 use Rattle.outer_io.specs.Told.{Told}
 use Rattle.std.specs.List.{AllZip}
-use Rattle.std.specs.Prelude.{Contains, IsErrAnd, IsSome}
+use Rattle.std.specs.Prelude.{IsErrAnd, IsSome}
 use Rattle.std.specs.Result.{result_err}
 use Rattle.outer_io.specs.Cutting.{Cutter}
 use Rattle.outer_io.specs.Faults.{Rose}
 use Rattle.outer_io.specs.Files.{ChangesOnly, Files, HasFile}
-use Rattle.run_files.proofs.Lists.{AllZip-more, in_one}
+use Rattle.run_files.proofs.Emptied.{told_still}
+use Rattle.run_files.proofs.Lists.{AllZip-more}
 use Rattle.run_files.proofs.Stages.{KeepsOthers-same, leaves_and_creates, leaves_as_before, leaves_more, leaves_reading, leaves_then, leaves_unmade, nothing_made}
 use Rattle.run_files.proofs.Returning.{leaves_given_back}
 use Rattle.run_files.specs.GivingBack.{TakesSources}
@@ -45,108 +45,58 @@ KeepsOthers-one None after name h = tt
 KeepsOthers-one (Some files) None name h = absurd h
 KeepsOthers-one (Some files) (Some now) name h = λ other apart. h other (λ e. apart (0, lit< tt, sym e))
 
-told_still : (before after : Option Files) (names : List (List ℕ)) → KeepsOthers before after names → IsSome before → IsSome after
-told_still None after names kept told = absurd (false≢true told)
-told_still (Some files) None names kept told = absurd kept
-told_still (Some files) (Some now) names kept told = refl
-
 told_before : (before now : Option Files) (A : Type 0) → (IsSome before → IsSome now) → Told now (λ _. A) → Told before (λ _. A)
 told_before None now A told h = tt
 told_before (Some files) None A told h = absurd (false≢true (told refl))
 told_before (Some files) (Some x) A told h = h
 
--- two names are one, or are not
-one_or_two : (n m : List ℕ) → (n ≡ m) ⊎ (n ≡ m → ⊥)
-one_or_two [] [] = inl refl
-one_or_two [] (y ∷ m) = inr (λ e. cc)
-one_or_two (x ∷ n) [] = inr (λ e. cc)
-one_or_two (x ∷ n) (y ∷ m) =
-    elim (cases_eq x y) [
-      | inl same ↦ elim (one_or_two n m) [ inl rest ↦ inl (cc) | inr apart ↦ inr (λ e. apart (cc)) ]
-      | inr other ↦ inr (λ e. other (cc))
-    ]
-
--- a name stands among the names, or does not
-among_or_not : (names : List (List ℕ)) (n : List ℕ) → Contains names n ⊎ (Contains names n → ⊥)
-among_or_not [] n = inr (λ h. omega (arith, h.1))
-among_or_not (m ∷ names) n =
-    elim (one_or_two m n) [
-      | inl same ↦ inl (0, omega arith, same)
-      | inr apart ↦ elim (among_or_not names n) [
-        | inl within ↦ inl (Contains-append_right (m ∷ []) names n within)
-        | inr outside ↦ inr (λ h. elim (Contains-append_cases (m ∷ []) names n h) [ inl here ↦ apart (in_one m n here) | inr there ↦ outside there ])
-      ]
-    ]
-
--- a file that is empty is so after others were emptied
-empty_still : (b c : Option Files) (names : List (List ℕ)) (n : List ℕ) → IsSome b → KeepsOthers b c names → (Contains names n → ⊥) → HasFile b n [] → HasFile c n []
-empty_still None c names n told kept outside has = absurd (false≢true told)
-empty_still (Some fb) None names n told kept outside has = tt
-empty_still (Some fb) (Some fc) names n told kept outside has = kept n outside ∙ has
-
-emptied_after : (b c : Option Files) (first outputs makes : List (List ℕ)) → outputs ≡ makes → IsSome b → KeepsOthers b c makes → All (λ n. HasFile b n []) first → All (λ n. HasFile c n []) outputs → All (λ n. HasFile c n []) (first ++ outputs)
-emptied_after b c first outputs makes are told kept all later =
-    All-append (λ n. HasFile c n []) first outputs
-    (All-weaker (λ n. HasFile b n []) (λ n. HasFile c n [])
-    (λ n has. elim (among_or_not outputs n) [
-      | inl within ↦ All-contains (λ m. HasFile c m []) outputs n later within
-      | inr outside ↦ empty_still b c makes n told kept (λ h. outside (subst (λ (ns : List (List ℕ)). Contains ns n) (sym are) h)) has
-    ])
-    first all) later
-
 module _ {P : Type 0} (p : PlaceSeen P) where
   pub scripts_none : (a : P) → OpensScripts p a a [] [] None
   scripts_none a = record {
     leaves = leaves_reading p a a [] [] [] None refl (sym (append-nil _)) (λ _. refl) refl refl refl (λ e. cc) (λ _. refl);
-    emptied = λ _ _. All-nil (λ n. HasFile (p.files a) n []);
     write = λ e. cc;
     ends = none_ends;
   }
 
   -- nothing is opened or created, for want of memory
   pub scripts_nothing : (a : P) (inputs outputs : List (List ℕ)) → OpensScripts p a a inputs outputs (Some NoMemory)
-  scripts_nothing a inputs outputs = record { leaves = leaves_as_before p a inputs outputs NoMemory (λ e. cc); emptied = λ e. absurd (none_not_some NoMemory (sym e)); write = λ e. absurd (lacked_not_write e); ends = lacked_ends }
+  scripts_nothing a inputs outputs = record { leaves = leaves_as_before p a inputs outputs NoMemory (λ e. cc); write = λ e. absurd (lacked_not_write e); ends = lacked_ends }
 
   -- the scripts that were opened are given back
   pub scripts_given_back : (a b c : P) (inputs outputs : List (List ℕ)) (stop : Option Stop) (counts : List ℕ) → OpensScripts p a b inputs outputs stop → TakesSources p b c counts → All (λ n. n ≡ 0) counts → OpensScripts p a c inputs outputs stop
   scripts_given_back a b c inputs outputs stop counts one back none = record {
     leaves = leaves_given_back p a b c inputs outputs stop counts one.leaves back none;
-    emptied = λ e told. subst (λ (files : Option Files). All (λ n. HasFile files n []) outputs) (sym back.files) (one.emptied e told);
     write = λ e. subst (λ n. Rose (p.write_faults a) n) (sym back.write_faults) (one.write e);
     ends = one.ends;
   }
 
   -- one script is opened, or not
   pub script_one : (a b : P) (name : List ℕ) (stop : Option Stop) → stop ≢ Some WriteFault → (stop ≢ Some PlanRefused) × (stop ≢ Some FeedRefused) → LeavesPlace p a b (name ∷ []) [] stop → OpensScripts p a b (name ∷ []) [] stop
-  script_one a b name stop other ends leaves = record { leaves = leaves; emptied = λ _ _. All-nil (λ n. HasFile (p.files b) n []); write = λ e. absurd (other e); ends = ends }
+  script_one a b name stop other ends leaves = record { leaves = leaves; write = λ e. absurd (other e); ends = ends }
 
   -- one stage that reads alone and another are one
   pub scripts_then : (a b c : P) (first inputs outputs : List (List ℕ)) (stop : Option Stop) → OpensScripts p a b first [] None → OpensScripts p b c inputs outputs stop → OpensScripts p a c (first ++ inputs) outputs stop
   scripts_then a b c first inputs outputs stop one two = record {
     leaves = leaves_then p a b c first inputs outputs stop one.leaves two.leaves;
-    emptied = λ e told. two.emptied e (subst (λ (files : Option Files). IsSome files) (sym (one.leaves.untouched (nothing_made p a b first None one.leaves))) told);
     write = λ e. subst (λ n. Rose n (p.write_faults c)) (one.leaves.unwritten (nothing_made p a b first None one.leaves)) (two.write e);
     ends = two.ends;
   }
 
   -- and so are one and another that creates alone
-  pub scripts_and_creates : (a b c : P) (inputs first outputs : List (List ℕ)) (stop : Option Stop) → OpensScripts p a b inputs first None → OpensScripts p b c [] outputs stop → OpensScripts p a c inputs (first ++ outputs) stop
-  scripts_and_creates a b c inputs first outputs stop one two = record {
-    leaves = leaves_and_creates p a b c inputs first outputs stop one.leaves two.leaves;
-    emptied = λ e told.
-        let then_told = told_still (p.files a) (p.files b) one.leaves.makes one.leaves.others told in
-        emptied_after (p.files b) (p.files c) first outputs two.leaves.makes (two.leaves.outputs_are ∙ (ap (λ u. two.leaves.makes ++ u) (two.leaves.makes_all e) ∙ append-nil _)) then_told two.leaves.others (one.emptied refl told) (two.emptied e then_told);
+  pub scripts_and_creates : (a b c : P) (inputs first outputs : List (List ℕ)) (stop : Option Stop) → stop ≢ Some ReadFault → OpensScripts p a b inputs first None → OpensScripts p b c [] outputs stop → OpensScripts p a c inputs (first ++ outputs) stop
+  scripts_and_creates a b c inputs first outputs stop no_read one two = record {
+    leaves = leaves_and_creates p a b c inputs first outputs stop no_read one.leaves two.leaves;
     write = λ e. subst (λ n. Rose n (p.write_faults c)) (one.leaves.write_quiet (λ e. cc) (λ e. cc)) (two.write e);
     ends = two.ends;
   }
 
   -- the first trouble leaves the further scripts unopened
   pub scripts_more : (a b : P) (inputs more outputs : List (List ℕ)) (stop : Stop) → OpensScripts p a b inputs [] (Some stop) → OpensScripts p a b (inputs ++ more) outputs (Some stop)
-  scripts_more a b inputs more outputs stop one = record { leaves = leaves_more p a b inputs more outputs stop one.leaves; emptied = λ e. absurd (none_not_some stop (sym e)); write = one.write; ends = one.ends }
+  scripts_more a b inputs more outputs stop one = record { leaves = leaves_more p a b inputs more outputs stop one.leaves; write = one.write; ends = one.ends }
 
   -- and the further outputs not created
   pub scripts_unmade : (a b : P) (inputs outputs more : List (List ℕ)) (stop : Stop) → OpensScripts p a b inputs outputs (Some stop) → OpensScripts p a b inputs (outputs ++ more) (Some stop)
-  scripts_unmade a b inputs outputs more stop one = record { leaves = leaves_unmade p a b inputs outputs more stop one.leaves; emptied = λ e. absurd (none_not_some stop (sym e)); write = one.write; ends = one.ends }
+  scripts_unmade a b inputs outputs more stop one = record { leaves = leaves_unmade p a b inputs outputs more stop one.leaves; write = one.write; ends = one.ends }
 
   -- the first trouble, where `?` hands it on
   pub scripts_residual : {T : Type 0} (a b : P) (names first more outputs : List (List ℕ)) (r : Result T Stop) (stop : Stop) → names ≡ first ++ more → IsErrAnd r (λ e. e ≡ stop) → OpensScripts p a b first [] (Some stop) → OpensScripts p a b names outputs (result_err r)
@@ -161,10 +111,9 @@ module _ {P : Type 0} (p : PlaceSeen P) where
 
   -- one output is asked for, and noted
   pub creates_one : (a b : P) (name : List ℕ) (stop : Option Stop) → p.created b ≡ p.created a ++ name ∷ [] → p.opened b ≡ p.opened a → p.read_faults b ≡ p.read_faults a → ChangesOnly (p.files a) (p.files b) name
-      → (stop ≡ None → HasFile (p.files b) name []) → stop ≢ Some ReadFault → (stop ≡ Some WriteFault → Rose (p.write_faults a) (p.write_faults b)) → (stop ≢ Some WriteFault → p.write_faults b ≡ p.write_faults a) → (stop ≢ Some PlanRefused) × (stop ≢ Some FeedRefused)
+      → ((stop ≢ None → ¬ Rose (p.write_faults a) (p.write_faults b)) → HasFile (p.files b) name []) → stop ≢ Some ReadFault → (stop ≡ Some WriteFault → Rose (p.write_faults a) (p.write_faults b)) → (stop ≢ Some WriteFault → p.write_faults b ≡ p.write_faults a) → (stop ≢ Some PlanRefused) × (stop ≢ Some FeedRefused)
       → OpensScripts p a b [] (name ∷ []) stop
   creates_one a b name stop created opened read others empty no_read write quiet ends = record {
-    emptied = λ e _. All-cons (λ n. HasFile (p.files b) n []) name [] (empty e) (All-nil (λ n. HasFile (p.files b) n []));
     leaves = record {
       opens = [];
       unopened = [];
@@ -177,6 +126,8 @@ module _ {P : Type 0} (p : PlaceSeen P) where
       created = created;
       makes_all = λ _. refl;
       opens_first = inr refl;
+      read_first = λ e. absurd (no_read e);
+      emptied = λ quiet _. All-cons (λ n. HasFile (p.files b) n []) name [] (empty quiet) (All-nil (λ n. HasFile (p.files b) n []));
       read = λ e. absurd (no_read e);
       read_quiet = λ _. read;
       unwritten = λ e. cc;
@@ -203,6 +154,8 @@ module _ {P : Type 0} (p : PlaceSeen P) where
       created = created ∙ sym (append-nil _);
       makes_all = λ e. cc;
       opens_first = inl refl;
+      read_first = λ _. refl;
+      emptied = λ _ _. All-nil (λ n. HasFile (p.files b) n []);
       read = λ e. cc;
       read_quiet = λ _. read;
       unwritten = λ _. write;
@@ -210,7 +163,6 @@ module _ {P : Type 0} (p : PlaceSeen P) where
       untouched = λ _. files;
       others = KeepsOthers-same _ _ [] files;
     };
-    emptied = λ e. absurd (none_not_some NoMemory (sym e));
     write = λ e. absurd (lacked_not_write e);
     ends = lacked_ends;
   }

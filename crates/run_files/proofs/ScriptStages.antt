@@ -1,10 +1,12 @@
 -- Scripts opened and outputs created, both after each other, and given back.
-use Rattle.std.proofs.Common.{◌≡◌, ◌≢◌, ℕ, List, [], ◌∷◌, ◌++◌, map, Option, None, Result, Err, inl, inr, refl, sym, ◌∙◌, ap, append_assoc}
+use Rattle.std.proofs.Common.{All, Some, ◌≡◌, ◌≢◌, ℕ, List, [], ◌∷◌, ◌++◌, map, Option, None, Result, Err, inl, inr, refl, sym, ◌∙◌, ap, append_assoc}
 use Rattle.std.specs.List.{AllZip}
 use Rattle.std.specs.Prelude.{IsSome}
-use Rattle.std.proofs.lemmas.List.{append-nil}
+use Rattle.std.proofs.lemmas.Bool.{false≢true}
+use Rattle.std.proofs.lemmas.List.Elements.{All-cons, All-nil}
 use Rattle.outer_io.specs.Files.{Files}
 use Rattle.run_files.proofs.ScriptReads.{output_later}
+use Rattle.run_files.proofs.Stages.{all_made}
 use Rattle.run_files.proofs.SinkReturns.{ends_with}
 use Rattle.run_files.specs.Outside.{PlaceSeen, SinkSeen}
 use Rattle.run_files.specs.Scripted.{IsOutput, OpensScripts}
@@ -27,8 +29,7 @@ module _ {P : Type 0} (p : PlaceSeen P) where
   -- what a stage created that goes on
   pub created_all : (a b : P) (names : List (List ℕ)) → OpensScripts p a b [] names None → p.created b ≡ p.created a ++ names
   created_all a b names one =
-      let all : names ≡ one.leaves.makes = one.leaves.outputs_are ∙ (ap (λ u. one.leaves.makes ++ u) (one.leaves.makes_all refl) ∙ append-nil _) in
-      one.leaves.created ∙ ap (λ m. p.created a ++ m) (sym all)
+      one.leaves.created ∙ ap (λ m. p.created a ++ m) (sym (all_made p a b [] names one.leaves))
 
   -- and what the one after it created
   pub created_both : {O : Type 0} (s : SinkSeen O) (files files' : Option Files) (a b c : P) (first second last : List (List ℕ)) (xs ys : List O) (stop : Option Stop) → OpensScripts p a b [] (first ++ second) None → OpensScripts p b c [] last stop
@@ -48,3 +49,12 @@ outputs_later s before now [] [] told all = tt
 outputs_later s before now [] (k ∷ sinks) told all = absurd all
 outputs_later s before now (n ∷ names) [] told all = absurd all
 outputs_later s before now (n ∷ names) (k ∷ sinks) told all = (output_later s before now n k told all.0, outputs_later s before now names sinks told all.1)
+
+-- and so do those that were made over files that are told
+pub outputs_hold_nothing : {O : Type 0} (s : SinkSeen O) (files : Option Files) (names : List (List ℕ)) (sinks : List O) → AllZip (IsOutput s files) names sinks → IsSome files → All (λ sink. s.held sink ≡ Some []) sinks
+outputs_hold_nothing s None names sinks all told = absurd (false≢true told)
+outputs_hold_nothing s (Some files) [] [] all told = All-nil (λ sink. s.held sink ≡ Some [])
+outputs_hold_nothing s (Some files) [] (k ∷ sinks) all told = absurd all
+outputs_hold_nothing s (Some files) (n ∷ names) [] all told = absurd all
+outputs_hold_nothing s (Some files) (n ∷ names) (k ∷ sinks) all told =
+    All-cons (λ sink. s.held sink ≡ Some []) k sinks all.0.holds_nothing (outputs_hold_nothing s (Some files) names sinks all.1 told)

@@ -4,7 +4,7 @@ use Rattle.std.specs.List.{AllPairs, AllZip, Contains, fold}
 use Rattle.std.specs.FinMap.{get}
 use Rattle.std.specs.Prelude.{IsSome, IsSomeAnd, OnOk}
 use Rattle.std.proofs.lemmas.List.{map-append, get_or_append_left, length-append}
-use Rattle.std.proofs.lemmas.List.Elements.{All-cons, All-contains, All-head, All-nil, All-tail, Contains-append_cases, Contains-append_left, Contains-append_right, Contains-push_cases}
+use Rattle.std.proofs.lemmas.List.Elements.{All-cons, All-contains, All-head, All-nil, All-tail, All-weaker, Contains-append_cases, Contains-append_left, Contains-append_right, Contains-push_cases}
 use Rattle.std.proofs.lemmas.List.Sums.{fold-append}
 use Rattle.outer_io.proofs.ToldLaws.{Told-each}
 use Rattle.outer_io.specs.Asking.{CountsPart}
@@ -15,6 +15,7 @@ use Rattle.outer_io.specs.declared.fault.IoFault.{IoFault}
 use Rattle.outer_io.specs.declared.fault.IoFault.TheVariants as fault
 use Rattle.run_files.proofs.Apart.{none_not_some, ok_not_err, same_stop}
 use Rattle.std.proofs.lemmas.Bool.{false≢true}
+use Rattle.run_files.proofs.Emptied.{empty_given, told_still}
 use Rattle.run_files.proofs.Lists.{All-back, All-front, AllZip-more, in_one}
 use Rattle.run_files.proofs.ScriptReads.{KeepsOthers-one, lacked_not_write}
 use Rattle.run_files.proofs.Stages.{back_nil, KeepsOthers-itself, KeepsOthers-more}
@@ -172,6 +173,7 @@ module _ {P O : Type 0} (p : PlaceSeen P) (s : SinkSeen O) where
     result_is = refl;
     lands = λ _ _. tt;
     others = KeepsOthers-itself _ [];
+    still_empty = λ _ _ _ has. has;
     failed = λ h. absurd (omega (arith, h.1));
     met = λ sink h. absurd (omega (arith, h.1));
     quiet = λ _. refl;
@@ -205,6 +207,10 @@ module _ {P O : Type 0} (p : PlaceSeen P) (s : SinkSeen O) where
             sinks one.answers (All-unmap (λ n. n ≢ s.name last) s.name sinks others_far) (one.lands told (apart_front (map s.name sinks) (s.name last) far)))
             (lands_last (p.files a) (p.files b) (p.files c) (map s.name sinks) (s.name last) (s.held last) r told one.others kept (λ within. All-contains (λ n. n ≢ s.name last) (map s.name sinks) (s.name last) others_far within refl) lands);
         others = subst (λ (ns : List (List ℕ)). KeepsOthers (p.files a) (p.files c) ns) (sym names) (KeepsOthers-more (p.files a) (p.files b) (p.files c) (map s.name sinks) (s.name last ∷ []) one.others kept);
+        still_empty = λ told hold name has.
+            let front = All-front (λ sink. s.held sink ≡ Some []) sinks (last ∷ []) hold in
+            let end = All-head (λ sink. s.held sink ≡ Some []) last [] (All-back (λ sink. s.held sink ≡ Some []) sinks (last ∷ []) hold) in
+            empty_given (p.files b) (p.files c) (s.name last) name (s.held last) r (told_still (p.files a) (p.files b) (map s.name sinks) one.others told) end kept lands (one.still_empty told front name has);
         failed = λ h. elim (Contains-push_cases one.answers r (Err fault.Failed) h) [ inl before ↦ rose_grown _ _ _ (one.failed before) grow | inr now ↦ grown_rose _ _ _ one.grows (failed_rises (p.write_faults b) (p.write_faults c) (s.faults last) r counts now) ];
         met = λ sink h rose. elim (Contains-push_cases sinks last sink h) [ inl before ↦ rose_grown _ _ _ (one.met sink before rose) grow | inr now ↦ grown_rose _ _ _ one.grows (counts.rose (subst (λ (k : O). Rose 0 (s.faults k)) (sym now) rose)) ];
         quiet = both_well (All (λ sink. s.faults sink ≡ 0) sinks → p.write_faults b ≡ p.write_faults a) (s.faults last ≡ 0 → p.write_faults c ≡ p.write_faults b) (All (λ sink. s.faults sink ≡ 0) (sinks ++ last ∷ []) → p.write_faults c ≡ p.write_faults a) e r one.quiet
@@ -275,8 +281,8 @@ ends_with stop stop' (Err f) e = elim (one_of (nat_lt (rank_of f) (rank_of stop)
 module _ {P O : Type 0} (p : PlaceSeen P) (s : SinkSeen O) where
   -- a stage that creates and ends the run gives back what it created, and leaves what it left, by how both ended
   pub creates_given_back : (a b c : P) (names first rest : List (List ℕ)) (sinks : List O) (stop stop' : Stop) (gave : Result (Unit {0}) Stop) → OpensScripts p a b [] names (Some stop) → TakesSinks p s b c sinks gave
-      → p.created b ≡ p.created a ++ (first ++ (map s.name sinks ++ rest)) → stop ≢ ReadFault → joined_ends (Err stop) gave ≡ Err stop' → OpensScripts p a c [] names (Some stop')
-  creates_given_back a b c names first rest sinks stop stop' gave one back made no_read is =
+      → p.created b ≡ p.created a ++ (first ++ (map s.name sinks ++ rest)) → (IsSome (p.files a) → All (λ sink. s.held sink ≡ Some []) sinks) → stop ≢ ReadFault → joined_ends (Err stop) gave ≡ Err stop' → OpensScripts p a c [] names (Some stop')
+  creates_given_back a b c names first rest sinks stop stop' gave one back made hold no_read is =
       let makes : one.leaves.makes ≡ first ++ (map s.name sinks ++ rest) = cancel (p.created a) one.leaves.makes (first ++ (map s.name sinks ++ rest)) (sym one.leaves.created ∙ made) in
       let nothing : one.leaves.makes ≡ [] → c ≡ b = λ e. back.none (front_of_nil s.name sinks rest (back_nil first (map s.name sinks ++ rest) (sym makes ∙ e))) in
       let ended = ends_with stop stop' gave is in
@@ -297,6 +303,11 @@ module _ {P O : Type 0} (p : PlaceSeen P) (s : SinkSeen O) where
           created = back.created ∙ one.leaves.created;
           makes_all = λ e. absurd (none_not_some _ (sym e));
           opens_first = one.leaves.opens_first;
+          read_first = λ e. absurd (read' (same_stop _ _ e));
+          emptied = λ quiet told.
+              let unrisen : ¬ Rose (p.write_faults a) (p.write_faults b) = λ rose. quiet (λ e. none_not_some _ (sym e)) (rose_grown _ _ _ rose back.grows) in
+              All-weaker (λ n. HasFile (p.files b) n []) (λ n. HasFile (p.files c) n []) (λ n has. back.still_empty (told_still (p.files a) (p.files b) one.leaves.makes one.leaves.others told) (hold told) n has) one.leaves.makes
+              (one.leaves.emptied (λ _. unrisen) told);
           read = λ e. absurd (read' (same_stop _ _ e));
           read_quiet = λ _. reads;
           unwritten = λ e. ap p.write_faults (nothing e) ∙ one.leaves.unwritten e;
@@ -305,7 +316,6 @@ module _ {P O : Type 0} (p : PlaceSeen P) (s : SinkSeen O) where
           others = KeepsOthers-fewer (p.files a) (p.files c) one.leaves.makes (map s.name sinks) (λ n within. subst (λ (ns : List (List ℕ)). Contains ns n) (sym makes) (Contains-append_right first (map s.name sinks ++ rest) n (Contains-append_left (map s.name sinks) rest n within)))
               (KeepsOthers-more (p.files a) (p.files b) (p.files c) one.leaves.makes (map s.name sinks) one.leaves.others back.others);
         };
-        emptied = λ e. absurd (none_not_some _ (sym e));
         write = λ e.
             let end = same_stop _ _ e in
             elim (write_or_not stop) [

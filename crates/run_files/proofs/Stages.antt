@@ -1,10 +1,12 @@
 -- What one stage of a run leaves, and two after each other.
-use Rattle.std.proofs.Common.{◌≡◌, ◌≢◌, ℕ, List, [], ◌∷◌, ◌++◌, Option, Some, None, Result, Ok, Err, inl, inr, refl, sym, ◌∙◌, ap, subst, append_assoc}
+use Rattle.std.proofs.Common.{All, ◌≡◌, ◌≢◌, ℕ, List, [], ◌∷◌, ◌++◌, Option, Some, None, Result, Ok, Err, inl, inr, refl, sym, ◌∙◌, ap, subst, append_assoc}
 use Rattle.std.proofs.lemmas.List.{append-nil}
-use Rattle.std.proofs.lemmas.List.Elements.{Contains-append_left, Contains-append_right}
+use Rattle.std.proofs.lemmas.List.Elements.{All-nil, Contains-append_left, Contains-append_right}
+use Rattle.std.specs.Prelude.{IsSome}
 use Rattle.std.specs.Result.{result_err}
 use Rattle.outer_io.specs.Faults.{Rose}
-use Rattle.outer_io.specs.Files.{Files}
+use Rattle.outer_io.specs.Files.{Files, HasFile}
+use Rattle.run_files.proofs.Emptied.{emptied_after, told_still}
 use Rattle.run_files.specs.Leaving.{KeepsOthers, LeavesPlace}
 use Rattle.run_files.specs.Outside.{PlaceSeen}
 use Rattle.run_files.specs.declared.stop.Stop.{Stop}
@@ -56,6 +58,14 @@ module _ {P : Type 0} (p : PlaceSeen P) where
   pub all_opened : (a b : P) (inputs outputs : List (List ℕ)) (stage : LeavesPlace p a b inputs outputs None) → inputs ≡ stage.opens
   all_opened a b inputs outputs stage = stage.inputs_are ∙ (ap (λ u. stage.opens ++ u) (stage.opens_all refl) ∙ append-nil _)
 
+  -- one after which the run goes on created all its outputs
+  pub all_made : (a b : P) (inputs outputs : List (List ℕ)) (stage : LeavesPlace p a b inputs outputs None) → outputs ≡ stage.makes
+  all_made a b inputs outputs stage = stage.outputs_are ∙ (ap (λ u. stage.makes ++ u) (stage.makes_all refl) ∙ append-nil _)
+
+  -- and these are empty
+  pub all_empty : (a b : P) (inputs outputs : List (List ℕ)) → LeavesPlace p a b inputs outputs None → IsSome (p.files a) → All (λ name. HasFile (p.files b) name []) outputs
+  all_empty a b inputs outputs stage told = subst (λ names. All (λ name. HasFile (p.files b) name []) names) (sym (all_made a b inputs outputs stage)) (stage.emptied (λ other. absurd (other refl)) told)
+
   -- a stage that reads alone, and opened these of its names
   unfoldable pub leaves_reading : (a b : P) (inputs opens unopened : List (List ℕ)) (stop : Option Stop) → inputs ≡ opens ++ unopened → p.opened b ≡ p.opened a ++ opens → (stop ≡ None → unopened ≡ [])
       → p.created b ≡ p.created a → p.write_faults b ≡ p.write_faults a → p.files b ≡ p.files a
@@ -72,6 +82,8 @@ module _ {P : Type 0} (p : PlaceSeen P) where
     created = created ∙ sym (append-nil _);
     makes_all = λ _. refl;
     opens_first = inl refl;
+    read_first = λ _. refl;
+    emptied = λ _ _. All-nil (λ n. HasFile (p.files b) n []);
     read = read;
     read_quiet = quiet;
     unwritten = λ _. write;
@@ -111,6 +123,8 @@ module _ {P : Type 0} (p : PlaceSeen P) where
     created = sym (append-nil _);
     makes_all = λ e. cc;
     opens_first = inl refl;
+    read_first = λ _. refl;
+    emptied = λ _ _. All-nil (λ n. HasFile (p.files a) n []);
     read = λ e. absurd (other (cc));
     read_quiet = λ _. refl;
     unwritten = λ _. refl;
@@ -136,6 +150,8 @@ module _ {P : Type 0} (p : PlaceSeen P) where
         created = two.created ∙ ap (λ m. m ++ two.makes) (one.created ∙ (ap (λ m. p.created a ++ m) nothing ∙ append-nil _));
         makes_all = two.makes_all;
         opens_first = two.opens_first;
+        read_first = two.read_first;
+        emptied = λ quiet told. two.emptied (λ other. subst (λ n. ¬ Rose n (p.write_faults c)) (sym (one.unwritten nothing)) (quiet other)) (subst (λ (files : Option Files). IsSome files) (sym (one.untouched nothing)) told);
         read = λ e. subst (λ n. Rose n (p.read_faults c)) (one.read_quiet (λ e. cc)) (two.read e);
         read_quiet = λ e. two.read_quiet e ∙ one.read_quiet (λ e. cc);
         unwritten = λ e. two.unwritten e ∙ one.unwritten nothing;
@@ -160,6 +176,8 @@ module _ {P : Type 0} (p : PlaceSeen P) where
         created = one.created ∙ ap (λ m. p.created a ++ m) nothing;
         makes_all = λ e. cc;
         opens_first = inl refl;
+        read_first = λ _. refl;
+        emptied = λ _ _. All-nil (λ n. HasFile (p.files b) n []);
         read = one.read;
         read_quiet = one.read_quiet;
         unwritten = λ _. one.unwritten nothing;
@@ -169,10 +187,11 @@ module _ {P : Type 0} (p : PlaceSeen P) where
       }
 
   -- after stages that opened all, and go on, another that only creates leaves what they leave together
-  unfoldable pub leaves_and_creates : (a b c : P) (inputs first outputs : List (List ℕ)) (stop : Option Stop) → LeavesPlace p a b inputs first None → LeavesPlace p b c [] outputs stop → LeavesPlace p a c inputs (first ++ outputs) stop
-  leaves_and_creates a b c inputs first outputs stop one two =
+  unfoldable pub leaves_and_creates : (a b c : P) (inputs first outputs : List (List ℕ)) (stop : Option Stop) → stop ≢ Some ReadFault → LeavesPlace p a b inputs first None → LeavesPlace p b c [] outputs stop → LeavesPlace p a c inputs (first ++ outputs) stop
+  leaves_and_creates a b c inputs first outputs stop no_read one two =
       let none_opened = front_nil two.opens two.unopened two.inputs_are in
-      let whole : first ≡ one.makes = one.outputs_are ∙ (ap (λ u. one.makes ++ u) (one.makes_all refl) ∙ append-nil _) in
+      let whole = all_made a b inputs first one in
+      let same : p.write_faults b ≡ p.write_faults a = one.write_quiet (λ e. cc) (λ e. cc) in
       record {
         opens = one.opens;
         unopened = one.unopened;
@@ -185,10 +204,14 @@ module _ {P : Type 0} (p : PlaceSeen P) where
         created = two.created ∙ (ap (λ o. o ++ two.makes) one.created ∙ append_assoc (p.created a) one.makes two.makes);
         makes_all = two.makes_all;
         opens_first = inr (one.opens_all refl);
+        read_first = λ e. absurd (no_read e);
+        emptied = λ quiet told.
+            let then_told = told_still (p.files a) (p.files b) one.makes one.others told in
+            emptied_after (p.files b) (p.files c) one.makes two.makes then_told two.others (one.emptied (λ other. absurd (other refl)) told) (two.emptied (λ other. subst (λ n. ¬ Rose n (p.write_faults c)) (sym same) (quiet other)) then_told);
         read = λ e. subst (λ n. Rose n (p.read_faults c)) (one.read_quiet (λ e. cc)) (two.read e);
         read_quiet = λ e. two.read_quiet e ∙ one.read_quiet (λ e. cc);
-        unwritten = λ e. two.unwritten (back_nil one.makes two.makes e) ∙ one.write_quiet (λ e. cc) (λ e. cc);
-        write_quiet = λ e f. two.write_quiet e f ∙ one.write_quiet (λ e. cc) (λ e. cc);
+        unwritten = λ e. two.unwritten (back_nil one.makes two.makes e) ∙ same;
+        write_quiet = λ e f. two.write_quiet e f ∙ same;
         untouched = λ e. two.untouched (back_nil one.makes two.makes e) ∙ one.untouched (front_nil one.makes two.makes (sym e));
         others = KeepsOthers-more _ _ _ one.makes two.makes one.others two.others;
       }
@@ -207,6 +230,8 @@ module _ {P : Type 0} (p : PlaceSeen P) where
     created = one.created;
     makes_all = λ e. cc;
     opens_first = one.opens_first;
+    read_first = one.read_first;
+    emptied = one.emptied;
     read = one.read;
     read_quiet = one.read_quiet;
     unwritten = one.unwritten;

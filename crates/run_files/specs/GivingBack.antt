@@ -1,5 +1,5 @@
 -- What giving parts back leaves of a place.
-use Rattle.std.specs.Prelude.{◌≡◌, ◌≢◌, ℕ, ◌==◌, ◌≤◌, not, List, [], length, map, fold, All, AllPairs, Contains, count_by, Option, Result, Ok, Err, IsSome, IsSomeAnd, OnOk}
+use Rattle.std.specs.Prelude.{◌≡◌, ◌≢◌, ℕ, ◌==◌, ◌≤◌, not, List, [], length, map, fold, All, AllPairs, Contains, count_by, Option, Some, Result, Ok, Err, IsSome, IsSomeAnd, OnOk}
 use Rattle.std.specs.FinMap.{get}
 use Rattle.std.specs.List.{AllZip}
 use Rattle.outer_io.specs.Faults.{Rose, RoseBy}
@@ -45,6 +45,8 @@ pub record TakesSinks {P O : Type 0} (p : PlaceSeen P) (s : SinkSeen O) (before 
   pub lands : IsSome (p.files before) → AllPairs (λ n m. n ≢ m) (map s.name sinks) → AllZip (λ sink answer. Lands (p.files before) (p.files after) (s.name sink) (s.held sink) answer) sinks answers
   -- and every other file is as before
   pub others : KeepsOthers (p.files before) (p.files after) (map s.name sinks)
+  -- a file that was empty still is where the sinks hold nothing, also where giving them back failed
+  pub still_empty : IsSome (p.files before) → All (λ sink. s.held sink ≡ Some []) sinks → (name : List ℕ) → HasFile (p.files before) name [] → HasFile (p.files after) name []
   -- the count of writing rose where a giving back failed or a sink met faults, is as before where neither is so, and never fell
   pub failed : Contains answers (Err fault.Failed) → Rose (p.write_faults before) (p.write_faults after)
   pub met : (sink : O) → Contains sinks sink → Rose 0 (s.faults sink) → Rose (p.write_faults before) (p.write_faults after)

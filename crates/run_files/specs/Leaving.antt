@@ -1,8 +1,8 @@
 -- What a stage of a run leaves of a place.
-use Rattle.std.specs.Prelude.{◌≡◌, ◌≢◌, ℕ, List, [], ◌++◌, Contains, Option, Some, None, IsSomeAnd, ◌⊎◌}
+use Rattle.std.specs.Prelude.{◌≡◌, ◌≢◌, ℕ, List, [], ◌++◌, All, Contains, Option, Some, None, IsSome, IsSomeAnd, ◌⊎◌}
 use Rattle.std.specs.FinMap.{get}
 use Rattle.outer_io.specs.Faults.{Rose}
-use Rattle.outer_io.specs.Files.{Files}
+use Rattle.outer_io.specs.Files.{Files, HasFile}
 use Rattle.outer_io.specs.Told.{Told}
 use Rattle.run_files.specs.Outside.{PlaceSeen}
 use Rattle.run_files.specs.declared.stop.Stop.{Stop}
@@ -29,6 +29,10 @@ pub record LeavesPlace {P : Type 0} (p : PlaceSeen P) (before after : P) (inputs
   pub makes_all : stop ≡ None → unmade ≡ []
   -- none before all inputs were opened
   pub opens_first : (makes ≡ []) ⊎ (unopened ≡ [])
+  -- a read fault comes before any is created
+  pub read_first : stop ≡ Some ReadFault → makes ≡ []
+  -- each file that was created is empty, where the files are told, and where the run goes on or no write failed
+  pub emptied : (stop ≢ None → ¬ Rose (p.write_faults before) (p.write_faults after)) → IsSome (p.files before) → All (λ name. HasFile (p.files after) name []) makes
   -- the count of reading rose where a read fault ends the run, and else is as before
   pub read : stop ≡ Some ReadFault → Rose (p.read_faults before) (p.read_faults after)
   pub read_quiet : stop ≢ Some ReadFault → p.read_faults after ≡ p.read_faults before

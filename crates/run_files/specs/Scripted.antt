@@ -1,11 +1,11 @@
 -- Scripts that were opened, the outputs that were created for them, and what both leave.
-use Rattle.std.specs.Prelude.{All, IsSome, List, None, Option, Some, [], ℕ, ◌≡◌, ◌≢◌}
+use Rattle.std.specs.Prelude.{List, Option, Some, [], ℕ, ◌≡◌, ◌≢◌}
 use Rattle.std.specs.List.{AllZip}
 use Rattle.cube_schema.specs.Repeats.{outputs}
 use Rattle.cube_schema.specs.declared.plan.Plan.{Plan}
 use Rattle.outer_io.specs.Cutting.{Cutter, IsNew}
 use Rattle.outer_io.specs.Faults.{Rose}
-use Rattle.outer_io.specs.Files.{Files, HasFile}
+use Rattle.outer_io.specs.Files.{Files}
 use Rattle.outer_io.specs.Told.{Told}
 use Rattle.run_files.specs.Leaving.{LeavesPlace}
 use Rattle.run_files.specs.Outside.{file_of, PlaceSeen, SinkSeen}
@@ -28,8 +28,6 @@ pub record IsOutput {O : Type 0} (s : SinkSeen O) (files : Option Files) (name :
 -- What opening scripts and creating outputs leaves of a place, by what ends the run with it, if it does
 pub record OpensScripts {P : Type 0} (p : PlaceSeen P) (before after : P) (inputs outputs : List (List ℕ)) (stop : Option Stop) : Type 0 where
   pub leaves : LeavesPlace p before after inputs outputs stop
-  -- where the run goes on each file that was created is empty, where the files are told
-  pub emptied : stop ≡ None → IsSome (p.files before) → All (λ name. HasFile (p.files after) name []) outputs
   -- a write fault has its cause
   pub write : stop ≡ Some WriteFault → Rose (p.write_faults before) (p.write_faults after)
   -- no other end comes than those of the place and want of memory

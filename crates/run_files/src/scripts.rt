@@ -1,5 +1,5 @@
 //! The scripts of a run: all are opened, and then the files for their replies are created, and last the journal.
-ghost use Rattle.std.specs.Prelude.{◌≡◌, ◌≢◌, ◌≤◌, Err, ℕ, List, [], ◌∷◌, ◌++◌, All, IfOk, OnOk, codes, map, length, vec_len, vec_capacity};
+ghost use Rattle.std.specs.Prelude.{◌≡◌, ◌≢◌, ◌≤◌, Err, ℕ, List, [], ◌∷◌, ◌++◌, All, IfOk, IsSome, OnOk, Some, codes, map, length, vec_len, vec_capacity};
 ghost use Rattle.std.specs.Result.{result_err};
 ghost use Rattle.cube_schema.specs.Files.{output_names};
 ghost use Rattle.cube_schema.specs.Repeats.{outputs};
@@ -111,6 +111,7 @@ fn create_each<P: Place>(
     requires room { length scripts.now ≤ vec_capacity sinks.old }
     ensures opens { OpensScripts (seen_place P.files P.read_faults P.write_faults P.opened P.created) place.old place.new [] (outputs scripts.now) (result_err result) }
     ensures no_read { result ≢ Err Stop.ReadFault }
+    ensures hold_nothing { IsSome (P.files place.old) → All (λ sink. P.Out.held sink ≡ Some []) sinks.new.items }
     ensures names { (rest : List (List ℕ)) × (P.created place.new ≡ P.created place.old ++ (map P.Out.name sinks.new.items ++ rest)) }
     ensures quiet { All (λ sink. P.Out.faults sink ≡ 0) sinks.new.items }
     ensures outputs { OnOk result (AllZip (IsOutput (seen_sink P.Out.held P.Out.faults P.Out.name) (P.files place.old)) (outputs scripts.now) sinks.new.items) }
@@ -218,6 +219,7 @@ fn create_all<P: Place>(
     place: &mut P,
 ) -> Result<(List<P::Out>, List<P::Out>, P::Out), Stop>
     ensures opens { OpensScripts (seen_place P.files P.read_faults P.write_faults P.opened P.created) place.old place.new [] (output_names plan.now) (result_err result) }
+    ensures no_read { result ≢ Err Stop.ReadFault }
     ensures asks { IfOk result (λ made. AllZip (IsOutput (seen_sink P.Out.held P.Out.faults P.Out.name) (P.files place.old)) (outputs plan.now.asks) made.0) }
     ensures finals { IfOk result (λ made. AllZip (IsOutput (seen_sink P.Out.held P.Out.faults P.Out.name) (P.files place.old)) (outputs plan.now.finals) made.1) }
     ensures journal { IfOk result (λ made. IsOutput (seen_sink P.Out.held P.Out.faults P.Out.name) (P.files place.old) plan.now.journal made.2) }

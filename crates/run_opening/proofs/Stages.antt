@@ -1,12 +1,12 @@
 -- The stages of opening a run, one after another.
 use Rattle.std.proofs.Common.{◌≡◌, ◌≢◌, ℕ, List, [], ◌∷◌, ◌++◌, Option, Some, None, Result, Ok, Err, All, inl, inr, refl, sym, ap, subst, arith}
 use Rattle.std.proofs.lemmas.List.{append-nil}
-use Rattle.std.specs.Prelude.{IfSome, IsErrAnd, IsSome, ◌⊎◌}
+use Rattle.std.specs.Prelude.{IfSome, IsErrAnd, ◌⊎◌}
 use Rattle.std.specs.Result.{result_err}
 use Rattle.cube_schema.specs.Files.{input_names, output_names}
 use Rattle.cube_schema.specs.declared.plan.Plan.{Plan}
 use Rattle.outer_io.specs.Faults.{Rose}
-use Rattle.outer_io.specs.Files.{Files, HasFile}
+use Rattle.outer_io.specs.Files.{Files}
 use Rattle.run_files.proofs.Returning.{leaves_given_back}
 use Rattle.run_files.proofs.Stages.{all_opened, leaves_more, leaves_reading, leaves_then, nothing_made}
 use Rattle.run_files.specs.GivingBack.{TakesSources}
@@ -43,7 +43,6 @@ module _ {P O : Type 0} (p : PlaceSeen P) (s : SinkSeen O) (plan : Plan) where
   unfolding leaves_more
   feeds_end a b o o' stop one = record {
     leaves = leaves_more p a b plan.feeds (plan.asks ++ plan.finals) (output_names plan) stop one.leaves;
-    emptied = λ e. absurd (cc);
     order = inl (record {
       unopened = one.leaves.unopened;
       feeds_are = one.leaves.inputs_are;
@@ -76,7 +75,6 @@ module _ {P O : Type 0} (p : PlaceSeen P) (s : SinkSeen O) (plan : Plan) where
       let nothing = nothing_made p a b plan.feeds None one.leaves in
       record {
         leaves = leaves_then p a b c plan.feeds (plan.asks ++ plan.finals) (output_names plan) stop one.leaves two.leaves;
-        emptied = λ e told. two.emptied e (subst (λ (files : Option Files). IsSome files) (sym (one.leaves.untouched nothing)) told);
         order = inr (record {
           scripts = two.leaves.opens;
           opens_are = ap (λ n. n ++ two.leaves.opens) (sym (all_opened p a b plan.feeds [] one.leaves));
@@ -92,7 +90,6 @@ module _ {P O : Type 0} (p : PlaceSeen P) (s : SinkSeen O) (plan : Plan) where
   unfolding leaves_given_back
   files_given_back a b c o o' stop counts one back none = record {
     leaves = leaves_given_back p a b c (input_names plan) (output_names plan) stop counts one.leaves back none;
-    emptied = λ e told. subst (λ (files : Option Files). All (λ n. HasFile files n []) (output_names plan)) (sym back.files) (one.emptied e told);
     order = subst (λ n. OpensInOrder s plan (p.files a) (p.write_faults a) n o o' one.leaves.opens one.leaves.makes stop) (sym back.write_faults) one.order;
   }
 
@@ -110,7 +107,6 @@ module _ {P O : Type 0} (p : PlaceSeen P) (s : SinkSeen O) (name : List ℕ) whe
     goes_on = tt;
     unplanned = λ _. plan_ends stop reads.ends;
     leaves = one;
-    emptied = λ e. absurd (cc);
     order = tt;
     refused_plan = λ e. (refl, reads.refused (same_end stop PlanRefused e));
     silent = λ other _ _. reads.silent (λ e. other (same_answer stop PlanRefused e));
@@ -131,7 +127,6 @@ module _ {P O : Type 0} (p : PlaceSeen P) (s : SinkSeen O) (name : List ℕ) whe
         goes_on = goes_on;
         unplanned = λ e. absurd (cc);
         leaves = leaves_then p a b c (name ∷ []) (input_names plan) (output_names plan) stop one two.leaves;
-        emptied = λ e told. two.emptied e (subst (λ (files : Option Files). IsSome files) (sym same) told);
         order = (
           two.leaves.opens,
           ap (λ n. n ++ two.leaves.opens) (sym (all_opened p a b (name ∷ []) [] one)),

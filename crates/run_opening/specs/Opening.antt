@@ -1,5 +1,5 @@
 -- What the stages of a run before its threads leave, put together.
-use Rattle.std.specs.Prelude.{◌≡◌, ◌≢◌, ◌⊎◌, ℕ, ◌+◌, ◌<◌, ◌≤◌, List, [], ◌∷◌, ◌++◌, get_or, length, Option, Some, None, IfSome, IsSome, Result, Ok, Err, All, vec_len, vec_capacity}
+use Rattle.std.specs.Prelude.{◌≡◌, ◌≢◌, ◌⊎◌, ℕ, ◌+◌, ◌<◌, ◌≤◌, List, [], ◌∷◌, ◌++◌, get_or, length, Option, Some, None, IfSome, Result, Ok, Err, All, vec_len, vec_capacity}
 use Rattle.std.specs.List.{AllZip}
 use Rattle.crew_feeder.specs.declared.job.FeedJob.{FeedJob}
 use Rattle.crew_session.specs.Work.{HadNoTurn}
@@ -7,7 +7,7 @@ use Rattle.cube_schema.specs.Files.{input_names, output_names}
 use Rattle.cube_schema.specs.declared.plan.Plan.{Plan}
 use Rattle.cube_view.specs.declared.schema.Schema.{Schema}
 use Rattle.outer_io.specs.Faults.{Rose}
-use Rattle.outer_io.specs.Files.{Files, HasFile}
+use Rattle.outer_io.specs.Files.{Files}
 use Rattle.outer_io.specs.Progress.{IsGoing}
 use Rattle.run_files.specs.Headed.{HasHeader, RefusesLast}
 use Rattle.run_files.specs.Leaving.{LeavesPlace}
@@ -69,8 +69,6 @@ module _ {O : Type 0} (s : SinkSeen O) (plan : Plan) (files : Option Files) wher
 -- What opening the files of a plan leaves of a place and a sink, by what ends the run with it, if it does
 pub record OpensFiles {P O : Type 0} (p : PlaceSeen P) (s : SinkSeen O) (place place' : P) (out out' : O) (plan : Plan) (stop : Option Stop) : Type 0 where
   pub leaves : LeavesPlace p place place' (input_names plan) (output_names plan) stop
-  -- where the run goes on each file that was created is empty, where the files are told
-  pub emptied : stop ≡ None → IsSome (p.files place) → All (λ name. HasFile (p.files place') name []) (output_names plan)
   pub order : OpensInOrder s plan (p.files place) (p.write_faults place) (p.write_faults place') out out' leaves.opens leaves.makes stop
 
 -- What opening a run leaves of a place and a sink, by the plan that it goes on with, or what ends it
@@ -83,8 +81,6 @@ pub record OpensRun {P O : Type 0} (p : PlaceSeen P) (s : SinkSeen O) (place pla
   pub unplanned : plan ≡ None → (stop ≡ Some NoMemory) ⊎ (stop ≡ Some ReadFault) ⊎ (stop ≡ Some PlanRefused)
   -- it was opened first, then the plan's inputs, and then its outputs were created
   pub leaves : LeavesPlace p place place' (name ∷ inputs_of plan) (outputs_of plan) stop
-  -- where the run goes on each file that was created is empty, where the files are told
-  pub emptied : stop ≡ None → IsSome (p.files place) → All (λ output. HasFile (p.files place') output []) (outputs_of plan)
   -- feeds come before scripts, and what ends the run there has its cause
   pub order : IfSome plan (λ plan. (opens : List (List ℕ)) × (leaves.opens ≡ name ∷ opens) × OpensInOrder s plan (p.files place) (p.write_faults place) (p.write_faults place') out out' opens leaves.makes stop)
   -- a refused plan is said, and comes only where its bytes meet a fault

@@ -2,8 +2,9 @@ use Rattle.std.proofs.Common.{◌++◌, ◌∷◌, ◌∙◌, [], ℕ, List, Err
 use Rattle.std.specs.List.{AllZip}
 use Rattle.cube_schema.specs.Files.{output_names}
 use Rattle.cube_schema.specs.Repeats.{outputs}
+use Rattle.run_files.proofs.Apart.{none_not_some, same_stop}
 use Rattle.run_files.proofs.ScriptReads.{creates_residual, scripts_and_creates}
-use Rattle.run_files.proofs.ScriptStages.{created_both, ended_not_read}
+use Rattle.run_files.proofs.ScriptStages.{created_both, ended_not_read, outputs_hold_nothing}
 use Rattle.run_files.proofs.SinkReturns.{creates_given_back}
 use Rattle.run_files.specs.Outside.{seen_place, seen_sink}
 use Rattle.run_files.specs.Scripted.{IsOutput, OpensScripts}
@@ -16,7 +17,7 @@ returns-in_err-asks-clause-opens g c =
 pub returns-in-Ok-clause-opens : goal.returns-in-Ok-clause-opens
 returns-in-Ok-clause-opens g c =
     let p = (seen_place g.P.Place.files g.P.Place.read_faults g.P.Place.write_faults g.P.Place.opened g.P.Place.created) in
-    scripts_and_creates p c.args.place.now c.create_replies.new.place c.create_file.new.place [] (outputs c.args.plan.now.asks ++ outputs c.args.plan.now.finals) (c.args.plan.now.journal ∷ []) None c.in_ok-asks.ensures.opens
+    scripts_and_creates p c.args.place.now c.create_replies.new.place c.create_file.new.place [] (outputs c.args.plan.now.asks ++ outputs c.args.plan.now.finals) (c.args.plan.now.journal ∷ []) None (none_not_some _) c.in_ok-asks.ensures.opens
     (subst (λ (n : List ℕ). OpensScripts p c.create_replies.new.place c.create_file.new.place [] (n ∷ []) None) c.as_str.ensures c.in-Ok.ensures.opens)
 
 pub returns-in-Err-clause-opens : goal.returns-in-Err-clause-opens
@@ -31,8 +32,14 @@ returns-in-Err-clause-opens g c =
     let finals = subst (λ (items : List g.row.P-Out.Denot). AllZip (IsOutput s files) (outputs c.args.plan.now.finals) items) (sym c.into_vec-in-Err.ensures) c.in_ok-asks.ensures.finals in
     let both = created_both p s files files c.args.place.now c.create_replies.new.place c.create_file.new.place (outputs c.args.plan.now.asks) (outputs c.args.plan.now.finals) (c.args.plan.now.journal ∷ []) xs ys (Some c.in-Err.stop) c.in_ok-asks.ensures.opens journal asks finals in
     let first = creates_given_back p s c.args.place.now c.create_file.new.place c.give_back_sinks-given.new.place (output_names c.args.plan.now) [] (map s.name ys ++ both.0) xs c.in-Err.stop c.ended_after-end.result c.give_back_sinks-given.result
-    (scripts_and_creates p c.args.place.now c.create_replies.new.place c.create_file.new.place [] (outputs c.args.plan.now.asks ++ outputs c.args.plan.now.finals) (c.args.plan.now.journal ∷ []) (Some c.in-Err.stop) c.in_ok-asks.ensures.opens journal)
-    c.give_back_sinks-given.ensures both.1 (λ e. c.in-Err.ensures.no_read (ap (λ k. Err k) e)) c.ended_after-end.ensures in
+    (scripts_and_creates p c.args.place.now c.create_replies.new.place c.create_file.new.place [] (outputs c.args.plan.now.asks ++ outputs c.args.plan.now.finals) (c.args.plan.now.journal ∷ []) (Some c.in-Err.stop) (λ e. c.in-Err.ensures.no_read (ap (λ k. Err k) (same_stop _ _ e))) c.in_ok-asks.ensures.opens journal)
+    c.give_back_sinks-given.ensures both.1 (outputs_hold_nothing s files (outputs c.args.plan.now.asks) xs asks) (λ e. c.in-Err.ensures.no_read (ap (λ k. Err k) e)) c.ended_after-end.ensures in
     creates_given_back p s c.args.place.now c.give_back_sinks-given.new.place c.give_back_sinks-given-in-Err.new.place (output_names c.args.plan.now) (map s.name xs) both.0 ys c.ended_after-end.result c.ended_after.result c.give_back_sinks-given-in-Err.result first
-    c.give_back_sinks-given-in-Err.ensures (c.give_back_sinks-given.ensures.created ∙ both.1)
+    c.give_back_sinks-given-in-Err.ensures (c.give_back_sinks-given.ensures.created ∙ both.1) (outputs_hold_nothing s files (outputs c.args.plan.now.finals) ys finals)
     (ended_not_read c.in-Err.stop c.ended_after-end.result c.give_back_sinks-given.result (λ e. c.in-Err.ensures.no_read (ap (λ k. Err k) e)) c.give_back_sinks-given.ensures.only.1 c.ended_after-end.ensures) c.ended_after.ensures
+
+pub returns-in-Err-clause-no_read : goal.returns-in-Err-clause-no_read
+returns-in-Err-clause-no_read g c = λ e.
+    ended_not_read c.ended_after-end.result c.ended_after.result c.give_back_sinks-given-in-Err.result
+    (ended_not_read c.in-Err.stop c.ended_after-end.result c.give_back_sinks-given.result (λ e. c.in-Err.ensures.no_read (ap (λ k. Err k) e)) c.give_back_sinks-given.ensures.only.1 c.ended_after-end.ensures)
+    c.give_back_sinks-given-in-Err.ensures.only.1 c.ended_after.ensures (cc e)

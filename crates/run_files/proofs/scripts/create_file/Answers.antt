@@ -14,7 +14,7 @@ pub returns-in-Err-Failed-clause-opens : goal.returns-in-Err-Failed-clause-opens
 returns-in-Err-Failed-clause-opens g c =
     creates_one (seen_place g.P.Place.files g.P.Place.read_faults g.P.Place.write_faults g.P.Place.opened g.P.Place.created) c.args.place.now c.create.new.self c.args.name.now _
     (c.in-Err-Failed.ensures.created.noted (failed_fault _ c.in-Err-Failed.field-0-is)) c.in-Err-Failed.ensures.reading.1 c.in-Err-Failed.ensures.reading.0 c.in-Err-Failed.ensures.others
-    (λ e. absurd (none_not_some _ (sym e))) write_not_read (λ e. c.in-Err-Failed.ensures.cause.rose (ap (λ f. Err f) c.in-Err-Failed.field-0-is)) (λ e. absurd (e refl)) write_ends
+    (λ quiet. absurd (quiet (λ e. none_not_some _ (sym e)) (c.in-Err-Failed.ensures.cause.rose (ap (λ f. Err f) c.in-Err-Failed.field-0-is)))) write_not_read (λ e. c.in-Err-Failed.ensures.cause.rose (ap (λ f. Err f) c.in-Err-Failed.field-0-is)) (λ e. absurd (e refl)) write_ends
 
 pub returns-in-Err-NoMemory-clause-opens : goal.returns-in-Err-NoMemory-clause-opens
 returns-in-Err-NoMemory-clause-opens g c =

@@ -11,4 +11,4 @@ returns-in_default-clause-opens g c = scripts_nothing (seen_place g.P.Place.file
 pub returns-in-Err-clause-opens : goal.returns-in-Err-clause-opens
 returns-in-Err-clause-opens g c =
     creates_given_back (seen_place g.P.Place.files g.P.Place.read_faults g.P.Place.write_faults g.P.Place.opened g.P.Place.created) (seen_sink g.P.Out.Sink.held g.P.Out.Sink.faults g.P.Out.Sink.name) c.args.place.now c.create_each.new.place c.give_back_sinks-given.new.place (outputs c.args.scripts.now) [] c.create_each.ensures.names.0 c.create_each.new.sinks.items c.in-Err.stop c.ended_after.result c.give_back_sinks-given.result
-    c.in-Err.ensures.opens c.give_back_sinks-given.ensures c.create_each.ensures.names.1 (λ e. c.in-Err.ensures.no_read (ap (λ k. Err k) e)) c.ended_after.ensures
+    c.in-Err.ensures.opens c.give_back_sinks-given.ensures c.create_each.ensures.names.1 c.create_each.ensures.hold_nothing (λ e. c.in-Err.ensures.no_read (ap (λ k. Err k) e)) c.ended_after.ensures

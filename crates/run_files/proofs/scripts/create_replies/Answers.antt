@@ -1,8 +1,9 @@
 use Rattle.std.proofs.Common.{◌++◌, ◌∙◌, [], ℕ, List, Err, Some, None, ap, refl, sym, subst}
 use Rattle.std.specs.List.{AllZip}
 use Rattle.cube_schema.specs.Repeats.{outputs}
+use Rattle.run_files.proofs.Apart.{none_not_some, same_stop}
 use Rattle.run_files.proofs.ScriptReads.{created_part, creates_residual, scripts_and_creates, still_told}
-use Rattle.run_files.proofs.ScriptStages.{created_all, names_of, outputs_later}
+use Rattle.run_files.proofs.ScriptStages.{created_all, names_of, outputs_hold_nothing, outputs_later}
 use Rattle.run_files.proofs.SinkReturns.{creates_given_back}
 use Rattle.run_files.specs.Outside.{seen_place, seen_sink}
 use Rattle.run_files.specs.Scripted.{IsOutput, OpensScripts}
@@ -17,7 +18,7 @@ returns-in_err-asks-clause-opens g c =
 pub returns-in-Ok-clause-opens : goal.returns-in-Ok-clause-opens
 returns-in-Ok-clause-opens g c =
     let p = (seen_place g.P.Place.files g.P.Place.read_faults g.P.Place.write_faults g.P.Place.opened g.P.Place.created) in
-    scripts_and_creates p c.args.place.now c.create_list.new.place c.create_list-2.new.place [] (outputs c.args.plan.now.asks) (outputs c.args.plan.now.finals) None
+    scripts_and_creates p c.args.place.now c.create_list.new.place c.create_list-2.new.place [] (outputs c.args.plan.now.asks) (outputs c.args.plan.now.finals) None (none_not_some _)
     (subst (λ (ns : List (List ℕ)). OpensScripts p c.args.place.now c.create_list.new.place [] (outputs ns) None) c.as_slice.ensures c.in_ok-asks.ensures.opens)
     (subst (λ (ns : List (List ℕ)). OpensScripts p c.create_list.new.place c.create_list-2.new.place [] (outputs ns) None) c.as_slice-2.ensures c.in-Ok.ensures.opens)
 
@@ -39,5 +40,5 @@ returns-in-Err-clause-opens g c =
     let made = created_part p s c.args.place.now c.create_list.new.place c.create_list-2.new.place c.into_vec.result.items (outputs c.args.plan.now.finals) (Some c.in-Err.stop)
     (created_all p c.args.place.now c.create_list.new.place (outputs c.args.plan.now.asks) asks ∙ ap (λ m. g.P.Place.created c.args.place.now ++ m) (sym (names_of s (g.P.Place.files c.args.place.now) (outputs c.args.plan.now.asks) c.into_vec.result.items zip))) finals in
     creates_given_back p s c.args.place.now c.create_list-2.new.place c.give_back_sinks-given.new.place (outputs c.args.plan.now.asks ++ outputs c.args.plan.now.finals) [] made.0 c.into_vec.result.items c.in-Err.stop c.ended_after.result c.give_back_sinks-given.result
-    (scripts_and_creates p c.args.place.now c.create_list.new.place c.create_list-2.new.place [] (outputs c.args.plan.now.asks) (outputs c.args.plan.now.finals) (Some c.in-Err.stop) asks finals)
-    c.give_back_sinks-given.ensures made.1 (λ e. c.in-Err.ensures.no_read (ap (λ k. Err k) e)) c.ended_after.ensures
+    (scripts_and_creates p c.args.place.now c.create_list.new.place c.create_list-2.new.place [] (outputs c.args.plan.now.asks) (outputs c.args.plan.now.finals) (Some c.in-Err.stop) (λ e. c.in-Err.ensures.no_read (ap (λ k. Err k) (same_stop _ _ e))) asks finals)
+    c.give_back_sinks-given.ensures made.1 (outputs_hold_nothing s (g.P.Place.files c.args.place.now) (outputs c.args.plan.now.asks) c.into_vec.result.items zip) (λ e. c.in-Err.ensures.no_read (ap (λ k. Err k) e)) c.ended_after.ensures
