@@ -17,17 +17,24 @@ mod children;
 mod counts;
 mod filled;
 mod home;
+mod homes;
 mod laws;
 mod links;
 mod merges;
+mod owner;
 mod place;
 mod rows;
+mod size;
+#[cfg(test)]
+mod tests;
 
 pub use counts::has_row;
 pub use filled::is_filled;
 pub use home::{Move, is_coarser_after};
+pub use homes::{home_laws, homes_of};
 pub use laws::fit_laws;
 pub use links::links_fit;
 pub use merges::merges_at;
 pub use place::{Place, place_of};
 pub use rows::rows_merge;
+pub use size::{size_fits, size_laws};

@@ -17,7 +17,11 @@ use std::sync::ledger::Ledger;
 use time_table::TimeTable;
 
 /// The first row from a bin on. From 2^32 on there is none.
-fn first_row<L: Ledger>(table: &TimeTable, from: u64, steps: &mut Steps<L>) -> Option<(u32, u64)>
+pub fn first_row<L: Ledger>(
+    table: &TimeTable,
+    from: u64,
+    steps: &mut Steps<L>,
+) -> Option<(u32, u64)>
     requires { (bin : ℕ) → 0 < count_of table.now bin → bin < 2 ^ 32 }
     ensures { MatchOption result (NoRowFrom table.now from) (IsFirstRow table.now from) }
 {
