@@ -1,8 +1,9 @@
 -- Homes from owners: where owners lead back from each slot to the root, the steps are the homes.
-use Rattle.std.proofs.Common.{◌≡◌, ◌⊎◌, inl, inr, ℕ, zero, suc, ◌+◌, ◌<◌, ◌≤◌, List, [], ◌∷◌, ◌++◌, length, map, get_or, Option, Some, None, length-append, refl, sym, ap, ap₂, ◌∙◌, subst, arith}
+use Rattle.std.proofs.Common.{◌≡◌, ◌⊎◌, inl, inr, ℕ, zero, suc, ◌+◌, ◌<◌, ◌≤◌, List, [], ◌∷◌, ◌++◌, length, map, get_or, Bool, true, false, Option, Some, None, MatchOption, Result, Ok, Err, IfOk, length-append, refl, sym, ap, ap₂, ◌∙◌, subst, arith}
 use Rattle.std.proofs.Math.ListN.{get_or-eq_default}
 use Rattle.std.proofs.lemmas.Bool.{cases_lt}
 use Rattle.std.proofs.lemmas.List.{length-map}
+use Rattle.outer_io.specs.declared.fault.NoMemory.{NoMemory}
 use Rattle.cube_view.specs.Walks.{Step, Walk}
 use Rattle.cube_view.specs.declared.schema.Schema.{Schema}
 use Rattle.node_arena.specs.Shape.{home_of, IsOwned, HasProperLinks}
@@ -26,7 +27,7 @@ owner_in owners j o e = go (cases_lt j (length owners))
     go (inl x) = x
     go (inr x) = let n : None ≡ Some o = sym (get_or-eq_default owners None x) ∙ e in absurd cc
 
-home_at : (homes : List (List Move)) (j : ℕ) → home_of (walks_of homes) j ≡ walk_of (get_or homes j [])
+pub home_at : (homes : List (List Move)) (j : ℕ) → home_of (walks_of homes) j ≡ walk_of (get_or homes j [])
 home_at [] j = refl
 home_at (h ∷ homes) zero = refl
 home_at (h ∷ homes) (suc j) = home_at homes j
@@ -159,3 +160,13 @@ module _ (slots : List Slot) (owners : Owners) (A : HasOwners slots owners) wher
 
   pub lost_homes : (most : ℕ) → HasLost owners most → (homes : List Walk) → AreShortHomes most slots homes → ⊥
   lost_homes most X homes S = not_lost homes S.owned most S.short X
+
+pub some_slots : (slots : List Slot) (r : Bool) → (r ≡ true) ↔ (slots ≡ []) → r ≡ false → 0 < length slots
+some_slots [] r t f = let z = t.1 refl in absurd cc
+some_slots (s ∷ slots) r t f = omega arith
+
+-- what the homes that owners lead to tell
+pub homes_told : (schema : Schema) (slots : List Slot) (owners : Owners) (most : ℕ) (r : Result (Option (List (List Move))) NoMemory) → HasOwners slots owners → most ≡ most_steps schema → 0 < length slots → IfOk r (λ o. MatchOption o (HasLost owners most) (LeadHome owners most)) → IfOk r (λ o. MatchOption o (HasNoHomesIn schema slots) (AreHomesIn schema slots))
+homes_told schema slots owners most (Err e) A is some h = h
+homes_told schema slots owners most (Ok None) A is some h = λ homes S. lost_homes slots owners A (most_steps schema) (subst (HasLost owners) is h) homes S
+homes_told schema slots owners most (Ok (Some homes)) A is some h = short_homes slots owners A (most_steps schema) homes (subst (λ (n : ℕ). LeadHome owners n homes) is h) some

@@ -17,3 +17,4 @@ pub mod Sizing
 pub mod SmallLabels
 pub mod Spotting
 pub mod Stepping
+pub mod Whole

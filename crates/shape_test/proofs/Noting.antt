@@ -1,5 +1,5 @@
 -- The owners of slots, slot by slot.
-use Rattle.std.proofs.Common.{◌≡◌, ◌⊎◌, inl, inr, ℕ, zero, suc, ◌+◌, ◌<◌, ◌≤◌, Bool, true, false, MatchBool, List, [], ◌∷◌, length, replicate, Option, Some, None, refl, sym, ap, ◌∙◌, subst, arith}
+use Rattle.std.proofs.Common.{◌≡◌, ◌⊎◌, inl, inr, ℕ, zero, suc, ◌+◌, ◌<◌, ◌≤◌, Bool, true, false, MatchBool, List, [], ◌∷◌, length, replicate, Option, Some, None, MatchOption, refl, sym, ap, ◌∙◌, subst, arith}
 use Rattle.std.proofs.Math.ListN.{get_or-eq_default}
 use Rattle.std.proofs.lemmas.Bool.{cases_lt}
 use Rattle.std.proofs.lemmas.List.{length-replicate, get_or-replicate}
@@ -118,13 +118,13 @@ nobody : (n j : ℕ) → owner_at (replicate n None) j ≡ None
 nobody n j = go (cases_lt j n)
   where
     go : (j < n) ⊎ (n ≤ j) → owner_at (replicate n None) j ≡ None
-    go (inl x) = get_or-replicate n j None None x
-    go (inr x) = get_or-eq_default (replicate n None) None (let l = length-replicate n None in omega (arith, l, x))
+    go (inl x) = get_or-replicate {A = Option Owner} n j None None x
+    go (inr x) = get_or-eq_default {A = Option Owner} (replicate n None) None (let l = length-replicate {A = Option Owner} n None in omega (arith, l, x))
 
 -- at first no owner is known
 pub none_noted : (slots : List Slot) (owners : Owners) → owners ≡ replicate (length slots) None → AreOwners slots (Before 0 0) owners
 none_noted slots owners is = record {
-  size = ap length is ∙ length-replicate (length slots) None;
+  size = ap length is ∙ length-replicate {A = Option Owner} (length slots) None;
   told = λ j o x. let z : None ≡ Some o = sym (nobody (length slots) j) ∙ (ap (λ (w : Owners). owner_at w j) (sym is) ∙ x) in absurd cc;
   all = λ i j e s x. absurd (none i e s);
 }
@@ -146,3 +146,11 @@ when_true false P Q m e = absurd cc
 pub when_false : (b : Bool) (P Q : Type 0) → MatchBool b P Q → b ≡ false → Q
 when_false true P Q m e = absurd cc
 when_false false P Q m e = m
+
+pub with_both : (b : Bool) (P Q R S : Type 0) → MatchBool b P Q → (P → R) → (Q → S) → MatchBool b R S
+with_both true P Q R S m f h = f m
+with_both false P Q R S m f h = h m
+
+pub when_some : {A : Type 0} (o : Option A) (P : Type 0) (Q : A → Type 0) (x : A) → MatchOption o P Q → o ≡ Some x → Q x
+when_some None P Q x m e = absurd cc
+when_some (Some y) P Q x m e = let z : y ≡ x = cc in subst Q z m

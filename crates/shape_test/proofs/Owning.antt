@@ -134,24 +134,3 @@ module _ (slots : List Slot) (seen : ℕ → Step → Type 0) (old : Owners) (A 
           let y : home_of homes o.by.0 ≡ home_of homes i = cc in
           let k : o.by.0 ≡ i = H.distinct o.by.0 i (linked-lt slots o.by.0 (step_of o.step) (proper (target l)) t.0) (linked-lt slots i (step_of m) l there) y in
           absurd (unseen (subst (λ (n : ℕ). seen n (step_of m)) k (subst (seen o.by.0) x t.1)))
-
--- what is told of a link: that of a shared one nothing is noted ..
-pub not_noted : (owners : Owners) (l : Link) (o : Owner) → is_proper l ≡ false → IsNoted owners owners l o
-not_noted owners l o p = record {
-  free = λ q. let z : true ≡ false = sym q ∙ p in absurd cc;
-  is = sym (ap (λ (b : Bool). cond b (set owners (target l) (Some o)) owners) p);
-}
-
--- .. that the target of a proper one was free ..
-pub is_noted : (owners : Owners) (l : Link) (o : Owner) (slot : ℕ) → is_proper l ≡ true → slot ≡ target l → IsFree owners slot → IsNoted owners (set owners slot (Some o)) l o
-is_noted owners l o slot p e F = record {
-  free = λ q. subst (IsFree owners) e F;
-  is = ap (λ (n : ℕ). set owners n (Some o)) e ∙ sym (ap (λ (b : Bool). cond b (set owners (target l) (Some o)) owners) p);
-}
-
--- .. or that it wasn't
-pub is_second : (owners : Owners) (l : Link) (slot : ℕ) (r : Bool) → is_proper l ≡ true → slot ≡ target l → (r ≡ true) ↔ IsFree owners slot → r ≡ false → IsSecond owners l
-is_second owners l slot r p e t f = record {
-  owning = p;
-  taken = λ F. let z = t.1 (subst (IsFree owners) (sym e) F) in absurd cc;
-}

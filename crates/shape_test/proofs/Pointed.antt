@@ -1,5 +1,5 @@
 -- Slots that fit a schema are a cube of so many points.
-use Rattle.std.proofs.Common.{◌≡◌, ◌↔◌, ◌⊎◌, inl, inr, ℕ, zero, suc, ◌+◌, ◌*◌, ◌-◌, ◌<◌, ◌≤◌, ◌^◌, Bool, true, false, cond, ◌&&◌, eqb, eq-eqb, nat_le, List, [], ◌∷◌, length, map, Option, Some, None, Contains, All, sum, sum_by, refl, sym, ap, ap₂, ◌∙◌, subst, arith}
+use Rattle.std.proofs.Common.{◌≡◌, ◌↔◌, ◌⊎◌, inl, inr, ℕ, zero, suc, ◌+◌, ◌*◌, ◌-◌, ◌<◌, ◌≤◌, ◌^◌, Bool, true, false, cond, ◌&&◌, eqb, eq-eqb, nat_le, List, [], ◌∷◌, length, map, get_or, Option, Some, None, Contains, All, sum, sum_by, refl, sym, ap, ap₂, ◌∙◌, subst, arith}
 use Rattle.std.proofs.lemmas.Bool.{cases_lt}
 use Rattle.std.proofs.lemmas.List.Elements.{All-nil, All-cons, All-head, All-tail}
 use Rattle.std.proofs.lemmas.List.Sums.{sum_by-cons}
@@ -196,11 +196,14 @@ module _ (schema : Schema) (slots : List Slot) (size : ℕ) (few : length schema
     homes = F.homes;
     points = M.points;
     shape = shape_over (time_dim schema) slots F.homes (slots_bag schema slots F.homes) (seen_points schema M.points) M.bag F.cube.cube.shape;
-    all_valid = λ i d l. let w = M.weigh i d l in is_valid schema _ (M.fit i d l) w.0 (let x = w.1 in omega (arith, x, le)) (told _ w);
+    all_valid = λ i d l. weighs (get_or M.points i d) (M.fit i d l) (M.weigh i d l);
     all_four = M.four;
     number = sym M.number;
     few = F.sized.few;
   }
+    where
+      weighs : (p : Point) → fits schema (spot_of p) ≡ true → IsWeight most (weight_of_point p) → valid schema p ≡ true
+      weighs p f w = is_valid schema p f w.0 (let x = w.1 in omega (arith, x, le)) (told (weight_of_point p) w)
 
   spots : (q : SpotPath) → Contains (spots_in (slots_bag schema slots F.homes)) q → HasSpotOf schema q
   spots q c = spot_with schema few q (F.cube.cube.lengths q c) (F.cube.labels q c)

@@ -109,10 +109,8 @@ one_in f n (e ∷ es) z S = go (eqb e.0 n) refl (one_in f n es z p.1)
 -- where no bin between two counts, the sums before them are one
 no_more : (f : ℕ → ℕ) (from to : ℕ) (es : List (ℕ × ℕ)) → f 0 ≡ 0 → from ≤ to → ((b : ℕ) → from ≤ b → b < to → rows_in (λ k. k) b es ≡ 0) → rows_upto f to es ≡ rows_upto f from es
 no_more f from to [] z le none = refl
-no_more f from to (e ∷ es) z le none = go (cases_lt e.0 from) (cases_lt e.0 to)
+no_more f from to (e ∷ es) z le none = go (cases_lt e.0 from) (cases_lt e.0 to) (no_more f from to es z le (λ b low less. let n = none b low less in let d = in_cons (λ k. k) b e es in omega (arith, n, d)))
   where
-    rest : rows_upto f to es ≡ rows_upto f from es
-    rest = no_more f from to es z le (λ b low less. let n = none b low less in let d = in_cons (λ k. k) b e es in omega (arith, n, d))
 
     a : rows_upto f to (e ∷ es) ≡ cond {A = ℕ} (nat_lt e.0 to) (f e.1) 0 + rows_upto f to es
     a = upto_cons f to e es
@@ -120,13 +118,12 @@ no_more f from to (e ∷ es) z le none = go (cases_lt e.0 from) (cases_lt e.0 to
     b : rows_upto f from (e ∷ es) ≡ cond {A = ℕ} (nat_lt e.0 from) (f e.1) 0 + rows_upto f from es
     b = upto_cons f from e es
 
-    go : (e.0 < from) ⊎ (from ≤ e.0) → (e.0 < to) ⊎ (to ≤ e.0) → rows_upto f to (e ∷ es) ≡ rows_upto f from (e ∷ es)
-    go (inl x) y =
+    go : (e.0 < from) ⊎ (from ≤ e.0) → (e.0 < to) ⊎ (to ≤ e.0) → rows_upto f to es ≡ rows_upto f from es → rows_upto f to (e ∷ es) ≡ rows_upto f from (e ∷ es)
+    go (inl x) y r =
         let p = counted_in e.0 to (f e.1) (omega (arith, x, le)) in
         let q = counted_in e.0 from (f e.1) x in
-        let r = rest in
         omega (arith, a, b, p, q, r)
-    go (inr x) (inl y) =
+    go (inr x) (inl y) r =
         let n = none e.0 x y in
         let d = in_cons (λ k. k) e.0 e es in
         let w : cond {A = ℕ} (eqb e.0 e.0) e.1 0 ≡ e.1 = ap (λ (t : Bool). cond {A = ℕ} t e.1 0) (eq-eqb e.0 e.0 refl) in
@@ -134,30 +131,25 @@ no_more f from to (e ∷ es) z le none = go (cases_lt e.0 from) (cases_lt e.0 to
         let v = ap f zero_row in
         let p = counted_in e.0 to (f e.1) y in
         let q = counted_out e.0 from (f e.1) x in
-        let r = rest in
         omega (arith, a, b, p, q, r, v, z)
-    go (inr x) (inr y) =
+    go (inr x) (inr y) r =
         let p = counted_out e.0 to (f e.1) y in
         let q = counted_out e.0 from (f e.1) x in
-        let r = rest in
         omega (arith, a, b, p, q, r)
 
 -- where no bin from one on counts, all rows are before it
 all_upto : (f : ℕ → ℕ) (from : ℕ) (es : List (ℕ × ℕ)) → f 0 ≡ 0 → ((b : ℕ) → from ≤ b → rows_in (λ k. k) b es ≡ 0) → rows_upto f from es ≡ sum_by (λ (e : ℕ × ℕ). f e.1) es
 all_upto f from [] z none = refl
-all_upto f from (e ∷ es) z none = go (cases_lt e.0 from)
+all_upto f from (e ∷ es) z none = go (cases_lt e.0 from) (all_upto f from es z (λ b low. let n = none b low in let d = in_cons (λ k. k) b e es in omega (arith, n, d)))
   where
-    rest : rows_upto f from es ≡ sum_by (λ (e : ℕ × ℕ). f e.1) es
-    rest = all_upto f from es z (λ b low. let n = none b low in let d = in_cons (λ k. k) b e es in omega (arith, n, d))
 
-    go : (e.0 < from) ⊎ (from ≤ e.0) → rows_upto f from (e ∷ es) ≡ sum_by (λ (e : ℕ × ℕ). f e.1) (e ∷ es)
-    go (inl x) =
+    go : (e.0 < from) ⊎ (from ≤ e.0) → rows_upto f from es ≡ sum_by (λ (e : ℕ × ℕ). f e.1) es → rows_upto f from (e ∷ es) ≡ sum_by (λ (e : ℕ × ℕ). f e.1) (e ∷ es)
+    go (inl x) r =
         let a = upto_cons f from e es in
         let s = sum_by-cons (λ (e : ℕ × ℕ). f e.1) e es in
         let p = counted_in e.0 from (f e.1) x in
-        let r = rest in
         omega (arith, a, s, p, r)
-    go (inr x) =
+    go (inr x) r =
         let a = upto_cons f from e es in
         let s = sum_by-cons (λ (e : ℕ × ℕ). f e.1) e es in
         let n = none e.0 x in
@@ -166,7 +158,6 @@ all_upto f from (e ∷ es) z none = go (cases_lt e.0 from)
         let zero_row : e.1 ≡ 0 = omega (arith, n, d, w) in
         let v = ap f zero_row in
         let p = counted_out e.0 from (f e.1) x in
-        let r = rest in
         omega (arith, a, s, p, r, v, z)
 
 -- the next row adds its own

@@ -170,13 +170,12 @@ module _ (schema : Schema) where
   value_paths s zero d [] two e v = refl
   value_paths s zero d (p ∷ ps) two e v = absurd cc
   value_paths s (suc n) d [] two e v = absurd cc
-  value_paths s (suc n) d (p ∷ ps) two e v = ap₂ (λ (x : List ℕ) (xs : List (List ℕ)). x ∷ xs) (own (cases_lt d (time_dim schema))) rest
+  value_paths s (suc n) d (p ∷ ps) two e v =
+      let rest : paths_from schema s (d + 1) n ≡ ps = ap (λ (k : ℕ). paths_from schema s k n) (let x : d + 1 ≡ suc d = omega arith in x) ∙ value_paths s n (suc d) ps (omega (arith, two)) (let h : map (λ (p : List ℕ). length p) ps ≡ levels_from schema (suc d) n = cc in h) (λ i l. ap (λ (k : ℕ). get_or s.values k 0) (let x : suc d + i - 2 ≡ d + suc i - 2 = omega arith in x) ∙ v (suc i) (omega (arith, l))) in
+      ap₂ (λ (x : List ℕ) (xs : List (List ℕ)). x ∷ xs) (own (cases_lt d (time_dim schema))) rest
     where
       here : length p ≡ deepest schema d
       here = cc
-
-      rest : paths_from schema s (d + 1) n ≡ ps
-      rest = ap (λ (k : ℕ). paths_from schema s k n) (let x : d + 1 ≡ suc d = omega arith in x) ∙ value_paths s n (suc d) ps (omega (arith, two)) (let h : map (λ (p : List ℕ). length p) ps ≡ levels_from schema (suc d) n = cc in h) (λ i l. ap (λ (k : ℕ). get_or s.values k 0) (let x : suc d + i - 2 ≡ d + suc i - 2 = omega arith in x) ∙ v (suc i) (omega (arith, l)))
 
       own : (d < time_dim schema) ⊎ (time_dim schema ≤ d) → path_of schema s d ≡ p
       own (inl x) =

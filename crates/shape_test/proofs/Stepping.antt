@@ -16,7 +16,7 @@ steps_over (n ∷ later) = suc (n + steps_over later)
 
 -- an address and what it has left are no more steps than that
 left_steps : (levels : List ℕ) (a : Walk) (c : Levels) → left levels a ≡ Some c → length a + c.rest + steps_over c.later < steps_over levels
-left_steps levels [] c e = go levels e
+left_steps levels [] c e = let r = go levels e in omega (arith, r)
   where
     go : (levels : List ℕ) → level_across levels ≡ Some c → c.rest + steps_over c.later < steps_over levels
     go [] x = absurd cc
