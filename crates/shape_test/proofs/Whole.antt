@@ -1,25 +1,22 @@
--- Whole homes, and what is told of a size.
-use Rattle.std.proofs.Common.{◌≡◌, ◌↔◌, ◌⊎◌, inl, inr, ℕ, zero, suc, ◌+◌, ◌-◌, ◌<◌, ◌≤◌, ◌^◌, Bool, true, false, ◌&&◌, eqb, nat_le, List, [], ◌∷◌, length, Option, Some, None, refl, sym, ap, ap₂, ◌∙◌, arith}
+-- What is told of single homes, rows and slots on the way to a size.
+use Rattle.std.proofs.Common.{◌≡◌, ℕ, zero, suc, ◌+◌, ◌-◌, ◌<◌, ◌≤◌, true, false, eqb, nat_le, List, [], ◌∷◌, length, get_or, Option, Some, None, refl, sym, ap, ap₂, ◌∙◌, arith}
 use Rattle.std.specs.FinMap.{entries}
-use Rattle.std.proofs.lemmas.Bool.{and_parts}
 use Rattle.cube_view.specs.Places.{deepest}
-use Rattle.cube_view.specs.Walks.{Walk, dimension}
+use Rattle.cube_view.specs.Walks.{Walk}
 use Rattle.cube_view.specs.declared.schema.Schema.{Schema}
 use Rattle.time_table.specs.Counts.{BinCounts}
-use Rattle.node_arena.specs.Amounts.{Weighted}
 use Rattle.node_arena.specs.Shape.{home_of}
 use Rattle.node_arena.specs.Slots.{Slot, slot_of}
 use Rattle.node_arena.specs.Stats.{capped}
 use Rattle.image_shape.specs.Levels.{Levels, left}
-use Rattle.image_shape.specs.Wholes.{is_deepest, is_whole, rows_at, spelled_rows}
-use Rattle.shape_test.specs.Fits.{bag_sum, least_points, least_size, IsSizeOf}
-use Rattle.shape_test.specs.Homes.{walk_of}
-use Rattle.shape_test.specs.Labels.{schema_levels, label_fits, labels_fit}
+use Rattle.image_shape.specs.Wholes.{is_deepest, rows_at, spelled_rows}
+use Rattle.shape_test.specs.Fits.{least_points}
+use Rattle.shape_test.specs.Homes.{walk_of, walks_of}
+use Rattle.shape_test.specs.Labels.{schema_levels, labels_fit}
 use Rattle.shape_test.specs.Merging.{NoRowFrom, IsFirstRow}
 use Rattle.shape_test.specs.Places.{IsPlaceOf, IsOutside}
 use Rattle.shape_test.specs.Sizes.{table_size, size_of}
 use Rattle.shape_test.specs.declared.home.Move.{Move}
-use Rattle.shape_test.specs.declared.home.Move.TheVariants.{Down, Across}
 use Rattle.shape_test.specs.declared.place.Place.{Place}
 use Rattle.shape_test.specs.declared.size.BagSize.{BagSize}
 use Rattle.shape_test.proofs.Sizing.{rows_upto, row_added, rows_added, size_plus}
@@ -36,52 +33,6 @@ past_levels schema a out fit = go (left (schema_levels schema) a) refl
     go : (o : Option Levels) → left (schema_levels schema) a ≡ o → false ≡ is_deepest o
     go None e = refl
     go (Some c) e = absurd (out (record { levels_left = c; is = e }) fit)
-
-pub root_whole : (levels : List ℕ) (home : List Move) → length home < 1 → true ≡ is_whole levels (walk_of home)
-root_whole levels [] l = refl
-root_whole levels (m ∷ home) l = absurd (omega (arith, l))
-
-pub owner_fits : (schema : Schema) (home owner : List Move) (m : Move) → home ≡ m ∷ owner → labels_fit schema (walk_of home) ≡ true → labels_fit schema (walk_of owner) ≡ true
-owner_fits schema home owner m b fit = go m (ap (λ (h : List Move). labels_fit schema (walk_of h)) (sym b) ∙ fit)
-  where
-    go : (m : Move) → labels_fit schema (walk_of (m ∷ owner)) ≡ true → labels_fit schema (walk_of owner) ≡ true
-    go (Down l) f = (and_parts (label_fits schema (dimension (walk_of owner)) l) (labels_fit schema (walk_of owner)) f).1
-    go Across f = f
-
-module _ (levels : List ℕ) (home owner : List Move) (m : Move) (begins : home ≡ m ∷ owner) (w : Bool) (is : w ≡ is_whole levels (walk_of owner)) where
-  from_owner : is_whole levels (walk_of home) ≡ is_whole levels (walk_of (m ∷ owner))
-  from_owner = ap (λ (h : List Move). is_whole levels (walk_of h)) begins
-
-  pub not_whole : w ≡ false → false ≡ is_whole levels (walk_of home)
-  not_whole e = sym (from_owner ∙ go m)
-    where
-      go : (m : Move) → is_whole levels (walk_of (m ∷ owner)) ≡ false
-      go (Down l) = sym is ∙ e
-      go Across = ap (λ (b : Bool). b && is_deepest (left levels (walk_of owner))) (sym is ∙ e)
-
-  pub whole_down : (l : ℕ) → m ≡ Down l → w ≡ true → true ≡ is_whole levels (walk_of home)
-  whole_down l d e = sym (from_owner ∙ (ap (λ (n : Move). is_whole levels (walk_of (n ∷ owner))) d ∙ (sym is ∙ e)))
-
-  pub whole_across : (r : Bool) → m ≡ Across → w ≡ true → r ≡ is_deepest (left levels (walk_of owner)) → r ≡ is_whole levels (walk_of home)
-  whole_across r d e f = f ∙ sym (from_owner ∙ (ap (λ (n : Move). is_whole levels (walk_of (n ∷ owner))) d ∙ ap (λ (b : Bool). b && is_deepest (left levels (walk_of owner))) (sym is ∙ e)))
-
--- a number of points within the bounds that 64 bits count
-pub size_told : (schema : Schema) (h : List Weighted) (s l size : ℕ) (w : Bool) → s ≡ capped (bag_sum h) → l ≡ capped (least_size h) → size ≤ s → l ≤ size → size ≤ 2 ^ 35 → (w ≡ true) ↔ (schema.weight ≡ None → size ≡ s) → (w ≡ true) ↔ IsSizeOf schema h size
-size_told schema h s l size w sum least high low few W = (λ e. record {
-    most = omega (arith, high, sum);
-    least = omega (arith, low, least, few);
-    few = few;
-    unweighted = λ n. let x = W.0 e n in omega (arith, x, sum, few);
-  }, λ S. W.1 (λ n. let x = S.unweighted n in omega (arith, x, sum, few)))
-
--- one outside them is no size
-pub size_out : (schema : Schema) (h : List Weighted) (s l size : ℕ) → s ≡ capped (bag_sum h) → l ≡ capped (least_size h) → (s < size) ⊎ ((size < l) ⊎ (2 ^ 35 < size)) → (false ≡ true) ↔ IsSizeOf schema h size
-size_out schema h s l size sum least out = (λ e. absurd cc, λ S. absurd (go S out))
-  where
-    go : IsSizeOf schema h size → (s < size) ⊎ ((size < l) ⊎ (2 ^ 35 < size)) → ⊥
-    go S (inl x) = let m = S.most in let f = S.few in omega (arith, m, f, x, sum)
-    go S (inr (inl x)) = let m = S.least in omega (arith, m, x, least)
-    go S (inr (inr x)) = let f = S.few in omega (arith, f, x)
 
 -- the next row of a table adds its own number
 pub next_row : (f : ℕ → ℕ) (m : BinCounts) (from bin n to s r k : ℕ) → f 0 ≡ 0 → IsFirstRow m from (bin, n) → to ≡ bin → s ≡ capped (rows_upto f from (entries m)) → k ≡ f n → r ≡ capped (s + k) → r ≡ capped (rows_upto f (to + 1) (entries m))
@@ -102,3 +53,9 @@ slot_added levels slots homes i home size own r S H O sum least =
     let o : own ≡ size_of (rows_at levels (home_of homes i) (slot_of slots i)) = O ∙ ap (λ (a : Walk). size_of (rows_at levels a (slot_of slots i))) H in
     let n : suc i ≡ i + 1 = omega arith in
     size_plus (spelled_rows levels slots homes i) (rows_at levels (home_of homes i) (slot_of slots i)) r (sum ∙ ap₂ (λ (a b : BagSize). capped (a.sum + b.sum)) S o) (least ∙ ap₂ (λ (a b : BagSize). capped (a.least + b.least)) S o) ∙ ap (λ (k : ℕ). size_of (spelled_rows levels slots homes k)) n
+
+-- a home that was read is that of the slot
+pub home_read : (homes : List (List Move)) (i : ℕ) (x y : List Move) → i < length homes → x ≡ get_or homes i x → y ≡ x → walk_of y ≡ home_of (walks_of homes) i
+home_read [] i x y l e f = absurd (omega (arith, l))
+home_read (h ∷ homes) zero x y l e f = ap walk_of (f ∙ e)
+home_read (h ∷ homes) (suc i) x y l e f = home_read homes i x y (omega (arith, l)) e f

@@ -1,7 +1,16 @@
-use Rattle.std.proofs.Common.{refl, arith}
+use Rattle.std.proofs.Common.{refl, sym, ap, arith}
+use Rattle.node_arena.specs.Stats.{capped}
 use Rattle.shape_test.specs.Fits.{least_points}
+use Rattle.shape_test.proofs.Sizing.{none_added}
 use Rattle.shape_test.proofs.Whole.{next_row, all_rows}
 use Rattle.shape_test.proofs.size.rows_size.Goals as goal
+
+pub loop-bin-init : goal.loop-bin-init
+loop-bin-init g c = record {
+  last = omega arith;
+  sum = sym (ap capped (none_added (λ n. n) c.args.table.now));
+  least = sym (ap capped (none_added least_points c.args.table.now));
+}
 
 pub loop-bin-preserved : goal.loop-bin-preserved
 loop-bin-preserved g c = record {
