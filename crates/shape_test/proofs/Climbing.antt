@@ -1,5 +1,5 @@
 -- Homes from owners: where owners lead back from each slot to the root, the steps are the homes.
-use Rattle.std.proofs.Common.{◌≡◌, ◌↔◌, ◌⊎◌, inl, inr, ℕ, zero, suc, ◌+◌, ◌<◌, ◌≤◌, List, [], ◌∷◌, ◌++◌, length, map, get_or, Bool, true, false, Option, Some, None, MatchOption, Result, Ok, Err, IfOk, length-append, refl, sym, ap, ap₂, ◌∙◌, subst, arith}
+use Rattle.std.proofs.Common.{◌≡◌, ◌↔◌, ◌⊎◌, inl, inr, ℕ, zero, suc, ◌<◌, ◌≤◌, List, [], ◌∷◌, ◌++◌, length, get_or, Bool, true, false, Option, Some, None, MatchOption, Result, Ok, Err, IfOk, length-append, refl, sym, ap, ap₂, ◌∙◌, subst, arith}
 use Rattle.std.proofs.Math.ListN.{get_or-eq_default}
 use Rattle.std.proofs.lemmas.Bool.{cases_lt}
 use Rattle.std.proofs.lemmas.List.{length-map}
@@ -11,7 +11,7 @@ use Rattle.node_arena.specs.Slots.{proper, target, Slot, link_of}
 use Rattle.node_arena.proofs.Linked.{linked-lt}
 use Rattle.shape_test.specs.Homes.{step_of, walk_of, walks_of}
 use Rattle.shape_test.specs.declared.home.Move.{Move}
-use Rattle.shape_test.specs.Owners.{Owners, owner_of, owner_at, IsOwner, HasOwners, LeadsBack, IsHomeOf, IsLost, OwnersWithin, HasLost, LeadHome, AreShortHomes, AreHomesIn, HasNoHomes, HasNoHomesIn, most_steps}
+use Rattle.shape_test.specs.Owners.{Owners, owner_of, owner_at, IsOwner, HasOwners, LeadsBack, OwnersWithin, HasLost, LeadHome, AreShortHomes, AreHomesIn, HasNoHomesIn, most_steps}
 use Rattle.shape_test.specs.declared.owner.Owner.{Owner}
 
 -- one step further back

@@ -1,15 +1,15 @@
 -- The owners of slots, slot by slot.
-use Rattle.std.proofs.Common.{◌≡◌, ◌⊎◌, inl, inr, ℕ, zero, suc, ◌+◌, ◌<◌, ◌≤◌, Bool, true, false, MatchBool, List, [], ◌∷◌, length, replicate, Option, Some, None, MatchOption, refl, sym, ap, ◌∙◌, subst, arith}
+use Rattle.std.proofs.Common.{◌≡◌, ◌⊎◌, inl, inr, ℕ, ◌+◌, ◌<◌, ◌≤◌, Bool, true, false, MatchBool, List, length, replicate, Option, Some, None, MatchOption, refl, sym, ap, ◌∙◌, subst, arith}
 use Rattle.std.proofs.Math.ListN.{get_or-eq_default}
 use Rattle.std.proofs.lemmas.Bool.{cases_lt}
 use Rattle.std.proofs.lemmas.List.{length-replicate, get_or-replicate}
-use Rattle.cube_view.specs.Walks.{Step, down, across, Walk}
+use Rattle.cube_view.specs.Walks.{Step, down, across}
 use Rattle.node_arena.specs.declared.link.Link.{Link}
 use Rattle.node_arena.specs.Slots.{proper, Slot, node, table, IsTable, slot_of, link, link_of}
 use Rattle.node_arena.proofs.Linked.{linked-lt}
 use Rattle.shape_test.specs.Links.{HasSmallLabels, NoneFrom, IsFirstLink}
 use Rattle.shape_test.specs.declared.home.Move.TheVariants.{Down, Across}
-use Rattle.shape_test.specs.Owners.{Owners, owner_of, owner_at, IsNoted, IsSecond, IsOwner, AreOwners, HasOwners, IsChildBefore, Before, HasNoHomes}
+use Rattle.shape_test.specs.Owners.{Owners, owner_of, owner_at, IsNoted, IsSecond, AreOwners, HasOwners, Before, HasNoHomes}
 use Rattle.shape_test.specs.declared.owner.Owner.{Owner}
 use Rattle.shape_test.proofs.Owning.{still_owners, one_owner, second_owner}
 

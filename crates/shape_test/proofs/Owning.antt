@@ -1,9 +1,9 @@
 -- The owners of slots, link by link.
-use Rattle.std.proofs.Common.{◌≡◌, ◌↔◌, ◌⊎◌, inl, inr, ℕ, zero, suc, ◌+◌, ◌<◌, ◌≤◌, ◌≢◌, Bool, true, false, cond, List, [], ◌∷◌, length, get_or, Option, Some, None, refl, sym, ap, ◌∙◌, subst, arith}
+use Rattle.std.proofs.Common.{◌≡◌, ◌⊎◌, inl, inr, ℕ, zero, suc, ◌<◌, ◌≤◌, ◌≢◌, Bool, true, false, cond, List, [], ◌∷◌, length, Option, Some, None, refl, sym, ap, ◌∙◌, subst, arith}
 use Rattle.std.proofs.Math.ListN.{set}
 use Rattle.std.proofs.lemmas.Bool.{cases_lt}
 use Rattle.std.proofs.lemmas.List.{length-set, get_or-set_same, get_or-set_other}
-use Rattle.cube_view.specs.Walks.{Step, down, across, Walk}
+use Rattle.cube_view.specs.Walks.{Step, Walk}
 use Rattle.node_arena.specs.declared.link.Link.{Link}
 use Rattle.node_arena.specs.Shape.{home_of, HasProperLinks}
 use Rattle.node_arena.specs.Slots.{proper, shared, target, Slot, link_of}
@@ -11,7 +11,7 @@ use Rattle.node_arena.specs.Stats.{is_proper}
 use Rattle.node_arena.proofs.Linked.{linked-lt, link_cases}
 use Rattle.shape_test.specs.Homes.{step_of}
 use Rattle.shape_test.specs.declared.home.Move.{Move}
-use Rattle.shape_test.specs.Owners.{Owners, owner_of, owner_at, with_owner, IsFree, IsNoted, IsSecond, IsOwner, AreOwners}
+use Rattle.shape_test.specs.Owners.{Owners, owner_of, owner_at, IsFree, IsNoted, IsSecond, IsOwner, AreOwners}
 use Rattle.shape_test.specs.declared.owner.Owner.{Owner}
 
 -- a proper link is the one to its target

@@ -1,12 +1,12 @@
 -- Slots that fit a schema are a cube of so many points.
-use Rattle.std.proofs.Common.{◌≡◌, ◌↔◌, ◌⊎◌, inl, inr, ℕ, zero, suc, ◌+◌, ◌*◌, ◌-◌, ◌<◌, ◌≤◌, ◌^◌, Bool, true, false, cond, ◌&&◌, eqb, eq-eqb, nat_le, List, [], ◌∷◌, length, map, get_or, Option, Some, None, Contains, All, sum, sum_by, refl, sym, ap, ap₂, ◌∙◌, subst, arith}
+use Rattle.std.proofs.Common.{◌≡◌, ◌⊎◌, inl, inr, ℕ, ◌+◌, ◌-◌, ◌<◌, ◌≤◌, Bool, true, false, cond, ◌&&◌, eqb, eq-eqb, nat_le, List, [], ◌∷◌, length, get_or, Option, Some, None, Contains, All, sum, sum_by, refl, sym, ap, ap₂, ◌∙◌, subst, arith}
 use Rattle.std.proofs.lemmas.Bool.{cases_lt}
 use Rattle.std.proofs.lemmas.List.Elements.{All-nil, All-cons, All-head, All-tail}
 use Rattle.std.proofs.lemmas.List.Sums.{sum_by-cons}
 use Rattle.cube_view.specs.Paths.{spot_path}
 use Rattle.cube_view.specs.Places.{time_dim}
 use Rattle.cube_view.specs.Points.{Point, spot_of, weight_of_point, heaviest}
-use Rattle.cube_view.specs.Validity.{fits, is_weight, weight_is_told, valid}
+use Rattle.cube_view.specs.Validity.{fits, weight_is_told, valid}
 use Rattle.cube_view.specs.Walks.{Walk, SpotPath, under, HasSpot}
 use Rattle.cube_view.specs.declared.schema.Schema.{Schema}
 use Rattle.cube_view.specs.declared.spot.Spot.{Spot}

@@ -1,17 +1,16 @@
 -- Sums over the rows of a table, row by row, and over the bag of slots, slot by slot.
-use Rattle.std.proofs.Common.{◌≡◌, ◌↔◌, ◌⊎◌, inl, inr, ℕ, zero, suc, ◌+◌, ◌-◌, ◌<◌, ◌≤◌, Bool, true, false, cond, eqb, eq-eqb, eqb-true, ne_eqb, nat_lt, nat_cmp, List, [], ◌∷◌, ◌++◌, length, map, get_or, sum_by, refl, sym, ap, ap₂, ◌∙◌, subst, arith}
+use Rattle.std.proofs.Common.{◌≡◌, ◌⊎◌, inl, inr, ℕ, ◌+◌, ◌<◌, ◌≤◌, Bool, true, false, cond, eqb, eq-eqb, eqb-true, ne_eqb, nat_lt, nat_cmp, List, [], ◌∷◌, ◌++◌, map, sum_by, refl, sym, ap, ap₂, ◌∙◌, arith}
 use Rattle.std.specs.FinMap.{entries, entries_sorted, len-entries, len-empty}
 use Rattle.std.specs.FinMap.Entries.{is_sorted, below_all}
 use Rattle.std.proofs.lemmas.Bool.{and_parts, cases_lt}
 use Rattle.std.proofs.lemmas.List.{nil_from_length}
 use Rattle.std.proofs.lemmas.List.Sums.{sum_by-cons, sum_by-append}
 use Rattle.cube_view.specs.Walks.{Walk}
-use Rattle.cube_view.specs.declared.schema.Schema.{Schema}
 use Rattle.time_table.specs.Counts.{BinCounts, count_of}
 use Rattle.node_arena.specs.Amounts.{Weighted, amount_under}
 use Rattle.node_arena.specs.Slots.{Slot, node, table, IsNode, counts_of}
 use Rattle.node_arena.specs.Stats.{capped}
-use Rattle.image_shape.specs.Wholes.{is_whole, spot_at, rows_at, spelled_rows}
+use Rattle.image_shape.specs.Wholes.{is_whole, spot_at, rows_at}
 use Rattle.image_shape.proofs.Core.{amount-cons}
 use Rattle.image_shape.proofs.Rows.{table_rows}
 use Rattle.shape_test.specs.Fits.{bag_sum, least_points, least_size}

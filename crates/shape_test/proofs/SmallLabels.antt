@@ -1,5 +1,5 @@
 -- Labels are bytes in arenas that are made link by link.
-use Rattle.std.proofs.Common.{◌≡◌, ◌⊎◌, inl, inr, ℕ, zero, suc, ◌+◌, ◌<◌, ◌≤◌, ◌≢◌, Bool, true, false, cond, eqb, eqb-true, nat_lt, List, [], ◌∷◌, ◌++◌, length, get_or, set, Option, Some, None, Result, Ok, Err, OnOk, refl, sym, ap, ◌∙◌, subst, arith}
+use Rattle.std.proofs.Common.{◌≡◌, ◌⊎◌, inl, inr, ℕ, zero, suc, ◌<◌, ◌≤◌, Bool, true, false, cond, eqb, eqb-true, nat_lt, List, [], ◌∷◌, ◌++◌, length, set, Option, Some, None, refl, sym, ap, ◌∙◌, arith}
 use Rattle.std.proofs.Math.ListN.{get_or-eq_default}
 use Rattle.std.proofs.lemmas.Bool.{cases_lt}
 use Rattle.std.proofs.lemmas.List.{get_or-set_same, get_or-set_other, length-set}
@@ -54,10 +54,6 @@ small_put slots i l k S small j m x e = go (at_set slots i j (put (slot_of slots
         pick : (m ≡ l) ⊎ (link (slot_of slots i) (down m) ≡ Some x) → m < 256
         pick (inl z) = omega (arith, z, small)
         pick (inr z) = S i m x z
-
-pub put_told : {A E : Type 0} (slots new : List Slot) (i l : ℕ) (k : Link) (r : Result A E) → HasSmallLabels slots → l < 256 → OnOk r (new ≡ put_child slots i l k) → OnOk r (HasSmallLabels new)
-put_told slots new i l k (Ok x) S small e = subst HasSmallLabels (sym e) (small_put slots i l k S small)
-put_told slots new i l k (Err x) S small e = e
 
 link_content : (s : Slot) (c : Option Link) (m : ℕ) → link (with_content s c) (down m) ≡ link s (down m)
 link_content (node children content) c m = refl

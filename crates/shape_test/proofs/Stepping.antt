@@ -1,5 +1,5 @@
 -- Addresses within a schema's levels have few steps.
-use Rattle.std.proofs.Common.{◌≡◌, ℕ, zero, suc, ◌+◌, ◌*◌, ◌<◌, ◌≤◌, List, [], ◌∷◌, length, Some, None, refl, sym, ap, ◌∙◌, arith}
+use Rattle.std.proofs.Common.{◌≡◌, ℕ, zero, suc, ◌+◌, ◌*◌, ◌<◌, ◌≤◌, List, [], ◌∷◌, length, Some, ap, ◌∙◌, arith}
 use Rattle.cube_view.specs.Places.{deepest, time_dim}
 use Rattle.cube_view.specs.Walks.{down, across, Walk}
 use Rattle.cube_view.specs.declared.schema.Schema.{Schema}

@@ -1,4 +1,3 @@
-use Rattle.cube_view.specs.Walks.{Walk}
 use Rattle.shape_test.specs.Homes.{walk_of}
 use Rattle.shape_test.proofs.Whole.{at_place, past_levels}
 use Rattle.shape_test.proofs.size.is_deepest.Goals as goal
