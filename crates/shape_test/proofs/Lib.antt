@@ -17,7 +17,6 @@ pub mod Placing
 pub mod Pointed
 pub mod Rowwise
 pub mod Sizing
-pub mod SmallLabels
 pub mod Spotting
 pub mod Stepping
 pub mod Whole

@@ -27,8 +27,6 @@ mod owner;
 mod place;
 mod rows;
 mod size;
-#[cfg(test)]
-mod tests;
 
 pub use counts::has_row;
 pub use filled::is_filled;
