@@ -18,10 +18,10 @@ sum_upto f from children = sum_by (λ (k : ℕ × Link). cond {A = ℕ} (nat_lt 
 upto_cons : (f : ℕ → ℕ) (from : ℕ) (x : ℕ × Link) (xs : Children) → sum_upto f from (x ∷ xs) ≡ cond {A = ℕ} (nat_lt x.0 from) (f x.0) 0 + sum_upto f from xs
 upto_cons f from x xs = sum_by-cons (λ (k : ℕ × Link). cond {A = ℕ} (nat_lt k.0 from) (f k.0) 0) x xs
 
-counted_in : (k n v : ℕ) → k < n → cond {A = ℕ} (nat_lt k n) v 0 ≡ v
+pub counted_in : (k n v : ℕ) → k < n → cond {A = ℕ} (nat_lt k n) v 0 ≡ v
 counted_in k n v l = grind arith
 
-counted_out : (k n v : ℕ) → n ≤ k → cond {A = ℕ} (nat_lt k n) v 0 ≡ 0
+pub counted_out : (k n v : ℕ) → n ≤ k → cond {A = ℕ} (nat_lt k n) v 0 ≡ 0
 counted_out k n v l = grind arith
 
 pub upto_zero : (f : ℕ → ℕ) (children : Children) → sum_upto f 0 children ≡ 0

@@ -23,7 +23,7 @@ kept : (b : Bool) (e : ℕ × ℕ) (es : List (ℕ × ℕ)) → sum_by (λ (e : 
 kept true e es = sum_by-cons (λ (e : ℕ × ℕ). e.1) e es
 kept false e es = omega arith
 
-one_more : (k n v : ℕ) → cond {A = ℕ} (nat_lt k (n + 1)) v 0 ≡ cond {A = ℕ} (nat_lt k n) v 0 + cond {A = ℕ} (eqb k n) v 0
+pub one_more : (k n v : ℕ) → cond {A = ℕ} (nat_lt k (n + 1)) v 0 ≡ cond {A = ℕ} (nat_lt k n) v 0 + cond {A = ℕ} (eqb k n) v 0
 one_more k n v = grind arith
 
 rows_suc : (es : List (ℕ × ℕ)) (n : ℕ) → rows_before es (n + 1) ≡ rows_before es n + amount_under (map (spot_at []) es) [] n

@@ -1,5 +1,5 @@
 -- The rows of a table, from a bin on.
-use Rattle.std.proofs.Common.{◌≡◌, ◌⊎◌, inl, inr, ℕ, ◌+◌, ◌<◌, ◌≤◌, ◌^◌, Bool, true, false, cond, eqb, ltb, ltb-true, ltb-false, ne_eqb, nat_cmp, T, List, [], ◌∷◌, map, Option, Some, None, IfSome, MatchOption, refl, sym, ap, ◌∙◌, subst, arith}
+use Rattle.std.proofs.Common.{◌≡◌, ◌⊎◌, inl, inr, ℕ, ◌+◌, ◌<◌, ◌≤◌, ◌^◌, Bool, true, false, cond, eqb, eq-eqb, ltb, ltb-true, ltb-false, ne_eqb, nat_cmp, T, List, [], ◌∷◌, map, Option, Some, None, IfSome, MatchOption, refl, sym, ap, ◌∙◌, subst, arith}
 use Rattle.std.specs.FinMap.{entries, entries_sorted}
 use Rattle.std.specs.FinMap.Entries.{is_sorted, below_all}
 use Rattle.std.specs.Ordering.{is_lt}
@@ -18,10 +18,16 @@ use Rattle.shape_test.specs.Merging.{NoRowFrom, IsFirstRow, RowsMerge}
 abbrev in_bin : List (ℕ × ℕ) → ℕ → ℕ
 in_bin es b = amount_under (map (spot_at []) es) [] b
 
-other_bin : (e : ℕ × ℕ) (es : List (ℕ × ℕ)) (b : ℕ) → (e.0 ≡ b → ⊥) → in_bin es b ≡ 0 → in_bin (e ∷ es) b ≡ 0
-other_bin e es b other rest =
+past_bin : (e : ℕ × ℕ) (es : List (ℕ × ℕ)) (b n : ℕ) → (e.0 ≡ b → ⊥) → in_bin es b ≡ n → in_bin (e ∷ es) b ≡ n
+past_bin e es b n other rest =
     let a = amount-cons (spot_at [] e) (map (spot_at []) es) [] b in
     let o : one_under (spot_at [] e) [] b ≡ 0 = ap (λ (t : Bool). cond {A = ℕ} t e.1 0) (ne_eqb e.0 b other) in
+    omega (arith, a, o, rest)
+
+own_bin : (e : ℕ × ℕ) (es : List (ℕ × ℕ)) → in_bin es e.0 ≡ 0 → in_bin (e ∷ es) e.0 ≡ e.1
+own_bin e es rest =
+    let a = amount-cons (spot_at [] e) (map (spot_at []) es) [] e.0 in
+    let o : one_under (spot_at [] e) [] e.0 ≡ e.1 = ap (λ (t : Bool). cond {A = ℕ} t e.1 0) (eq-eqb e.0 e.0 refl) in
     omega (arith, a, o, rest)
 
 none_in : (es : List (ℕ × ℕ)) (from b : ℕ) → first_from from es ≡ None → from ≤ b → in_bin es b ≡ 0
@@ -29,10 +35,10 @@ none_in [] from b is le = refl
 none_in (e ∷ es) from b is le = go (ltb e.0 from) refl is (λ r. none_in es from b r le)
   where
     go : (t : Bool) → ltb e.0 from ≡ t → cond t (first_from from es) (Some e) ≡ None → (first_from from es ≡ None → in_bin es b ≡ 0) → in_bin (e ∷ es) b ≡ 0
-    go true x r rest = let lt = ltb-true e.0 from x in other_bin e es b (λ s. omega (arith, s, lt, le)) (rest r)
+    go true x r rest = let lt = ltb-true e.0 from x in past_bin e es b 0 (λ s. omega (arith, s, lt, le)) (rest r)
     go false x r rest = absurd cc
 
-less_of : (a b : ℕ) → is_lt (nat_cmp a b) ≡ true → a < b
+pub less_of : (a b : ℕ) → is_lt (nat_cmp a b) ≡ true → a < b
 less_of a b e = go (ltb a b) (eqb a b) refl e
   where
     go : (t u : Bool) → ltb a b ≡ t → is_lt (cond t Less (cond u Equal Greater)) ≡ true → a < b
@@ -45,28 +51,28 @@ all_later k b [] le B = refl
 all_later k b (x ∷ es) le B =
     let parts = and_parts _ (below_all nat_cmp k es) B in
     let up = less_of k x.0 parts.0 in
-    other_bin x es b (λ s. omega (arith, s, up, le)) (all_later k b es le parts.1)
+    past_bin x es b 0 (λ s. omega (arith, s, up, le)) (all_later k b es le parts.1)
 
--- the first row stands at or past the bin, and no bin between has a record
-first_in : (es : List (ℕ × ℕ)) (from : ℕ) (e : ℕ × ℕ) → is_sorted nat_cmp es ≡ true → first_from from es ≡ Some e → (from ≤ e.0) × ((b : ℕ) → from ≤ b → b < e.0 → in_bin es b ≡ 0)
+-- the first row stands at or past the bin with what its bin counts, and no bin between has a record
+first_in : (es : List (ℕ × ℕ)) (from : ℕ) (e : ℕ × ℕ) → is_sorted nat_cmp es ≡ true → first_from from es ≡ Some e → (from ≤ e.0) × ((b : ℕ) → from ≤ b → b < e.0 → in_bin es b ≡ 0) × (in_bin es e.0 ≡ e.1)
 first_in [] from e S is = absurd cc
 first_in (x ∷ es) from e S is = go (ltb x.0 from) refl is (λ r. first_in es from e parts.1 r)
   where
     parts : (below_all nat_cmp x.0 es ≡ true) × (is_sorted nat_cmp es ≡ true)
     parts = and_parts (below_all nat_cmp x.0 es) (is_sorted nat_cmp es) S
 
-    go : (t : Bool) → ltb x.0 from ≡ t → cond t (first_from from es) (Some x) ≡ Some e → (first_from from es ≡ Some e → (from ≤ e.0) × ((b : ℕ) → from ≤ b → b < e.0 → in_bin es b ≡ 0)) → (from ≤ e.0) × ((b : ℕ) → from ≤ b → b < e.0 → in_bin (x ∷ es) b ≡ 0)
+    go : (t : Bool) → ltb x.0 from ≡ t → cond t (first_from from es) (Some x) ≡ Some e → (first_from from es ≡ Some e → (from ≤ e.0) × ((b : ℕ) → from ≤ b → b < e.0 → in_bin es b ≡ 0) × (in_bin es e.0 ≡ e.1)) → (from ≤ e.0) × ((b : ℕ) → from ≤ b → b < e.0 → in_bin (x ∷ es) b ≡ 0) × (in_bin (x ∷ es) e.0 ≡ e.1)
     go true y r rest =
         let lt = ltb-true x.0 from y in
         let f = rest r in
-        (f.0, λ b le less. other_bin x es b (λ s. omega (arith, s, lt, le)) (f.1 b le less))
+        (f.0, λ b le less. past_bin x es b 0 (λ s. omega (arith, s, lt, le)) (f.1 b le less), past_bin x es e.0 e.1 (λ s. let g = f.0 in omega (arith, s, lt, g)) f.2)
     go false y r rest =
         let same : x ≡ e = cc in
         let k : x.0 ≡ e.0 = ap (λ (z : ℕ × ℕ). z.0) same in
         let le = ltb-false x.0 from y in
-        (omega (arith, le, k), λ b low less. other_bin x es b (λ s. omega (arith, s, less, k)) (all_later x.0 b es (omega (arith, less, k)) parts.0))
+        (omega (arith, le, k), λ b low less. past_bin x es b 0 (λ s. omega (arith, s, less, k)) (all_later x.0 b es (omega (arith, less, k)) parts.0), subst (λ (z : ℕ × ℕ). in_bin (x ∷ es) z.0 ≡ z.1) same (own_bin x es (all_later x.0 x.0 es (omega arith) parts.0)))
 
-from_test : (b : Bool) → T b → b ≡ true
+pub from_test : (b : Bool) → T b → b ≡ true
 from_test true t = refl
 from_test false t = absurd t
 
@@ -74,7 +80,7 @@ pub row_told : (m : BinCounts) (from : ℕ) (o : Option (ℕ × ℕ)) → o ≡ 
 row_told m from None is small = λ b le. table_rows [] [] m b ∙ none_in (entries m) from b (sym is) le
 row_told m from (Some e) is small =
     let f = first_in (entries m) from e (from_test (is_sorted nat_cmp (entries m)) (entries_sorted m)) (sym is) in
-    record { low = f.0; small = small; least = λ b le less. table_rows [] [] m b ∙ f.1 b le less }
+    record { low = f.0; small = small; there = table_rows [] [] m e.0 ∙ f.2; least = λ b le less. table_rows [] [] m b ∙ f.1 b le less }
 
 pub row_past : (m : BinCounts) (from : ℕ) → ((bin : ℕ) → 0 < count_of m bin → bin < 2 ^ 32) → 2 ^ 32 ≤ from → NoRowFrom m from
 row_past m from small le b low = go (cases_lt 0 (count_of m b))

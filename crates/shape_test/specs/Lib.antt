@@ -6,4 +6,6 @@ pub mod Homes
 pub mod Laws
 pub mod Links
 pub mod Merging
+pub mod Owners
 pub mod Places
+pub mod Sizes

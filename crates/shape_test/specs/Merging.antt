@@ -17,6 +17,7 @@ NoRowFrom m from = (bin : ℕ) → from ≤ bin → count_of m bin ≡ 0
 pub record IsFirstRow (m : BinCounts) (from : ℕ) (row : ℕ × ℕ) : Type 0 where
   pub low : from ≤ row.0
   pub small : row.0 < 2 ^ 32
+  pub there : count_of m row.0 ≡ row.1
   pub least : (bin : ℕ) → from ≤ bin → bin < row.0 → count_of m bin ≡ 0
 
 -- in each bin of a slot the content of a node counts along the way what the contents of its children count together

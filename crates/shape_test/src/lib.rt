@@ -4,10 +4,11 @@
 //! schema's, and some list of so many points has these spots with their weights. The laws of this crate say it of single
 //! slots and their homes. Slots that come from outside can so be tested one by one: where a home stands, whether each
 //! link leads where it may, whether a node or a table has what it needs, and whether a content counts what the contents
-//! of the children do. The crate stands on `image_shape` for the conditions on slots; bytes, and the homes themselves, it
-//! leaves to the crates above.
+//! of the children do. The homes are found from the owners of slots, and a size is tested against the bag. The crate
+//! stands on `image_shape` for the conditions on slots; bytes it leaves to the crates above.
 //!
 //! ```text
+//! let homes = homes_of(alloc, &schema, &arena, &mut steps)?;    // None where slots have no homes of so few steps
 //! let place = place_of(&schema, home);                          // None past the schema's levels or labels
 //! let fits = links_fit(&arena, &homes, id, &mut steps);         // each link's address is its target's home or coarser
 //! ```
@@ -17,19 +18,24 @@ mod children;
 mod counts;
 mod filled;
 mod home;
+mod homes;
 mod laws;
 mod links;
 mod merges;
 mod merging;
+mod owner;
 mod place;
 mod rows;
+mod size;
 
 pub use counts::has_row;
 pub use filled::is_filled;
 pub use home::{Move, is_coarser_after};
+pub use homes::{home_laws, homes_of};
 pub use laws::fit_laws;
 pub use links::links_fit;
 pub use merges::merges_at;
 pub use merging::node_merges;
 pub use place::{Place, place_of};
 pub use rows::rows_merge;
+pub use size::{size_fits, size_laws};
