@@ -1,0 +1,6 @@
+mod Pairs
+mod Paying
+mod Ranked
+mod Summing
+mod Topmost
+mod Tops

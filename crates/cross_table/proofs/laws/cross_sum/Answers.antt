@@ -1,0 +1,5 @@
+use Rattle.cross_table.proofs.Summing.{rows_add_up}
+use Rattle.cross_table.proofs.laws.cross_sum.Goals as goal
+
+pub returns : goal.returns
+returns c = rows_add_up

@@ -1,0 +1,4 @@
+pub mod Costs
+pub mod CrossTables
+pub mod Ranking
+pub mod TopTiles

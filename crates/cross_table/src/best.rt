@@ -1,0 +1,70 @@
+//! Top tiles.
+ghost use Rattle.std.specs.Prelude.{◌≡◌, ℕ, ◌+◌, ◌≤◌, IfOk, take};
+ghost use Rattle.cube_view.specs.Bag.{EachCounted};
+ghost use Rattle.cross_table.specs.Ranking.{as_map, total_of_row, IsFirstByTotal};
+ghost use Rattle.cross_table.specs.TopTiles.{IsBest, top_table};
+ghost use Rattle.tile_drill.specs.Costs.{map_cost};
+
+use cube_view::CubeView;
+use outer_io::{List, NoMemory};
+use probe_core::Steps;
+use query_syntax::{Query, RowOut, Table, Verb};
+use std::alloc::Global;
+use std::cmp::Reverse;
+use std::sync::ledger::Ledger;
+use tile_drill::answer;
+
+/// The map of the query so many levels down.
+fn map_of(query: &Query, levels: u8) -> Query
+    ensures { result ≡ as_map query.now levels }
+{
+    let mut map = *query;
+    map.verb = Verb::Map(levels);
+    map
+}
+
+/// The total of a row.
+fn row_weight(row: &RowOut) -> u64
+    ensures { result ≡ total_of_row row.now }
+{
+    match row {
+        RowOut::One(total) => *total,
+        RowOut::Value(_, total) => *total,
+        RowOut::Area(_, total) => *total,
+        RowOut::Bin(_, total) => *total,
+    }
+}
+
+/// The first so many rows in the order of their totals, the greatest first and equal ones as they stood.
+fn first_by_total(rows: List<RowOut>, count: usize) -> Result<List<RowOut>, NoMemory>
+    ensures { IfOk result (λ first. IsFirstByTotal rows count first) }
+{
+    let mut rows = rows.into_vec();
+    match rows.sort_by_key(|row| Reverse(row_weight(row))) {
+        Ok(()) => {
+            rows.truncate(count);
+            Ok(List::from_vec(rows))
+        }
+        Err(_) => Err(NoMemory),
+    }
+}
+
+/// The table of the tiles so many levels below the region that have the greatest totals, over any list of points that
+/// the view counts: at most so many rows. `NoMemory` where the map's rows find no room.
+pub fn best_answer<V: CubeView, L: Ledger>(
+    alloc: Global,
+    view: &V,
+    query: &Query,
+    levels: u8,
+    rows: u32,
+    steps: &mut Steps<L>,
+) -> Result<Table, NoMemory>
+    requires { IsBest (V.schema view.now) query.now levels rows }
+    ensures table { EachCounted (V.weight_at view.now) (V.seen view.now) (λ h. IfOk result (λ t. t ≡ top_table (V.schema view.now) query.now h levels rows)) }
+    ensures cost { EachCounted (V.weight_at view.now) (V.seen view.now) (λ h. steps.new ≤ steps.old + map_cost (V.costs view.now) (V.schema view.now) h query.now levels) }
+{
+    let map = map_of(query, levels);
+    let Table { rows: found, seen } = answer(alloc, view, &map, steps)?;
+    let first = first_by_total(found, rows as usize)?;
+    Ok(Table { rows: first, seen })
+}

@@ -1,0 +1,187 @@
+//! Cross tables.
+ghost use Rattle.std.specs.Prelude.{◌≡◌, ℕ, ◌+◌, ◌<◌, ◌≤◌, ◌++◌, IfOk, OnOk, length};
+ghost use Rattle.std.specs.List.{flat_map, range_with_len};
+ghost use Rattle.cube_view.specs.Bag.{EachCounted};
+ghost use Rattle.cross_table.specs.Costs.{pair_cost, within_cost, cross_cost};
+ghost use Rattle.cross_table.specs.CrossTables.{IsCross, IsValueOf, text_of_value, pair_total, pair_row, rows_within, cross_rows as cross_rows_of, cross_table};
+ghost use Rattle.query_syntax.specs.Boxes.{box, total as total_of};
+ghost use Rattle.query_syntax.specs.Items.{values_at};
+ghost use Rattle.query_syntax.specs.Parts.{with_one_value};
+ghost use Rattle.query_syntax.specs.Tables.{with_value};
+ghost use Rattle.query_walk.specs.Costs.{search_cost};
+ghost use Rattle.query_walk.specs.Walks.{HasBox};
+
+use crate::{PairRow, PairTable};
+use cube_view::{CubeView, Schema};
+use outer_io::{List, NoMemory, Text};
+use probe_core::Steps;
+use query_syntax::Query;
+use query_walk::total_in_box;
+use std::alloc::Global;
+use std::sync::ledger::Ledger;
+
+/// A value of a category, each by its number from 0.
+#[derive(Clone, Copy)]
+struct CategoryValue {
+    category: usize,
+    value: u8,
+}
+
+/// The texts of a category's values, in order.
+fn value_texts(schema: &Schema, category: usize) -> &[Text]
+    requires { category < length schema.now.categories }
+    ensures texts { result.now ≡ values_at schema.now.categories category }
+    ensures few { length result.now ≤ 256 }
+{
+    schema.categories.get(category).values.as_slice()
+}
+
+/// A copy of the value's text.
+fn text_of(alloc: Global, schema: &Schema, of: CategoryValue) -> Result<Text, NoMemory>
+    requires { IsValueOf schema.now of }
+    ensures { IfOk result (λ text. text ≡ text_of_value schema.now of) }
+{
+    let texts = value_texts(schema, of.category);
+    Text::copy_of(alloc, texts[usize::from(of.value)].as_str())
+}
+
+/// How much the bag has in the query's box that has the value.
+fn total_of_value<V: CubeView, L: Ledger>(
+    view: &V,
+    query: &Query,
+    of: CategoryValue,
+    steps: &mut Steps<L>,
+) -> u64
+    requires has_box { HasBox (V.schema view.now) query.now }
+    requires value { IsValueOf (V.schema view.now) of }
+    ensures total { EachCounted (V.weight_at view.now) (V.seen view.now) (λ h. result ≡ total_of (V.schema view.now) (with_value (box query.now) of.category of.value) h) }
+    ensures cost { EachCounted (V.weight_at view.now) (V.seen view.now) (λ h. steps.new ≤ steps.old + search_cost (V.costs view.now) (V.schema view.now) h (with_one_value query.now of.category of.value)) }
+{
+    if !query.sets[of.category].has(of.value) {
+        return 0;
+    }
+    let alone = query.with_one_value(of.category, of.value);
+    total_in_box(view, &alone, steps)
+}
+
+/// How much the bag has in the query's box that has both values.
+fn total_of_pair<V: CubeView, L: Ledger>(
+    view: &V,
+    query: &Query,
+    first: CategoryValue,
+    second: CategoryValue,
+    steps: &mut Steps<L>,
+) -> u64
+    requires has_box { HasBox (V.schema view.now) query.now }
+    requires first { IsValueOf (V.schema view.now) first }
+    requires second { IsValueOf (V.schema view.now) second }
+    ensures total { EachCounted (V.weight_at view.now) (V.seen view.now) (λ h. result ≡ pair_total (V.schema view.now) query.now h first second) }
+    ensures cost { EachCounted (V.weight_at view.now) (V.seen view.now) (λ h. steps.new ≤ steps.old + pair_cost (V.costs view.now) (V.schema view.now) h query.now first second) }
+{
+    if !query.sets[first.category].has(first.value) {
+        return 0;
+    }
+    let alone = query.with_one_value(first.category, first.value);
+    total_of_value(view, &alone, second, steps)
+}
+
+/// The row of both values.
+fn row_of_pair<V: CubeView, L: Ledger>(
+    alloc: Global,
+    view: &V,
+    query: &Query,
+    first: CategoryValue,
+    second: CategoryValue,
+    steps: &mut Steps<L>,
+) -> Result<PairRow, NoMemory>
+    requires has_box { HasBox (V.schema view.now) query.now }
+    requires first { IsValueOf (V.schema view.now) first }
+    requires second { IsValueOf (V.schema view.now) second }
+    ensures row { IfOk result (λ row. EachCounted (V.weight_at view.now) (V.seen view.now) (λ h. row ≡ pair_row (V.schema view.now) query.now h first second)) }
+    ensures cost { EachCounted (V.weight_at view.now) (V.seen view.now) (λ h. steps.new ≤ steps.old + pair_cost (V.costs view.now) (V.schema view.now) h query.now first second) }
+{
+    let total = total_of_pair(view, query, first, second, steps);
+    let first = text_of(alloc, view.schema(), first)?;
+    let second = text_of(alloc, view.schema(), second)?;
+    Ok(PairRow {
+        first,
+        second,
+        total,
+    })
+}
+
+/// Adds the rows within a value: one for each value of another category.
+fn push_rows_within<V: CubeView, L: Ledger>(
+    alloc: Global,
+    view: &V,
+    query: &Query,
+    first: CategoryValue,
+    second: usize,
+    rows: &mut List<PairRow>,
+    steps: &mut Steps<L>,
+) -> Result<(), NoMemory>
+    requires has_box { HasBox (V.schema view.now) query.now }
+    requires first { IsValueOf (V.schema view.now) first }
+    requires second { second < length (V.schema view.now).categories }
+    ensures rows { OnOk result (EachCounted (V.weight_at view.now) (V.seen view.now) (λ h. rows.new ≡ rows.old ++ rows_within (V.schema view.now) query.now h second first)) }
+    ensures cost { EachCounted (V.weight_at view.now) (V.seen view.now) (λ h. steps.new ≤ steps.old + within_cost (V.costs view.now) (V.schema view.now) h query.now second first) }
+{
+    for value in 0..value_texts(view.schema(), second).len() {
+        let other = CategoryValue {
+            category: second,
+            value: value as u8,
+        };
+        let row = row_of_pair(alloc, view, query, first, other, steps)?;
+        rows.add(row)?;
+    }
+    Ok(())
+}
+
+/// The rows of a cross table: those within each value of the first category.
+fn cross_rows<V: CubeView, L: Ledger>(
+    alloc: Global,
+    view: &V,
+    query: &Query,
+    first: usize,
+    second: usize,
+    steps: &mut Steps<L>,
+) -> Result<List<PairRow>, NoMemory>
+    requires has_box { HasBox (V.schema view.now) query.now }
+    requires first { first < length (V.schema view.now).categories }
+    requires second { second < length (V.schema view.now).categories }
+    ensures rows { IfOk result (λ rows. EachCounted (V.weight_at view.now) (V.seen view.now) (λ h. rows ≡ cross_rows_of (V.schema view.now) query.now h first second)) }
+    ensures cost { EachCounted (V.weight_at view.now) (V.seen view.now) (λ h. steps.new ≤ steps.old + cross_cost (V.costs view.now) (V.schema view.now) h query.now first second) }
+{
+    let mut rows = List::new(alloc);
+    for value in 0..value_texts(view.schema(), first).len() {
+        let one = CategoryValue {
+            category: first,
+            value: value as u8,
+        };
+        push_rows_within(alloc, view, query, one, second, &mut rows, steps)?;
+    }
+    Ok(rows)
+}
+
+/// The cross table of two categories, by their numbers from 0, over any list of points that the view counts: a row for
+/// each value of the first and, within it, each value of the second. `NoMemory` where the rows find no room.
+#[tactic(auto, unfolding(crate::specs::CrossTables::cross_table))]
+pub fn cross_answer<V: CubeView, L: Ledger>(
+    alloc: Global,
+    view: &V,
+    query: &Query,
+    first: u8,
+    second: u8,
+    steps: &mut Steps<L>,
+) -> Result<PairTable, NoMemory>
+    requires { IsCross (V.schema view.now) query.now first second }
+    ensures table { EachCounted (V.weight_at view.now) (V.seen view.now) (λ h. IfOk result (λ t. t ≡ cross_table (V.schema view.now) query.now h first second)) }
+    ensures cost { EachCounted (V.weight_at view.now) (V.seen view.now) (λ h. steps.new ≤ steps.old + cross_cost (V.costs view.now) (V.schema view.now) h query.now first second) }
+{
+    let (first, second) = (usize::from(first), usize::from(second));
+    let rows = cross_rows(alloc, view, query, first, second, steps)?;
+    Ok(PairTable {
+        rows,
+        seen: view.seen(),
+    })
+}

@@ -1,0 +1,15 @@
+//! What the definitions say, as laws.
+ghost use Rattle.cross_table.specs.CrossTables.{CrossSum};
+ghost use Rattle.cross_table.specs.TopTiles.{TopOrder};
+
+/// The totals of the rows of a cross table add up to the query's total, since each point has one value of each category.
+/// It does nothing when run.
+pub fn cross_sum()
+    ensures { CrossSum }
+{}
+
+/// The top tiles are in order, each has something, and another that has something is behind all of them. It does nothing
+/// when run.
+pub fn top_order()
+    ensures { TopOrder }
+{}
