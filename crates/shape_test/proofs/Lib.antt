@@ -3,6 +3,9 @@ pub mod Agreement
 pub mod Childwise
 pub mod Coarser
 pub mod Filling
+pub mod Fitting
+pub mod Gathering
+pub mod Kept
 pub mod Labelled
 pub mod Counting
 pub mod Deciding
@@ -11,3 +14,4 @@ pub mod OneHome
 pub mod Over
 pub mod Placing
 pub mod Rowwise
+pub mod Spreading

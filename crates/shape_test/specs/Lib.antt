@@ -7,3 +7,4 @@ pub mod Laws
 pub mod Links
 pub mod Merging
 pub mod Places
+pub mod Standing

@@ -23,6 +23,7 @@ mod merges;
 mod merging;
 mod place;
 mod rows;
+mod standing;
 
 pub use counts::has_row;
 pub use filled::is_filled;
@@ -33,3 +34,4 @@ pub use merges::merges_at;
 pub use merging::node_merges;
 pub use place::{Place, place_of};
 pub use rows::rows_merge;
+pub use standing::slots_fit;
