@@ -38,7 +38,7 @@ ends_with_time schema = record {
 }
 
 -- a spot lies under the home of each slot but the root
-under_home : (dims : ℕ) (slots : List Slot) (homes : List Walk) (h : List Weighted) → HasShape dims slots homes h → (j : ℕ) → 0 < j → j < length slots → HasSpot (spots_in h) (home_of homes j)
+pub under_home : (dims : ℕ) (slots : List Slot) (homes : List Walk) (h : List Weighted) → HasShape dims slots homes h → (j : ℕ) → 0 < j → j < length slots → HasSpot (spots_in h) (home_of homes j)
 under_home dims slots homes h S j some l =
     let o = S.has_homes.owner j some l in
     let w = S.holds.wanted o.by o.step (proper j) o.owns in

@@ -7,6 +7,9 @@ pub mod Counting
 pub mod Deciding
 pub mod Ending
 pub mod Filling
+pub mod Fitting
+pub mod Gathering
+pub mod Kept
 pub mod Labelled
 pub mod Noting
 pub mod OneHome
@@ -18,5 +21,6 @@ pub mod Pointed
 pub mod Rowwise
 pub mod Sizing
 pub mod Spotting
+pub mod Spreading
 pub mod Stepping
 pub mod Whole

@@ -63,10 +63,10 @@ module _ (slots : List Slot) (seen : ℕ → Step → Type 0) (old : Owners) (A 
                   let q = (proper_to l j w).0 in
                   absurd cc
       go true p = subst (AreOwners slots more) (sym same) (record {
-          size = length-set old (target l) (Some (owner_of i m)) ∙ A.size;
-          told = told;
-          all = all;
-        })
+        size = length-set old (target l) (Some (owner_of i m)) ∙ A.size;
+        told = told;
+        all = all;
+      })
         where
           same : new ≡ set old (target l) (Some (owner_of i m))
           same = N.is ∙ ap (λ (b : Bool). cond b (set old (target l) (Some (owner_of i m))) old) p

@@ -110,7 +110,6 @@ no_more : (f : ℕ → ℕ) (from to : ℕ) (es : List (ℕ × ℕ)) → f 0 ≡
 no_more f from to [] z le none = refl
 no_more f from to (e ∷ es) z le none = go (cases_lt e.0 from) (cases_lt e.0 to) (no_more f from to es z le (λ b low less. let n = none b low less in let d = in_cons (λ k. k) b e es in omega (arith, n, d)))
   where
-
     a : rows_upto f to (e ∷ es) ≡ cond {A = ℕ} (nat_lt e.0 to) (f e.1) 0 + rows_upto f to es
     a = upto_cons f to e es
 
@@ -141,7 +140,6 @@ all_upto : (f : ℕ → ℕ) (from : ℕ) (es : List (ℕ × ℕ)) → f 0 ≡ 0
 all_upto f from [] z none = refl
 all_upto f from (e ∷ es) z none = go (cases_lt e.0 from) (all_upto f from es z (λ b low. let n = none b low in let d = in_cons (λ k. k) b e es in omega (arith, n, d)))
   where
-
     go : (e.0 < from) ⊎ (from ≤ e.0) → rows_upto f from es ≡ sum_by (λ (e : ℕ × ℕ). f e.1) es → rows_upto f from (e ∷ es) ≡ sum_by (λ (e : ℕ × ℕ). f e.1) (e ∷ es)
     go (inl x) r =
         let a = upto_cons f from e es in
@@ -212,5 +210,5 @@ size_with s l = record { sum = s; least = l }
 pub size_plus : (h k : List Weighted) (r : BagSize) → r.sum ≡ capped ((size_of h).sum + (size_of k).sum) → r.least ≡ capped ((size_of h).least + (size_of k).least) → r ≡ size_of (h ++ k)
 size_plus h k r s l =
     ap₂ size_with
-      (s ∙ (capped_plus (bag_sum h) (bag_sum k) ∙ ap capped (sym (sum_by-append (λ (w : Weighted). w.amount) h k))))
-      (l ∙ (capped_plus (least_size h) (least_size k) ∙ ap capped (sym (sum_by-append (λ (w : Weighted). least_points w.amount) h k))))
+    (s ∙ (capped_plus (bag_sum h) (bag_sum k) ∙ ap capped (sym (sum_by-append (λ (w : Weighted). w.amount) h k))))
+    (l ∙ (capped_plus (least_size h) (least_size k) ∙ ap capped (sym (sum_by-append (λ (w : Weighted). least_points w.amount) h k))))

@@ -1,11 +1,12 @@
 pub mod Agreeing
-pub mod Labels
-pub mod Fits
 pub mod Filled
+pub mod Fits
 pub mod Homes
+pub mod Labels
 pub mod Laws
 pub mod Links
 pub mod Merging
 pub mod Owners
 pub mod Places
 pub mod Sizes
+pub mod Standing

@@ -27,6 +27,7 @@ mod owner;
 mod place;
 mod rows;
 mod size;
+mod standing;
 
 pub use counts::has_row;
 pub use filled::is_filled;
@@ -39,3 +40,4 @@ pub use merging::node_merges;
 pub use place::{Place, place_of};
 pub use rows::rows_merge;
 pub use size::{size_fits, size_laws};
+pub use standing::slots_fit;

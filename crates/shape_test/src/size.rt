@@ -136,7 +136,13 @@ fn bag_size<L: Ledger>(
 {
     let mut size = NOTHING;
     for i in 0..arena.len() {
-        let own = slot_size(schema, arena, homes.get(i).as_slice(), SlotId(i as u32), steps);
+        let own = slot_size(
+            schema,
+            arena,
+            homes.get(i).as_slice(),
+            SlotId(i as u32),
+            steps,
+        );
         size = both(size, own);
     }
     size
@@ -156,10 +162,7 @@ fn may_weigh(schema: &Schema, size: u64, sum: u64) -> bool
 fn is_size(schema: &Schema, bag: BagSize, size: u64) -> bool
     ensures { (h : List Weighted) → bag ≡ size_of h → IsTrue result ↔ IsSizeOf schema.now h size }
 {
-    size <= bag.sum
-        && bag.least <= size
-        && size <= MOST_POINTS
-        && may_weigh(schema, size, bag.sum)
+    size <= bag.sum && bag.least <= size && size <= MOST_POINTS && may_weigh(schema, size, bag.sum)
 }
 
 /// Whether some list of so many points of the schema has the bag of the slots.
