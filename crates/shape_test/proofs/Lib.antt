@@ -11,6 +11,7 @@ pub mod Fitting
 pub mod Gathering
 pub mod Kept
 pub mod Labelled
+pub mod Light
 pub mod Noting
 pub mod OneHome
 pub mod Over
@@ -23,4 +24,5 @@ pub mod Sizing
 pub mod Spotting
 pub mod Spreading
 pub mod Stepping
+pub mod Together
 pub mod Whole

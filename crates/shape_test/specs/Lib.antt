@@ -10,3 +10,4 @@ pub mod Owners
 pub mod Places
 pub mod Sizes
 pub mod Standing
+pub mod Testable

@@ -1,5 +1,5 @@
 -- The size of slots that fit a schema, and the points that have their bag.
-use Rattle.std.specs.Prelude.{◌≡◌, ℕ, ◌<◌, ◌≤◌, IsTrue, List, All, length, map, sum_by}
+use Rattle.std.specs.Prelude.{◌≡◌, ℕ, ◌<◌, ◌≤◌, ◌^◌, IsTrue, List, All, length, map, sum_by}
 use Rattle.std.specs.FinMap.{entries}
 use Rattle.cube_view.specs.Bag.{most_points}
 use Rattle.cube_view.specs.Paths.{spot_path}
@@ -8,11 +8,12 @@ use Rattle.cube_view.specs.Points.{Point, spot_of, weight_of_point}
 use Rattle.cube_view.specs.Validity.{valid}
 use Rattle.cube_view.specs.Walks.{Walk}
 use Rattle.cube_view.specs.declared.schema.Schema.{Schema}
-use Rattle.time_table.specs.Counts.{BinCounts}
+use Rattle.time_table.specs.Counts.{BinCounts, total_count}
 use Rattle.node_arena.specs.Amounts.{Weighted}
 use Rattle.node_arena.specs.Shape.{home_of, HasShape}
-use Rattle.node_arena.specs.Slots.{Slot}
+use Rattle.node_arena.specs.Slots.{Slot, slot_of, counts_of}
 use Rattle.node_arena.specs.Stats.{capped}
+use Rattle.image_shape.specs.Laws.{AllTablesCounted}
 use Rattle.shape_test.specs.Fits.{bag_sum, least_points, least_size, Fits}
 use Rattle.shape_test.specs.Labels.{labels_fit}
 use Rattle.shape_test.specs.declared.size.BagSize.{BagSize}
@@ -52,3 +53,7 @@ pub record IsOfPoints (schema : Schema) (slots : List Slot) (size : ℕ) : Type 
 -- slots that fit a schema are a cube of so many points
 abbrev pub TellsPoints : Type 0
 TellsPoints = (schema : Schema) (slots : List Slot) (size : ℕ) → length schema.categories ≤ 4 → Fits schema slots size → IsOfPoints schema slots size
+
+-- no table of slots that fit a schema counts more records than one can hold
+abbrev pub TellsLight : Type 0
+TellsLight = (schema : Schema) (slots : List Slot) (size : ℕ) → AllTablesCounted slots → Fits schema slots size → (i : ℕ) → i < length slots → total_count (counts_of (slot_of slots i)) ≤ 2 ^ 63

@@ -17,6 +17,7 @@
 mod children;
 mod counts;
 mod filled;
+mod fit;
 mod home;
 mod homes;
 mod laws;
@@ -31,6 +32,7 @@ mod standing;
 
 pub use counts::has_row;
 pub use filled::is_filled;
+pub use fit::fits;
 pub use home::{Move, is_coarser_after};
 pub use homes::{home_laws, homes_of};
 pub use laws::fit_laws;

@@ -10,7 +10,7 @@ ghost use Rattle.shape_test.specs.Filled.{HasSmallBins};
 ghost use Rattle.shape_test.specs.Fits.{IsSizeOf, least_points, slots_bag};
 ghost use Rattle.shape_test.specs.Homes.{walk_of, walks_of};
 ghost use Rattle.shape_test.specs.Labels.{labels_fit, schema_levels};
-ghost use Rattle.shape_test.specs.Sizes.{HasLabels, TellsPoints, size_of, table_size};
+ghost use Rattle.shape_test.specs.Sizes.{HasLabels, TellsLight, TellsPoints, size_of, table_size};
 
 use crate::home::Move;
 use crate::place::{deepest, place_of};
@@ -182,8 +182,9 @@ pub fn size_fits<L: Ledger>(
     is_size(schema, bag_size(schema, arena, homes, steps), size)
 }
 
-/// What a size tells, as a law of the definitions: slots that fit with it are a cube of so many points. It does nothing
-/// when run.
+/// What a size tells, as laws of the definitions: slots that fit with it are a cube of so many points, and no table of them
+/// counts more records than one can hold. It does nothing when run.
 pub fn size_laws()
-    ensures { TellsPoints }
+    ensures points { TellsPoints }
+    ensures light { TellsLight }
 {}

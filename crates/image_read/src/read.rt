@@ -1,0 +1,60 @@
+//! The slots and the size of an image.
+ghost use Rattle.probe_core.specs.Blanks.{IsBlankOf};
+ghost use Rattle.shape_test.specs.Testable.{AreTestable};
+ghost use Rattle.image_read.specs.Read.{FitsSlots, ReadsImage};
+
+use crate::fault::ImageFault;
+use cube_view::Schema;
+use image_parse::{ImageParseFault, ParsedImage, image_parse_laws, parse_image};
+use node_arena::{Arena, SlotId};
+use probe_core::Steps;
+use shape_test::{fits, size_laws};
+use std::alloc::Global;
+use std::marker::Brand;
+use std::sync::ledger::{Blank, Ledger};
+
+/// The most bytes that an image has.
+const MOST_BYTES: usize = 1 << 30;
+
+/// The slots of an image, the root and the size, if they fit the schema, by steps of a ledger of its own.
+fn fit_image<L: Ledger>(
+    alloc: Global,
+    schema: &Schema,
+    image: ParsedImage,
+    blank: Blank,
+) -> Result<(Arena, SlotId, u64), ImageFault>
+    requires blank { IsBlankOf L.name L.parts blank }
+    requires testable { AreTestable image.arena }
+    ensures { FitsSlots schema.now image.arena image.size result }
+{
+    let mut steps = Steps::<L>::new(blank);
+    let ParsedImage { arena, size } = image;
+    if fits(alloc, schema, &arena, size, &mut steps)? {
+        Ok((arena, SlotId(0), size))
+    } else {
+        Err(ImageFault::NotShape)
+    }
+}
+
+/// The slots, the root and the size of which the bytes are the image, for a schema that they fit. `TooLong` comes exactly
+/// where there are more than 2^30 bytes; with no more `NotImage` exactly where they are no image, and `NotShape` exactly
+/// where they are one that doesn't fit the schema, unless memory was wanted before.
+pub fn read_image(
+    alloc: Global,
+    schema: &Schema,
+    bytes: &[u8],
+) -> Result<(Arena, SlotId, u64), ImageFault>
+    ensures { ReadsImage schema.now bytes.now result }
+{
+    image_parse_laws();
+    size_laws();
+    if bytes.len() > MOST_BYTES {
+        return Err(ImageFault::TooLong);
+    }
+    match parse_image(alloc, bytes) {
+        Ok(Some(image)) => fit_image::<Brand>(alloc, schema, image, Blank::new(1)),
+        Ok(None) => Err(ImageFault::NotShape),
+        Err(ImageParseFault::NotImage) => Err(ImageFault::NotImage),
+        Err(ImageParseFault::NoMemory) => Err(ImageFault::NoMemory),
+    }
+}

@@ -1,0 +1,55 @@
+//! Whether slots with a size fit a schema.
+ghost use Rattle.std.specs.Prelude.{◌↔◌, ◌<◌, ◌^◌, length, IsTrue, IfOk};
+ghost use Rattle.shape_test.specs.Fits.{Fits};
+ghost use Rattle.shape_test.specs.Owners.{AreHomesIn};
+ghost use Rattle.shape_test.specs.Testable.{AreTestable};
+
+use crate::home::Move;
+use crate::homes::homes_of;
+use crate::size::size_fits;
+use crate::standing::slots_fit;
+use cube_view::Schema;
+use node_arena::Arena;
+use outer_io::{List, NoMemory};
+use probe_core::Steps;
+use std::alloc::Global;
+use std::sync::ledger::Ledger;
+
+/// Whether slots with a size fit the schema, their homes being given.
+fn fits_at<L: Ledger>(
+    alloc: Global,
+    schema: &Schema,
+    arena: &Arena,
+    homes: &List<List<Move>>,
+    size: u64,
+    steps: &mut Steps<L>,
+) -> Result<bool, NoMemory>
+    requires few { length arena.now < 2 ^ 32 }
+    requires homes { AreHomesIn schema.now arena.now homes.now }
+    requires testable { AreTestable arena.now }
+    ensures { IfOk result (λ r. IsTrue r ↔ Fits schema.now arena.now size) }
+{
+    if !slots_fit(alloc, schema, arena, homes, steps)? {
+        return Ok(false);
+    }
+    Ok(size_fits(schema, arena, homes, size, steps))
+}
+
+/// Whether slots with a size fit the schema: they are a cube of the spots that their time tables count, all labels are the
+/// schema's, and some list of so many points has these spots with their weights. The homes of the slots are looked for
+/// first; slots that have none fit no schema.
+pub fn fits<L: Ledger>(
+    alloc: Global,
+    schema: &Schema,
+    arena: &Arena,
+    size: u64,
+    steps: &mut Steps<L>,
+) -> Result<bool, NoMemory>
+    requires { AreTestable arena.now }
+    ensures { IfOk result (λ r. IsTrue r ↔ Fits schema.now arena.now size) }
+{
+    match homes_of(alloc, schema, arena, steps)? {
+        Some(homes) => fits_at(alloc, schema, arena, &homes, size, steps),
+        None => Ok(false),
+    }
+}
