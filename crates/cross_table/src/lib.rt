@@ -16,6 +16,8 @@ mod best;
 mod cross;
 mod laws;
 mod table;
+#[cfg(test)]
+mod tests;
 
 pub use best::best_answer;
 pub use cross::cross_answer;

@@ -1,0 +1,372 @@
+//! Cross tables and top tiles over plain cubes, against rows that were counted by hand.
+ghost use Rattle.std.specs.Prelude.{◌≡◌};
+ghost use Rattle.probe_core.specs.Blanks.{IsBlankOf};
+
+use crate::{PairRow, best_answer, cross_answer};
+use cube_view::{CubeView, Point, Schema, Spot, Tile, is_sound};
+use example_schemas::{point, schema_of_kinds, schema_of_two_categories};
+use outer_io::NoMemory;
+use plain_cube::PlainCube;
+use probe_core::Steps;
+use query_syntax::{Choice, Query, RowOut, Span, ValueSet, Verb, is_valid_query};
+use std::alloc::Global;
+use std::marker::Brand;
+use std::process::Abort;
+use std::sync::ledger::{Blank, Ledger};
+use std::test::Fail;
+
+/// A cube of these points.
+fn cube_of(
+    rt: &impl Abort,
+    alloc: Global,
+    schema: Schema,
+    points: &[Point],
+) -> Result<PlainCube, NoMemory> {
+    let mut cube = PlainCube::new(alloc, schema);
+    for point in points {
+        assert!(rt; is_sound(cube.schema(), point));
+        assert!(rt; cube.seen() < 1 << 35);
+        cube.insert(*point)?;
+    }
+    Ok(cube)
+}
+
+/// The point with that weight.
+fn weighing(point: Point, weight: u32) -> Point {
+    Point {
+        spot: point.spot,
+        weight,
+    }
+}
+
+/// The point at (0, 0) of these values of two categories.
+fn of_values(first: u8, second: u8) -> Point {
+    let spot = Spot {
+        x: 0,
+        y: 0,
+        values: [first, second, 0, 0],
+        bin: 0,
+    };
+    Point { spot, weight: 1 }
+}
+
+/// The count in that tile of the records with these values.
+fn count_of(region: Tile, sets: [Choice; 4]) -> Query
+    ensures { result.verb ≡ Verb.Count }
+{
+    Query {
+        verb: Verb::Count,
+        region,
+        sets,
+        time: Span {
+            from: 0,
+            to: 1 << 32,
+        },
+    }
+}
+
+fn tile(z: u8, x: u32, y: u32) -> Tile {
+    Tile { z, x, y }
+}
+
+/// A row of a cross table as the tests write it, each value by its one letter.
+#[derive(Clone, Copy)]
+struct WantedRow {
+    first: u8,
+    second: u8,
+    total: u64,
+}
+
+fn row(first: u8, second: u8, total: u64) -> WantedRow {
+    WantedRow {
+        first,
+        second,
+        total,
+    }
+}
+
+fn is_row(row: &PairRow, want: &WantedRow) -> bool {
+    row.first.as_str().as_bytes() == [want.first].as_slice()
+        && row.second.as_str().as_bytes() == [want.second].as_slice()
+        && row.total == want.total
+}
+
+/// Sets of values, the two categories, and the rows.
+#[derive(Drop)]
+struct Cross<'a> {
+    of_first: Choice,
+    of_second: Choice,
+    first: u8,
+    second: u8,
+    rows: &'a [WantedRow],
+}
+
+/// The table of all records.
+fn of_all<'a>(first: u8, second: u8, rows: &'a [WantedRow]) -> Cross<'a> {
+    Cross {
+        of_first: Choice::All,
+        of_second: Choice::All,
+        first,
+        second,
+        rows,
+    }
+}
+
+fn check_rows(rt: &impl Abort, rows: &[PairRow], wanted: &[WantedRow]) {
+    assert_eq!(rt; rows.len(), wanted.len());
+    for (found, want) in rows.iter().zip(wanted) {
+        assert!(rt; is_row(found, want));
+    }
+}
+
+fn check_cross_in<L: Ledger>(
+    rt: &impl Abort,
+    alloc: Global,
+    cube: &PlainCube,
+    cases: &[Cross],
+    blank: Blank,
+) -> Result<(), NoMemory>
+    requires { IsBlankOf L.name L.parts blank }
+{
+    let mut steps = Steps::<L>::new(blank);
+    for case in cases {
+        let (first, second) = (case.first, case.second);
+        let sets = [case.of_first, case.of_second, Choice::All, Choice::All];
+        let query = count_of(tile(0, 0, 0), sets);
+        assert!(rt; is_valid_query(cube.schema(), &query));
+        assert!(rt; usize::from(first) < cube.schema().categories.len());
+        assert!(rt; usize::from(second) < cube.schema().categories.len());
+        assert!(rt; first != second);
+        let table = cross_answer(alloc, cube, &query, first, second, &mut steps)?;
+        assert_eq!(rt; table.seen, cube.seen());
+        check_rows(rt, table.rows.as_slice(), case.rows);
+    }
+    Ok(())
+}
+
+fn check_cross(
+    rt: &impl Abort,
+    alloc: Global,
+    points: &[Point],
+    cases: &[Cross],
+) -> Result<(), NoMemory> {
+    let cube = cube_of(rt, alloc, schema_of_two_categories(alloc)?, points)?;
+    check_cross_in::<Brand>(rt, alloc, &cube, cases, Blank::new(1))
+}
+
+#[test]
+fn crosses_each_value_with_each(rt: HostRuntime) -> Result<(), Fail> {
+    let points = [of_values(0, 0), of_values(0, 0), of_values(0, 1)];
+    let rows = [
+        row(b'a', b'c', 2),
+        row(b'a', b'd', 1),
+        row(b'b', b'c', 0),
+        row(b'b', b'd', 0),
+    ];
+    let other_way = [
+        row(b'c', b'a', 2),
+        row(b'c', b'b', 0),
+        row(b'd', b'a', 1),
+        row(b'd', b'b', 0),
+    ];
+    let cases = [of_all(0, 1, &rows), of_all(1, 0, &other_way)];
+    check_cross(&rt, rt.alloc(), &points, &cases)?;
+    Ok(())
+}
+
+#[test]
+fn keeps_the_rows_that_an_item_empties(rt: HostRuntime) -> Result<(), Fail> {
+    let points = [of_values(0, 0), of_values(0, 0), of_values(0, 1)];
+    let rows = [
+        row(b'a', b'c', 0),
+        row(b'a', b'd', 1),
+        row(b'b', b'c', 0),
+        row(b'b', b'd', 0),
+    ];
+    let only_d = Cross {
+        of_first: Choice::All,
+        of_second: Choice::Only(ValueSet::one(1)),
+        first: 0,
+        second: 1,
+        rows: &rows,
+    };
+    check_cross(&rt, rt.alloc(), &points, &[only_d])?;
+    Ok(())
+}
+
+#[test]
+fn a_cross_table_adds_up_weights(rt: HostRuntime) -> Result<(), Fail> {
+    let points = [
+        weighing(of_values(0, 0), 5),
+        weighing(of_values(1, 1), 2),
+        weighing(of_values(1, 1), 268_435_455),
+    ];
+    let rows = [
+        row(b'a', b'c', 5),
+        row(b'a', b'd', 0),
+        row(b'b', b'c', 0),
+        row(b'b', b'd', 268_435_457),
+    ];
+    check_cross(&rt, rt.alloc(), &points, &[of_all(0, 1, &rows)])?;
+    Ok(())
+}
+
+#[test]
+fn a_cross_table_of_no_points_has_all_rows(rt: HostRuntime) -> Result<(), Fail> {
+    let rows = [
+        row(b'a', b'c', 0),
+        row(b'a', b'd', 0),
+        row(b'b', b'c', 0),
+        row(b'b', b'd', 0),
+    ];
+    check_cross(&rt, rt.alloc(), &[], &[of_all(0, 1, &rows)])?;
+    Ok(())
+}
+
+/// A region and the kinds, how many levels down and how many rows, and the rows.
+#[derive(Drop)]
+struct BestCase<'a> {
+    region: Tile,
+    kind: Choice,
+    levels: u8,
+    rows: u32,
+    tiles: &'a [(Tile, u64)],
+}
+
+/// The top tiles of all records.
+fn best<'a>(levels: u8, rows: u32, tiles: &'a [(Tile, u64)]) -> BestCase<'a> {
+    BestCase {
+        region: tile(0, 0, 0),
+        kind: Choice::All,
+        levels,
+        rows,
+        tiles,
+    }
+}
+
+fn is_area(row: &RowOut, want: &(Tile, u64)) -> bool {
+    match row {
+        RowOut::Area(tile, total) => *tile == want.0 && *total == want.1,
+        _ => false,
+    }
+}
+
+fn check_best_in<L: Ledger>(
+    rt: &impl Abort,
+    alloc: Global,
+    cube: &PlainCube,
+    cases: &[BestCase],
+    blank: Blank,
+) -> Result<(), NoMemory>
+    requires { IsBlankOf L.name L.parts blank }
+{
+    let mut steps = Steps::<L>::new(blank);
+    for case in cases {
+        let sets = [case.kind, Choice::All, Choice::All, Choice::All];
+        let query = count_of(case.region, sets);
+        assert!(rt; is_valid_query(cube.schema(), &query));
+        assert!(rt; case.levels <= 10 && case.levels <= cube.schema().depth);
+        assert!(rt; query.region.z <= cube.schema().depth - case.levels);
+        assert!(rt; 1 <= case.rows && case.rows <= 1000);
+        let table = best_answer(alloc, cube, &query, case.levels, case.rows, &mut steps)?;
+        assert_eq!(rt; table.seen, cube.seen());
+        assert_eq!(rt; table.rows.len(), case.tiles.len());
+        for (found, want) in table.rows.as_slice().iter().zip(case.tiles) {
+            assert!(rt; is_area(found, want));
+        }
+    }
+    Ok(())
+}
+
+fn check_best(
+    rt: &impl Abort,
+    alloc: Global,
+    points: &[Point],
+    cases: &[BestCase],
+) -> Result<(), NoMemory> {
+    let cube = cube_of(rt, alloc, schema_of_kinds(alloc)?, points)?;
+    check_best_in::<Brand>(rt, alloc, &cube, cases, Blank::new(1))
+}
+
+#[test]
+fn the_top_tiles_are_those_of_most_records(rt: HostRuntime) -> Result<(), Fail> {
+    let points = [point(0, 0, 0, 0), point(7, 7, 1, 1), point(0, 0, 0, 1)];
+    let quarter = [(tile(1, 0, 0), 2)];
+    let both = [(tile(3, 0, 0), 2), (tile(3, 7, 7), 1)];
+    let whole = [(tile(0, 0, 0), 3)];
+    let cases = [best(1, 1, &quarter), best(3, 5, &both), best(0, 1, &whole)];
+    check_best(&rt, rt.alloc(), &points, &cases)?;
+    Ok(())
+}
+
+#[test]
+fn of_two_equal_tiles_the_earlier_is_the_top_one(rt: HostRuntime) -> Result<(), Fail> {
+    let points = [point(0, 0, 0, 0), point(7, 7, 1, 1)];
+    let earlier = [(tile(1, 0, 0), 1)];
+    check_best(&rt, rt.alloc(), &points, &[best(1, 1, &earlier)])?;
+    Ok(())
+}
+
+#[test]
+fn equal_tiles_stand_in_path_order(rt: HostRuntime) -> Result<(), Fail> {
+    let points = [
+        point(7, 7, 0, 0),
+        point(4, 0, 0, 0),
+        point(0, 2, 0, 0),
+        point(7, 7, 0, 0),
+    ];
+    let two = [(tile(2, 3, 3), 2), (tile(2, 0, 1), 1)];
+    let all = [(tile(2, 3, 3), 2), (tile(2, 0, 1), 1), (tile(2, 2, 0), 1)];
+    let cases = [best(2, 2, &two), best(2, 3, &all), best(2, 1000, &all)];
+    check_best(&rt, rt.alloc(), &points, &cases)?;
+    Ok(())
+}
+
+#[test]
+fn the_top_tiles_are_those_that_weigh_most(rt: HostRuntime) -> Result<(), Fail> {
+    let points = [
+        weighing(point(0, 0, 0, 0), 5),
+        weighing(point(7, 7, 1, 1), 268_435_455),
+        weighing(point(0, 7, 0, 1), 9),
+    ];
+    let two = [(tile(1, 1, 1), 268_435_455), (tile(1, 0, 1), 9)];
+    let first = [(tile(1, 1, 1), 268_435_455)];
+    let cases = [best(1, 2, &two), best(1, 1, &first)];
+    check_best(&rt, rt.alloc(), &points, &cases)?;
+    Ok(())
+}
+
+#[test]
+fn the_top_tiles_are_of_what_the_filters_ask_for(rt: HostRuntime) -> Result<(), Fail> {
+    let points = [
+        weighing(point(0, 0, 0, 0), 5),
+        weighing(point(7, 7, 1, 1), 11),
+        weighing(point(0, 7, 0, 1), 9),
+    ];
+    let in_quarter = [(tile(3, 0, 0), 5)];
+    let of_kind = [(tile(1, 0, 1), 9), (tile(1, 0, 0), 5)];
+    let cases = [
+        BestCase {
+            region: tile(1, 0, 0),
+            kind: Choice::All,
+            levels: 2,
+            rows: 3,
+            tiles: &in_quarter,
+        },
+        BestCase {
+            region: tile(0, 0, 0),
+            kind: Choice::Only(ValueSet::one(0)),
+            levels: 1,
+            rows: 3,
+            tiles: &of_kind,
+        },
+    ];
+    check_best(&rt, rt.alloc(), &points, &cases)?;
+    Ok(())
+}
+
+#[test]
+fn no_points_have_no_top_tiles(rt: HostRuntime) -> Result<(), Fail> {
+    check_best(&rt, rt.alloc(), &[], &[best(2, 3, &[])])?;
+    Ok(())
+}
