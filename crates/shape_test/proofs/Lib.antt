@@ -24,5 +24,4 @@ pub mod Sizing
 pub mod Spotting
 pub mod Spreading
 pub mod Stepping
-pub mod Together
 pub mod Whole
