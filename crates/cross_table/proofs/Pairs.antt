@@ -14,7 +14,7 @@ use Rattle.cross_table.specs.declared.cross.CategoryValue.{CategoryValue}
 use Rattle.query_syntax.proofs.TableLaws.{box_value, box_value_out}
 use Rattle.query_syntax.specs.Boxes.{Box, box, chosen, are_in_sets, inside, total}
 use Rattle.query_syntax.specs.Parts.{with_one_value}
-use Rattle.query_syntax.specs.Tables.{any_value, with_value}
+use Rattle.query_syntax.specs.Narrowing.{any_value, with_value}
 use Rattle.query_syntax.specs.declared.query.Choice.TheVariants.{All}
 use Rattle.query_syntax.specs.declared.query.Query.{Query}
 

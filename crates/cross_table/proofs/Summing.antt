@@ -23,7 +23,7 @@ use Rattle.query_syntax.proofs.SchemaLimits.{categories-limits}
 use Rattle.query_syntax.proofs.ValidParts.{valid_parts}
 use Rattle.query_syntax.specs.Boxes.{Box, box, inside, total}
 use Rattle.query_syntax.specs.Items.{values_at}
-use Rattle.query_syntax.specs.Tables.{with_value}
+use Rattle.query_syntax.specs.Narrowing.{with_value}
 use Rattle.query_syntax.specs.declared.query.Query.{Query}
 use Rattle.query_walk.proofs.Addresses.{sum_by-map, sum_by-flat_map}
 

@@ -10,7 +10,7 @@ use Rattle.cube_view.specs.declared.address.Tile.{Tile}
 use Rattle.cube_view.specs.declared.schema.Schema.{Schema}
 use Rattle.cross_table.specs.TopTiles.{area_total, tiles_of_total, tiles_by_total, top_tiles, place_in_order, path_place, IsAhead, IsRanking, IsOneOf, AreTop, TopOrder}
 use Rattle.query_syntax.specs.Boxes.{box, inside, total}
-use Rattle.query_syntax.specs.Tables.{with_tile}
+use Rattle.query_syntax.specs.Narrowing.{with_tile}
 use Rattle.query_syntax.specs.TileOrder.{quadrants, tiles_below, tiles_of_level}
 use Rattle.query_syntax.specs.declared.query.Query.{Query}
 

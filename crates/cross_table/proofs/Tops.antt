@@ -17,7 +17,8 @@ use Rattle.cross_table.specs.TopTiles.{area_total, tiles_of_total, tiles_by_tota
 use Rattle.query_syntax.proofs.ValidParts.{valid_parts}
 use Rattle.query_syntax.specs.Boxes.{box, inside, total}
 use Rattle.query_syntax.specs.Queries.{is_valid_query}
-use Rattle.query_syntax.specs.Tables.{with_tile, area_row, table, table_rows}
+use Rattle.query_syntax.specs.Narrowing.{with_tile}
+use Rattle.query_syntax.specs.Tables.{area_row, table, table_rows}
 use Rattle.query_syntax.specs.TileOrder.{tiles_below}
 use Rattle.query_syntax.specs.declared.query.Query.{Query}
 use Rattle.query_syntax.specs.declared.table.RowOut.{RowOut}

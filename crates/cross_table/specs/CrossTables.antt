@@ -10,7 +10,7 @@ use Rattle.cross_table.specs.declared.table.PairTable.{PairTable}
 use Rattle.query_syntax.specs.Boxes.{Box, box, total}
 use Rattle.query_syntax.specs.Items.{values_at}
 use Rattle.query_syntax.specs.Queries.{is_valid_query}
-use Rattle.query_syntax.specs.Tables.{with_value}
+use Rattle.query_syntax.specs.Narrowing.{with_value}
 use Rattle.query_syntax.specs.declared.query.Query.{Query}
 use Rattle.query_syntax.specs.declared.query.Verb.TheVariants.{Count}
 

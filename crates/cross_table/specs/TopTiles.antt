@@ -7,7 +7,7 @@ use Rattle.cube_view.specs.declared.address.Tile.{Tile}
 use Rattle.cube_view.specs.declared.schema.Schema.{Schema}
 use Rattle.query_syntax.specs.Boxes.{box, total}
 use Rattle.query_syntax.specs.Queries.{is_valid_query}
-use Rattle.query_syntax.specs.Tables.{with_tile}
+use Rattle.query_syntax.specs.Narrowing.{with_tile}
 use Rattle.query_syntax.specs.TileOrder.{tiles_below}
 use Rattle.query_syntax.specs.Verbs.{deepest_map}
 use Rattle.query_syntax.specs.declared.query.Query.{Query}

@@ -7,7 +7,7 @@ ghost use Rattle.cross_table.specs.CrossTables.{IsCross, IsValueOf, text_of_valu
 ghost use Rattle.query_syntax.specs.Boxes.{box, total as total_of};
 ghost use Rattle.query_syntax.specs.Items.{values_at};
 ghost use Rattle.query_syntax.specs.Parts.{with_one_value};
-ghost use Rattle.query_syntax.specs.Tables.{with_value};
+ghost use Rattle.query_syntax.specs.Narrowing.{with_value};
 ghost use Rattle.query_walk.specs.Costs.{search_cost};
 ghost use Rattle.query_walk.specs.Walks.{HasBox};
 

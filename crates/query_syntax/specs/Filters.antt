@@ -6,9 +6,9 @@ use Rattle.cube_view.specs.Results.{◌>>=◌}
 use Rattle.query_syntax.specs.Items.{item_at}
 use Rattle.query_syntax.specs.Reading.{fault_at, or_fault, number_of}
 use Rattle.query_syntax.specs.Tiles.{tile_value}
-use Rattle.query_syntax.specs.Verbs.{bins, takes_filters, is_series}
+use Rattle.query_syntax.specs.Verbs.{bins, takes_filters, is_series, is_window}
 use Rattle.query_syntax.specs.Words.{words}
-use Rattle.query_syntax.specs.declared.fault.QueryFault.TheVariants.{MissingWord, OutOfRange, BadTile, RepeatedFilter, UnknownFilter, TimeInSeries}
+use Rattle.query_syntax.specs.declared.fault.QueryFault.TheVariants.{MissingWord, OutOfRange, BadTile, RepeatedFilter, UnknownFilter, TimeInSeries, InWithWindow}
 use Rattle.query_syntax.specs.declared.fault.WordFault.{WordFault}
 use Rattle.query_syntax.specs.declared.filters.Filters.{Filters}
 use Rattle.query_syntax.specs.declared.query.Verb.{Verb}
@@ -34,7 +34,7 @@ no_filters = record { region = None; sets = replicate 4 None; time = None }
 abbrev pub name_read : Verb → Filters → ℕ → List ℕ → Result Progress WordFault
 name_read verb filters n word =
     if not (takes_filters verb) then fault_at UnknownFilter n else (
-    if bytes_eq word (codes "in") then (if is_some filters.region then fault_at RepeatedFilter n else Ok (record { wanted = Region; filters = filters })) else (
+    if bytes_eq word (codes "in") then (if is_window verb then fault_at InWithWindow n else (if is_some filters.region then fault_at RepeatedFilter n else Ok (record { wanted = Region; filters = filters }))) else (
     if bytes_eq word (codes "with") then Ok (record { wanted = Item; filters = filters }) else (
     if bytes_eq word (codes "time") then (if is_series verb then fault_at TimeInSeries n else (if is_some filters.time then fault_at RepeatedFilter n else Ok (record { wanted = From; filters = filters }))) else
     fault_at UnknownFilter n)))

@@ -9,6 +9,10 @@ pub mod Meaning
 pub mod Boxes
 pub mod Parts
 pub mod TileOrder
+pub mod Narrowing
+pub mod Windows
+pub mod CrossTables
+pub mod TopTiles
 pub mod Tables
 pub mod Spelling
 pub mod Addresses

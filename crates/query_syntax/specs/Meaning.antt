@@ -7,7 +7,7 @@ use Rattle.query_syntax.specs.Filters.{filters_at, no_filters}
 use Rattle.query_syntax.specs.Queries.{whole_space, all_bins, is_too_deep, are_choices, is_span, is_valid_query}
 use Rattle.query_syntax.specs.Reading.{fault_at}
 use Rattle.query_syntax.specs.Tiles.{is_tile}
-use Rattle.query_syntax.specs.Verbs.{verb_at, verb_words, takes_filters, is_series}
+use Rattle.query_syntax.specs.Verbs.{verb_at, verb_words, takes_filters, is_series, is_window}
 use Rattle.query_syntax.specs.Words.{words}
 use Rattle.query_syntax.specs.declared.fault.QueryFault.TheVariants.{NotText, TooDeep}
 use Rattle.query_syntax.specs.declared.fault.WordFault.{WordFault}
@@ -27,7 +27,7 @@ query_with verb filters = record {
   time = unwrap_or filters.time all_bins;
 }
 
--- the query, if its map isn't too deep
+-- the query, if its tiles aren't too deep
 abbrev pub query_if_fits : Schema → Query → Result Query WordFault
 query_if_fits schema q = if is_too_deep schema.depth q.region.z q.verb then fault_at TooDeep 2 else Ok q
 
@@ -40,7 +40,7 @@ query_after_verb schema verb words = do
 -- what the words of a line ask for
 unfoldable pub query_of : Schema → List (List ℕ) → Result Query WordFault
 query_of schema words = do
-  verb ← verb_at schema.categories words
+  verb ← verb_at schema.depth schema.categories words
   query_after_verb schema verb.0 verb.1
 
 -- a query that was read, or its fault
@@ -72,6 +72,7 @@ pub record FiltersFit (schema : Schema) (verb : Verb) (filters : Filters) : Type
   pub time : is_span (unwrap_or filters.time all_bins) ≡ true
   pub none : takes_filters verb ≡ false → filters ≡ no_filters
   pub own : is_series verb ≡ true → filters.time ≡ None
+  pub world : is_window verb ≡ true → filters.region ≡ None
 
 -- what other filters said is in order where what these said is
 abbrev pub KeepsFit : Schema → Filters → Filters → Verb → Type 0

@@ -1,5 +1,5 @@
 -- Which queries a schema takes.
-use Rattle.std.specs.Prelude.{◌≡◌, ℕ, ◌+◌, Bool, true, false, not, ◌&&◌, ◌||◌, ◌==◌, nat_le, nat_lt, List, [], ◌∷◌, length, drop}
+use Rattle.std.specs.Prelude.{◌≡◌, ℕ, ◌+◌, ◌^◌, Bool, true, false, not, ◌&&◌, ◌||◌, ◌==◌, nat_le, nat_lt, List, [], ◌∷◌, length, drop}
 use Rattle.std.specs.List.{list_all, list_any}
 use Rattle.cube_view.specs.Limits.{is_between}
 use Rattle.cube_view.specs.declared.category.Category.{Category}
@@ -7,13 +7,14 @@ use Rattle.cube_view.specs.declared.schema.Schema.{Schema}
 use Rattle.cube_view.specs.declared.address.Tile.{Tile}
 use Rattle.query_syntax.specs.Items.{is_full}
 use Rattle.query_syntax.specs.Tiles.{is_tile}
-use Rattle.query_syntax.specs.Verbs.{bins, deepest_map, most_rows, takes_filters, is_series}
+use Rattle.query_syntax.specs.Verbs.{bins, deepest_map, most_rows, most_best_rows, takes_filters, is_series, is_window}
 use Rattle.query_syntax.specs.declared.query.Choice.{Choice}
 use Rattle.query_syntax.specs.declared.query.Choice.TheVariants.{All, Only}
 use Rattle.query_syntax.specs.declared.query.Query.{Query}
 use Rattle.query_syntax.specs.declared.query.Span.{Span}
+use Rattle.query_syntax.specs.declared.rect.Rect.{Rect}
 use Rattle.query_syntax.specs.declared.query.Verb.{Verb}
-use Rattle.query_syntax.specs.declared.query.Verb.TheVariants.{Count, Hist, Map, Series, Stat, Told, Quit}
+use Rattle.query_syntax.specs.declared.query.Verb.TheVariants.{Count, Hist, Map, Series, Window, Cross, Best, Stat, Told, Quit}
 
 abbrev pub whole_space : Tile
 whole_space = record { z = 0; x = 0; y = 0 }
@@ -40,25 +41,35 @@ are_choices (c ∷ categories) (choice ∷ choices) = is_choice (length c.values
 abbrev pub is_span : Span → Bool
 is_span span = nat_le span.from span.to && nat_le span.to bins
 
--- the map's tiles are too deep for the schema
+-- the tiles of a map, or the best ones, are too deep for the schema
 abbrev pub is_too_deep : ℕ → ℕ → Verb → Bool
 is_too_deep depth z Count = false
 is_too_deep depth z (Hist k) = false
 is_too_deep depth z (Map down) = nat_lt depth (z + down)
 is_too_deep depth z (Series from wide rows) = false
+is_too_deep depth z (Window rect) = false
+is_too_deep depth z (Cross k l) = false
+is_too_deep depth z (Best down rows) = nat_lt depth (z + down)
 is_too_deep depth z Stat = false
 is_too_deep depth z Told = false
 is_too_deep depth z Quit = false
 
--- the numbers of the verb are in their ranges, where there are so many categories
-abbrev pub verb_in_range : ℕ → Verb → Bool
-verb_in_range count Count = true
-verb_in_range count (Hist k) = nat_lt k count
-verb_in_range count (Map down) = nat_le down deepest_map
-verb_in_range count (Series from wide rows) = nat_lt from bins && is_between 1 bins wide && is_between 1 most_rows rows
-verb_in_range count Stat = true
-verb_in_range count Told = true
-verb_in_range count Quit = true
+-- in order, and within the columns and rows of the finest tiles
+abbrev pub rect_in_range : ℕ → Rect → Bool
+rect_in_range depth r = (nat_le r.x0 r.x1 && nat_le r.x1 (2 ^ depth)) && (nat_le r.y0 r.y1 && nat_le r.y1 (2 ^ depth))
+
+-- the numbers of the verb are in their ranges, where there are so many levels and so many categories
+abbrev pub verb_in_range : ℕ → ℕ → Verb → Bool
+verb_in_range depth count Count = true
+verb_in_range depth count (Hist k) = nat_lt k count
+verb_in_range depth count (Map down) = nat_le down deepest_map
+verb_in_range depth count (Series from wide rows) = nat_lt from bins && is_between 1 bins wide && is_between 1 most_rows rows
+verb_in_range depth count (Window rect) = rect_in_range depth rect
+verb_in_range depth count (Cross k l) = nat_lt k count && nat_lt l count && not (k == l)
+verb_in_range depth count (Best down rows) = nat_le down deepest_map && is_between 1 most_best_rows rows
+verb_in_range depth count Stat = true
+verb_in_range depth count Told = true
+verb_in_range depth count Quit = true
 
 abbrev pub is_whole_space : Tile → Bool
 is_whole_space t = (t.z == 0) && (t.x == 0) && (t.y == 0)
@@ -72,21 +83,22 @@ has_no_filters q = is_whole_space q.region && list_all is_all q.sets && is_all_b
 
 -- the filters that the verb doesn't take are as without them
 abbrev pub filters_fit_verb : Query → Bool
-filters_fit_verb q = (takes_filters q.verb || has_no_filters q) && (not (is_series q.verb) || is_all_bins q.time)
+filters_fit_verb q =
+    (takes_filters q.verb || has_no_filters q) && (not (is_series q.verb) || is_all_bins q.time) && (not (is_window q.verb) || is_whole_space q.region)
 
 -- The schema takes the query
 unfoldable pub is_valid_query : Schema → Query → Bool
 is_valid_query schema q =
-    verb_in_range (length schema.categories) q.verb && is_tile schema.depth q.region && not (is_too_deep schema.depth q.region.z q.verb)
+    verb_in_range schema.depth (length schema.categories) q.verb && is_tile schema.depth q.region && not (is_too_deep schema.depth q.region.z q.verb)
     && (length q.sets == 4) && are_choices schema.categories q.sets && is_span q.time && filters_fit_verb q
 
 -- The parts of a query that a schema takes
 pub record ValidParts (schema : Schema) (q : Query) : Type 0 where
   -- the numbers of its verb are in their ranges
-  pub verb : verb_in_range (length schema.categories) q.verb ≡ true
+  pub verb : verb_in_range schema.depth (length schema.categories) q.verb ≡ true
   -- its region is a tile of the schema
   pub region : is_tile schema.depth q.region ≡ true
-  -- the tiles of its map are not too deep
+  -- the tiles of its map, or the best ones, are not too deep
   pub deep : not (is_too_deep schema.depth q.region.z q.verb) ≡ true
   -- it has a choice for each of four categories
   pub places : (length q.sets == 4) ≡ true
@@ -98,3 +110,5 @@ pub record ValidParts (schema : Schema) (q : Query) : Type 0 where
   pub takes : takes_filters q.verb || has_no_filters q ≡ true
   -- a series has its bins by itself
   pub series : not (is_series q.verb) || is_all_bins q.time ≡ true
+  -- and a window its finest tiles
+  pub window : not (is_window q.verb) || is_whole_space q.region ≡ true

@@ -13,7 +13,7 @@ use Rattle.query_syntax.specs.declared.query.Choice.TheVariants.{All, Only}
 use Rattle.query_syntax.specs.declared.query.Query.{Query}
 use Rattle.query_syntax.specs.declared.query.Span.{Span}
 use Rattle.query_syntax.specs.declared.query.Verb.{Verb}
-use Rattle.query_syntax.specs.declared.query.Verb.TheVariants.{Count, Hist, Map, Series, Stat, Told, Quit}
+use Rattle.query_syntax.specs.declared.query.Verb.TheVariants.{Count, Hist, Map, Series, Window, Cross, Best, Stat, Told, Quit}
 
 -- the name of the category of that number
 abbrev pub name_at : List Category → ℕ → List ℕ
@@ -27,6 +27,9 @@ verb_name Count = codes "count"
 verb_name (Hist k) = codes "hist"
 verb_name (Map down) = codes "map"
 verb_name (Series from wide rows) = codes "series"
+verb_name (Window rect) = codes "window"
+verb_name (Cross k l) = codes "cross"
+verb_name (Best down rows) = codes "best"
 verb_name Stat = codes "stat"
 verb_name Told = codes "told"
 verb_name Quit = codes "quit"
@@ -37,6 +40,9 @@ verb_texts categories Count = []
 verb_texts categories (Hist k) = name_at categories k ∷ []
 verb_texts categories (Map down) = decimal down ∷ []
 verb_texts categories (Series from wide rows) = decimal from ∷ decimal wide ∷ decimal rows ∷ []
+verb_texts categories (Window rect) = decimal rect.x0 ∷ decimal rect.y0 ∷ decimal rect.x1 ∷ decimal rect.y1 ∷ []
+verb_texts categories (Cross k l) = name_at categories k ∷ name_at categories l ∷ []
+verb_texts categories (Best down rows) = decimal down ∷ decimal rows ∷ []
 verb_texts categories Stat = []
 verb_texts categories Told = []
 verb_texts categories Quit = []

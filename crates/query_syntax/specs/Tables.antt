@@ -2,17 +2,21 @@
 --
 -- The tables are the rollups and drilldowns of Lins, Klosowski and Scheidegger, "Nanocubes for Real-Time
 -- Exploration of Spatiotemporal Datasets", IEEE TVCG 2013.
-use Rattle.std.specs.Prelude.{ℕ, ◌+◌, ◌*◌, Bool, true, false, ◌&&◌, ◌==◌, if◌then◌else◌, List, [], ◌∷◌, length, map, Option, Some, None, slice_set, slice_index_or}
+use Rattle.std.specs.Prelude.{ℕ, ◌+◌, ◌*◌, Bool, true, false, ◌==◌, if◌then◌else◌, List, [], ◌∷◌, length, map, Option, Some, None, slice_index_or}
 use Rattle.std.specs.List.{filter_map, range_with_len}
 use Rattle.cube_view.specs.declared.spot.Point.{Point}
 use Rattle.cube_view.specs.declared.address.Tile.{Tile}
 use Rattle.cube_view.specs.declared.schema.Schema.{Schema}
-use Rattle.query_syntax.specs.Boxes.{Box, box, total}
+use Rattle.query_syntax.specs.Boxes.{box, total}
+use Rattle.query_syntax.specs.CrossTables.{cross_rows}
 use Rattle.query_syntax.specs.Items.{values_at}
+use Rattle.query_syntax.specs.Narrowing.{with_bins, with_tile, with_value}
 use Rattle.query_syntax.specs.TileOrder.{tiles_below}
+use Rattle.query_syntax.specs.TopTiles.{top_rows}
+use Rattle.query_syntax.specs.Windows.{window_total}
 use Rattle.query_syntax.specs.declared.query.Query.{Query}
 use Rattle.query_syntax.specs.declared.query.Verb.{Verb}
-use Rattle.query_syntax.specs.declared.query.Verb.TheVariants.{Count, Hist, Map, Series, Stat, Told, Quit}
+use Rattle.query_syntax.specs.declared.query.Verb.TheVariants.{Count, Hist, Map, Series, Window, Cross, Best, Stat, Told, Quit}
 use Rattle.query_syntax.specs.declared.table.RowOut.{RowOut}
 use Rattle.query_syntax.specs.declared.table.Table.{Table}
 
@@ -22,25 +26,25 @@ has_table Count = true
 has_table (Hist k) = true
 has_table (Map down) = true
 has_table (Series from wide rows) = true
+has_table (Window rect) = true
+has_table (Cross k l) = true
+has_table (Best down rows) = true
 has_table Stat = false
 has_table Told = false
 has_table Quit = false
 
--- each value
-abbrev pub any_value : ℕ → Bool
-any_value v = true
-
--- the box, with its set of category k met with the one value v
-abbrev pub with_value : Box → ℕ → ℕ → Box
-with_value b k v = record b { sets = slice_set b.sets k (λ w. slice_index_or b.sets k any_value w && (w == v)) }
-
--- the box, with that tile as its tile
-abbrev pub with_tile : Box → Tile → Box
-with_tile b t = record b { tile = t }
-
--- the box, with the bins from the first number to before the second
-abbrev pub with_bins : Box → ℕ → ℕ → Box
-with_bins b from to = record b { from = from; to = to }
+-- the verb's table has rows along one dimension at most, all that there are; the loading machine's looks ask for these
+abbrev pub is_drill : Verb → Bool
+is_drill Count = true
+is_drill (Hist k) = true
+is_drill (Map down) = true
+is_drill (Series from wide rows) = true
+is_drill (Window rect) = false
+is_drill (Cross k l) = false
+is_drill (Best down rows) = false
+is_drill Stat = false
+is_drill Told = false
+is_drill Quit = false
 
 module _ (schema : Schema) (q : Query) (h : List Point) where
   -- the row of value v of category k: its text, and the total with this value
@@ -61,6 +65,9 @@ module _ (schema : Schema) (q : Query) (h : List Point) where
   rows_of_verb (Hist k) = map (value_row k) (range_with_len 0 (length (values_at schema.categories k)))
   rows_of_verb (Map down) = filter_map area_row (tiles_below down q.region)
   rows_of_verb (Series from wide rows) = map (bins_row from wide) (range_with_len 0 rows)
+  rows_of_verb (Window rect) = RowOut.One (window_total q rect h) ∷ []
+  rows_of_verb (Cross k l) = cross_rows schema q h k l
+  rows_of_verb (Best down rows) = top_rows schema q h down rows
   rows_of_verb Stat = []
   rows_of_verb Told = []
   rows_of_verb Quit = []

@@ -18,6 +18,8 @@ pub enum QueryFault {
     RepeatedFilter,
     UnknownFilter,
     TimeInSeries,
+    InWithWindow,
+    SameCategory,
 }
 
 /// A fault and the number of its word, from 1.

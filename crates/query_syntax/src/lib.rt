@@ -22,6 +22,7 @@ mod parsing;
 mod print_tests;
 mod printing;
 mod query;
+mod rect;
 mod table;
 #[cfg(test)]
 mod table_tests;
@@ -39,7 +40,8 @@ pub use fault::QueryFault;
 pub use parsing::parse;
 pub use printing::print;
 pub use query::{Choice, Parsed, Query, Span, Verb};
+pub use rect::Rect;
 pub use table::{RowOut, Table};
 pub use tables::table_of;
-pub use valid_query::{has_table, is_valid_query};
+pub use valid_query::{has_table, is_drill, is_valid_query};
 pub use value_set::ValueSet;

@@ -3,17 +3,21 @@ ghost use Rattle.std.specs.Prelude.{◌≡◌, ◌<◌};
 ghost use Rattle.query_syntax.specs.Boxes.{chosen};
 ghost use Rattle.query_syntax.specs.Parts.{with_region, with_span, with_one_value};
 
-use crate::{QueryFault, ValueSet};
+use crate::{QueryFault, Rect, ValueSet};
 use cube_view::Tile;
 
 /// What is asked for. `Hist` has the category's number from 0, `Map` how many levels below the region
-/// the tiles are, and `Series` its first bin, how many bins a row has and how many rows there are.
+/// the tiles are, `Series` its first bin, how many bins a row has and how many rows there are, `Window` its finest
+/// tiles, `Cross` two categories' numbers, and `Best` the levels below the region and the most rows.
 #[derive(Clone, Copy, PartialEq, Eq, Debug)]
 pub enum Verb {
     Count,
     Hist(u8),
     Map(u8),
     Series { from: u64, wide: u64, rows: u32 },
+    Window(Rect),
+    Cross(u8, u8),
+    Best { depth: u8, rows: u32 },
     Stat,
     Told,
     Quit,

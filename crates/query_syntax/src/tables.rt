@@ -8,7 +8,8 @@ ghost use Rattle.cube_view.specs.Places.{longer_tile};
 ghost use Rattle.query_syntax.specs.Boxes.{box, total};
 ghost use Rattle.query_syntax.specs.Items.{values_at};
 ghost use Rattle.query_syntax.specs.Queries.{is_valid_query};
-ghost use Rattle.query_syntax.specs.Tables.{has_table, value_row, area_row, bins_row, with_tile, with_bins, table, table_rows};
+ghost use Rattle.query_syntax.specs.Narrowing.{with_tile, with_bins};
+ghost use Rattle.query_syntax.specs.Tables.{has_table, value_row, area_row, bins_row, table, table_rows};
 ghost use Rattle.query_syntax.specs.TileOrder.{tiles_below, tiles_inside};
 ghost use Rattle.query_syntax.specs.Verbs.{bins, most_rows};
 

@@ -2,7 +2,7 @@
 ghost use Rattle.std.specs.Prelude.{◌≡◌, ◌≤◌, ◌<◌, ◌^◌, length, map};
 ghost use Rattle.query_syntax.specs.Boxes.{box, chosen, are_in_sets, inside, total};
 ghost use Rattle.cube_view.specs.Bag.{amount, anywhere};
-ghost use Rattle.query_syntax.specs.Tables.{with_value};
+ghost use Rattle.query_syntax.specs.Narrowing.{with_value};
 
 use crate::{Choice, Query};
 use cube_view::{Point, Schema, Spot, lies_in};

@@ -9,7 +9,8 @@ use Rattle.cube_view.specs.declared.address.Tile.{Tile}
 use Rattle.cube_view.specs.declared.schema.Schema.{Schema}
 use Rattle.query_syntax.specs.Boxes.{box, total}
 use Rattle.query_syntax.specs.Items.{values_at}
-use Rattle.query_syntax.specs.Tables.{has_table, area_row, bins_row, rows_of_verb, table, table_rows, value_row, with_tile}
+use Rattle.query_syntax.specs.Narrowing.{with_tile}
+use Rattle.query_syntax.specs.Tables.{has_table, area_row, bins_row, rows_of_verb, table, table_rows, value_row}
 use Rattle.query_syntax.specs.TileOrder.{tiles_below}
 use Rattle.query_syntax.specs.declared.query.Query.{Query}
 use Rattle.query_syntax.specs.declared.query.Verb.{Verb}

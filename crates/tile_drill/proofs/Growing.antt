@@ -9,7 +9,8 @@ use Rattle.cube_view.specs.declared.schema.Schema.{Schema}
 use Rattle.query_syntax.specs.Boxes.{box, total}
 use Rattle.query_syntax.specs.Items.{values_at}
 use Rattle.query_syntax.proofs.SchemaLimits.{values_at-get}
-use Rattle.query_syntax.specs.Tables.{with_bins, with_value, bins_row, value_row}
+use Rattle.query_syntax.specs.Narrowing.{with_bins, with_value}
+use Rattle.query_syntax.specs.Tables.{bins_row, value_row}
 use Rattle.query_syntax.specs.declared.query.Query.{Query}
 use Rattle.query_syntax.specs.declared.table.RowOut.{RowOut}
 

@@ -2,7 +2,8 @@
 ghost use Rattle.std.specs.Prelude.{◌≡◌, ℕ, ◌+◌, ◌*◌, ◌<◌, ◌≤◌, ◌^◌, IfOk};
 ghost use Rattle.cube_view.specs.Bag.{EachCounted};
 ghost use Rattle.query_syntax.specs.Boxes.{box, total as total_of};
-ghost use Rattle.query_syntax.specs.Tables.{with_bins, rows_of_verb};
+ghost use Rattle.query_syntax.specs.Narrowing.{with_bins};
+ghost use Rattle.query_syntax.specs.Tables.{rows_of_verb};
 ghost use Rattle.query_syntax.specs.Verbs.{bins, most_rows};
 ghost use Rattle.query_walk.specs.Costs.{search_cost};
 ghost use Rattle.query_walk.specs.Walks.{HasBox};

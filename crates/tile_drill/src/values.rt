@@ -3,7 +3,8 @@ ghost use Rattle.std.specs.Prelude.{◌≡◌, ℕ, ◌<◌, ◌≤◌, IfOk, le
 ghost use Rattle.cube_view.specs.Bag.{EachCounted};
 ghost use Rattle.query_syntax.specs.Boxes.{box, total as total_of};
 ghost use Rattle.query_syntax.specs.Parts.{with_one_value};
-ghost use Rattle.query_syntax.specs.Tables.{with_value, value_row, rows_of_verb};
+ghost use Rattle.query_syntax.specs.Narrowing.{with_value};
+ghost use Rattle.query_syntax.specs.Tables.{value_row, rows_of_verb};
 ghost use Rattle.query_walk.specs.Costs.{search_cost};
 ghost use Rattle.query_walk.specs.Walks.{HasBox};
 ghost use Rattle.tile_drill.specs.Costs.{values_cost};

@@ -8,7 +8,8 @@ use Rattle.cube_view.specs.declared.schema.Schema.{Schema}
 use Rattle.cube_view.specs.declared.spot.Spot.{Spot}
 use Rattle.query_syntax.specs.Boxes.{Box, box, inside, total}
 use Rattle.query_syntax.specs.Items.{values_at}
-use Rattle.query_syntax.specs.Tables.{with_value, with_tile, with_bins, rows_of_verb, table_rows, table}
+use Rattle.query_syntax.specs.Narrowing.{with_value, with_tile, with_bins}
+use Rattle.query_syntax.specs.Tables.{rows_of_verb, table_rows, table}
 use Rattle.query_syntax.specs.TileOrder.{tiles_below}
 use Rattle.query_syntax.specs.declared.query.Query.{Query}
 use Rattle.query_syntax.specs.declared.query.Verb.{Verb}

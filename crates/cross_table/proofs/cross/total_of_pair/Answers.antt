@@ -4,7 +4,7 @@ use Rattle.cross_table.proofs.Pairs.{pair_asked, pair_not_asked}
 use Rattle.query_syntax.proofs.SchemaLimits.{few_values}
 use Rattle.query_syntax.specs.Boxes.{box, total}
 use Rattle.query_syntax.specs.Parts.{with_one_value}
-use Rattle.query_syntax.specs.Tables.{with_value}
+use Rattle.query_syntax.specs.Narrowing.{with_value}
 use Rattle.query_syntax.specs.declared.query.Query.{Query}
 use Rattle.query_walk.specs.Costs.{search_cost}
 use Rattle.query_walk.specs.Walks.{HasBox}
