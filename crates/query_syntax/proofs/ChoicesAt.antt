@@ -50,7 +50,7 @@ pub part_is : (count : ℕ) (set : List Bool) (some full past : Bool) → length
 part_is count set some full past size a b c = λ i. ((sym size i == 256) && a i) && not (b i) && not (c i)
 
 -- a query is valid by the tests of its parts
-pub valid_is : (schema : Schema) (q : Query) (verb tile deep sets span fits : Bool) → length q.sets ≡ 4 → verb ≡ verb_in_range (length schema.categories) q.verb → tile ≡ is_tile schema.depth q.region
+pub valid_is : (schema : Schema) (q : Query) (verb tile deep sets span fits : Bool) → length q.sets ≡ 4 → verb ≡ verb_in_range schema.depth (length schema.categories) q.verb → tile ≡ is_tile schema.depth q.region
     → deep ≡ is_too_deep schema.depth q.region.z q.verb → sets ≡ are_choices schema.categories q.sets → span ≡ is_span q.time → fits ≡ filters_fit_verb q
     → (verb && tile && not deep && sets && span && fits) ≡ is_valid_query schema q
 unfolding is_valid_query
@@ -66,4 +66,4 @@ valid_is schema q verb tile deep sets span fits four a b c d e f =
 pub valid_sets : (schema : Schema) (q : Query) → are_choices schema.categories q.sets ≡ false → false ≡ is_valid_query schema q
 unfolding is_valid_query
 valid_sets schema q none =
-    sym (ap (λ b. b && is_span q.time && filters_fit_verb q) (ap (λ b. (verb_in_range (length schema.categories) q.verb && is_tile schema.depth q.region && not (is_too_deep schema.depth q.region.z q.verb) && (length q.sets == 4)) && b) none ∙ and-false (verb_in_range (length schema.categories) q.verb && is_tile schema.depth q.region && not (is_too_deep schema.depth q.region.z q.verb) && (length q.sets == 4))))
+    sym (ap (λ b. b && is_span q.time && filters_fit_verb q) (ap (λ b. (verb_in_range schema.depth (length schema.categories) q.verb && is_tile schema.depth q.region && not (is_too_deep schema.depth q.region.z q.verb) && (length q.sets == 4)) && b) none ∙ and-false (verb_in_range schema.depth (length schema.categories) q.verb && is_tile schema.depth q.region && not (is_too_deep schema.depth q.region.z q.verb) && (length q.sets == 4))))

@@ -8,7 +8,7 @@ use Rattle.cube_view.specs.declared.schema.Schema.{Schema}
 use Rattle.query_syntax.specs.Filters.{words_read, ReadsOn, one_if, filters_used}
 use Rattle.query_syntax.specs.Filters.Wanted.{Name, Region, Item, From}
 use Rattle.query_syntax.specs.Items.{has_item}
-use Rattle.query_syntax.specs.Verbs.{takes_filters, is_series}
+use Rattle.query_syntax.specs.Verbs.{takes_filters, is_series, is_window}
 use Rattle.query_syntax.specs.declared.fault.WordFault.{WordFault}
 use Rattle.query_syntax.specs.declared.filters.Filters.{Filters}
 use Rattle.query_syntax.specs.declared.query.Choice.{Choice}
@@ -17,8 +17,8 @@ use Rattle.query_syntax.specs.declared.query.Verb.{Verb}
 pub reads_on_from : {X : Type 0} (whole part : Result Filters WordFault) (r : Result X WordFault) (after : X → Result Filters WordFault) → whole ≡ part → ReadsOn part r after → ReadsOn whole r after
 reads_on_from whole part r after e h = subst (λ (w : Result Filters WordFault). ReadsOn w r after) (sym e) h
 
-pub region_begins : (schema : Schema) (verb : Verb) (filters : Filters) (n : ℕ) (word : List ℕ) (ws : List (List ℕ)) → takes_filters verb ≡ true → bytes_eq word (codes "in") ≡ true → is_some filters.region ≡ false → words_read schema verb Name filters n (word ∷ ws) ≡ words_read schema verb Region filters (n + 1) ws
-region_begins schema verb filters n word ws takes is fresh = rw (takes, is, fresh) refl
+pub region_begins : (schema : Schema) (verb : Verb) (filters : Filters) (n : ℕ) (word : List ℕ) (ws : List (List ℕ)) → takes_filters verb ≡ true → bytes_eq word (codes "in") ≡ true → is_window verb ≡ false → is_some filters.region ≡ false → words_read schema verb Name filters n (word ∷ ws) ≡ words_read schema verb Region filters (n + 1) ws
+region_begins schema verb filters n word ws takes is window fresh = rw (takes, is, window, fresh) refl
 
 pub item_begins : (schema : Schema) (verb : Verb) (filters : Filters) (n : ℕ) (word : List ℕ) (ws : List (List ℕ)) → takes_filters verb ≡ true → bytes_eq word (codes "in") ≡ false → bytes_eq word (codes "with") ≡ true → words_read schema verb Name filters n (word ∷ ws) ≡ words_read schema verb Item filters (n + 1) ws
 item_begins schema verb filters n word ws takes other is = rw (takes, other, is) refl

@@ -17,7 +17,7 @@ use Rattle.query_syntax.specs.Filters.Wanted.{Name}
 use Rattle.query_syntax.specs.Queries.{is_choice, are_choices, is_all, is_span, is_all_bins, whole_space, all_bins}
 use Rattle.query_syntax.specs.Spelling.{tile_text, region_texts, item_text, choice_texts, choices_texts, span_texts}
 use Rattle.query_syntax.specs.Tiles.{is_tile}
-use Rattle.query_syntax.specs.Verbs.{bins, takes_filters, is_series}
+use Rattle.query_syntax.specs.Verbs.{bins, takes_filters, is_series, is_window}
 use Rattle.query_syntax.specs.declared.filters.Filters.{Filters}
 use Rattle.query_syntax.specs.declared.query.Choice.{Choice}
 use Rattle.query_syntax.specs.declared.query.Choice.TheVariants.{All, Only}
@@ -50,14 +50,14 @@ filters_with region sets time = record { region = region; sets = sets; time = ti
 
 -- the region
 
-region_by : (whole : Bool) (schema : Schema) (verb : Verb) (t : Tile) (sets : List (Option Choice)) (ws : List (List ℕ)) (after : Filters) → schema.depth ≤ 20 → is_tile schema.depth t ≡ true → takes_filters verb ≡ true → Says schema verb (filters_with (cond whole None (Some t)) sets None) ws after → Says schema verb (filters_with None sets None) (cond whole [] (codes "in" ∷ tile_text t ∷ []) ++ ws) after
-region_by true schema verb t sets ws after few h takes goes_on = goes_on
-region_by false schema verb t sets ws after few h takes goes_on = λ n.
-    region_begins schema verb (filters_with None sets None) n (codes "in") (tile_text t ∷ ws) takes refl refl
+region_by : (whole : Bool) (schema : Schema) (verb : Verb) (t : Tile) (sets : List (Option Choice)) (ws : List (List ℕ)) (after : Filters) → schema.depth ≤ 20 → is_tile schema.depth t ≡ true → takes_filters verb ≡ true → (whole ≡ false → is_window verb ≡ false) → Says schema verb (filters_with (cond whole None (Some t)) sets None) ws after → Says schema verb (filters_with None sets None) (cond whole [] (codes "in" ∷ tile_text t ∷ []) ++ ws) after
+region_by true schema verb t sets ws after few h takes window goes_on = goes_on
+region_by false schema verb t sets ws after few h takes window goes_on = λ n.
+    region_begins schema verb (filters_with None sets None) n (codes "in") (tile_text t ∷ ws) takes refl (window refl) refl
     ∙ rw (tile_reads schema.depth t few h) (goes_on (n + 1 + 1))
 
-pub region_reads : (schema : Schema) (verb : Verb) (t : Tile) (sets : List (Option Choice)) (ws : List (List ℕ)) (after : Filters) → schema.depth ≤ 20 → is_tile schema.depth t ≡ true → takes_filters verb ≡ true → Says schema verb (filters_with (region_said t) sets None) ws after → Says schema verb (filters_with None sets None) (region_texts t ++ ws) after
-region_reads schema verb t sets ws after few h takes goes_on = region_by (t.z == 0) schema verb t sets ws after few h takes goes_on
+pub region_reads : (schema : Schema) (verb : Verb) (t : Tile) (sets : List (Option Choice)) (ws : List (List ℕ)) (after : Filters) → schema.depth ≤ 20 → is_tile schema.depth t ≡ true → takes_filters verb ≡ true → ((t.z == 0) ≡ false → is_window verb ≡ false) → Says schema verb (filters_with (region_said t) sets None) ws after → Says schema verb (filters_with None sets None) (region_texts t ++ ws) after
+region_reads schema verb t sets ws after few h takes window goes_on = region_by (t.z == 0) schema verb t sets ws after few h takes window goes_on
 
 -- the span
 

@@ -16,7 +16,7 @@ use Rattle.query_syntax.specs.Meaning.{meaning, query_of, query_after_verb, quer
 use Rattle.query_syntax.specs.Queries.{is_all, is_all_bins, is_whole_space, is_too_deep, is_valid_query, has_no_filters}
 use Rattle.cube_view.specs.Results.{◌>>=◌}
 use Rattle.query_syntax.specs.Spelling.{verb_name, verb_texts, region_texts, choices_texts, span_texts, further_texts, spaced, query_text}
-use Rattle.query_syntax.specs.Verbs.{verb_words, takes_filters, is_series}
+use Rattle.query_syntax.specs.Verbs.{verb_words, takes_filters, is_series, is_window}
 use Rattle.query_syntax.specs.Words.{words}
 use Rattle.query_syntax.specs.declared.fault.WordFault.{WordFault}
 use Rattle.query_syntax.specs.declared.filters.Filters.{Filters}
@@ -25,7 +25,7 @@ use Rattle.query_syntax.specs.declared.query.Parsed.TheVariants.{Ask}
 use Rattle.query_syntax.specs.declared.query.Query.{Query}
 use Rattle.query_syntax.specs.declared.query.Span.{Span}
 use Rattle.query_syntax.specs.declared.query.Verb.{Verb}
-use Rattle.query_syntax.specs.declared.query.Verb.TheVariants.{Count, Hist, Map, Series, Stat, Told, Quit}
+use Rattle.query_syntax.specs.declared.query.Verb.TheVariants.{Count, Hist, Map, Series, Window, Cross, Best, Stat, Told, Quit}
 use Rattle.query_syntax.proofs.PrintedFilters.{Says, filters_with, region_said, said, span_said, nones, region_reads, span_reads, items_read, region_texts_are_words, span_texts_are_words, choices_texts_are_words, region_back, span_back, choices_back, no_items, none_said}
 use Rattle.query_syntax.proofs.PrintedVerbs.{verb_reads, verb_name_is_word, verb_texts_are_words, small_tile}
 use Rattle.query_syntax.proofs.SchemaLimits.{categories-limits}
@@ -80,6 +80,9 @@ own_bins : (series all : Bool) → not series || all ≡ true → all ≡ false 
 own_bins false all h e = refl
 own_bins true all h e = sym h ∙ e
 
+not_whole : (t : Tile) → (t.z == 0) ≡ false → is_whole_space t ≡ false
+not_whole t e = ap (λ (b : Bool). b && (t.x == 0) && (t.y == 0)) e
+
 filters_say : (schema : Schema) (q : Query) → ValidParts schema q → takes_filters q.verb ≡ true → Says schema q.verb no_filters (filter_texts schema q) (filters_of q)
 filters_say schema q v takes =
     let places : length q.sets ≡ 4 = eqb-true (length q.sets) 4 v.places in
@@ -88,7 +91,7 @@ filters_say schema q v takes =
     let items : Says schema q.verb (filters_with (region_said q.region) (nones q.sets) None) (choices_texts schema.categories q.sets ++ span_texts q.time) (filters_of q) =
     items_read schema q.verb (region_said q.region) (span_texts q.time) (filters_of q) [] schema.categories [] q.sets takes refl (names_distinct schema) (each_distinct schema) (each_in_range schema) refl v.sets span in
     let whole : Says schema q.verb (filters_with None (nones q.sets) None) (filter_texts schema q) (filters_of q) =
-    region_reads schema q.verb q.region (nones q.sets) (choices_texts schema.categories q.sets ++ span_texts q.time) (filters_of q) (shallow schema) v.region takes items in
+    region_reads schema q.verb q.region (nones q.sets) (choices_texts schema.categories q.sets ++ span_texts q.time) (filters_of q) (shallow schema) v.region takes (λ e. own_bins (is_window q.verb) (is_whole_space q.region) v.window (not_whole q.region e)) items in
     λ n. ap (λ (k : ℕ). words_read schema q.verb Name (filters_with None (replicate k None) None) n (filter_texts schema q)) (sym places) ∙ whole n
 
 or_rest : (a b : Bool) → a || b ≡ true → a ≡ false → b ≡ true
@@ -126,7 +129,7 @@ unfolding query_of query_after_verb filters_at
 query_reads schema q v =
     let deep : is_too_deep schema.depth q.region.z q.verb ≡ false = not_false _ v.deep in
     ap (λ (ws : List (List ℕ)). query_of schema (verb_name q.verb ∷ ws)) (further_are schema q)
-    ∙ ap (λ (r : Result (Verb × List (List ℕ)) WordFault). r >>= λ verb. query_after_verb schema verb.0 verb.1) (verb_reads schema.categories q.verb (filter_texts schema q) (names_distinct schema) v.verb)
+    ∙ ap (λ (r : Result (Verb × List (List ℕ)) WordFault). r >>= λ verb. query_after_verb schema verb.0 verb.1) (verb_reads schema.depth schema.categories q.verb (filter_texts schema q) (shallow schema) (names_distinct schema) v.verb)
     ∙ ap (λ (r : Result Filters WordFault). r >>= λ filters. query_if_fits schema (query_with q.verb filters)) (says_by (takes_filters q.verb) schema q refl v (verb_words q.verb + 1))
     ∙ ap (query_if_fits schema) (query_back schema q v)
     ∙ rw deep refl
@@ -135,7 +138,7 @@ further_words : (schema : Schema) (q : Query) → ValidParts schema q → list_a
 further_words schema q v =
     ap (list_all is_word) (further_are schema q)
     ∙ list_all-append is_word (verb_texts schema.categories q.verb) (filter_texts schema q)
-    ∙ and_from _ _ (verb_texts_are_words schema.categories q.verb (each_in_range schema) v.verb)
+    ∙ and_from _ _ (verb_texts_are_words schema.depth schema.categories q.verb (shallow schema) (each_in_range schema) v.verb)
     (list_all-append is_word (region_texts q.region) (choices_texts schema.categories q.sets ++ span_texts q.time)
     ∙ and_from _ _ (region_texts_are_words schema.depth q.region (shallow schema) v.region)
     (list_all-append is_word (choices_texts schema.categories q.sets) (span_texts q.time)
@@ -146,6 +149,9 @@ no_comment Count rest = refl
 no_comment (Hist k) rest = refl
 no_comment (Map down) rest = refl
 no_comment (Series from wide rows) rest = refl
+no_comment (Window rect) rest = refl
+no_comment (Cross k l) rest = refl
+no_comment (Best down rows) rest = refl
 no_comment Stat rest = refl
 no_comment Told rest = refl
 no_comment Quit rest = refl

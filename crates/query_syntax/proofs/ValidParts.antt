@@ -4,12 +4,12 @@ use Rattle.std.proofs.lemmas.Bool.Decides.{nat_tests}
 use Rattle.std.specs.Prelude.{◌&&◌, ◌||◌, ◌==◌, nat_le, nat_lt, not}
 use Rattle.cube_view.specs.Limits.{is_between}
 use Rattle.cube_view.specs.declared.schema.Schema.{Schema}
-use Rattle.query_syntax.specs.Queries.{ValidParts, is_valid_query, verb_in_range, is_too_deep, are_choices, is_span, filters_fit_verb, has_no_filters, is_all_bins}
+use Rattle.query_syntax.specs.Queries.{ValidParts, is_valid_query, verb_in_range, is_too_deep, are_choices, is_span, filters_fit_verb, has_no_filters, is_all_bins, is_whole_space, rect_in_range}
 use Rattle.query_syntax.specs.Tiles.{is_tile}
-use Rattle.query_syntax.specs.Verbs.{bins, most_rows, takes_filters, is_series}
+use Rattle.query_syntax.specs.Verbs.{bins, most_rows, most_best_rows, deepest_map, takes_filters, is_series, is_window}
 use Rattle.query_syntax.specs.declared.query.Query.{Query}
 use Rattle.query_syntax.specs.declared.query.Verb.{Verb}
-use Rattle.query_syntax.specs.declared.query.Verb.TheVariants.{Hist, Map, Series}
+use Rattle.query_syntax.specs.declared.query.Verb.TheVariants.{Hist, Map, Series, Window, Cross, Best}
 use Rattle.query_syntax.proofs.SchemaLimits.{between_high}
 use Rattle.std.proofs.lemmas.Bool.{and_parts}
 
@@ -19,6 +19,7 @@ unfolding is_valid_query
 valid_parts schema q h =
     let six = (and_parts _ (filters_fit_verb q) h).0 in
     let fits = (and_parts _ (filters_fit_verb q) h).1 in
+    let bare = (and_parts _ (not (is_window q.verb) || is_whole_space q.region) fits).0 in
     let five = (and_parts _ (is_span q.time) six).0 in
     let four = (and_parts _ (are_choices schema.categories q.sets) five).0 in
     let three = (and_parts _ (length q.sets == 4) four).0 in
@@ -30,8 +31,9 @@ valid_parts schema q h =
       places = (and_parts _ (length q.sets == 4) four).1;
       sets = (and_parts _ (are_choices schema.categories q.sets) five).1;
       time = (and_parts _ (is_span q.time) six).1;
-      takes = (and_parts _ (not (is_series q.verb) || is_all_bins q.time) fits).0;
-      series = (and_parts (takes_filters q.verb || has_no_filters q) _ fits).1;
+      takes = (and_parts _ (not (is_series q.verb) || is_all_bins q.time) bare).0;
+      series = (and_parts (takes_filters q.verb || has_no_filters q) _ bare).1;
+      window = (and_parts _ (not (is_window q.verb) || is_whole_space q.region) fits).1;
     }
 
 module _ (schema : Schema) (q : Query) (valid : is_valid_query schema q ≡ true) where
@@ -47,8 +49,8 @@ module _ (schema : Schema) (q : Query) (valid : is_valid_query schema q ≡ true
       let y : nat_lt q.region.y (2 ^ q.region.z) ≡ true = (and_parts (nat_le q.region.z schema.depth && nat_lt q.region.x (2 ^ q.region.z)) _ region).1 in
       (grind (arith, nat_tests), grind (arith, nat_tests))
 
-  in_range : (verb : Verb) → q.verb ≡ verb → verb_in_range (length schema.categories) verb ≡ true
-  in_range verb is = subst (λ (v : Verb). verb_in_range (length schema.categories) v ≡ true) is (valid_parts schema q valid).verb
+  in_range : (verb : Verb) → q.verb ≡ verb → verb_in_range schema.depth (length schema.categories) verb ≡ true
+  in_range verb is = subst (λ (v : Verb). verb_in_range schema.depth (length schema.categories) v ≡ true) is (valid_parts schema q valid).verb
 
   -- a histogram's category is one of the schema
   pub hist_known : (k : ℕ) → q.verb ≡ Hist k → k < length schema.categories

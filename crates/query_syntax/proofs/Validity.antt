@@ -10,9 +10,9 @@ use Rattle.cube_view.specs.declared.address.Tile.{Tile}
 use Rattle.query_syntax.specs.Filters.{no_filters}
 use Rattle.query_syntax.specs.Items.{values_at}
 use Rattle.query_syntax.specs.Meaning.{FiltersFit, query_with}
-use Rattle.query_syntax.specs.Queries.{is_choice, are_choices, is_span, is_too_deep, is_valid_query, verb_in_range, whole_space, has_no_filters, is_all_bins, all_bins}
+use Rattle.query_syntax.specs.Queries.{is_choice, are_choices, is_span, is_too_deep, is_valid_query, verb_in_range, whole_space, has_no_filters, is_all_bins, is_whole_space, all_bins}
 use Rattle.query_syntax.specs.Tiles.{is_tile}
-use Rattle.query_syntax.specs.Verbs.{bins, takes_filters, is_series}
+use Rattle.query_syntax.specs.Verbs.{bins, takes_filters, is_series, is_window}
 use Rattle.query_syntax.specs.declared.filters.Filters.{Filters}
 use Rattle.query_syntax.specs.declared.query.Choice.{Choice}
 use Rattle.query_syntax.specs.declared.query.Choice.TheVariants.{All}
@@ -35,16 +35,18 @@ fit_none schema verb = record {
   time = refl;
   none = λ _. refl;
   own = λ _. refl;
+  world = λ _. refl;
 }
 
-pub fit_region : (schema : Schema) (verb : Verb) (filters : Filters) (tile : Tile) → takes_filters verb ≡ true → FiltersFit schema verb filters → is_tile schema.depth tile ≡ true → FiltersFit schema verb (record filters { region = Some tile })
-fit_region schema verb filters tile takes fits h = record {
+pub fit_region : (schema : Schema) (verb : Verb) (filters : Filters) (tile : Tile) → takes_filters verb ≡ true → is_window verb ≡ false → FiltersFit schema verb filters → is_tile schema.depth tile ≡ true → FiltersFit schema verb (record filters { region = Some tile })
+fit_region schema verb filters tile takes window fits h = record {
   region = h;
   places = fits.places;
   sets = fits.sets;
   time = fits.time;
   none = λ e. absurd (false≢true (sym e ∙ takes));
   own = fits.own;
+  world = λ e. absurd (false≢true (sym window ∙ e));
 }
 
 pub fit_item : (schema : Schema) (verb : Verb) (filters : Filters) (k : ℕ) (choice : Choice) → takes_filters verb ≡ true → FiltersFit schema verb filters → k < length schema.categories → is_choice (length (values_at schema.categories k)) choice ≡ true → FiltersFit schema verb (record filters { sets = slice_set filters.sets k (Some choice) })
@@ -55,6 +57,7 @@ fit_item schema verb filters k choice takes fits known h = record {
   time = fits.time;
   none = λ e. absurd (false≢true (sym e ∙ takes));
   own = fits.own;
+  world = fits.world;
 }
 
 span_fits : (from to : ℕ) → from ≤ to → to ≤ 2 ^ 32 → is_span (record { from = from; to = to }) ≡ true
@@ -71,6 +74,7 @@ fit_time schema verb filters from to takes bins fits h l = record {
   time = span_fits from to h l;
   none = λ e. absurd (false≢true (sym e ∙ takes));
   own = λ e. absurd (false≢true (sym bins ∙ e));
+  world = fits.world;
 }
 
 -- the part of a verb that takes filters, and of one that doesn't
@@ -82,8 +86,12 @@ own_bins : (series : Bool) (verb : Verb) (filters : Filters) → series ≡ is_s
 own_bins true verb filters e h = rw (h (sym e)) refl
 own_bins false verb filters e h = refl
 
-pub valid_query : (schema : Schema) (verb : Verb) (filters : Filters) → verb_in_range (length schema.categories) verb ≡ true → FiltersFit schema verb filters → is_too_deep schema.depth (unwrap_or filters.region whole_space).z verb ≡ false → is_valid_query schema (query_with verb filters) ≡ true
+own_tiles : (window : Bool) (verb : Verb) (filters : Filters) → window ≡ is_window verb → (is_window verb ≡ true → filters.region ≡ None) → not window || is_whole_space (unwrap_or filters.region whole_space) ≡ true
+own_tiles true verb filters e h = rw (h (sym e)) refl
+own_tiles false verb filters e h = refl
+
+pub valid_query : (schema : Schema) (verb : Verb) (filters : Filters) → verb_in_range schema.depth (length schema.categories) verb ≡ true → FiltersFit schema verb filters → is_too_deep schema.depth (unwrap_or filters.region whole_space).z verb ≡ false → is_valid_query schema (query_with verb filters) ≡ true
 unfolding is_valid_query
 valid_query schema verb filters range fits deep =
     let places : length (map or_all filters.sets) ≡ 4 = length-map filters.sets or_all ∙ fits.places in
-    rw (range, fits.region, deep, places, fits.sets, fits.time, taken (takes_filters verb) verb filters refl fits.none, own_bins (is_series verb) verb filters refl fits.own) refl
+    rw (range, fits.region, deep, places, fits.sets, fits.time, taken (takes_filters verb) verb filters refl fits.none, own_bins (is_series verb) verb filters refl fits.own, own_tiles (is_window verb) verb filters refl fits.world) refl

@@ -30,12 +30,18 @@ most_best_rows = 1000
 abbrev pub VerbRead : Type 0
 VerbRead = Result (Verb × List (List ℕ)) WordFault
 
+-- the number of the category that the first of the words names, which is number n, and the words after it
+unfoldable pub category_at : List Category → ℕ → List (List ℕ) → Result (ℕ × List (List ℕ)) WordFault
+category_at categories n words = do
+  name ← word_at n words
+  k ← or_fault (category_number categories name.0) UnknownCategory n
+  Ok (k, name.1)
+
 -- `hist` and a category
 unfoldable pub hist_at : List Category → List (List ℕ) → VerbRead
 hist_at categories words = do
-  name ← word_at 2 words
-  k ← or_fault (category_number categories name.0) UnknownCategory 2
-  Ok (Hist k, name.1)
+  k ← category_at categories 2 words
+  Ok (Hist k.0, k.1)
 
 -- `map` and how many levels down
 unfoldable pub map_at : List (List ℕ) → VerbRead
@@ -63,11 +69,9 @@ window_at depth words = do
 -- `cross` and two categories
 unfoldable pub cross_at : List Category → List (List ℕ) → VerbRead
 cross_at categories words = do
-  first ← word_at 2 words
-  k ← or_fault (category_number categories first.0) UnknownCategory 2
-  second ← word_at 3 first.1
-  l ← or_fault (category_number categories second.0) UnknownCategory 3
-  if k == l then fault_at SameCategory 3 else Ok (Cross k l, second.1)
+  k ← category_at categories 2 words
+  l ← category_at categories 3 k.1
+  if k.0 == l.0 then fault_at SameCategory 3 else Ok (Cross k.0 l.0, l.1)
 
 -- `best`, how many levels down, and how many rows
 unfoldable pub best_at : List (List ℕ) → VerbRead

@@ -3,7 +3,7 @@ ghost use Rattle.std.specs.Prelude.{◌≡◌, ℕ, ◌+◌, ◌<◌, ◌≤◌,
 ghost use Rattle.query_syntax.specs.Filters.{no_filters, line_read, words_read, filters_at, ReadsOn, AddsFilter};
 ghost use Rattle.query_syntax.specs.Filters.Wanted.{Name, Region, Item, From};
 ghost use Rattle.query_syntax.specs.Meaning.{FiltersFit, KeepsFit};
-ghost use Rattle.query_syntax.specs.Verbs.{takes_filters, is_series};
+ghost use Rattle.query_syntax.specs.Verbs.{takes_filters, is_series, is_window};
 ghost use Rattle.query_syntax.specs.Words.{words};
 ghost use Rattle.query_syntax.specs.declared.query.Verb.{Verb};
 
@@ -38,10 +38,7 @@ fn no_filters_yet() -> Filters
 pub(crate) fn may_have_filters(verb: Verb) -> bool
     ensures { result ≡ takes_filters verb }
 {
-    match verb {
-        Verb::Count | Verb::Hist(_) | Verb::Map(_) | Verb::Series { .. } => true,
-        Verb::Stat | Verb::Told | Verb::Quit => false,
-    }
+    !matches!(verb, Verb::Stat | Verb::Told | Verb::Quit)
 }
 
 /// Whether the verb has its bins by itself.
@@ -49,6 +46,13 @@ pub(crate) fn has_own_bins(verb: Verb) -> bool
     ensures { result ≡ is_series verb }
 {
     matches!(verb, Verb::Series { .. })
+}
+
+/// Whether the verb has its finest tiles by itself.
+pub(crate) fn has_own_tiles(verb: Verb) -> bool
+    ensures { result ≡ is_window verb }
+{
+    matches!(verb, Verb::Window(_))
 }
 
 /// Reads the tile after `in`, which is word `number`.
@@ -63,7 +67,7 @@ fn region_filter<'a>(
     ensures reads { (verb : Verb) → ReadsOn (line_read Region schema.now verb filters.now number line.now) result (λ x. line_read Name schema.now verb x.0 x.1 x.2.now) }
     ensures next { IfOk result (λ x. x.1 ≡ number + 1) }
     ensures adds { IfOk result (λ x. AddsFilter filters.now x.0) }
-    ensures fits { IfOk result (λ x. (verb : Verb) → takes_filters verb ≡ true → KeepsFit schema.now filters.now x.0 verb) }
+    ensures fits { IfOk result (λ x. (verb : Verb) → takes_filters verb ≡ true → is_window verb ≡ false → KeepsFit schema.now filters.now x.0 verb) }
 {
     let Some((word, rest)) = next_word(line) else {
         return Err(WordFault::at(QueryFault::MissingWord, number));
@@ -145,6 +149,9 @@ fn filter_of<'a>(
     if !may_have_filters(verb) {
         Err(WordFault::at(QueryFault::UnknownFilter, number))
     } else if is_text(word, "in") {
+        if has_own_tiles(verb) {
+            return Err(WordFault::at(QueryFault::InWithWindow, number));
+        }
         if filters.region.is_some() {
             return Err(WordFault::at(QueryFault::RepeatedFilter, number));
         }
@@ -172,7 +179,7 @@ pub fn filters_of(
     first: u32,
     line: &[u8],
 ) -> Result<Filters, WordFault>
-    requires { first ≤ 5 }
+    requires { first ≤ 6 }
     ensures read { result ≡ filters_at schema.now verb first (words line.now) }
     ensures fits { IfOk result (FiltersFit schema.now verb) }
 {

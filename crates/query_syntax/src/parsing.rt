@@ -24,16 +24,20 @@ fn words_of_verb(verb: Verb) -> u32
     match verb {
         Verb::Count | Verb::Stat | Verb::Told | Verb::Quit => 1,
         Verb::Hist(_) | Verb::Map(_) => 2,
+        Verb::Cross(_, _) | Verb::Best { .. } => 3,
         Verb::Series { .. } => 4,
+        Verb::Window(_) => 5,
     }
 }
 
-/// Whether the map's tiles, which are in a region of that level, are too deep.
+/// Whether the tiles of a map, or the best ones, in a region of that level are too deep.
 pub(crate) fn is_map_too_deep(depth: u8, z: u8, verb: Verb) -> bool
     ensures { result ≡ is_too_deep depth z verb }
 {
     match verb {
-        Verb::Map(down) => u32::from(depth) < u32::from(z) + u32::from(down),
+        Verb::Map(down) | Verb::Best { depth: down, .. } => {
+            u32::from(depth) < u32::from(z) + u32::from(down)
+        }
         _ => false,
     }
 }
@@ -63,9 +67,9 @@ fn query_from(verb: Verb, filters: &Filters) -> Query
     }
 }
 
-/// The query of a verb and filters, if its map is not too deep.
+/// The query of a verb and filters, if its tiles are not too deep.
 fn fitting_query(schema: &Schema, verb: Verb, filters: &Filters) -> Result<Query, WordFault>
-    requires range { IsTrue (verb_in_range (length schema.now.categories) verb) }
+    requires range { IsTrue (verb_in_range schema.now.depth (length schema.now.categories) verb) }
     requires fits { FiltersFit schema.now verb filters.now }
     ensures read { result ≡ query_if_fits schema.now (query_with verb filters.now) }
     ensures valid { IfOk result (λ q. IsTrue (is_valid_query schema.now q)) }
@@ -81,7 +85,7 @@ fn fitting_query(schema: &Schema, verb: Verb, filters: &Filters) -> Result<Query
 /// What the line asks for after the words of the verb.
 #[tactic(auto, unfolding(crate::specs::Meaning::query_after_verb))]
 fn query_after(schema: &Schema, verb: Verb, line: &[u8]) -> Result<Query, WordFault>
-    requires { IsTrue (verb_in_range (length schema.now.categories) verb) }
+    requires { IsTrue (verb_in_range schema.now.depth (length schema.now.categories) verb) }
     ensures read { result ≡ query_after_verb schema.now verb (words line.now) }
     ensures valid { IfOk result (λ q. IsTrue (is_valid_query schema.now q)) }
 {

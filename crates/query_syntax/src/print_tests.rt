@@ -54,7 +54,7 @@ fn printed(alloc: Global, schema: &Schema, line: &[u8]) -> Result<(Parsed, List<
 
 #[test]
 fn prints_each_verb_and_its_filters_in_one_order(rt: HostRuntime) -> Result<(), Fail> {
-    let cases: [(&[u8], &[u8]); 9] = [
+    let cases: [(&[u8], &[u8]); 11] = [
         (b"count  in 01/0/1", b"count in 1/0/1"),
         (
             b"count  with kind=a|a in 01/0/1",
@@ -70,6 +70,8 @@ fn prints_each_verb_and_its_filters_in_one_order(rt: HostRuntime) -> Result<(), 
             br#"series 0 10 4 with kind="b""#,
             b"series 0 10 4 with kind=b",
         ),
+        (b"window 00 0  4 04 time 1 2", b"window 0 0 4 4 time 1 2"),
+        (b"best 03 1000 in 0/0/0", b"best 3 1000"),
         (b" stat", b"stat"),
         (b"told ", b"told"),
         (b"quit", b"quit"),
@@ -85,13 +87,14 @@ fn prints_each_verb_and_its_filters_in_one_order(rt: HostRuntime) -> Result<(), 
 
 #[test]
 fn quotes_values_with_a_space_or_a_bar(rt: HostRuntime) -> Result<(), Fail> {
-    let cases: [(&[u8], &[u8]); 3] = [
+    let cases: [(&[u8], &[u8]); 4] = [
         (br#"count with k="e""#, b"count with k=e"),
         (
             br#"count with m="c d" with k="c|d"|"a b""#,
             br#"count with k="a b"|"c|d" with m="c d""#,
         ),
         (b"count with m=f|e", b"count with m=e|f"),
+        (b"cross  m k with m=e", b"cross m k with m=e"),
     ];
     let schema = spaced_schema(rt.alloc())?;
     for (line, want) in cases {

@@ -9,7 +9,7 @@ ghost use Rattle.query_syntax.specs.Queries.{is_valid_query, is_all_bins, verb_i
 ghost use Rattle.query_syntax.specs.Spelling.{spaced, value_text, value_texts, needs_quotes, value_listed, item_text, choice_texts, choices_texts, further_texts, verb_name, verb_texts, name_at, tile_text, region_texts, span_texts, query_text};
 
 use crate::verb_words::BINS;
-use crate::{Choice, Query, Span, ValueSet, Verb};
+use crate::{Choice, Query, Rect, Span, ValueSet, Verb};
 use cube_view::{Category, Schema, Tile};
 use outer_io::{List, NoMemory, Text};
 use std::alloc::{AllocError, Global};
@@ -39,6 +39,9 @@ fn name_of_verb(verb: Verb) -> &'static str
         Verb::Hist(_) => "hist",
         Verb::Map(_) => "map",
         Verb::Series { .. } => "series",
+        Verb::Window(_) => "window",
+        Verb::Cross(_, _) => "cross",
+        Verb::Best { .. } => "best",
         Verb::Stat => "stat",
         Verb::Told => "told",
         Verb::Quit => "quit",
@@ -68,6 +71,34 @@ fn push_series(
     push_number(alloc, text, u64::from(rows))
 }
 
+/// Appends the further words of a window.
+fn push_window(alloc: Global, text: &mut String, rect: Rect) -> Result<(), AllocError>
+    ensures { OnOk result (string_bytes text.new ≡ string_bytes text.old ++ spaced (decimal rect.x0 ∷ decimal rect.y0 ∷ decimal rect.x1 ∷ decimal rect.y1 ∷ [])) }
+{
+    push_number(alloc, text, u64::from(rect.x0))?;
+    push_number(alloc, text, u64::from(rect.y0))?;
+    push_number(alloc, text, u64::from(rect.x1))?;
+    push_number(alloc, text, u64::from(rect.y1))
+}
+
+/// Appends the names of two categories.
+fn push_categories(text: &mut String, schema: &Schema, k: usize, l: usize) -> Result<(), AllocError>
+    requires first { k < length schema.now.categories }
+    requires second { l < length schema.now.categories }
+    ensures { OnOk result (string_bytes text.new ≡ string_bytes text.old ++ spaced (name_at schema.now.categories k ∷ name_at schema.now.categories l ∷ [])) }
+{
+    push_word(text, name_of_category(schema, k))?;
+    push_word(text, name_of_category(schema, l))
+}
+
+/// Appends the further words of best tiles.
+fn push_best(alloc: Global, text: &mut String, down: u8, rows: u32) -> Result<(), AllocError>
+    ensures { OnOk result (string_bytes text.new ≡ string_bytes text.old ++ spaced (decimal down ∷ decimal rows ∷ [])) }
+{
+    push_number(alloc, text, u64::from(down))?;
+    push_number(alloc, text, u64::from(rows))
+}
+
 /// Appends the further words of the verb.
 fn push_verb(
     alloc: Global,
@@ -75,13 +106,16 @@ fn push_verb(
     schema: &Schema,
     verb: Verb,
 ) -> Result<(), AllocError>
-    requires { IsTrue (verb_in_range (length schema.now.categories) verb) }
+    requires { IsTrue (verb_in_range schema.now.depth (length schema.now.categories) verb) }
     ensures { OnOk result (string_bytes text.new ≡ string_bytes text.old ++ spaced (verb_texts schema.now.categories verb)) }
 {
     match verb {
         Verb::Hist(k) => push_word(text, name_of_category(schema, usize::from(k))),
         Verb::Map(down) => push_number(alloc, text, u64::from(down)),
         Verb::Series { from, wide, rows } => push_series(alloc, text, from, wide, rows),
+        Verb::Window(rect) => push_window(alloc, text, rect),
+        Verb::Cross(k, l) => push_categories(text, schema, usize::from(k), usize::from(l)),
+        Verb::Best { depth, rows } => push_best(alloc, text, depth, rows),
         Verb::Count | Verb::Stat | Verb::Told | Verb::Quit => Ok(()),
     }
 }

@@ -9,7 +9,7 @@ ghost use Rattle.query_syntax.specs.Boxes.{box, total};
 ghost use Rattle.query_syntax.specs.Items.{values_at};
 ghost use Rattle.query_syntax.specs.Queries.{is_valid_query};
 ghost use Rattle.query_syntax.specs.Narrowing.{with_tile, with_bins};
-ghost use Rattle.query_syntax.specs.Tables.{has_table, value_row, area_row, bins_row, table, table_rows};
+ghost use Rattle.query_syntax.specs.Tables.{is_drill, value_row, area_row, bins_row, table, table_rows};
 ghost use Rattle.query_syntax.specs.TileOrder.{tiles_below, tiles_inside};
 ghost use Rattle.query_syntax.specs.Verbs.{bins, most_rows};
 
@@ -168,6 +168,7 @@ fn rows_of(
     points: &[Point],
 ) -> Result<List<RowOut>, NoMemory>
     requires valid { IsTrue (is_valid_query schema.now query.now) }
+    requires verb { IsTrue (is_drill query.now.verb) }
     requires light { amount anywhere points.now < 2 ^ 64 }
     ensures { IfOk result (λ rows. rows ≡ table_rows schema.now query.now points.now) }
 {
@@ -178,7 +179,8 @@ fn rows_of(
         Verb::Series { from, wide, rows } => {
             bin_rows(alloc, schema, query, points, from, wide, rows)
         }
-        Verb::Stat | Verb::Told | Verb::Quit => Ok(List::new(alloc)),
+        Verb::Window(_) | Verb::Cross(_, _) | Verb::Best { .. } => unreachable!(),
+        Verb::Stat | Verb::Told | Verb::Quit => unreachable!(),
     }
 }
 
@@ -192,7 +194,7 @@ pub fn table_of(
     points: &[Point],
 ) -> Result<Table, NoMemory>
     requires valid { IsTrue (is_valid_query schema.now query.now) }
-    requires verb { IsTrue (has_table query.now.verb) }
+    requires verb { IsTrue (is_drill query.now.verb) }
     requires light { amount anywhere points.now < 2 ^ 64 }
     ensures { IfOk result (λ t. t ≡ table schema.now query.now points.now) }
 {

@@ -1,6 +1,6 @@
 //! What lines mean, by examples.
 use crate::{
-    Choice, Parsed, Query, QueryFault, Span, ValueSet, Verb, is_valid_query, parse, print,
+    Choice, Parsed, Query, QueryFault, Rect, Span, ValueSet, Verb, is_valid_query, parse, print,
 };
 use cube_view::{Schema, Tile};
 use example_schemas::schema_of_kinds;
@@ -61,6 +61,41 @@ fn names_the_first_fault_and_its_word(rt: HostRuntime) -> Result<(), Fail> {
         ),
         (b"stat in 0/0/0", fault(QueryFault::UnknownFilter, 2)),
         (b"count by kind", fault(QueryFault::UnknownFilter, 2)),
+    ];
+    for case in &cases {
+        expect(&rt, case.0, &case.1)?;
+    }
+    Ok(())
+}
+
+#[test]
+fn names_the_first_fault_of_windows_crosses_and_best_tiles(rt: HostRuntime) -> Result<(), Fail> {
+    let cases: [(&[u8], Parsed); 19] = [
+        (b"window", fault(QueryFault::MissingWord, 2)),
+        (b"window 0 0 8", fault(QueryFault::MissingWord, 5)),
+        (b"window 9 0 9 1", fault(QueryFault::OutOfRange, 2)),
+        (b"window 0 x 1 1", fault(QueryFault::BadNumber, 3)),
+        (b"window 0 0 9 1", fault(QueryFault::OutOfRange, 4)),
+        (b"window 3 0 1 1", fault(QueryFault::OutOfRange, 4)),
+        (b"window 0 5 8 4", fault(QueryFault::OutOfRange, 5)),
+        (
+            b"window 0 0 8 8 in 0/0/0",
+            fault(QueryFault::InWithWindow, 6),
+        ),
+        (
+            b"window 0 0 8 8 time 1 2 in x",
+            fault(QueryFault::InWithWindow, 9),
+        ),
+        (b"cross color", fault(QueryFault::UnknownCategory, 2)),
+        (b"cross kind", fault(QueryFault::MissingWord, 3)),
+        (b"cross kind color", fault(QueryFault::UnknownCategory, 3)),
+        (b"cross kind kind", fault(QueryFault::SameCategory, 3)),
+        (b"best 11 1", fault(QueryFault::OutOfRange, 2)),
+        (b"best 1", fault(QueryFault::MissingWord, 3)),
+        (b"best 1 0", fault(QueryFault::OutOfRange, 3)),
+        (b"best 1 1001", fault(QueryFault::OutOfRange, 3)),
+        (b"best 4 1", fault(QueryFault::TooDeep, 2)),
+        (b"best 1 1 in 3/0/0", fault(QueryFault::TooDeep, 2)),
     ];
     for case in &cases {
         expect(&rt, case.0, &case.1)?;
@@ -174,6 +209,14 @@ fn series(from: u64, wide: u64, rows: u32) -> Verb {
     Verb::Series { from, wide, rows }
 }
 
+fn window(x0: u32, y0: u32, x1: u32, y1: u32) -> Verb {
+    Verb::Window(Rect { x0, y0, x1, y1 })
+}
+
+fn best(depth: u8, rows: u32) -> Verb {
+    Verb::Best { depth, rows }
+}
+
 fn choice_of(values: Option<&[u8]>) -> Choice {
     match values {
         None => Choice::All,
@@ -233,6 +276,20 @@ fn takes_queries_up_to_the_ends_of_their_ranges(rt: HostRuntime) -> Result<(), F
         tried(series(0, 0, 1), 0, 0, false),
         tried(series(0, 1, 10_001), 0, 0, false),
         tried_in(series(0, 1, 1), 0, 1, false),
+        tried(window(0, 0, 8, 8), 0, 0, true),
+        tried(window(2, 2, 2, 8), 0, 0, true),
+        tried(window(0, 0, 9, 1), 0, 0, false),
+        tried(window(0, 0, 1, 9), 0, 0, false),
+        tried(window(3, 0, 1, 1), 0, 0, false),
+        tried(window(0, 0, 8, 8), 1, 0, false),
+        tried_in(window(0, 0, 8, 8), 1, 2, true),
+        tried(Verb::Cross(0, 0), 0, 0, false),
+        tried(Verb::Cross(0, 1), 0, 0, false),
+        tried(best(3, 1_000), 0, 0, true),
+        tried(best(1, 1), 2, 0, true),
+        tried(best(1, 1), 3, 0, false),
+        tried(best(1, 0), 0, 0, false),
+        tried(best(1, 1_001), 0, 0, false),
         tried(Verb::Stat, 0, 0, true),
         tried(Verb::Told, 0, 0, true),
         tried(Verb::Quit, 0, 0, true),

@@ -2,30 +2,48 @@
 ghost use Rattle.std.specs.Prelude.{◌≡◌, ◌≤◌, ◌<◌, length, true, IsTrue};
 ghost use Rattle.std.specs.List.{list_all, list_any};
 ghost use Rattle.query_syntax.specs.Items.{is_full, values_at};
-ghost use Rattle.query_syntax.specs.Queries.{are_choices, filters_fit_verb, has_no_filters, is_all, is_all_bins, is_choice, is_span, is_valid_query, is_whole_space, verb_in_range};
-ghost use Rattle.query_syntax.specs.Tables.{has_table};
+ghost use Rattle.query_syntax.specs.Queries.{are_choices, filters_fit_verb, has_no_filters, is_all, is_all_bins, is_choice, is_span, is_valid_query, is_whole_space, rect_in_range, verb_in_range};
+ghost use Rattle.query_syntax.specs.Tables.{has_table, is_drill};
 ghost use Rattle.query_syntax.specs.Tiles.{is_tile};
 
-use crate::filters::{has_own_bins, may_have_filters};
+use crate::filters::{has_own_bins, has_own_tiles, may_have_filters};
 use crate::item::{has_all, values_of};
 use crate::parsing::is_map_too_deep;
-use crate::verb_words::{BINS, DEEPEST_MAP, MOST_ROWS};
-use crate::{Choice, Query, Span, ValueSet, Verb};
+use crate::verb_words::{BINS, DEEPEST_MAP, MOST_BEST_ROWS, MOST_ROWS};
+use crate::{Choice, Query, Rect, Span, ValueSet, Verb};
 use cube_view::{Schema, Tile};
 
 /// Whether the verb asks for a table.
 pub fn has_table(verb: &Verb) -> bool
     ensures { result ≡ has_table verb.now }
 {
-    match verb {
-        Verb::Count | Verb::Hist(_) | Verb::Map(_) | Verb::Series { .. } => true,
-        Verb::Stat | Verb::Told | Verb::Quit => false,
-    }
+    !matches!(verb, Verb::Stat | Verb::Told | Verb::Quit)
 }
 
-/// Whether the numbers of the verb are in their ranges, where there are so many categories.
-fn is_in_range(count: usize, verb: &Verb) -> bool
-    ensures { result ≡ verb_in_range count verb.now }
+/// Whether the verb asks for a table along one dimension at most, with all its rows: [`crate::table_of`] counts these
+/// alone.
+pub fn is_drill(verb: &Verb) -> bool
+    ensures { result ≡ is_drill verb.now }
+{
+    matches!(
+        verb,
+        Verb::Count | Verb::Hist(_) | Verb::Map(_) | Verb::Series { .. }
+    )
+}
+
+/// Whether the rectangle is in order and has finest tiles alone.
+fn is_rect(depth: u8, rect: &Rect) -> bool
+    requires { depth ≤ 20 }
+    ensures { result ≡ rect_in_range depth rect.now }
+{
+    let side = 1u32 << depth;
+    rect.x0 <= rect.x1 && rect.x1 <= side && (rect.y0 <= rect.y1 && rect.y1 <= side)
+}
+
+/// Whether the numbers of the verb are in their ranges, where there are so many levels and so many categories.
+fn is_in_range(depth: u8, count: usize, verb: &Verb) -> bool
+    requires { depth ≤ 20 }
+    ensures { result ≡ verb_in_range depth count verb.now }
 {
     match verb {
         Verb::Count | Verb::Stat | Verb::Told | Verb::Quit => true,
@@ -33,6 +51,11 @@ fn is_in_range(count: usize, verb: &Verb) -> bool
         Verb::Map(down) => *down <= DEEPEST_MAP,
         Verb::Series { from, wide, rows } => {
             *from < BINS && 1 <= *wide && *wide <= BINS && 1 <= *rows && *rows <= MOST_ROWS
+        }
+        Verb::Window(rect) => is_rect(depth, rect),
+        Verb::Cross(k, l) => usize::from(*k) < count && usize::from(*l) < count && k != l,
+        Verb::Best { depth, rows } => {
+            *depth <= DEEPEST_MAP && 1 <= *rows && *rows <= MOST_BEST_ROWS
         }
     }
 }
@@ -137,9 +160,10 @@ fn fits_verb(query: &Query) -> bool
     let is_bare = is_whole_space(&query.region) && are_all(&query.sets) && is_all_bins(&query.time);
     (may_have_filters(query.verb) || is_bare)
         && (!has_own_bins(query.verb) || is_all_bins(&query.time))
+        && (!has_own_tiles(query.verb) || is_whole_space(&query.region))
 }
 
-/// Whether the schema takes the query: its verb's numbers are in range, its region is a tile and its map's tiles
+/// Whether the schema takes the query: its verb's numbers are in range, its region is a tile and its map's or best tiles
 /// are not too deep, each set is one of its category's values, its span is in order, and it has no filters that its
 /// verb doesn't take.
 pub fn is_valid_query(schema: &Schema, query: &Query) -> bool
@@ -148,7 +172,7 @@ pub fn is_valid_query(schema: &Schema, query: &Query) -> bool
     if !are_choices(schema, &query.sets) {
         return false;
     }
-    if !is_in_range(schema.categories.len(), &query.verb) {
+    if !is_in_range(schema.depth, schema.categories.len(), &query.verb) {
         return false;
     }
     if !is_tile(schema.depth, &query.region) {

@@ -4,12 +4,12 @@ ghost use Rattle.std.specs.Str.{bytes_eq};
 ghost use Rattle.query_syntax.specs.Items.{category_number};
 ghost use Rattle.query_syntax.specs.Reading.{GivesRead, number_at, number_of};
 ghost use Rattle.query_syntax.specs.Queries.{verb_in_range};
-ghost use Rattle.query_syntax.specs.Verbs.{verb_at, hist_at, map_at, series_at};
+ghost use Rattle.query_syntax.specs.Verbs.{category_at, verb_at, hist_at, map_at, series_at, window_at, cross_at, best_at};
 ghost use Rattle.query_syntax.specs.Words.{words};
 
-use crate::Verb;
 use crate::fault::{QueryFault, WordFault};
 use crate::words::{is_text, word_of};
+use crate::{Rect, Verb};
 use cube_view::Schema;
 use outer_io::decimal_of;
 
@@ -21,6 +21,9 @@ pub const DEEPEST_MAP: u8 = 10;
 
 /// How many rows a series has at most.
 pub const MOST_ROWS: u32 = 10_000;
+
+/// How many best tiles are listed at most.
+pub const MOST_BEST_ROWS: u32 = 1_000;
 
 /// The number that the word of that number writes, which is one from low to high.
 #[tactic(auto, unfolding(crate::specs::Reading::number_of))]
@@ -65,21 +68,35 @@ pub fn category_named(schema: &Schema, name: &[u8]) -> Option<usize>
         .position(|category| category.name.as_str().as_bytes() == name)
 }
 
+/// The number of the category that the first word of the line names, and what comes after it.
+#[tactic(auto, unfolding(crate::specs::Verbs::category_at))]
+fn next_category<'a>(
+    schema: &Schema,
+    number: u32,
+    line: &'a [u8],
+) -> Result<(usize, &'a [u8]), WordFault>
+    ensures read { GivesRead (λ x. (x.0, words x.1.now)) result (category_at schema.now.categories number (words line.now)) }
+    ensures known { IfOk result (λ x. (x.0 < length schema.now.categories) × (x.0 < 4)) }
+{
+    let (name, rest) = word_of(line, number)?;
+    match category_named(schema, name) {
+        Some(k) => Ok((k, rest)),
+        None => Err(WordFault::at(QueryFault::UnknownCategory, number)),
+    }
+}
+
 #[tactic(auto, unfolding(crate::specs::Verbs::hist_at))]
 fn hist_of<'a>(schema: &Schema, line: &'a [u8]) -> Result<(Verb, &'a [u8]), WordFault>
-    ensures valid { IfOk result (λ x. IsTrue (verb_in_range (length schema.now.categories) x.0)) }
+    ensures valid { IfOk result (λ x. (depth : ℕ) → IsTrue (verb_in_range depth (length schema.now.categories) x.0)) }
     ensures read { GivesRead (λ x. (x.0, words x.1.now)) result (hist_at schema.now.categories (words line.now)) }
 {
-    let (name, rest) = word_of(line, 2)?;
-    match category_named(schema, name) {
-        Some(k) => Ok((Verb::Hist(k as u8), rest)),
-        None => Err(WordFault::at(QueryFault::UnknownCategory, 2)),
-    }
+    let (k, rest) = next_category(schema, 2, line)?;
+    Ok((Verb::Hist(k as u8), rest))
 }
 
 #[tactic(auto, unfolding(crate::specs::Verbs::map_at))]
 fn map_of(line: &[u8]) -> Result<(Verb, &[u8]), WordFault>
-    ensures valid { IfOk result (λ x. (count : ℕ) → IsTrue (verb_in_range count x.0)) }
+    ensures valid { IfOk result (λ x. (depth count : ℕ) → IsTrue (verb_in_range depth count x.0)) }
     ensures read { GivesRead (λ x. (x.0, words x.1.now)) result (map_at (words line.now)) }
 {
     let (down, rest) = next_number(0, u64::from(DEEPEST_MAP), 2, line)?;
@@ -88,7 +105,7 @@ fn map_of(line: &[u8]) -> Result<(Verb, &[u8]), WordFault>
 
 #[tactic(auto, unfolding(crate::specs::Verbs::series_at))]
 fn series_of(line: &[u8]) -> Result<(Verb, &[u8]), WordFault>
-    ensures valid { IfOk result (λ x. (count : ℕ) → IsTrue (verb_in_range count x.0)) }
+    ensures valid { IfOk result (λ x. (depth count : ℕ) → IsTrue (verb_in_range depth count x.0)) }
     ensures read { GivesRead (λ x. (x.0, words x.1.now)) result (series_at (words line.now)) }
 {
     let (from, rest) = next_number(0, BINS - 1, 2, line)?;
@@ -104,11 +121,61 @@ fn series_of(line: &[u8]) -> Result<(Verb, &[u8]), WordFault>
     ))
 }
 
+#[tactic(auto, unfolding(crate::specs::Verbs::window_at))]
+fn window_of<'a>(depth: u8, line: &'a [u8]) -> Result<(Verb, &'a [u8]), WordFault>
+    requires { depth ≤ 20 }
+    ensures valid { IfOk result (λ x. (count : ℕ) → IsTrue (verb_in_range depth count x.0)) }
+    ensures read { GivesRead (λ x. (x.0, words x.1.now)) result (window_at depth (words line.now)) }
+{
+    let side = 1u64 << depth;
+    let (x0, rest) = next_number(0, side, 2, line)?;
+    let (y0, rest) = next_number(0, side, 3, rest)?;
+    let (x1, rest) = next_number(x0, side, 4, rest)?;
+    let (y1, rest) = next_number(y0, side, 5, rest)?;
+    let rect = Rect {
+        x0: x0 as u32,
+        y0: y0 as u32,
+        x1: x1 as u32,
+        y1: y1 as u32,
+    };
+    Ok((Verb::Window(rect), rest))
+}
+
+#[tactic(auto, unfolding(crate::specs::Verbs::cross_at))]
+fn cross_of<'a>(schema: &Schema, line: &'a [u8]) -> Result<(Verb, &'a [u8]), WordFault>
+    ensures valid { IfOk result (λ x. (depth : ℕ) → IsTrue (verb_in_range depth (length schema.now.categories) x.0)) }
+    ensures read { GivesRead (λ x. (x.0, words x.1.now)) result (cross_at schema.now.categories (words line.now)) }
+{
+    let (first, rest) = next_category(schema, 2, line)?;
+    let (second, rest) = next_category(schema, 3, rest)?;
+    if first == second {
+        Err(WordFault::at(QueryFault::SameCategory, 3))
+    } else {
+        Ok((Verb::Cross(first as u8, second as u8), rest))
+    }
+}
+
+#[tactic(auto, unfolding(crate::specs::Verbs::best_at))]
+fn best_of(line: &[u8]) -> Result<(Verb, &[u8]), WordFault>
+    ensures valid { IfOk result (λ x. (depth count : ℕ) → IsTrue (verb_in_range depth count x.0)) }
+    ensures read { GivesRead (λ x. (x.0, words x.1.now)) result (best_at (words line.now)) }
+{
+    let (down, rest) = next_number(0, u64::from(DEEPEST_MAP), 2, line)?;
+    let (rows, rest) = next_number(1, u64::from(MOST_BEST_ROWS), 3, rest)?;
+    Ok((
+        Verb::Best {
+            depth: down as u8,
+            rows: rows as u32,
+        },
+        rest,
+    ))
+}
+
 /// The verb that the line begins with, and what comes after its words.
 #[tactic(auto, unfolding(crate::specs::Verbs::verb_at))]
 pub fn verb_of<'a>(schema: &Schema, line: &'a [u8]) -> Result<(Verb, &'a [u8]), WordFault>
-    ensures valid { IfOk result (λ x. IsTrue (verb_in_range (length schema.now.categories) x.0)) }
-    ensures read { GivesRead (λ x. (x.0, words x.1.now)) result (verb_at schema.now.categories (words line.now)) }
+    ensures valid { IfOk result (λ x. IsTrue (verb_in_range schema.now.depth (length schema.now.categories) x.0)) }
+    ensures read { GivesRead (λ x. (x.0, words x.1.now)) result (verb_at schema.now.depth schema.now.categories (words line.now)) }
 {
     let (word, rest) = word_of(line, 1)?;
     if is_text(word, "count") {
@@ -119,6 +186,12 @@ pub fn verb_of<'a>(schema: &Schema, line: &'a [u8]) -> Result<(Verb, &'a [u8]), 
         map_of(rest)
     } else if is_text(word, "series") {
         series_of(rest)
+    } else if is_text(word, "window") {
+        window_of(schema.depth, rest)
+    } else if is_text(word, "cross") {
+        cross_of(schema, rest)
+    } else if is_text(word, "best") {
+        best_of(rest)
     } else if is_text(word, "stat") {
         Ok((Verb::Stat, rest))
     } else if is_text(word, "told") {

@@ -6,7 +6,7 @@ use Rattle.query_syntax.proofs.filters.filter_of.Goals as goal
 pub returns-else-is_some-clause-reads : goal.returns-else-is_some-clause-reads
 returns-else-is_some-clause-reads c =
     reads_on_from _ _ c.region_filter.result _
-    (region_begins c.args.schema.now c.args.verb c.args.filters.now c.args.number c.args.word.now _ (sym c.may_have_filters.ensures ∙ c.if-not-may_have_filters.false) (sym c.is_text.ensures ∙ c.if-is_text.true) (sym c.is_some.ensures ∙ c.if-is_some.false))
+    (region_begins c.args.schema.now c.args.verb c.args.filters.now c.args.number c.args.word.now _ (sym c.may_have_filters.ensures ∙ c.if-not-may_have_filters.false) (sym c.is_text.ensures ∙ c.if-is_text.true) (sym c.has_own_tiles.ensures ∙ c.if-has_own_tiles.false) (sym c.is_some.ensures ∙ c.if-is_some.false))
     (c.region_filter.ensures.reads c.args.verb)
 
 pub returns-then-is_text-2-clause-reads : goal.returns-then-is_text-2-clause-reads
@@ -23,7 +23,7 @@ returns-else-is_some-2-clause-reads c =
 
 pub returns-else-is_some-clause-fits : goal.returns-else-is_some-clause-fits
 returns-else-is_some-clause-fits c =
-    IfOk-weaker c.region_filter.result _ _ (λ x h. h c.args.verb (sym c.may_have_filters.ensures ∙ c.if-not-may_have_filters.false) c.requires.fits) c.region_filter.ensures.fits
+    IfOk-weaker c.region_filter.result _ _ (λ x h. h c.args.verb (sym c.may_have_filters.ensures ∙ c.if-not-may_have_filters.false) (sym c.has_own_tiles.ensures ∙ c.if-has_own_tiles.false) c.requires.fits) c.region_filter.ensures.fits
 
 pub returns-then-is_text-2-clause-fits : goal.returns-then-is_text-2-clause-fits
 returns-then-is_text-2-clause-fits c =

@@ -9,7 +9,7 @@ abbrev pub invariant-loop-word : goal.invariant-loop-word
 invariant-loop-word l =
     record {
       reads : words_read l.schema l.verb Name l.filters l.number (words l.rest) ≡ words_read l.schema l.verb Name no_filters l.fn.first (words l.line);
-      number : l.number ≤ 5 + 3 * filters_used l.filters;
+      number : l.number ≤ 6 + 3 * filters_used l.filters;
       fits : FiltersFit l.schema l.verb l.filters;
       places : length l.filters.sets ≡ 4;
     }

@@ -42,8 +42,3 @@ returns-in-Map c = rw (rows_at c.args.schema.now c.args.query.now c.args.points.
 
 pub returns-in-Series : goal.returns-in-Series
 returns-in-Series c = rw (rows_at c.args.schema.now c.args.query.now c.args.points.now _ c.in-Series.is) c.bin_rows.ensures
-
-pub returns-in-Stat : goal.returns-in-Stat
-returns-in-Stat c =
-    let rows = rows_at c.args.schema.now c.args.query.now c.args.points.now in
-    c.new.ensures ∙ sym (⊎_elim (rows Stat) (λ is. ⊎_elim (rows Told) (rows Quit) is) c.in-Stat.is)
