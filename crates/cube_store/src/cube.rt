@@ -7,7 +7,7 @@ ghost use Rattle.cube_view.specs.Validity.{sound};
 ghost use Rattle.arena_undo.specs.Worked.{Worked};
 ghost use Rattle.point_insert.specs.Room.{visits};
 ghost use Rattle.proper_path.specs.Paths.{point_path};
-ghost use Rattle.cube_store.specs.Counted.{HasPoints};
+ghost use Rattle.cube_store.specs.Counted.{CountsPoints, HasPoints};
 ghost use Rattle.cube_store.specs.Inserting.{CanInsert, Inserts};
 ghost use Rattle.cube_store.specs.Numbers.{cube_numbers, OwnsAllButRoot};
 ghost use Rattle.cube_store.specs.Reading.{spot_weight};
@@ -53,6 +53,23 @@ impl Cube {
             size: 0,
             alloc,
         })
+    }
+
+    /// The cube of an arena's slots, of which some list of so many points of the schema is counted.
+    pub fn of_slots(alloc: Global, schema: Schema, arena: Arena, root: SlotId, size: u64) -> Cube
+        requires counted { HasPoints schema arena root.0 size }
+        requires few { size ≤ most_points }
+        ensures schema { result.schema ≡ schema }
+        ensures slots { (result.arena ≡ arena) × (result.root ≡ root) × (result.size ≡ size) }
+        ensures counted { (h : List Counted) → CountsPoints schema arena root.0 size h → CubeCounts result h }
+    {
+        Cube {
+            schema,
+            arena,
+            root,
+            size,
+            alloc,
+        }
     }
 
     /// Adds a sound point. After want of memory the arena, the root and the size are as before.
