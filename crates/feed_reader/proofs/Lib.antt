@@ -10,3 +10,5 @@ pub mod ValidRows
 pub mod FeedStart
 pub mod FeedLaws
 pub mod Stepping
+pub mod AcceptedPoints
+pub mod FewPoints

@@ -7,3 +7,4 @@ pub mod Headers
 pub mod Rows
 pub mod Feeds
 pub mod Reading
+pub mod Accepting

@@ -4,8 +4,9 @@
 //! `specs/Records.antt` cites; no reader of `csv` is made. What the bytes mean is the definition `head_of` of
 //! `specs/Headers.antt` for a header and `row_of` of `specs/Rows.antt` for a row; [`Header::read`] and [`Header::row`]
 //! answer exactly that. [`read_header`] and [`next_row`] take the lines from a cutter. `accepted` of `specs/Feeds.antt`
-//! says which points a whole feed has. The crate stands on `cube_view` for schemas and points and on `outer_io` for lines;
-//! where the points go, and what is said of refused rows, is left to the crates above.
+//! says which points a whole feed has, and [`accepted_laws`] what is known of them. The crate stands on `cube_view` for
+//! schemas and points and on `outer_io` for lines; where the points go, and what is said of refused rows, is left to the
+//! crates above.
 //!
 //! ```text
 //! let header = Header::read(alloc, &schema, b"id,x,y,kind,time")?;
@@ -20,12 +21,14 @@ mod feed;
 mod fields;
 mod fronts;
 mod header;
+mod laws;
 mod row;
 mod text;
 
 pub use column::Column;
 pub use feed::{NoHeader, next_row, read_header};
 pub use header::{HeadFault, Header};
+pub use laws::accepted_laws;
 pub use row::{Row, RowFault};
 
 #[cfg(test)]
