@@ -3,7 +3,7 @@ ghost use Rattle.std.specs.Prelude.{◌≡◌, ◌<◌, ◌^◌, ◌∷◌, [], 
 ghost use Rattle.cube_view.specs.Bag.{amount, anywhere};
 ghost use Rattle.query_syntax.specs.Meaning.{asks_valid};
 
-use crate::{Parsed, RowOut, Table, has_table, parse, table_of};
+use crate::{Parsed, RowOut, Table, is_drill, parse, table_of};
 use cube_view::{Category, Point, Schema, Spot};
 use example_schemas::schema_of_kinds;
 use outer_io::{List, NoMemory, Text};
@@ -56,7 +56,7 @@ fn table_asked(
     requires light { amount anywhere points.now < 2 ^ 64 }
 {
     match parsed {
-        Parsed::Ask(query) if has_table(&query.verb) => {
+        Parsed::Ask(query) if is_drill(&query.verb) => {
             let table = table_of(alloc, schema, query, points)?;
             Ok(Some(table))
         }
