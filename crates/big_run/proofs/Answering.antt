@@ -119,8 +119,10 @@ unfolding final_replies final_asked
 final_put is_stat starved journal h done same found leaves =
     let before = script_session final_script in
     let news : News = record { shown = journal; told = journal; takes = done.mail.takes } in
+    let over : HasDone left_in no_faults still_held big_schema is_stat true 0 news before leaves.after leaves.end =
+    subst (λ (l : List Point). HasDone left_in no_faults still_held big_schema is_stat true 0 (record { shown = l; told = l; takes = done.mail.takes }) before leaves.after leaves.end) (leaves.whole refl) leaves.replied in
     let well = leaves.found found in
-    let ended = came_to_end still_held is_stat news before leaves.after leaves.end leaves.read leaves.write (λ much large. absurd (omega (arith, large))) (λ much. (leaves.too_much much).1) well.1 (leaves.replied refl) (leaves.all refl) in
+    let ended = came_to_end still_held is_stat news before leaves.after leaves.end leaves.read leaves.write (λ much large. absurd (omega (arith, large))) (λ much. (leaves.too_much much).1) well.1 over (leaves.all refl) in
     let answered = ended.0 in
     let transcript = subst (λ (lacks : Bool). AllAnswered big_schema is_stat true journal (length journal) lacks (asked big_schema answered.lines) answered.replies) well.0 answered.transcript.each in
     let count : length answered.replies ≡ length (asked big_schema answered.lines) = answered-length big_schema is_stat journal (length journal) (asked big_schema answered.lines) answered.replies transcript in

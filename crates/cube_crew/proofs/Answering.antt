@@ -1,5 +1,5 @@
 -- What the sessions of a run leave.
-use Rattle.std.proofs.Common.{◌≡◌, ◌≢◌, ℕ, ◌≤◌, Bool, true, false, ◌||◌, List, [], ◌∷◌, ◌++◌, All, length, length-append, map, Option, Some, Result, Ok, Err, IsErrOf, refl, sym, ap, ◌∙◌, subst, arith}
+use Rattle.std.proofs.Common.{◌≡◌, ◌≢◌, ℕ, ◌≤◌, Bool, true, false, ◌||◌, List, [], ◌∷◌, ◌++◌, All, length, length-append, append-nil, map, Option, Some, Result, Ok, Err, IsErrOf, refl, sym, ap, ◌∙◌, subst, arith}
 use Rattle.std.specs.List.{AllZip}
 use Rattle.std.proofs.lemmas.Bool.{false≢true}
 use Rattle.std.proofs.lemmas.List.Elements.{All-cons, All-head, All-nil, All-tail}
@@ -14,10 +14,14 @@ use Rattle.cube_view.specs.Points.{Point}
 use Rattle.cube_view.specs.declared.schema.Schema.{Schema}
 use Rattle.cube_view.specs.declared.stat.Stat.{Stat}
 use Rattle.live_session.specs.News.{News, news_of}
-use Rattle.live_session.specs.SoFar.{HasAnswered, HasBroken, HasDone}
+use Rattle.live_session.specs.SoFar.{AsksFirst, HasAnswered, HasBroken, HasDone}
 use Rattle.live_session.specs.State.{SessionState}
 use Rattle.live_session.specs.TranscriptLaws.{StaysTranscript}
 use Rattle.mailbox.specs.Ends.{OutEnd}
+use Rattle.outer_io.specs.Cutting.{lines_left}
+use Rattle.outer_io.proofs.GainedLaws.{gains_none}
+use Rattle.outer_io.proofs.ProgressLaws.{passes_none}
+use Rattle.outer_io.proofs.ToldLaws.{Told-each, Told-same}
 use Rattle.published_pair.specs.Rules.{Known}
 use Rattle.session_core.specs.Asked.{asked}
 use Rattle.session_core.specs.declared.fault.SessionFault.{SessionFault}
@@ -41,7 +45,7 @@ prefix_length : {A : Type 0} (xs ys : List A) → IsPrefix xs ys → length xs �
 prefix_length xs ys (more, is) = omega (arith, ap length is, length-append xs more)
 
 module _ {I O : Type 0} (left : I → Option (List ℕ)) (faults : I → ℕ) (held : O → Option (List ℕ)) (put_faults : O → ℕ) (name : O → List ℕ) (is_stat : Stat → Type 0) (schema : Schema) where
-  module _ (stays : StaysTranscript is_stat) (taken : ℕ) (a b : News) (shown : IsPrefix a.shown b.shown) (told : IsPrefix a.told b.told) (takes : a.takes ≤ b.takes) (start now : SessionState I O) where
+  module _ (stays : StaysTranscript is_stat) (taken : ℕ) (a b : News) (shown : IsPrefix a.shown b.shown) (told : length a.told ≤ length b.told) (takes : a.takes ≤ b.takes) (start now : SessionState I O) where
     -- what was answered within shorter lists was answered within longer ones
     answered_within : HasAnswered left faults held schema is_stat false taken a start now → HasAnswered left faults held schema is_stat false taken b start now
     answered_within s =
@@ -49,7 +53,7 @@ module _ {I O : Type 0} (left : I → Option (List ℕ)) (faults : I → ℕ) (h
           lines = s.lines;
           replies = s.replies;
           first = s.first;
-          transcript = stays schema false now.lacked a.shown b.shown (length a.told) (length b.told) (asked schema s.lines) s.replies shown (prefix_length a.told b.told told) s.transcript;
+          transcript = stays schema false now.lacked a.shown b.shown (length a.told) (length b.told) (asked schema s.lines) s.replies shown told s.transcript;
           gained = s.gained;
           counted = s.counted;
           noted = s.noted;
@@ -64,7 +68,7 @@ module _ {I O : Type 0} (left : I → Option (List ℕ)) (faults : I → ℕ) (h
           replies = s.replies;
           reply = s.reply;
           first = s.first;
-          transcript = stays schema false now.lacked a.shown b.shown (length a.told) (length b.told) (asked schema s.lines) (s.replies ++ s.reply ∷ []) shown (prefix_length a.told b.told told) s.transcript;
+          transcript = stays schema false now.lacked a.shown b.shown (length a.told) (length b.told) (asked schema s.lines) (s.replies ++ s.reply ∷ []) shown told s.transcript;
           gained = s.gained;
           counted = s.counted;
           noted = s.noted;
@@ -78,15 +82,18 @@ module _ {I O : Type 0} (left : I → Option (List ℕ)) (faults : I → ℕ) (h
     done_within (Err fault.TooMuch) s = answered_within s
     done_within (Err fault.Write) s = broken_within s
 
-  -- the news of a journal of which all was shown and told
+  -- the news of points of which all were shown and told
   abbrev news_over : List Point → OutEnd → News
-  news_over journal mail = record { shown = journal; told = journal; takes = mail.takes }
+  news_over points mail = record { shown = points; told = points; takes = mail.takes }
 
-  -- What an ask's work has become, whose viewer may be closed over the journal
+  -- What an ask's work has become, whose viewer was shown and told no more than these points, those of the journal where it
+  -- was closed
   pub record GivesAsk (closed starved : Bool) (journal : List Point) (work : WorkState I O) (done : SessionDone I O) : Type 0 where
     pub gives : done ≡ done_of work
-    pub shown : closed ≡ true → IsPrefix work.shown.points journal
-    pub told : closed ≡ true → IsPrefix work.learned.points journal
+    pub points : List Point
+    pub whole : closed ≡ true → points ≡ journal
+    pub shown : IsPrefix work.shown.points points
+    pub told : length work.learned.points ≤ length points
     pub found : starved ≡ false → has_starved work ≡ false
 
   pub ask_leaves : StaysTranscript is_stat → (closed starved : Bool) (journal : List Point) (front : Known) (session : SessionState I O) (mail : OutEnd) (work : WorkState I O) (done : SessionDone I O) → mail.takes ≡ 0
@@ -99,8 +106,10 @@ module _ {I O : Type 0} (left : I → Option (List ℕ)) (faults : I → ℕ) (h
         end = work.end;
         parts = (refl, refl);
         numbers = (refl, refl, refl);
-        replied = λ is_closed.
-            done_within stays 0 (news_of work.shown work.learned work.mail) (news_over journal work.mail) (gives.shown is_closed) (gives.told is_closed) (omega arith) session work.session work.end
+        points = gives.points;
+        whole = gives.whole;
+        replied =
+            done_within stays 0 (news_of work.shown work.learned work.mail) (news_over gives.points work.mail) gives.shown gives.told (omega arith) session work.session work.end
             (subst (λ (n : ℕ). HasDone left faults held schema is_stat false n (news_of work.shown work.learned work.mail) session work.session work.end) none ran.replied);
         all = λ is_closed. ran.all;
         too_much = ran.too_much;
@@ -140,8 +149,10 @@ module _ {I O : Type 0} (left : I → Option (List ℕ)) (faults : I → ℕ) (h
       AllZip-knowing (EndsAsk whole) (λ (work : WorkState I O). starved ≡ false → FoundMemory work) (GivesAsk true starved journal) works dones
       (λ work done enough ask. record {
         gives = ask.gives;
-        shown = λ is. subst (IsPrefix work.shown.points) all.1 ask.shown;
-        told = λ is. subst (IsPrefix work.learned.points) all.1 ask.told;
+        points = whole.points;
+        whole = λ is. all.1;
+        shown = ask.shown;
+        told = prefix_length work.learned.points whole.points ask.told;
         found = enough;
       })
       (λ k d below. λ enough. found enough k d below) all.2
@@ -150,8 +161,10 @@ module _ {I O : Type 0} (left : I → Option (List ℕ)) (faults : I → ℕ) (h
       (AllZip-knowing (λ (work : WorkState I O) (done : SessionDone I O). done ≡ done_of work) (λ (work : WorkState I O). starved ≡ false → FoundMemory work) (GivesAsk false starved journal) works (map done_of works)
       (λ work done enough gives. record {
         gives = gives;
-        shown = λ is. absurd (false≢true is);
-        told = λ is. absurd (false≢true is);
+        points = work.shown.points ++ work.learned.points;
+        whole = λ is. absurd (false≢true is);
+        shown = (work.learned.points, refl);
+        told = omega (arith, length-append work.shown.points work.learned.points);
         found = enough;
       })
       (λ k d below. λ enough. found enough k d below)
@@ -182,7 +195,9 @@ module _ {I O : Type 0} (left : I → Option (List ℕ)) (faults : I → ℕ) (h
         end = after.end;
         parts = (refl, refl);
         numbers = (refl, refl, refl);
-        replied = λ is_closed. subst (λ (n : ℕ). HasDone left faults held schema is_stat true n (news_over whole.points after.mail) session after.session after.end) none ran.final;
+        points = whole.points;
+        whole = λ is. refl;
+        replied = subst (λ (n : ℕ). HasDone left faults held schema is_stat true n (news_over whole.points after.mail) session after.session after.end) none ran.final;
         all = λ is_closed. ran.all;
         too_much = ran.too_much;
         taken = λ is_closed. ran.refused.0;
@@ -216,7 +231,20 @@ module _ {I O : Type 0} (left : I → Option (List ℕ)) (faults : I → ℕ) (h
         end = Ok tt;
         parts = (refl, refl);
         numbers = (refl, refl, refl);
-        replied = λ is. absurd (false≢true is);
+        points = [];
+        whole = λ is. absurd (false≢true is);
+        replied =
+            record {
+              lines = [];
+              replies = [];
+              first = Told-each (lines_left left session.source) _ (AsksFirst schema []) (λ all is. (asked schema all, refl)) (Told-same (lines_left left session.source));
+              transcript = record { each = tt; order = tt };
+              gained = gains_none (held session.sink);
+              counted = omega arith;
+              noted = sym (append-nil session.seens);
+              takes = omega arith;
+              goes_on = λ going. (passes_none left faults session.source, refl);
+            };
         all = λ is. absurd (false≢true is);
         too_much = λ e. absurd (no_fault fault.TooMuch e);
         taken = λ is. absurd (false≢true is);

@@ -70,10 +70,13 @@ module _ {I O : Type 0} (left : I → Option (List ℕ)) (faults : I → ℕ) (h
     pub parts : (done.source ≡ after.source.source) × (done.sink ≡ after.sink)
     -- with its numbers and its fault
     pub numbers : (done.replies ≡ after.replies) × (done.seen ≡ last_number after.seens) × (done.fault ≡ ending_fault end)
-    -- where the viewers were closed, its replies are a transcript over the journal of the first of what its script asks;
-    -- after `Write` with one reply more, of which the sink gained a part
-    pub replied : closed ≡ true → HasDone left faults held schema is_stat final 0 (record { shown = journal; told = journal; takes = done.mail.takes }) before after end
-    -- then all is answered, unless a fault ended it
+    -- the points over which it answered, which are the journal's where the viewers were closed
+    pub points : List Point
+    pub whole : closed ≡ true → points ≡ journal
+    -- its replies, which the numbers count, are a transcript over them of the first of what its script asks; after `Write`
+    -- with one reply more, of which the sink gained a part
+    pub replied : HasDone left faults held schema is_stat final 0 (record { shown = points; told = points; takes = done.mail.takes }) before after end
+    -- where the viewers were closed all is answered, unless a fault ended it
     pub all : closed ≡ true → OnOk end (AnswersAll left schema before after)
     -- and with too much: then the script is over its limit
     pub too_much : IsErrOf end fault.TooMuch → AnswersAll left schema before after × IsTooLarge left before.source

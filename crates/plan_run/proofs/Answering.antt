@@ -9,6 +9,7 @@ use Rattle.cube_crew.specs.Crewed.{LeavesTranscript}
 use Rattle.cube_store.specs.Numbers.{OwnsAllButRoot}
 use Rattle.cube_view.specs.Points.{Point}
 use Rattle.cube_view.specs.declared.schema.Schema.{Schema}
+use Rattle.live_session.specs.News.{News}
 use Rattle.live_session.specs.SoFar.{AnswersAll, AsksFirst, HasAnswered, HasDone}
 use Rattle.live_session.specs.State.{SessionState}
 use Rattle.live_session.specs.Turned.{seens_of}
@@ -60,15 +61,12 @@ module _ {I O : Type 0} (i : PartSeen I) (s : SinkSeen O) (schema : Schema) (fin
     no_memory = session_lacking end planned done.fault first;
   }
 
-  abbrev Answered : (done : SessionDone I O) (before after : SessionState I O) → Type 0
-  Answered done before after = HasAnswered i.left i.faults s.held schema OwnsAllButRoot final 0 (record { shown = points; told = points; takes = done.mail.takes }) before after
-
-  until_put : (done : SessionDone I O) (before after : SessionState I O) (e : Ending) → ending_fault e ≢ Some fault.Write → HasDone i.left i.faults s.held schema OwnsAllButRoot final 0 (record { shown = points; told = points; takes = done.mail.takes }) before after e → Answered done before after
-  until_put done before after (Ok x) put has = has
-  until_put done before after (Err fault.NoMemory) put has = has
-  until_put done before after (Err fault.Read) put has = has
-  until_put done before after (Err fault.TooMuch) put has = has
-  until_put done before after (Err fault.Write) put has = absurd (put refl)
+  until_put : (news : News) (before after : SessionState I O) (e : Ending) → ending_fault e ≢ Some fault.Write → HasDone i.left i.faults s.held schema OwnsAllButRoot final 0 news before after e → HasAnswered i.left i.faults s.held schema OwnsAllButRoot final 0 news before after
+  until_put news before after (Ok x) put has = has
+  until_put news before after (Err fault.NoMemory) put has = has
+  until_put news before after (Err fault.Read) put has = has
+  until_put news before after (Err fault.TooMuch) put has = has
+  until_put news before after (Err fault.Write) put has = absurd (put refl)
 
   all_answered : (before after : SessionState I O) (e : Ending) → ending_fault e ≢ Some fault.Write → ending_fault e ≢ Some fault.Read → ending_fault e ≢ Some fault.NoMemory
       → OnOk e (AnswersAll i.left schema before after) → (IsErrOf e fault.TooMuch → AnswersAll i.left schema before after × IsTooLarge i.left before.source) → AnswersAll i.left schema before after
@@ -82,16 +80,18 @@ module _ {I O : Type 0} (i : PartSeen I) (s : SinkSeen O) (schema : Schema) (fin
   lands_text after sink name bytes named held (inl has) = inl (subst (λ n. get after n ≡ Some bytes) named (Told-some (s.held sink) bytes (λ b. get after (s.name sink) ≡ Some b) held has))
   lands_text after sink name bytes named held (inr lost) = inr (lost.0, subst (λ n. get after n ≡ Some []) named lost.1)
 
-  pub answers_script : (after : Files) → closed ≡ true → (starved ≡ true → end ≡ Err NoMemory) → (name : List ℕ) (done : SessionDone I O) → HasRun name done → (done.fault ≢ Some fault.Write) × LandsAs s end after done.sink → AnswersInFile schema final points end files after name (script_counts done)
-  answers_script after shut starving name done run good =
+  pub answers_script : (after : Files) → (starved ≡ true → end ≡ Err NoMemory) → (name : List ℕ) (done : SessionDone I O) → HasRun name done → (done.fault ≢ Some fault.Write) × LandsAs s end after done.sink → AnswersInFile schema final closed points end files after name (script_counts done)
+  answers_script after starving name done run good =
       let before = run.before in
       let leaves = run.leaves in
       let script = file_or_empty files name in
       let of_end : (f : SessionFault) → done.fault ≢ Some f → ending_fault leaves.end ≢ Some f = λ f other is. other (leaves.numbers.2 ∙ is) in
-      let h = until_put done before leaves.after leaves.end (of_end fault.Write good.0) (leaves.replied shut) in
+      let over = leaves.points in
+      let news : News = record { shown = over; told = over; takes = done.mail.takes } in
+      let h = until_put news before leaves.after leaves.end (of_end fault.Write good.0) leaves.replied in
       let has = new_lines i.left before.source before.source.source script run.ready.script.is_new run.ready.script.left_is in
       let first : AsksFirst schema h.lines (lines script) = Told-some (lines_left i.left before.source) (lines script) (AsksFirst schema h.lines) has h.first in
-      let count : length h.replies ≡ length (asked schema h.lines) = answered_length schema OwnsAllButRoot final points (length points) leaves.after.lacked (asked schema h.lines) h.replies h.transcript.each in
+      let count : length h.replies ≡ length (asked schema h.lines) = answered_length schema OwnsAllButRoot final over (length over) leaves.after.lacked (asked schema h.lines) h.replies h.transcript.each in
       let front : take (length h.replies) (asked schema (lines script)) ≡ asked schema h.lines =
       ap (take (length h.replies)) first.1 ∙ take_at (asked schema h.lines) first.0 (length h.replies) (sym count) in
       let wants : leaves.after.lacked ≡ true → is_lacking end ≡ true =
@@ -101,14 +101,16 @@ module _ {I O : Type 0} (i : PartSeen I) (s : SinkSeen O) (schema : Schema) (fin
       let seens : before.seens ≡ [] = ap (λ (b : SessionState I O). b.seens) run.ready.no_turn in
       record {
         replies = h.replies;
-        transcript = subst (λ ps. IsTranscript schema OwnsAllButRoot final points (length points) (is_lacking end) ps h.replies) (sym front)
-            (transcript_lacking schema OwnsAllButRoot leaves.after.lacked (is_lacking end) final points (length points) (asked schema h.lines) h.replies wants h.transcript);
+        points = over;
+        over = leaves.whole;
+        transcript = subst (λ ps. IsTranscript schema OwnsAllButRoot final over (length over) (is_lacking end) ps h.replies) (sym front)
+            (transcript_lacking schema OwnsAllButRoot leaves.after.lacked (is_lacking end) final over (length over) (asked schema h.lines) h.replies wants h.transcript);
         text = lands_text after done.sink (output_of name) (replies_text h.replies) (leaves.named ∙ run.ready.output.name_is) (ap s.held leaves.parts.1 ∙ text) good.1;
         counted = (
           leaves.numbers.0 ∙ h.counted ∙ ap (λ (n : ℕ). n + length h.replies) start ∙ zero-add (length h.replies),
           leaves.numbers.1 ∙ ap last_number (h.noted ∙ ap (λ ns. ns ++ seens_of h.replies) seens),
         );
-        all = λ read found.
+        all = λ shut read found.
             leaves.numbers.0 ∙ Told-some (lines_left i.left before.source) (lines script) (λ all. leaves.after.replies ≡ before.replies + length (asked schema all)) has
             (all_answered before leaves.after leaves.end (of_end fault.Write good.0) (of_end fault.Read read) (of_end fault.NoMemory found) (leaves.all shut) leaves.too_much)
             ∙ ap (λ (n : ℕ). n + length (asked schema (lines script))) start ∙ zero-add (length (asked schema (lines script)));

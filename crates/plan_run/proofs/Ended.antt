@@ -1,6 +1,6 @@
 -- How a run ends, by how it was opened and by what became of its parts.
 use Rattle.std.proofs.Common.{◌≡◌, ◌≢◌, ◌⊎◌, inl, inr, ℕ, Bool, true, false, List, [], ◌∷◌, ◌++◌, All, map, Option, Some, None, Result, Ok, Err, IsSomeAnd, OnOk, refl, sym, ap, subst, ◌∙◌}
-use Rattle.std.proofs.lemmas.List.{map-append}
+use Rattle.std.proofs.lemmas.List.{append-nil, map-append}
 use Rattle.std.specs.Prelude.{Contains, IfSome}
 use Rattle.std.specs.FinMap.{get}
 use Rattle.std.specs.List.{AllZip}
@@ -28,7 +28,7 @@ use Rattle.plan_run.proofs.Named.{KeepsOthers-one, KeepsOthers-twice, dones_name
 use Rattle.plan_run.proofs.Blamed.{AnyOf, all_err, any_in, any_left, any_right, any_unmapped}
 use Rattle.plan_run.proofs.Raised.{closing_not_plan, closing_read, closing_write, starved_of}
 use Rattle.plan_run.proofs.Refused.{large_feeds, refused_scripts, write_not_refused}
-use Rattle.plan_run.proofs.Said.{completes, opening_refused, opening_said, opening_truth, opening_wrote, puts_after, silent_after, text_after}
+use Rattle.plan_run.proofs.Said.{completes, opening_refused, opening_said, opening_truth, opening_unmade, opening_wrote, puts_after, silent_after, text_after}
 use Rattle.plan_run.proofs.Whole.{all_quiet, completed}
 use Rattle.plan_run.proofs.Truth.{account, account_is, begins_files, holds_files, kept_found, kept_well, kept_where, reads_counted, said_found, said_lost, wrote_found, wrote_well, wrote_where}
 use Rattle.plan_run.proofs.Unreported.{empty_made, given_back_empty}
@@ -92,6 +92,7 @@ module _ {P T : Type 0} (p : PlaceSeen P) (t : SinkSeen T) where
     unplanned = λ none. unplanned_end stop (opens.unplanned none);
     refused_plan = λ e. opens.refused_plan (same_stop stop PlanRefused e);
     names = names_of p place mid (name ∷ inputs_of opens.plan) (outputs_of opens.plan) (Some stop) opens.leaves;
+    made = λ found written. inl (opens.leaves.created ∙ ap (λ ns. p.created place ++ ns) (no_makes found written) ∙ append-nil (p.created place));
     done = tt;
     read = λ e. opens.leaves.read (same_stop stop ReadFault e);
     write = write;
@@ -102,6 +103,9 @@ module _ {P T : Type 0} (p : PlaceSeen P) (t : SinkSeen T) where
     complete = completes p t place mid out out1 name opens.plan (Err stop) (λ e. (opens.refused_plan (same_stop stop PlanRefused e)).0) refused (λ e. opens.leaves.read (same_stop stop ReadFault e)) write;
   }
     where
+      no_makes : ended stop ≢ Err NoMemory → ended stop ≢ Err WriteFault → opens.leaves.makes ≡ []
+      no_makes found written = opening_unmade p t place mid out out1 name stop opens.plan opens.leaves.opens opens.leaves.makes opens.leaves.unmade (λ e. found (ap ended e)) (λ e. written (ap ended e)) (λ e. opens.leaves.read_first (ap (λ s. Some s) e)) opens.leaves.outputs_are opens.order
+
       refused : ended stop ≡ Err FeedRefused → (which : Plan) × (opens.plan ≡ Some which) × Told (p.files place) (λ files. HasRefusedInput files which)
       refused e = opening_refused p t place mid out out1 name stop opens.plan opens.leaves.opens opens.leaves.makes (cc e) opens.unplanned opens.order
 
@@ -347,6 +351,7 @@ module _ {P T : Type 0} (p : PlaceSeen P) (t : SinkSeen T) where
           unplanned = λ none. absurd (cc none);
           refused_plan = λ e. absurd (not_plan e);
           names = names;
+          made = λ found written. inr all_created;
           done = by result refl;
           said = says (text_after t out out1 out' silent (run_text plan done) closes.said closes.report);
           refused = refused;
@@ -384,6 +389,7 @@ module _ {P T : Type 0} (p : PlaceSeen P) (t : SinkSeen T) where
             names = names_then p place mid place' (name ∷ input_names plan) (output_names plan) leaves
                 (back.journal_back.opened ∙ back.sinks_back.opened ∙ back.finals_back.opened ∙ back.asks_back.opened ∙ back.feeds_back.opened)
                 created kept;
+            made = λ found. absurd (found is);
             done = subst (λ r. OnOk r ((which : Plan) × (Some plan ≡ Some which) × IsDone p t place place' out out' name which)) (sym is) tt;
             said = inl (silent_after t out out1 out' silent (record { held = ap t.held said; faults = ap t.faults said; name = ap t.name said }));
             refused = λ e. absurd (cc (is, e));

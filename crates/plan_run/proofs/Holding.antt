@@ -36,22 +36,23 @@ module _ (plan : Plan) (end : Result (Unit {0}) Stop) (files files' : Files) (fo
   neither (inl read) = unread read
   neither (inr lacking) = found lacking
 
-  module _ (final : Bool) (points : List Point) where
-    script_held : (name : List ℕ) (script : ScriptCounts) → AnswersInFile plan.schema final points end files files' name script → StopsScript end files name script → (replies : List Reply) × HasTranscript plan.schema final points files files' name replies
+  module _ (final : Bool) (journal : List Point) where
+    script_held : (name : List ℕ) (script : ScriptCounts) → AnswersInFile plan.schema final true journal end files files' name script → StopsScript end files name script → (replies : List Reply) × HasTranscript plan.schema final journal files files' name replies
     script_held name script answers stops =
         let asks = asked plan.schema (lines (file_or_empty files name)) in
-        let count : length answers.replies ≡ length asks = sym answers.counted.0 ∙ answers.all (λ is. neither (stops.read is)) (λ is. found (stops.no_memory is)) in
+        let count : length answers.replies ≡ length asks = sym answers.counted.0 ∙ answers.all refl (λ is. neither (stops.read is)) (λ is. found (stops.no_memory is)) in
         let whole : take (length answers.replies) asks ≡ asks = take_all (length answers.replies) asks (omega (arith, count)) in
-        let none = subst (λ b. IsTranscript plan.schema OwnsAllButRoot final points (length points) b (take (length answers.replies) asks) answers.replies) (wants_none end found) answers.transcript in (
+        let over = subst (λ (l : List Point). IsTranscript plan.schema OwnsAllButRoot final l (length l) (is_lacking end) (take (length answers.replies) asks) answers.replies) (answers.over refl) answers.transcript in
+        let none = subst (λ b. IsTranscript plan.schema OwnsAllButRoot final journal (length journal) b (take (length answers.replies) asks) answers.replies) (wants_none end found) over in (
           answers.replies,
           record {
-            transcript = subst (λ ps. IsTranscript plan.schema OwnsAllButRoot final points (length points) false ps answers.replies) whole none;
+            transcript = subst (λ ps. IsTranscript plan.schema OwnsAllButRoot final journal (length journal) false ps answers.replies) whole none;
             text = elim answers.text [ inl has ↦ has | inr lost ↦ absurd (found lost.0) ];
           },
         )
 
-    pub scripts_held : (names : List (List ℕ)) (scripts : List ScriptCounts) → AllZip (AnswersInFile plan.schema final points end files files') names scripts → AllZip (StopsScript end files) names scripts
-        → (replies : List (List Reply)) × AllZip (HasTranscript plan.schema final points files files') names replies
+    pub scripts_held : (names : List (List ℕ)) (scripts : List ScriptCounts) → AllZip (AnswersInFile plan.schema final true journal end files files') names scripts → AllZip (StopsScript end files) names scripts
+        → (replies : List (List Reply)) × AllZip (HasTranscript plan.schema final journal files files') names replies
     scripts_held [] [] answers stops = ([], tt)
     scripts_held [] (c ∷ scripts) answers stops = absurd answers
     scripts_held (n ∷ names) [] answers stops = absurd answers
@@ -62,8 +63,8 @@ module _ (plan : Plan) (end : Result (Unit {0}) Stop) (files files' : Files) (fo
 
   pub all_held : (feeds : List FeedRows) (asks finals : List ScriptCounts) (entries : List Entry) → AllZip (ReportsFeed plan.schema end files) plan.feeds feeds
       → IsInterleaving (length plan.feeds) (list_of (map (λ (feed : FeedRows). points_in feed.rows) feeds)) entries
-      → AllZip (AnswersInFile plan.schema false (entry_points entries) end files files') plan.asks asks → AllZip (StopsScript end files) plan.asks asks
-      → AllZip (AnswersInFile plan.schema true (entry_points entries) end files files') plan.finals finals → AllZip (StopsScript end files) plan.finals finals
+      → AllZip (AnswersInFile plan.schema false true (entry_points entries) end files files') plan.asks asks → AllZip (StopsScript end files) plan.asks asks
+      → AllZip (AnswersInFile plan.schema true true (entry_points entries) end files files') plan.finals finals → AllZip (StopsScript end files) plan.finals finals
       → HoldsAll plan entries files files'
   all_held feeds asks finals entries takes order asked stopped ended stopped' =
       let to_asks = scripts_held false (entry_points entries) plan.asks asks asked stopped in

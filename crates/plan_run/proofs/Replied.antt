@@ -73,7 +73,9 @@ module _ {I O : Type 0} (left : I → Option (List ℕ)) (faults : I → ℕ) (s
   is_replied closed starved points files script name before done shut fed none unturned is_script output leaves =
       let unfaulted : ending_fault leaves.end ≡ None = sym leaves.numbers.2 ∙ none in
       let news : News = record { shown = points; told = points; takes = done.mail.takes } in
-      let both = ended_well news before leaves.after leaves.end unfaulted (leaves.replied shut) (leaves.all shut) in
+      let over : HasDone left faults s.held schema is_stat final 0 news before leaves.after leaves.end =
+      subst (λ (l : List Point). HasDone left faults s.held schema is_stat final 0 (record { shown = l; told = l; takes = done.mail.takes }) before leaves.after leaves.end) (leaves.whole shut) leaves.replied in
+      let both = ended_well news before leaves.after leaves.end unfaulted over (leaves.all shut) in
       let h = both.0 in
       let has = new_lines left before.source before.source.source script is_script.is_new is_script.left_is in
       let all = all_asked before leaves.after news script has h both.1 in

@@ -1,5 +1,5 @@
 -- What a run puts, and what follows where nothing is refused and no count rose.
-use Rattle.std.proofs.Common.{◌≡◌, ◌⊎◌, inl, inr, ℕ, true, not, ◌||◌, nat_lt, List, [], ◌∷◌, ◌++◌, length, length-append, arith, Option, Some, None, Result, Ok, Err, refl, sym, ap, subst, ◌∙◌}
+use Rattle.std.proofs.Common.{◌≡◌, ◌≢◌, ◌⊎◌, inl, inr, ℕ, true, not, ◌||◌, nat_lt, List, [], ◌∷◌, ◌++◌, length, length-append, arith, Option, Some, None, Result, Ok, Err, refl, sym, ap, subst, ◌∙◌}
 use Rattle.std.specs.Prelude.{Contains, IfSome, IsOk, is_ok}
 use Rattle.std.proofs.lemmas.List.Elements.{All-contains, Contains-append_left, Contains-push}
 use Rattle.cube_schema.specs.Files.{output_names}
@@ -21,7 +21,7 @@ use Rattle.run_files.specs.Leaving.{LeavesPlace}
 use Rattle.run_files.specs.Outside.{FailsToPut, file_of, PlaceSeen, Puts, Silent, SinkSeen}
 use Rattle.run_files.specs.declared.stop.Stop.{Stop}
 use Rattle.run_files.specs.declared.stop.Stop.TheVariants.{NoMemory, PlanRefused, ReadFault, WriteFault, FeedRefused}
-use Rattle.run_opening.specs.Opening.{EndsAtFeeds, OpensInOrder, OpensRun}
+use Rattle.run_opening.specs.Opening.{EndsAtFeeds, OpensInOrder, OpensRun, outputs_of}
 use Rattle.run_stages.specs.Said.{SaysText}
 use Rattle.session_core.proofs.WholeScripts.{told_by}
 
@@ -170,6 +170,17 @@ module _ {P T : Type 0} (p : PlaceSeen P) (t : SinkSeen T) (place mid : P) (out 
     refused = λ is. absurd (scripts.ends.1 (cc is));
     read = λ is all. absurd (read_unmade p place mid plan inputs outs (Some stop) leaves (cc is) all);
   }
+
+  -- opening that ends a run neither by want of memory nor by a write fault has created nothing
+  pub opening_unmade : (stop : Stop) (plan : Option Plan) (opens makes unmade : List (List ℕ)) → stop ≢ NoMemory → stop ≢ WriteFault → (stop ≡ ReadFault → makes ≡ []) → outputs_of plan ≡ makes ++ unmade → IfSome plan (InOrder stop opens makes) → makes ≡ []
+  opening_unmade stop None opens [] unmade found written unread are order = refl
+  opening_unmade stop None opens (m ∷ makes) unmade found written unread are order = absurd (cc are)
+  opening_unmade stop (Some plan) opens makes unmade found written unread are (later, e, inl feeds) = feeds.unmade
+  opening_unmade NoMemory (Some plan) opens makes unmade found written unread are (later, e, inr scripts) = absurd (found refl)
+  opening_unmade PlanRefused (Some plan) opens makes unmade found written unread are (later, e, inr scripts) = absurd (scripts.ends.0 refl)
+  opening_unmade ReadFault (Some plan) opens makes unmade found written unread are (later, e, inr scripts) = unread refl
+  opening_unmade WriteFault (Some plan) opens makes unmade found written unread are (later, e, inr scripts) = absurd (written refl)
+  opening_unmade FeedRefused (Some plan) opens makes unmade found written unread are (later, e, inr scripts) = absurd (scripts.ends.1 refl)
 
   -- a run that created all its outputs did not end by a write while they were opened, unless the place's count rose
   pub opening_wrote : (stop : Stop) (plan : Option Plan) (opens makes : List (List ℕ)) → stop ≡ WriteFault → ¬ Rose (p.write_faults place) (p.write_faults mid) → p.created mid ≡ p.created place ++ makes → IfSome plan (InOrder stop opens makes)

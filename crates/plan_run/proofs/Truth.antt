@@ -401,12 +401,12 @@ module _ {P I O T : Type 0} (p : PlaceSeen P) (i : PartSeen I) (s : SinkSeen O) 
           (subst (AllPairs (λ n m. n ≢ m)) (sym sinks_named) (AllPairs-front (λ n m. n ≢ m) outs (plan.journal ∷ []) apart))
           closes.parts.sinks_back (sinks_quiet quiet) given_first
 
-      answered : (final : Bool) (scripts : List (List ℕ)) (sessions : List (SessionDone I O)) → crewed.closed ≡ true → AllZip (HasRun i s plan.schema final crewed.closed crewed.starved points files result) scripts sessions → All Unbroken sessions → All (LandsAs s result last.0) (map sink_of sessions)
-          → AllZip (AnswersInFile plan.schema final points result files last.0) scripts (map script_counts sessions)
-      answered final scripts sessions shut run whole lands =
-          AllZip-mapped (AnswersInFile plan.schema final points result files last.0) script_counts scripts sessions
-          (AllZip-with (HasRun i s plan.schema final crewed.closed crewed.starved points files result) (λ (d : SessionDone I O). Unbroken d × LandsAs s result last.0 d.sink) (λ name d. AnswersInFile plan.schema final points result files last.0 name (script_counts d)) scripts sessions
-          (answers_script i s plan.schema final crewed.closed crewed.starved points files result last.0 shut starving) run (λ k d low. (whole k d low, All-unmapped sink_of (LandsAs s result last.0) sessions lands k d low)))
+      answered : (final : Bool) (scripts : List (List ℕ)) (sessions : List (SessionDone I O)) → AllZip (HasRun i s plan.schema final crewed.closed crewed.starved points files result) scripts sessions → All Unbroken sessions → All (LandsAs s result last.0) (map sink_of sessions)
+          → AllZip (AnswersInFile plan.schema final crewed.closed points result files last.0) scripts (map script_counts sessions)
+      answered final scripts sessions run whole lands =
+          AllZip-mapped (AnswersInFile plan.schema final crewed.closed points result files last.0) script_counts scripts sessions
+          (AllZip-with (HasRun i s plan.schema final crewed.closed crewed.starved points files result) (λ (d : SessionDone I O). Unbroken d × LandsAs s result last.0 d.sink) (λ name d. AnswersInFile plan.schema final crewed.closed points result files last.0 name (script_counts d)) scripts sessions
+          (answers_script i s plan.schema final crewed.closed crewed.starved points files result last.0 starving) run (λ k d low. (whole k d low, All-unmapped sink_of (LandsAs s result last.0) sessions lands k d low)))
 
       journal_file : get last.0 plan.journal ≡ Some text
       unfolding text
@@ -422,8 +422,10 @@ module _ {P I O T : Type 0} (p : PlaceSeen P) (i : PartSeen I) (s : SinkSeen O) 
       holds_files =
           let front = All-front (LandsAs s result last.0) (map sink_of crewed.asks) (map sink_of crewed.finals) landed in
           let back = All-back (LandsAs s result last.0) (map sink_of crewed.asks) (map sink_of crewed.finals) landed in
-          let asks_answered = λ (shut : crewed.closed ≡ true). answered false plan.asks crewed.asks shut asks_run (asks_unbroken quiet) front in
-          let finals_answered = λ (shut : crewed.closed ≡ true). answered true plan.finals crewed.finals shut finals_run (finals_unbroken quiet) back in
+          let asks_answered = answered false plan.asks crewed.asks asks_run (asks_unbroken quiet) front in
+          let finals_answered = answered true plan.finals crewed.finals finals_run (finals_unbroken quiet) back in
+          let closed_asks = λ (shut : crewed.closed ≡ true). subst (λ b. AllZip (AnswersInFile plan.schema false b points result files last.0) plan.asks (map script_counts crewed.asks)) shut asks_answered in
+          let closed_finals = λ (shut : crewed.closed ≡ true). subst (λ b. AllZip (AnswersInFile plan.schema true b points result files last.0) plan.finals (map script_counts crewed.finals)) shut finals_answered in
           let asks_stopped = stopped false plan.asks crewed.asks asks_run asks_first in
           let finals_stopped = stopped true plan.finals crewed.finals finals_run finals_first in
           subst (λ f. IsSomeAnd f (HoldsFiles plan result account files)) (sym last.1)
@@ -435,5 +437,5 @@ module _ {P I O T : Type 0} (p : PlaceSeen P) (i : PartSeen I) (s : SinkSeen O) 
             unbroken = (All-map Whole script_counts crewed.asks (asks_unbroken quiet), All-map Whole script_counts crewed.finals (finals_unbroken quiet));
             all = λ found unread.
                 let shut = (ran.found (fed_where crewed.starved refl found)).closed in
-                all_held plan result files last.0 found unread gave.feeds (map script_counts crewed.asks) (map script_counts crewed.finals) crewed.journal takes (drawn found) (asks_answered shut) asks_stopped (finals_answered shut) finals_stopped;
+                all_held plan result files last.0 found unread gave.feeds (map script_counts crewed.asks) (map script_counts crewed.finals) crewed.journal takes (drawn found) (closed_asks shut) asks_stopped (closed_finals shut) finals_stopped;
           })

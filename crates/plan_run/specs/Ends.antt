@@ -1,5 +1,5 @@
 -- How a run of a plan ends, and what it leaves of a place and of the sink of its report.
-use Rattle.std.specs.Prelude.{◌≡◌, ◌⊎◌, ℕ, true, List, [], ◌∷◌, ◌++◌, Contains, Option, Some, None, IfSome, IsSomeAnd, Result, Ok, Err, IsOk, OnOk, All}
+use Rattle.std.specs.Prelude.{◌≡◌, ◌≢◌, ◌⊎◌, ℕ, true, List, [], ◌∷◌, ◌++◌, Contains, Option, Some, None, IfSome, IsSomeAnd, Result, Ok, Err, IsOk, OnOk, All}
 use Rattle.std.specs.FinMap.{get}
 use Rattle.cube_schema.specs.Files.{input_names, output_names}
 use Rattle.cube_schema.specs.declared.plan.Plan.{Plan}
@@ -141,6 +141,8 @@ module _ {P T : Type 0} (p : PlaceSeen P) (s : SinkSeen T) (place place' : P) (o
     pub refused_plan : result ≡ Err PlanRefused → (plan ≡ None) × RefusesPlan s out out' (file_of (p.files place) name)
     -- it was opened first, then the plan's inputs, and then its outputs were created
     pub names : LeavesNames p place place' (name ∷ inputs_of plan) (outputs_of plan)
+    -- unless memory was wanted or a write failed, none of its outputs was created, or all were
+    pub made : result ≢ Err NoMemory → result ≢ Err WriteFault → (p.created place' ≡ p.created place) ⊎ (p.created place' ≡ p.created place ++ outputs_of plan)
     -- with Ok the run is completed
     pub done : OnOk result ((which : Plan) × (plan ≡ Some which) × IsDone name which)
     -- of what it puts nothing else comes

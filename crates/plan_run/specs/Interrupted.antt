@@ -111,19 +111,22 @@ pub record StopsScript (end : Result (Unit {0}) Stop) (files : Files) (name : Li
   -- `stopped: NoMemory` only where the run ends so
   pub no_memory : script.fault ≡ Some fault.NoMemory → end ≡ Err NoMemory
 
-module _ (schema : Schema) (final : Bool) (points : List Point) (end : Result (Unit {0}) Stop) (files files' : Files) where
-  -- What a run that ended so leaves of the script of that name, and says of it
+module _ (schema : Schema) (final closed : Bool) (journal : List Point) (end : Result (Unit {0}) Stop) (files files' : Files) where
+  -- What a run that ended so leaves of the script of that name, and says of it, where the journal has these points
   pub record AnswersInFile (name : List ℕ) (script : ScriptCounts) : Type 0 where
     -- the replies to it
     pub replies : List Reply
+    -- the points over which they are, which are the journal's where the sessions were closed
+    pub points : List Point
+    pub over : closed ≡ true → points ≡ journal
     -- they answer the first of what the script asks, over these points, by the line for want of memory only where the run ends so
     pub transcript : IsTranscript schema OwnsAllButRoot final points (length points) (is_lacking end) (take (length replies) (asked schema (lines (file_or_empty files name)))) replies
     -- its output holds them, or nothing where want of memory kept it from being given back
     pub text : (get files' (output_of name) ≡ Some (replies_text replies)) ⊎ ((end ≡ Err NoMemory) × (get files' (output_of name) ≡ Some []))
     -- the report says how many they are, and the last number of points seen that they print
     pub counted : (script.replies ≡ length replies) × (script.seen ≡ last_number (seens_of replies))
-    -- they answer all where neither a read fault nor want of memory ended the session
-    pub all : script.fault ≢ Some fault.Read → script.fault ≢ Some fault.NoMemory → script.replies ≡ length (asked schema (lines (file_or_empty files name)))
+    -- where the sessions were closed they answer all, unless a read fault or want of memory ended the session
+    pub all : closed ≡ true → script.fault ≢ Some fault.Read → script.fault ≢ Some fault.NoMemory → script.replies ≡ length (asked schema (lines (file_or_empty files name)))
 
 -- Nothing is missing in the files of a run with these entries
 pub record HoldsAll (plan : Plan) (entries : List Entry) (files files' : Files) : Type 0 where
@@ -157,10 +160,10 @@ pub record HoldsFiles (plan : Plan) (end : Result (Unit {0}) Stop) (account : Ac
   pub begins : BeginsFiles plan end account files files'
   -- the journal's file is the whole text
   pub journal : get files' plan.journal ≡ Some (journal_text plan.schema account.entries)
-  -- where the sessions were closed, each script's output holds a transcript over the entries' points
-  pub asks : account.closed ≡ true → AllZip (AnswersInFile plan.schema false (entry_points account.entries) end files files') plan.asks account.asks
-  -- in which each number of points of a final is that of all entries
-  pub finals : account.closed ≡ true → AllZip (AnswersInFile plan.schema true (entry_points account.entries) end files files') plan.finals account.finals
+  -- each ask's output holds a transcript as the report counts it, over the entries' points where the sessions were closed
+  pub asks : AllZip (AnswersInFile plan.schema false account.closed (entry_points account.entries) end files files') plan.asks account.asks
+  -- each final's one in which every number of points is that of all of them
+  pub finals : AllZip (AnswersInFile plan.schema true account.closed (entry_points account.entries) end files files') plan.finals account.finals
   -- `stopped: Write` does not come
   pub unbroken : All (λ (script : ScriptCounts). script.fault ≢ Some fault.Write) account.asks × All (λ (script : ScriptCounts). script.fault ≢ Some fault.Write) account.finals
   -- where neither memory was wanted nor a read failed, nothing is missing
