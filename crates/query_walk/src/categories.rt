@@ -11,7 +11,8 @@ use probe_core::Steps;
 use query_syntax::{Choice, Query, ValueSet};
 use std::sync::ledger::Ledger;
 
-/// How much the bag has under the cursor, as far as the query says from category `k` on, counted from 0.
+/// How much the bag has under the cursor, as far as the query says from category `k` on, counted from 0. It takes no
+/// memory.
 #[cycle(walk)]
 pub fn total_from<V: CubeView, L: Ledger>(
     view: &V,
