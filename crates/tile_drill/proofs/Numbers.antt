@@ -6,7 +6,7 @@ use Rattle.cube_view.specs.declared.schema.Schema.{Schema}
 use Rattle.example_schemas.specs.Examples.{kinds}
 use Rattle.plain_cube.specs.Listed.{scan_costs}
 use Rattle.query_syntax.specs.Queries.{is_valid_query}
-use Rattle.query_syntax.specs.Tables.{has_table}
+use Rattle.query_syntax.specs.Tables.{is_drill}
 use Rattle.query_syntax.specs.declared.query.Choice.TheVariants.{All}
 use Rattle.query_syntax.specs.declared.query.Query.{Query}
 use Rattle.query_syntax.specs.declared.query.Verb.TheVariants.{Map}
@@ -29,8 +29,8 @@ module _ (z : Schema) (q : Query) (same : z ≡ kinds) (is : q ≡ empty_map) wh
   pub map_valid : IsTrue (is_valid_query z q)
   map_valid = subst (λ (y : Schema). IsTrue (is_valid_query y q)) (sym same) (subst (λ (p : Query). IsTrue (is_valid_query kinds p)) (sym is) valid_is)
 
-  pub map_has_table : IsTrue (has_table q.verb)
-  map_has_table = subst (λ (p : Query). IsTrue (has_table p.verb)) (sym is) refl
+  pub map_is_drill : IsTrue (is_drill q.verb)
+  map_is_drill = subst (λ (p : Query). IsTrue (is_drill p.verb)) (sym is) refl
 
   pub map_few : (h : List Point) → h ≡ three → table_cost (scan_costs h) z h q q.verb ≤ 3
   map_few h points =

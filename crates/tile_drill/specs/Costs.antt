@@ -9,7 +9,7 @@ use Rattle.query_syntax.specs.Items.{values_at}
 use Rattle.query_syntax.specs.Parts.{with_region, with_one_value}
 use Rattle.query_syntax.specs.declared.query.Query.{Query}
 use Rattle.query_syntax.specs.declared.query.Verb.{Verb}
-use Rattle.query_syntax.specs.declared.query.Verb.TheVariants.{Count, Hist, Map, Series, Stat, Told, Quit}
+use Rattle.query_syntax.specs.declared.query.Verb.TheVariants.{Count, Hist, Map, Series, Window, Cross, Best, Stat, Told, Quit}
 use Rattle.query_walk.specs.Costs.{search_cost, sum_upto}
 
 module _ (costs : ViewCosts) (schema : Schema) (h : List Point) (q : Query) where
@@ -31,12 +31,15 @@ module _ (costs : ViewCosts) (schema : Schema) (h : List Point) (q : Query) wher
   abbrev pub map_cost : ℕ → ℕ
   map_cost levels = cost_if (nat_lt 0 (length h)) (space_cost costs schema h q.region q.region.z + cost_if (is_found schema h q.region) (areas_cost levels q.region))
 
-  -- the table of a verb
+  -- the table of a verb; this crate answers none of the verbs that cost nothing here
   abbrev pub table_cost : Verb → ℕ
   table_cost Count = search_cost costs schema h q
   table_cost (Hist k) = values_cost k
   table_cost (Map levels) = map_cost levels
   table_cost (Series from wide rows) = rows * search_cost costs schema h q
+  table_cost (Window rect) = 0
+  table_cost (Cross k l) = 0
+  table_cost (Best levels rows) = 0
   table_cost Stat = 0
   table_cost Told = 0
   table_cost Quit = 0

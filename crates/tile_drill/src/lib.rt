@@ -1,9 +1,9 @@
-//! The table of a query over any cube view.
+//! The table of a count, a histogram, a map or a series over any cube view.
 //!
 //! [`answer`] gives the rows that `query_syntax` defines over any list of points that the view counts. It reads the
 //! view by cursors alone: each row is a walk of `query_walk`, and the tiles of a map are come to from the region down,
 //! through those that have a spot. How a line is read and how a table is written is left to `query_syntax` and
-//! `reply_json`.
+//! `reply_json`, the tables of the other verbs to `window_cover` and `cross_table`.
 //!
 //! ```text
 //! answer(alloc, &view, &query, &mut steps)?     // of `map 1`: a row for each tile of level 1 that weighs something

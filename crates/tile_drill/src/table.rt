@@ -2,7 +2,7 @@
 ghost use Rattle.std.specs.Prelude.{◌≡◌, ℕ, ◌+◌, ◌≤◌, IsTrue, IfOk};
 ghost use Rattle.cube_view.specs.Bag.{EachCounted};
 ghost use Rattle.query_syntax.specs.Queries.{is_valid_query};
-ghost use Rattle.query_syntax.specs.Tables.{has_table, table, rows_of_verb};
+ghost use Rattle.query_syntax.specs.Tables.{is_drill, table, rows_of_verb};
 ghost use Rattle.query_walk.specs.Costs.{search_cost};
 ghost use Rattle.tile_drill.specs.Costs.{table_cost};
 
@@ -33,7 +33,7 @@ fn total_row<V: CubeView, L: Ledger>(
     Ok(rows)
 }
 
-/// The rows that the query asks for.
+/// The rows that the query asks for, along one dimension at most.
 fn table_rows<V: CubeView, L: Ledger>(
     alloc: Global,
     view: &V,
@@ -41,6 +41,7 @@ fn table_rows<V: CubeView, L: Ledger>(
     steps: &mut Steps<L>,
 ) -> Result<List<RowOut>, NoMemory>
     requires valid { IsTrue (is_valid_query (V.schema view.now) query.now) }
+    requires verb { IsTrue (is_drill query.now.verb) }
     ensures rows { IfOk result (λ rows. EachCounted (V.weight_at view.now) (V.seen view.now) (λ h. rows ≡ rows_of_verb (V.schema view.now) query.now h query.now.verb)) }
     ensures cost { EachCounted (V.weight_at view.now) (V.seen view.now) (λ h. steps.new ≤ steps.old + table_cost (V.costs view.now) (V.schema view.now) h query.now query.now.verb) }
 {
@@ -49,11 +50,12 @@ fn table_rows<V: CubeView, L: Ledger>(
         Verb::Hist(category) => value_rows(alloc, view, query, category, steps),
         Verb::Map(levels) => area_rows(alloc, view, query, levels, steps),
         Verb::Series { from, wide, rows } => bins_rows(alloc, view, query, from, wide, rows, steps),
-        Verb::Stat | Verb::Told | Verb::Quit => Ok(List::new(alloc)),
+        Verb::Window(_) | Verb::Cross(_, _) | Verb::Best { .. } => unreachable!(),
+        Verb::Stat | Verb::Told | Verb::Quit => unreachable!(),
     }
 }
 
-/// The table that the query asks for, over any list of points that the view counts.
+/// The table that a count, a histogram, a map or a series asks for, over any list of points that the view counts.
 pub fn answer<V: CubeView, L: Ledger>(
     alloc: Global,
     view: &V,
@@ -61,7 +63,7 @@ pub fn answer<V: CubeView, L: Ledger>(
     steps: &mut Steps<L>,
 ) -> Result<Table, NoMemory>
     requires valid { IsTrue (is_valid_query (V.schema view.now) query.now) }
-    requires verb { IsTrue (has_table query.now.verb) }
+    requires verb { IsTrue (is_drill query.now.verb) }
     ensures table { EachCounted (V.weight_at view.now) (V.seen view.now) (λ h. IfOk result (λ t. t ≡ table (V.schema view.now) query.now h)) }
     ensures cost { EachCounted (V.weight_at view.now) (V.seen view.now) (λ h. steps.new ≤ steps.old + table_cost (V.costs view.now) (V.schema view.now) h query.now query.now.verb) }
 {

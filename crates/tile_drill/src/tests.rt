@@ -9,7 +9,7 @@ use example_schemas::{point, schema_of_kinds};
 use outer_io::NoMemory;
 use plain_cube::PlainCube;
 use probe_core::Steps;
-use query_syntax::{Choice, Parsed, Query, RowOut, Span, Table, Verb, parse};
+use query_syntax::{Choice, Parsed, Query, RowOut, Span, Table, Verb, is_drill, parse};
 use std::alloc::Global;
 use std::marker::Brand;
 use std::process::Abort;
@@ -51,10 +51,12 @@ fn table_of_line<V: CubeView, L: Ledger>(
     steps: &mut Steps<L>,
 ) -> Result<Option<Table>, NoMemory> {
     match parse(alloc, view.schema(), line.as_bytes())? {
-        Parsed::Ask(query) => match query.verb {
-            Verb::Stat | Verb::Told | Verb::Quit => Ok(None),
-            _ => Ok(Some(answer(alloc, view, &query, steps)?)),
-        },
+        Parsed::Ask(query) => {
+            if !is_drill(&query.verb) {
+                return Ok(None);
+            }
+            Ok(Some(answer(alloc, view, &query, steps)?))
+        }
         Parsed::Skip | Parsed::Fault(..) => Ok(None),
     }
 }

@@ -2,14 +2,14 @@ use Rattle.std.proofs.Common.{◌≤◌, ◌∷◌, [], ◌∙◌, arith}
 use Rattle.plain_cube.specs.Listed.{scan_costs}
 use Rattle.plain_cube.specs.Owned.{Counts-own}
 use Rattle.tile_drill.specs.Costs.{table_cost}
-use Rattle.tile_drill.proofs.Numbers.{map_valid, map_has_table, map_few}
+use Rattle.tile_drill.proofs.Numbers.{map_valid, map_is_drill, map_few}
 use Rattle.tile_drill.proofs.tests.map_of_an_empty_tile.Goals as goal
 
 pub answer-requires-clause-valid : goal.answer-requires-clause-valid
 answer-requires-clause-valid g c κs within = map_valid _ _ (c.in_ok-cube.ensures.schema ∙ c.in_ok-schema_of_kinds.ensures) c.map_below-map.ensures
 
 pub answer-requires-clause-verb : goal.answer-requires-clause-verb
-answer-requires-clause-verb g c κs within = map_has_table _ _ (c.in_ok-cube.ensures.schema ∙ c.in_ok-schema_of_kinds.ensures) c.map_below-map.ensures
+answer-requires-clause-verb g c κs within = map_is_drill _ _ (c.in_ok-cube.ensures.schema ∙ c.in_ok-schema_of_kinds.ensures) c.map_below-map.ensures
 
 pub returns : goal.returns
 returns g c =
