@@ -11,9 +11,10 @@ use Rattle.cube_view.specs.declared.address.Tile.{Tile}
 use Rattle.query_syntax.specs.Queries.{whole_space}
 use Rattle.query_syntax.specs.TileOrder.{quadrants}
 use Rattle.query_walk.proofs.Addresses.{sum_by-flat_map}
-use Rattle.window_cover.specs.declared.rect.Rect.{Rect}
+use Rattle.query_syntax.specs.declared.rect.Rect.{Rect}
 use Rattle.window_cover.specs.Covers.{cover, has_holder}
-use Rattle.window_cover.specs.Rects.{has_place, holds, is_inside}
+use Rattle.query_syntax.specs.Windows.{has_place}
+use Rattle.window_cover.specs.Rects.{holds, is_inside}
 use Rattle.window_cover.specs.Ways.{cover_below}
 use Rattle.window_cover.proofs.Filtering.{cover_is}
 use Rattle.window_cover.proofs.Quadrants.{finest_inside, holds_from, holds_quadrant, place_inside, place_meets}

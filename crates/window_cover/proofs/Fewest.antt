@@ -14,7 +14,7 @@ use Rattle.cube_view.specs.declared.address.Tile.{Tile}
 use Rattle.query_syntax.specs.Queries.{whole_space}
 use Rattle.query_syntax.specs.TileOrder.{quadrants}
 use Rattle.query_syntax.specs.Tiles.{is_tile}
-use Rattle.window_cover.specs.declared.rect.Rect.{Rect}
+use Rattle.query_syntax.specs.declared.rect.Rect.{Rect}
 use Rattle.window_cover.specs.Covers.{cover, is_largest, parent, FillsRect, IsLeastCover}
 use Rattle.window_cover.specs.Rects.{holds, is_inside, tile_rect}
 use Rattle.window_cover.specs.Ways.{cover_below}

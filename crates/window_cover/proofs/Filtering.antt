@@ -13,7 +13,7 @@ use Rattle.cube_view.specs.declared.address.Tile.{Tile}
 use Rattle.query_syntax.specs.Queries.{whole_space}
 use Rattle.query_syntax.specs.TileOrder.{quadrants}
 use Rattle.query_syntax.specs.Tiles.{is_tile}
-use Rattle.window_cover.specs.declared.rect.Rect.{Rect}
+use Rattle.query_syntax.specs.declared.rect.Rect.{Rect}
 use Rattle.window_cover.specs.Covers.{tiles_from, all_tiles, parent, is_largest, cover}
 use Rattle.window_cover.specs.Rects.{tile_rect, meets, is_crossed, is_inside}
 use Rattle.window_cover.specs.Ways.{cover_below, cover_inside}

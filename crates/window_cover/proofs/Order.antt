@@ -10,9 +10,10 @@ use Rattle.cube_view.specs.declared.address.Tile.{Tile}
 use Rattle.query_syntax.proofs.TilesInside.{inside_deeper}
 use Rattle.query_syntax.specs.Queries.{whole_space}
 use Rattle.query_syntax.specs.TileOrder.{quadrants, tiles_inside, tiles_of_level}
-use Rattle.window_cover.specs.declared.rect.Rect.{Rect}
+use Rattle.query_syntax.specs.declared.rect.Rect.{Rect}
 use Rattle.window_cover.specs.Covers.{cover, finest_tiles}
-use Rattle.window_cover.specs.Rects.{has_place, is_inside, tile_rect}
+use Rattle.query_syntax.specs.Windows.{has_place}
+use Rattle.window_cover.specs.Rects.{is_inside, tile_rect}
 use Rattle.window_cover.specs.Ways.{cover_below}
 use Rattle.window_cover.proofs.Filtering.{cover_is, filter-flat_map, four_same}
 use Rattle.window_cover.proofs.Quadrants.{contains_numbers, finest_inside, holds_from, place_from, place_meets, quadrant_inside}

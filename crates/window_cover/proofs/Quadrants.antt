@@ -5,9 +5,10 @@ use Rattle.std.proofs.lemmas.Nat.{shr-shr}
 use Rattle.cube_view.specs.Places.{shifted, longer_tile, quadrant_at}
 use Rattle.cube_view.specs.declared.address.Tile.{Tile}
 use Rattle.query_syntax.specs.Tiles.{is_tile}
-use Rattle.window_cover.specs.declared.rect.Rect.{Rect}
+use Rattle.query_syntax.specs.declared.rect.Rect.{Rect}
 use Rattle.window_cover.specs.Covers.{parent}
-use Rattle.window_cover.specs.Rects.{has_place, holds, tile_rect, contains, overlap, meets, is_inside}
+use Rattle.query_syntax.specs.Windows.{has_place}
+use Rattle.window_cover.specs.Rects.{holds, tile_rect, contains, overlap, meets, is_inside}
 use Rattle.window_cover.proofs.Sides.{ends_after, half_side, half_within, in_side}
 
 -- two tests of which each holds where the other does

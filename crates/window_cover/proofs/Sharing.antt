@@ -16,19 +16,25 @@ use Rattle.cube_view.specs.declared.address.Address.{Address}
 use Rattle.cube_view.specs.declared.address.Tile.{Tile}
 use Rattle.cube_view.specs.declared.schema.Schema.{Schema}
 use Rattle.cube_view.specs.declared.spot.Spot.{Spot}
-use Rattle.query_syntax.specs.Queries.{whole_space}
+use Rattle.query_syntax.proofs.ValidParts.{valid_parts}
+use Rattle.query_syntax.specs.Queries.{is_valid_query, rect_in_range, verb_in_range, whole_space}
+use Rattle.query_syntax.specs.Tables.{rows_of_verb, table, table_rows}
 use Rattle.query_syntax.specs.TileOrder.{quadrants}
+use Rattle.query_syntax.specs.Verbs.{is_window}
+use Rattle.query_syntax.specs.Windows.{has_place, is_asked, is_in_window, window_total}
 use Rattle.query_syntax.specs.declared.query.Query.{Query}
+use Rattle.query_syntax.specs.declared.query.Verb.{Verb}
+use Rattle.query_syntax.specs.declared.query.Verb.TheVariants.{Count, Hist, Map, Series, Window, Cross, Best, Stat, Told, Quit}
 use Rattle.query_syntax.specs.declared.table.RowOut.{RowOut}
 use Rattle.query_syntax.specs.declared.table.Table.{Table}
 use Rattle.query_walk.proofs.Sums.{sum_upto-more}
 use Rattle.query_walk.specs.Costs.{sum_upto}
 use Rattle.window_cover.specs.Costs.{crossed_cost, tile_cost, window_cost}
 use Rattle.window_cover.specs.Covers.{all_tiles, cover, tiles_from}
-use Rattle.window_cover.specs.declared.rect.Rect.{Rect}
-use Rattle.window_cover.specs.Rects.{has_place, is_crossed, is_inside, rect_in_range}
+use Rattle.query_syntax.specs.declared.rect.Rect.{Rect}
+use Rattle.window_cover.specs.Rects.{is_crossed, is_inside}
 use Rattle.window_cover.specs.Ways.{below_cost, cover_below, inside_cost, is_asked_in, is_window_in}
-use Rattle.window_cover.specs.Windows.{is_asked, is_in_window, window_table, window_total}
+use Rattle.window_cover.specs.Windows.{rect_of_verb}
 use Rattle.window_cover.proofs.Counting.{and_given, and_never, sum_four, whole_holds}
 use Rattle.window_cover.proofs.Filtering.{cover_is_inside, inside_deeper, inside_whole, uncrossed_apart}
 use Rattle.window_cover.proofs.Quadrants.{holds_quadrant, place_inside, place_meets, place_numbers}
@@ -126,6 +132,10 @@ module _ (z y : Schema) (r : Rect) (t : Tile) (answer b : Bool) (schema : y ≡ 
 pub deep_in : (z y : Schema) (t : Tile) → y ≡ z → t.z < y.depth → t.z < z.depth
 deep_in z y t schema deep = let e = ap (λ (x : Schema). x.depth) schema in omega (arith, e, deep)
 
+-- the rectangle of a valid window is in range
+pub rect_range : (z : Schema) (q : Query) (r : Rect) → is_valid_query z q ≡ true → q.verb ≡ Window r → rect_in_range z.depth r ≡ true
+rect_range z q r valid is = subst (λ (v : Verb). verb_in_range z.depth (length z.categories) v ≡ true) is (valid_parts z q valid).verb
+
 -- all of space has all of the window
 pub window_is : (z : Schema) (q : Query) (r : Rect) (h : List Point) → rect_in_range z.depth r ≡ true → amount (is_window_in z.depth q r whole_space) h ≡ window_total q r h
 unfolding window_total
@@ -198,14 +208,15 @@ module _ (costs : ViewCosts) (z : Schema) (h : List Point) (q : Query) (r : Rect
       omega (arith, so_far, e, a, b, c, d, q0, q1, q2, q3)
 
   -- all of space
-  pub window_paid : (seen old new : ℕ) → seen ≡ length h → (seen ≡ 0 → ⊥) → new ≤ old + inside_cost costs z h q r whole_space → new ≤ old + window_cost costs z h q r
+  pub window_paid : (seen old new : ℕ) → q.verb ≡ Window r → seen ≡ length h → (seen ≡ 0 → ⊥) → new ≤ old + inside_cost costs z h q r whole_space → new ≤ old + window_cost costs z h q q.verb
   unfolding all_tiles
-  window_paid seen old new count some step =
+  window_paid seen old new is count some step =
       let e : z.depth - 0 ≡ z.depth = omega arith in
       let w = cost_if-true (ltb 0 (length h)) (sum_by (crossed_cost costs z h r) (all_tiles z.depth) + sum_by (tile_cost costs z h q) (cover z.depth r)) (lt-ltb 0 (length h) (omega (arith, count, some))) in
       let a = ap (λ n. sum_by (crossed_cost costs z h r) (tiles_from n whole_space)) e in
       let b = ap (sum_by (tile_cost costs z h q)) (cover_is_inside z.depth r) in
-      omega (arith, w, a, b, step)
+      let asked = ap (window_cost costs z h q) is in
+      omega (arith, w, a, b, asked, step)
 
 -- The table
 
@@ -215,12 +226,27 @@ unfolding window_total
 no_window q r [] seen count none = sym (amount-nil (is_in_window q r))
 no_window q r (x ∷ h) seen count none = absurd (omega (arith, count, none))
 
+-- the rows of a window
+window_rows : (z : Schema) (q : Query) (h : List Point) (v : Verb) → is_window v ≡ true → rows_of_verb z q h v ≡ RowOut.One (window_total q (rect_of_verb v) h) ∷ []
+window_rows z q h Count is = absurd (cc)
+window_rows z q h (Hist k) is = absurd (cc)
+window_rows z q h (Map down) is = absurd (cc)
+window_rows z q h (Series from wide rows) is = absurd (cc)
+window_rows z q h (Window r) is = refl
+window_rows z q h (Cross k l) is = absurd (cc)
+window_rows z q h (Best down rows) is = absurd (cc)
+window_rows z q h Stat is = absurd (cc)
+window_rows z q h Told is = absurd (cc)
+window_rows z q h Quit is = absurd (cc)
+
 -- the table of these rows
 abbrev pub table_of : List RowOut → ℕ → Table
 table_of rows seen = record { rows = rows; seen = seen }
 
-pub table_is : (q : Query) (r : Rect) (h : List Point) (seen total : ℕ) (old rows : List RowOut) → old ≡ [] → rows ≡ old ++ RowOut.One total ∷ [] → total ≡ window_total q r h → seen ≡ length h → table_of rows seen ≡ window_table q r h
-unfolding window_table
-table_is q r h seen total old rows empty pushed is count =
-    let all : rows ≡ RowOut.One (window_total q r h) ∷ [] = pushed ∙ (ap (λ (ts : List RowOut). ts ++ RowOut.One total ∷ []) empty ∙ ap (λ n. RowOut.One n ∷ []) is) in
+pub table_is : (z : Schema) (q : Query) (h : List Point) (seen total : ℕ) (old rows : List RowOut) → is_window q.verb ≡ true → old ≡ [] → rows ≡ old ++ RowOut.One total ∷ []
+    → total ≡ window_total q (rect_of_verb q.verb) h → seen ≡ length h → table_of rows seen ≡ table z q h
+unfolding table table_rows
+table_is z q h seen total old rows asks empty pushed is count =
+    let one = ap (λ (ts : List RowOut). ts ++ RowOut.One total ∷ []) empty ∙ ap (λ n. RowOut.One n ∷ []) is in
+    let all : rows ≡ rows_of_verb z q h q.verb = pushed ∙ (one ∙ sym (window_rows z q h q.verb asks)) in
     λ i. record { rows = all i; seen = count i }

@@ -10,7 +10,9 @@ use Rattle.cube_view.specs.declared.schema.Schema.{Schema}
 use Rattle.query_syntax.specs.Addresses.{addresses}
 use Rattle.query_syntax.specs.Parts.{with_region}
 use Rattle.query_syntax.specs.declared.query.Query.{Query}
-use Rattle.window_cover.specs.declared.rect.Rect.{Rect}
+use Rattle.query_syntax.specs.declared.query.Verb.{Verb}
+use Rattle.query_syntax.specs.declared.query.Verb.TheVariants.{Count, Hist, Map, Series, Window, Cross, Best, Stat, Told, Quit}
+use Rattle.query_syntax.specs.declared.rect.Rect.{Rect}
 use Rattle.window_cover.specs.Covers.{all_tiles, cover}
 use Rattle.window_cover.specs.Rects.{is_crossed}
 
@@ -28,6 +30,19 @@ module _ (costs : ViewCosts) (schema : Schema) (h : List Point) where
   abbrev pub crossed_cost : Rect → Tile → ℕ
   crossed_cost r t = cost_if (is_crossed schema.depth r t && is_found schema h t) (4 * costs.down_cost (region_address t))
 
-  -- a window: the tiles that the rectangle crosses, and those of its cover; nothing in a view of no points
-  abbrev pub window_cost : Query → Rect → ℕ
-  window_cost q r = cost_if (nat_lt 0 (length h)) (sum_by (crossed_cost r) (all_tiles schema.depth) + sum_by (tile_cost q) (cover schema.depth r))
+  -- a rectangle: the tiles that it crosses, and those of its cover; nothing in a view of no points
+  abbrev pub rect_cost : Query → Rect → ℕ
+  rect_cost q r = cost_if (nat_lt 0 (length h)) (sum_by (crossed_cost r) (all_tiles schema.depth) + sum_by (tile_cost q) (cover schema.depth r))
+
+  -- the window of a verb; another verb has none
+  abbrev pub window_cost : Query → Verb → ℕ
+  window_cost q Count = 0
+  window_cost q (Hist k) = 0
+  window_cost q (Map down) = 0
+  window_cost q (Series from wide rows) = 0
+  window_cost q (Window rect) = rect_cost q rect
+  window_cost q (Cross k l) = 0
+  window_cost q (Best down rows) = 0
+  window_cost q Stat = 0
+  window_cost q Told = 0
+  window_cost q Quit = 0

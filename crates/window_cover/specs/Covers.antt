@@ -6,8 +6,9 @@ use Rattle.cube_view.specs.declared.address.Tile.{Tile}
 use Rattle.query_syntax.specs.Queries.{whole_space}
 use Rattle.query_syntax.specs.TileOrder.{quadrants, tiles_inside, tiles_of_level}
 use Rattle.query_syntax.specs.Tiles.{is_tile}
-use Rattle.window_cover.specs.declared.rect.Rect.{Rect}
-use Rattle.window_cover.specs.Rects.{has_place, holds, is_inside}
+use Rattle.query_syntax.specs.declared.rect.Rect.{Rect}
+use Rattle.query_syntax.specs.Windows.{has_place}
+use Rattle.window_cover.specs.Rects.{holds, is_inside}
 
 -- a tile and those inside it down to so many levels below it, in path order: a tile comes before those inside it
 abbrev pub tiles_from : ℕ → Tile → List Tile

@@ -1,16 +1,8 @@
--- Rectangles of finest tiles: their columns from x0 on under x1, and their rows from y0 on under y1.
+-- What a rectangle of finest tiles has of a tile.
 use Rattle.std.specs.Prelude.{ℕ, ◌+◌, ◌-◌, ◌*◌, ◌^◌, Bool, not, ◌&&◌, ◌==◌, nat_le, nat_lt}
 use Rattle.cube_view.specs.Places.{shifted}
 use Rattle.cube_view.specs.declared.address.Tile.{Tile}
-use Rattle.window_cover.specs.declared.rect.Rect.{Rect}
-
--- in order, and within the columns and rows of the finest tiles
-abbrev pub rect_in_range : ℕ → Rect → Bool
-rect_in_range depth r = (nat_le r.x0 r.x1 && nat_le r.x1 (2 ^ depth)) && (nat_le r.y0 r.y1 && nat_le r.y1 (2 ^ depth))
-
--- the finest tile of this column and row is in the rectangle
-abbrev pub has_place : Rect → ℕ → ℕ → Bool
-has_place r x y = (nat_le r.x0 x && nat_lt x r.x1) && (nat_le r.y0 y && nat_lt y r.y1)
+use Rattle.query_syntax.specs.declared.rect.Rect.{Rect}
 
 -- the tile holds the finest tile of this column and row
 abbrev pub holds : ℕ → Tile → ℕ → ℕ → Bool

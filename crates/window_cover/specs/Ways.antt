@@ -8,12 +8,12 @@ use Rattle.cube_view.specs.declared.address.Tile.{Tile}
 use Rattle.cube_view.specs.declared.schema.Schema.{Schema}
 use Rattle.cube_view.specs.declared.spot.Spot.{Spot}
 use Rattle.query_syntax.specs.TileOrder.{quadrants}
+use Rattle.query_syntax.specs.Windows.{is_asked, is_in_window}
 use Rattle.query_syntax.specs.declared.query.Query.{Query}
-use Rattle.window_cover.specs.declared.rect.Rect.{Rect}
+use Rattle.query_syntax.specs.declared.rect.Rect.{Rect}
 use Rattle.window_cover.specs.Costs.{crossed_cost, tile_cost}
 use Rattle.window_cover.specs.Covers.{tiles_from}
 use Rattle.window_cover.specs.Rects.{is_inside}
-use Rattle.window_cover.specs.Windows.{is_asked, is_in_window}
 
 -- the tile, if it lies inside the rectangle, else what its quadrants have so many levels further down
 abbrev pub cover_below : ℕ → Rect → ℕ → Tile → List Tile

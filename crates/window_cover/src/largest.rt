@@ -4,9 +4,10 @@ ghost use Rattle.query_syntax.specs.Tiles.{is_tile};
 ghost use Rattle.window_cover.specs.Covers.{cover as cover_of, IsLeastCover};
 ghost use Rattle.window_cover.specs.Ways.{cover_inside};
 
-use crate::Rect;
+use crate::rect::{crosses, has_tile};
 use cube_view::{Schema, Tile, quadrant};
 use outer_io::{List, NoMemory};
+use query_syntax::Rect;
 use std::alloc::Global;
 
 /// Adds the largest tiles of the rectangle that are inside a tile, if they are not larger than it.
@@ -15,10 +16,10 @@ fn add_inside(depth: u8, rect: &Rect, tile: &Tile, tiles: &mut List<Tile>) -> Re
     requires tile { IsTrue (is_tile depth tile.now) }
     ensures { OnOk result (tiles.new ≡ tiles.old ++ cover_inside depth rect.now tile.now) }
 {
-    if rect.has_tile(depth, tile) {
+    if has_tile(rect, depth, tile) {
         return tiles.add(*tile);
     }
-    if rect.crosses(depth, tile) {
+    if crosses(rect, depth, tile) {
         for label in 0..4u8 {
             add_inside(depth, rect, &quadrant(tile, label), tiles)?;
         }

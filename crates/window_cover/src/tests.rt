@@ -2,13 +2,13 @@
 ghost use Rattle.std.specs.Prelude.{◌≡◌, ◌^◌, ◌≤◌, ◌∷◌, []};
 ghost use Rattle.probe_core.specs.Blanks.{IsBlankOf};
 
-use crate::{Rect, cover, window_answer, window_total};
+use crate::{cover, window_answer, window_total};
 use cube_view::{CubeView, Point, Schema, Tile, is_sound};
 use example_schemas::{point, schema_of_kinds};
 use outer_io::{List, NoMemory};
 use plain_cube::PlainCube;
 use probe_core::Steps;
-use query_syntax::{Choice, Query, RowOut, Span, Table, ValueSet, Verb, is_valid_query};
+use query_syntax::{Choice, Query, Rect, RowOut, Span, Table, ValueSet, Verb, is_valid_query};
 use std::alloc::Global;
 use std::marker::Brand;
 use std::process::Abort;
@@ -90,12 +90,12 @@ fn cube_of(
     Ok(cube)
 }
 
-/// The count of the records of these kinds, in the bins of the span.
-fn count_of(kind: Choice, time: Span) -> Query
-    ensures { result ≡ record { verb = Verb.Count; region = record { z = 0; x = 0; y = 0 }; sets = kind ∷ Choice.All ∷ Choice.All ∷ Choice.All ∷ []; time = time } }
+/// The window of the records of these kinds, in the bins of the span.
+fn window_of(kind: Choice, time: Span, rect: Rect) -> Query
+    ensures { result ≡ record { verb = Verb.Window rect; region = record { z = 0; x = 0; y = 0 }; sets = kind ∷ Choice.All ∷ Choice.All ∷ Choice.All ∷ []; time = time } }
 {
     Query {
-        verb: Verb::Count,
+        verb: Verb::Window(rect),
         region: Tile { z: 0, x: 0, y: 0 },
         sets: [kind, Choice::All, Choice::All, Choice::All],
         time,
@@ -169,10 +169,9 @@ fn check_in<L: Ledger>(
 {
     let mut steps = Steps::<L>::new(blank);
     for case in cases {
-        let query = count_of(case.kind, case.time);
+        let query = window_of(case.kind, case.time, case.rect);
         assert!(rt; is_valid_query(cube.schema(), &query));
-        assert!(rt; case.rect.is_in_range(cube.schema().depth));
-        let table = window_answer(alloc, cube, &query, &case.rect, &mut steps)?;
+        let table = window_answer(alloc, cube, &query, &mut steps)?;
         assert_eq!(rt; table.seen, cube.seen());
         assert!(rt; has_total(&table, case.total), "of {:?}", case.rect);
     }
@@ -201,6 +200,29 @@ fn counts_windows_of_three_records(rt: HostRuntime) -> Result<(), Fail> {
         window(rect(7, 7, 8, 8), 1),
         window(rect(0, 0, 7, 8), 2),
         window(rect(0, 1, 8, 8), 1),
+    ];
+    check(&rt, rt.alloc(), &cube, &cases)?;
+    Ok(())
+}
+
+#[test]
+fn counts_windows_at_the_deepest_level(rt: HostRuntime) -> Result<(), Fail> {
+    let (half, last) = (1 << 19, (1 << 20) - 1);
+    let points = [
+        point(0, 0, 0, 0),
+        point(last, last, 0, 0),
+        point(half - 1, half, 0, 0),
+    ];
+    let schema = Schema::new(20, List::new(rt.alloc()), 0, 1, 1, None);
+    let cube = cube_of(&rt, rt.alloc(), schema, &points)?;
+    let cases = [
+        window(rect(0, 0, last + 1, last + 1), 3),
+        window(rect(1, 0, last + 1, last + 1), 2),
+        window(rect(1, 1, last, last), 1),
+        window(rect(half, 0, last + 1, last + 1), 1),
+        window(rect(last, last, last + 1, last + 1), 1),
+        window(rect(half - 1, half, half, half + 1), 1),
+        window(rect(last, last, last, last + 1), 0),
     ];
     check(&rt, rt.alloc(), &cube, &cases)?;
     Ok(())
@@ -254,12 +276,8 @@ fn window_of_no_points<L: Ledger>(alloc: Global, steps: &mut Steps<L>) -> Result
     ensures { steps.new ≤ steps.old }
 {
     let cube = PlainCube::new(alloc, schema_of_kinds(alloc)?);
-    Ok(window_total(
-        &cube,
-        &count_of(Choice::All, all_bins()),
-        &rect(1, 0, 8, 8),
-        steps,
-    ))
+    let window = window_of(Choice::All, all_bins(), rect(1, 0, 8, 8));
+    Ok(window_total(&cube, &window, steps))
 }
 
 fn no_steps<L: Ledger>(rt: &impl Abort, alloc: Global, blank: Blank) -> Result<(), NoMemory>

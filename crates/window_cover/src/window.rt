@@ -3,18 +3,22 @@ ghost use Rattle.std.specs.Prelude.{◌≡◌, ℕ, ◌+◌, ◌≤◌, IsTrue, 
 ghost use Rattle.cube_view.specs.Bag.{amount, EachCounted};
 ghost use Rattle.cube_view.specs.Costs.{is_found};
 ghost use Rattle.cube_view.specs.Places.{region_address};
+ghost use Rattle.query_syntax.specs.Queries.{is_valid_query};
+ghost use Rattle.query_syntax.specs.Tables.{table};
 ghost use Rattle.query_syntax.specs.Tiles.{is_tile};
+ghost use Rattle.query_syntax.specs.Verbs.{is_window};
+ghost use Rattle.query_syntax.specs.Windows.{window_total as window_total_of};
 ghost use Rattle.query_walk.specs.Walks.{HasBox};
 ghost use Rattle.window_cover.specs.Costs.{tile_cost, window_cost};
 ghost use Rattle.window_cover.specs.Ways.{inside_cost, is_asked_in, is_window_in};
-ghost use Rattle.window_cover.specs.Windows.{window_table, window_total as window_total_of, IsWindow};
+ghost use Rattle.window_cover.specs.Windows.{rect_of_verb};
 
-use crate::Rect;
-use crate::categories::total_from;
+use crate::rect::{crosses, has_tile};
 use cube_view::{CubeView, Tile, quadrant};
 use outer_io::{List, NoMemory};
 use probe_core::Steps;
-use query_syntax::{Query, RowOut, Table};
+use query_syntax::{Query, Rect, RowOut, Table, Verb};
+use query_walk::total_from;
 use std::alloc::Global;
 use std::sync::ledger::Ledger;
 
@@ -58,10 +62,10 @@ fn total_inside<V: CubeView, L: Ledger>(
     ensures cost { EachCounted (V.weight_at view.now) (V.seen view.now) (λ h. steps.new ≤ steps.old + inside_cost (V.costs view.now) (V.schema view.now) h query.now rect.now tile.now) }
 {
     let depth = view.schema().depth;
-    if rect.has_tile(depth, tile) {
+    if has_tile(rect, depth, tile) {
         return total_in_tile(view, query, tile, cursor, steps);
     }
-    if !rect.crosses(depth, tile) {
+    if !crosses(rect, depth, tile) {
         return 0;
     }
     let mut sum = 0;
@@ -74,44 +78,38 @@ fn total_inside<V: CubeView, L: Ledger>(
     sum
 }
 
-/// How much the bag has in the window. It takes no memory.
-pub fn window_total<V: CubeView, L: Ledger>(
-    view: &V,
-    query: &Query,
-    rect: &Rect,
-    steps: &mut Steps<L>,
-) -> u64
-    requires { IsWindow (V.schema view.now) query.now rect.now }
-    ensures total { EachCounted (V.weight_at view.now) (V.seen view.now) (λ h. result ≡ window_total_of query.now rect.now h) }
-    ensures cost { EachCounted (V.weight_at view.now) (V.seen view.now) (λ h. steps.new ≤ steps.old + window_cost (V.costs view.now) (V.schema view.now) h query.now rect.now) }
+/// How much the bag has in the query's window, over any list of points that the view counts. It takes no memory.
+pub fn window_total<V: CubeView, L: Ledger>(view: &V, query: &Query, steps: &mut Steps<L>) -> u64
+    requires valid { IsTrue (is_valid_query (V.schema view.now) query.now) }
+    requires verb { IsTrue (is_window query.now.verb) }
+    ensures total { EachCounted (V.weight_at view.now) (V.seen view.now) (λ h. result ≡ window_total_of query.now (rect_of_verb query.now.verb) h) }
+    ensures cost { EachCounted (V.weight_at view.now) (V.seen view.now) (λ h. steps.new ≤ steps.old + window_cost (V.costs view.now) (V.schema view.now) h query.now query.now.verb) }
 {
+    let Verb::Window(rect) = query.verb else {
+        unreachable!()
+    };
     if view.seen() == 0 {
         return 0;
     }
-    total_inside(
-        view,
-        query,
-        rect,
-        &Tile { z: 0, x: 0, y: 0 },
-        view.top(),
-        steps,
-    )
+    let whole = Tile { z: 0, x: 0, y: 0 };
+    total_inside(view, query, &rect, &whole, view.top(), steps)
 }
 
-/// The table of the window: its total, and how many points were counted in all.
+/// The table of the query's window: its total, and how many points were counted in all. `NoMemory` where the row finds
+/// no room.
 pub fn window_answer<V: CubeView, L: Ledger>(
     alloc: Global,
     view: &V,
     query: &Query,
-    rect: &Rect,
     steps: &mut Steps<L>,
 ) -> Result<Table, NoMemory>
-    requires { IsWindow (V.schema view.now) query.now rect.now }
-    ensures table { EachCounted (V.weight_at view.now) (V.seen view.now) (λ h. IfOk result (λ t. t ≡ window_table query.now rect.now h)) }
-    ensures cost { EachCounted (V.weight_at view.now) (V.seen view.now) (λ h. steps.new ≤ steps.old + window_cost (V.costs view.now) (V.schema view.now) h query.now rect.now) }
+    requires valid { IsTrue (is_valid_query (V.schema view.now) query.now) }
+    requires verb { IsTrue (is_window query.now.verb) }
+    ensures table { EachCounted (V.weight_at view.now) (V.seen view.now) (λ h. IfOk result (λ t. t ≡ table (V.schema view.now) query.now h)) }
+    ensures cost { EachCounted (V.weight_at view.now) (V.seen view.now) (λ h. steps.new ≤ steps.old + window_cost (V.costs view.now) (V.schema view.now) h query.now query.now.verb) }
 {
     let mut rows = List::new(alloc);
-    rows.add(RowOut::One(window_total(view, query, rect, steps)))?;
+    rows.add(RowOut::One(window_total(view, query, steps)))?;
     Ok(Table {
         rows,
         seen: view.seen(),

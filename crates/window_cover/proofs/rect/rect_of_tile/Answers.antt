@@ -1,7 +1,7 @@
 use Rattle.std.proofs.Common.{arith}
 use Rattle.window_cover.proofs.Quadrants.{tile_numbers}
 use Rattle.window_cover.proofs.Sides.{begins_fit, ends_fit}
-use Rattle.window_cover.proofs.rect.Rect.of_tile.Goals as goal
+use Rattle.window_cover.proofs.rect.rect_of_tile.Goals as goal
 
 pub overflow_mul-result : goal.overflow_mul-result
 overflow_mul-result c =
