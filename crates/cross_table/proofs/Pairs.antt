@@ -9,12 +9,11 @@ use Rattle.cube_view.specs.Places.{in_tile}
 use Rattle.cube_view.specs.Points.{Point, spot_of, weight_of_point}
 use Rattle.cube_view.specs.declared.schema.Schema.{Schema}
 use Rattle.cube_view.specs.declared.spot.Spot.{Spot}
-use Rattle.cross_table.specs.CrossTables.{pair_total}
-use Rattle.cross_table.specs.declared.cross.CategoryValue.{CategoryValue}
 use Rattle.query_syntax.proofs.TableLaws.{box_value, box_value_out}
 use Rattle.query_syntax.specs.Boxes.{Box, box, chosen, are_in_sets, inside, total}
-use Rattle.query_syntax.specs.Parts.{with_one_value}
+use Rattle.query_syntax.specs.CrossTables.{pair_total}
 use Rattle.query_syntax.specs.Narrowing.{any_value, with_value}
+use Rattle.query_syntax.specs.Parts.{with_one_value}
 use Rattle.query_syntax.specs.declared.query.Choice.TheVariants.{All}
 use Rattle.query_syntax.specs.declared.query.Query.{Query}
 
@@ -92,24 +91,21 @@ box_wide q wide = length-map q.sets chosen ∙ wide
 pub value_wide : (b : Box) (k v : ℕ) → length b.sets ≡ 4 → length (with_value b k v).sets ≡ 4
 value_wide b k v wide = length-set b.sets k _ ∙ wide
 
-module _ (z : Schema) (q : Query) (h : List Point) (first second : CategoryValue) (wide : length q.sets ≡ 4) (one : first.category < 4) (other : second.category < 4) where
+module _ (z : Schema) (q : Query) (h : List Point) (k l v w : ℕ) (wide : length q.sets ≡ 4) (one : k < 4) (other : l < 4) where
   -- the points with the second value
   abbrev rest : List Point
-  rest = having second.category second.value h
+  rest = having l w h
 
-  pair_kept : pair_total z q h first second ≡ total z (with_value (box q) first.category first.value) rest
-  pair_kept =
-      let w = value_wide (box q) first.category first.value (box_wide q wide) in
-      total_value z (with_value (box q) first.category first.value) second.category second.value h (omega (arith, w, other))
+  pair_kept : pair_total z q h k l v w ≡ total z (with_value (box q) k v) rest
+  pair_kept = let four = value_wide (box q) k v (box_wide q wide) in total_value z (with_value (box q) k v) l w h (omega (arith, four, other))
 
   -- a first value that the query asks for: the query with it alone, and the second value
-  pub pair_asked : first.value < 256 → chosen (get_or q.sets first.category All) first.value ≡ true → total z (with_value (box (with_one_value q first.category first.value)) second.category second.value) h ≡ pair_total z q h first second
+  pub pair_asked : v < 256 → chosen (get_or q.sets k All) v ≡ true → total z (with_value (box (with_one_value q k v)) l w) h ≡ pair_total z q h k l v w
   pair_asked small is =
-      let alone = with_one_value q first.category first.value in
-      let w = box_wide alone (length-set q.sets first.category _ ∙ wide) in
-      total_value z (box alone) second.category second.value h (omega (arith, w, other))
-      ∙ (sym (box_value z q rest first.category first.value (omega (arith, wide, one)) small is) ∙ sym pair_kept)
+      let alone = with_one_value q k v in
+      let four = box_wide alone (length-set q.sets k _ ∙ wide) in
+      total_value z (box alone) l w h (omega (arith, four, other)) ∙ (sym (box_value z q rest k v (omega (arith, wide, one)) small is) ∙ sym pair_kept)
 
   -- another has nothing
-  pub pair_not_asked : chosen (get_or q.sets first.category All) first.value ≡ false → 0 ≡ pair_total z q h first second
-  pair_not_asked is = sym (pair_kept ∙ box_value_out z q rest first.category first.value is)
+  pub pair_not_asked : chosen (get_or q.sets k All) v ≡ false → 0 ≡ pair_total z q h k l v w
+  pair_not_asked is = sym (pair_kept ∙ box_value_out z q rest k v is)

@@ -1,4 +1,4 @@
--- The top tiles are in order, and no other tile is ahead of one of them.
+-- The best tiles are in order, and no other tile is ahead of one of them.
 use Rattle.std.proofs.Common.{◌≡◌, ℕ, zero, suc, ◌+◌, ◌*◌, ◌/◌, ◌%◌, ◌<◌, ◌≤◌, Bool, true, false, eqb, List, [], ◌∷◌, ◌++◌, length, cond, take, filter, ◌⊎◌, refl, sym, ◌∙◌, ap, subst, arith, add-one, inl, inr, ⊎_elim}
 use Rattle.std.specs.List.{AllByRecursion, flat_map}
 use Rattle.std.proofs.lemmas.Bool.{eqb-true, eq-eqb, cases_eq}
@@ -8,10 +8,11 @@ use Rattle.cube_view.specs.Places.{longer_tile, tile_within}
 use Rattle.cube_view.specs.Points.{Point}
 use Rattle.cube_view.specs.declared.address.Tile.{Tile}
 use Rattle.cube_view.specs.declared.schema.Schema.{Schema}
-use Rattle.cross_table.specs.TopTiles.{area_total, tiles_of_total, tiles_by_total, top_tiles, place_in_order, path_place, IsAhead, IsRanking, IsOneOf, AreTop, TopOrder}
+use Rattle.cross_table.specs.Order.{place_in_order, path_place, IsAhead, IsRanking, IsOneOf, AreTop, TopOrder}
 use Rattle.query_syntax.specs.Boxes.{box, inside, total}
 use Rattle.query_syntax.specs.Narrowing.{with_tile}
 use Rattle.query_syntax.specs.TileOrder.{quadrants, tiles_below, tiles_of_level}
+use Rattle.query_syntax.specs.TopTiles.{area_total, tiles_of_total, tiles_by_total, top_tiles}
 use Rattle.query_syntax.specs.declared.query.Query.{Query}
 
 -- Lists of tiles

@@ -1,39 +1,45 @@
--- The rows of a map in the order of their totals are those of the top tiles.
+-- The rows of a map in the order of their totals are those of the best tiles.
 use Rattle.std.proofs.Common.{◌≡◌, ℕ, zero, suc, ◌+◌, ◌*◌, ◌≤◌, Bool, true, false, not, ◌==◌, eqb, ltb, leb, List, [], ◌∷◌, ◌++◌, length, cond, map, take, filter, refl, sym, ◌∙◌, ap, subst, arith}
 use Rattle.std.specs.List.{AllByRecursion, cons_option, filter_map}
 use Rattle.std.specs.Prelude.{if◌then◌else◌, None, Some}
-use Rattle.std.proofs.lemmas.Bool.{and_from, le-leb, le-ltb, ne_eqb}
+use Rattle.std.proofs.lemmas.Bool.{and_from, and_parts, ne_eqb}
 use Rattle.std.proofs.lemmas.List.{map-append, take-map}
 use Rattle.std.proofs.lemmas.List.Elements.{All-from_recursion}
 use Rattle.cube_view.proofs.Amounts.{amount-within}
 use Rattle.cube_view.specs.Bag.{amount, anywhere}
 use Rattle.cube_view.specs.Costs.{ViewCosts, cost_if, has_spot, is_found, space_cost}
+use Rattle.cube_view.specs.Limits.{is_between}
 use Rattle.cube_view.specs.Places.{longer_tile, region_address}
 use Rattle.cube_view.specs.Points.{Point}
 use Rattle.cube_view.specs.declared.address.Tile.{Tile}
 use Rattle.cube_view.specs.declared.schema.Schema.{Schema}
+use Rattle.cross_table.specs.Costs.{best_cost}
 use Rattle.cross_table.specs.Ranking.{total_of_row, rows_by_total, IsFirstByTotal, as_map}
-use Rattle.cross_table.specs.TopTiles.{area_total, tiles_of_total, tiles_by_total, top_tiles, top_rows, IsBest}
 use Rattle.query_syntax.proofs.ValidParts.{valid_parts}
 use Rattle.query_syntax.specs.Boxes.{box, inside, total}
-use Rattle.query_syntax.specs.Queries.{is_valid_query}
+use Rattle.query_syntax.specs.Queries.{is_too_deep, is_valid_query, verb_in_range}
 use Rattle.query_syntax.specs.Narrowing.{with_tile}
 use Rattle.query_syntax.specs.Tables.{area_row, table, table_rows}
 use Rattle.query_syntax.specs.TileOrder.{tiles_below}
+use Rattle.query_syntax.specs.TopTiles.{area_total, tiles_of_total, tiles_by_total, top_tiles, top_rows}
+use Rattle.query_syntax.specs.Verbs.{deepest_map, most_best_rows}
 use Rattle.query_syntax.specs.declared.query.Query.{Query}
+use Rattle.query_syntax.specs.declared.query.Verb.{Verb}
+use Rattle.query_syntax.specs.declared.query.Verb.TheVariants.{Best}
 use Rattle.query_syntax.specs.declared.table.RowOut.{RowOut}
 use Rattle.query_syntax.specs.declared.table.Table.{Table}
 use Rattle.query_walk.specs.Costs.{sum_upto}
-use Rattle.tile_drill.specs.Costs.{areas_cost, map_cost}
+use Rattle.tile_drill.specs.Costs.{areas_cost, map_cost, table_cost}
 
 -- The map of the query
 
-pub map_valid : (z : Schema) (q : Query) (levels rows : ℕ) → IsBest z q levels rows → is_valid_query z (as_map q levels) ≡ true
+pub map_valid : (z : Schema) (q : Query) (levels rows : ℕ) → is_valid_query z q ≡ true → q.verb ≡ Best levels rows → is_valid_query z (as_map q levels) ≡ true
 unfolding is_valid_query
-map_valid z q levels rows is =
-    let parts = valid_parts z q is.valid in
-    let shallow : leb levels 10 ≡ true = le-leb levels 10 is.range in
-    let deep : not (ltb z.depth (q.region.z + levels)) ≡ true = ap not (le-ltb z.depth (q.region.z + levels) is.deep) in
+map_valid z q levels rows valid is =
+    let parts = valid_parts z q valid in
+    let range = subst (λ (v : Verb). verb_in_range z.depth (length z.categories) v ≡ true) is parts.verb in
+    let shallow = (and_parts (leb levels deepest_map) (is_between 1 most_best_rows rows) range).0 in
+    let deep = subst (λ (v : Verb). not (is_too_deep z.depth q.region.z v) ≡ true) is parts.deep in
     and_from _ _ (and_from _ _ (and_from _ _ (and_from _ _ (and_from _ _ (and_from _ _ shallow parts.region) deep) parts.places) parts.sets) parts.time) refl
 
 -- what the tiles below a tile cost is the same whatever the verb
@@ -43,6 +49,13 @@ areas_same costs z h q levels (suc n) t = λ i. 4 * costs.down_cost (region_addr
 
 pub map_cost_same : (costs : ViewCosts) (z : Schema) (h : List Point) (q : Query) (levels : ℕ) → map_cost costs z h (as_map q levels) levels ≡ map_cost costs z h q levels
 map_cost_same costs z h q levels = λ i. cost_if (ltb 0 (length h)) (space_cost costs z h q.region q.region.z + cost_if (is_found z h q.region) (areas_same costs z h q levels levels q.region i))
+
+-- what the map took is within what the best tiles may take
+pub best_paid : (costs : ViewCosts) (z : Schema) (h : List Point) (q map : Query) (levels rows old new : ℕ) → q.verb ≡ Best levels rows → map ≡ as_map q levels → new ≤ old + table_cost costs z h map map.verb → new ≤ old + best_cost costs z h q q.verb
+best_paid costs z h q map levels rows old new is same paid =
+    let asked = ap (best_cost costs z h q) is in
+    let cost = ap (λ (p : Query). table_cost costs z h p p.verb) same ∙ map_cost_same costs z h q levels in
+    omega (arith, asked, cost, paid)
 
 module _ (z : Schema) (q : Query) (h : List Point) where
   -- the row of a tile, also of one that has nothing
@@ -92,7 +105,7 @@ module _ (z : Schema) (q : Query) (h : List Point) where
   each_within [] = tt
   each_within (t ∷ ts) = row_within t (area_total z q h t) (rows_of ts) (light t) (each_within ts)
 
-  -- the first rows by their totals of the map's are those of the top tiles
+  -- the first rows by their totals of the map's are those of the best tiles
   pub first_are_top : (levels rows : ℕ) (first : List RowOut) → IsFirstByTotal (rows_of (tiles_below levels q.region)) rows first → first ≡ top_rows z q h levels rows
   unfolding top_rows top_tiles
   first_are_top levels rows first is =

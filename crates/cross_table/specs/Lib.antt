@@ -1,4 +1,6 @@
 pub mod Costs
-pub mod CrossTables
+pub mod Order
 pub mod Ranking
-pub mod TopTiles
+pub mod Sums
+pub mod Values
+pub mod Verbs

@@ -3,7 +3,7 @@ use Rattle.std.specs.Prelude.{◌≡◌, ℕ, zero, suc, ◌≤◌, ◌==◌, Al
 use Rattle.query_syntax.specs.declared.query.Query.{Query}
 use Rattle.query_syntax.specs.declared.query.Verb.TheVariants.{Map}
 use Rattle.query_syntax.specs.declared.table.RowOut.{RowOut}
-use Rattle.query_syntax.specs.declared.table.RowOut.TheVariants.{One, Value, Area, Bin}
+use Rattle.query_syntax.specs.declared.table.RowOut.TheVariants.{One, Value, Area, Bin, Pair}
 
 -- the total of a row
 abbrev pub total_of_row : RowOut → ℕ
@@ -11,6 +11,7 @@ total_of_row (One n) = n
 total_of_row (Value text n) = n
 total_of_row (Area tile n) = n
 total_of_row (Bin from n) = n
+total_of_row (Pair first second n) = n
 
 -- of some rows those of a total from w down to 1: first those of the greatest total, and of one total as they stood
 abbrev pub rows_by_total : List RowOut → ℕ → List RowOut

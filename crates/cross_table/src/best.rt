@@ -1,9 +1,11 @@
-//! Top tiles.
-ghost use Rattle.std.specs.Prelude.{◌≡◌, ℕ, ◌+◌, ◌≤◌, IfOk, take};
+//! The best tiles.
+ghost use Rattle.std.specs.Prelude.{◌≡◌, ℕ, ◌+◌, ◌≤◌, IsTrue, IfOk, take};
 ghost use Rattle.cube_view.specs.Bag.{EachCounted};
+ghost use Rattle.cross_table.specs.Costs.{best_cost};
 ghost use Rattle.cross_table.specs.Ranking.{as_map, total_of_row, IsFirstByTotal};
-ghost use Rattle.cross_table.specs.TopTiles.{IsBest, top_table};
-ghost use Rattle.tile_drill.specs.Costs.{map_cost};
+ghost use Rattle.cross_table.specs.Verbs.{is_best};
+ghost use Rattle.query_syntax.specs.Queries.{is_valid_query};
+ghost use Rattle.query_syntax.specs.Tables.{table};
 
 use cube_view::CubeView;
 use outer_io::{List, NoMemory};
@@ -32,6 +34,7 @@ fn row_weight(row: &RowOut) -> u64
         RowOut::Value(_, total) => *total,
         RowOut::Area(_, total) => *total,
         RowOut::Bin(_, total) => *total,
+        RowOut::Pair(_, _, total) => *total,
     }
 }
 
@@ -49,21 +52,23 @@ fn first_by_total(rows: List<RowOut>, count: usize) -> Result<List<RowOut>, NoMe
     }
 }
 
-/// The table of the tiles so many levels below the region that have the greatest totals, over any list of points that
-/// the view counts: at most so many rows. `NoMemory` where the map's rows find no room.
+/// The table of the tiles so many levels below the query's region that have the greatest totals, over any list of points
+/// that the view counts: at most as many rows as the query says. `NoMemory` where the map's rows find no room.
 pub fn best_answer<V: CubeView, L: Ledger>(
     alloc: Global,
     view: &V,
     query: &Query,
-    levels: u8,
-    rows: u32,
     steps: &mut Steps<L>,
 ) -> Result<Table, NoMemory>
-    requires { IsBest (V.schema view.now) query.now levels rows }
-    ensures table { EachCounted (V.weight_at view.now) (V.seen view.now) (λ h. IfOk result (λ t. t ≡ top_table (V.schema view.now) query.now h levels rows)) }
-    ensures cost { EachCounted (V.weight_at view.now) (V.seen view.now) (λ h. steps.new ≤ steps.old + map_cost (V.costs view.now) (V.schema view.now) h query.now levels) }
+    requires valid { IsTrue (is_valid_query (V.schema view.now) query.now) }
+    requires verb { IsTrue (is_best query.now.verb) }
+    ensures table { EachCounted (V.weight_at view.now) (V.seen view.now) (λ h. IfOk result (λ t. t ≡ table (V.schema view.now) query.now h)) }
+    ensures cost { EachCounted (V.weight_at view.now) (V.seen view.now) (λ h. steps.new ≤ steps.old + best_cost (V.costs view.now) (V.schema view.now) h query.now query.now.verb) }
 {
-    let map = map_of(query, levels);
+    let Verb::Best { depth, rows } = query.verb else {
+        unreachable!()
+    };
+    let map = map_of(query, depth);
     let Table { rows: found, seen } = answer(alloc, view, &map, steps)?;
     let first = first_by_total(found, rows as usize)?;
     Ok(Table { rows: first, seen })

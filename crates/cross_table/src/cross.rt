@@ -1,21 +1,24 @@
 //! Cross tables.
-ghost use Rattle.std.specs.Prelude.{◌≡◌, ℕ, ◌+◌, ◌<◌, ◌≤◌, ◌++◌, IfOk, OnOk, length};
+ghost use Rattle.std.specs.Prelude.{◌≡◌, ℕ, ◌+◌, ◌<◌, ◌≤◌, ◌++◌, IsTrue, IfOk, OnOk, length};
 ghost use Rattle.std.specs.List.{flat_map, range_with_len};
 ghost use Rattle.cube_view.specs.Bag.{EachCounted};
-ghost use Rattle.cross_table.specs.Costs.{pair_cost, within_cost, cross_cost};
-ghost use Rattle.cross_table.specs.CrossTables.{IsCross, IsValueOf, text_of_value, pair_total, pair_row, rows_within, cross_rows as cross_rows_of, cross_table};
+ghost use Rattle.cross_table.specs.Costs.{pair_cost, within_cost, pairs_cost, cross_cost};
+ghost use Rattle.cross_table.specs.Values.{IsValue};
+ghost use Rattle.cross_table.specs.Verbs.{is_cross};
 ghost use Rattle.query_syntax.specs.Boxes.{box, total as total_of};
+ghost use Rattle.query_syntax.specs.CrossTables.{text_of_value, pair_total, pair_row, rows_within, cross_rows as cross_rows_of};
 ghost use Rattle.query_syntax.specs.Items.{values_at};
 ghost use Rattle.query_syntax.specs.Parts.{with_one_value};
 ghost use Rattle.query_syntax.specs.Narrowing.{with_value};
+ghost use Rattle.query_syntax.specs.Queries.{is_valid_query};
+ghost use Rattle.query_syntax.specs.Tables.{table};
 ghost use Rattle.query_walk.specs.Costs.{search_cost};
 ghost use Rattle.query_walk.specs.Walks.{HasBox};
 
-use crate::{PairRow, PairTable};
 use cube_view::{CubeView, Schema};
 use outer_io::{List, NoMemory, Text};
 use probe_core::Steps;
-use query_syntax::Query;
+use query_syntax::{Query, RowOut, Table, Verb};
 use query_walk::total_in_box;
 use std::alloc::Global;
 use std::sync::ledger::Ledger;
@@ -38,8 +41,8 @@ fn value_texts(schema: &Schema, category: usize) -> &[Text]
 
 /// A copy of the value's text.
 fn text_of(alloc: Global, schema: &Schema, of: CategoryValue) -> Result<Text, NoMemory>
-    requires { IsValueOf schema.now of }
-    ensures { IfOk result (λ text. text ≡ text_of_value schema.now of) }
+    requires { IsValue schema.now of.category of.value }
+    ensures { IfOk result (λ text. text ≡ text_of_value schema.now of.category of.value) }
 {
     let texts = value_texts(schema, of.category);
     Text::copy_of(alloc, texts[usize::from(of.value)].as_str())
@@ -53,7 +56,7 @@ fn total_of_value<V: CubeView, L: Ledger>(
     steps: &mut Steps<L>,
 ) -> u64
     requires has_box { HasBox (V.schema view.now) query.now }
-    requires value { IsValueOf (V.schema view.now) of }
+    requires value { IsValue (V.schema view.now) of.category of.value }
     ensures total { EachCounted (V.weight_at view.now) (V.seen view.now) (λ h. result ≡ total_of (V.schema view.now) (with_value (box query.now) of.category of.value) h) }
     ensures cost { EachCounted (V.weight_at view.now) (V.seen view.now) (λ h. steps.new ≤ steps.old + search_cost (V.costs view.now) (V.schema view.now) h (with_one_value query.now of.category of.value)) }
 {
@@ -73,10 +76,10 @@ fn total_of_pair<V: CubeView, L: Ledger>(
     steps: &mut Steps<L>,
 ) -> u64
     requires has_box { HasBox (V.schema view.now) query.now }
-    requires first { IsValueOf (V.schema view.now) first }
-    requires second { IsValueOf (V.schema view.now) second }
-    ensures total { EachCounted (V.weight_at view.now) (V.seen view.now) (λ h. result ≡ pair_total (V.schema view.now) query.now h first second) }
-    ensures cost { EachCounted (V.weight_at view.now) (V.seen view.now) (λ h. steps.new ≤ steps.old + pair_cost (V.costs view.now) (V.schema view.now) h query.now first second) }
+    requires first { IsValue (V.schema view.now) first.category first.value }
+    requires second { IsValue (V.schema view.now) second.category second.value }
+    ensures total { EachCounted (V.weight_at view.now) (V.seen view.now) (λ h. result ≡ pair_total (V.schema view.now) query.now h first.category second.category first.value second.value) }
+    ensures cost { EachCounted (V.weight_at view.now) (V.seen view.now) (λ h. steps.new ≤ steps.old + pair_cost (V.costs view.now) (V.schema view.now) h query.now first.category second.category first.value second.value) }
 {
     if !query.sets[first.category].has(first.value) {
         return 0;
@@ -93,21 +96,17 @@ fn row_of_pair<V: CubeView, L: Ledger>(
     first: CategoryValue,
     second: CategoryValue,
     steps: &mut Steps<L>,
-) -> Result<PairRow, NoMemory>
+) -> Result<RowOut, NoMemory>
     requires has_box { HasBox (V.schema view.now) query.now }
-    requires first { IsValueOf (V.schema view.now) first }
-    requires second { IsValueOf (V.schema view.now) second }
-    ensures row { IfOk result (λ row. EachCounted (V.weight_at view.now) (V.seen view.now) (λ h. row ≡ pair_row (V.schema view.now) query.now h first second)) }
-    ensures cost { EachCounted (V.weight_at view.now) (V.seen view.now) (λ h. steps.new ≤ steps.old + pair_cost (V.costs view.now) (V.schema view.now) h query.now first second) }
+    requires first { IsValue (V.schema view.now) first.category first.value }
+    requires second { IsValue (V.schema view.now) second.category second.value }
+    ensures row { IfOk result (λ row. EachCounted (V.weight_at view.now) (V.seen view.now) (λ h. row ≡ pair_row (V.schema view.now) query.now h first.category second.category first.value second.value)) }
+    ensures cost { EachCounted (V.weight_at view.now) (V.seen view.now) (λ h. steps.new ≤ steps.old + pair_cost (V.costs view.now) (V.schema view.now) h query.now first.category second.category first.value second.value) }
 {
     let total = total_of_pair(view, query, first, second, steps);
     let first = text_of(alloc, view.schema(), first)?;
     let second = text_of(alloc, view.schema(), second)?;
-    Ok(PairRow {
-        first,
-        second,
-        total,
-    })
+    Ok(RowOut::Pair(first, second, total))
 }
 
 /// Adds the rows within a value: one for each value of another category.
@@ -117,14 +116,14 @@ fn push_rows_within<V: CubeView, L: Ledger>(
     query: &Query,
     first: CategoryValue,
     second: usize,
-    rows: &mut List<PairRow>,
+    rows: &mut List<RowOut>,
     steps: &mut Steps<L>,
 ) -> Result<(), NoMemory>
     requires has_box { HasBox (V.schema view.now) query.now }
-    requires first { IsValueOf (V.schema view.now) first }
+    requires first { IsValue (V.schema view.now) first.category first.value }
     requires second { second < length (V.schema view.now).categories }
-    ensures rows { OnOk result (EachCounted (V.weight_at view.now) (V.seen view.now) (λ h. rows.new ≡ rows.old ++ rows_within (V.schema view.now) query.now h second first)) }
-    ensures cost { EachCounted (V.weight_at view.now) (V.seen view.now) (λ h. steps.new ≤ steps.old + within_cost (V.costs view.now) (V.schema view.now) h query.now second first) }
+    ensures rows { OnOk result (EachCounted (V.weight_at view.now) (V.seen view.now) (λ h. rows.new ≡ rows.old ++ rows_within (V.schema view.now) query.now h first.category second first.value)) }
+    ensures cost { EachCounted (V.weight_at view.now) (V.seen view.now) (λ h. steps.new ≤ steps.old + within_cost (V.costs view.now) (V.schema view.now) h query.now first.category second first.value) }
 {
     for value in 0..value_texts(view.schema(), second).len() {
         let other = CategoryValue {
@@ -145,12 +144,12 @@ fn cross_rows<V: CubeView, L: Ledger>(
     first: usize,
     second: usize,
     steps: &mut Steps<L>,
-) -> Result<List<PairRow>, NoMemory>
+) -> Result<List<RowOut>, NoMemory>
     requires has_box { HasBox (V.schema view.now) query.now }
     requires first { first < length (V.schema view.now).categories }
     requires second { second < length (V.schema view.now).categories }
     ensures rows { IfOk result (λ rows. EachCounted (V.weight_at view.now) (V.seen view.now) (λ h. rows ≡ cross_rows_of (V.schema view.now) query.now h first second)) }
-    ensures cost { EachCounted (V.weight_at view.now) (V.seen view.now) (λ h. steps.new ≤ steps.old + cross_cost (V.costs view.now) (V.schema view.now) h query.now first second) }
+    ensures cost { EachCounted (V.weight_at view.now) (V.seen view.now) (λ h. steps.new ≤ steps.old + pairs_cost (V.costs view.now) (V.schema view.now) h query.now first second) }
 {
     let mut rows = List::new(alloc);
     for value in 0..value_texts(view.schema(), first).len() {
@@ -163,24 +162,25 @@ fn cross_rows<V: CubeView, L: Ledger>(
     Ok(rows)
 }
 
-/// The cross table of two categories, by their numbers from 0, over any list of points that the view counts: a row for
-/// each value of the first and, within it, each value of the second. `NoMemory` where the rows find no room.
-#[tactic(auto, unfolding(crate::specs::CrossTables::cross_table))]
+/// The query's cross table, over any list of points that the view counts: a row for each value of the first category and,
+/// within it, each value of the second. `NoMemory` where the rows find no room.
 pub fn cross_answer<V: CubeView, L: Ledger>(
     alloc: Global,
     view: &V,
     query: &Query,
-    first: u8,
-    second: u8,
     steps: &mut Steps<L>,
-) -> Result<PairTable, NoMemory>
-    requires { IsCross (V.schema view.now) query.now first second }
-    ensures table { EachCounted (V.weight_at view.now) (V.seen view.now) (λ h. IfOk result (λ t. t ≡ cross_table (V.schema view.now) query.now h first second)) }
-    ensures cost { EachCounted (V.weight_at view.now) (V.seen view.now) (λ h. steps.new ≤ steps.old + cross_cost (V.costs view.now) (V.schema view.now) h query.now first second) }
+) -> Result<Table, NoMemory>
+    requires valid { IsTrue (is_valid_query (V.schema view.now) query.now) }
+    requires verb { IsTrue (is_cross query.now.verb) }
+    ensures table { EachCounted (V.weight_at view.now) (V.seen view.now) (λ h. IfOk result (λ t. t ≡ table (V.schema view.now) query.now h)) }
+    ensures cost { EachCounted (V.weight_at view.now) (V.seen view.now) (λ h. steps.new ≤ steps.old + cross_cost (V.costs view.now) (V.schema view.now) h query.now query.now.verb) }
 {
+    let Verb::Cross(first, second) = query.verb else {
+        unreachable!()
+    };
     let (first, second) = (usize::from(first), usize::from(second));
     let rows = cross_rows(alloc, view, query, first, second, steps)?;
-    Ok(PairTable {
+    Ok(Table {
         rows,
         seen: view.seen(),
     })

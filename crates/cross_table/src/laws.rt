@@ -1,6 +1,6 @@
 //! What the definitions say, as laws.
-ghost use Rattle.cross_table.specs.CrossTables.{CrossSum};
-ghost use Rattle.cross_table.specs.TopTiles.{TopOrder};
+ghost use Rattle.cross_table.specs.Order.{TopOrder};
+ghost use Rattle.cross_table.specs.Sums.{CrossSum};
 
 /// The totals of the rows of a cross table add up to the query's total, since each point has one value of each category.
 /// It does nothing when run.
@@ -8,7 +8,7 @@ pub fn cross_sum()
     ensures { CrossSum }
 {}
 
-/// The top tiles are in order, each has something, and another that has something is behind all of them. It does nothing
+/// The best tiles are in order, each has something, and another that has something is behind all of them. It does nothing
 /// when run.
 pub fn top_order()
     ensures { TopOrder }

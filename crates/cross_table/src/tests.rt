@@ -1,8 +1,8 @@
-//! Cross tables and top tiles over plain cubes, against rows that were counted by hand.
+//! Cross tables and best tiles over plain cubes, against rows that were counted by hand.
 ghost use Rattle.std.specs.Prelude.{◌≡◌};
 ghost use Rattle.probe_core.specs.Blanks.{IsBlankOf};
 
-use crate::{PairRow, best_answer, cross_answer};
+use crate::{best_answer, cross_answer};
 use cube_view::{CubeView, Point, Schema, Spot, Tile, is_sound};
 use example_schemas::{point, schema_of_kinds, schema_of_two_categories};
 use outer_io::NoMemory;
@@ -50,12 +50,12 @@ fn of_values(first: u8, second: u8) -> Point {
     Point { spot, weight: 1 }
 }
 
-/// The count in that tile of the records with these values.
-fn count_of(region: Tile, sets: [Choice; 4]) -> Query
-    ensures { result.verb ≡ Verb.Count }
+/// What the verb asks of the records in that tile with these values.
+fn query_of(verb: Verb, region: Tile, sets: [Choice; 4]) -> Query
+    ensures { result.verb ≡ verb }
 {
     Query {
-        verb: Verb::Count,
+        verb,
         region,
         sets,
         time: Span {
@@ -85,10 +85,15 @@ fn row(first: u8, second: u8, total: u64) -> WantedRow {
     }
 }
 
-fn is_row(row: &PairRow, want: &WantedRow) -> bool {
-    row.first.as_str().as_bytes() == [want.first].as_slice()
-        && row.second.as_str().as_bytes() == [want.second].as_slice()
-        && row.total == want.total
+fn is_row(row: &RowOut, want: &WantedRow) -> bool {
+    match row {
+        RowOut::Pair(first, second, total) => {
+            first.as_str().as_bytes() == [want.first].as_slice()
+                && second.as_str().as_bytes() == [want.second].as_slice()
+                && *total == want.total
+        }
+        _ => false,
+    }
 }
 
 /// Sets of values, the two categories, and the rows.
@@ -112,7 +117,7 @@ fn of_all<'a>(first: u8, second: u8, rows: &'a [WantedRow]) -> Cross<'a> {
     }
 }
 
-fn check_rows(rt: &impl Abort, rows: &[PairRow], wanted: &[WantedRow]) {
+fn check_rows(rt: &impl Abort, rows: &[RowOut], wanted: &[WantedRow]) {
     assert_eq!(rt; rows.len(), wanted.len());
     for (found, want) in rows.iter().zip(wanted) {
         assert!(rt; is_row(found, want));
@@ -130,14 +135,10 @@ fn check_cross_in<L: Ledger>(
 {
     let mut steps = Steps::<L>::new(blank);
     for case in cases {
-        let (first, second) = (case.first, case.second);
         let sets = [case.of_first, case.of_second, Choice::All, Choice::All];
-        let query = count_of(tile(0, 0, 0), sets);
+        let query = query_of(Verb::Cross(case.first, case.second), tile(0, 0, 0), sets);
         assert!(rt; is_valid_query(cube.schema(), &query));
-        assert!(rt; usize::from(first) < cube.schema().categories.len());
-        assert!(rt; usize::from(second) < cube.schema().categories.len());
-        assert!(rt; first != second);
-        let table = cross_answer(alloc, cube, &query, first, second, &mut steps)?;
+        let table = cross_answer(alloc, cube, &query, &mut steps)?;
         assert_eq!(rt; table.seen, cube.seen());
         check_rows(rt, table.rows.as_slice(), case.rows);
     }
@@ -233,7 +234,7 @@ struct BestCase<'a> {
     tiles: &'a [(Tile, u64)],
 }
 
-/// The top tiles of all records.
+/// The best tiles of all records.
 fn best<'a>(levels: u8, rows: u32, tiles: &'a [(Tile, u64)]) -> BestCase<'a> {
     BestCase {
         region: tile(0, 0, 0),
@@ -263,12 +264,13 @@ fn check_best_in<L: Ledger>(
     let mut steps = Steps::<L>::new(blank);
     for case in cases {
         let sets = [case.kind, Choice::All, Choice::All, Choice::All];
-        let query = count_of(case.region, sets);
+        let best = Verb::Best {
+            depth: case.levels,
+            rows: case.rows,
+        };
+        let query = query_of(best, case.region, sets);
         assert!(rt; is_valid_query(cube.schema(), &query));
-        assert!(rt; case.levels <= 10 && case.levels <= cube.schema().depth);
-        assert!(rt; query.region.z <= cube.schema().depth - case.levels);
-        assert!(rt; 1 <= case.rows && case.rows <= 1000);
-        let table = best_answer(alloc, cube, &query, case.levels, case.rows, &mut steps)?;
+        let table = best_answer(alloc, cube, &query, &mut steps)?;
         assert_eq!(rt; table.seen, cube.seen());
         assert_eq!(rt; table.rows.len(), case.tiles.len());
         for (found, want) in table.rows.as_slice().iter().zip(case.tiles) {
@@ -289,7 +291,7 @@ fn check_best(
 }
 
 #[test]
-fn the_top_tiles_are_those_of_most_records(rt: HostRuntime) -> Result<(), Fail> {
+fn the_best_tiles_are_those_of_most_records(rt: HostRuntime) -> Result<(), Fail> {
     let points = [point(0, 0, 0, 0), point(7, 7, 1, 1), point(0, 0, 0, 1)];
     let quarter = [(tile(1, 0, 0), 2)];
     let both = [(tile(3, 0, 0), 2), (tile(3, 7, 7), 1)];
@@ -300,7 +302,7 @@ fn the_top_tiles_are_those_of_most_records(rt: HostRuntime) -> Result<(), Fail> 
 }
 
 #[test]
-fn of_two_equal_tiles_the_earlier_is_the_top_one(rt: HostRuntime) -> Result<(), Fail> {
+fn of_two_equal_tiles_the_earlier_is_the_best_one(rt: HostRuntime) -> Result<(), Fail> {
     let points = [point(0, 0, 0, 0), point(7, 7, 1, 1)];
     let earlier = [(tile(1, 0, 0), 1)];
     check_best(&rt, rt.alloc(), &points, &[best(1, 1, &earlier)])?;
@@ -323,7 +325,7 @@ fn equal_tiles_stand_in_path_order(rt: HostRuntime) -> Result<(), Fail> {
 }
 
 #[test]
-fn the_top_tiles_are_those_that_weigh_most(rt: HostRuntime) -> Result<(), Fail> {
+fn the_best_tiles_are_those_that_weigh_most(rt: HostRuntime) -> Result<(), Fail> {
     let points = [
         weighing(point(0, 0, 0, 0), 5),
         weighing(point(7, 7, 1, 1), 268_435_455),
@@ -337,7 +339,7 @@ fn the_top_tiles_are_those_that_weigh_most(rt: HostRuntime) -> Result<(), Fail> 
 }
 
 #[test]
-fn the_top_tiles_are_of_what_the_filters_ask_for(rt: HostRuntime) -> Result<(), Fail> {
+fn the_best_tiles_are_of_what_the_filters_ask_for(rt: HostRuntime) -> Result<(), Fail> {
     let points = [
         weighing(point(0, 0, 0, 0), 5),
         weighing(point(7, 7, 1, 1), 11),
@@ -366,7 +368,7 @@ fn the_top_tiles_are_of_what_the_filters_ask_for(rt: HostRuntime) -> Result<(), 
 }
 
 #[test]
-fn no_points_have_no_top_tiles(rt: HostRuntime) -> Result<(), Fail> {
+fn no_points_have_no_best_tiles(rt: HostRuntime) -> Result<(), Fail> {
     check_best(&rt, rt.alloc(), &[], &[best(2, 3, &[])])?;
     Ok(())
 }

@@ -1,8 +1,8 @@
 use Rattle.std.proofs.Common.{◌≡◌, ℕ, ◌+◌, ◌∙◌, ap, arith}
 use Rattle.std.specs.List.{flat_map}
-use Rattle.cross_table.proofs.Paying.{rows_more, paid_more, paid_in_all, texts_counted}
+use Rattle.cross_table.proofs.Paying.{number_of_values, rows_more, paid_more, paid_in_all, texts_counted, values_under}
 use Rattle.cross_table.specs.Costs.{within_cost}
-use Rattle.cross_table.specs.CrossTables.{number_of_values, rows_within, cross_rows, values_under}
+use Rattle.query_syntax.specs.CrossTables.{rows_within, cross_rows}
 use Rattle.cross_table.proofs.cross.cross_rows.Goals as goal
 
 pub overflow_cast-one : goal.overflow_cast-one
@@ -20,8 +20,8 @@ loop-value-preserved g c =
     let costs = g.V.CubeView.costs c.args.view.now in
     let q = c.args.query.now in
     record {
-      rows = λ h counts. rows_more (rows_within z q h c.args.second) c.args.first c.loop-value.value c.loop-value.rows c.push_rows_within.new.rows (c.loop-value.invariant.rows h counts) (c.in_ok-push_rows_within.ensures.rows h counts);
-      cost = λ h counts. paid_more (within_cost costs z h q c.args.second) c.args.first c.loop-value.value c.args.steps.now c.loop-value.steps _ (c.loop-value.invariant.cost h counts) (c.push_rows_within.ensures.cost h counts);
+      rows = λ h counts. rows_more (rows_within z q h c.args.first c.args.second) c.loop-value.value c.loop-value.rows c.push_rows_within.new.rows (c.loop-value.invariant.rows h counts) (c.in_ok-push_rows_within.ensures.rows h counts);
+      cost = λ h counts. paid_more (within_cost costs z h q c.args.first c.args.second) c.loop-value.value c.args.steps.now c.loop-value.steps _ (c.loop-value.invariant.cost h counts) (c.push_rows_within.ensures.cost h counts);
     }
 
 pub returns : goal.returns
@@ -33,14 +33,14 @@ returns g c =
     let count = texts_counted c.schema.result.now z c.args.first c.value_texts-value-end.result.now c.schema.ensures c.value_texts-value-end.ensures.texts in
     let all : c.loop-value.value ≡ number_of_values z c.args.first = omega (arith, count, c.loop-value-test.false, c.loop-value.auto.value-end) in
     record {
-      rows = λ h counts. c.loop-value.invariant.rows h counts ∙ ap (λ (n : ℕ). flat_map (rows_within z q h c.args.second) (values_under c.args.first n)) all;
-      cost = λ h counts. paid_in_all (within_cost costs z h q c.args.second) c.args.first c.loop-value.value (number_of_values z c.args.first) c.args.steps.now c.loop-value.steps (omega (arith, all)) (c.loop-value.invariant.cost h counts);
+      rows = λ h counts. c.loop-value.invariant.rows h counts ∙ ap (λ (n : ℕ). flat_map (rows_within z q h c.args.first c.args.second) (values_under n)) all;
+      cost = λ h counts. paid_in_all (within_cost costs z h q c.args.first c.args.second) c.loop-value.value (number_of_values z c.args.first) c.args.steps.now c.loop-value.steps (omega (arith, all)) (c.loop-value.invariant.cost h counts);
     }
 
 pub returns-in_err-push_rows_within-clause-cost : goal.returns-in_err-push_rows_within-clause-cost
 returns-in_err-push_rows_within-clause-cost g c h counts =
     let z = g.V.CubeView.schema c.args.view.now in
     let costs = g.V.CubeView.costs c.args.view.now in
-    let cost = within_cost costs z h c.args.query.now c.args.second in
+    let cost = within_cost costs z h c.args.query.now c.args.first c.args.second in
     let count = texts_counted c.schema.result.now z c.args.first c.value_texts-value-end.result.now c.schema.ensures c.value_texts-value-end.ensures.texts in
-    paid_in_all cost c.args.first (c.loop-value.value + 1) (number_of_values z c.args.first) c.args.steps.now _ (omega (arith, count, c.loop-value-test.true)) (paid_more cost c.args.first c.loop-value.value c.args.steps.now c.loop-value.steps _ (c.loop-value.invariant.cost h counts) (c.push_rows_within.ensures.cost h counts))
+    paid_in_all cost (c.loop-value.value + 1) (number_of_values z c.args.first) c.args.steps.now _ (omega (arith, count, c.loop-value-test.true)) (paid_more cost c.loop-value.value c.args.steps.now c.loop-value.steps _ (c.loop-value.invariant.cost h counts) (c.push_rows_within.ensures.cost h counts))

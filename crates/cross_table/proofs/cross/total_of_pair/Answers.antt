@@ -19,7 +19,7 @@ returns-then-not-has-clause-total g c h counts =
     let one = c.requires.first.0 in
     let other = c.requires.second.0 in
     let is_out = chosen_at z q c.args.first.category c.args.first.value _ false c.requires.has_box one (sym c.has.ensures ∙ c.if-not-has.true) in
-    pair_not_asked z q h c.args.first c.args.second c.requires.has_box.wide (omega (arith, few, one)) (omega (arith, few, other)) is_out
+    pair_not_asked z q h c.args.first.category c.args.second.category c.args.first.value c.args.second.value c.requires.has_box.wide (omega (arith, few, one)) (omega (arith, few, other)) is_out
 
 pub total_of_value-requires-clause-has_box : goal.total_of_value-requires-clause-has_box
 total_of_value-requires-clause-has_box g c κs within =
@@ -40,7 +40,7 @@ returns-clause-total g c h counts =
     let is_in = chosen_at z q c.args.first.category c.args.first.value _ true c.requires.has_box one (sym c.has.ensures ∙ c.if-not-has.false) in
     c.total_of_value.ensures.total h counts
     ∙ (ap (λ (p : Query). total z (with_value (box p) c.args.second.category c.args.second.value) h) c.with_one_value-alone.ensures
-    ∙ pair_asked z q h c.args.first c.args.second c.requires.has_box.wide (omega (arith, few, one)) (omega (arith, few, other)) (omega (arith, values, small)) is_in)
+    ∙ pair_asked z q h c.args.first.category c.args.second.category c.args.first.value c.args.second.value c.requires.has_box.wide (omega (arith, few, one)) (omega (arith, few, other)) (omega (arith, values, small)) is_in)
 
 pub returns-clause-cost : goal.returns-clause-cost
 returns-clause-cost g c h counts =
