@@ -22,7 +22,7 @@ use Rattle.query_syntax.specs.declared.query.Parsed.{Parsed}
 use Rattle.query_syntax.specs.declared.query.Parsed.TheVariants.{Skip, Ask, Fault}
 use Rattle.query_syntax.specs.declared.query.Query.{Query}
 use Rattle.query_syntax.specs.declared.query.Verb.{Verb}
-use Rattle.query_syntax.specs.declared.query.Verb.TheVariants.{Count, Hist, Map, Series, Stat as StatVerb, Told, Quit}
+use Rattle.query_syntax.specs.declared.query.Verb.TheVariants.{Count, Hist, Map, Series, Window, Cross, Best, Stat as StatVerb, Told, Quit}
 use Rattle.query_syntax.specs.declared.table.Table.{Table}
 use Rattle.reply_json.specs.declared.reply.Reply.{Reply}
 use Rattle.session_core.specs.Asked.{asked, asked_reply, query_reply}
@@ -46,6 +46,9 @@ table_reply stat schema h told q Count has = refl
 table_reply stat schema h told q (Hist k) has = refl
 table_reply stat schema h told q (Map down) has = refl
 table_reply stat schema h told q (Series from wide rows) has = refl
+table_reply stat schema h told q (Window rect) has = refl
+table_reply stat schema h told q (Cross k l) has = refl
+table_reply stat schema h told q (Best down rows) has = refl
 table_reply stat schema h told q StatVerb has = absurd (false≢true has)
 table_reply stat schema h told q Told has = absurd (false≢true has)
 table_reply stat schema h told q Quit has = absurd (false≢true has)

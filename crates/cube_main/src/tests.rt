@@ -186,13 +186,29 @@ fn tells_the_numbers_of_the_cube_as_it_grows(rt: HostRuntime) -> Result<(), Fail
 
 #[test]
 fn maps_tiles_in_the_order_of_their_paths(rt: HostRuntime) -> Result<(), Fail> {
-    let case = Case {
-        feed: "x,y,kind,time\n4,0,a,0\n0,2,b,0\n",
-        script: b"map 2",
-        status: Status::Done,
-        out: b"{\"rows\":[[2,0,1,1],[2,2,0,1]],\"seen\":2}\n",
-    };
-    check(&rt, &case)?;
+    let cases = [
+        Case {
+            feed: "x,y,kind,time\n4,0,a,0\n0,2,b,0\n",
+            script: b"map 2",
+            status: Status::Done,
+            out: b"{\"rows\":[[2,0,1,1],[2,2,0,1]],\"seen\":2}\n",
+        },
+        Case {
+            feed: "x,y,kind,time\n0,0,a,5\n7,7,b,12\n",
+            script: b"best 1 1",
+            status: Status::Done,
+            out: b"{\"rows\":[[1,0,0,1]],\"seen\":2}\n",
+        },
+        Case {
+            feed: "x,y,kind,time\n",
+            script: b"window 0 0 8 8\nbest 1 1\n",
+            status: Status::Done,
+            out: b"{\"rows\":[[0]],\"seen\":0}\n{\"rows\":[],\"seen\":0}\n",
+        },
+    ];
+    for case in &cases {
+        check(&rt, case)?;
+    }
     Ok(())
 }
 
@@ -247,7 +263,7 @@ fn check_lines(
 
 #[test]
 fn answers_the_lines_of_a_script_up_to_quit(rt: HostRuntime) -> Result<(), Fail> {
-    let lines: [(&[u8], &str); 17] = [
+    let lines: [(&[u8], &str); 22] = [
         (b"count in 1/0/0", "{\"rows\":[[2]],\"seen\":3}"),
         (b"count in 3/7/7", "{\"rows\":[[1]],\"seen\":3}"),
         (
@@ -267,6 +283,11 @@ fn answers_the_lines_of_a_script_up_to_quit(rt: HostRuntime) -> Result<(), Fail>
         (b"map 1", "{\"rows\":[[1,0,0,2],[1,1,1,1]],\"seen\":3}"),
         (b"map 2 in 1/1/0", "{\"rows\":[],\"seen\":3}"),
         (b"series 0 1 3", "{\"rows\":[[0,1],[1,2],[2,0]],\"seen\":3}"),
+        (b"window 0 0 4 4", "{\"rows\":[[2]],\"seen\":3}"),
+        (b"window 1 0 8 8", "{\"rows\":[[1]],\"seen\":3}"),
+        (b"window 2 2 2 8", "{\"rows\":[[0]],\"seen\":3}"),
+        (b"best 1 1", "{\"rows\":[[1,0,0,2]],\"seen\":3}"),
+        (b"best 3 5", "{\"rows\":[[3,0,0,2],[3,7,7,1]],\"seen\":3}"),
         (
             b"stat",
             "{\"nodes\":14,\"proper\":17,\"seen\":3,\"shared\":7,\"tables\":4}",
@@ -285,7 +306,7 @@ fn answers_the_lines_of_a_script_up_to_quit(rt: HostRuntime) -> Result<(), Fail>
 #[test]
 fn names_the_fault_of_a_line(rt: HostRuntime) -> Result<(), Fail> {
     let long = vec![in rt.alloc(); b'x'; 4097]?;
-    let lines: [(&[u8], &str); 15] = [
+    let lines: [(&[u8], &str); 22] = [
         (b"\xff", "{\"at\":1,\"fault\":\"NotText\"}"),
         (long.as_slice(), "{\"at\":1,\"fault\":\"LongLine\"}"),
         (b"count with kind=\"a", "{\"at\":3,\"fault\":\"BadQuote\"}"),
@@ -310,6 +331,16 @@ fn names_the_fault_of_a_line(rt: HostRuntime) -> Result<(), Fail> {
             b"series 0 1 3 time 0 1",
             "{\"at\":5,\"fault\":\"TimeInSeries\"}",
         ),
+        (b"window 0 0 9 1", "{\"at\":4,\"fault\":\"OutOfRange\"}"),
+        (b"window 3 0 1 1", "{\"at\":4,\"fault\":\"OutOfRange\"}"),
+        (
+            b"window 0 0 8 8 in 0/0/0",
+            "{\"at\":6,\"fault\":\"InWithWindow\"}",
+        ),
+        (b"cross kind kind", "{\"at\":3,\"fault\":\"SameCategory\"}"),
+        (b"best 4 1", "{\"at\":2,\"fault\":\"TooDeep\"}"),
+        (b"best 1 0", "{\"at\":3,\"fault\":\"OutOfRange\"}"),
+        (b"best 1", "{\"at\":3,\"fault\":\"MissingWord\"}"),
     ];
     check_lines(&rt, &lines)?;
     Ok(())
@@ -429,6 +460,40 @@ fn a_run_is_audited_from_its_files(rt: HostRuntime) -> Result<(), Fail> {
     put(&rt, &mut place, "f.txt.out", changed)?;
     let wrong = "recount: reply 1: Wrong\n";
     expect(&rt, &mut place, &AUDIT, Status::Differs, wrong)?;
+    Ok(())
+}
+
+/// The plan of two categories, one feed and one final.
+const PLAN_OF_TWO: &str =
+    "{\"asks\":[],\"batch\":1,\"categories\":[{\"name\":\"k\",\"values\":[\"a\",\"b\"]},{\"name\":\"m\",\"values\":[\"c\",\"d\"]}],\"depth\":1,\"feeds\":[\"a.csv\"],\"finals\":[\"f.txt\"],\"journal\":\"j.txt\",\"start\":0,\"version\":1,\"width\":1}";
+
+/// What the cross tables of three records are, two of a and c and one of a and d.
+const CROSSED: &str =
+    "{\"rows\":[[\"a\",\"c\",2],[\"a\",\"d\",1],[\"b\",\"c\",0],[\"b\",\"d\",0]],\"seen\":3}\n{\"at\":3,\"fault\":\"SameCategory\"}\n{\"rows\":[[\"a\",\"c\",0],[\"a\",\"d\",1],[\"b\",\"c\",0],[\"b\",\"d\",0]],\"seen\":3}\n";
+
+#[test]
+fn a_run_crosses_two_categories(rt: HostRuntime) -> Result<(), Fail> {
+    let mut place = MemPlace::new(rt.alloc());
+    put(&rt, &mut place, "p.json", PLAN_OF_TWO)?;
+    put(
+        &rt,
+        &mut place,
+        "a.csv",
+        "x,y,time,k,m\n0,0,0,a,c\n0,0,0,a,c\n0,0,0,a,d\n",
+    )?;
+    put(
+        &rt,
+        &mut place,
+        "f.txt",
+        "cross k m\ncross k k\ncross k m with m=d\n",
+    )?;
+    let report =
+        "feed a.csv: 3 accepted, 0 blank, 0 refused\nscript f.txt: 3 replies, seen 3\njournal: 3 entries\n";
+    expect(&rt, &mut place, &["run", "p.json"], Status::Done, report)?;
+    let agree = "recount: 3 replies agree, 0 without memory\n";
+    expect(&rt, &mut place, &AUDIT, Status::Done, agree)?;
+    put(&rt, &mut place, "f.txt.out", CROSSED)?;
+    expect(&rt, &mut place, &AUDIT, Status::Done, agree)?;
     Ok(())
 }
 

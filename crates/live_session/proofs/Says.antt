@@ -31,6 +31,9 @@ module _ (schema : Schema) (is_stat : Stat → Type 0) (h : List Point) (told : 
   verb_asks stat q (verb.Hist k) reply e = refl
   verb_asks stat q (verb.Map down) reply e = refl
   verb_asks stat q (verb.Series from wide rows) reply e = refl
+  verb_asks stat q (verb.Window rect) reply e = refl
+  verb_asks stat q (verb.Cross k l) reply e = refl
+  verb_asks stat q (verb.Best down rows) reply e = refl
   verb_asks stat q verb.Stat reply e = refl
   verb_asks stat q verb.Told reply e = refl
   verb_asks stat q verb.Quit reply e = cc
@@ -49,6 +52,9 @@ module _ (schema : Schema) (is_stat : Stat → Type 0) (h : List Point) (told : 
   verb_seen stat q (verb.Hist k) reply e = ap seen_of (sym (one_reply (Reply.Table (table schema q h)) reply e)) ∙ table_seen q
   verb_seen stat q (verb.Map down) reply e = ap seen_of (sym (one_reply (Reply.Table (table schema q h)) reply e)) ∙ table_seen q
   verb_seen stat q (verb.Series from wide rows) reply e = ap seen_of (sym (one_reply (Reply.Table (table schema q h)) reply e)) ∙ table_seen q
+  verb_seen stat q (verb.Window rect) reply e = ap seen_of (sym (one_reply (Reply.Table (table schema q h)) reply e)) ∙ table_seen q
+  verb_seen stat q (verb.Cross k l) reply e = ap seen_of (sym (one_reply (Reply.Table (table schema q h)) reply e)) ∙ table_seen q
+  verb_seen stat q (verb.Best down rows) reply e = ap seen_of (sym (one_reply (Reply.Table (table schema q h)) reply e)) ∙ table_seen q
   verb_seen stat q verb.Stat reply e = ap seen_of (sym (one_reply (Reply.Stat stat (length h)) reply e))
   verb_seen stat q verb.Told reply e = ap seen_of (sym (one_reply (Reply.Told told) reply e))
   verb_seen stat q verb.Quit reply e = cc
@@ -70,6 +76,9 @@ module _ (schema : Schema) (is_stat : Stat → Type 0) (h : List Point) (told : 
   unseen_verb stat q (verb.Hist k) reply blind e = absurd (false≢true (sym blind))
   unseen_verb stat q (verb.Map down) reply blind e = absurd (false≢true (sym blind))
   unseen_verb stat q (verb.Series from wide rows) reply blind e = absurd (false≢true (sym blind))
+  unseen_verb stat q (verb.Window rect) reply blind e = absurd (false≢true (sym blind))
+  unseen_verb stat q (verb.Cross k l) reply blind e = absurd (false≢true (sym blind))
+  unseen_verb stat q (verb.Best down rows) reply blind e = absurd (false≢true (sym blind))
   unseen_verb stat q verb.Stat reply blind e = absurd (false≢true (sym blind))
   unseen_verb stat q verb.Told reply blind e = (sym (one_reply (Reply.Told told) reply e), refl)
   unseen_verb stat q verb.Quit reply blind e = cc

@@ -12,7 +12,14 @@ pub(crate) fn asks_look(parsed: &Parsed) -> bool
     match parsed {
         Parsed::Skip | Parsed::Fault(..) => false,
         Parsed::Ask(query) => match query.verb {
-            Verb::Count | Verb::Hist(_) | Verb::Map(_) | Verb::Series { .. } | Verb::Stat => true,
+            Verb::Count
+            | Verb::Hist(_)
+            | Verb::Map(_)
+            | Verb::Series { .. }
+            | Verb::Window(_)
+            | Verb::Cross(_, _)
+            | Verb::Best { .. }
+            | Verb::Stat => true,
             Verb::Told | Verb::Quit => false,
         },
     }
@@ -29,6 +36,9 @@ pub(crate) fn asks_news(parsed: &Parsed) -> bool
             | Verb::Hist(_)
             | Verb::Map(_)
             | Verb::Series { .. }
+            | Verb::Window(_)
+            | Verb::Cross(_, _)
+            | Verb::Best { .. }
             | Verb::Stat
             | Verb::Told => true,
             Verb::Quit => false,

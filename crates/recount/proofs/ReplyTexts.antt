@@ -76,6 +76,9 @@ module _ (schema : Schema) (stat : Stat) (h : List Point) (told : ℕ) where
   verb_valid q (verb.Hist k) reply is e = subst (λ (r : Reply). IsTrue (is_valid_reply r)) (one_reply _ reply e) (is_valid_reply-table schema q h (ap has_table is))
   verb_valid q (verb.Map down) reply is e = subst (λ (r : Reply). IsTrue (is_valid_reply r)) (one_reply _ reply e) (is_valid_reply-table schema q h (ap has_table is))
   verb_valid q (verb.Series from wide rows) reply is e = subst (λ (r : Reply). IsTrue (is_valid_reply r)) (one_reply _ reply e) (is_valid_reply-table schema q h (ap has_table is))
+  verb_valid q (verb.Window rect) reply is e = subst (λ (r : Reply). IsTrue (is_valid_reply r)) (one_reply _ reply e) (is_valid_reply-table schema q h (ap has_table is))
+  verb_valid q (verb.Cross k l) reply is e = subst (λ (r : Reply). IsTrue (is_valid_reply r)) (one_reply _ reply e) (is_valid_reply-table schema q h (ap has_table is))
+  verb_valid q (verb.Best down rows) reply is e = subst (λ (r : Reply). IsTrue (is_valid_reply r)) (one_reply _ reply e) (is_valid_reply-table schema q h (ap has_table is))
   verb_valid q verb.Stat reply is e = subst (λ (r : Reply). IsTrue (is_valid_reply r)) (one_reply _ reply e) (stat_valid stat (length h))
   verb_valid q verb.Told reply is e = subst (λ (r : Reply). IsTrue (is_valid_reply r)) (one_reply _ reply e) (told_valid told)
   verb_valid q verb.Quit reply is e = cc

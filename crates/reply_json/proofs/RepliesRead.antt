@@ -13,7 +13,7 @@ use Rattle.serde_json.specs.View.{items_of}
 use Rattle.serde_json.specs.Written.{outline, items_outline}
 use Rattle.serde_json.proofs.Numbers.{number_of-decimal}
 use Rattle.query_syntax.specs.declared.fault.QueryFault.{QueryFault}
-use Rattle.query_syntax.specs.declared.fault.QueryFault.TheVariants.{NotText, LongLine, BadQuote, UnknownVerb, MissingWord, BadNumber, OutOfRange, BadTile, TooDeep, UnknownCategory, UnknownValue, RepeatedFilter, UnknownFilter, TimeInSeries}
+use Rattle.query_syntax.specs.declared.fault.QueryFault.TheVariants.{NotText, LongLine, BadQuote, UnknownVerb, MissingWord, BadNumber, OutOfRange, BadTile, TooDeep, UnknownCategory, UnknownValue, RepeatedFilter, UnknownFilter, TimeInSeries, InWithWindow, SameCategory}
 use Rattle.query_syntax.specs.declared.table.RowOut.{RowOut}
 use Rattle.reply_json.specs.declared.reply.Reply.{Reply}
 use Rattle.reply_json.specs.Printed.{fault_name, row_value, reply_value, reply_text}
@@ -36,6 +36,7 @@ row_plain (RowOut.One total) h = (h, tt)
 row_plain (RowOut.Value text total) h = (h.0, (h.1, tt))
 row_plain (RowOut.Area tile total) h = (omega (arith, h.0), (omega (arith, h.1), (omega (arith, h.2), (h.3, tt))))
 row_plain (RowOut.Bin start total) h = (h.0, (h.1, tt))
+row_plain (RowOut.Pair first second total) h = (h.0, (h.1, (h.2, tt)))
 
 rows_plain : (rows : List RowOut) → All RowFits rows → ArePlain (items_of (map row_value rows))
 rows_plain [] all = tt
@@ -56,6 +57,8 @@ name_utf8 UnknownValue = IsUtf8-are_ascii (codes "UnknownValue") refl
 name_utf8 RepeatedFilter = IsUtf8-are_ascii (codes "RepeatedFilter") refl
 name_utf8 UnknownFilter = IsUtf8-are_ascii (codes "UnknownFilter") refl
 name_utf8 TimeInSeries = IsUtf8-are_ascii (codes "TimeInSeries") refl
+name_utf8 InWithWindow = IsUtf8-are_ascii (codes "InWithWindow") refl
+name_utf8 SameCategory = IsUtf8-are_ascii (codes "SameCategory") refl
 
 pub reply_plain : (reply : Reply) → ReplyFits reply → IsPlain (reply_value reply)
 unfolding ReplyFits reply_value
@@ -85,6 +88,7 @@ row_json (RowOut.Value text total) h = rw (number_of-decimal total h.1) refl
 row_json (RowOut.Area tile total) h =
     rw (number_of-decimal tile.z (omega (arith, h.0)), number_of-decimal tile.x (omega (arith, h.1)), number_of-decimal tile.y (omega (arith, h.2)), number_of-decimal total h.3) refl
 row_json (RowOut.Bin start total) h = rw (number_of-decimal start h.0, number_of-decimal total h.1) refl
+row_json (RowOut.Pair first second total) h = rw (number_of-decimal total h.2) refl
 
 rows_json : (rows : List RowOut) → All RowFits rows → of_items (items_outline (items_of (map row_value rows))) ≡ Some (items_of (map row_value rows))
 rows_json [] all = refl
@@ -106,6 +110,7 @@ row_flat (RowOut.One total) = omega arith
 row_flat (RowOut.Value text total) = omega arith
 row_flat (RowOut.Area tile total) = omega arith
 row_flat (RowOut.Bin start total) = omega arith
+row_flat (RowOut.Pair first second total) = omega arith
 
 rows_flat : (rows : List RowOut) → tree.items_depth (items_outline (items_of (map row_value rows))) ≤ 1
 rows_flat [] = omega arith
@@ -126,6 +131,7 @@ row_back (RowOut.One total) h = refl
 row_back (RowOut.Value text total) h = refl
 row_back (RowOut.Area tile total) h = rw (lt-ltb _ _ h.0, lt-ltb _ _ h.1, lt-ltb _ _ h.2) refl
 row_back (RowOut.Bin start total) h = refl
+row_back (RowOut.Pair first second total) h = refl
 
 rows_back : (rows : List RowOut) → All RowFits rows → rows_in (items_of (map row_value rows)) ≡ Some rows
 rows_back [] all = refl
@@ -146,6 +152,8 @@ name_back UnknownValue = refl
 name_back RepeatedFilter = refl
 name_back UnknownFilter = refl
 name_back TimeInSeries = refl
+name_back InWithWindow = refl
+name_back SameCategory = refl
 
 reply_back : (reply : Reply) → ReplyFits reply → reply_of (reply_value reply) ≡ Some reply
 unfolding ReplyFits reply_value reply_of

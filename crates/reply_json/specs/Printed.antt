@@ -4,7 +4,7 @@ use Rattle.serde_json.specs.Data.{Data, number, unsigned, string, array, object,
 use Rattle.serde_json.specs.View.{items_of}
 use Rattle.serde_json.specs.Written.{compact_text}
 use Rattle.query_syntax.specs.declared.fault.QueryFault.{QueryFault}
-use Rattle.query_syntax.specs.declared.fault.QueryFault.TheVariants.{NotText, LongLine, BadQuote, UnknownVerb, MissingWord, BadNumber, OutOfRange, BadTile, TooDeep, UnknownCategory, UnknownValue, RepeatedFilter, UnknownFilter, TimeInSeries}
+use Rattle.query_syntax.specs.declared.fault.QueryFault.TheVariants.{NotText, LongLine, BadQuote, UnknownVerb, MissingWord, BadNumber, OutOfRange, BadTile, TooDeep, UnknownCategory, UnknownValue, RepeatedFilter, UnknownFilter, TimeInSeries, InWithWindow, SameCategory}
 use Rattle.query_syntax.specs.declared.table.RowOut.{RowOut}
 use Rattle.reply_json.specs.declared.reply.Reply.{Reply}
 
@@ -28,13 +28,16 @@ fault_name UnknownValue = codes "UnknownValue"
 fault_name RepeatedFilter = codes "RepeatedFilter"
 fault_name UnknownFilter = codes "UnknownFilter"
 fault_name TimeInSeries = codes "TimeInSeries"
+fault_name InWithWindow = codes "InWithWindow"
+fault_name SameCategory = codes "SameCategory"
 
--- a row: its total alone, or after the value, after z, x and y of the tile, or after the first bin
+-- a row: its total alone, or after the value, after z, x and y of the tile, after the first bin, or after two values
 abbrev pub row_items : RowOut → List Data
 row_items (RowOut.One total) = count_value total ∷ []
 row_items (RowOut.Value text total) = string text ∷ count_value total ∷ []
 row_items (RowOut.Area tile total) = count_value tile.z ∷ count_value tile.x ∷ count_value tile.y ∷ count_value total ∷ []
 row_items (RowOut.Bin start total) = count_value start ∷ count_value total ∷ []
+row_items (RowOut.Pair first second total) = string first ∷ string second ∷ count_value total ∷ []
 
 -- a row as an array
 abbrev pub row_value : RowOut → Data

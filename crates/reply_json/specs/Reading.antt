@@ -7,7 +7,7 @@ use Rattle.serde_json.specs.Data.{Data, Items, no_items, item}
 use Rattle.serde_json.specs.Find.{get, at, as_number, as_str, as_array, as_u64}
 use Rattle.serde_json.specs.Read.{read}
 use Rattle.query_syntax.specs.declared.fault.QueryFault.{QueryFault}
-use Rattle.query_syntax.specs.declared.fault.QueryFault.TheVariants.{NotText, LongLine, BadQuote, UnknownVerb, MissingWord, BadNumber, OutOfRange, BadTile, TooDeep, UnknownCategory, UnknownValue, RepeatedFilter, UnknownFilter, TimeInSeries}
+use Rattle.query_syntax.specs.declared.fault.QueryFault.TheVariants.{NotText, LongLine, BadQuote, UnknownVerb, MissingWord, BadNumber, OutOfRange, BadTile, TooDeep, UnknownCategory, UnknownValue, RepeatedFilter, UnknownFilter, TimeInSeries, InWithWindow, SameCategory}
 use Rattle.query_syntax.specs.declared.table.RowOut.{RowOut}
 use Rattle.reply_json.specs.declared.reply.Reply.{Reply}
 use Rattle.reply_json.specs.Printed.{fault_name}
@@ -41,13 +41,27 @@ area_of d total = do
   y ← number_in d 2 >>= number_under (2 ^ 32)
   Some (RowOut.Area (record { z = z; x = x; y = y }) total)
 
--- the row of a value or of bins, from an array of two
+-- the text at a place of an array
+abbrev pub text_in : Data → ℕ → Option (List ℕ)
+text_in d place = option_and_then as_str (at place d)
+
+-- the row of two values, from an array of two texts and the total
 abbrev pub pair_of : Data → ℕ → Option RowOut
-pair_of d total = option_map_or (λ text. Some (RowOut.Value text total)) (option_and_then as_str (at 0 d)) (option_map (λ start. RowOut.Bin start total) (number_in d 0))
+pair_of d total = do
+  first ← text_in d 0
+  second ← text_in d 1
+  Some (RowOut.Pair first second total)
+
+-- the row of a value or of bins, from an array of two
+abbrev pub value_or_bin : Data → ℕ → Option RowOut
+value_or_bin d total = option_map_or (λ text. Some (RowOut.Value text total)) (text_in d 0) (option_map (λ start. RowOut.Bin start total) (number_in d 0))
 
 -- the row of an array, by how many items it has
 abbrev pub row_in : Data → Option RowOut
-row_in d = option_map_or (area_of d) (number_in d 3) (option_map_or (pair_of d) (number_in d 1) (option_map RowOut.One (number_in d 0)))
+row_in d =
+    option_map_or (area_of d) (number_in d 3)
+    (option_map_or (pair_of d) (number_in d 2)
+    (option_map_or (value_or_bin d) (number_in d 1) (option_map RowOut.One (number_in d 0))))
 
 -- the rows of the items; none where one of them is no row
 abbrev pub rows_in : Items → Option (List RowOut)
@@ -74,7 +88,7 @@ stat_reply d nodes = do
 abbrev pub faults : List QueryFault
 faults =
     NotText ∷ LongLine ∷ BadQuote ∷ UnknownVerb ∷ MissingWord ∷ BadNumber ∷ OutOfRange ∷ BadTile ∷ TooDeep
-    ∷ UnknownCategory ∷ UnknownValue ∷ RepeatedFilter ∷ UnknownFilter ∷ TimeInSeries ∷ []
+    ∷ UnknownCategory ∷ UnknownValue ∷ RepeatedFilter ∷ UnknownFilter ∷ TimeInSeries ∷ InWithWindow ∷ SameCategory ∷ []
 
 -- the fault of that name
 abbrev pub fault_named : List ℕ → Option QueryFault

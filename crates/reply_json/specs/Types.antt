@@ -15,6 +15,7 @@ RowFits (RowOut.One total) = IsCount total
 RowFits (RowOut.Value text total) = IsUtf8 text × IsCount total
 RowFits (RowOut.Area tile total) = (tile.z < 2 ^ 8) × (tile.x < 2 ^ 32) × (tile.y < 2 ^ 32) × IsCount total
 RowFits (RowOut.Bin start total) = IsCount start × IsCount total
+RowFits (RowOut.Pair first second total) = IsUtf8 first × IsUtf8 second × IsCount total
 
 -- a reply of such numbers and texts
 unfoldable pub ReplyFits : Reply → Type 0

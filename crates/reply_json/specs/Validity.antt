@@ -16,6 +16,7 @@ is_value_row (RowOut.One total) = false
 is_value_row (RowOut.Value text total) = true
 is_value_row (RowOut.Area tile total) = false
 is_value_row (RowOut.Bin start total) = false
+is_value_row (RowOut.Pair first second total) = false
 
 -- the row is the total of a tile
 abbrev pub is_area_row : RowOut → Bool
@@ -23,6 +24,7 @@ is_area_row (RowOut.One total) = false
 is_area_row (RowOut.Value text total) = false
 is_area_row (RowOut.Area tile total) = true
 is_area_row (RowOut.Bin start total) = false
+is_area_row (RowOut.Pair first second total) = false
 
 -- the row is the total of some bins
 abbrev pub is_bin_row : RowOut → Bool
@@ -30,10 +32,19 @@ is_bin_row (RowOut.One total) = false
 is_bin_row (RowOut.Value text total) = false
 is_bin_row (RowOut.Area tile total) = false
 is_bin_row (RowOut.Bin start total) = true
+is_bin_row (RowOut.Pair first second total) = false
+
+-- the row is the total of two values of two categories
+abbrev pub is_pair_row : RowOut → Bool
+is_pair_row (RowOut.One total) = false
+is_pair_row (RowOut.Value text total) = false
+is_pair_row (RowOut.Area tile total) = false
+is_pair_row (RowOut.Bin start total) = false
+is_pair_row (RowOut.Pair first second total) = true
 
 -- the rows are one total alone, or all of another kind
 abbrev pub are_valid_rows : List RowOut → Bool
-are_valid_rows rows = is_one_total rows || list_all is_value_row rows || list_all is_area_row rows || list_all is_bin_row rows
+are_valid_rows rows = is_one_total rows || list_all is_value_row rows || list_all is_area_row rows || list_all is_bin_row rows || list_all is_pair_row rows
 
 -- the reply can be printed
 unfoldable pub is_valid_reply : Reply → Bool

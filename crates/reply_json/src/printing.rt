@@ -44,6 +44,8 @@ pub(crate) fn fault_name(fault: QueryFault) -> &'static str
         QueryFault::RepeatedFilter => "RepeatedFilter",
         QueryFault::UnknownFilter => "UnknownFilter",
         QueryFault::TimeInSeries => "TimeInSeries",
+        QueryFault::InWithWindow => "InWithWindow",
+        QueryFault::SameCategory => "SameCategory",
     }
 }
 
@@ -56,6 +58,9 @@ fn row_value(alloc: Global, row: &RowOut) -> Result<Value, AllocError>
         RowOut::Value(text, total) => json!(in alloc; [text.as_str(), *total]),
         RowOut::Area(tile, total) => json!(in alloc; [tile.z, tile.x, tile.y, *total]),
         RowOut::Bin(start, total) => json!(in alloc; [*start, *total]),
+        RowOut::Pair(first, second, total) => {
+            json!(in alloc; [first.as_str(), second.as_str(), *total])
+        }
     }
 }
 

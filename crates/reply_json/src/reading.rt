@@ -19,7 +19,7 @@ use query_syntax::{QueryFault, Table};
 use serde_json::Value;
 use std::alloc::Global;
 
-const FAULTS: [QueryFault; 14] = [
+const FAULTS: [QueryFault; 16] = [
     QueryFault::NotText,
     QueryFault::LongLine,
     QueryFault::BadQuote,
@@ -34,6 +34,8 @@ const FAULTS: [QueryFault; 14] = [
     QueryFault::RepeatedFilter,
     QueryFault::UnknownFilter,
     QueryFault::TimeInSeries,
+    QueryFault::InWithWindow,
+    QueryFault::SameCategory,
 ];
 
 fn member_number(value: &Value, name: &str) -> Option<u64>

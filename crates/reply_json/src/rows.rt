@@ -2,7 +2,7 @@
 ghost use Rattle.std.specs.Prelude.{◌≡◌, ◌^◌, IfOk, option_and_then};
 ghost use Rattle.serde_json.specs.Find.{as_array};
 ghost use Rattle.serde_json.specs.View.{view, items_view};
-ghost use Rattle.reply_json.specs.Reading.{number_in, number_under, area_of, pair_of, row_in, rows_in};
+ghost use Rattle.reply_json.specs.Reading.{number_in, number_under, area_of, pair_of, value_or_bin, row_in, rows_in};
 
 use cube_view::Tile;
 use outer_io::{List, NoMemory, Text};
@@ -51,6 +51,20 @@ fn area_of(value: &Value, total: u64) -> Option<RowOut>
 fn pair_of(alloc: Global, value: &Value, total: u64) -> Result<Option<RowOut>, NoMemory>
     ensures { IfOk result (λ found. found ≡ pair_of (view value.now) total) }
 {
+    let Some(first) = value.get(0usize).and_then(Value::as_str) else {
+        return Ok(None);
+    };
+    let Some(second) = value.get(1usize).and_then(Value::as_str) else {
+        return Ok(None);
+    };
+    let first = Text::copy_of(alloc, first)?;
+    let second = Text::copy_of(alloc, second)?;
+    Ok(Some(RowOut::Pair(first, second, total)))
+}
+
+fn value_or_bin(alloc: Global, value: &Value, total: u64) -> Result<Option<RowOut>, NoMemory>
+    ensures { IfOk result (λ found. found ≡ value_or_bin (view value.now) total) }
+{
     if let Some(text) = value.get(0usize).and_then(Value::as_str) {
         return Ok(Some(RowOut::Value(Text::copy_of(alloc, text)?, total)));
     }
@@ -66,8 +80,11 @@ fn row_in(alloc: Global, value: &Value) -> Result<Option<RowOut>, NoMemory>
     if let Some(total) = number_in(value, 3) {
         return Ok(area_of(value, total));
     }
-    if let Some(total) = number_in(value, 1) {
+    if let Some(total) = number_in(value, 2) {
         return pair_of(alloc, value, total);
+    }
+    if let Some(total) = number_in(value, 1) {
+        return value_or_bin(alloc, value, total);
     }
     match number_in(value, 0) {
         Some(total) => Ok(Some(RowOut::One(total))),

@@ -14,6 +14,7 @@ enum Row<'a> {
     Value(&'a str, u64),
     Area(u8, u32, u32, u64),
     Bin(u64, u64),
+    Pair(&'a str, &'a str, u64),
 }
 
 fn row_out(alloc: Global, row: Row) -> Result<RowOut, NoMemory> {
@@ -22,6 +23,10 @@ fn row_out(alloc: Global, row: Row) -> Result<RowOut, NoMemory> {
         Row::Value(text, total) => Ok(RowOut::Value(Text::copy_of(alloc, text)?, total)),
         Row::Area(z, x, y, total) => Ok(RowOut::Area(Tile { z, x, y }, total)),
         Row::Bin(start, total) => Ok(RowOut::Bin(start, total)),
+        Row::Pair(first, second, total) => {
+            let first = Text::copy_of(alloc, first)?;
+            Ok(RowOut::Pair(first, Text::copy_of(alloc, second)?, total))
+        }
     }
 }
 
@@ -54,7 +59,7 @@ fn check(rt: &impl Abort, alloc: Global, reply: &Reply, text: &str) -> Result<()
 
 #[test]
 fn prints_tables_and_reads_them_back(rt: HostRuntime) -> Result<(), Fail> {
-    let cases: [(&[Row], u64, &str); 6] = [
+    let cases: [(&[Row], u64, &str); 8] = [
         (&[Row::One(3)], 3, r#"{"rows":[[3]],"seen":3}"#),
         (
             &[Row::Value("a", 0), Row::Value("b", 0)],
@@ -76,6 +81,16 @@ fn prints_tables_and_reads_them_back(rt: HostRuntime) -> Result<(), Fail> {
             &[Row::Value("a\\b\tcé", 1)],
             1,
             r#"{"rows":[["a\\b\tcé",1]],"seen":1}"#,
+        ),
+        (
+            &[Row::Pair("a", "c", 2), Row::Pair("a", "d", 0)],
+            2,
+            r#"{"rows":[["a","c",2],["a","d",0]],"seen":2}"#,
+        ),
+        (
+            &[Row::Area(1, 1, 1, 3), Row::Area(1, 0, 0, 1)],
+            4,
+            r#"{"rows":[[1,1,1,3],[1,0,0,1]],"seen":4}"#,
         ),
     ];
     for (rows, seen, text) in cases {
@@ -102,6 +117,14 @@ fn prints_replies_that_are_no_table_and_reads_them_back(rt: HostRuntime) -> Resu
             Reply::Fault(QueryFault::BadTile, 3),
             r#"{"at":3,"fault":"BadTile"}"#,
         ),
+        (
+            Reply::Fault(QueryFault::InWithWindow, 6),
+            r#"{"at":6,"fault":"InWithWindow"}"#,
+        ),
+        (
+            Reply::Fault(QueryFault::SameCategory, 3),
+            r#"{"at":3,"fault":"SameCategory"}"#,
+        ),
         (Reply::NoMemory, r#"{"fault":"NoMemory"}"#),
     ];
     for (reply, text) in &cases {
@@ -113,8 +136,9 @@ fn prints_replies_that_are_no_table_and_reads_them_back(rt: HostRuntime) -> Resu
 
 #[test]
 fn rows_of_two_kinds_or_two_totals_are_not_valid(rt: HostRuntime) -> Result<(), Fail> {
-    let cases: [&[Row]; 2] = [
+    let cases: [&[Row]; 3] = [
         &[Row::Bin(0, 1), Row::Area(0, 0, 0, 1)],
+        &[Row::Value("a", 1), Row::Pair("a", "c", 1)],
         &[Row::One(1), Row::One(1)],
     ];
     for rows in cases {
@@ -147,7 +171,7 @@ fn reads_a_total_alone_as_the_table_of_one_row(rt: HostRuntime) -> Result<(), Fa
 
 #[test]
 fn refuses_every_other_spelling(rt: HostRuntime) -> Result<(), Fail> {
-    let texts: [&[u8]; 18] = [
+    let texts: [&[u8]; 22] = [
         b"",
         b"3",
         b"{}",
@@ -163,6 +187,10 @@ fn refuses_every_other_spelling(rt: HostRuntime) -> Result<(), Fail> {
         br#"{"rows":[[3],[3]],"seen":3}"#,
         br#"{"rows":[["a",0],[0,1]],"seen":3}"#,
         br#"{"rows":[[256,0,0,1]],"seen":3}"#,
+        br#"{"rows":[["a",2,1]],"seen":3}"#,
+        br#"{"rows":[["a","c"]],"seen":3}"#,
+        br#"{"rows":[["a","c",1],["a",1]],"seen":3}"#,
+        br#"{"rows":[["a","c","e",1]],"seen":3}"#,
         br#"{"rows":[[18446744073709551616]],"seen":3}"#,
         br#"{"at":4294967296,"fault":"BadTile"}"#,
         br#"{"at":3,"fault":"NoMemory"}"#,

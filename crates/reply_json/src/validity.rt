@@ -1,7 +1,7 @@
 //! Which replies are valid.
 ghost use Rattle.std.specs.Prelude.{◌≡◌};
 ghost use Rattle.std.specs.List.{list_all};
-ghost use Rattle.reply_json.specs.Validity.{is_one_total, is_value_row, is_area_row, is_bin_row, are_valid_rows, is_valid_reply};
+ghost use Rattle.reply_json.specs.Validity.{is_one_total, is_value_row, is_area_row, is_bin_row, is_pair_row, are_valid_rows, is_valid_reply};
 
 use crate::Reply;
 use query_syntax::RowOut;
@@ -24,6 +24,12 @@ fn all_bins(rows: &[RowOut]) -> bool
     rows.iter().all(|row| matches!(row, RowOut::Bin(_, _)))
 }
 
+fn all_pairs(rows: &[RowOut]) -> bool
+    ensures { result ≡ list_all is_pair_row rows.now }
+{
+    rows.iter().all(|row| matches!(row, RowOut::Pair(_, _, _)))
+}
+
 fn is_one_total(rows: &[RowOut]) -> bool
     ensures { result ≡ is_one_total rows.now }
 {
@@ -39,7 +45,11 @@ pub fn is_valid_reply(reply: &Reply) -> bool
     match reply {
         Reply::Table(table) => {
             let rows = table.rows.as_slice();
-            is_one_total(rows) || all_values(rows) || all_areas(rows) || all_bins(rows)
+            is_one_total(rows)
+                || all_values(rows)
+                || all_areas(rows)
+                || all_bins(rows)
+                || all_pairs(rows)
         }
         _ => true,
     }

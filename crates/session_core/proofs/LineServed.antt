@@ -22,6 +22,9 @@ module _ (stat : Stat) (schema : Schema) (h : List Point) (told : ℕ) where
   table_of_verb q (verb.Hist k) e = refl
   table_of_verb q (verb.Map down) e = refl
   table_of_verb q (verb.Series from wide rows) e = refl
+  table_of_verb q (verb.Window rect) e = refl
+  table_of_verb q (verb.Cross k l) e = refl
+  table_of_verb q (verb.Best down rows) e = refl
   table_of_verb q verb.Stat e = absurd (false≢true e)
   table_of_verb q verb.Told e = absurd (false≢true e)
   table_of_verb q verb.Quit e = absurd (false≢true e)

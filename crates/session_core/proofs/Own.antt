@@ -35,6 +35,9 @@ module _ (schema : Schema) (is_stat : Stat → Type 0) (h : List Point) (told : 
   verb_own stat q (verb.Hist k) reply met e = subst (IsOwn q (verb.Hist k)) (one_reply (Reply.Table (table schema q h)) reply e) (whole_table q)
   verb_own stat q (verb.Map down) reply met e = subst (IsOwn q (verb.Map down)) (one_reply (Reply.Table (table schema q h)) reply e) (whole_table q)
   verb_own stat q (verb.Series from wide rows) reply met e = subst (IsOwn q (verb.Series from wide rows)) (one_reply (Reply.Table (table schema q h)) reply e) (whole_table q)
+  verb_own stat q (verb.Window rect) reply met e = subst (IsOwn q (verb.Window rect)) (one_reply (Reply.Table (table schema q h)) reply e) (whole_table q)
+  verb_own stat q (verb.Cross k l) reply met e = subst (IsOwn q (verb.Cross k l)) (one_reply (Reply.Table (table schema q h)) reply e) (whole_table q)
+  verb_own stat q (verb.Best down rows) reply met e = subst (IsOwn q (verb.Best down rows)) (one_reply (Reply.Table (table schema q h)) reply e) (whole_table q)
   verb_own stat q verb.Stat reply met e =
       subst (IsOwn q verb.Stat) (one_reply (Reply.Stat stat (length h)) reply e)
       (ap (λ (ps : List Point). some_reply (Reply.Stat stat (length ps))) (take_all (length h) h (omega arith)), (refl, met))

@@ -49,6 +49,9 @@ module _ (schema : Schema) (stat : Stat) (h : List Point) (told : ℕ) where
   verb_goes_on q (verb.Hist k) reply e = refl
   verb_goes_on q (verb.Map down) reply e = refl
   verb_goes_on q (verb.Series from wide rows) reply e = refl
+  verb_goes_on q (verb.Window rect) reply e = refl
+  verb_goes_on q (verb.Cross k l) reply e = refl
+  verb_goes_on q (verb.Best down rows) reply e = refl
   verb_goes_on q verb.Stat reply e = refl
   verb_goes_on q verb.Told reply e = refl
   verb_goes_on q verb.Quit reply e = cc

@@ -6,20 +6,22 @@ ghost use Rattle.cube_view.specs.declared.stat.Stat.{Stat};
 ghost use Rattle.cube_view.specs.Bag.{EachCounted};
 ghost use Rattle.query_syntax.specs.Meaning.{asks_valid};
 ghost use Rattle.query_syntax.specs.Queries.{is_valid_query};
-ghost use Rattle.query_syntax.specs.Tables.{has_table};
+ghost use Rattle.query_syntax.specs.Tables.{has_table, table};
 ghost use Rattle.reply_json.specs.Types.{ReplyFits};
 ghost use Rattle.reply_json.specs.Validity.{is_valid_reply};
 ghost use Rattle.session_core.specs.Asked.{asks_look, asks_reply, reply_line};
-ghost use Rattle.session_core.specs.Serving.{Serves, answer_cost};
+ghost use Rattle.session_core.specs.Serving.{Serves, answer_cost, query_cost};
 
+use cross_table::{best_answer, cross_answer};
 use cube_view::CubeView;
 use outer_io::{List, NoMemory};
 use probe_core::Steps;
-use query_syntax::{Parsed, Query, Verb};
+use query_syntax::{Parsed, Query, Table, Verb};
 use reply_json::{Reply, print_reply};
 use std::alloc::Global;
 use std::sync::ledger::Ledger;
 use tile_drill::answer;
+use window_cover::window_answer;
 
 /// What is answered to a line: nothing, the reply with its line feed, or the end of the session.
 #[derive(Drop)]
@@ -41,6 +43,29 @@ fn line_of(alloc: Global, reply: &Reply) -> Result<Served, NoMemory>
     Ok(Served::Reply(line))
 }
 
+// The table that a query asks for.
+fn table_in<V: CubeView, L: Ledger>(
+    alloc: Global,
+    view: &V,
+    query: &Query,
+    steps: &mut Steps<L>,
+) -> Result<Table, NoMemory>
+    requires valid { IsTrue (is_valid_query (V.schema view.now) query.now) }
+    requires verb { IsTrue (has_table query.now.verb) }
+    ensures table { EachCounted (V.weight_at view.now) (V.seen view.now) (λ h. IfOk result (λ t. t ≡ table (V.schema view.now) query.now h)) }
+    ensures cost { EachCounted (V.weight_at view.now) (V.seen view.now) (λ h. steps.new ≤ steps.old + query_cost (V.costs view.now) (V.schema view.now) h query.now query.now.verb) }
+{
+    match query.verb {
+        Verb::Count | Verb::Hist(_) | Verb::Map(_) | Verb::Series { .. } => {
+            answer(alloc, view, query, steps)
+        }
+        Verb::Window(_) => window_answer(alloc, view, query, steps),
+        Verb::Cross(_, _) => cross_answer(alloc, view, query, steps),
+        Verb::Best { .. } => best_answer(alloc, view, query, steps),
+        Verb::Stat | Verb::Told | Verb::Quit => unreachable!(),
+    }
+}
+
 // The line of a query's table.
 fn serve_table<V: CubeView, L: Ledger>(
     alloc: Global,
@@ -54,7 +79,7 @@ fn serve_table<V: CubeView, L: Ledger>(
     ensures served { EachCounted (V.weight_at view.now) (V.seen view.now) (λ h. IfOk result (Serves (V.numbers view.now) (V.schema view.now) h told (Parsed.Ask query.now))) }
     ensures cost { EachCounted (V.weight_at view.now) (V.seen view.now) (λ h. steps.new ≤ steps.old + answer_cost (V.costs view.now) (V.schema view.now) (Parsed.Ask query.now) h) }
 {
-    let table = answer(alloc, view, query, steps)?;
+    let table = table_in(alloc, view, query, steps)?;
     line_of(alloc, &Reply::Table(table))
 }
 
@@ -80,9 +105,14 @@ pub fn serve_unseen(alloc: Global, told: u64, parsed: &Parsed) -> Result<Served,
         Parsed::Ask(query) => match query.verb {
             Verb::Told => line_of(alloc, &Reply::Told(told)),
             Verb::Quit => Ok(Served::Quit),
-            Verb::Count | Verb::Hist(_) | Verb::Map(_) | Verb::Series { .. } | Verb::Stat => {
-                unreachable!()
-            }
+            Verb::Count
+            | Verb::Hist(_)
+            | Verb::Map(_)
+            | Verb::Series { .. }
+            | Verb::Window(_)
+            | Verb::Cross(_, _)
+            | Verb::Best { .. }
+            | Verb::Stat => unreachable!(),
         },
         Parsed::Fault(fault, word) => line_of(alloc, &Reply::Fault(*fault, *word)),
     }
@@ -103,9 +133,13 @@ fn serve_query<V: CubeView, L: Ledger>(
     ensures no_memory { OnErr result (asks_reply (Parsed.Ask query.now) ≡ true) }
 {
     match query.verb {
-        Verb::Count | Verb::Hist(_) | Verb::Map(_) | Verb::Series { .. } => {
-            serve_table(alloc, view, told, query, steps)
-        }
+        Verb::Count
+        | Verb::Hist(_)
+        | Verb::Map(_)
+        | Verb::Series { .. }
+        | Verb::Window(_)
+        | Verb::Cross(_, _)
+        | Verb::Best { .. } => serve_table(alloc, view, told, query, steps),
         Verb::Stat => serve_stat(alloc, view),
         Verb::Told | Verb::Quit => serve_unseen(alloc, told, &Parsed::Ask(*query)),
     }

@@ -3,8 +3,8 @@ ghost use Rattle.std.specs.Prelude.{◌≡◌, ◌^◌, ◌<◌, ◌≤◌, ◌�
 ghost use Rattle.probe_core.specs.Blanks.{IsBlankOf};
 
 use crate::{ScriptEnd, Served, SessionFault, answer_script, serve};
-use cube_view::{CubeView, Point, Tile, is_sound};
-use example_schemas::{point, schema_of_kinds};
+use cube_view::{CubeView, Point, Schema, Spot, Tile, is_sound};
+use example_schemas::{point, schema_of_kinds, schema_of_two_categories};
 use outer_io::{List, MemSink, MemSource, NoMemory};
 use plain_cube::PlainCube;
 use probe_core::Steps;
@@ -29,13 +29,38 @@ fn add(cube: &mut PlainCube, point: Point) -> Result<(), Fail> {
     Ok(())
 }
 
+/// The cube of the points.
+fn cube_with(alloc: Global, schema: Schema, points: &[Point]) -> Result<PlainCube, Fail> {
+    let mut cube = PlainCube::new(alloc, schema);
+    for point in points {
+        add(&mut cube, *point)?;
+    }
+    Ok(cube)
+}
+
 /// Two records of value a in one corner and one of b in the other.
 fn three_points(alloc: Global) -> Result<PlainCube, Fail> {
-    let mut cube = PlainCube::new(alloc, schema_of_kinds(alloc)?);
-    add(&mut cube, point(0, 0, 0, 0))?;
-    add(&mut cube, point(7, 7, 1, 1))?;
-    add(&mut cube, point(0, 0, 0, 1))?;
-    Ok(cube)
+    let points = [point(0, 0, 0, 0), point(7, 7, 1, 1), point(0, 0, 0, 1)];
+    cube_with(alloc, schema_of_kinds(alloc)?, &points)
+}
+
+/// The point, of that weight.
+fn weighing(point: Point, weight: u32) -> Point {
+    Point {
+        spot: point.spot,
+        weight,
+    }
+}
+
+/// A point of these values of two categories.
+fn of_values(first: u8, second: u8) -> Point {
+    let spot = Spot {
+        x: 0,
+        y: 0,
+        values: [first, second, 0, 0],
+        bin: 0,
+    };
+    Point { spot, weight: 1 }
 }
 
 /// The answer to the line.
@@ -118,11 +143,108 @@ fn answers_each_verb_and_the_first_fault(rt: HostRuntime) -> Result<(), Fail> {
 }
 
 #[test]
+fn answers_windows_and_their_faults(rt: HostRuntime) -> Result<(), Fail> {
+    let cases = [
+        ("window 0 0 4 4", "{\"rows\":[[2]],\"seen\":3}\n"),
+        ("window 1 0 8 8", "{\"rows\":[[1]],\"seen\":3}\n"),
+        ("window 2 2 2 8", "{\"rows\":[[0]],\"seen\":3}\n"),
+        ("window 0 0 8 8", "{\"rows\":[[3]],\"seen\":3}\n"),
+        (
+            "window 0 0 8 8 with kind=a time 1 2",
+            "{\"rows\":[[1]],\"seen\":3}\n",
+        ),
+        ("window 0 0 9 1", "{\"at\":4,\"fault\":\"OutOfRange\"}\n"),
+        ("window 3 0 1 1", "{\"at\":4,\"fault\":\"OutOfRange\"}\n"),
+        ("window 0 3 8 2", "{\"at\":5,\"fault\":\"OutOfRange\"}\n"),
+        ("window 0 0 x 9", "{\"at\":4,\"fault\":\"BadNumber\"}\n"),
+        (
+            "window 0 0 8 8 in 0/0/0",
+            "{\"at\":6,\"fault\":\"InWithWindow\"}\n",
+        ),
+    ];
+    check(&rt, rt.alloc(), &three_points(rt.alloc())?, &cases)?;
+    Ok(())
+}
+
+#[test]
+fn answers_best_tiles_and_their_faults(rt: HostRuntime) -> Result<(), Fail> {
+    let cases = [
+        ("best 1 1", "{\"rows\":[[1,0,0,2]],\"seen\":3}\n"),
+        ("best 3 5", "{\"rows\":[[3,0,0,2],[3,7,7,1]],\"seen\":3}\n"),
+        (
+            "best 1 4 with kind=b in 1/1/1",
+            "{\"rows\":[[2,3,3,1]],\"seen\":3}\n",
+        ),
+        ("best 4 1", "{\"at\":2,\"fault\":\"TooDeep\"}\n"),
+        ("best 1 0", "{\"at\":3,\"fault\":\"OutOfRange\"}\n"),
+        ("best 1 1001", "{\"at\":3,\"fault\":\"OutOfRange\"}\n"),
+    ];
+    check(&rt, rt.alloc(), &three_points(rt.alloc())?, &cases)?;
+    Ok(())
+}
+
+#[test]
+fn best_tiles_go_by_weight_and_then_by_path(rt: HostRuntime) -> Result<(), Fail> {
+    let points = [
+        point(7, 7, 0, 0),
+        point(0, 7, 0, 0),
+        point(7, 0, 0, 0),
+        weighing(point(0, 0, 1, 0), 5),
+    ];
+    let cases = [
+        (
+            "best 1 3",
+            "{\"rows\":[[1,0,0,5],[1,1,0,1],[1,0,1,1]],\"seen\":4}\n",
+        ),
+        (
+            "best 1 2 with kind=a",
+            "{\"rows\":[[1,1,0,1],[1,0,1,1]],\"seen\":4}\n",
+        ),
+        ("window 0 0 4 8", "{\"rows\":[[6]],\"seen\":4}\n"),
+    ];
+    let cube = cube_with(rt.alloc(), schema_of_kinds(rt.alloc())?, &points)?;
+    check(&rt, rt.alloc(), &cube, &cases)?;
+    Ok(())
+}
+
+#[test]
+fn answers_cross_tables_and_their_faults(rt: HostRuntime) -> Result<(), Fail> {
+    let points = [
+        of_values(0, 0),
+        of_values(0, 0),
+        weighing(of_values(0, 1), 7),
+    ];
+    let cases = [
+        (
+            "cross k m",
+            "{\"rows\":[[\"a\",\"c\",2],[\"a\",\"d\",7],[\"b\",\"c\",0],[\"b\",\"d\",0]],\"seen\":3}\n",
+        ),
+        (
+            "cross m k",
+            "{\"rows\":[[\"c\",\"a\",2],[\"c\",\"b\",0],[\"d\",\"a\",7],[\"d\",\"b\",0]],\"seen\":3}\n",
+        ),
+        (
+            "cross k m with m=d",
+            "{\"rows\":[[\"a\",\"c\",0],[\"a\",\"d\",7],[\"b\",\"c\",0],[\"b\",\"d\",0]],\"seen\":3}\n",
+        ),
+        ("cross k k", "{\"at\":3,\"fault\":\"SameCategory\"}\n"),
+        ("cross x k", "{\"at\":2,\"fault\":\"UnknownCategory\"}\n"),
+        ("cross k x", "{\"at\":3,\"fault\":\"UnknownCategory\"}\n"),
+        ("cross k", "{\"at\":3,\"fault\":\"MissingWord\"}\n"),
+    ];
+    let cube = cube_with(rt.alloc(), schema_of_two_categories(rt.alloc())?, &points)?;
+    check(&rt, rt.alloc(), &cube, &cases)?;
+    Ok(())
+}
+
+#[test]
 fn answers_over_a_view_of_no_points(rt: HostRuntime) -> Result<(), Fail> {
     let cases = [
         ("count", "{\"rows\":[[0]],\"seen\":0}\n"),
         ("hist kind", "{\"rows\":[[\"a\",0],[\"b\",0]],\"seen\":0}\n"),
         ("map 0", "{\"rows\":[],\"seen\":0}\n"),
+        ("best 0 1", "{\"rows\":[],\"seen\":0}\n"),
+        ("window 0 0 8 8", "{\"rows\":[[0]],\"seen\":0}\n"),
         ("series 0 1 1", "{\"rows\":[[0,0]],\"seen\":0}\n"),
         (
             "stat",

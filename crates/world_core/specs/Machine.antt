@@ -3,7 +3,7 @@ use Rattle.std.specs.Prelude.{ℕ, ◌+◌, ◌-◌, nat_le, nat_lt, Bool, true,
 use Rattle.cube_view.specs.Points.{Point}
 use Rattle.cube_view.specs.declared.schema.Schema.{Schema}
 use Rattle.query_syntax.specs.Queries.{is_valid_query}
-use Rattle.query_syntax.specs.Tables.{has_table, table}
+use Rattle.query_syntax.specs.Tables.{is_drill, table}
 use Rattle.query_syntax.specs.declared.query.Query.{Query}
 use Rattle.world_core.specs.Interleaving.{numbered, entries_of, entry_points, list_of}
 use Rattle.world_core.specs.declared.entry.Entry.{Entry}
@@ -71,7 +71,7 @@ module _ (schema : Schema) (room : ℕ) where
   is_possible w Pop = nat_lt 0 (length w.queue)
   is_possible w Publish = true
   is_possible w (Tell s) = nat_lt s (length w.told)
-  is_possible w (Look s q) = nat_lt s (length w.seen) && is_valid_query schema q && has_table q.verb
+  is_possible w (Look s q) = nat_lt s (length w.seen) && is_valid_query schema q && is_drill q.verb
 
   -- the world after event n, which is noted where it isn't possible and then changes nothing else
   abbrev pub after_event : ℕ → World → Event → World

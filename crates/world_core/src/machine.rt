@@ -3,7 +3,7 @@ ghost use Rattle.std.specs.Prelude.{◌≡◌, ◌+◌, ◌<◌, ◌≤◌, ◌^
 ghost use Rattle.std.specs.Vec.{vec_len};
 ghost use Rattle.cube_view.specs.Bag.{amount, anywhere};
 ghost use Rattle.query_syntax.specs.Queries.{is_valid_query as is_valid};
-ghost use Rattle.query_syntax.specs.Tables.{has_table as asks_table};
+ghost use Rattle.query_syntax.specs.Tables.{is_drill as asks_drill};
 ghost use Rattle.world_core.specs.Interleaving.{entry_points};
 ghost use Rattle.world_core.specs.Machine.{first_world, has_rest as rest_is_left, is_possible as can_happen, happens, after_push, after_pop, after_publish, after_tell, after_look, after_event};
 ghost use Rattle.world_core.specs.Parts.{deque_lists, world_now};
@@ -12,7 +12,7 @@ ghost use Rattle.world_core.specs.Worlds.{KeepsOrder};
 use crate::{Entry, Event, Shot, World};
 use cube_view::{Point, Schema};
 use outer_io::{List, NoMemory};
-use query_syntax::{Query, has_table, is_valid_query, table_of};
+use query_syntax::{Query, is_drill, is_valid_query, table_of};
 use std::alloc::Global;
 use std::collections::VecDeque;
 
@@ -106,7 +106,7 @@ impl Machine {
             Event::Look(session, query) => {
                 (*session as usize) < self.seen.len()
                     && is_valid_query(schema, query)
-                    && has_table(&query.verb)
+                    && is_drill(&query.verb)
             }
         }
     }
@@ -165,7 +165,7 @@ impl Machine {
     ) -> Result<(), NoMemory>
         requires session { session < vec_len self.old.seen }
         requires query { IsTrue (is_valid schema.now query.now) }
-        requires verb { IsTrue (asks_table query.now.verb) }
+        requires verb { IsTrue (asks_drill query.now.verb) }
         requires light { amount anywhere (entry_points self.old.journal.items) < 2 ^ 64 }
         ensures { OnOk result (world_now self.new ≡ after_look schema.now (world_now self.old) session query.now) }
     {

@@ -7,7 +7,7 @@ use crate::{Entry, Event, Shot, World, run};
 use cube_view::{Point, Schema, Tile, is_valid};
 use example_schemas::{point, schema_of_kinds};
 use outer_io::{List, NoMemory};
-use query_syntax::{Choice, Query, RowOut, Span, ValueSet, Verb};
+use query_syntax::{Choice, Query, Rect, RowOut, Span, ValueSet, Verb};
 use std::alloc::Global;
 use std::process::Abort;
 use std::test::Fail;
@@ -248,12 +248,20 @@ fn check_noted<'a>(
 fn notes_events_that_are_not_possible(rt: HostRuntime) -> Result<(), Fail> {
     let mut none_of_kind = count();
     none_of_kind.sets[0] = Choice::Only(ValueSet::none());
+    let all_places = Rect {
+        x0: 0,
+        y0: 0,
+        x1: 8,
+        y1: 8,
+    };
     let looks = [
         Event::Look(0, query(Verb::Told)),
         Event::Look(0, query(Verb::Stat)),
         Event::Look(0, query(Verb::Quit)),
         Event::Look(0, query(Verb::Map(4))),
         Event::Look(0, none_of_kind),
+        Event::Look(0, query(Verb::Window(all_places))),
+        Event::Look(0, query(Verb::Best { depth: 1, rows: 1 })),
     ];
     let unknown_sessions = [Event::Tell(1), Event::Look(1, count())];
     let alloc = rt.alloc();
@@ -274,7 +282,7 @@ fn notes_events_that_are_not_possible(rt: HostRuntime) -> Result<(), Fail> {
         &unknown_sessions,
         &[0, 1],
     )?;
-    check_noted(&rt, alloc, "no table", 1, &looks, &[0, 1, 2, 3, 4])?;
+    check_noted(&rt, alloc, "no table", 1, &looks, &[0, 1, 2, 3, 4, 5, 6])?;
     check_noted(&rt, alloc, "no room", 0, &[Event::Push(1)], &[0])?;
     Ok(())
 }
