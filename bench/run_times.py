@@ -1,8 +1,10 @@
 """run_times.py PROGRAM crew [RECORDS]: times `run` of RECORDS generated records in 1, 2, 4 and 8 feeds, at batch 1, 64 and 1,024,
 with no asks and with 8 asks of 20,000 lines each.
+run_times.py PROGRAM city [RECORDS]: times `run` of RECORDS records of a city's export in 8 feeds beside 8 asks of 20,000 lines, with
+the time of the journal's writing, and `demo` over as many lines of its own plan.
 run_times.py PROGRAM big: runs `big 100000` 20 times.
 run_times.py PROGRAM recount: times `recount` of 1,000 replies over a journal of 200,000 entries."""
-import json, os, subprocess, sys, tempfile, time
+import json, os, subprocess, sys, tempfile, threading, time
 
 STATE = 1
 
@@ -64,6 +66,67 @@ def crew(program, records):
                           f"{asks * 20_000 / seconds:.0f}, {most:.0f}", flush=True)
 
 
+CITY = {"asks": [f"ask{a}.txt" for a in range(8)], "batch": 64,
+        "categories": [{"name": "type", "values": ["THEFT", "MOTOR VEHICLE THEFT", "BATTERY"]}, {"name": "district", "values": ["001", "002"]}],
+        "depth": 16, "feeds": [f"feed{f}.csv" for f in range(8)], "finals": [], "journal": "journal.txt", "start": 1357016400,
+        "version": 1, "width": 3600}
+
+
+def write_city(folder, records):
+    """A month of incidents in 64 by 64 finest tiles, in 8 feeds, each in the order of its times."""
+    s = STATE
+    for f in range(8):
+        with open(os.path.join(folder, f"feed{f}.csv"), "w") as it:
+            it.write("id,x,y,time,type,district\n")
+            for i in range(records // 8):
+                s = step(s)
+                kind = CITY["categories"][0]["values"][(s >> 40) % 3]
+                it.write(f"{f}-{i},{16800 + (s >> 58)},{24300 + (s >> 50) % 64},{1357016400 + i * 2678400 * 8 // records},{kind},00{1 + (s >> 33) % 2}\n")
+    for a in range(8):
+        s = 100 + a
+        with open(os.path.join(folder, f"ask{a}.txt"), "w") as it:
+            for _ in range(20_000):
+                s = step(s)
+                it.write(f"count in 12/{1050 + (s >> 62)}/{1518 + (s >> 56) % 4} with type=BATTERY time {(s >> 32) % 512} 1024\n")
+    json.dump(CITY, open(os.path.join(folder, "plan.json"), "w"))
+
+
+def watch(path, seen, ended):
+    """Notes when the file has its first bytes, and when it has its last."""
+    size = 0
+    while not ended.is_set():
+        now = os.path.getsize(path) if os.path.exists(path) else 0
+        if now > size:
+            seen.setdefault("first", time.time())
+            seen["last"], size = time.time(), now
+        time.sleep(0.002)
+
+
+def city(program, records):
+    with tempfile.TemporaryDirectory() as folder:
+        write_city(folder, records)
+        seen, ended = {}, threading.Event()
+        watcher = threading.Thread(target=watch, args=(os.path.join(folder, "journal.txt"), seen, ended))
+        watcher.start()
+        status, out, seconds, busy, most = timed(program, ["run", "plan.json"], folder)
+        ended.set()
+        watcher.join()
+        assert status == 0 and out.endswith(f"journal: {records} entries\n".encode()), (status, out)
+        print(f"run: {seconds:.2f} s, {busy:.2f} of processors, {records / seconds:.0f} records a second, "
+              f"{160_000 / seconds:.0f} replies a second, {most:.0f} MB; the journal's writing {seen['last'] - seen['first']:.2f} s, "
+              f"{os.path.getsize(os.path.join(folder, 'journal.txt')) / 1e6:.1f} MB", flush=True)
+        s = STATE
+        with open(os.path.join(folder, "demo.csv"), "w") as it:
+            it.write("x,y,kind,time\n")
+            for i in range(records):
+                s = step(s)
+                it.write(f"{s >> 61},{(s >> 50) % 8},{'ab'[(s >> 42) % 2]},{i * 7440 // records}\n")
+        open(os.path.join(folder, "count.txt"), "w").write("count\n")
+        status, out, seconds, busy, most = timed(program, ["demo", "demo.csv", "count.txt"], folder)
+        assert status == 0 and out == f'{{"rows":[[{records}]],"seen":{records}}}\n'.encode(), (status, out)
+        print(f"demo: {seconds:.2f} s, {busy:.2f} of processors, {records / seconds:.0f} records a second, {most:.0f} MB", flush=True)
+
+
 def big(program):
     runs = [timed(program, ["big", "100000"], "/") for _ in range(20)]
     assert all(run[0] == 0 and run[1] == runs[0][1] for run in runs)
@@ -90,6 +153,8 @@ def recount(program):
 program, what = os.path.abspath(sys.argv[1]), sys.argv[2]
 if what == "crew":
     crew(program, int(sys.argv[3]) if len(sys.argv) > 3 else 1_000_000)
+elif what == "city":
+    city(program, int(sys.argv[3]) if len(sys.argv) > 3 else 1_000_000)
 elif what == "big":
     big(program)
 else:

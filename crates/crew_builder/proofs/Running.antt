@@ -20,12 +20,12 @@ use Rattle.world_core.proofs.Worlds.{IsPrefix-then}
 use Rattle.crew_builder.specs.Built.{IsNewWork, IsBuilt, IsSameEnd, IsSameMails}
 use Rattle.crew_builder.specs.Steps.{TakesNext, IsStep}
 use Rattle.crew_builder.specs.Telling.{multiples_up_to, having_put, having_answered}
-use Rattle.crew_builder.specs.Work.{WorkState, work_state, DrawsFor}
+use Rattle.crew_builder.specs.Work.{BuilderWorkState, work_state, DrawsFor}
 use Rattle.crew_builder.proofs.Lengths.{multiples-none}
 use Rattle.crew_builder.proofs.Taking.{Took, took_open, HasMultiples, HasTold, goes_on, ends}
 
 -- What stays the same, and what only grows
-pub record Goes (before after : WorkState) : Type 0 where
+pub record Goes (before after : BuilderWorkState) : Type 0 where
   pub grown : IsPrefix before.draws.drawn after.draws.drawn
   pub draws : DrawsFor after.draws after.builder
   pub end : IsSameEnd before.draws after.draws
@@ -35,7 +35,7 @@ pub record Goes (before after : WorkState) : Type 0 where
   pub mails : IsSameMails before.mails after.mails
 
 -- What the steps so far have left, while Ends are missing
-pub record HasRun (before after : WorkState) : Type 0 where
+pub record HasRun (before after : BuilderWorkState) : Type 0 where
   pub goes : Goes before after
   pub put : after.builder.spent ≡ false → HasMultiples after.builder after.mails
 
@@ -45,13 +45,13 @@ put_same part same n [] = refl
 put_same part same n (m ∷ mails) = ap (λ x. x ∷ map part (map (having_put n) mails)) (same n m) ∙ ap (λ l. part m ∷ l) (put_same part same n mails)
 
 -- telling leaves all but what was put
-pub same_parts : (r : Result Taken NoMemory) (w : WorkState) → (having_answered r w).draws ≡ w.draws × (having_answered r w).builder ≡ w.builder × (having_answered r w).untold ≡ w.untold
+pub same_parts : (r : Result Taken NoMemory) (w : BuilderWorkState) → (having_answered r w).draws ≡ w.draws × (having_answered r w).builder ≡ w.builder × (having_answered r w).untold ≡ w.untold
 same_parts (Ok Kept) w = (refl, refl, refl)
 same_parts (Ok (Published n)) w = (refl, refl, refl)
 same_parts (Ok (LastEnd n)) w = (refl, refl, refl)
 same_parts (Err e) w = (refl, refl, refl)
 
-same_mails : {A : Type 0} (part : InEnd → A) → ((n : ℕ) (m : InEnd) → part (having_put n m) ≡ part m) → (r : Result Taken NoMemory) (w : WorkState) → map part (having_answered r w).mails ≡ map part w.mails
+same_mails : {A : Type 0} (part : InEnd → A) → ((n : ℕ) (m : InEnd) → part (having_put n m) ≡ part m) → (r : Result Taken NoMemory) (w : BuilderWorkState) → map part (having_answered r w).mails ≡ map part w.mails
 same_mails part same (Ok Kept) w = refl
 same_mails part same (Ok (Published n)) w = put_same part same (length w.builder.published.points) w.mails
 same_mails part same (Ok (LastEnd n)) w = put_same part same (length w.builder.published.points) w.mails
@@ -66,7 +66,7 @@ then_same a b c ab bc = record {
   viewers = bc.viewers ∙ ab.viewers;
 }
 
-module _ (first before next : WorkState) (r : Result Taken NoMemory) (goes : Goes first before) (takes : TakesNext before r next) where
+module _ (first before next : BuilderWorkState) (r : Result Taken NoMemory) (goes : Goes first before) (takes : TakesNext before r next) where
   drawn_is : next.draws.drawn ≡ before.draws.drawn ++ takes.item ∷ []
   drawn_is = ap (λ (d : DrawState). d.drawn) takes.drawn
 
@@ -117,12 +117,12 @@ module _ (first before next : WorkState) (r : Result Taken NoMemory) (goes : Goe
 
   -- what is so of what a builder that is not spent should have left and told, is so of what is left
   after_is : (P : BuilderState → List InEnd → Type 0) → Took before.builder takes.item r next.builder
-      → (let w : WorkState = having_answered {E = NoMemory} (Ok (answer_of before.builder takes.item)) (work_state next.draws (having_taken before.builder takes.item) before.mails next.untold) in P w.builder w.mails)
+      → (let w : BuilderWorkState = having_answered {E = NoMemory} (Ok (answer_of before.builder takes.item)) (work_state next.draws (having_taken before.builder takes.item) before.mails next.untold) in P w.builder w.mails)
       → P (having_answered r next).builder (having_answered r next).mails
   after_is P is so =
       let left : work_state next.draws (having_taken before.builder takes.item) before.mails next.untold ≡ next = λ j. work_state next.draws (sym is.left j) (sym takes.mails j) next.untold in
       subst (λ (x : Result Taken NoMemory). P (having_answered x next).builder (having_answered x next).mails) (sym is.answer)
-      (subst (λ (w : WorkState). P (having_answered {E = NoMemory} (Ok (answer_of before.builder takes.item)) w).builder (having_answered {E = NoMemory} (Ok (answer_of before.builder takes.item)) w).mails) left so)
+      (subst (λ (w : BuilderWorkState). P (having_answered {E = NoMemory} (Ok (answer_of before.builder takes.item)) w).builder (having_answered {E = NoMemory} (Ok (answer_of before.builder takes.item)) w).mails) left so)
 
   open_next : (having_answered r next).builder.spent ≡ false → next.builder.spent ≡ false
   open_next open_ = ap (λ (b : BuilderState). b.spent) (sym (same_parts r next).1) ∙ open_
@@ -150,7 +150,7 @@ module _ (first before next : WorkState) (r : Result Taken NoMemory) (goes : Goe
       let is = took (open_next open_) in
       after_is HasTold is (ends before.builder before.mails next.draws next.untold goes.keeps is.open_ (put is.open_) takes.item (no_entry each) (sym ended_is ∙ all))
 
-put_nothing : (w : WorkState) → IsNewWork w → HasMultiples w.builder w.mails
+put_nothing : (w : BuilderWorkState) → IsNewWork w → HasMultiples w.builder w.mails
 put_nothing w new =
     let none : w.builder.journal ++ w.builder.pending ≡ [] = new.keeps.whole new.spent ∙ ap entries_in (new.draws.taken ∙ new.drawn) in
     let parts = length-append w.builder.journal w.builder.pending in
@@ -165,7 +165,7 @@ put_nothing w new =
     }
 
 -- what a work begins with is what no step has left
-pub has_run-none : (w : WorkState) → IsNewWork w → HasRun w w
+pub has_run-none : (w : BuilderWorkState) → IsNewWork w → HasRun w w
 has_run-none w new = record {
   goes = record {
     grown = ([], sym (append-nil w.draws.drawn));
@@ -180,16 +180,16 @@ has_run-none w new = record {
 }
 
 -- one step more, after which Ends are missing
-pub has_run-step : (first before after : WorkState) → HasRun first before → IsStep before after → all_ended after.builder.feeders after.builder.taken ≡ false → HasRun first after
+pub has_run-step : (first before after : BuilderWorkState) → HasRun first before → IsStep before after → all_ended after.builder.feeders after.builder.taken ≡ false → HasRun first after
 has_run-step first before after run step missing =
     let told : after ≡ having_answered step.answer step.next = step.tells in
     subst (HasRun first) (sym told) (record {
       goes = goes_told first before step.next step.answer run.goes step.takes;
-      put = put_more first before step.next step.answer run.goes step.takes run.put (subst (λ (w : WorkState). all_ended w.builder.feeders w.builder.taken ≡ false) told missing);
+      put = put_more first before step.next step.answer run.goes step.takes run.put (subst (λ (w : BuilderWorkState). all_ended w.builder.feeders w.builder.taken ≡ false) told missing);
     })
 
 -- what is left by steps after which every End is there
-module _ (first after : WorkState) (goes : Goes first after) (put : after.builder.spent ≡ false → HasTold after.builder after.mails) (each : EachEnded after.builder.feeders after.builder.taken) (all : all_ended after.builder.feeders after.builder.taken ≡ true) where
+module _ (first after : BuilderWorkState) (goes : Goes first after) (put : after.builder.spent ≡ false → HasTold after.builder after.mails) (each : EachEnded after.builder.feeders after.builder.taken) (all : all_ended after.builder.feeders after.builder.taken ≡ true) where
   built_of : IsBuilt first after
   built_of = record {
     grown = goes.grown;
@@ -206,11 +206,11 @@ module _ (first after : WorkState) (goes : Goes first after) (put : after.builde
   }
 
 -- the last step
-pub is_built : (first before after : WorkState) → HasRun first before → IsStep before after → all_ended after.builder.feeders after.builder.taken ≡ true → EachEnded after.builder.feeders after.builder.taken → IsBuilt first after
+pub is_built : (first before after : BuilderWorkState) → HasRun first before → IsStep before after → all_ended after.builder.feeders after.builder.taken ≡ true → EachEnded after.builder.feeders after.builder.taken → IsBuilt first after
 is_built first before after run step all each =
     let told : after ≡ having_answered step.answer step.next = step.tells in
-    let all_ : all_ended (having_answered step.answer step.next).builder.feeders (having_answered step.answer step.next).builder.taken ≡ true = subst (λ (w : WorkState). all_ended w.builder.feeders w.builder.taken ≡ true) told all in
-    let each_ : EachEnded (having_answered step.answer step.next).builder.feeders (having_answered step.answer step.next).builder.taken = subst (λ (w : WorkState). EachEnded w.builder.feeders w.builder.taken) told each in
+    let all_ : all_ended (having_answered step.answer step.next).builder.feeders (having_answered step.answer step.next).builder.taken ≡ true = subst (λ (w : BuilderWorkState). all_ended w.builder.feeders w.builder.taken ≡ true) told all in
+    let each_ : EachEnded (having_answered step.answer step.next).builder.feeders (having_answered step.answer step.next).builder.taken = subst (λ (w : BuilderWorkState). EachEnded w.builder.feeders w.builder.taken) told each in
     subst (IsBuilt first) (sym told) (built_of first (having_answered step.answer step.next)
     (goes_told first before step.next step.answer run.goes step.takes)
     (put_all first before step.next step.answer run.goes step.takes run.put all_ each_)

@@ -16,7 +16,7 @@ use Rattle.mailbox.specs.Ends.{InEnd}
 use Rattle.outer_io.specs.declared.fault.NoMemory.{NoMemory}
 use Rattle.world_core.specs.declared.entry.Entry.{Entry}
 use Rattle.crew_builder.specs.Telling.{multiples_up_to, told_lengths, having_put, having_answered}
-use Rattle.crew_builder.specs.Work.{WorkState, work_state}
+use Rattle.crew_builder.specs.Work.{BuilderWorkState, work_state}
 use Rattle.crew_builder.proofs.Lengths.{multiples-rest, multiples-more, batch_more, All-having_put}
 
 spent_either : (t : Bool) (x y : BuilderState) (s : Bool) → x.spent ≡ s → y.spent ≡ s → (cond t x y).spent ≡ s
@@ -73,7 +73,7 @@ length-appended b keeps = ap length keeps.appended ∙ (length-map (b.journal ++
 module _ (b : BuilderState) (mails : List InEnd) (end : DrawState) (untold : Bool) (keeps : KeepsJournal b) (open_ : b.spent ≡ false) (has : HasMultiples b mails) where
   -- what is so of the builder and the mailboxes once that was answered and told
   abbrev After : (BuilderState → List InEnd → Type 0) → Taken → BuilderState → Type 0
-  After P t left = let w : WorkState = having_answered {E = NoMemory} (Ok t) (work_state end left mails untold) in P w.builder w.mails
+  After P t left = let w : BuilderWorkState = having_answered {E = NoMemory} (Ok t) (work_state end left mails untold) in P w.builder w.mails
 
   some : 0 < b.batch
   some = let few = keeps.few open_ in omega (arith, few)

@@ -8,10 +8,10 @@ use Rattle.feed_queue.specs.Items.{entries_in}
 use Rattle.mailbox.specs.Ends.{InEnd}
 use Rattle.world_core.specs.PairFact.{IsPrefix}
 use Rattle.crew_builder.specs.Telling.{told_lengths}
-use Rattle.crew_builder.specs.Work.{WorkState, DrawsFor, AreOfPair}
+use Rattle.crew_builder.specs.Work.{BuilderWorkState, DrawsFor, AreOfPair}
 
 -- What a work begins with
-pub record IsNewWork (w : WorkState) : Type 0 where
+pub record IsNewWork (w : BuilderWorkState) : Type 0 where
   -- nothing was drawn
   pub drawn : w.draws.drawn ≡ []
   -- the end draws for the builder, which so has taken nothing
@@ -44,7 +44,7 @@ pub record IsSameMails (mails after : List InEnd) : Type 0 where
   pub pairs : map (λ (m : InEnd). m.pair) after ≡ map (λ (m : InEnd). m.pair) mails
 
 -- What the builder leaves
-pub record IsBuilt (before after : WorkState) : Type 0 where
+pub record IsBuilt (before after : BuilderWorkState) : Type 0 where
   -- what is drawn only grew
   pub grown : IsPrefix before.draws.drawn after.draws.drawn
   -- the End of each feeder was drawn

@@ -7,10 +7,10 @@ use Rattle.feed_queue.specs.Ends.{MayBeDrawn, having_drawn}
 use Rattle.feed_queue.specs.declared.item.Item.{Item}
 use Rattle.outer_io.specs.declared.fault.NoMemory.{NoMemory}
 use Rattle.crew_builder.specs.Telling.{having_answered}
-use Rattle.crew_builder.specs.Work.{WorkState}
+use Rattle.crew_builder.specs.Work.{BuilderWorkState}
 
 -- What drawing an item and taking it leaves, where the builder gives this answer
-pub record TakesNext (before : WorkState) (answer : Result Taken NoMemory) (after : WorkState) : Type 0 where
+pub record TakesNext (before : BuilderWorkState) (answer : Result Taken NoMemory) (after : BuilderWorkState) : Type 0 where
   -- the item
   pub item : Item
   -- what its draw tells of it
@@ -27,11 +27,11 @@ pub record TakesNext (before : WorkState) (answer : Result Taken NoMemory) (afte
   pub untold : after.untold ≡ before.untold
 
 -- What a step leaves: an item was drawn and taken, and then told what the builder's answer asks for
-pub record IsStep (before after : WorkState) : Type 0 where
+pub record IsStep (before after : BuilderWorkState) : Type 0 where
   -- what the builder answered
   pub answer : Result Taken NoMemory
   -- the work once the item was taken
-  pub next : WorkState
+  pub next : BuilderWorkState
   -- how it came there
   pub takes : TakesNext before answer next
   -- and what was told then

@@ -4,7 +4,7 @@ use Rattle.std.specs.List.{range_with_len}
 use Rattle.builder_core.specs.declared.taken.Taken.{Taken}
 use Rattle.builder_core.specs.declared.taken.Taken.TheVariants.{Kept, Published, LastEnd}
 use Rattle.mailbox.specs.Ends.{InEnd, mail_in}
-use Rattle.crew_builder.specs.Work.{WorkState}
+use Rattle.crew_builder.specs.Work.{BuilderWorkState}
 
 -- the multiples of the batch that are at most the length, from the batch on
 abbrev pub multiples_up_to : ℕ → ℕ → List ℕ
@@ -19,11 +19,11 @@ abbrev pub having_put : ℕ → InEnd → InEnd
 having_put n m = mail_in m.mailbox m.pair (m.lengths ++ n ∷ [])
 
 -- the work once the length of its published list was put into each mailbox
-abbrev pub having_told : WorkState → WorkState
+abbrev pub having_told : BuilderWorkState → BuilderWorkState
 having_told w = record w { mails = map (having_put (length w.builder.published.points)) w.mails }
 
 -- the work once it has told what the builder's answer asks for: the length is told of each publication, and of the last End
-abbrev pub having_answered : {E : Type 0} → Result Taken E → WorkState → WorkState
+abbrev pub having_answered : {E : Type 0} → Result Taken E → BuilderWorkState → BuilderWorkState
 having_answered (Ok Kept) w = w
 having_answered (Ok (Published n)) w = having_told w
 having_answered (Ok (LastEnd n)) w = having_told w

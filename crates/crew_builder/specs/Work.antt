@@ -5,7 +5,7 @@ use Rattle.feed_queue.specs.Ends.{DrawState}
 use Rattle.mailbox.specs.Ends.{InEnd}
 
 -- A builder's work
-pub record WorkState : Type 0 where
+pub record BuilderWorkState : Type 0 where
   -- the end that draws for the builder
   pub draws : DrawState
   -- the builder
@@ -16,7 +16,7 @@ pub record WorkState : Type 0 where
   pub untold : Bool
 
 -- the work of these parts
-abbrev pub work_state : DrawState → BuilderState → List InEnd → Bool → WorkState
+abbrev pub work_state : DrawState → BuilderState → List InEnd → Bool → BuilderWorkState
 work_state draws builder mails untold = record { draws = draws; builder = builder; mails = mails; untold = untold }
 
 -- The end draws for the builder
@@ -33,7 +33,7 @@ abbrev pub AreOfPair : BuilderState → List InEnd → Type 0
 AreOfPair b mails = All (λ (m : InEnd). m.pair ≡ b.published.book) mails
 
 -- What the type of a work keeps
-pub record IsWork (w : WorkState) : Type 0 where
+pub record IsWork (w : BuilderWorkState) : Type 0 where
   -- its end draws for its builder
   pub draws : DrawsFor w.draws w.builder
   -- each mailbox is of the builder's pair

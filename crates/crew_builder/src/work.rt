@@ -26,9 +26,9 @@ pub struct BuilderWorkOf<K: Pairing> {
 }
 
 impl<K: Pairing> Model for BuilderWorkOf<K> {
-    ghost use Rattle.crew_builder.specs.Work.{WorkState, work_state, IsWork};
+    ghost use Rattle.crew_builder.specs.Work.{BuilderWorkState, work_state, IsWork};
 
-    ghost Value = { WorkState };
+    ghost Value = { BuilderWorkState };
 
     ghost view = { λ w. work_state w.draws w.builder w.mails.items w.untold };
 

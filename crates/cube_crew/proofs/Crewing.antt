@@ -5,7 +5,7 @@ use Rattle.std.proofs.lemmas.List.Elements.{All-map}
 use Rattle.atomic_table.specs.Seated.{TableId}
 use Rattle.crew_builder.specs.Built.{IsBuilt}
 use Rattle.crew_builder.specs.Telling.{told_lengths}
-use Rattle.crew_builder.specs.Work.{WorkState as Building}
+use Rattle.crew_builder.specs.Work.{BuilderWorkState as Building}
 use Rattle.crew_feeder.specs.Leaving.{HasFed}
 use Rattle.crew_feeder.specs.declared.job.FeedDone.{FeedDone}
 use Rattle.crew_feeder.specs.declared.work.FeedWork.{FeedWork}

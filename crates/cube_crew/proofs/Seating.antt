@@ -5,7 +5,7 @@ use Rattle.std.proofs.lemmas.Bool.{and_parts, leb-true}
 use Rattle.std.proofs.lemmas.List.Elements.{All-weaker}
 use Rattle.builder_core.specs.Builder.{BuilderState, KeepsJournal, builder_state}
 use Rattle.crew_builder.specs.Built.{IsBuilt, IsNewWork}
-use Rattle.crew_builder.specs.Work.{WorkState as Building, work_state}
+use Rattle.crew_builder.specs.Work.{BuilderWorkState as Building, work_state}
 use Rattle.crew_feeder.specs.Leaving.{HasFed}
 use Rattle.crew_feeder.specs.declared.work.FeedWork.{FeedWork}
 use Rattle.crew_session.specs.Leaves.{LeavesSession}

@@ -2,7 +2,7 @@
 use Rattle.std.specs.Prelude.{◌≡◌, ◌≢◌, ℕ, ◌+◌, Bool, true, false, List, All, length, map, Option, Some}
 use Rattle.std.specs.List.{AllZip}
 use Rattle.builder_core.specs.Endings.{EachEnded}
-use Rattle.crew_builder.specs.Work.{DrawsFor, WorkState as Building}
+use Rattle.crew_builder.specs.Work.{DrawsFor, BuilderWorkState as Building}
 use Rattle.crew_feeder.specs.declared.work.FeedWork.{FeedWork}
 use Rattle.crew_session.specs.Leaves.{LeavesSession}
 use Rattle.crew_session.specs.Work.{HadNoTurn, WorkState, done_of, has_starved}

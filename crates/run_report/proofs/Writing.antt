@@ -9,7 +9,7 @@ use Rattle.outer_io.specs.Bytes.{Gains, GainsPart}
 use Rattle.outer_io.specs.Faults.{HasCause}
 use Rattle.outer_io.specs.declared.fault.IoFault.{IoFault}
 use Rattle.outer_io.specs.declared.fault.IoFault.TheVariants as fault
-use Rattle.run_report.specs.Journals.{Moves, Puts}
+use Rattle.run_report.specs.Journals.{Moves, PutsJournal}
 use Rattle.world_core.specs.declared.entry.Entry.{Entry}
 
 -- the journal of the first entries, and of the others
@@ -62,7 +62,7 @@ module _ {O : Type 0} (held : O → Option (List ℕ)) (faults : O → ℕ) (nam
   has_all now whole h = subst (λ (t : List ℕ). Gains (held start) (held now) t) (sym (append-nil h.text) ∙ h.joined) h.gained
 
   -- where there is no memory for a line
-  pub no_memory : (now : O) (buffer whole rest all : List ℕ) → whole ++ rest ≡ all → Has now buffer whole → faults now ≡ faults start → named now ≡ named start → Puts held faults named start now all (Err fault.NoMemory)
+  pub no_memory : (now : O) (buffer whole rest all : List ℕ) → whole ++ rest ≡ all → Has now buffer whole → faults now ≡ faults start → named now ≡ named start → PutsJournal held faults named start now all (Err fault.NoMemory)
   no_memory now buffer whole rest all is h quiet name = record {
     whole = tt;
     part = subst (λ (t : List ℕ). GainsPart (held start) (held now) t) is (has_part now now buffer whole h rest);
@@ -71,7 +71,7 @@ module _ {O : Type 0} (held : O → Option (List ℕ)) (faults : O → ℕ) (nam
   }
 
   -- where a put has a fault
-  pub put_fault : (now after : O) (buffer whole rest all : List ℕ) (f : IoFault) → whole ++ rest ≡ all → Has now buffer whole → faults now ≡ faults start → named now ≡ named start → GainsPart (held now) (held after) buffer → HasCause (faults now) (faults after) {T = Unit {0}} (Err f) fault.Failed → named after ≡ named now → Puts held faults named start after all (Err f)
+  pub put_fault : (now after : O) (buffer whole rest all : List ℕ) (f : IoFault) → whole ++ rest ≡ all → Has now buffer whole → faults now ≡ faults start → named now ≡ named start → GainsPart (held now) (held after) buffer → HasCause (faults now) (faults after) {T = Unit {0}} (Err f) fault.Failed → named after ≡ named now → PutsJournal held faults named start after all (Err f)
   put_fault now after buffer whole rest all f is h quiet name part cause same = record {
     whole = tt;
     part = subst (λ (t : List ℕ). GainsPart (held start) (held after) t) is (has_part_more now after buffer whole h rest part);
@@ -88,7 +88,7 @@ module _ {O : Type 0} (held : O → Option (List ℕ)) (faults : O → ℕ) (nam
 
   -- the last put
   pub at_last : (now after : O) (buffer left all : List ℕ) (r : Result (Unit {0}) IoFault) → Has now buffer all → faults now ≡ faults start → named now ≡ named start
-      → OnOk r (Moves held faults named now after buffer left) → OnOk r (length left < 1) → OnErr r (GainsPart (held now) (held after) buffer) → HasCause (faults now) (faults after) r fault.Failed → named after ≡ named now → Puts held faults named start after all r
+      → OnOk r (Moves held faults named now after buffer left) → OnOk r (length left < 1) → OnErr r (GainsPart (held now) (held after) buffer) → HasCause (faults now) (faults after) r fault.Failed → named after ≡ named now → PutsJournal held faults named start after all r
   at_last now after buffer left all (Ok u) h quiet name moves few part cause same = record {
     whole = has_all after all (subst (λ (l : List ℕ). Has after l all) (nil_from_length left (omega (arith, few))) (has_moved now after buffer all h left moves));
     part = tt;

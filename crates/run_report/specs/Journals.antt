@@ -7,7 +7,7 @@ use Rattle.outer_io.specs.declared.fault.IoFault.TheVariants as fault
 
 module _ {O : Type 0} (held : O → Option (List ℕ)) (faults : O → ℕ) (named : O → List ℕ) (before after : O) where
   -- What putting a text by several puts, up to one that fails, leaves of a sink
-  pub record Puts (text : List ℕ) (result : Result (Unit {0}) IoFault) : Type 0 where
+  pub record PutsJournal (text : List ℕ) (result : Result (Unit {0}) IoFault) : Type 0 where
     -- with Ok the sink has gained the text
     pub whole : OnOk result (Gains (held before) (held after) text)
     -- with a fault it has gained a part of it, from the front

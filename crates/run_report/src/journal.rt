@@ -3,7 +3,7 @@ ghost use Rattle.std.specs.Prelude.{◌≡◌, ◌<◌, ◌++◌, OnErr, OnOk, l
 ghost use Rattle.outer_io.specs.Bytes.{GainsPart};
 ghost use Rattle.outer_io.specs.Faults.{HasCause};
 ghost use Rattle.feed_queue.specs.Journal.{entry_line, journal_text};
-ghost use Rattle.run_report.specs.Journals.{Moves, Puts};
+ghost use Rattle.run_report.specs.Journals.{Moves, PutsJournal};
 
 use cube_view::Schema;
 use feed_queue::print_entry;
@@ -61,7 +61,7 @@ pub fn write_journal<O: Sink>(
     entries: &[Entry],
     out: &mut O,
 ) -> Result<(), IoFault>
-    ensures { Puts O.held O.faults O.name out.old out.new (journal_text schema.now entries.now) result }
+    ensures { PutsJournal O.held O.faults O.name out.old out.new (journal_text schema.now entries.now) result }
 {
     let Ok(mut buffer) = Vec::with_capacity(alloc, ROOM) else {
         return Err(IoFault::NoMemory);

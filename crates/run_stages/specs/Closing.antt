@@ -12,7 +12,7 @@ use Rattle.run_files.specs.Outside.{PlaceSeen, SinkSeen}
 use Rattle.run_files.specs.Stops.{joined_ends, write_end}
 use Rattle.run_files.specs.declared.stop.Stop.{Stop}
 use Rattle.run_files.specs.declared.stop.Stop.TheVariants.{NoMemory}
-use Rattle.run_report.specs.Journals.{Puts}
+use Rattle.run_report.specs.Journals.{PutsJournal}
 use Rattle.run_report.specs.Reports.{counts_text}
 use Rattle.run_stages.specs.Counted.{feed_counts, script_counts}
 use Rattle.run_stages.specs.Ends.{all_ends, feeds_end, sessions_end, starved_end}
@@ -57,7 +57,7 @@ module _ {I O : Type 0} (plan : Plan) (done : RunDone I O) where
     -- the journal's sink once the journal was written, with this answer
     pub sink : O
     pub wrote : Result (Unit {0}) IoFault
-    pub written : Puts s.held s.faults s.name done.journal sink (journal_text plan.schema done.entries) wrote
+    pub written : PutsJournal s.held s.faults s.name done.journal sink (journal_text plan.schema done.entries) wrote
     -- then all parts were given back, the journal's sink last
     pub replied : P
     pub given : Result (Unit {0}) Stop

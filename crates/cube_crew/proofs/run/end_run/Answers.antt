@@ -2,7 +2,7 @@ use Rattle.std.proofs.Common.{rules, ◌≡◌, ◌≤◌, ℕ, true, false, Lis
 use Rattle.std.specs.List.{AllZip}
 use Rattle.std.proofs.lemmas.Bool.{false≢true}
 use Rattle.std.proofs.lemmas.List.Elements.{All-map, All-same}
-use Rattle.crew_builder.specs.Work.{WorkState as Building, work_state}
+use Rattle.crew_builder.specs.Work.{BuilderWorkState as Building, work_state}
 use Rattle.cube_crew.specs.Ending.{EndsAsk, EndsFinal, EndsRun, IsRun}
 use Rattle.cube_crew.specs.Starving.{FoundMemory, FoundRoom}
 use Rattle.cube_crew.specs.Works.{end_of}

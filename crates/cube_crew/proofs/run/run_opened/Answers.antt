@@ -2,7 +2,7 @@ use Rattle.std.proofs.Common.{arith, ◌≡◌, true, false, All, length, sym, a
 use Rattle.std.specs.List.{AllZip}
 use Rattle.std.proofs.lemmas.List.Elements.{All-same}
 use Rattle.crew_builder.specs.Built.{IsBuilt}
-use Rattle.crew_builder.specs.Work.{WorkState as Building, work_state}
+use Rattle.crew_builder.specs.Work.{BuilderWorkState as Building, work_state}
 use Rattle.crew_feeder.specs.Leaving.{HasFed}
 use Rattle.crew_feeder.specs.Taking.{IsReady}
 use Rattle.crew_session.specs.Leaves.{LeavesSession}

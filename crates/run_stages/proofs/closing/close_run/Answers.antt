@@ -2,7 +2,7 @@ use Rattle.std.proofs.Common.{List, length, map, subst, Err}
 use Rattle.feed_queue.specs.Journal.{journal_text}
 use Rattle.run_files.specs.Stops.{write_end}
 use Rattle.run_files.specs.declared.stop.Stop.TheVariants.{NoMemory}
-use Rattle.run_report.specs.Journals.{Puts}
+use Rattle.run_report.specs.Journals.{PutsJournal}
 use Rattle.run_stages.proofs.Closed.{ends_of_all, joined_both, text_of_counts}
 use Rattle.run_stages.specs.Closing.{run_text, threads_end}
 use Rattle.run_stages.specs.Counted.{feed_counts, script_counts}
@@ -17,7 +17,7 @@ returns g c =
     record {
       sink = c.write_journal-wrote.new.out;
       wrote = wrote;
-      written = subst (λ (entries : List Entry). Puts g.P.Out.Sink.held g.P.Out.Sink.faults g.P.Out.Sink.name c.args.done.journal c.write_journal-wrote.new.out (journal_text c.args.plan.now.schema entries) c.write_journal-wrote.result) c.as_slice.ensures c.write_journal-wrote.ensures;
+      written = subst (λ (entries : List Entry). PutsJournal g.P.Out.Sink.held g.P.Out.Sink.faults g.P.Out.Sink.name c.args.done.journal c.write_journal-wrote.new.out (journal_text c.args.plan.now.schema entries) c.write_journal-wrote.result) c.as_slice.ensures c.write_journal-wrote.ensures;
       replied = c.give_back_parts-counts.new.place;
       given = c.give_back_parts-counts.result.1;
       parts = c.give_back_parts-counts.ensures.back;
