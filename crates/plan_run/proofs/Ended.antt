@@ -26,6 +26,7 @@ use Rattle.plan_run.proofs.Joined.{End, ended}
 use Rattle.plan_run.proofs.Landed.{some_is, told_pair}
 use Rattle.plan_run.proofs.Named.{KeepsOthers-one, KeepsOthers-twice, dones_named, names_of, names_then, sessions_named}
 use Rattle.plan_run.proofs.Blamed.{AnyOf, all_err, any_in, any_left, any_right, any_unmapped}
+use Rattle.plan_run.proofs.OneJournal.{EntryLaws}
 use Rattle.plan_run.proofs.Raised.{closing_not_plan, closing_read, closing_write, starved_of}
 use Rattle.plan_run.proofs.Refused.{large_feeds, refused_scripts, write_not_refused}
 use Rattle.plan_run.proofs.Said.{completes, opening_refused, opening_said, opening_truth, opening_unmade, opening_wrote, puts_after, silent_after, text_after}
@@ -184,8 +185,8 @@ module _ {P T : Type 0} (p : PlaceSeen P) (t : SinkSeen T) where
         all_created : p.created place' ≡ p.created place ++ output_names plan
         all_created = created ∙ leaves.created ∙ ap (λ ns. p.created place ++ ns) (sym (all_made p place mid (name ∷ input_names plan) (output_names plan) leaves))
 
-        is_done : result ≡ Ok tt → IsDone p t place place' out out' name plan
-        is_done well =
+        is_done : EntryLaws → result ≡ Ok tt → IsDone p t place place' out out' name plan
+        is_done laws well =
             let closed : ClosesRun plan (run_done_of crewed parts.journal) p s t i.faults mid place' out1 out' (Ok tt) = subst (ClosesRun plan (run_done_of crewed parts.journal) p s t i.faults mid place' out1 out') well closes in
             let quiet = all_quiet p i s t plan parts mid place' out1 out' (p.files place) crewed ready ran closed in
             record {
@@ -195,7 +196,7 @@ module _ {P T : Type 0} (p : PlaceSeen P) (t : SinkSeen T) where
               files = told_by (p.files place) (λ files. IsSomeAnd (p.files place') (λ files'. IsCompleted plan files files' (t.held out) (t.held out'))) (λ files told.
                   let now = told_pair (p.files place) (p.files mid) files (λ a b. (other : List ℕ) → ¬ Contains leaves.makes other → get b other ≡ get a other) told leaves.others in
                   subst (λ o. IsSomeAnd (p.files place') (λ files'. IsCompleted plan files files' o (t.held out'))) silent.held
-                  (completed p i s t plan parts mid place' out1 out' files now.0 crewed plan_is.files (subst (λ o. AreReady i.left i.faults s o plan parts) told ready) ran now.1 closed));
+                  (completed p i s t plan parts mid place' out1 out' laws files now.0 crewed plan_is.files (subst (λ o. AreReady i.left i.faults s o plan parts) told ready) ran now.1 closed));
             }
 
         abbrev done : RunDone I O
@@ -344,8 +345,8 @@ module _ {P T : Type 0} (p : PlaceSeen P) (t : SinkSeen T) where
             Told-each (p.files place) _ _ (λ files some. some_each (p.files place') _ _ (λ files' holds. (its_account.entries, holds.journal, holds.all found unread)) some)
             (its_files no_write (wrote_found p i s t plan parts mid place' out1 out' (p.files place) ready crewed ran feeds asks finals result not_plan closes found) (kept_found p i s t plan parts mid place' out1 out' (p.files place) ready crewed ran feeds asks finals result not_plan closes found))
 
-        pub ended_by_closing : RunEnds p t place place' out out' name result
-        ended_by_closing = record {
+        pub ended_by_closing : EntryLaws → RunEnds p t place place' out out' name result
+        ended_by_closing laws = record {
           plan = Some plan;
           plan_is = plan_is;
           unplanned = λ none. absurd (cc none);
@@ -363,7 +364,7 @@ module _ {P T : Type 0} (p : PlaceSeen P) (t : SinkSeen T) where
         }
           where
             by : (r : Result (Unit {0}) Stop) → result ≡ r → OnOk r ((which : Plan) × (Some plan ≡ Some which) × IsDone p t place place' out out' name which)
-            by (Ok x) is = (plan, refl, is_done is)
+            by (Ok x) is = (plan, refl, is_done laws is)
             by (Err e) is = tt
 
             says : Silent t out out' ⊎ PutsOrFails t out out' (run_text plan done) → SaysOfRun p t place place' out out' name result (Some plan)
@@ -410,6 +411,6 @@ module _ {P T : Type 0} (p : PlaceSeen P) (t : SinkSeen T) where
             complete = completes p t place place' out out' name (Some plan) result (λ e. absurd (cc (is, e))) (λ e. absurd (cc (is, e))) (λ e. absurd (cc (is, e))) (λ e. absurd (cc (is, e)));
           }
 
-      pub ended_by_parts : (result : Result (Unit {0}) Stop) → RunsParts p i s t plan parts mid place' out1 out' result → RunEnds p t place place' out out' name result
-      ended_by_parts result (inl runs) = ended_by_closing result runs.crewed runs.ran runs.closes
-      ended_by_parts result (inr unrun) = ended_unrun result unrun.0 unrun.1 unrun.2
+      pub ended_by_parts : EntryLaws → (result : Result (Unit {0}) Stop) → RunsParts p i s t plan parts mid place' out1 out' result → RunEnds p t place place' out out' name result
+      ended_by_parts laws result (inl runs) = ended_by_closing result runs.crewed runs.ran runs.closes laws
+      ended_by_parts laws result (inr unrun) = ended_unrun result unrun.0 unrun.1 unrun.2

@@ -6,6 +6,7 @@ mod Joined
 mod Landed
 mod Causes
 mod Completing
+mod OneJournal
 mod Whole
 mod Blamed
 mod Named

@@ -16,6 +16,7 @@ use Rattle.cube_schema.specs.Repeats.{outputs}
 use Rattle.cube_schema.specs.declared.plan.Plan.{Plan}
 use Rattle.cube_store.specs.Numbers.{OwnsAllButRoot}
 use Rattle.feed_queue.specs.Journal.{journal_text}
+use Rattle.feed_reader.specs.Feeds.{accepted}
 use Rattle.outer_io.proofs.ToldLaws.{Told-some}
 use Rattle.outer_io.specs.Bytes.{Gains}
 use Rattle.outer_io.specs.Files.{Files, HasFile, SameBut, file_or_empty}
@@ -27,6 +28,7 @@ use Rattle.plan_run.proofs.Causes.{FeedCause, SessionCause, feed_causes, session
 use Rattle.plan_run.proofs.Completing.{all_replied, all_taken, are_fed, sinks_named, transcripts}
 use Rattle.plan_run.proofs.Joined.{All-unmapped, IsWell, all_well, feed_well, session_well, starved_well, written_well}
 use Rattle.plan_run.proofs.Landed.{All-back, All-front, AllPairs-back, AllPairs-front, AllPairs-last, all_landed, some_is, told_pair}
+use Rattle.plan_run.proofs.OneJournal.{EntryLaws, entries_valid}
 use Rattle.plan_run.proofs.Zips.{AllZip-length, AllZip-right}
 use Rattle.plan_run.specs.Completed.{IsCompleted, reply_counts, whole_rows}
 use Rattle.plan_run.specs.Parts.{run_done_of, jobs_of}
@@ -102,9 +104,9 @@ module _ {P I O T : Type 0} (p : PlaceSeen P) (i : PartSeen I) (s : SinkSeen O) 
   sink_of done = done.sink
 
   -- the files of a run that was closed and ended well
-  pub completed : (files now : Files) (crewed : Crewed I O) → NamesFiles plan → AreReady i.left i.faults s (Some files) plan parts → IsCrewed i.left i.faults s.held s.faults s.name OwnsAllButRoot plan.schema (jobs_of parts) crewed
+  pub completed : EntryLaws → (files now : Files) (crewed : Crewed I O) → NamesFiles plan → AreReady i.left i.faults s (Some files) plan parts → IsCrewed i.left i.faults s.held s.faults s.name OwnsAllButRoot plan.schema (jobs_of parts) crewed
       → p.files place ≡ Some now → (closes : ClosesRun plan (run_done_of crewed parts.journal) p s t i.faults place place' out out' (Ok tt)) → IsSomeAnd (p.files place') (λ files'. IsCompleted plan files files' (t.held out) (t.held out'))
-  completed files now crewed names ready ran told closes =
+  completed laws files now crewed names ready ran told closes =
       let well = ends_well crewed closes in
       let found = ran.found well.fed in
       let points = entry_points crewed.journal in
@@ -147,6 +149,9 @@ module _ {P I O T : Type 0} (p : PlaceSeen P) (i : PartSeen I) (s : SinkSeen O) 
       let count : length parts.feeds ≡ length plan.feeds = AllZip-length (λ name job. IsJobOf i.left i.faults plan.schema (Some (file_or_empty files name)) job) plan.feeds parts.feeds ready.feeds in
       let drawn : IsInterleaving (length plan.feeds) (list_of ran.sent) crewed.journal =
       subst (λ n. IsInterleaving n (list_of ran.sent) crewed.journal) count (subst (IsInterleaving (length parts.feeds) (list_of ran.sent)) (sym found.journal) ran.drawn) in
+      let order : IsInterleaving (length plan.feeds) (list_of (map (λ name. accepted plan.schema (file_or_empty files name)) plan.feeds)) crewed.journal =
+      subst (λ ls. IsInterleaving (length plan.feeds) (list_of ls) crewed.journal) fed.sent drawn in
+      let valid = entries_valid laws plan files crewed.journal names order in
       -- the report
       let counted : List FeedCounts → List ScriptCounts → List ScriptCounts → Bool → List ℕ = λ fs qs ls closed. counts_text plan fs qs ls closed (length crewed.journal) in
       let report : counted (map feed_counts crewed.feeds) (map script_counts crewed.asks) (map script_counts crewed.finals) crewed.closed
@@ -161,7 +166,9 @@ module _ {P I O T : Type 0} (p : PlaceSeen P) (i : PartSeen I) (s : SinkSeen O) 
       (record {
         entries = crewed.journal;
         journal = journal;
-        order = subst (λ ls. IsInterleaving (length plan.feeds) (list_of ls) crewed.journal) fed.sent drawn;
+        valid = valid;
+        only = λ others are same. laws.0 plan.schema others crewed.journal are valid same;
+        order = order;
         taken = fed.taken;
         answered = All-append (λ name. is_script_refused plan.schema (file_or_empty files name) ≡ false) plan.asks plan.finals (all_taken i s plan.schema false points files plan.asks crewed.asks asks)
             (all_taken i s plan.schema true points files plan.finals crewed.finals finals);

@@ -7,7 +7,7 @@ use Rattle.cube_schema.specs.declared.plan.Plan.{Plan}
 use Rattle.cube_store.specs.Numbers.{OwnsAllButRoot}
 use Rattle.cube_view.specs.Points.{Point}
 use Rattle.cube_view.specs.declared.schema.Schema.{Schema}
-use Rattle.feed_queue.specs.Journal.{journal_text}
+use Rattle.feed_queue.specs.Journal.{IsEntryOf, journal_text}
 use Rattle.feed_reader.specs.Feeds.{accepted, is_feed_refused, rows}
 use Rattle.live_session.specs.Turned.{seens_of}
 use Rattle.outer_io.specs.Bytes.{Gains}
@@ -46,6 +46,9 @@ pub record IsCompleted (plan : Plan) (files files' : Files) (held held' : Option
   -- the journal holds these entries
   pub entries : List Entry
   pub journal : get files' plan.journal ≡ Some (journal_text plan.schema entries)
+  -- they are entries of the schema, and no other list of such entries has that text
+  pub valid : All (IsEntryOf plan.schema) entries
+  pub only : (others : List Entry) → All (IsEntryOf plan.schema) others → journal_text plan.schema others ≡ journal_text plan.schema entries → others ≡ entries
   -- each feed's accepted records are among them, once each, in that feed's order, and nothing else is
   pub order : IsInterleaving (length plan.feeds) (list_of (map (λ name. accepted plan.schema (file_or_empty files name)) plan.feeds)) entries
   -- no feed is refused

@@ -14,6 +14,8 @@ use crate::returning::give_back_parts;
 use cube_crew::{Crewed, Jobs, run_crew};
 use cube_schema::Plan;
 use cube_view::Schema;
+use feed_queue::journal_laws;
+use feed_reader::accepted_laws;
 use outer_io::{NoMemory, Place, Sink, Source};
 use run_files::Stop;
 use run_opening::{RunParts, open_run};
@@ -122,6 +124,8 @@ pub fn run_plan<R: Threads + Wait + Sync, P: Place, O: Sink>(
 ) -> Result<(), Stop>
     ensures { RunEnds (seen_place P.files P.read_faults P.write_faults P.opened P.created) (seen_sink O.held O.faults O.name) place.old place.new out.old out.new name.now result }
 {
+    journal_laws();
+    accepted_laws();
     let (plan, parts) = open_run(alloc, name, place, out)?;
     run_parts(rt, alloc, &plan, parts, place, out)
 }

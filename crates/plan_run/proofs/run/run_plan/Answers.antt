@@ -11,7 +11,7 @@ returns g c =
     let s = seen_sink g.P.Out.Sink.held g.P.Out.Sink.faults g.P.Out.Sink.name in
     let t = seen_sink g.O.Sink.held g.O.Sink.faults g.O.Sink.name in
     ended_by_parts p t c.args.place.now c.open_run.new.place c.run_parts.new.place c.args.out.now c.open_run.new.out c.run_parts.new.out c.args.name.now c.in_ok-plan.plan
-    c.in_ok-plan.ensures.opens c.in_ok-plan.ensures.plan (seen_part g.P.In.Source.left g.P.In.Source.faults) s c.in_ok-plan.parts c.in_ok-plan.ensures.ready c.run_parts.result c.run_parts.ensures
+    c.in_ok-plan.ensures.opens c.in_ok-plan.ensures.plan (seen_part g.P.In.Source.left g.P.In.Source.faults) s c.in_ok-plan.parts c.in_ok-plan.ensures.ready (c.journal_laws.ensures.one, c.accepted_laws.ensures.sound, c.accepted_laws.ensures.within) c.run_parts.result c.run_parts.ensures
 
 pub returns-in_err-plan : goal.returns-in_err-plan
 returns-in_err-plan g c =
