@@ -15,6 +15,10 @@
 #![tactic(auto)]
 
 #[cfg(test)]
+mod beside;
+#[cfg(test)]
+mod beside_tests;
+#[cfg(test)]
 mod endless_tests;
 #[cfg(test)]
 mod names_tests;

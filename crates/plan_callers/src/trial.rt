@@ -1,4 +1,5 @@
 //! A run over files in memory of which some calls may fail, and what it is to leave.
+use crate::beside::{BesidePlace, Printed};
 use crate::tailed::{Tail, TailedPlace};
 use outer_io::{List, MemPlace, MemSink, Place};
 use plan_run::run_plan;
@@ -10,6 +11,10 @@ use std::thread::Threads;
 /// A plan of one feed and no scripts.
 pub(crate) const NO_SCRIPTS: &str =
     r#"{"asks":[],"batch":1,"categories":[{"name":"kind","values":["a","b"]}],"depth":3,"feeds":["a.csv"],"finals":[],"journal":"j.txt","start":0,"version":1,"width":10}"#;
+
+/// A plan of one feed and one ask.
+pub(crate) const ONE_ASK: &str =
+    r#"{"asks":["q.txt"],"batch":1,"categories":[{"name":"kind","values":["a","b"]}],"depth":3,"feeds":["a.csv"],"finals":[],"journal":"j.txt","start":0,"version":1,"width":10}"#;
 
 /// A plan of one feed and one final.
 pub(crate) const ONE_FINAL: &str =
@@ -193,6 +198,11 @@ impl Trial {
         str::from_utf8(bytes).expect(rt, "a text")
     }
 
+    /// The text of the report.
+    pub(crate) fn report(&self, rt: &impl Abort) -> &str {
+        str::from_utf8(self.out.bytes()).expect(rt, "a text")
+    }
+
     /// The run is to leave a file of that name as it left it, since the test has judged it by itself.
     pub(crate) fn wanted_as_left(&mut self, rt: &(impl Abort + AllocGlobal), name: &str) {
         let bytes = self.place.file(name).expect(rt, "a file");
@@ -202,8 +212,7 @@ impl Trial {
 
     /// That report was put, and the run left all files as they are to be, and no others.
     pub(crate) fn check_left(&self, rt: &impl Abort, report: &str) {
-        let put = str::from_utf8(self.out.bytes()).expect(rt, "a text");
-        assert_eq!(rt; put, report);
+        assert_eq!(rt; self.report(rt), report);
         for name in NAMES {
             check_file(rt, &self.place, &self.wanted, name);
         }
@@ -247,5 +256,27 @@ impl Trial {
         };
         left.check_left(rt, report);
         tailed.read_faults
+    }
+
+    /// What the run of `p.json` leaves, which is done, where its feed waits for its ask.
+    pub(crate) fn run_beside<R: Abort + AllocGlobal + Threads + Wait + Sync>(
+        self,
+        rt: &R,
+        printed: &Printed,
+    ) -> Trial {
+        let Trial { place, wanted, out } = self;
+        let mut beside = BesidePlace {
+            place,
+            printed,
+            read_faults: 0,
+        };
+        let mut out = out;
+        let ended = run_over(rt, &mut beside, &mut out);
+        assert_eq!(rt; ended, Ok(()));
+        Trial {
+            place: beside.place,
+            wanted,
+            out,
+        }
     }
 }
