@@ -8,7 +8,7 @@ use Rattle.query_syntax.specs.Items.{category_number}
 use Rattle.query_syntax.specs.Meaning.{meaning, query_after_verb, query_of}
 use Rattle.query_syntax.specs.Reading.{number_at, number_of}
 use Rattle.query_syntax.specs.Tables.{has_table}
-use Rattle.query_syntax.specs.Verbs.{hist_at, map_at, series_at, verb_at}
+use Rattle.query_syntax.specs.Verbs.{category_at, hist_at, map_at, series_at, verb_at}
 use Rattle.query_syntax.specs.Words.{cut_pieces, words}
 use Rattle.query_syntax.specs.declared.query.Parsed.{Parsed}
 use Rattle.query_syntax.specs.declared.query.Parsed.TheVariants.{Skip, Ask, Fault}
@@ -23,7 +23,7 @@ asks_table (Fault fault word) = false
 
 -- the lines of the final script ask for these tables
 pub asks_four : AsksFour
-unfolding final_asked meaning query_of query_after_verb verb_at hist_at map_at series_at words cut_pieces category_number number_at number_of decimal_value filters_at is_utf8 chars lib.Utf8.encode
+unfolding final_asked meaning query_of query_after_verb verb_at category_at hist_at map_at series_at words cut_pieces category_number number_at number_of decimal_value filters_at is_utf8 chars lib.Utf8.encode
 asks_four = refl
 
 -- so each of them asks for one
