@@ -85,7 +85,7 @@ fn ask_more(buf: &mut [u8], printed: &Printed, reads: u32) -> usize
     if reads >= 1_000_000 || printed.has_both() {
         return 0;
     }
-    let lines = b"told\ncount\n";
+    let lines: &[u8] = b"told\ncount\n";
     let n = buf.len().min(lines.len());
     buf[..n].copy_from_slice(&lines[..n]);
     n
