@@ -1,0 +1,13 @@
+mod Fitted
+mod Imaged
+mod Known
+mod Loaded
+mod Parted
+mod Placed
+mod PointPaths
+mod Renumbered
+mod Rowed
+mod Saved
+mod Summed
+mod Telling
+mod Wholly

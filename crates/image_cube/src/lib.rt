@@ -1,0 +1,20 @@
+//! Cubes saved as their images, and made again of them.
+//!
+//! [`save_cube`] writes the one image of a cube, and [`load_cube`] makes the cube of an image, or refuses bytes that are
+//! none, or the image of no cube of the schema. What both tell is one definition, `IsCubeImage` of
+//! `specs/CubeImages.antt`: the bytes are the image of a cube of a list of points. A cube that counts records of its
+//! schema is written as such bytes, and the cube of bytes counts exactly the lists of whose cubes they are the image. So
+//! what is loaded counts what was saved. The crate stands on `cube_image` for the bytes, on `image_read` for the test of
+//! slots, and on `cube_store` for cubes; files it leaves to the crates above.
+//!
+//! ```text
+//! let bytes = save_cube(alloc, &cube)?;               // 28 bytes for a cube of no points
+//! let again = load_cube(alloc, schema, &bytes)?;      // counts the points that the cube counts
+//! ```
+#![tactic(auto)]
+
+mod load;
+mod save;
+
+pub use load::load_cube;
+pub use save::save_cube;

@@ -1,0 +1,22 @@
+//! The cube of an image.
+ghost use Rattle.image_cube.specs.CubeImages.{LoadsCube};
+
+use cube_store::Cube;
+use cube_view::Schema;
+use image_parse::image_parse_laws;
+use image_read::{ImageFault, read_image};
+use shape_test::size_laws;
+use std::alloc::Global;
+
+/// The cube of the schema of which the bytes are the image. It counts exactly the lists of points of whose cubes they are
+/// the image. `TooLong`, `NotImage` and `NotShape` come exactly where they hold, in this order, unless memory was wanted.
+pub fn load_cube(alloc: Global, schema: Schema, bytes: &[u8]) -> Result<Cube, ImageFault>
+    ensures { LoadsCube schema bytes.now result }
+{
+    image_parse_laws();
+    size_laws();
+    match read_image(alloc, &schema, bytes) {
+        Ok((arena, root, size)) => Ok(Cube::of_slots(alloc, schema, arena, root, size)),
+        Err(fault) => Err(fault),
+    }
+}
