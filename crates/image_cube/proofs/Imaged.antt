@@ -55,11 +55,11 @@ find-low b k n (x ∷ es) R e =
 abbrev IsRow : ℕ → ℕ → Type 0
 IsRow bin n = (bin < 2 ^ 32) × (0 < n) × (n < 2 ^ 64)
 
-are-rows : (from : ℕ) (es : List (ℕ × ℕ)) → Rises from es → ((bin n : ℕ) → find nat_cmp bin es ≡ Some n → IsRow bin n) → AreRows from es
-are-rows from [] R f = tt
-are-rows from (x ∷ es) R f =
+are-entries : (from : ℕ) (es : List (ℕ × ℕ)) → Rises from es → ((bin n : ℕ) → find nat_cmp bin es ≡ Some n → IsRow bin n) → AreRows from es
+are-entries from [] R f = tt
+are-entries from (x ∷ es) R f =
     let here = f x.0 x.1 (find_here x.0 x.0 x.1 es refl) in
-    (R.0, here.0, here.1, here.2, are-rows (x.0 + 1) es R.1 (λ bin n e. f bin n (let low = find-low (x.0 + 1) bin n es R.1 e in find_later bin x.0 x.1 es (omega (arith, low)) ∙ e)))
+    (R.0, here.0, here.1, here.2, are-entries (x.0 + 1) es R.1 (λ bin n e. f bin n (let low = find-low (x.0 + 1) bin n es R.1 e in find_later bin x.0 x.1 es (omega (arith, low)) ∙ e)))
 
 -- ---- what lies under an address in a bin
 
@@ -103,7 +103,7 @@ module _ (schema : Schema) (slots : List Slot) (size : ℕ) (h : List Point) (C 
           to-content : (o : Option Link) → content ≡ o → IfSome o (λ l. target l < length slots)
           to-content None e = tt
           to-content (Some l) e = target-lt slots C.homes C.shape.has_homes i across l (ap (λ (s : Slot). link s across) x ∙ e)
-      go (table counts) x = are-rows 0 (entries counts) (rows-rise counts) (λ bin n e. row bin n e)
+      go (table counts) x = are-entries 0 (entries counts) (rows-rise counts) (λ bin n e. row bin n e)
         where
           row : (bin n : ℕ) → find nat_cmp bin (entries counts) ≡ Some n → IsRow bin n
           row bin n e =
