@@ -1,0 +1,31 @@
+use Rattle.std.proofs.Common.{◌∙◌, Result, sym, subst}
+use Rattle.std.proofs.lemmas.List.{append-nil}
+use Rattle.cube_view.specs.Bag.{Counts}
+use Rattle.run_files.specs.Outside.{seen_place, seen_sink}
+use Rattle.run_files.specs.declared.stop.Stop.{Stop}
+use Rattle.image_run.specs.Answering.{AnswersFile}
+use Rattle.image_run.proofs.Answered.{answered_file, unopened_file}
+use Rattle.image_run.proofs.answering.answer_file.Goals as goal
+
+pub returns-in-Ok-clause-answers : goal.returns-in-Ok-clause-answers
+returns-in-Ok-clause-answers g c =
+    let p = seen_place g.P.Place.files g.P.Place.read_faults g.P.Place.write_faults g.P.Place.opened g.P.Place.created in
+    let s = seen_sink g.O.Sink.held g.O.Sink.faults g.O.Sink.name in
+    let at = g.V.CubeView.weight_at c.args.view.now in
+    let n = g.V.CubeView.seen c.args.view.now in
+    subst (λ (result : Result (Unit {0}) Stop). AnswersFile p s c.args.place.now c.give_back_in.new.self c.args.out.now c.answer_script-source.new.out (g.V.CubeView.schema c.args.view.now) g.V.CubeView.is_stat (Counts at n) c.args.script.now result)
+    (sym c.script_end.ensures)
+    (answered_file p s c.args.place.now c.give_back_in.new.self c.args.out.now c.answer_script-source.new.out (g.V.CubeView.schema c.args.view.now) g.V.CubeView.is_stat at n c.args.script.now
+    (g.V.CubeView.numbers c.args.view.now) (g.met.V.CubeView.structure c.args.view.now) c.seen.result (g.P.In.Source.left c.in-Ok.source) c.seen.ensures c.in-Ok.ensures.left
+    (c.give_back_in.ensures.opened ∙ c.in-Ok.ensures.opened.noted (λ e. cc))
+    _ c.answer_script-source.ensures.all c.answer_script-source.ensures.too_much c.answer_script-source.ensures.part)
+
+pub returns-in-Err-Failed-clause-answers : goal.returns-in-Err-Failed-clause-answers
+returns-in-Err-Failed-clause-answers g c =
+    unopened_file _ _ _ _ _ _ _ _ _ _ (λ e. cc) (λ e. cc) (λ e. cc)
+    (1, c.in-Err-Failed.ensures.opened.noted (λ e. cc))
+
+pub returns-in-Err-NoMemory-clause-answers : goal.returns-in-Err-NoMemory-clause-answers
+returns-in-Err-NoMemory-clause-answers g c =
+    unopened_file _ _ _ _ _ _ _ _ _ _ (λ e. cc) (λ e. cc) (λ e. cc)
+    (0, c.in-Err-NoMemory.ensures.opened.unnoted (cc) ∙ sym (append-nil _))

@@ -1,0 +1,58 @@
+-- What answering a script over a view leaves.
+use Rattle.std.specs.Prelude.{◌≡◌, ◌≢◌, ℕ, Bool, true, false, List, [], ◌∷◌, ◌++◌, length, take, Some, Result, Ok, Err}
+use Rattle.cube_view.specs.Points.{Point}
+use Rattle.cube_view.specs.declared.schema.Schema.{Schema}
+use Rattle.cube_view.specs.declared.stat.Stat.{Stat}
+use Rattle.outer_io.specs.Files.{Files, file_or_empty}
+use Rattle.outer_io.specs.Lines.{lines}
+use Rattle.run_files.specs.Outside.{PlaceSeen, SinkSeen}
+use Rattle.run_files.specs.Stops.{joined_ends, stop_of_session}
+use Rattle.run_files.specs.declared.stop.Stop.{Stop}
+use Rattle.run_files.specs.declared.stop.Stop.TheVariants as stop
+use Rattle.session_core.specs.Answered.{GainsReplies, GainsFront}
+use Rattle.session_core.specs.Asked.{asked}
+use Rattle.session_core.specs.Scripts.{is_script_refused}
+use Rattle.session_core.specs.declared.answering.ScriptEnd.{ScriptEnd}
+use Rattle.session_core.specs.declared.fault.SessionFault.{SessionFault}
+
+-- how a run ends whose script was answered so far, if that ends it
+abbrev pub answers_end : Result (Unit {0}) SessionFault → Result (Unit {0}) Stop
+answers_end (Ok answered) = Ok answered
+answers_end (Err fault) = Err (stop_of_session fault)
+
+-- and where a reply was the line for want of memory
+abbrev pub lacking_end : Bool → Result (Unit {0}) Stop
+lacking_end true = Err stop.NoMemory
+lacking_end false = Ok tt
+
+-- how a run ends by the end of the answers to its script
+abbrev pub script_end : ScriptEnd → Result (Unit {0}) Stop
+script_end e = joined_ends (lacking_end e.lacked) (answers_end e.end)
+
+-- a reply may be the line for want of memory where memory was wanted
+abbrev pub may_lack : Result (Unit {0}) Stop → Bool
+may_lack (Ok done) = false
+may_lack (Err stop.NoMemory) = true
+may_lack (Err stop.PlanRefused) = false
+may_lack (Err stop.ReadFault) = false
+may_lack (Err stop.WriteFault) = false
+may_lack (Err stop.FeedRefused) = false
+
+-- What answering the named script leaves of a place and a sink, over a view of a schema that counts these lists of
+-- points, each point of which was told, and whose structure's numbers meet the test
+pub record AnswersFile {P O : Type 0} (p : PlaceSeen P) (s : SinkSeen O) (place place' : P) (out out' : O) (schema : Schema) (is_stat : Stat → Type 0) (counts : List Point → Type 0) (name : List ℕ) (result : Result (Unit {0}) Stop) : Type 0 where
+  -- no plan is refused
+  pub form : result ≢ Err stop.PlanRefused
+  -- with Ok the sink gained all answers, and the script is not refused
+  pub done : (files : Files) → p.files place ≡ Some files → result ≡ Ok tt
+      → ((h : List Point) → counts h → GainsReplies schema is_stat h (length h) false (s.held out) (s.held out') (asked schema (lines (file_or_empty files name)))) × (is_script_refused schema (file_or_empty files name) ≡ false)
+  -- and so it did where the script is refused
+  pub refused : (files : Files) → p.files place ≡ Some files → result ≡ Err stop.FeedRefused
+      → ((h : List Point) → counts h → GainsReplies schema is_stat h (length h) false (s.held out) (s.held out') (asked schema (lines (file_or_empty files name)))) × (is_script_refused schema (file_or_empty files name) ≡ true)
+  -- with any end it gained some of them
+  pub part : (files : Files) → p.files place ≡ Some files → (h : List Point) → counts h → GainsFront schema is_stat h (length h) (may_lack result) (s.held out) (s.held out') (asked schema (lines (file_or_empty files name)))
+  -- the script was opened, once at most, and with Ok it was
+  pub opened_once : (k : ℕ) × (p.opened place' ≡ p.opened place ++ take k (name ∷ []))
+  pub opened_it : result ≡ Ok tt → p.opened place' ≡ p.opened place ++ name ∷ []
+  -- where it was not, nothing was written
+  pub untouched : p.opened place' ≡ p.opened place → out' ≡ out

@@ -1,0 +1,5 @@
+pub mod Answering
+pub mod Ends
+pub mod Faults
+pub mod Lines
+pub mod Taking

@@ -1,0 +1,58 @@
+//! A script answered over a view.
+ghost use Rattle.std.specs.Prelude.{◌≡◌};
+ghost use Rattle.cube_view.specs.Bag.{Counts};
+ghost use Rattle.image_run.specs.Answering.{answers_end, lacking_end, script_end, AnswersFile};
+ghost use Rattle.image_run.specs.Faults.{HasFaults};
+ghost use Rattle.run_files.specs.Outside.{seen_place, seen_sink};
+
+use cube_view::CubeView;
+use outer_io::{IoFault, Place, Sink};
+use run_files::{Stop, joined_ends, stop_of_session};
+use session_core::{ScriptEnd, SessionFault, answer_script};
+use std::alloc::Global;
+
+/// How a run ends whose script was answered so far, if that ends it.
+fn answers_end(answers: Result<(), SessionFault>) -> Result<(), Stop>
+    ensures { result ≡ answers_end answers }
+{
+    match answers {
+        Ok(()) => Ok(()),
+        Err(fault) => Err(stop_of_session(fault)),
+    }
+}
+
+/// And where a reply was the line for want of memory.
+fn lacking_end(lacked: bool) -> Result<(), Stop>
+    ensures { result ≡ lacking_end lacked }
+{
+    if lacked { Err(Stop::NoMemory) } else { Ok(()) }
+}
+
+/// How a run ends by the end of the answers to its script.
+fn script_end(answers: ScriptEnd) -> Result<(), Stop>
+    ensures { result ≡ script_end answers }
+{
+    joined_ends(lacking_end(answers.lacked), answers_end(answers.end))
+}
+
+/// Answers the named script over the view, each point of which was told. The script's source is given back.
+pub(crate) fn answer_file<V: CubeView, P: Place, O: Sink>(
+    alloc: Global,
+    view: &V,
+    script: &str,
+    place: &mut P,
+    out: &mut O,
+) -> Result<(), Stop>
+    ensures answers { AnswersFile (seen_place P.files P.read_faults P.write_faults P.opened P.created) (seen_sink O.held O.faults O.name) place.old place.new out.old out.new (V.schema view.now) V.is_stat (Counts (V.weight_at view.now) (V.seen view.now)) script.now result }
+    ensures faults { HasFaults (seen_place P.files P.read_faults P.write_faults P.opened P.created) (seen_sink O.held O.faults O.name) place.old place.new out.old out.new result }
+{
+    match place.open(script) {
+        Ok(source) => {
+            let (source, answers) = answer_script(alloc, view, view.seen(), source, out);
+            place.give_back_in(source);
+            script_end(answers)
+        }
+        Err(IoFault::Failed) => Err(Stop::ReadFault),
+        Err(IoFault::NoMemory) => Err(Stop::NoMemory),
+    }
+}

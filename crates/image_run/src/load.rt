@@ -1,0 +1,43 @@
+//! A script answered over the cube of an image, from files.
+ghost use Rattle.run_files.specs.Outside.{seen_place, seen_sink};
+ghost use Rattle.image_run.specs.Ends.{LoadEnds};
+
+use crate::ImageEnd;
+use crate::answering::answer_file;
+use crate::taking::take_image;
+use outer_io::{Place, Sink};
+use run_files::{Stop, load_plan, read_file};
+use std::alloc::Global;
+
+/// The most bytes of an image.
+const LONGEST_IMAGE: usize = 1 << 30;
+
+/// The names of the three files of a load.
+#[derive(Clone, Copy)]
+pub struct LoadNames<'a> {
+    pub plan: &'a str,
+    pub image: &'a str,
+    pub script: &'a str,
+}
+
+/// Answers the script over the cube of the image. The plan is read first, and then the image, of which at most 2^30 bytes
+/// are an image; nothing is created. An image that is refused has its line, and the script is not opened. The first trouble
+/// ends the run: a plan that is refused has its line, and a script of more than 2^30 bytes counts as a feed that is refused.
+pub fn load_files<P: Place, O: Sink>(
+    alloc: Global,
+    names: &LoadNames<'_>,
+    place: &mut P,
+    out: &mut O,
+) -> Result<ImageEnd, Stop>
+    ensures { LoadEnds (seen_place P.files P.read_faults P.write_faults P.opened P.created) (seen_sink O.held O.faults O.name) place.old place.new out.old out.new names.now.plan.now names.now.image.now names.now.script.now result }
+{
+    let plan = load_plan(alloc, names.plan, place, out)?;
+    let bytes = read_file(alloc, names.image, LONGEST_IMAGE, place)?;
+    match take_image(alloc, plan.schema, bytes, out)? {
+        Some(cube) => {
+            answer_file(alloc, &cube, names.script, place, out)?;
+            Ok(ImageEnd::Done)
+        }
+        None => Ok(ImageEnd::Refused),
+    }
+}
