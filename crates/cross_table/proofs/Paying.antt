@@ -18,12 +18,12 @@ values_more : (n : ℕ) → values_under (n + 1) ≡ values_under n ++ n ∷ []
 values_more n = sym (map-id (values_under (n + 1))) ∙ (map-range_with_len_more (λ (v : ℕ). v) 0 n n (omega arith) ∙ ap (λ (vs : List ℕ). vs ++ n ∷ []) (map-id (values_under n)))
 
 -- the row of one value more
-pub row_more : (row : ℕ → RowOut) (n : ℕ) (start old new : List RowOut) (one : RowOut) → old ≡ start ++ map row (values_under n) → one ≡ row n → new ≡ old ++ one ∷ [] → new ≡ start ++ map row (values_under (n + 1))
-row_more row n start old new one so_far is pushed =
+pub row_more : (row_of : ℕ → RowOut) (n : ℕ) (start old new : List RowOut) (one : RowOut) → old ≡ start ++ map row_of (values_under n) → one ≡ row_of n → new ≡ old ++ one ∷ [] → new ≡ start ++ map row_of (values_under (n + 1))
+row_more row_of n start old new one so_far is pushed =
     pushed
     ∙ ((λ i. so_far i ++ is i ∷ [])
-    ∙ (append_assoc start (map row (values_under n)) (row n ∷ [])
-    ∙ ap (λ (rows : List RowOut). start ++ rows) (sym (map-range_with_len_more row 0 n n (omega arith)))))
+    ∙ (append_assoc start (map row_of (values_under n)) (row_of n ∷ [])
+    ∙ ap (λ (rows : List RowOut). start ++ rows) (sym (map-range_with_len_more row_of 0 n n (omega arith)))))
 
 -- the rows of one value more
 pub rows_more : (rows : ℕ → List RowOut) (n : ℕ) (old new : List RowOut) → old ≡ flat_map rows (values_under n) → new ≡ old ++ rows n → new ≡ flat_map rows (values_under (n + 1))
