@@ -185,3 +185,29 @@ fn random_cubes_with_weights_are_read_and_written_again(rt: HostRuntime) -> Resu
     }
     Ok(())
 }
+
+/// The bytes with any one of them one up are refused, or written again as they were. So is each link that leads to the next
+/// slot, and each count that is one more.
+fn check_each_byte_up(
+    rt: &impl Abort,
+    alloc: Global,
+    schema: &Schema,
+    bytes: &[u8],
+) -> Result<(), AllocError> {
+    for place in 0..bytes.len() {
+        let changed = with_byte(alloc, bytes, place, bytes[place].wrapping_add(1))?;
+        check_bytes(rt, alloc, schema, changed.as_slice());
+    }
+    Ok(())
+}
+
+#[test]
+fn random_cubes_with_any_byte_one_up_are_refused_or_whole(rt: HostRuntime) -> Result<(), Fail> {
+    let schema = weighted(rt.alloc())?;
+    for seed in 0..200 {
+        let points = random_points(rt.alloc(), seed)?;
+        let image = image_of(&rt, rt.alloc(), &schema, points.as_slice())?;
+        check_each_byte_up(&rt, rt.alloc(), &schema, image.as_slice())?;
+    }
+    Ok(())
+}
