@@ -2,6 +2,8 @@
 with no asks and with 8 asks of 20,000 lines each.
 run_times.py PROGRAM city [RECORDS]: times `run` of RECORDS records of a city's export in 8 feeds beside 8 asks of 20,000 lines, with
 the time of the journal's writing, and `demo` over as many lines of its own plan.
+run_times.py PROGRAM image: times `save` of 200,000 generated records and of 1,000,000 of a city's export, `load` of each image with
+one line, and beside them `run` of the same plan with the same line, which loads the feeds by threads into two copies.
 run_times.py PROGRAM big: runs `big 100000` 20 times.
 run_times.py PROGRAM recount: times `recount` of 1,000 replies over a journal of 200,000 entries."""
 import json, os, subprocess, sys, tempfile, threading, time
@@ -127,6 +129,25 @@ def city(program, records):
         print(f"demo: {seconds:.2f} s, {busy:.2f} of processors, {records / seconds:.0f} records a second, {most:.0f} MB", flush=True)
 
 
+def image(program):
+    print("what: seconds, processor seconds, MB")
+    for name, records, writes in (("generated", 200_000, lambda folder: (write_feeds(folder, 200_000, 1), write_plan(folder, 1, 64, 0))),
+                                  ("city", 1_000_000, lambda folder: write_city(folder, 1_000_000))):
+        with tempfile.TemporaryDirectory() as folder:
+            writes(folder)
+            plan = json.load(open(os.path.join(folder, "plan.json")))
+            plan["asks"], plan["finals"] = [], ["count.txt"]
+            json.dump(plan, open(os.path.join(folder, "plan.json"), "w"))
+            open(os.path.join(folder, "count.txt"), "w").write("count\n")
+            for words in (["save", "plan.json", "cube.img"], ["load", "plan.json", "cube.img", "count.txt"], ["run", "plan.json"]):
+                status, out, seconds, busy, most = timed(program, words, folder)
+                assert status == 0, (words, status, out)
+                if words[0] == "load":
+                    assert out == f'{{"rows":[[{records}]],"seen":{records}}}\n'.encode(), out
+                print(f"{name}, {words[0]}: {seconds:.2f}, {busy:.2f}, {most:.0f}", flush=True)
+            print(f"{name}: an image of {os.path.getsize(os.path.join(folder, 'cube.img'))} bytes", flush=True)
+
+
 def big(program):
     runs = [timed(program, ["big", "100000"], "/") for _ in range(20)]
     assert all(run[0] == 0 and run[1] == runs[0][1] for run in runs)
@@ -155,6 +176,8 @@ if what == "crew":
     crew(program, int(sys.argv[3]) if len(sys.argv) > 3 else 1_000_000)
 elif what == "city":
     city(program, int(sys.argv[3]) if len(sys.argv) > 3 else 1_000_000)
+elif what == "image":
+    image(program)
 elif what == "big":
     big(program)
 else:

@@ -1,5 +1,4 @@
 mod Points
 mod Loaded
-mod Answered
 mod Ended
 mod Forms

@@ -1,11 +1,11 @@
 -- The form `demo FEED SCRIPT`: a feed is loaded, and then a script is answered over its points.
-use Rattle.std.specs.Prelude.{◌≡◌, ◌≢◌, ℕ, Bool, true, false, ◌||◌, ◌&&◌, ◌==◌, get_or, if◌then◌else◌, List, [], ◌∷◌, ◌++◌, length, take, Option, Some, None, codes}
+use Rattle.std.specs.Prelude.{◌≡◌, ℕ, Bool, true, false, ◌||◌, ◌&&◌, ◌==◌, get_or, if◌then◌else◌, List, [], ◌∷◌, ◌++◌, length, take, Option, Some, None, codes}
 use Rattle.cube_main.specs.BuiltIn.{built_in}
-use Rattle.cube_main.specs.Outside.{WritesNoFile}
+use Rattle.cube_main.specs.Outside.{KeepsOutside, WritesNoFile}
 use Rattle.run_files.specs.Outside.{PlaceSeen, SinkSeen}
-use Rattle.cube_main.specs.Statuses.{IsRefusedOrEarlier, IsDoneOrNoMemory, may_lack}
+use Rattle.cube_main.specs.Statuses.{IsDoneOrNoMemory, IsOfDemo, IsRefusedOrEarlier, may_lack}
 use Rattle.cube_main.specs.declared.status.Status.{Status}
-use Rattle.cube_main.specs.declared.status.Status.TheVariants.{Done, Usage, PlanRefused, FeedRefused, Differs}
+use Rattle.cube_main.specs.declared.status.Status.TheVariants.{Done, FeedRefused}
 use Rattle.cube_store.specs.Numbers.{OwnsAllButRoot}
 use Rattle.cube_view.specs.Limits.{same_text}
 use Rattle.feed_reader.specs.Feeds.{accepted, is_feed_refused}
@@ -45,8 +45,8 @@ module _ {P O : Type 0} (p : PlaceSeen P) (s : SinkSeen O) (place place' : P) (o
 
   -- How a run of this form ends
   pub record DemoEnds : Type 0 where
-    -- the words are a form, no plan is read and nothing audited
-    pub form : (status ≢ Usage) × (status ≢ PlanRefused) × (status ≢ Differs)
+    -- the words are a form, no plan is read, nothing audited and no image read
+    pub form : IsOfDemo status
     -- with status 0 the sink gained all answers, and nothing was refused
     pub done : OfDemoFiles (λ f q. status ≡ Done → GainsAnswers (s.held out) (s.held out') f q × (is_refused f q ≡ false))
     -- with any status it gained some of them, and nothing else; only for want of memory a reply may be the line that says so
@@ -71,3 +71,8 @@ module _ {P O : Type 0} (p : PlaceSeen P) (s : SinkSeen O) (place place' : P) (o
     pub untouched : p.opened place' ≡ p.opened place ++ feed ∷ [] → out' ≡ out
     -- no file is written
     pub no_file : WritesNoFile p place place'
+
+  -- How such a run ends, and what it keeps of the place and the sink
+  pub record DemoRunEnds : Type 0 where
+    pub ends : DemoEnds
+    pub keeps : KeepsOutside p s place place' out out' status

@@ -1,11 +1,12 @@
-pub mod Answering
 pub mod Big
 pub mod BuiltIn
 pub mod Demo
+pub mod Load
 pub mod LoadFaults
 pub mod Loading
 pub mod Outside
 pub mod Recount
 pub mod Run
+pub mod Save
 pub mod Statuses
 pub mod Words

@@ -2,8 +2,9 @@
 use Rattle.std.specs.Prelude.{◌≡◌, ◌≢◌, ℕ, true, false, List, [], ◌∷◌, ◌++◌, map, take, Option, Some, Result, IfErr, OnOk, IsErrOf}
 use Rattle.cube_main.specs.Outside.{WritesNoFile}
 use Rattle.run_files.specs.Outside.{PlaceSeen}
+use Rattle.cube_main.specs.Statuses.{IsOfDemo}
 use Rattle.cube_main.specs.declared.status.Status.{Status}
-use Rattle.cube_main.specs.declared.status.Status.TheVariants.{Done, Usage, PlanRefused, ReadFault, WriteFault, FeedRefused, Differs}
+use Rattle.cube_main.specs.declared.status.Status.TheVariants.{Done, ReadFault, WriteFault, FeedRefused}
 use Rattle.cube_view.specs.Points.{Point}
 use Rattle.cube_view.specs.declared.schema.Schema.{Schema}
 use Rattle.feed_reader.specs.Feeds.{accepted, is_feed_refused, points_in}
@@ -35,7 +36,7 @@ pub record Loads {P : Type 0} (p : PlaceSeen P) (place place' : P) (name : List 
   -- it is answered as refused only where it is
   pub refused : (fs : Files) → p.files place ≡ Some fs → IsErrOf result FeedRefused → is_feed_refused schema (file_or_empty fs name) ≡ true
   -- no other status comes than those of a feed
-  pub status : IfErr result (λ status. (status ≢ Done) × (status ≢ Usage) × (status ≢ WriteFault) × (status ≢ PlanRefused) × (status ≢ Differs))
+  pub status : IfErr result (λ status. (status ≢ Done) × (status ≢ WriteFault) × IsOfDemo status)
   -- a read fault has its cause
   pub read : HasCause (p.read_faults place) (p.read_faults place') result ReadFault
   -- no file is written

@@ -1,7 +1,9 @@
 -- The statuses of a run.
-use Rattle.std.specs.Prelude.{ℕ, Bool, true, false, ◌≡◌, ◌⊎◌, Result, Ok, Err}
+use Rattle.std.specs.Prelude.{ℕ, Bool, true, false, ◌≡◌, ◌≢◌, ◌⊎◌, Result, Ok, Err}
 use Rattle.cube_main.specs.declared.status.Status.{Status}
-use Rattle.cube_main.specs.declared.status.Status.TheVariants.{Done, Usage, PlanRefused, NoMemory, ReadFault, WriteFault, FeedRefused, Differs}
+use Rattle.cube_main.specs.declared.status.Status.TheVariants.{Done, Usage, PlanRefused, NoMemory, ReadFault, WriteFault, FeedRefused, Differs, ImageRefused}
+use Rattle.image_run.specs.declared.end.ImageEnd.{ImageEnd}
+use Rattle.image_run.specs.declared.end.ImageEnd.TheVariants as image
 use Rattle.run_files.specs.declared.stop.Stop.{Stop}
 use Rattle.run_files.specs.declared.stop.Stop.TheVariants as stop
 
@@ -15,6 +17,7 @@ code_of ReadFault = 5
 code_of WriteFault = 6
 code_of FeedRefused = 7
 code_of Differs = 9
+code_of ImageRefused = 10
 
 -- how a run ended that ends by this cause
 abbrev pub status_of_stop : Stop → Status
@@ -28,6 +31,16 @@ status_of_stop stop.FeedRefused = FeedRefused
 abbrev pub status_of_end : Result (Unit {0}) Stop → Status
 status_of_end (Ok done) = Done
 status_of_end (Err stop) = status_of_stop stop
+
+-- how a run of an image ended: done, or its image refused, or by the cause that ends it
+abbrev pub status_of_image : Result ImageEnd Stop → Status
+status_of_image (Ok image.Done) = Done
+status_of_image (Ok image.Refused) = ImageRefused
+status_of_image (Err stop) = status_of_stop stop
+
+-- a status of the form `demo`: the words are a form, no plan is read, nothing audited and no image read
+abbrev pub IsOfDemo : Status → Type 0
+IsOfDemo status = (status ≢ Usage) × (status ≢ PlanRefused) × (status ≢ Differs) × (status ≢ ImageRefused)
 
 -- a feed is refused, or one of the causes ends the run that are answered before that
 abbrev pub IsRefusedOrEarlier : Status → Type 0
@@ -47,3 +60,4 @@ may_lack ReadFault = false
 may_lack WriteFault = false
 may_lack FeedRefused = false
 may_lack Differs = false
+may_lack ImageRefused = false

@@ -1,6 +1,5 @@
 //! The form `demo FEED SCRIPT`.
 ghost use Rattle.std.specs.Prelude.{◌≡◌, [], IfOk};
-ghost use Rattle.cube_main.specs.Answering.{answers_end, lacking_end, status_of_script, AnswersFile};
 ghost use Rattle.cube_main.specs.BuiltIn.{built_in};
 ghost use Rattle.cube_main.specs.Demo.{DemoEnds};
 ghost use Rattle.cube_main.specs.Outside.{KeepsOutside};
@@ -16,57 +15,9 @@ use crate::demo::loading::load;
 use crate::status::Status;
 use cube_store::Cube;
 use cube_view::CubeView;
-use outer_io::{IoFault, NoMemory, Place, Sink};
-use run_files::{Stop, joined_ends, stop_of_session};
-use session_core::{ScriptEnd, SessionFault, answer_script};
+use image_run::answer_file;
+use outer_io::{NoMemory, Place, Sink};
 use std::alloc::Global;
-
-/// How a run ends whose script was answered so far, if that ends it.
-fn answers_end(answers: Result<(), SessionFault>) -> Result<(), Stop>
-    ensures { result ≡ answers_end answers }
-{
-    match answers {
-        Ok(()) => Ok(()),
-        Err(fault) => Err(stop_of_session(fault)),
-    }
-}
-
-/// And where a reply was the line for want of memory.
-fn lacking_end(lacked: bool) -> Result<(), Stop>
-    ensures { result ≡ lacking_end lacked }
-{
-    if lacked { Err(Stop::NoMemory) } else { Ok(()) }
-}
-
-/// How a run ended by the end of the answers to its script.
-fn status_of(answers: ScriptEnd) -> Status
-    ensures { result ≡ status_of_script answers }
-{
-    Status::of_end(joined_ends(lacking_end(answers.lacked), answers_end(answers.end)))
-}
-
-/// Answers the named script over the view, each point of which was told, and says how the run ends. The script's
-/// source is given back.
-fn run_script<V: CubeView, P: Place, O: Sink>(
-    alloc: Global,
-    view: &V,
-    script: &str,
-    place: &mut P,
-    out: &mut O,
-) -> Status
-    ensures answers { AnswersFile (seen_place P.files P.read_faults P.write_faults P.opened P.created) (seen_sink O.held O.faults O.name) place.old place.new out.old out.new (V.schema view.now) V.is_stat (Counts (V.weight_at view.now) (V.seen view.now)) script.now result }
-    ensures keeps { KeepsOutside (seen_place P.files P.read_faults P.write_faults P.opened P.created) (seen_sink O.held O.faults O.name) place.old place.new out.old out.new result }
-{
-    match place.open(script) {
-        Ok(source) => {
-            let (source, answers) = answer_script(alloc, view, view.seen(), source, out);
-            place.give_back_in(source);
-            status_of(answers)
-        }
-        Err(IoFault::Failed) => Status::ReadFault,
-        Err(IoFault::NoMemory) => Status::NoMemory,
-    }
-}
 
 /// A cube of no points under the plan that is built in.
 fn empty_cube(alloc: Global) -> Result<Cube, NoMemory>
@@ -92,7 +43,7 @@ pub(crate) fn demo<P: Place, O: Sink>(
         Err(NoMemory) => return Status::NoMemory,
     };
     match load(alloc, feed, place, &mut cube) {
-        Ok(()) => run_script(alloc, &cube, script, place, out),
+        Ok(()) => Status::of_end(answer_file(alloc, &cube, script, place, out)),
         Err(status) => status,
     }
 }

@@ -2,10 +2,13 @@
 ghost use Rattle.std.specs.Prelude.{◌≡◌, ◌≤◌, IfSome, map, option_map, string_bytes};
 ghost use Rattle.cube_main.specs.Big.{big_rows, most_generated_rows, generated_rows_of};
 ghost use Rattle.cube_main.specs.Demo.{demo_names};
+ghost use Rattle.cube_main.specs.Load.{load_names};
 ghost use Rattle.cube_main.specs.Recount.{recount_names};
 ghost use Rattle.cube_main.specs.Run.{run_name};
+ghost use Rattle.cube_main.specs.Save.{save_names};
 
 use cube_view::is_same_text;
+use image_run::LoadNames;
 use outer_io::decimal_of;
 use recount_run::RecountNames;
 
@@ -71,6 +74,32 @@ pub(crate) fn recount_names(words: &[String]) -> Option<RecountNames<'_>>
             script: words[3].as_str(),
             replies: words[4].as_str(),
         })
+    } else {
+        None
+    }
+}
+
+/// The names of the three files, where the words are `load PLAN IMAGE SCRIPT`.
+pub(crate) fn load_names(words: &[String]) -> Option<LoadNames<'_>>
+    ensures { option_map (λ names. (names.plan.now, names.image.now, names.script.now)) result ≡ load_names (map string_bytes words.now) }
+{
+    if words.len() == 4 && is_same_text(words[0].as_str().as_bytes(), b"load") {
+        Some(LoadNames {
+            plan: words[1].as_str(),
+            image: words[2].as_str(),
+            script: words[3].as_str(),
+        })
+    } else {
+        None
+    }
+}
+
+/// The names of the plan and the image, where the words are `save PLAN IMAGE`.
+pub(crate) fn save_names(words: &[String]) -> Option<(&str, &str)>
+    ensures { option_map (λ names. (names.0.now, names.1.now)) result ≡ save_names (map string_bytes words.now) }
+{
+    if words.len() == 3 && is_same_text(words[0].as_str().as_bytes(), b"save") {
+        Some((words[1].as_str(), words[2].as_str()))
     } else {
         None
     }

@@ -1,8 +1,9 @@
 //! How a run ended.
 ghost use Rattle.std.specs.Prelude.{◌≡◌};
 ghost use Rattle.cube_main.specs.Recount.{status_of_audit};
-ghost use Rattle.cube_main.specs.Statuses.{code_of, status_of_end};
+ghost use Rattle.cube_main.specs.Statuses.{code_of, status_of_end, status_of_image};
 
+use image_run::ImageEnd;
 use recount_run::Audit;
 use run_files::Stop;
 
@@ -17,6 +18,7 @@ pub enum Status {
     WriteFault,
     FeedRefused,
     Differs,
+    ImageRefused,
 }
 
 impl Status {
@@ -45,7 +47,18 @@ impl Status {
         }
     }
 
-    /// The exit code: 0, 2, 3, 4, 5, 6, 7, 9 in the order written.
+    /// How saving or loading an image ended.
+    pub fn of_image(end: Result<ImageEnd, Stop>) -> Status
+        ensures { result ≡ status_of_image end }
+    {
+        match end {
+            Ok(ImageEnd::Done) => Status::Done,
+            Ok(ImageEnd::Refused) => Status::ImageRefused,
+            Err(stop) => Status::of_end(Err(stop)),
+        }
+    }
+
+    /// The exit code: 0, 2, 3, 4, 5, 6, 7, 9, 10 in the order written.
     pub fn code(&self) -> u8
         ensures { result ≡ code_of self.now }
     {
@@ -58,6 +71,7 @@ impl Status {
             Status::WriteFault => 6,
             Status::FeedRefused => 7,
             Status::Differs => 9,
+            Status::ImageRefused => 10,
         }
     }
 }

@@ -45,6 +45,41 @@ fn status_of(
     nanocube(rt, line, place, out)
 }
 
+/// Puts a file into the place that is given in such pieces, and of which these reads fail.
+fn put_file(
+    rt: &(impl Abort + AllocGlobal),
+    place: &mut MemPlace,
+    name: &str,
+    bytes: &[u8],
+    piece: usize,
+    fails: &[u32],
+) -> Result<(), AllocError> {
+    let bytes = list(rt.alloc(), bytes)?;
+    let fails = list(rt.alloc(), fails)?;
+    assert!(rt; place.put_file(name, bytes, piece, fails).is_ok());
+    Ok(())
+}
+
+/// These words give that status over the place, and that text over a sink that fails at the given puts.
+fn expect_bytes(
+    rt: &(impl Abort + AllocGlobal + Threads + Wait + Sync),
+    place: &mut MemPlace,
+    line: &[&str],
+    status: Status,
+    text: &[u8],
+    fails: &[u32],
+) -> Result<(), AllocError> {
+    let line = words(rt.alloc(), line)?;
+    let mut out = MemSink::new(rt.alloc(), list(rt.alloc(), fails)?);
+    let found = status_of(rt, line.as_slice(), place, &mut out);
+    assert_eq!(rt; found, status);
+    assert_eq!(rt; out.bytes(), text);
+    Ok(())
+}
+
+/// The words that answer the script over the feed.
+const DEMO: [&str; 3] = ["demo", "a.csv", "q.txt"];
+
 /// Runs the case over files that fail at the given reads and a sink that fails at the given puts.
 fn run(
     rt: &(impl Abort + AllocGlobal + Threads + Wait + Sync),
@@ -53,26 +88,17 @@ fn run(
     script_fails: &[u32],
     put_fails: &[u32],
 ) -> Result<(), AllocError> {
-    let alloc = rt.alloc();
-    let mut place = MemPlace::new(alloc);
-    let feed = list(alloc, case.feed.as_bytes())?;
-    let script = list(alloc, case.script)?;
-    assert!(rt;
-        place
-            .put_file("a.csv", feed, 16, list(alloc, feed_fails)?)
-            .is_ok()
-    );
-    assert!(rt;
-        place
-            .put_file("q.txt", script, 6, list(alloc, script_fails)?)
-            .is_ok()
-    );
-    let mut out = MemSink::new(alloc, list(alloc, put_fails)?);
-    let words = words(alloc, &["demo", "a.csv", "q.txt"])?;
-    let status = status_of(rt, words.as_slice(), &mut place, &mut out);
-    assert_eq!(rt; status, case.status);
-    assert_eq!(rt; out.bytes(), case.out);
-    Ok(())
+    let mut place = MemPlace::new(rt.alloc());
+    put_file(
+        rt,
+        &mut place,
+        "a.csv",
+        case.feed.as_bytes(),
+        16,
+        feed_fails,
+    )?;
+    put_file(rt, &mut place, "q.txt", case.script, 6, script_fails)?;
+    expect_bytes(rt, &mut place, &DEMO, case.status, case.out, put_fails)
 }
 
 /// A run over files and a sink that cannot fail has no fault of the outside.
@@ -88,23 +114,43 @@ fn still_status(
     nanocube(rt, line, place, out)
 }
 
+/// Puts a file that cannot fail into the place, in such pieces.
+fn put_still(
+    rt: &(impl Abort + AllocGlobal),
+    place: &mut StillPlace,
+    name: &str,
+    bytes: &[u8],
+    piece: usize,
+) -> Result<(), AllocError> {
+    let bytes = list(rt.alloc(), bytes)?;
+    assert!(rt; place.put_file(name, bytes, piece).is_ok());
+    Ok(())
+}
+
+/// The script over the feed gives that status over the place, and that text.
+fn expect_still(
+    rt: &(impl Abort + AllocGlobal + Threads + Wait + Sync),
+    place: &mut StillPlace,
+    status: Status,
+    text: &[u8],
+) -> Result<(), AllocError> {
+    let line = words(rt.alloc(), &DEMO)?;
+    let mut out = StillSink::new(rt.alloc());
+    let found = still_status(rt, line.as_slice(), place, &mut out);
+    assert_eq!(rt; found, status);
+    assert_eq!(rt; out.bytes(), text);
+    Ok(())
+}
+
 /// Runs the case over files and a sink that cannot fail.
 fn run_still(
     rt: &(impl Abort + AllocGlobal + Threads + Wait + Sync),
     case: &Case,
 ) -> Result<(), AllocError> {
-    let alloc = rt.alloc();
-    let mut place = StillPlace::new(alloc);
-    let feed = list(alloc, case.feed.as_bytes())?;
-    let script = list(alloc, case.script)?;
-    assert!(rt; place.put_file("a.csv", feed, 7).is_ok());
-    assert!(rt; place.put_file("q.txt", script, 1).is_ok());
-    let mut out = StillSink::new(alloc);
-    let words = words(alloc, &["demo", "a.csv", "q.txt"])?;
-    let status = still_status(rt, words.as_slice(), &mut place, &mut out);
-    assert_eq!(rt; status, case.status);
-    assert_eq!(rt; out.bytes(), case.out);
-    Ok(())
+    let mut place = StillPlace::new(rt.alloc());
+    put_still(rt, &mut place, "a.csv", case.feed.as_bytes(), 7)?;
+    put_still(rt, &mut place, "q.txt", case.script, 1)?;
+    expect_still(rt, &mut place, case.status, case.out)
 }
 
 /// Runs the case over files of either kind, none of which fails.
@@ -372,9 +418,41 @@ fn names_the_fault_of_the_outside(rt: HostRuntime) -> Result<(), Fail> {
     Ok(())
 }
 
+/// A file that is put into a place, by its name and its text, or words that are run over it, with their status and their text.
+#[derive(Clone, Copy)]
+enum Step<'a> {
+    File(&'a str, &'a str),
+    Run(&'a [&'a str], Status, &'a str),
+}
+
+/// Takes the step over the place.
+fn take_step(
+    rt: &(impl Abort + AllocGlobal + Threads + Wait + Sync),
+    place: &mut MemPlace,
+    step: &Step,
+) -> Result<(), AllocError> {
+    match *step {
+        Step::File(name, text) => put_file(rt, place, name, text.as_bytes(), 16, &[]),
+        Step::Run(line, status, text) => {
+            expect_bytes(rt, place, line, status, text.as_bytes(), &[])
+        }
+    }
+}
+
+/// Takes the steps over a place that has no files at first.
+fn take_steps(
+    rt: &(impl Abort + AllocGlobal + Threads + Wait + Sync),
+    steps: &[Step],
+) -> Result<(), AllocError> {
+    let mut place = MemPlace::new(rt.alloc());
+    for step in steps {
+        take_step(rt, &mut place, step)?;
+    }
+    Ok(())
+}
+
 #[test]
 fn refuses_words_of_no_form_and_absent_feeds(rt: HostRuntime) -> Result<(), Fail> {
-    let alloc = rt.alloc();
     let lines: [(&[&str], Status); 15] = [
         (&[], Status::Usage),
         (&["big"], Status::Usage),
@@ -396,14 +474,44 @@ fn refuses_words_of_no_form_and_absent_feeds(rt: HostRuntime) -> Result<(), Fail
         ),
     ];
     for (line, status) in lines {
-        let mut place = MemPlace::new(alloc);
-        let mut out = MemSink::new(alloc, list(alloc, &[])?);
-        let line = words(alloc, line)?;
-        assert_eq!(rt;
-            status_of(&rt, line.as_slice(), &mut place, &mut out),
-            status
-        );
-        assert_eq!(rt; out.bytes(), [].as_slice());
+        take_steps(&rt, &[Step::Run(line, status, "")])?;
+    }
+    Ok(())
+}
+
+#[test]
+fn refuses_words_of_no_form_and_absent_files_of_images(rt: HostRuntime) -> Result<(), Fail> {
+    let lines: [(&[&str], Status); 8] = [
+        (&["save"], Status::Usage),
+        (&["save", "a"], Status::Usage),
+        (&["save", "a", "b", "c"], Status::Usage),
+        (&["load"], Status::Usage),
+        (&["load", "a", "b"], Status::Usage),
+        (&["load", "a", "b", "c", "d"], Status::Usage),
+        (&["save", "p.json", "c.img"], Status::ReadFault),
+        (&["load", "p.json", "c.img", "q.txt"], Status::ReadFault),
+    ];
+    for (line, status) in lines {
+        take_steps(&rt, &[Step::Run(line, status, "")])?;
+    }
+    Ok(())
+}
+
+#[test]
+fn each_status_has_its_code(rt: HostRuntime) -> Result<(), Fail> {
+    let codes = [
+        (Status::Done, 0),
+        (Status::Usage, 2),
+        (Status::PlanRefused, 3),
+        (Status::NoMemory, 4),
+        (Status::ReadFault, 5),
+        (Status::WriteFault, 6),
+        (Status::FeedRefused, 7),
+        (Status::Differs, 9),
+        (Status::ImageRefused, 10),
+    ];
+    for (status, code) in codes {
+        assert_eq!(rt; status.code(), code);
     }
     Ok(())
 }
@@ -412,54 +520,25 @@ fn refuses_words_of_no_form_and_absent_feeds(rt: HostRuntime) -> Result<(), Fail
 const PLAN: &str =
     "{\"asks\":[],\"batch\":1,\"categories\":[{\"name\":\"kind\",\"values\":[\"a\",\"b\"]}],\"depth\":3,\"feeds\":[\"a.csv\"],\"finals\":[\"f.txt\"],\"journal\":\"j.txt\",\"start\":0,\"version\":1,\"width\":10}";
 
-/// These words give that status over the place, and that text.
-fn expect(
-    rt: &(impl Abort + AllocGlobal + Threads + Wait + Sync),
-    place: &mut MemPlace,
-    line: &[&str],
-    status: Status,
-    text: &str,
-) -> Result<(), AllocError> {
-    let alloc = rt.alloc();
-    let mut out = MemSink::new(alloc, list(alloc, &[])?);
-    let line = words(alloc, line)?;
-    let found = status_of(rt, line.as_slice(), place, &mut out);
-    assert_eq!(rt; found, status);
-    assert_eq!(rt; out.bytes(), text.as_bytes());
-    Ok(())
-}
-
-/// Puts a file into the place.
-fn put(
-    rt: &(impl Abort + AllocGlobal),
-    place: &mut MemPlace,
-    name: &str,
-    text: &str,
-) -> Result<(), AllocError> {
-    let alloc = rt.alloc();
-    let bytes = list(alloc, text.as_bytes())?;
-    assert!(rt; place.put_file(name, bytes, 16, list(alloc, &[])?).is_ok());
-    Ok(())
-}
-
 /// The words that audit the final's replies.
 const AUDIT: [&str; 5] = ["recount", "p.json", "j.txt", "f.txt", "f.txt.out"];
 
 #[test]
 fn a_run_is_audited_from_its_files(rt: HostRuntime) -> Result<(), Fail> {
-    let mut place = MemPlace::new(rt.alloc());
-    put(&rt, &mut place, "p.json", PLAN)?;
-    put(&rt, &mut place, "a.csv", FEED)?;
-    put(&rt, &mut place, "f.txt", "count\ntold\n")?;
     let report =
         "feed a.csv: 3 accepted, 0 blank, 0 refused\nscript f.txt: 2 replies, seen 3\njournal: 3 entries\n";
-    expect(&rt, &mut place, &["run", "p.json"], Status::Done, report)?;
     let agree = "recount: 2 replies agree, 0 without memory\n";
-    expect(&rt, &mut place, &AUDIT, Status::Done, agree)?;
     let changed = "{\"rows\":[[4]],\"seen\":3}\n{\"told\":3}\n";
-    put(&rt, &mut place, "f.txt.out", changed)?;
-    let wrong = "recount: reply 1: Wrong\n";
-    expect(&rt, &mut place, &AUDIT, Status::Differs, wrong)?;
+    let steps = [
+        Step::File("p.json", PLAN),
+        Step::File("a.csv", FEED),
+        Step::File("f.txt", "count\ntold\n"),
+        Step::Run(&["run", "p.json"], Status::Done, report),
+        Step::Run(&AUDIT, Status::Done, agree),
+        Step::File("f.txt.out", changed),
+        Step::Run(&AUDIT, Status::Differs, "recount: reply 1: Wrong\n"),
+    ];
+    take_steps(&rt, &steps)?;
     Ok(())
 }
 
@@ -473,35 +552,66 @@ const CROSSED: &str =
 
 #[test]
 fn a_run_crosses_two_categories(rt: HostRuntime) -> Result<(), Fail> {
-    let mut place = MemPlace::new(rt.alloc());
-    put(&rt, &mut place, "p.json", PLAN_OF_TWO)?;
-    put(
-        &rt,
-        &mut place,
-        "a.csv",
-        "x,y,time,k,m\n0,0,0,a,c\n0,0,0,a,c\n0,0,0,a,d\n",
-    )?;
-    put(
-        &rt,
-        &mut place,
-        "f.txt",
-        "cross k m\ncross k k\ncross k m with m=d\n",
-    )?;
+    let feed = "x,y,time,k,m\n0,0,0,a,c\n0,0,0,a,c\n0,0,0,a,d\n";
     let report =
         "feed a.csv: 3 accepted, 0 blank, 0 refused\nscript f.txt: 3 replies, seen 3\njournal: 3 entries\n";
-    expect(&rt, &mut place, &["run", "p.json"], Status::Done, report)?;
     let agree = "recount: 3 replies agree, 0 without memory\n";
-    expect(&rt, &mut place, &AUDIT, Status::Done, agree)?;
-    put(&rt, &mut place, "f.txt.out", CROSSED)?;
-    expect(&rt, &mut place, &AUDIT, Status::Done, agree)?;
+    let steps = [
+        Step::File("p.json", PLAN_OF_TWO),
+        Step::File("a.csv", feed),
+        Step::File("f.txt", "cross k m\ncross k k\ncross k m with m=d\n"),
+        Step::Run(&["run", "p.json"], Status::Done, report),
+        Step::Run(&AUDIT, Status::Done, agree),
+        Step::File("f.txt.out", CROSSED),
+        Step::Run(&AUDIT, Status::Done, agree),
+    ];
+    take_steps(&rt, &steps)?;
     Ok(())
 }
 
 #[test]
 fn a_large_run_of_one_row_writes_six_lines(rt: HostRuntime) -> Result<(), Fail> {
-    let mut place = MemPlace::new(rt.alloc());
     let text =
         "feed gen1: 1 accepted, 0 blank, 0 refused\nfeed gen2: 1 accepted, 0 blank, 0 refused\n{\"rows\":[[2]],\"seen\":2}\n{\"rows\":[[\"a\",1],[\"b\",0],[\"c\",0],[\"d\",1]],\"seen\":2}\n{\"rows\":[[1,0,0,1],[1,1,1,1]],\"seen\":2}\n{\"rows\":[[0,0],[256,0],[512,0],[768,2]],\"seen\":2}\n";
-    expect(&rt, &mut place, &["big", "1"], Status::Done, text)?;
+    take_steps(&rt, &[Step::Run(&["big", "1"], Status::Done, text)])?;
+    Ok(())
+}
+
+/// The same plan with one level more.
+const DEEPER_PLAN: &str =
+    "{\"asks\":[],\"batch\":1,\"categories\":[{\"name\":\"kind\",\"values\":[\"a\",\"b\"]}],\"depth\":4,\"feeds\":[\"a.csv\"],\"finals\":[\"f.txt\"],\"journal\":\"j.txt\",\"start\":0,\"version\":1,\"width\":10}";
+
+/// The words that answer a script over the saved cube.
+const LOAD: [&str; 4] = ["load", "p.json", "c.img", "q.txt"];
+
+#[test]
+fn a_saved_cube_is_loaded_without_its_feed(rt: HostRuntime) -> Result<(), Fail> {
+    let saved = "feed a.csv: 3 accepted, 0 blank, 0 refused\nimage: 400 bytes\n";
+    let replies =
+        "{\"rows\":[[1,0,0,2],[1,1,1,1]],\"seen\":3}\n{\"told\":3}\n{\"nodes\":14,\"proper\":17,\"seen\":3,\"shared\":7,\"tables\":4}\n";
+    let steps = [
+        Step::File("p.json", PLAN),
+        Step::File("a.csv", FEED),
+        Step::Run(&["save", "p.json", "c.img"], Status::Done, saved),
+        Step::File("a.csv", ""),
+        Step::File("q.txt", "map 1\ntold\nstat\n"),
+        Step::Run(&LOAD, Status::Done, replies),
+        Step::File("p.json", DEEPER_PLAN),
+        Step::Run(&LOAD, Status::ImageRefused, "image: NotShape\n"),
+    ];
+    take_steps(&rt, &steps)?;
+    Ok(())
+}
+
+#[test]
+fn a_feed_is_no_image_and_leaves_the_script_unopened(rt: HostRuntime) -> Result<(), Fail> {
+    let feed = ["load", "p.json", "a.csv", "q.txt"];
+    let steps = [
+        Step::File("p.json", PLAN),
+        Step::File("a.csv", FEED),
+        Step::Run(&feed, Status::ImageRefused, "image: NotImage\n"),
+        Step::Run(&LOAD, Status::ReadFault, ""),
+    ];
+    take_steps(&rt, &steps)?;
     Ok(())
 }

@@ -1,6 +1,6 @@
 -- A script that was opened, answered and given back, and one that was not opened.
 use Rattle.std.proofs.Common.{◌≡◌, ◌≢◌, ℕ, Bool, true, false, List, [], ◌∷◌, ◌++◌, take, length, Option, Some, Result, Ok, Err, refl, sym, ◌∙◌, ap, subst, arith, length-append, OnOk, IsErrOf}
-use Rattle.image_run.specs.Answering.{answers_end, lacking_end, script_end, may_lack, AnswersFile}
+use Rattle.image_run.specs.Answering.{answers_end, lacking_end, script_end, may_lack_memory, AnswersFile}
 use Rattle.run_files.specs.Outside.{PlaceSeen, SinkSeen}
 use Rattle.cube_view.specs.Bag.{Counts, EachCounted}
 use Rattle.cube_view.specs.Points.{Point}
@@ -81,13 +81,13 @@ module _ {P O : Type 0} (p : PlaceSeen P) (s : SinkSeen O) (place place' : P) (o
       abbrev End : Type 0
       End = Result (Unit {0}) Stop
 
-      file_with : (result : End) → result ≢ Err stop.PlanRefused → (result ≡ Ok tt → Told left (Answered false false)) → (result ≡ Err stop.FeedRefused → Told left (Answered false true)) → Told left (Begun (may_lack result)) → AnswersFile p s place place' out out' schema is_stat (Counts at n) name result
+      file_with : (result : End) → result ≢ Err stop.PlanRefused → (result ≡ Ok tt → Told left (Answered false false)) → (result ≡ Err stop.FeedRefused → Told left (Answered false true)) → Told left (Begun (may_lack_memory result)) → AnswersFile p s place place' out out' schema is_stat (Counts at n) name result
       file_with result form done refused part =
           record {
             form = form;
             done = λ fs told_fs e. replies_at false (done e) fs told_fs;
             refused = λ fs told_fs e. replies_at true (refused e) fs told_fs;
-            part = front_at (may_lack result) part;
+            part = front_at (may_lack_memory result) part;
             opened_once = (1, opened);
             opened_it = λ e. opened;
             untouched = λ same. absurd (not_grown (p.opened place) (p.opened place') name opened same);
@@ -119,7 +119,7 @@ unopened_file p s place place' out schema is_stat counts name result form not_do
       form = form;
       done = λ fs told_fs e. absurd (not_done e);
       refused = λ fs told_fs e. absurd (not_refused e);
-      part = λ fs told_fs h c. nothing_gained schema is_stat h (length h) (may_lack result) (s.held out) (asked schema (lines (file_or_empty fs name)));
+      part = λ fs told_fs h c. nothing_gained schema is_stat h (length h) (may_lack_memory result) (s.held out) (asked schema (lines (file_or_empty fs name)));
       opened_once = opened;
       opened_it = λ e. absurd (not_done e);
       untouched = λ same. refl;

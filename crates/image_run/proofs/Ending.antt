@@ -35,9 +35,9 @@ use Rattle.session_core.specs.Answered.{GainsReplies, GainsFront}
 use Rattle.session_core.specs.Asked.{asked}
 use Rattle.session_core.specs.Scripts.{is_script_refused}
 use Rattle.shape_test.specs.Fits.{Fits}
-use Rattle.image_run.specs.Answering.{AnswersFile, may_lack}
-use Rattle.image_run.specs.Ends.{lacks, IsAccepted, IsRefusedFor, IsOrLacks, GainsAnswers, GainsSomeAnswers, LoadEnds, SaysFault}
-use Rattle.image_run.specs.Faults.{HasFaults}
+use Rattle.image_run.specs.Answering.{AnswersFile, may_lack_memory}
+use Rattle.image_run.specs.Ends.{lacks, IsAcceptedImage, IsRefusedFor, IsOrLacks, GainsImageAnswers, GainsSomeImageAnswers, LoadEnds, SaysFault}
+use Rattle.image_run.specs.Faults.{HasLoadFaults}
 use Rattle.image_run.specs.Lines.{image_line}
 use Rattle.image_run.specs.Taking.{RefusesImage, TakesImage}
 use Rattle.image_run.specs.declared.end.ImageEnd.{ImageEnd}
@@ -80,7 +80,7 @@ not_refused schema bytes slots size image.NotShape F R =
     R.1.unfit (subst (λ (n : ℕ). Fits schema R.1.slots n) (sym m.0) (subst (λ (s : List Slot). Fits schema s size) (sym m.1) F.fits))
 not_refused schema bytes slots size image.NoMemory F R = R.0 refl
 
-accepted_not_refused : (schema : Schema) (bytes : List ℕ) (fault : ImageFault) → IsAccepted schema bytes → IsRefusedFor schema bytes fault → ⊥
+accepted_not_refused : (schema : Schema) (bytes : List ℕ) (fault : ImageFault) → IsAcceptedImage schema bytes → IsRefusedFor schema bytes fault → ⊥
 accepted_not_refused schema bytes fault A R = ∥∥₁_elim A (λ x y. absurd x) (λ (s : (h : List Point) × IsCubeImage schema bytes h). not_refused schema bytes s.1.slots (length s.0) fault s.1.fit R)
 
 -- ---- lists and ends
@@ -140,7 +140,7 @@ module _ {P O : Type 0} (p : PlaceSeen P) (s : SinkSeen O) where
       (length stage.opens, stage.opened ∙ ap (λ ns. p.opened a ++ ns) (sym (ap (take (length stage.opens)) stage.inputs_are ∙ take_front stage.opens stage.unopened)))
 
   -- the faults of a stage that ended the run
-  faults_ended : (a b : P) (out out' : O) (inputs : List (List ℕ)) (k : Stop) → LeavesPlace p a b inputs [] (Some k) → (k ≡ stop.WriteFault → Rose (s.faults out) (s.faults out')) → (k ≢ stop.WriteFault → k ≢ stop.NoMemory → k ≢ stop.PlanRefused → s.faults out' ≡ s.faults out) → s.name out' ≡ s.name out → HasFaults {T = ImageEnd} p s a b out out' (Err k)
+  faults_ended : (a b : P) (out out' : O) (inputs : List (List ℕ)) (k : Stop) → LeavesPlace p a b inputs [] (Some k) → (k ≡ stop.WriteFault → Rose (s.faults out) (s.faults out')) → (k ≢ stop.WriteFault → k ≢ stop.NoMemory → k ≢ stop.PlanRefused → s.faults out' ≡ s.faults out) → s.name out' ≡ s.name out → HasLoadFaults {T = ImageEnd} p s a b out out' (Err k)
   faults_ended a b out out' inputs k stage rose quiet name = record {
     read = λ e. stage.read (ap (λ l. Some l) (err_is k stop.ReadFault e));
     write = λ e. rose (err_is k stop.WriteFault e);
@@ -356,23 +356,23 @@ module _ {P O : Type 0} (p : PlaceSeen P) (s : SinkSeen O) where
           all_of : (files : Files) → p.files a ≡ Some files → bytes ≡ file_or_empty files image
           all_of files is = same_front (file_or_empty files image) bytes (of_file files is) K.fit.short
 
-          accepted : (files : Files) → p.files a ≡ Some files → IsAccepted pl.schema (file_or_empty files image)
-          accepted files is = subst (IsAccepted pl.schema) (all_of files is) (∥∥₁_map cube.counted (λ (h : (h : List Point) × CubeCounts cube h). (h.0, (K.counts h.0).0 h.1)))
+          accepted : (files : Files) → p.files a ≡ Some files → IsAcceptedImage pl.schema (file_or_empty files image)
+          accepted files is = subst (IsAcceptedImage pl.schema) (all_of files is) (∥∥₁_map cube.counted (λ (h : (h : List Point) × CubeCounts cube h). (h.0, (K.counts h.0).0 h.1)))
 
           counts_it : (files : Files) → p.files a ≡ Some files → (h : List Point) → IsCubeImage pl.schema (file_or_empty files image) h → counted h
           counts_it files is h I = Counts-points cube.schema cube.arena cube.root.0 cube.size h ((K.counts h).1 (subst (λ (b : List ℕ). IsCubeImage pl.schema b h) (sym (all_of files is)) I))
 
-          module _ (result : Result (Unit {0}) Stop) (answers : AnswersFile p s c d then out' pl.schema OwnsAllButRoot counted script result) (faults : HasFaults p s c d then out' result) where
-            all_replies : (files : Files) → p.files a ≡ Some files → ((h : List Point) → counted h → GainsReplies pl.schema OwnsAllButRoot h (length h) false (s.held then) (s.held out') (asked pl.schema (lines (file_or_empty files script)))) → GainsAnswers s out out' pl.schema (file_or_empty files image) (file_or_empty files script)
+          module _ (result : Result (Unit {0}) Stop) (answers : AnswersFile p s c d then out' pl.schema OwnsAllButRoot counted script result) (faults : HasLoadFaults p s c d then out' result) where
+            all_replies : (files : Files) → p.files a ≡ Some files → ((h : List Point) → counted h → GainsReplies pl.schema OwnsAllButRoot h (length h) false (s.held then) (s.held out') (asked pl.schema (lines (file_or_empty files script)))) → GainsImageAnswers s out out' pl.schema (file_or_empty files image) (file_or_empty files script)
             all_replies files is each = record {
               accepted = accepted files is;
               gains = λ h I. subst (λ (o : Option (List ℕ)). GainsReplies pl.schema OwnsAllButRoot h (length h) false o (s.held out') (asked pl.schema (lines (file_or_empty files script)))) still.held (each h (counts_it files is h I));
             }
 
-            some_replies : (files : Files) → p.files a ≡ Some files → GainsSomeAnswers s out out' pl.schema (file_or_empty files image) (file_or_empty files script) (may_lack result)
+            some_replies : (files : Files) → p.files a ≡ Some files → GainsSomeImageAnswers s out out' pl.schema (file_or_empty files image) (file_or_empty files script) (may_lack_memory result)
             some_replies files is = record {
               accepted = accepted files is;
-              gains = λ h I. subst (λ (o : Option (List ℕ)). GainsFront pl.schema OwnsAllButRoot h (length h) (may_lack result) o (s.held out') (asked pl.schema (lines (file_or_empty files script)))) still.held (answers.part files (told files is) h (counts_it files is h I));
+              gains = λ h I. subst (λ (o : Option (List ℕ)). GainsFront pl.schema OwnsAllButRoot h (length h) (may_lack_memory result) o (s.held out') (asked pl.schema (lines (file_or_empty files script)))) still.held (answers.part files (told files is) h (counts_it files is h I));
             }
 
             opened_three : (k : ℕ) × (p.opened d ≡ p.opened a ++ take k (name ∷ image ∷ script ∷ []))
@@ -387,7 +387,7 @@ module _ {P O : Type 0} (p : PlaceSeen P) (s : SinkSeen O) where
             write_at_first : Rose (s.faults then) (s.faults out') → Rose (s.faults out) (s.faults out')
             write_at_first = subst (λ (n : ℕ). Rose n (s.faults out')) still.faults
 
-            faults_of : (r : End) → ((k : Stop) → r ≡ Err k → result ≡ Err k) → ((k : Stop) → result ≡ Err k → r ≡ Err k) → HasFaults p s a d out out' r
+            faults_of : (r : End) → ((k : Stop) → r ≡ Err k → result ≡ Err k) → ((k : Stop) → result ≡ Err k → r ≡ Err k) → HasLoadFaults p s a d out out' r
             faults_of r to from = record {
               read = λ e. read_at_first (faults.read (to stop.ReadFault e));
               write = λ e. write_at_first (faults.write (to stop.WriteFault e));
@@ -399,7 +399,7 @@ module _ {P O : Type 0} (p : PlaceSeen P) (s : SinkSeen O) where
               write_faults = faults.write_faults ∙ both.unwritten (nothing_made p a c Two None both);
             }
 
-          ended_by_answers : (x : Unit {0}) → AnswersFile p s c d then out' pl.schema OwnsAllButRoot counted script (Ok x) → HasFaults p s c d then out' (Ok x) → Ends a d out out' (Ok Done)
+          ended_by_answers : (x : Unit {0}) → AnswersFile p s c d then out' pl.schema OwnsAllButRoot counted script (Ok x) → HasLoadFaults p s c d then out' (Ok x) → Ends a d out out' (Ok Done)
           ended_by_answers x answers faults = record {
             plan = Some pl;
             plan_is = reads.plan;
@@ -415,21 +415,21 @@ module _ {P O : Type 0} (p : PlaceSeen P) (s : SinkSeen O) where
             complete = λ r w files is. (λ y z. inl refl, λ fault y. no_refusal (Ok x) answers faults fault files is Refused (Ok Done) y);
           }
 
-          ended_well : (k : Stop) (answers : AnswersFile p s c d then out' pl.schema OwnsAllButRoot counted script (Err k)) (faults : HasFaults {T = Unit {0}} p s c d then out' (Err k)) → ¬ Rose (p.read_faults a) (p.read_faults d) → ¬ Rose (s.faults out) (s.faults out') → (files : Files) → p.files a ≡ Some files → is_script_refused pl.schema (file_or_empty files script) ≡ false → IsOrLacks Done (Err k)
+          ended_well : (k : Stop) (answers : AnswersFile p s c d then out' pl.schema OwnsAllButRoot counted script (Err k)) (faults : HasLoadFaults {T = Unit {0}} p s c d then out' (Err k)) → ¬ Rose (p.read_faults a) (p.read_faults d) → ¬ Rose (s.faults out) (s.faults out') → (files : Files) → p.files a ≡ Some files → is_script_refused pl.schema (file_or_empty files script) ≡ false → IsOrLacks Done (Err k)
           ended_well stop.NoMemory answers faults r w files is good = inr refl
           ended_well stop.PlanRefused answers faults r w files is good = absurd (answers.form refl)
           ended_well stop.ReadFault answers faults r w files is good = absurd (r (read_at_first (Err stop.ReadFault) answers faults (faults.read refl)))
           ended_well stop.WriteFault answers faults r w files is good = absurd (w (write_at_first (Err stop.WriteFault) answers faults (faults.write refl)))
           ended_well stop.FeedRefused answers faults r w files is good = let bad = (answers.refused files (told files is) refl).1 in let z : true ≡ false = sym bad ∙ good in absurd cc
 
-          same_lack : (k : Stop) → may_lack (Err k) ≡ lacks (Err k)
+          same_lack : (k : Stop) → may_lack_memory (Err k) ≡ lacks (Err k)
           same_lack stop.NoMemory = refl
           same_lack stop.PlanRefused = refl
           same_lack stop.ReadFault = refl
           same_lack stop.WriteFault = refl
           same_lack stop.FeedRefused = refl
 
-          ended_answering : (k : Stop) → AnswersFile p s c d then out' pl.schema OwnsAllButRoot counted script (Err k) → HasFaults {T = Unit {0}} p s c d then out' (Err k) → Ends a d out out' (Err k)
+          ended_answering : (k : Stop) → AnswersFile p s c d then out' pl.schema OwnsAllButRoot counted script (Err k) → HasLoadFaults {T = Unit {0}} p s c d then out' (Err k) → Ends a d out out' (Err k)
           ended_answering k answers faults = record {
             plan = Some pl;
             plan_is = reads.plan;
@@ -438,7 +438,7 @@ module _ {P O : Type 0} (p : PlaceSeen P) (s : SinkSeen O) where
             done = λ e. absurd (not_err Done k e);
             refused_image = λ e. absurd (not_err Refused k e);
             refused = λ e. (pl, refl, λ files is. let w = answers.refused files (told files is) (ap (λ l. Err l) (err_is k stop.FeedRefused e)) in (all_replies (Err k) answers faults files is w.0, w.1));
-            said = inr (inr (λ files is. subst (GainsSomeAnswers s out out' pl.schema (file_or_empty files image) (file_or_empty files script)) (same_lack k) (some_replies (Err k) answers faults files is)));
+            said = inr (inr (λ files is. subst (GainsSomeImageAnswers s out out' pl.schema (file_or_empty files image) (file_or_empty files script)) (same_lack k) (some_replies (Err k) answers faults files is)));
             opened = opened_three (Err k) answers faults;
             opened_all = λ e. absurd (not_err Done k e);
             faults = faults_of (Err k) answers faults (Err k) (λ l e. ap (λ m. Err m) (err_is k l e)) (λ l e. ap (λ m. Err m) (stop_is k l e));
@@ -446,8 +446,8 @@ module _ {P O : Type 0} (p : PlaceSeen P) (s : SinkSeen O) where
           }
 
           -- as the cube's schema says it, which is the plan's
-          pub ended_with : (x : Unit {0}) → AnswersFile p s c d then out' cube.schema OwnsAllButRoot counted script (Ok x) → HasFaults {T = Unit {0}} p s c d then out' (Ok x) → Ends a d out out' (Ok Done)
+          pub ended_with : (x : Unit {0}) → AnswersFile p s c d then out' cube.schema OwnsAllButRoot counted script (Ok x) → HasLoadFaults {T = Unit {0}} p s c d then out' (Ok x) → Ends a d out out' (Ok Done)
           ended_with x answers faults = ended_by_answers x (subst (λ (z : Schema). AnswersFile p s c d then out' z OwnsAllButRoot counted script (Ok x)) K.of_schema answers) faults
 
-          pub ended_without : (k : Stop) → AnswersFile p s c d then out' cube.schema OwnsAllButRoot counted script (Err k) → HasFaults {T = Unit {0}} p s c d then out' (Err k) → Ends a d out out' (Err k)
+          pub ended_without : (k : Stop) → AnswersFile p s c d then out' cube.schema OwnsAllButRoot counted script (Err k) → HasLoadFaults {T = Unit {0}} p s c d then out' (Err k) → Ends a d out out' (Err k)
           ended_without k answers faults = ended_answering k (subst (λ (z : Schema). AnswersFile p s c d then out' z OwnsAllButRoot counted script (Err k)) K.of_schema answers) faults

@@ -30,13 +30,13 @@ abbrev pub script_end : ScriptEnd → Result (Unit {0}) Stop
 script_end e = joined_ends (lacking_end e.lacked) (answers_end e.end)
 
 -- a reply may be the line for want of memory where memory was wanted
-abbrev pub may_lack : Result (Unit {0}) Stop → Bool
-may_lack (Ok done) = false
-may_lack (Err stop.NoMemory) = true
-may_lack (Err stop.PlanRefused) = false
-may_lack (Err stop.ReadFault) = false
-may_lack (Err stop.WriteFault) = false
-may_lack (Err stop.FeedRefused) = false
+abbrev pub may_lack_memory : Result (Unit {0}) Stop → Bool
+may_lack_memory (Ok done) = false
+may_lack_memory (Err stop.NoMemory) = true
+may_lack_memory (Err stop.PlanRefused) = false
+may_lack_memory (Err stop.ReadFault) = false
+may_lack_memory (Err stop.WriteFault) = false
+may_lack_memory (Err stop.FeedRefused) = false
 
 -- What answering the named script leaves of a place and a sink, over a view of a schema that counts these lists of
 -- points, each point of which was told, and whose structure's numbers meet the test
@@ -50,7 +50,7 @@ pub record AnswersFile {P O : Type 0} (p : PlaceSeen P) (s : SinkSeen O) (place 
   pub refused : (files : Files) → p.files place ≡ Some files → result ≡ Err stop.FeedRefused
       → ((h : List Point) → counts h → GainsReplies schema is_stat h (length h) false (s.held out) (s.held out') (asked schema (lines (file_or_empty files name)))) × (is_script_refused schema (file_or_empty files name) ≡ true)
   -- with any end it gained some of them
-  pub part : (files : Files) → p.files place ≡ Some files → (h : List Point) → counts h → GainsFront schema is_stat h (length h) (may_lack result) (s.held out) (s.held out') (asked schema (lines (file_or_empty files name)))
+  pub part : (files : Files) → p.files place ≡ Some files → (h : List Point) → counts h → GainsFront schema is_stat h (length h) (may_lack_memory result) (s.held out) (s.held out') (asked schema (lines (file_or_empty files name)))
   -- the script was opened, once at most, and with Ok it was
   pub opened_once : (k : ℕ) × (p.opened place' ≡ p.opened place ++ take k (name ∷ []))
   pub opened_it : result ≡ Ok tt → p.opened place' ≡ p.opened place ++ name ∷ []

@@ -8,7 +8,7 @@ use Rattle.image_cube.specs.CubeImages.{IsCubeImage}
 use Rattle.image_read.specs.Read.{Refuses}
 use Rattle.image_read.specs.declared.fault.ImageFault.{ImageFault}
 use Rattle.image_read.specs.declared.fault.ImageFault.TheVariants as image_fault
-use Rattle.image_run.specs.Faults.{HasFaults}
+use Rattle.image_run.specs.Faults.{HasLoadFaults}
 use Rattle.image_run.specs.Lines.{image_line}
 use Rattle.image_run.specs.declared.end.ImageEnd.{ImageEnd}
 use Rattle.image_run.specs.declared.end.ImageEnd.TheVariants.{Done, Refused}
@@ -37,8 +37,8 @@ abbrev pub IsOrLacks : ImageEnd → Result ImageEnd Stop → Type 0
 IsOrLacks end result = (result ≡ Ok end) ⊎ (result ≡ Err NoMemory)
 
 -- the bytes are the image of a cube of the schema, whatever it counts
-abbrev pub IsAccepted : Schema → List ℕ → Type 0
-IsAccepted schema bytes = ∥ ((h : List Point) × IsCubeImage schema bytes h) ∥₁
+abbrev pub IsAcceptedImage : Schema → List ℕ → Type 0
+IsAcceptedImage schema bytes = ∥ ((h : List Point) × IsCubeImage schema bytes h) ∥₁
 
 -- the bytes are refused, for a fault other than want of memory
 abbrev pub IsRefusedFor : Schema → List ℕ → ImageFault → Type 0
@@ -48,13 +48,13 @@ IsRefusedFor schema bytes fault = (fault ≢ image_fault.NoMemory) × Refuses sc
 module _ {O : Type 0} (s : SinkSeen O) (out out' : O) (schema : Schema) (image script : List ℕ) where
   -- the replies to all that the script asks, over each list of points of whose cubes the bytes are the image, each of which
   -- was told; the numbers of `stat` are those of a cube
-  pub record GainsAnswers : Type 0 where
-    pub accepted : IsAccepted schema image
+  pub record GainsImageAnswers : Type 0 where
+    pub accepted : IsAcceptedImage schema image
     pub gains : (h : List Point) → IsCubeImage schema image h → GainsReplies schema OwnsAllButRoot h (length h) false (s.held out) (s.held out') (asked schema (lines script))
 
   -- a part of them, from the front, or nothing; a reply may be the line for want of memory, or may not
-  pub record GainsSomeAnswers (lacking : Bool) : Type 0 where
-    pub accepted : IsAccepted schema image
+  pub record GainsSomeImageAnswers (lacking : Bool) : Type 0 where
+    pub accepted : IsAcceptedImage schema image
     pub gains : (h : List Point) → IsCubeImage schema image h → GainsFront schema OwnsAllButRoot h (length h) lacking (s.held out) (s.held out') (asked schema (lines script))
 
 -- what answering the named script over the named image leaves of a place and a sink
@@ -72,7 +72,7 @@ module _ {P O : Type 0} (p : PlaceSeen P) (s : SinkSeen O) (place place' : P) (o
   -- what is put: nothing, or the line of a refused plan, or that of a refused image, or a part of it, or some answers
   abbrev pub SaysOfLoad : Option Plan → Result ImageEnd Stop → Type 0
   SaysOfLoad None result = Silent s out out' ⊎ RefusesPlan s out out' (file_of (p.files place) name)
-  SaysOfLoad (Some plan) result = Silent s out out' ⊎ SaysFault plan.schema (λ line. Puts s out out' line ⊎ FailsToPut s out out' line) ⊎ OfLoadFiles (λ i q. GainsSomeAnswers s out out' plan.schema i q (lacks result))
+  SaysOfLoad (Some plan) result = Silent s out out' ⊎ SaysFault plan.schema (λ line. Puts s out out' line ⊎ FailsToPut s out out' line) ⊎ OfLoadFiles (λ i q. GainsSomeImageAnswers s out out' plan.schema i q (lacks result))
 
   -- How it ends
   pub record LoadEnds (result : Result ImageEnd Stop) : Type 0 where
@@ -84,18 +84,18 @@ module _ {P O : Type 0} (p : PlaceSeen P) (s : SinkSeen O) (place place' : P) (o
     -- a refused plan is said, and comes only where its bytes meet a fault
     pub refused_plan : result ≡ Err PlanRefused → (plan ≡ None) × RefusesPlan s out out' (file_of (p.files place) name)
     -- with Done the image was accepted, the sink gained all answers, and the script is not refused
-    pub done : result ≡ Ok Done → (which : Plan) × (plan ≡ Some which) × OfLoadFiles (λ i q. GainsAnswers s out out' which.schema i q × (is_script_refused which.schema q ≡ false))
+    pub done : result ≡ Ok Done → (which : Plan) × (plan ≡ Some which) × OfLoadFiles (λ i q. GainsImageAnswers s out out' which.schema i q × (is_script_refused which.schema q ≡ false))
     -- with Refused the image is refused, which is said, and the script was not opened
     pub refused_image : result ≡ Ok Refused → (which : Plan) × (plan ≡ Some which) × SaysFault which.schema (Puts s out out') × (p.opened place' ≡ p.opened place ++ name ∷ image ∷ [])
     -- a script is refused only where it is, and then the sink gained all answers
-    pub refused : result ≡ Err FeedRefused → (which : Plan) × (plan ≡ Some which) × OfLoadFiles (λ i q. GainsAnswers s out out' which.schema i q × (is_script_refused which.schema q ≡ true))
+    pub refused : result ≡ Err FeedRefused → (which : Plan) × (plan ≡ Some which) × OfLoadFiles (λ i q. GainsImageAnswers s out out' which.schema i q × (is_script_refused which.schema q ≡ true))
     -- of what is put nothing else comes
     pub said : SaysOfLoad plan result
     -- the plan was opened, then the image, and then the script, each once at most, and all with Done
     pub opened : (k : ℕ) × (p.opened place' ≡ p.opened place ++ take k (name ∷ image ∷ script ∷ []))
     pub opened_all : result ≡ Ok Done → p.opened place' ≡ p.opened place ++ name ∷ image ∷ script ∷ []
     -- each fault has its cause, and no file is written
-    pub faults : HasFaults p s place place' out out' result
+    pub faults : HasLoadFaults p s place place' out out' result
     -- where there is a plan and no count rose, the run is done with an image that is accepted and a script that is not refused, and a refused image is refused, unless memory was wanted
     pub complete : ¬ Rose (p.read_faults place) (p.read_faults place') → ¬ Rose (s.faults out) (s.faults out')
-        → IfSome plan (λ which. OfLoadFiles (λ i q. (IsAccepted which.schema i → is_script_refused which.schema q ≡ false → IsOrLacks Done result) × ((fault : ImageFault) → IsRefusedFor which.schema i fault → IsOrLacks Refused result)))
+        → IfSome plan (λ which. OfLoadFiles (λ i q. (IsAcceptedImage which.schema i → is_script_refused which.schema q ≡ false → IsOrLacks Done result) × ((fault : ImageFault) → IsRefusedFor which.schema i fault → IsOrLacks Refused result)))

@@ -6,7 +6,7 @@ use Rattle.run_files.specs.declared.stop.Stop.{Stop}
 use Rattle.run_files.specs.declared.stop.Stop.TheVariants.{NoMemory, PlanRefused, ReadFault, WriteFault}
 
 -- A fault has its cause in a count that rose; no file is written, and the sink keeps its name.
-pub record HasFaults {P O T : Type 0} (p : PlaceSeen P) (s : SinkSeen O) (place place' : P) (out out' : O) (result : Result T Stop) : Type 0 where
+pub record HasLoadFaults {P O T : Type 0} (p : PlaceSeen P) (s : SinkSeen O) (place place' : P) (out out' : O) (result : Result T Stop) : Type 0 where
   -- a read fault comes only where the place's count rose, a write fault only where the sink's did
   pub read : result ≡ Err ReadFault → Rose (p.read_faults place) (p.read_faults place')
   pub write : result ≡ Err WriteFault → Rose (s.faults out) (s.faults out')

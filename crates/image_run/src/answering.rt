@@ -2,7 +2,7 @@
 ghost use Rattle.std.specs.Prelude.{◌≡◌};
 ghost use Rattle.cube_view.specs.Bag.{Counts};
 ghost use Rattle.image_run.specs.Answering.{answers_end, lacking_end, script_end, AnswersFile};
-ghost use Rattle.image_run.specs.Faults.{HasFaults};
+ghost use Rattle.image_run.specs.Faults.{HasLoadFaults};
 ghost use Rattle.run_files.specs.Outside.{seen_place, seen_sink};
 
 use cube_view::CubeView;
@@ -36,7 +36,7 @@ fn script_end(answers: ScriptEnd) -> Result<(), Stop>
 }
 
 /// Answers the named script over the view, each point of which was told. The script's source is given back.
-pub(crate) fn answer_file<V: CubeView, P: Place, O: Sink>(
+pub fn answer_file<V: CubeView, P: Place, O: Sink>(
     alloc: Global,
     view: &V,
     script: &str,
@@ -44,7 +44,7 @@ pub(crate) fn answer_file<V: CubeView, P: Place, O: Sink>(
     out: &mut O,
 ) -> Result<(), Stop>
     ensures answers { AnswersFile (seen_place P.files P.read_faults P.write_faults P.opened P.created) (seen_sink O.held O.faults O.name) place.old place.new out.old out.new (V.schema view.now) V.is_stat (Counts (V.weight_at view.now) (V.seen view.now)) script.now result }
-    ensures faults { HasFaults (seen_place P.files P.read_faults P.write_faults P.opened P.created) (seen_sink O.held O.faults O.name) place.old place.new out.old out.new result }
+    ensures faults { HasLoadFaults (seen_place P.files P.read_faults P.write_faults P.opened P.created) (seen_sink O.held O.faults O.name) place.old place.new out.old out.new result }
 {
     match place.open(script) {
         Ok(source) => {

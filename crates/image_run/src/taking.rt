@@ -14,7 +14,7 @@ use run_files::Stop;
 use std::alloc::Global;
 
 /// Puts the line of an image that is refused, and says how the run ends where that fails.
-fn refuse_image<O: Sink>(alloc: Global, fault: ImageFault, out: &mut O) -> Result<(), Stop>
+pub fn refuse_image<O: Sink>(alloc: Global, fault: ImageFault, out: &mut O) -> Result<(), Stop>
     ensures put { result ≡ Ok tt → Puts (seen_sink O.held O.faults O.name) out.old out.new (image_line fault) }
     ensures unsaid { result ≡ Err Stop.WriteFault → FailsToPut (seen_sink O.held O.faults O.name) out.old out.new (image_line fault) }
     ensures silent { result ≡ Err Stop.NoMemory → Silent (seen_sink O.held O.faults O.name) out.old out.new }

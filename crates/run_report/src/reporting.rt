@@ -1,7 +1,7 @@
 //! The report of a run, and the lines of a run that is refused.
 ghost use Rattle.std.specs.Prelude.{◌≡◌, ◌++◌, string_bytes, IfOk, OnOk};
 ghost use Rattle.run_report.specs.Lines.{closed_line, head_line, journal_line, plan_line};
-ghost use Rattle.run_report.specs.Reports.{counts_text};
+ghost use Rattle.run_report.specs.Reports.{counts_text, feeds_text};
 
 use crate::faults::{push_head_fault, push_plan_fault};
 use crate::lines::{push_feeds, push_scripts};
@@ -9,7 +9,7 @@ use crate::{FeedCounts, ScriptCounts};
 use cube_schema::{Plan, PlanFault};
 use cube_view::Schema;
 use feed_reader::HeadFault;
-use outer_io::{List, NoMemory};
+use outer_io::{List, NoMemory, Text};
 use std::alloc::{AllocError, Global};
 
 #[tactic(auto, unfolding(crate::specs::Lines::plan_line))]
@@ -60,6 +60,20 @@ pub fn header_refused(
         Ok(text) => Ok(List::from_vec(text.into_bytes())),
         Err(_) => Err(NoMemory),
     }
+}
+
+/// The lines of the feeds of these names, in order, as a report has them.
+pub fn feeds_report(
+    alloc: Global,
+    schema: &Schema,
+    names: &[Text],
+    feeds: &[FeedCounts],
+) -> Result<String, AllocError>
+    ensures { IfOk result (λ text. string_bytes text ≡ feeds_text schema.now names.now feeds.now) }
+{
+    let mut text = String::new(alloc);
+    push_feeds(&mut text, schema, names, feeds)?;
+    Ok(text)
 }
 
 /// Appends the last lines of a report.

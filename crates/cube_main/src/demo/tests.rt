@@ -3,11 +3,12 @@ ghost use Rattle.std.specs.Prelude.{◌≤◌, []};
 ghost use Rattle.cube_view.specs.Bag.{Counts};
 
 use crate::built_in::built_in_schema;
+use crate::demo::empty_cube;
 use crate::demo::loading::load;
-use crate::demo::{empty_cube, run_script};
 use cube_schema::{Plan, read_plan};
 use cube_store::Cube;
 use cube_view::{Grow, Schema};
+use image_run::answer_file;
 use outer_io::{List, MemPlace, MemSink, NoMemory};
 use plain_cube::PlainCube;
 use std::alloc::{AllocError, Global};
@@ -97,8 +98,10 @@ fn replies<V: Grow>(
     if load(alloc, "a.csv", &mut place, &mut view).is_err() {
         return Err(NoMemory);
     }
-    run_script(alloc, &view, "q.txt", &mut place, &mut out);
-    Ok(out)
+    match answer_file(alloc, &view, "q.txt", &mut place, &mut out) {
+        Ok(()) => Ok(out),
+        Err(_) => Err(NoMemory),
+    }
 }
 
 #[test]

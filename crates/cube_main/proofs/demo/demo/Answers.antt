@@ -1,4 +1,4 @@
-use Rattle.cube_main.proofs.Ended.{ended_at_once, ends_by_feed, ends_by_script}
+use Rattle.cube_main.proofs.Ended.{ended_at_once, ends_by_feed, ends_by_script, keeps_to_script}
 use Rattle.run_files.specs.Outside.{seen_place, seen_sink}
 use Rattle.cube_main.proofs.demo.demo.Goals as goal
 
@@ -10,8 +10,14 @@ returns-in-Err-clause-ends g c =
 pub returns-in-Ok-load-clause-ends : goal.returns-in-Ok-load-clause-ends
 returns-in-Ok-load-clause-ends g c =
     ends_by_script (seen_place g.P.Place.files g.P.Place.read_faults g.P.Place.write_faults g.P.Place.opened g.P.Place.created) (seen_sink g.O.Sink.held g.O.Sink.faults g.O.Sink.name)
-    c.args.feed.now c.args.script.now c.args.place.now c.load.new.place c.run_script.new.place c.args.out.now c.run_script.new.out _ c.in-Ok.ensures.0 _ c.run_script.result
-    _ c.in-Ok-load.ensures.schema c.in-Ok-load.ensures.loads c.run_script.ensures.answers c.run_script.ensures.keeps
+    c.args.feed.now c.args.script.now c.args.place.now c.load.new.place c.answer_file.new.place c.args.out.now c.answer_file.new.out _ c.in-Ok.ensures.0 _
+    _ c.in-Ok-load.ensures.schema c.answer_file.result c.of_end.result c.of_end.ensures c.in-Ok-load.ensures.loads c.answer_file.ensures.answers c.answer_file.ensures.faults
+
+pub returns-in-Ok-load-clause-keeps : goal.returns-in-Ok-load-clause-keeps
+returns-in-Ok-load-clause-keeps g c =
+    keeps_to_script (seen_place g.P.Place.files g.P.Place.read_faults g.P.Place.write_faults g.P.Place.opened g.P.Place.created) (seen_sink g.O.Sink.held g.O.Sink.faults g.O.Sink.name)
+    c.args.feed.now c.args.script.now c.args.place.now c.load.new.place c.answer_file.new.place c.args.out.now c.answer_file.new.out _ c.in-Ok.ensures.0 _
+    _ c.in-Ok-load.ensures.schema c.answer_file.result c.of_end.result c.of_end.ensures c.in-Ok-load.ensures.loads c.answer_file.ensures.answers c.answer_file.ensures.faults
 
 pub returns-clause-ends : goal.returns-clause-ends
 returns-clause-ends g c =

@@ -1,7 +1,12 @@
 use Rattle.std.proofs.Common.{◌≡◌, ◌∙◌, Some, Global, List, ℕ, map, option_map, string_bytes, sym, ap}
-use Rattle.cube_main.proofs.Forms.{run_apart_big}
+use Rattle.cube_main.proofs.Forms.{run_apart_big, save_apart_demo}
 use Rattle.cube_main.specs.Run.{run_name}
 use Rattle.cube_main.proofs.nanocube.nanocube.Goals as goal
+
+pub returns-in-Some-save_names-clause-demo : goal.returns-in-Some-save_names-clause-demo
+returns-in-Some-save_names-clause-demo g c feed script is =
+    let words : List (List ℕ) = map (string_bytes {Z = Global}) c.args.words.now in
+    absurd (save_apart_demo words _ (feed, script) (sym c.in-Some-save_names.ensures) is)
 
 pub returns-in-None-Some-default-clause-big : goal.returns-in-None-Some-default-clause-big
 returns-in-None-Some-default-clause-big g c rows is =

@@ -1,0 +1,134 @@
+-- A feed on the way through its cutter's lines, and the cube that takes its points.
+use Rattle.std.proofs.Common.{◌≡◌, ℕ, ◌+◌, ◌≤◌, ◌<◌, ◌^◌, List, [], ◌∷◌, ◌++◌, length, map, Option, refl, sym, ◌∙◌, ap, subst, arith, append-nil, append_assoc, Result, Err, IsErrOf}
+use Rattle.std.proofs.Math.Logic.{∥∥₁_elim}
+use Rattle.std.proofs.lemmas.List.{length-map, length_push, map_push}
+use Rattle.std.specs.Coded.{le_prop}
+use Rattle.cube_store.specs.Holding.{CubeCounts}
+use Rattle.cube_store.specs.declared.cube.Cube.{Cube}
+use Rattle.cube_view.specs.Points.{Point}
+use Rattle.cube_view.specs.declared.schema.Schema.{Schema}
+use Rattle.feed_reader.proofs.FeedLaws.{points_in-append}
+use Rattle.feed_reader.specs.Feeds.{points_in}
+use Rattle.feed_reader.specs.Headings.{Heading}
+use Rattle.feed_reader.specs.Reading.{ReadsRow}
+use Rattle.feed_reader.specs.Rows.{row_of_line}
+use Rattle.feed_reader.specs.declared.row.Row.{Row}
+use Rattle.outer_io.proofs.ProgressLaws.{passes_all, passes_none, passes_on}
+use Rattle.outer_io.specs.Cuts.{IsEnd}
+use Rattle.outer_io.specs.Cutting.{Cutter}
+use Rattle.outer_io.specs.Faults.{HasCause, Rose}
+use Rattle.outer_io.specs.Lines.{Line, input_limit}
+use Rattle.outer_io.specs.Progress.{IsGoing, Passes, PassesAll}
+use Rattle.outer_io.specs.declared.cutter.CutFault.{CutFault}
+use Rattle.outer_io.specs.declared.cutter.CutFault.TheVariants as fault
+use Rattle.run_files.specs.declared.feeds.HeadedFeed.{HeadedFeed}
+use Rattle.run_report.specs.declared.counts.FeedCounts.{FeedCounts}
+use Rattle.cube_feeds.specs.Counting.{CubeTakes, TakesFeed, counts_in, having_counted, tally_of}
+use Rattle.cube_feeds.specs.declared.tally.Tally.{Tally}
+use Rattle.cube_feeds.proofs.Tallies.{few_counted, tally_more}
+
+-- a call behind one that met no fault of a source, which meets none itself
+pub no_cause : {A B : Type 0} (first now after : ℕ) (r : Result A CutFault) (s : Result B CutFault) → now ≡ first → ¬ IsErrOf r fault.Read → ¬ IsErrOf s fault.Read → HasCause now after r fault.Read → HasCause first after s fault.Read
+no_cause first now after r s same quiet none cause = record { rose = λ read. absurd (none read); quiet = λ _. cause.quiet quiet ∙ same }
+
+-- a call behind one that met no fault of a source, which answers the fault that it met itself
+pub same_cause : {A B : Type 0} (first now after : ℕ) (r : Result A CutFault) (s : Result B CutFault) (f : CutFault) → now ≡ first → r ≡ Err f → s ≡ Err f → HasCause now after r fault.Read → HasCause first after s fault.Read
+same_cause first now after r s f same is also cause = record {
+  rose = λ read. subst (λ n. Rose n after) same (cause.rose (let e : f ≡ fault.Read = cc in is ∙ ap (λ x. Err x) e));
+  quiet = λ other. cause.quiet (λ read. let e : f ≡ fault.Read = cc in other (also ∙ ap (λ x. Err x) e)) ∙ same;
+}
+
+-- a cube takes no points by staying as it is
+pub takes_none : (cube : Cube) → CubeTakes cube cube []
+takes_none cube h counts = subst (λ points. CubeCounts cube points) (sym (append-nil h)) counts
+
+-- the points of some rows, and then that of one row more
+takes_on : (a b c : Cube) (rows : List Row) (row : Row) → CubeTakes a b (points_in rows) → CubeTakes b c (points_in (row ∷ [])) → CubeTakes a c (points_in (rows ++ row ∷ []))
+takes_on a b c rows row p q h counts =
+    subst (λ points. CubeCounts c points) (append_assoc h (points_in rows) (points_in (row ∷ [])) ∙ ap (λ points. h ++ points) (sym (points_in-append rows (row ∷ [])))) (q (h ++ points_in rows) (p h counts))
+
+-- a cube that takes a point is of one more
+pub one_larger : (a b : Cube) (p : Point) → CubeTakes a b (p ∷ []) → b.size ≤ a.size + 1
+one_larger a b p takes = ∥∥₁_elim a.counted le_prop (λ s.
+    let after = takes s.0 s.1 in
+    omega (arith, after.number, s.1.number, length_push s.0 p))
+
+module _ {S : Type 0} (left : S → Option (List ℕ)) (faults : S → ℕ) (start : HeadedFeed (Cutter S)) (before : Cube) where
+  -- what a line's row is
+  abbrev pub row_at : Line → Row
+  row_at line = row_of_line start.header.schema start.header.places line
+
+  -- the rows of some lines of a feed that was as at first were taken, and it goes on
+  pub record GoesOn (feed : HeadedFeed (Cutter S)) (cube : Cube) (tally : Tally) : Type 0 where
+    pub lines : List Line
+    pub passed : Passes left faults start.cutter feed.cutter lines
+    pub going : IsGoing feed.cutter
+    pub given : feed.cutter.given ≡ 1 + length lines
+    pub few : feed.cutter.given ≤ input_limit
+    pub header : feed.header ≡ start.header
+    pub points : CubeTakes before cube (points_in (map row_at lines))
+    pub schema : cube.schema ≡ before.schema
+    pub size : cube.size ≤ before.size + length lines
+    pub counted : tally ≡ tally_of (map row_at lines)
+
+  -- before the first row
+  pub begins : (tally : Tally) → IsGoing start.cutter → start.cutter.given ≡ 1 → tally ≡ tally_of [] → GoesOn start before tally
+  begins tally going given counted = record {
+    lines = [];
+    passed = passes_none left faults start.cutter;
+    going = going;
+    given = given;
+    few = omega (arith, given);
+    header = refl;
+    points = takes_none before;
+    schema = refl;
+    size = omega arith;
+    counted = counted;
+  }
+
+  module _ (feed : HeadedFeed (Cutter S)) (cube : Cube) (tally : Tally) (on : GoesOn feed cube tally) where
+    rows_few : length (map row_at on.lines) < input_limit
+    rows_few = omega (arith, on.given, on.few, length-map on.lines row_at)
+
+    -- the counts and the cube have room for one row more
+    pub has_room : (tally.accepted < 2 ^ 32) × (tally.blank < 2 ^ 32) × (tally.refused < 2 ^ 32) × (cube.size < before.size + input_limit)
+    has_room =
+        let few = few_counted (map row_at on.lines) tally on.counted in
+        let rows = rows_few in
+        (omega (arith, few.0, rows), omega (arith, few.1, rows), omega (arith, few.2, rows), omega (arith, on.given, on.few, on.size))
+
+    -- a row more is read and taken
+    pub takes_row : (after : HeadedFeed (Cutter S)) (cube' : Cube) (tally' : Tally) (found : Row × ℕ) (schema : Schema) → schema ≡ start.header.schema → ReadsRow left faults schema feed.header.places feed.cutter after.cutter found → after.header ≡ feed.header
+        → tally' ≡ having_counted tally found.1 found.0 → CubeTakes cube cube' (points_in (found.0 ∷ [])) → cube'.schema ≡ cube.schema → cube'.size ≤ cube.size + 1 → GoesOn after cube' tally'
+    takes_row after cube' tally' found schema same reads header counted points schema_is size =
+        let line = reads.0 in
+        let gives = reads.1 in
+        let rows = map row_at on.lines in
+        let row_is : found.0 ≡ row_at line = reads.2 ∙ ap (λ z. row_of_line z feed.header.places line) same ∙ ap (λ (h : Heading). row_of_line start.header.schema h.places line) on.header in
+        let rows_are : rows ++ found.0 ∷ [] ≡ map row_at (on.lines ++ line ∷ []) = ap (λ r. rows ++ r ∷ []) row_is ∙ sym (map_push row_at on.lines line) in
+        let len : length rows ≡ length on.lines = length-map on.lines row_at in
+        let number : found.1 ≡ 2 + length rows = omega (arith, gives.counts, on.given, len) in
+        let more : length (on.lines ++ line ∷ []) ≡ length on.lines + 1 = length_push on.lines line in
+        record {
+          lines = on.lines ++ line ∷ [];
+          passed = passes_on left faults start.cutter feed.cutter after.cutter on.lines (line ∷ []) on.passed gives.passed;
+          going = gives.goes_on;
+          given = omega (arith, gives.given, gives.counts, on.given, more);
+          few = omega (arith, gives.given, gives.small);
+          header = header ∙ on.header;
+          points = subst (λ rs. CubeTakes before cube' (points_in rs)) rows_are (takes_on before cube cube' rows found.0 on.points points);
+          schema = schema_is ∙ on.schema;
+          size = omega (arith, on.size, size, more);
+          counted = counted ∙ ap (λ t. having_counted t found.1 found.0) on.counted ∙ tally_more rows found.1 found.0 number ∙ ap tally_of rows_are;
+        }
+
+    -- it comes to the end of its cutter
+    pub at_end : (cutter : Cutter S) (counts : FeedCounts) → IsEnd left faults feed.cutter cutter → counts ≡ counts_in tally → TakesFeed left faults start before cube counts
+    at_end cutter counts end is =
+        let all : PassesAll left faults start.cutter cutter on.lines = subst (λ ls. PassesAll left faults start.cutter cutter ls) (append-nil on.lines) (passes_all left faults start.cutter feed.cutter cutter on.lines [] on.passed end.passed) in
+        record {
+          rows = map row_at on.lines;
+          read = record { lines = on.lines; all = all.covers; within = all.size; rows_are = refl };
+          points = on.points;
+          counts_are = is ∙ ap counts_in on.counted;
+        }

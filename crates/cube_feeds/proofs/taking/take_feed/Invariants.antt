@@ -1,0 +1,10 @@
+use Rattle.std.proofs.Common.{◌-◌}
+use Rattle.outer_io.specs.Lines.{input_limit}
+use Rattle.cube_feeds.proofs.Reading.{GoesOn}
+use Rattle.cube_feeds.proofs.taking.take_feed.Given as goal
+
+abbrev pub invariant-loop-tally : goal.invariant-loop-tally
+invariant-loop-tally g l = GoesOn g.S.Source.left g.S.Source.faults l.initial.feed l.initial.cube l.feed l.cube l.tally
+
+abbrev pub decreases-loop-tally : goal.decreases-loop-tally
+decreases-loop-tally g l = input_limit - l.feed.cutter.given

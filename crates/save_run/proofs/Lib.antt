@@ -1,0 +1,7 @@
+mod Ending
+mod Fed
+mod Lists
+mod Records
+mod Saving
+mod Stood
+mod Written

@@ -1,0 +1,5 @@
+pub mod Ends
+pub mod Lines
+pub mod Reading
+pub mod Saved
+pub mod Writing

@@ -1,0 +1,42 @@
+//! The feeds of a plan, read into a cube.
+ghost use Rattle.std.specs.Prelude.{◌≡◌, ◌≤◌, All, length};
+ghost use Rattle.cube_feeds.specs.Taking.{IsUnread};
+ghost use Rattle.run_files.specs.Outside.{seen_place};
+ghost use Rattle.save_run.specs.Reading.{taken_end, ReadsFeeds};
+
+use cube_feeds::cube_of_feeds;
+use cube_store::Cube;
+use cube_view::Schema;
+use outer_io::{CutFault, LineCutter, List, Place};
+use run_files::{HeadedFeed, Stop, give_back_feeds, stop_of_cut};
+use run_report::FeedCounts;
+use std::alloc::Global;
+
+/// How a run ends by what reading its feeds answered, if that ends it.
+fn taken_end(
+    taken: Result<(Cube, List<FeedCounts>), CutFault>,
+) -> Result<(Cube, List<FeedCounts>), Stop>
+    ensures { result ≡ taken_end taken }
+{
+    match taken {
+        Ok(taken) => Ok(taken),
+        Err(fault) => Err(stop_of_cut(fault)),
+    }
+}
+
+/// The cube of the points of the feeds, and what is counted of each one. The feeds are given back in every case.
+pub(crate) fn read_feeds<P: Place>(
+    alloc: Global,
+    schema: &Schema,
+    feeds: List<HeadedFeed<LineCutter<P::In>>>,
+    place: &mut P,
+) -> Result<(Cube, List<FeedCounts>), Stop>
+    requires few { length feeds ≤ 8 }
+    requires unread { All (IsUnread P.In.left P.In.faults schema.now) feeds }
+    ensures { ReadsFeeds (seen_place P.files P.read_faults P.write_faults P.opened P.created) P.In.left P.In.faults schema.now place.old place.new feeds result }
+{
+    let mut feeds = feeds.into_vec();
+    let taken = cube_of_feeds(alloc, schema, feeds.as_mut_slice());
+    give_back_feeds(place, feeds);
+    taken_end(taken)
+}
