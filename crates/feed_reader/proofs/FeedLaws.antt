@@ -37,10 +37,15 @@ points_of_more meaning lines line r first points after so_far is more =
     ∙ append_assoc first (points_in (map meaning lines)) (points_in (meaning line ∷ []))
     ∙ ap (λ ps. first ++ ps) (sym (points_in-append (map meaning lines) (meaning line ∷ [])) ∙ ap points_in (sym (map_push meaning lines line)))
 
--- a feed whose first line is no header is refused
+-- a feed without a header is refused
+pub headless_refused : (schema : Schema) (feed : List ℕ) (fault : HeadFault) → feed_head schema feed ≡ Err fault → is_feed_refused schema feed ≡ true
+unfolding is_feed_refused
+headless_refused schema feed fault bad = ap (λ h. not (is_ok h) || nat_lt input_limit (length feed)) bad
+
+-- so is one whose first line is no header
 pub refused_by_head : (schema : Schema) (feed : List ℕ) (fault : HeadFault) → head_of_lines schema (lines feed) ≡ Err fault → is_feed_refused schema feed ≡ true
-unfolding is_feed_refused feed_head
-refused_by_head schema feed fault bad = ap (λ h. not (is_ok h) || nat_lt input_limit (length feed)) bad
+unfolding feed_head
+refused_by_head schema feed fault bad = headless_refused schema feed fault bad
 
 -- so is one over the limit
 pub refused_by_size : (schema : Schema) (feed : List ℕ) → input_limit < length feed → is_feed_refused schema feed ≡ true
@@ -64,6 +69,13 @@ accepted-lines schema feed places line rest is head =
       ap (head_of_lines schema) is ∙ first,
       ap (λ ls. points_in (rows_under schema (head_of_lines schema ls) (drop 1 ls))) is ∙ ap (λ h. points_in (rows_under schema h rest)) first,
     )
+
+-- all rows of such a feed, by its further lines
+pub rows_read : (schema : Schema) (feed places : List ℕ) (line : Line) (rest : List Line) → lines feed ≡ line ∷ rest → head_of_lines schema (line ∷ []) ≡ Ok places → rows schema feed ≡ map (row_of_line schema places) rest
+unfolding rows feed_head
+rows_read schema feed places line rest is head =
+    ap (λ (all : List Line). rows_under schema (head_of_lines schema all) (drop 1 all)) is
+    ∙ ap (λ h. rows_under schema h rest) (head_of_lines-cons schema line rest ∙ head)
 
 module _ {S : Type 0} (left : S → Option (List ℕ)) (faults : S → ℕ) (schema : Schema) where
   -- after the line that is the header, the cutter has the lines left whose points are accepted

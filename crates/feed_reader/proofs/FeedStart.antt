@@ -1,5 +1,6 @@
 -- What is told of a cutter at the start, and of what some value has.
-use Rattle.std.proofs.Common.{◌≡◌, ℕ, ◌+◌, List, length, Option, Some, None, option_map, ◌∙◌, ap, subst, zero-add, IsSomeAnd}
+use Rattle.std.proofs.Common.{◌≡◌, ℕ, ◌+◌, List, [], ◌++◌, length, Option, Some, None, option_map, ◌∙◌, ap, subst, zero-add, IsSomeAnd}
+use Rattle.outer_io.specs.Cutting.{Cutter, IsNew, lines_left, rest_of}
 use Rattle.outer_io.specs.Lines.{Line, lines, lines_from}
 use Rattle.outer_io.specs.Told.{Told}
 
@@ -13,6 +14,13 @@ pub size_at_start : (P : ℕ → Type 0) (r : Option (List ℕ)) (taken : ℕ) (
 size_at_start P None taken size t e p = tt
 size_at_start P (Some feed) taken size t e p =
     subst P (ap (λ (n : ℕ). n + length feed) t ∙ zero-add (length feed)) (subst (λ (o : Option ℕ). Told o P) e p)
+
+-- a new cutter has left what its source has, and the lines of it
+pub new_rest : {S : Type 0} (left : S → Option (List ℕ)) (c : Cutter S) (source : S) (bytes : List ℕ) → IsNew source c → left source ≡ Some bytes → rest_of left c ≡ Some bytes
+new_rest left c source bytes new told = ap (λ k. rest_of left k) new ∙ ap (λ (o : Option (List ℕ)). option_map (λ more. [] ++ more) o) told
+
+pub new_lines : {S : Type 0} (left : S → Option (List ℕ)) (c : Cutter S) (source : S) (bytes : List ℕ) → IsNew source c → left source ≡ Some bytes → lines_left left c ≡ Some (lines bytes)
+new_lines left c source bytes new told = ap (λ k. lines_left left k) new ∙ ap (λ (o : Option (List ℕ)). option_map (lines_from 0 0) (option_map (λ more. [] ++ more) o)) told
 
 -- what follows from what some value has
 pub some_each : {A : Type 0} (o : Option A) (P Q : A → Type 0) → ((x : A) → P x → Q x) → IsSomeAnd o P → IsSomeAnd o Q

@@ -49,7 +49,8 @@ lines_of-length : (first : Bool) (ps : List (List ℕ)) → length (lines_of fir
 lines_of-length first [] = refl
 lines_of-length first (p ∷ ps) = let rest = lines_of-length false ps in omega (arith, rest)
 
-points_in-length : (rs : List Row) → length (points_in rs) ≤ length rs
+-- there are no more points than rows
+pub points_in-length : (rs : List Row) → length (points_in rs) ≤ length rs
 points_in-length [] = omega arith
 points_in-length (row.Blank ∷ rs) = let rest = points_in-length rs in omega (arith, rest)
 points_in-length (row.Point p ∷ rs) = let rest = points_in-length rs in omega (arith, rest)
