@@ -1,10 +1,10 @@
--- Answers and ends that differ.
+-- Answers and ends: which one it is, and which it is not.
 use Rattle.std.proofs.Common.{◌≡◌, Some, None, Result, Ok, Err, refl, ap}
 use Rattle.outer_io.specs.declared.fault.IoFault.{IoFault}
 use Rattle.outer_io.specs.declared.fault.IoFault.TheVariants as fault
 use Rattle.run_files.specs.Stops.{read_end}
 use Rattle.run_files.specs.declared.stop.Stop.{Stop}
-use Rattle.std.specs.Result.{result_err}
+use Rattle.std.specs.Result.{IsErrAnd, result_err}
 use Rattle.run_files.specs.declared.stop.Stop.TheVariants.{NoMemory, PlanRefused, ReadFault, WriteFault, FeedRefused}
 
 pub ok_not_err : {T E : Type 0} (x : T) (e : E) → Ok x ≡ Err e → ⊥
@@ -18,6 +18,18 @@ failed_fault f is e = cc
 
 pub lacked_fault : {T : Type 0} (f : IoFault) → f ≡ fault.NoMemory → err_of T f ≡ err_of T fault.Failed → ⊥
 lacked_fault f is e = cc
+
+-- an answer that has this error
+pub residual_is : {T E : Type 0} (r : Result T E) (e : E) → IsErrAnd r (λ f. f ≡ e) → r ≡ Err e
+residual_is (Ok x) e bad = absurd bad
+residual_is (Err f) e is = ap (λ k. Err k) is
+
+-- an end that came so, and two that are the same
+abbrev pub stopped : (T : Type 0) → Stop → Result T Stop
+stopped T stop = Err stop
+
+pub err_is : {T : Type 0} (a b : Stop) → stopped T a ≡ stopped T b → a ≡ b
+err_is a b e = cc
 
 pub none_not_some : {A : Type 0} (x : A) → None ≡ Some x → ⊥
 none_not_some x is = cc

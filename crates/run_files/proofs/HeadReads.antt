@@ -3,6 +3,7 @@ use Rattle.std.proofs.Common.{◌≡◌, ◌≢◌, ℕ, ◌+◌, ◌<◌, ◌�
 use Rattle.std.proofs.lemmas.List.{append-nil, length-append, get_or_append_left}
 use Rattle.std.proofs.lemmas.List.Elements.{All-get_or}
 use Rattle.cube_view.specs.declared.schema.Schema.{Schema}
+use Rattle.feed_reader.proofs.FeedStart.{new_rest}
 use Rattle.feed_reader.specs.Feeds.{feed_head, head_of_lines}
 use Rattle.feed_reader.specs.Reading.{AcceptsRows, IsAtStart, IsHeadRefused}
 use Rattle.outer_io.proofs.ProgressLaws.{of_lines}
@@ -12,16 +13,16 @@ use Rattle.outer_io.specs.Lines.{Line}
 use Rattle.run_files.proofs.Lists.{AllZip-firsts, AllZip-more}
 use Rattle.run_files.specs.declared.feeds.HeadedFeed.{HeadedFeed}
 use Rattle.std.specs.List.{AllZip}
-use Rattle.std.specs.Prelude.{IsErrAnd, IsOk, IsSomeAnd, option_map}
+use Rattle.std.specs.Prelude.{IsErrAnd, IsOk, IsSomeAnd}
 use Rattle.std.specs.Result.{result_err}
 use Rattle.feed_reader.specs.declared.feed.NoHeader.{NoHeader}
 use Rattle.feed_reader.specs.declared.feed.NoHeader.TheVariants.{Refused}
 use Rattle.feed_reader.specs.declared.header.HeadFault.{HeadFault}
 use Rattle.feed_reader.specs.declared.header.HeadFault.TheVariants as head
 use Rattle.outer_io.specs.Told.{Told}
-use Rattle.outer_io.specs.Bytes.{Gains, GainsPart}
 use Rattle.outer_io.specs.Faults.{Rose}
 use Rattle.outer_io.specs.Files.{Files, file_or_empty}
+use Rattle.run_files.proofs.Putting.{fails_after, puts_after, silent_after, silent_itself}
 use Rattle.run_files.proofs.Returning.{leaves_given_back}
 use Rattle.run_files.proofs.Stages.{leaves_reading, leaves_then, leaves_more, nothing_made, all_opened}
 use Rattle.run_report.specs.Lines.{head_line}
@@ -30,19 +31,6 @@ use Rattle.run_files.specs.Headed.{HasHeader, IsHeaded, OpensFeeds, RefusesHead,
 use Rattle.run_files.specs.Outside.{FailsToPut, file_of, PlaceSeen, Puts, Silent, SinkSeen}
 use Rattle.run_files.specs.declared.stop.Stop.{Stop}
 use Rattle.run_files.specs.declared.stop.Stop.TheVariants.{NoMemory, PlanRefused, ReadFault, WriteFault, FeedRefused}
-
-module _ {O : Type 0} (s : SinkSeen O) where
-  pub silent_itself : (o : O) → Silent s o o
-  silent_itself o = record { held = refl; faults = refl; name = refl }
-
-  silent_on : (a b c : O) → Silent s a b → Silent s b c → Silent s a c
-  silent_on a b c one two = record { held = two.held ∙ one.held; faults = two.faults ∙ one.faults; name = two.name ∙ one.name }
-
-  puts_on : (a b c : O) (bytes : List ℕ) → Silent s a b → Puts s b c bytes → Puts s a c bytes
-  puts_on a b c bytes one two = record { held = subst (λ h. Gains h (s.held c) bytes) one.held two.held; faults = two.faults ∙ one.faults; name = two.name ∙ one.name }
-
-  fails_on : (a b c : O) (bytes : List ℕ) → Silent s a b → FailsToPut s b c bytes → FailsToPut s a c bytes
-  fails_on a b c bytes one two = record { held = subst (λ h. GainsPart h (s.held c) bytes) one.held two.held; faults = subst (λ n. Rose n (s.faults c)) one.faults two.faults; name = two.name ∙ one.name }
 
 -- a header that is refused by the cutter's next line is that of the source's bytes
 pub refused_feed : {S : Type 0} (left : S → Option (List ℕ)) (schema : Schema) (source : S) (c : Cutter S) (fault : HeadFault) → IsNew source c → IsHeadRefused left schema c fault → Told (left source) (λ feed. feed_head schema feed ≡ Err fault)
@@ -85,9 +73,6 @@ refuses_head s schema files told name met Says left of_line refused said = recor
   says = said.2;
 }
 
-rest_new : {S : Type 0} (left : S → Option (List ℕ)) (source : S) (c : Cutter S) (bytes : List ℕ) → IsNew source c → left source ≡ Some bytes → rest_of left c ≡ Some bytes
-rest_new left source c bytes new is = subst (λ k. rest_of left k ≡ Some bytes) (sym new) (ap (option_map (λ more. [] ++ more)) is)
-
 head_in : (schema : Schema) (places bytes : List ℕ) (o : Option (List Line)) → IsSomeAnd o (AcceptsRows schema places bytes) → IsOk (feed_head schema bytes)
 head_in schema places bytes None h = absurd h
 head_in schema places bytes (Some rest) h = subst (λ r. IsOk r) (sym h.0) refl
@@ -97,7 +82,7 @@ has_header : {S : Type 0} (left : S → Option (List ℕ)) (faults : S → ℕ) 
 has_header left faults schema None feed h = tt
 has_header left faults schema (Some bytes) feed h =
     head_in schema feed.header.places bytes (lines_left left feed.cutter)
-    (Told-some (rest_of left h.reads.before) bytes (λ b. IsSomeAnd (lines_left left feed.cutter) (AcceptsRows schema feed.header.places b)) (rest_new left h.source h.reads.before bytes h.reads.made h.left_is) h.reads.accepted)
+    (Told-some (rest_of left h.reads.before) bytes (λ b. IsSomeAnd (lines_left left feed.cutter) (AcceptsRows schema feed.header.places b)) (new_rest left h.reads.before h.source bytes h.reads.made h.left_is) h.reads.accepted)
 
 module _ {S : Type 0} (left : S → Option (List ℕ)) (faults : S → ℕ) (schema : Schema) (files : Option Files) where
   -- so have all feeds whose headers were read
@@ -184,9 +169,9 @@ module _ {P O : Type 0} (p : PlaceSeen P) (s : SinkSeen O) (schema : Schema) whe
       record {
         leaves = leaves_then p a b c first (name ∷ []) [] stop one.leaves two.leaves;
         headed = λ i lt. HasHeader-first schema (p.files a) first one.leaves.opens two.leaves.opens i all (all_opened p a b first [] one.leaves) (one_at_most name two.leaves.opens two.leaves.unopened two.leaves.inputs_are) lt;
-        refused = λ e. refuses_on schema (p.files a) (p.files b) one.leaves.opens two.leaves.opens _ _ same (λ line. puts_on s o o' o'' line quiet) (two.refused e);
-        unsaid = λ e. refuses_on schema (p.files a) (p.files b) one.leaves.opens two.leaves.opens _ _ same (λ line. fails_on s o o' o'' line quiet) (two.unsaid e);
-        silent = λ e f. silent_on s o o' o'' quiet (two.silent e f);
+        refused = λ e. refuses_on schema (p.files a) (p.files b) one.leaves.opens two.leaves.opens _ _ same (puts_after s o o' o'' quiet) (two.refused e);
+        unsaid = λ e. refuses_on schema (p.files a) (p.files b) one.leaves.opens two.leaves.opens _ _ same (fails_after s o o' o'' quiet) (two.unsaid e);
+        silent = λ e f. silent_after s o o' o'' quiet (two.silent e f);
         ends = two.ends;
       }
 

@@ -1,9 +1,11 @@
-mod Apart
-mod Lists
+pub mod Apart
+pub mod Counts
+pub mod Lists
 pub mod Emptied
 pub mod Stages
 pub mod Returning
-mod PlanReads
+pub mod PlanReads
+pub mod Putting
 mod HeadReads
 mod ScriptReads
 mod SinkReturns

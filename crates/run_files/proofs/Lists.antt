@@ -1,10 +1,18 @@
--- What holds of each item of two lists after each other.
-use Rattle.std.proofs.Common.{All, List, [], ap, arith, drop, get_or, length, refl, suc, sym, take, zero, ℕ, ◌++◌, ◌+◌, ◌<◌, ◌∙◌, ◌∷◌, ◌≡◌}
+-- Two lists after each other, and what holds of their items.
+use Rattle.std.proofs.Common.{All, List, [], ap, arith, drop, get_or, length, length-append, refl, suc, sym, take, zero, ℕ, ◌++◌, ◌+◌, ◌<◌, ◌∙◌, ◌∷◌, ◌≡◌}
 use Rattle.std.specs.Prelude.{Contains}
 use Rattle.std.specs.List.{AllZip}
 use Rattle.std.proofs.lemmas.List.{take_more, take-append-drop}
 use Rattle.std.proofs.lemmas.List.Elements.{All-nil, All-cons, All-head, All-tail}
 
+-- a list with an item more is another
+pub not_grown : {A : Type 0} (xs ys : List A) (x : A) → ys ≡ xs ++ x ∷ [] → ys ≡ xs → ⊥
+not_grown xs ys x more same =
+    let a = ap (λ (zs : List _). length zs) more ∙ length-append xs (x ∷ []) in
+    let b = ap (λ (zs : List _). length zs) same in
+    omega (arith, a, b)
+
+-- what holds of each item of two lists holds of each one of either
 pub All-front : {X : Type 0} (P : X → Type 0) (xs ys : List X) → All P (xs ++ ys) → All P xs
 All-front P [] ys all = All-nil P
 All-front P (x ∷ xs) ys all = All-cons P x xs (All-head P x (xs ++ ys) all) (All-front P xs ys (All-tail P x (xs ++ ys) all))

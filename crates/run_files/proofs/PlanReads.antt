@@ -1,5 +1,5 @@
--- What the front of a plan's file means, which is read up to a limit.
-use Rattle.std.proofs.Common.{◌≡◌, ℕ, ◌+◌, ◌≤◌, ◌<◌, List, take, length, Option, Some, None, Result, Ok, Err, inl, inr, sym, ◌∙◌, ap, arith}
+-- What the front of a plan's file means, which is read up to a limit, and how a run ends that has no plan.
+use Rattle.std.proofs.Common.{◌≡◌, ◌≢◌, ◌⊎◌, ℕ, ◌+◌, ◌≤◌, ◌<◌, List, take, length, Option, Some, None, Result, Ok, Err, inl, inr, refl, sym, ◌∙◌, ap, arith}
 use Rattle.std.proofs.lemmas.Bool.{cases_lt, lt-ltb}
 use Rattle.std.proofs.lemmas.List.{length-take-le, take_all}
 use Rattle.cube_schema.specs.Drafts.{draft_of}
@@ -8,9 +8,11 @@ use Rattle.cube_schema.specs.declared.fault.PlanFault.{PlanFault}
 use Rattle.cube_schema.specs.declared.fault.PlanFault.TheVariants.{TooLong}
 use Rattle.cube_schema.specs.declared.plan.Plan.{Plan}
 use Rattle.outer_io.specs.Told.{Told}
-use Rattle.run_files.specs.Outside.{SinkSeen}
-use Rattle.run_files.specs.Planned.{ReadsPlan}
+use Rattle.run_files.proofs.Apart.{stopped}
+use Rattle.run_files.specs.Outside.{Silent, SinkSeen}
+use Rattle.run_files.specs.Planned.{ReadsPlan, RefusesPlan}
 use Rattle.run_files.specs.declared.stop.Stop.{Stop}
+use Rattle.run_files.specs.declared.stop.Stop.TheVariants.{NoMemory, PlanRefused, ReadFault, WriteFault, FeedRefused}
 
 too_long : (bytes : List ℕ) → longest_plan < length bytes → plan_meaning bytes ≡ Err TooLong
 unfolding plan_meaning
@@ -50,3 +52,19 @@ reads_plan s out out' file bytes (Err stop) front reads = record {
   silent = reads.silent;
   ends = reads.ends;
 }
+
+-- which ends a run has whose plan was refused or was not read
+pub plan_end : {T : Type 0} (stop : Stop) → (stop ≢ WriteFault) × (stop ≢ FeedRefused) → (stopped T stop ≡ Err NoMemory) ⊎ (stopped T stop ≡ Err ReadFault) ⊎ (stopped T stop ≡ Err PlanRefused)
+plan_end NoMemory ends = inl refl
+plan_end PlanRefused ends = inr (inr refl)
+plan_end ReadFault ends = inr (inl refl)
+plan_end WriteFault ends = absurd (ends.0 refl)
+plan_end FeedRefused ends = absurd (ends.1 refl)
+
+-- and what is said of it
+pub says_plan : {O : Type 0} (s : SinkSeen O) (out out' : O) (file : Option (List ℕ)) (stop : Stop) → ReadsPlan s out out' file (Err stop) → Silent s out out' ⊎ RefusesPlan s out out' file
+says_plan s out out' file NoMemory reads = inl (reads.silent (λ e. cc))
+says_plan s out out' file PlanRefused reads = inr (reads.refused refl)
+says_plan s out out' file ReadFault reads = inl (reads.silent (λ e. cc))
+says_plan s out out' file WriteFault reads = inl (reads.silent (λ e. cc))
+says_plan s out out' file FeedRefused reads = inl (reads.silent (λ e. cc))

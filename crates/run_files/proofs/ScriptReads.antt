@@ -1,5 +1,5 @@
 -- Scripts that are opened, and outputs that are created, one after another.
-use Rattle.std.proofs.Common.{All, Err, List, None, Ok, Option, Result, Some, [], ap, append_assoc, inl, inr, lit<, map, refl, subst, sym, ℕ, ◌++◌, ◌∙◌, ◌∷◌, ◌≡◌, ◌≢◌}
+use Rattle.std.proofs.Common.{All, Err, List, None, Ok, Option, Result, Some, [], ap, append_assoc, inl, inr, map, refl, subst, sym, ℕ, ◌++◌, ◌∙◌, ◌∷◌, ◌≡◌, ◌≢◌}
 use Rattle.std.proofs.lemmas.Bool.{false≢true}
 use Rattle.std.proofs.lemmas.List.Elements.{All-cons, All-nil}
 use Rattle.std.proofs.lemmas.List.{append-nil, map-append}
@@ -12,10 +12,10 @@ use Rattle.outer_io.specs.Faults.{Rose}
 use Rattle.outer_io.specs.Files.{ChangesOnly, Files, HasFile}
 use Rattle.run_files.proofs.Emptied.{told_still}
 use Rattle.run_files.proofs.Lists.{AllZip-more}
-use Rattle.run_files.proofs.Stages.{KeepsOthers-same, leaves_and_creates, leaves_as_before, leaves_more, leaves_reading, leaves_then, leaves_unmade, nothing_made}
+use Rattle.run_files.proofs.Stages.{KeepsOthers-one, KeepsOthers-same, leaves_and_creates, leaves_as_before, leaves_more, leaves_reading, leaves_then, leaves_unmade, nothing_made}
 use Rattle.run_files.proofs.Returning.{leaves_given_back}
 use Rattle.run_files.specs.GivingBack.{TakesSources}
-use Rattle.run_files.specs.Leaving.{KeepsOthers, LeavesPlace}
+use Rattle.run_files.specs.Leaving.{LeavesPlace}
 use Rattle.run_files.specs.Outside.{file_of, PlaceSeen, SinkSeen}
 use Rattle.run_files.specs.Scripted.{IsOutput, IsScript, OpensScripts}
 use Rattle.run_files.specs.declared.stop.Stop.{Stop}
@@ -38,12 +38,6 @@ write_ends = (λ e. cc, λ e. cc)
 
 pub none_ends : (None ≡ Some PlanRefused → ⊥) × (None ≡ Some FeedRefused → ⊥)
 none_ends = (λ e. cc, λ e. cc)
-
--- files of which one name alone changed keep the others of it
-pub KeepsOthers-one : (before after : Option Files) (name : List ℕ) → ChangesOnly before after name → KeepsOthers before after (name ∷ [])
-KeepsOthers-one None after name h = tt
-KeepsOthers-one (Some files) None name h = absurd h
-KeepsOthers-one (Some files) (Some now) name h = λ other apart. h other (λ e. apart (0, lit< tt, sym e))
 
 told_before : (before now : Option Files) (A : Type 0) → (IsSome before → IsSome now) → Told now (λ _. A) → Told before (λ _. A)
 told_before None now A told h = tt

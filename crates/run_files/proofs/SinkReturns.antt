@@ -1,5 +1,5 @@
 -- Sinks that are given back one after another.
-use Rattle.std.proofs.Common.{◌≡◌, ◌≢◌, ℕ, zero, suc, ◌≤◌, List, [], ◌∷◌, ◌++◌, length, get_or, map, Option, Some, None, Result, Ok, Err, inl, inr, ◌⊎◌, refl, sym, ◌∙◌, ap, subst, arith, All, Bool, true, false, nat_lt, if◌then◌else◌}
+use Rattle.std.proofs.Common.{◌≡◌, ◌≢◌, ℕ, List, [], ◌∷◌, ◌++◌, length, get_or, map, Option, Some, None, Result, Ok, Err, inl, inr, ◌⊎◌, refl, sym, ◌∙◌, ap, subst, arith, All, Bool, true, false, nat_lt, if◌then◌else◌}
 use Rattle.std.specs.List.{AllPairs, AllZip, Contains, fold}
 use Rattle.std.specs.FinMap.{get}
 use Rattle.std.specs.Prelude.{IsSome, IsSomeAnd, OnOk}
@@ -8,17 +8,18 @@ use Rattle.std.proofs.lemmas.List.Elements.{All-cons, All-contains, All-head, Al
 use Rattle.std.proofs.lemmas.List.Sums.{fold-append}
 use Rattle.outer_io.proofs.ToldLaws.{Told-each}
 use Rattle.outer_io.specs.Asking.{CountsPart}
-use Rattle.outer_io.specs.Faults.{HasCause, Rose}
+use Rattle.outer_io.specs.Faults.{Rose}
 use Rattle.outer_io.specs.Files.{ChangesOnly, Files, HasFile, HasPart}
 use Rattle.outer_io.specs.Told.{Told}
 use Rattle.outer_io.specs.declared.fault.IoFault.{IoFault}
 use Rattle.outer_io.specs.declared.fault.IoFault.TheVariants as fault
 use Rattle.run_files.proofs.Apart.{none_not_some, ok_not_err, same_stop}
 use Rattle.std.proofs.lemmas.Bool.{false≢true}
+use Rattle.run_files.proofs.Counts.{counts_failed, counts_grow, rose_from_before, rose_later}
 use Rattle.run_files.proofs.Emptied.{empty_given, told_still}
 use Rattle.run_files.proofs.Lists.{All-back, All-front, AllZip-more, in_one}
-use Rattle.run_files.proofs.ScriptReads.{KeepsOthers-one, lacked_not_write}
-use Rattle.run_files.proofs.Stages.{back_nil, KeepsOthers-itself, KeepsOthers-more}
+use Rattle.run_files.proofs.ScriptReads.{lacked_not_write}
+use Rattle.run_files.proofs.Stages.{back_nil, KeepsOthers-itself, KeepsOthers-more, KeepsOthers-one}
 use Rattle.run_files.specs.GivingBack.{Lands, TakesSinks}
 use Rattle.run_files.specs.Leaving.{KeepsOthers}
 use Rattle.run_files.specs.Outside.{PlaceSeen, SinkSeen}
@@ -26,27 +27,6 @@ use Rattle.run_files.specs.Scripted.{OpensScripts}
 use Rattle.run_files.specs.Stops.{joined_ends, rank_of, write_end}
 use Rattle.run_files.specs.declared.stop.Stop.{Stop}
 use Rattle.run_files.specs.declared.stop.Stop.TheVariants.{NoMemory, PlanRefused, ReadFault, WriteFault, FeedRefused}
-
--- the count of writing where one sink was given back that met so many faults
-grown_by : (b c n : ℕ) (r : Result (Unit {0}) IoFault) → HasCause b c r fault.Failed → b ≤ c
-grown_by b c n (Ok x) h = omega (arith, h.quiet (λ e. cc))
-grown_by b c n (Err fault.Failed) h = (h.rose refl).0
-grown_by b c n (Err fault.NoMemory) h = omega (arith, h.quiet (λ e. cc))
-
-grown : (b c n : ℕ) (r : Result (Unit {0}) IoFault) → CountsPart b c n r → b ≤ c
-grown b c zero r h = grown_by b c 0 r (h.cause refl)
-grown b c (suc n) r h = (h.rose (omega arith, omega arith)).0
-
-failed_rises : (b c n : ℕ) (r : Result (Unit {0}) IoFault) → CountsPart b c n r → r ≡ Err fault.Failed → Rose b c
-failed_rises b c zero r h e = (h.cause refl).rose e
-failed_rises b c (suc n) r h e = h.rose (omega arith, omega arith)
-
--- a count that rose and then grew rose, and one that grew and then rose
-rose_grown : (a b c : ℕ) → Rose a b → b ≤ c → Rose a c
-rose_grown a b c rose more = grind arith
-
-grown_rose : (a b c : ℕ) → a ≤ b → Rose b c → Rose a c
-grown_rose a b c more rose = grind arith
 
 -- where two ends are joined_ends well both are well
 both_well : (A B C : Type 0) (e : Result (Unit {0}) Stop) (r : Result (Unit {0}) IoFault) → OnOk e A → (r ≡ Ok tt → B) → (A → B → C) → OnOk (joined_ends e (write_end r)) C
@@ -191,7 +171,7 @@ module _ {P O : Type 0} (p : PlaceSeen P) (s : SinkSeen O) where
       → Lands (p.files b) (p.files c) (s.name last) (s.held last) r → ChangesOnly (p.files b) (p.files c) (s.name last) → CountsPart (p.write_faults b) (p.write_faults c) (s.faults last) r
       → p.created c ≡ p.created b → (p.read_faults c ≡ p.read_faults b) × (p.opened c ≡ p.opened b) → TakesSinks p s a c (sinks ++ last ∷ []) (joined_ends e (write_end r))
   gives_more a b c sinks last e r one lands others counts created reading =
-      let grow = grown (p.write_faults b) (p.write_faults c) (s.faults last) r counts in
+      let grow = counts_grow (p.write_faults b) (p.write_faults c) (s.faults last) r counts in
       let names : map s.name (sinks ++ last ∷ []) ≡ map s.name sinks ++ s.name last ∷ [] = map-append s.name sinks (last ∷ []) in
       let kept = KeepsOthers-one (p.files b) (p.files c) (s.name last) others in
       record {
@@ -211,13 +191,13 @@ module _ {P O : Type 0} (p : PlaceSeen P) (s : SinkSeen O) where
             let front = All-front (λ sink. s.held sink ≡ Some []) sinks (last ∷ []) hold in
             let end = All-head (λ sink. s.held sink ≡ Some []) last [] (All-back (λ sink. s.held sink ≡ Some []) sinks (last ∷ []) hold) in
             empty_given (p.files b) (p.files c) (s.name last) name (s.held last) r (told_still (p.files a) (p.files b) (map s.name sinks) one.others told) end kept lands (one.still_empty told front name has);
-        failed = λ h. elim (Contains-push_cases one.answers r (Err fault.Failed) h) [ inl before ↦ rose_grown _ _ _ (one.failed before) grow | inr now ↦ grown_rose _ _ _ one.grows (failed_rises (p.write_faults b) (p.write_faults c) (s.faults last) r counts now) ];
-        met = λ sink h rose. elim (Contains-push_cases sinks last sink h) [ inl before ↦ rose_grown _ _ _ (one.met sink before rose) grow | inr now ↦ grown_rose _ _ _ one.grows (counts.rose (subst (λ (k : O). Rose 0 (s.faults k)) (sym now) rose)) ];
+        failed = λ h. elim (Contains-push_cases one.answers r (Err fault.Failed) h) [ inl before ↦ rose_later _ _ _ (one.failed before) grow | inr now ↦ rose_from_before _ _ _ one.grows (counts_failed (p.write_faults b) (p.write_faults c) (s.faults last) r now counts) ];
+        met = λ sink h rose. elim (Contains-push_cases sinks last sink h) [ inl before ↦ rose_later _ _ _ (one.met sink before rose) grow | inr now ↦ rose_from_before _ _ _ one.grows (counts.rose (subst (λ (k : O). Rose 0 (s.faults k)) (sym now) rose)) ];
         quiet = both_well (All (λ sink. s.faults sink ≡ 0) sinks → p.write_faults b ≡ p.write_faults a) (s.faults last ≡ 0 → p.write_faults c ≡ p.write_faults b) (All (λ sink. s.faults sink ≡ 0) (sinks ++ last ∷ []) → p.write_faults c ≡ p.write_faults a) e r one.quiet
             (λ well none. (counts.cause none).quiet (λ bad. ok_not_err tt fault.Failed (sym well ∙ bad)))
             (λ first next all. next (All-head (λ sink. s.faults sink ≡ 0) last [] (All-back (λ sink. s.faults sink ≡ 0) sinks (last ∷ []) all)) ∙ first (All-front (λ sink. s.faults sink ≡ 0) sinks (last ∷ []) all));
         grows = omega (arith, one.grows, grow);
-        write = λ is. elim (joined_write e r is) [ inl before ↦ rose_grown _ _ _ (one.write before) grow | inr now ↦ grown_rose _ _ _ one.grows (failed_rises (p.write_faults b) (p.write_faults c) (s.faults last) r counts now) ];
+        write = λ is. elim (joined_write e r is) [ inl before ↦ rose_later _ _ _ (one.write before) grow | inr now ↦ rose_from_before _ _ _ one.grows (counts_failed (p.write_faults b) (p.write_faults c) (s.faults last) r now counts) ];
         only = (joined_only PlanRefused e r plan_not_lacked plan_not_write one.only.0, joined_only ReadFault e r read_not_lacked read_no_write one.only.1, joined_only FeedRefused e r feed_not_lacked feed_not_write one.only.2);
         none = λ h. absurd (not_nil sinks last h);
         read_faults = reading.0 ∙ one.read_faults;
@@ -305,7 +285,7 @@ module _ {P O : Type 0} (p : PlaceSeen P) (s : SinkSeen O) where
           opens_first = one.leaves.opens_first;
           read_first = λ e. absurd (read' (same_stop _ _ e));
           emptied = λ quiet told.
-              let unrisen : ¬ Rose (p.write_faults a) (p.write_faults b) = λ rose. quiet (λ e. none_not_some _ (sym e)) (rose_grown _ _ _ rose back.grows) in
+              let unrisen : ¬ Rose (p.write_faults a) (p.write_faults b) = λ rose. quiet (λ e. none_not_some _ (sym e)) (rose_later _ _ _ rose back.grows) in
               All-weaker (λ n. HasFile (p.files b) n []) (λ n. HasFile (p.files c) n []) (λ n has. back.still_empty (told_still (p.files a) (p.files b) one.leaves.makes one.leaves.others told) (hold told) n has) one.leaves.makes
               (one.leaves.emptied (λ _. unrisen) told);
           read = λ e. absurd (read' (same_stop _ _ e));
@@ -319,7 +299,7 @@ module _ {P O : Type 0} (p : PlaceSeen P) (s : SinkSeen O) where
         write = λ e.
             let end = same_stop _ _ e in
             elim (write_or_not stop) [
-              | inl wrote ↦ rose_grown _ _ _ (one.write (ap (λ k. Some k) wrote)) back.grows
+              | inl wrote ↦ rose_later _ _ _ (one.write (ap (λ k. Some k) wrote)) back.grows
               | inr other ↦ elim ended [
                 | inl one_end ↦ absurd (other (one_end ∙ end))
                 | inr second ↦ subst (λ n. Rose n (p.write_faults c))

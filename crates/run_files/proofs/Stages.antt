@@ -1,11 +1,12 @@
 -- What one stage of a run leaves, and two after each other.
-use Rattle.std.proofs.Common.{All, ◌≡◌, ◌≢◌, ℕ, List, [], ◌∷◌, ◌++◌, Option, Some, None, Result, Ok, Err, inl, inr, refl, sym, ◌∙◌, ap, subst, append_assoc}
+use Rattle.std.proofs.Common.{All, ◌≡◌, ◌≢◌, ℕ, List, [], ◌∷◌, ◌++◌, length, take, lit<, Option, Some, None, Result, Ok, Err, inl, inr, refl, sym, ◌∙◌, ap, subst, append_assoc}
+use Rattle.std.proofs.Math.Seq.{take-append_seam}
 use Rattle.std.proofs.lemmas.List.{append-nil}
 use Rattle.std.proofs.lemmas.List.Elements.{All-nil, Contains-append_left, Contains-append_right}
 use Rattle.std.specs.Prelude.{IsSome}
 use Rattle.std.specs.Result.{result_err}
 use Rattle.outer_io.specs.Faults.{Rose}
-use Rattle.outer_io.specs.Files.{Files, HasFile}
+use Rattle.outer_io.specs.Files.{ChangesOnly, Files, HasFile}
 use Rattle.run_files.proofs.Emptied.{emptied_after, told_still}
 use Rattle.run_files.specs.Leaving.{KeepsOthers, LeavesPlace}
 use Rattle.run_files.specs.Outside.{PlaceSeen}
@@ -27,6 +28,12 @@ KeepsOthers-after before now after names same kept = subst (λ files. KeepsOther
 -- and so do two of which the second keeps all
 pub KeepsOthers-then : (before now after : Option Files) (names : List (List ℕ)) → KeepsOthers before now names → after ≡ now → KeepsOthers before after names
 KeepsOthers-then before now after names kept same = subst (λ files. KeepsOthers before files names) (sym same) kept
+
+-- files of which one name alone changed keep the others of it
+pub KeepsOthers-one : (before after : Option Files) (name : List ℕ) → ChangesOnly before after name → KeepsOthers before after (name ∷ [])
+KeepsOthers-one None after name h = tt
+KeepsOthers-one (Some files) None name h = absurd h
+KeepsOthers-one (Some files) (Some now) name h = λ other apart. h other (λ e. apart (0, lit< tt, sym e))
 
 -- an answer that is not this fault
 pub not_err : {T : Type 0} (r : Result T Stop) (e : Stop) → r ≢ Err e → result_err r ≢ Some e
@@ -53,6 +60,18 @@ module _ {P : Type 0} (p : PlaceSeen P) where
   -- a stage that has nothing to create creates nothing
   pub nothing_made : (a b : P) (inputs : List (List ℕ)) (stop : Option Stop) (stage : LeavesPlace p a b inputs [] stop) → stage.makes ≡ []
   nothing_made a b inputs stop stage = front_nil stage.makes stage.unmade stage.outputs_are
+
+  -- so it leaves the files, and what was created
+  pub same_files : (a b : P) (inputs : List (List ℕ)) (stop : Option Stop) → LeavesPlace p a b inputs [] stop → p.files b ≡ p.files a
+  same_files a b inputs stop stage = stage.untouched (nothing_made a b inputs stop stage)
+
+  pub same_created : (a b : P) (inputs : List (List ℕ)) (stop : Option Stop) → LeavesPlace p a b inputs [] stop → p.created b ≡ p.created a
+  same_created a b inputs stop stage = stage.created ∙ (ap (λ m. p.created a ++ m) (nothing_made a b inputs stop stage) ∙ append-nil _)
+
+  -- what it opened is a front of the names
+  pub opened_front : (a b : P) (inputs : List (List ℕ)) (stop : Option Stop) → LeavesPlace p a b inputs [] stop → (k : ℕ) × (p.opened b ≡ p.opened a ++ take k inputs)
+  opened_front a b inputs stop stage =
+      (length stage.opens, stage.opened ∙ ap (λ ns. p.opened a ++ ns) (sym (ap (take (length stage.opens)) stage.inputs_are ∙ take-append_seam stage.opens stage.unopened)))
 
   -- a stage after which the run goes on opened all its inputs
   pub all_opened : (a b : P) (inputs outputs : List (List ℕ)) (stage : LeavesPlace p a b inputs outputs None) → inputs ≡ stage.opens

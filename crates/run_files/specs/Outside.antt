@@ -1,5 +1,5 @@
 -- The place and the sink of a run as contracts see them.
-use Rattle.std.specs.Prelude.{◌≡◌, ℕ, List, Option, option_map}
+use Rattle.std.specs.Prelude.{◌≡◌, ◌⊎◌, ℕ, List, Option, option_map}
 use Rattle.outer_io.specs.Bytes.{Gains, GainsPart}
 use Rattle.outer_io.specs.Faults.{Rose}
 use Rattle.outer_io.specs.Files.{Files, file_or_empty}
@@ -52,3 +52,7 @@ module _ {O : Type 0} (s : SinkSeen O) (before after : O) where
     pub held : GainsPart (s.held before) (s.held after) bytes
     pub faults : Rose (s.faults before) (s.faults after)
     pub name : s.name after ≡ s.name before
+
+  -- the bytes were put, or a part of them where the put failed
+  abbrev pub PutsOrFails : List ℕ → Type 0
+  PutsOrFails bytes = Puts bytes ⊎ FailsToPut bytes
