@@ -4,13 +4,14 @@ use Rattle.std.proofs.lemmas.List.{length-map}
 use Rattle.std.proofs.lemmas.List.Elements.{All-cons, All-nil}
 use Rattle.std.proofs.lemmas.Slice.Zip.{AllZip-long}
 use Rattle.std.specs.List.{AllZip}
-use Rattle.std.specs.Prelude.{IsOk, codes, option_map, vec_capacity}
+use Rattle.std.specs.Prelude.{IsOk, codes, vec_capacity}
 use Rattle.crew_feeder.specs.declared.job.FeedJob.{FeedJob}
 use Rattle.crew_session.specs.Work.{HadNoTurn}
 use Rattle.cube_schema.specs.Files.{NamesFiles}
 use Rattle.cube_schema.specs.Repeats.{outputs}
 use Rattle.cube_schema.specs.declared.plan.Plan.{Plan}
 use Rattle.cube_view.specs.declared.schema.Schema.{Schema}
+use Rattle.feed_reader.proofs.FeedStart.{new_rest}
 use Rattle.feed_reader.specs.Feeds.{feed_head}
 use Rattle.feed_reader.specs.Reading.{AcceptsRows}
 use Rattle.outer_io.proofs.ToldLaws.{Told-some}
@@ -19,6 +20,7 @@ use Rattle.outer_io.specs.Files.{Files}
 use Rattle.outer_io.specs.Lines.{Line}
 use Rattle.outer_io.specs.Progress.{IsGoing}
 use Rattle.outer_io.specs.Told.{Told}
+use Rattle.run_files.proofs.Lists.{AllZip-firsts}
 use Rattle.run_files.specs.Headed.{HasHeader, IsHeaded}
 use Rattle.run_files.specs.Outside.{file_of, SinkSeen}
 use Rattle.run_files.specs.Scripted.{ArePartsOf, IsOutput, IsScript}
@@ -36,24 +38,14 @@ each_second R P step [] (y ∷ ys) all = absurd all
 each_second R P step (x ∷ xs) [] all = absurd all
 each_second R P step (x ∷ xs) (y ∷ ys) all = All-cons P y ys (step x y all.0) (each_second R P step xs ys all.1)
 
--- and for the first
-each_first : {A B : Type 0} (R : A → B → Type 0) (P : A → Type 0) → ((x : A) (y : B) → R x y → P x) → (xs : List A) (ys : List B) → AllZip R xs ys → All P xs
-each_first R P step [] [] all = All-nil P
-each_first R P step [] (y ∷ ys) all = absurd all
-each_first R P step (x ∷ xs) [] all = absurd all
-each_first R P step (x ∷ xs) (y ∷ ys) all = All-cons P x xs (step x y all.0) (each_first R P step xs ys all.1)
-
 -- ---- feeds
 
 module _ {I : Type 0} (left : I → Option (List ℕ)) (faults : I → ℕ) (schema : Schema) where
-  rest_new : (source : I) (c : Cutter I) (bytes : List ℕ) → IsNew source c → left source ≡ Some bytes → rest_of left c ≡ Some bytes
-  rest_new source c bytes new is = subst (λ k. rest_of left k ≡ Some bytes) (sym new) (ap (option_map (λ more. [] ++ more)) is)
-
   -- the lines that are left of a feed whose header was read are its rows
   rows_left : (file : Option (List ℕ)) (feed : HeadedFeed (Cutter I)) → IsHeaded left faults schema file feed → Told file (λ bytes. IsSomeAnd (lines_left left feed.cutter) (AcceptsRows schema feed.header.places bytes))
   rows_left None feed h = tt
   rows_left (Some bytes) feed h =
-      Told-some (rest_of left h.reads.before) bytes (λ b. IsSomeAnd (lines_left left feed.cutter) (AcceptsRows schema feed.header.places b)) (rest_new h.source h.reads.before bytes h.reads.made h.left_is) h.reads.accepted
+      Told-some (rest_of left h.reads.before) bytes (λ b. IsSomeAnd (lines_left left feed.cutter) (AcceptsRows schema feed.header.places b)) (new_rest left h.reads.before h.source bytes h.reads.made h.left_is) h.reads.accepted
 
   head_in : (places bytes : List ℕ) (o : Option (List Line)) → IsSomeAnd o (AcceptsRows schema places bytes) → IsOk (feed_head schema bytes)
   head_in places bytes None h = absurd h
@@ -76,7 +68,7 @@ module _ {I : Type 0} (left : I → Option (List ℕ)) (faults : I → ℕ) (sch
 
   module _ (files : Option Files) where
     pub all_headed : (names : List (List ℕ)) (feeds : List (HeadedFeed (Cutter I))) → AllZip (λ name. IsHeaded left faults schema (file_of files name)) names feeds → All (λ name. HasHeader schema (file_of files name)) names
-    all_headed = each_first (λ name. IsHeaded left faults schema (file_of files name)) (λ name. HasHeader schema (file_of files name)) (λ name feed. has_header (file_of files name) feed)
+    all_headed = AllZip-firsts (λ name. IsHeaded left faults schema (file_of files name)) (λ name. HasHeader schema (file_of files name)) (λ name feed. has_header (file_of files name) feed)
 
     are_jobs : (names : List (List ℕ)) (feeds : List (HeadedFeed (Cutter I))) → AllZip (λ name. IsHeaded left faults schema (file_of files name)) names feeds → AllZip (λ name. IsJobOf left faults schema (file_of files name)) names (map job_of feeds)
     are_jobs [] [] all = tt

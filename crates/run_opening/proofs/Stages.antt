@@ -7,6 +7,7 @@ use Rattle.cube_schema.specs.Files.{input_names, output_names}
 use Rattle.cube_schema.specs.declared.plan.Plan.{Plan}
 use Rattle.outer_io.specs.Faults.{Rose}
 use Rattle.outer_io.specs.Files.{Files}
+use Rattle.run_files.proofs.Putting.{silent_after}
 use Rattle.run_files.proofs.Returning.{leaves_given_back}
 use Rattle.run_files.proofs.Stages.{all_opened, leaves_more, leaves_reading, leaves_then, nothing_made}
 use Rattle.run_files.specs.GivingBack.{TakesSources}
@@ -17,7 +18,7 @@ use Rattle.run_files.specs.Planned.{ReadsPlan}
 use Rattle.run_files.specs.Scripted.{OpensScripts}
 use Rattle.run_files.specs.declared.stop.Stop.{Stop}
 use Rattle.run_files.specs.declared.stop.Stop.TheVariants.{NoMemory, PlanRefused, ReadFault, WriteFault, FeedRefused}
-use Rattle.run_opening.proofs.Putting.{order_not_plan, order_on, order_silent, silent_on}
+use Rattle.run_opening.proofs.Putting.{order_not_plan, order_on, order_silent}
 use Rattle.run_opening.specs.Opening.{OpensFiles, OpensInOrder, OpensRun, plan_in}
 
 -- what ends a run with its plan
@@ -134,7 +135,7 @@ module _ {P O : Type 0} (p : PlaceSeen P) (s : SinkSeen O) (name : List ℕ) whe
               (subst (λ (files : Option Files). OpensInOrder s plan files (p.write_faults b) (p.write_faults c) o o'' two.leaves.opens two.leaves.makes stop) same order),
         );
         refused_plan = λ e. absurd (order_not_plan s plan (p.files b) (p.write_faults b) (p.write_faults c) o' o'' two.leaves.opens two.leaves.makes stop two.order e);
-        silent = λ _ e f. silent_on s o o' o'' quiet (order_silent s plan (p.files b) (p.write_faults b) (p.write_faults c) o' o'' two.leaves.opens two.leaves.makes stop two.order e f);
+        silent = λ _ e f. silent_after s o o' o'' quiet (order_silent s plan (p.files b) (p.write_faults b) (p.write_faults c) o' o'' two.leaves.opens two.leaves.makes stop two.order e f);
       }
 
   -- so it is where `?` hands the trouble on
