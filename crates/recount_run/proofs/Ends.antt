@@ -1,23 +1,22 @@
 -- How an audit ends, by how its stages ended.
-use Rattle.std.proofs.Common.{◌≡◌, ◌≢◌, ◌⊎◌, ℕ, true, false, ◌≤◌, ◌<◌, List, [], ◌∷◌, ◌++◌, length, Option, Some, None, Result, Ok, Err, inl, inr, refl, sym, ◌∙◌, ap, subst, arith}
-use Rattle.std.proofs.lemmas.List.{append-nil}
+use Rattle.std.proofs.Common.{◌≡◌, ◌≢◌, ◌⊎◌, ℕ, true, false, ◌≤◌, ◌<◌, List, [], ◌∷◌, length, Option, Some, None, Result, Ok, Err, inl, inr, refl, sym, ◌∙◌, ap, subst, arith}
 use Rattle.std.specs.Prelude.{IsOk, is_ok}
 use Rattle.cube_schema.specs.Meaning.{plan_meaning}
 use Rattle.cube_schema.specs.declared.fault.PlanFault.{PlanFault}
 use Rattle.cube_schema.specs.declared.plan.Plan.{Plan}
-use Rattle.outer_io.specs.Bytes.{Gains, GainsPart}
-use Rattle.outer_io.specs.Faults.{Rose}
 use Rattle.outer_io.specs.Files.{Files, file_or_empty}
 use Rattle.outer_io.specs.Lines.{input_limit}
 use Rattle.outer_io.specs.Told.{Told}
 use Rattle.recount.specs.declared.verdict.Verdict.{Verdict}
-use Rattle.run_files.proofs.Stages.{leaves_ended, leaves_more, leaves_then, nothing_made}
+use Rattle.run_files.proofs.Apart.{err_is, ok_not_err, same_stop, stopped}
+use Rattle.run_files.proofs.Putting.{fails_after, puts_after, silent_after}
+use Rattle.run_files.proofs.Stages.{leaves_ended, leaves_more, leaves_then, nothing_made, same_created, same_files}
 use Rattle.run_files.specs.Leaving.{LeavesPlace}
-use Rattle.run_files.specs.Outside.{FailsToPut, file_of, PlaceSeen, Puts, Silent, SinkSeen}
+use Rattle.run_files.specs.Outside.{file_of, PlaceSeen, Silent, SinkSeen}
 use Rattle.run_files.specs.Planned.{IsPlanOf, ReadsPlan}
 use Rattle.run_files.specs.declared.stop.Stop.{Stop}
 use Rattle.run_files.specs.declared.stop.Stop.TheVariants.{NoMemory, PlanRefused, ReadFault, WriteFault, FeedRefused}
-use Rattle.recount_run.proofs.Reading.{err_is, err_of, not_ok, same_files, told_of}
+use Rattle.recount_run.proofs.Reading.{told_of}
 use Rattle.recount_run.specs.Ends.{HasNoPlan, HasNoTexts, IsVerdictOf, RecountEnds}
 use Rattle.recount_run.specs.Reading.{AreShort, IsOneLong, ReadsTexts}
 use Rattle.recount_run.specs.Said.{HasVerdictUnder, SaysVerdict}
@@ -52,7 +51,7 @@ ended_texts WriteFault other = absurd (other refl)
 ended_texts FeedRefused other = inl refl
 
 -- an end with no other cause is want of memory
-ended_well : (stop : Stop) → stop ≢ PlanRefused → stop ≢ ReadFault → stop ≢ WriteFault → stop ≢ FeedRefused → IsOk (err_of Audit stop) ⊎ (err_of Audit stop ≡ Err NoMemory)
+ended_well : (stop : Stop) → stop ≢ PlanRefused → stop ≢ ReadFault → stop ≢ WriteFault → stop ≢ FeedRefused → IsOk (stopped Audit stop) ⊎ (stopped Audit stop ≡ Err NoMemory)
 ended_well NoMemory plan read write feed = inr refl
 ended_well PlanRefused plan read write feed = absurd (plan refl)
 ended_well ReadFault plan read write feed = absurd (read refl)
@@ -60,41 +59,16 @@ ended_well WriteFault plan read write feed = absurd (write refl)
 ended_well FeedRefused plan read write feed = absurd (feed refl)
 
 -- where a verdict is not said, and no put failed, memory ran out
-only_memory : (stop : Stop) → (err_of Audit stop ≢ Err PlanRefused) × (err_of Audit stop ≢ Err ReadFault) × (err_of Audit stop ≢ Err FeedRefused) → stop ≢ WriteFault → stop ≡ NoMemory
+only_memory : (stop : Stop) → (stopped Audit stop ≢ Err PlanRefused) × (stopped Audit stop ≢ Err ReadFault) × (stopped Audit stop ≢ Err FeedRefused) → stop ≢ WriteFault → stop ≡ NoMemory
 only_memory NoMemory ends write = refl
 only_memory PlanRefused ends write = absurd (ends.0 refl)
 only_memory ReadFault ends write = absurd (ends.1 refl)
 only_memory WriteFault ends write = absurd (write refl)
 only_memory FeedRefused ends write = absurd (ends.2 refl)
 
-same_stop : (a b : Stop) → Some a ≡ Some b → a ≡ b
-same_stop a b e = cc
-
--- what is put after nothing was put
-module _ {O : Type 0} (s : SinkSeen O) (a b c : O) (quiet : Silent s a b) where
-  then_silent : Silent s b c → Silent s a c
-  then_silent more = record { held = more.held ∙ quiet.held; faults = more.faults ∙ quiet.faults; name = more.name ∙ quiet.name }
-
-  then_puts : (bytes : List ℕ) → Puts s b c bytes → Puts s a c bytes
-  then_puts bytes more = record {
-    held = subst (λ (h : Option (List ℕ)). Gains h (s.held c) bytes) quiet.held more.held;
-    faults = more.faults ∙ quiet.faults;
-    name = more.name ∙ quiet.name;
-  }
-
-  then_fails : (bytes : List ℕ) → FailsToPut s b c bytes → FailsToPut s a c bytes
-  then_fails bytes more = record {
-    held = subst (λ (h : Option (List ℕ)). GainsPart h (s.held c) bytes) quiet.held more.held;
-    faults = subst (λ (n : ℕ). Rose n (s.faults c)) quiet.faults more.faults;
-    name = more.name ∙ quiet.name;
-  }
-
 module _ {P O : Type 0} (p : PlaceSeen P) (s : SinkSeen O) (plan journal script replies : List ℕ) where
   abbrev Names : List (List ℕ)
   Names = plan ∷ journal ∷ script ∷ replies ∷ []
-
-  same_created : (a b : P) (stop : Option Stop) → LeavesPlace p a b Names [] stop → p.created b ≡ p.created a
-  same_created a b stop stage = stage.created ∙ (ap (λ m. p.created a ++ m) (nothing_made p a b Names stop stage) ∙ append-nil _)
 
   same_writes : (a b : P) (stop : Option Stop) → LeavesPlace p a b Names [] stop → p.write_faults b ≡ p.write_faults a
   same_writes a b stop stage = stage.unwritten (nothing_made p a b Names stop stage)
@@ -115,7 +89,7 @@ module _ {P O : Type 0} (p : PlaceSeen P) (s : SinkSeen O) (plan journal script 
             (λ e. let told = reads.refused (ap (λ k. Err k) e) in no_fault (file_or_empty files plan) told.fault good (told_of (p.files a) files plan (λ all. plan_meaning all ≡ Err told.fault) is told.meaning))
             (λ e. read (all.read (ap (λ k. Some k) e))) reads.ends.0 reads.ends.1;
         leaves = all;
-        created = same_created a b (Some stop) all;
+        created = same_created p a b Names (Some stop) all;
         write_faults = same_writes a b (Some stop) all;
         files = same_files p a b Names (Some stop) all;
       }
@@ -123,7 +97,7 @@ module _ {P O : Type 0} (p : PlaceSeen P) (s : SinkSeen O) (plan journal script 
   -- there is a plan, and the files are as before
   module _ (a b c : P) (out mid : O) (pl : Plan) (leaves : LeavesPlace p a b (plan ∷ []) [] None) (reads : ReadsPlan s out mid (file_of (p.files a) plan) (Ok pl)) where
     quiet : Silent s out mid
-    quiet = reads.silent (λ e. not_ok pl PlanRefused e)
+    quiet = reads.silent (λ e. ok_not_err pl PlanRefused e)
 
     whole : (stop : Option Stop) → LeavesPlace p b c (journal ∷ script ∷ replies ∷ []) [] stop → LeavesPlace p a c Names [] stop
     whole stop more = leaves_then p a b c (plan ∷ []) (journal ∷ script ∷ replies ∷ []) [] stop leaves more
@@ -152,7 +126,7 @@ module _ {P O : Type 0} (p : PlaceSeen P) (s : SinkSeen O) (plan journal script 
           complete = λ files is good short read write. ended_well stop (λ e. texts.ends.0 (ap (λ k. Err k) e)) (λ e. read (all.read (ap (λ k. Some k) e))) (λ e. texts.ends.1 (ap (λ k. Err k) e))
               (λ e. not_both _ _ _ short (texts.long (ap (λ k. Err k) e) files (same ∙ is)));
           leaves = all;
-          created = same_created a c (Some stop) all;
+          created = same_created p a c Names (Some stop) all;
           write_faults = same_writes a c (Some stop) all;
           files = same_files p a c Names (Some stop) all;
         }
@@ -178,16 +152,16 @@ module _ {P O : Type 0} (p : PlaceSeen P) (s : SinkSeen O) (plan journal script 
       ended_by_saying out' (Ok audit) says =
           let all = whole None read.leaves in
           record {
-            done = record { verdict = says.says.0; of_files = on_files says.says.0 says.says.1; puts = then_puts s out mid out' quiet _ says.says.3; audit_is = says.says.2 };
-            unsaid = λ e. absurd (not_ok audit WriteFault e);
-            refused_plan = λ e. absurd (not_ok audit PlanRefused e);
+            done = record { verdict = says.says.0; of_files = on_files says.says.0 says.says.1; puts = puts_after s out mid out' quiet _ says.says.3; audit_is = says.says.2 };
+            unsaid = λ e. absurd (ok_not_err audit WriteFault e);
+            refused_plan = λ e. absurd (ok_not_err audit PlanRefused e);
             no_plan = λ files is fault bad. absurd (plan_good files is fault bad);
-            refused = λ e. absurd (not_ok audit FeedRefused e);
+            refused = λ e. absurd (ok_not_err audit FeedRefused e);
             no_texts = λ files is long. absurd (not_long files is long);
-            silent = λ other e not_plan not_write. absurd (not_ok audit other e);
+            silent = λ other e not_plan not_write. absurd (ok_not_err audit other e);
             complete = λ files is good short no_read no_write. inl refl;
             leaves = all;
-            created = same_created a c None all;
+            created = same_created p a c Names None all;
             write_faults = same_writes a c None all;
             files = same_files p a c Names None all;
           }
@@ -195,16 +169,16 @@ module _ {P O : Type 0} (p : PlaceSeen P) (s : SinkSeen O) (plan journal script 
           let all : LeavesPlace p a c Names [] (Some stop) = leaves_ended p a c Names (Some stop) (λ e. says.ends.1 (ap (λ k. Err k) (same_stop stop ReadFault e))) (whole None read.leaves) in
           record {
             done = tt;
-            unsaid = λ e. let fails = says.fails e in record { verdict = fails.0; of_files = on_files fails.0 fails.1; part = then_fails s out mid out' quiet _ fails.2 };
+            unsaid = λ e. let fails = says.fails e in record { verdict = fails.0; of_files = on_files fails.0 fails.1; part = fails_after s out mid out' quiet _ fails.2 };
             refused_plan = λ e. absurd (says.ends.0 e);
             no_plan = λ files is fault bad. absurd (plan_good files is fault bad);
             refused = λ e. absurd (says.ends.2 e);
             no_texts = λ files is long. absurd (not_long files is long);
-            silent = λ other e not_plan not_write. then_silent s out mid out' quiet (says.silent (ap (λ k. Err k) (only_memory stop says.ends (λ w. not_write (sym (err_is stop other e) ∙ w)))));
+            silent = λ other e not_plan not_write. silent_after s out mid out' quiet (says.silent (ap (λ k. Err k) (only_memory stop says.ends (λ w. not_write (sym (err_is stop other e) ∙ w)))));
             complete = λ files is good short no_read no_write. ended_well stop (λ e. says.ends.0 (ap (λ k. Err k) e)) (λ e. says.ends.1 (ap (λ k. Err k) e))
-                (λ e. no_write (then_fails s out mid out' quiet _ (says.fails (ap (λ k. Err k) e)).2).faults) (λ e. says.ends.2 (ap (λ k. Err k) e));
+                (λ e. no_write (fails_after s out mid out' quiet _ (says.fails (ap (λ k. Err k) e)).2).faults) (λ e. says.ends.2 (ap (λ k. Err k) e));
             leaves = all;
-            created = same_created a c (Some stop) all;
+            created = same_created p a c Names (Some stop) all;
             write_faults = same_writes a c (Some stop) all;
             files = same_files p a c Names (Some stop) all;
           }

@@ -8,7 +8,7 @@ use Rattle.recount.specs.declared.verdict.Verdict.{Verdict}
 use Rattle.run_files.specs.Outside.{FailsToPut, Puts, SinkSeen}
 use Rattle.run_files.specs.declared.stop.Stop.{Stop}
 use Rattle.run_files.specs.declared.stop.Stop.TheVariants.{NoMemory, PlanRefused, ReadFault, WriteFault, FeedRefused}
-use Rattle.recount_run.proofs.Reading.{not_ok}
+use Rattle.run_files.proofs.Apart.{ok_not_err}
 use Rattle.recount_run.specs.Audits.{audit_of}
 use Rattle.recount_run.specs.Lines.{verdict_line}
 use Rattle.recount_run.specs.Said.{HasVerdictUnder, PutsVerdict, SaysVerdict}
@@ -30,9 +30,9 @@ module _ {O : Type 0} (s : SinkSeen O) (a b : O) where
   pub put_line : (v : Verdict) (audit : Audit) → audit ≡ audit_of v → Puts s a b (verdict_line v) → PutsVerdict s a b v (Ok audit)
   put_line v audit is puts = record {
     puts = (is, puts);
-    fails = λ e. absurd (not_ok audit WriteFault e);
-    silent = λ e. absurd (not_ok audit NoMemory e);
-    ends = (λ e. not_ok audit PlanRefused e, λ e. not_ok audit ReadFault e, λ e. not_ok audit FeedRefused e);
+    fails = λ e. absurd (ok_not_err audit WriteFault e);
+    silent = λ e. absurd (ok_not_err audit NoMemory e);
+    ends = (λ e. ok_not_err audit PlanRefused e, λ e. ok_not_err audit ReadFault e, λ e. ok_not_err audit FeedRefused e);
   }
 
   -- one that failed
@@ -55,7 +55,7 @@ module _ {O : Type 0} (s : SinkSeen O) (a b : O) where
 
   -- what is put of a verdict is put of the texts that have it
   pub says_of : (plan : Plan) (texts : Texts) (v : Verdict) (result : Result Audit Stop) → HasVerdictUnder plan texts.journal texts.script texts.replies v → PutsVerdict s a b v result → SaysVerdict s a b plan texts result
-  says_of plan texts v (Ok audit) has puts = record { says = (v, has, puts.puts.0, puts.puts.1); fails = λ e. absurd (not_ok audit WriteFault e); silent = puts.silent; ends = puts.ends }
+  says_of plan texts v (Ok audit) has puts = record { says = (v, has, puts.puts.0, puts.puts.1); fails = λ e. absurd (ok_not_err audit WriteFault e); silent = puts.silent; ends = puts.ends }
   says_of plan texts v (Err stop) has puts = record { says = tt; fails = λ e. (v, has, puts.fails e); silent = puts.silent; ends = puts.ends }
 
 -- nothing is put without memory for an audit

@@ -1,33 +1,18 @@
 -- Texts that were read whole.
-use Rattle.std.proofs.Common.{◌≡◌, ◌≢◌, ℕ, ◌+◌, ◌≤◌, ◌<◌, List, [], ◌∷◌, length, take, Option, Some, None, Result, Ok, Err, inl, inr, sym, ◌∙◌, ap, subst, arith}
+use Rattle.std.proofs.Common.{◌≡◌, ◌≢◌, ℕ, ◌+◌, ◌≤◌, ◌<◌, List, [], ◌∷◌, length, take, Option, Some, None, Ok, Err, inl, inr, sym, ◌∙◌, ap, subst, arith}
 use Rattle.std.proofs.lemmas.Bool.{cases_lt}
 use Rattle.std.proofs.lemmas.List.{length-take-le, take_all}
-use Rattle.std.specs.Result.{IsErrAnd}
 use Rattle.outer_io.specs.Files.{Files, file_or_empty}
 use Rattle.outer_io.specs.Lines.{input_limit}
 use Rattle.outer_io.specs.Told.{Told}
-use Rattle.run_files.proofs.Stages.{leaves_ended, leaves_more, leaves_then, nothing_made}
+use Rattle.run_files.proofs.Apart.{err_is, ok_not_err, stopped}
+use Rattle.run_files.proofs.Stages.{leaves_ended, leaves_more, leaves_then, same_files}
 use Rattle.run_files.specs.Leaving.{LeavesPlace}
 use Rattle.run_files.specs.Outside.{file_of, PlaceSeen}
 use Rattle.run_files.specs.declared.stop.Stop.{Stop}
 use Rattle.run_files.specs.declared.stop.Stop.TheVariants.{PlanRefused, ReadFault, WriteFault, FeedRefused}
 use Rattle.recount_run.specs.Reading.{AreShort, IsOneLong, ReadsText, ReadsTexts}
 use Rattle.recount_run.specs.declared.texts.Texts.{Texts}
-
--- an answer that has this error
-pub residual_is : {T E : Type 0} (r : Result T E) (e : E) → IsErrAnd r (λ f. f ≡ e) → r ≡ Err e
-residual_is (Ok x) e bad = absurd bad
-residual_is (Err f) e is = ap (λ k. Err k) is
-
--- errors that are the same
-abbrev pub err_of : (T : Type 0) → Stop → Result T Stop
-err_of T stop = Err stop
-
-pub err_is : {T : Type 0} (a b : Stop) → err_of T a ≡ err_of T b → a ≡ b
-err_is a b e = cc
-
-pub not_ok : {T : Type 0} (x : T) (stop : Stop) → Ok x ≡ err_of T stop → ⊥
-not_ok x stop e = cc
 
 -- what holds of a file that is told holds of its bytes
 pub told_of : (o : Option Files) (files : Files) (name : List ℕ) (Q : List ℕ → Type 0) → o ≡ Some files → Told (file_of o name) Q → Q (file_or_empty files name)
@@ -83,13 +68,9 @@ module _ {P : Type 0} (p : PlaceSeen P) where
   text_read a b name bytes leaves front short = record {
     leaves = leaves;
     whole = (told_whole (file_of (p.files a) name) bytes front short, short);
-    long = λ e. absurd (not_ok bytes FeedRefused e);
-    ends = (λ e. not_ok bytes PlanRefused e, λ e. not_ok bytes WriteFault e);
+    long = λ e. absurd (ok_not_err bytes FeedRefused e);
+    ends = (λ e. ok_not_err bytes PlanRefused e, λ e. ok_not_err bytes WriteFault e);
   }
-
-  -- a stage that only reads leaves the files
-  pub same_files : (a b : P) (inputs : List (List ℕ)) (stop : Option Stop) → LeavesPlace p a b inputs [] stop → p.files b ≡ p.files a
-  same_files a b inputs stop stage = stage.untouched (nothing_made p a b inputs stop stage)
 
   -- what was read of a file at a later place is what was told at first
   of_later : (a b : P) (files : Files) (name : List ℕ) (Q : List ℕ → Type 0) → p.files b ≡ p.files a → p.files a ≡ Some files → Told (file_of (p.files b) name) Q → Q (file_or_empty files name)
@@ -106,7 +87,7 @@ module _ {P : Type 0} (p : PlaceSeen P) where
       ends = (λ e. ends.0 (err_is stop PlanRefused e), λ e. ends.1 (err_is stop WriteFault e));
     }
 
-    ends_of : {T : Type 0} (stop : Stop) → (err_of T stop ≢ Err PlanRefused) × (err_of T stop ≢ Err WriteFault) → (stop ≢ PlanRefused) × (stop ≢ WriteFault)
+    ends_of : {T : Type 0} (stop : Stop) → (stopped T stop ≢ Err PlanRefused) × (stopped T stop ≢ Err WriteFault) → (stop ≢ PlanRefused) × (stop ≢ WriteFault)
     ends_of stop ends = (λ e. ends.0 (ap (λ k. Err k) e), λ e. ends.1 (ap (λ k. Err k) e))
 
     -- the journal was not read, or is too long
@@ -119,13 +100,13 @@ module _ {P : Type 0} (p : PlaceSeen P) where
     pub ended_by_script : (a b c : P) (stop : Stop) (j : List ℕ) → ReadsText p a b journal (Ok j) → ReadsText p b c script (Err stop) → ReadsTexts p a c journal script replies (Err stop)
     ended_by_script a b c stop j one two =
         texts_ended a c stop (leaves_then p a b c (journal ∷ []) (script ∷ replies ∷ []) [] (Some stop) one.leaves (leaves_more p b c (script ∷ []) (replies ∷ []) [] stop two.leaves))
-        (λ e files is. inr (inl (of_later a b files script (λ all. input_limit < length all) (same_files a b _ _ one.leaves) is (two.long (ap (λ k. Err k) e))))) (ends_of stop two.ends)
+        (λ e files is. inr (inl (of_later a b files script (λ all. input_limit < length all) (same_files p a b _ _ one.leaves) is (two.long (ap (λ k. Err k) e))))) (ends_of stop two.ends)
 
     -- the replies were not, after both
     pub ended_by_replies : (a b c d : P) (stop : Stop) (j q : List ℕ) → ReadsText p a b journal (Ok j) → ReadsText p b c script (Ok q) → ReadsText p c d replies (Err stop) → ReadsTexts p a d journal script replies (Err stop)
     ended_by_replies a b c d stop j q one two three =
         texts_ended a d stop (leaves_then p a b d (journal ∷ []) (script ∷ replies ∷ []) [] (Some stop) one.leaves (leaves_then p b c d (script ∷ []) (replies ∷ []) [] (Some stop) two.leaves three.leaves))
-        (λ e files is. inr (inr (of_later a c files replies (λ all. input_limit < length all) (same_files b c _ _ two.leaves ∙ same_files a b _ _ one.leaves) is (three.long (ap (λ k. Err k) e))))) (ends_of stop three.ends)
+        (λ e files is. inr (inr (of_later a c files replies (λ all. input_limit < length all) (same_files p b c _ _ two.leaves ∙ same_files p a b _ _ one.leaves) is (three.long (ap (λ k. Err k) e))))) (ends_of stop three.ends)
 
     -- all three were read
     pub read_all : (a b c d : P) (texts : Texts) → ReadsText p a b journal (Ok texts.journal) → ReadsText p b c script (Ok texts.script) → ReadsText p c d replies (Ok texts.replies) → ReadsTexts p a d journal script replies (Ok texts)
@@ -133,10 +114,10 @@ module _ {P : Type 0} (p : PlaceSeen P) where
       leaves = leaves_then p a b d (journal ∷ []) (script ∷ replies ∷ []) [] None one.leaves (leaves_then p b c d (script ∷ []) (replies ∷ []) [] None two.leaves three.leaves);
       whole = λ files is. (
         told_of (p.files a) files journal (λ all. texts.journal ≡ all) is one.whole.0,
-        of_later a b files script (λ all. texts.script ≡ all) (same_files a b _ _ one.leaves) is two.whole.0,
-        of_later a c files replies (λ all. texts.replies ≡ all) (same_files b c _ _ two.leaves ∙ same_files a b _ _ one.leaves) is three.whole.0,
+        of_later a b files script (λ all. texts.script ≡ all) (same_files p a b _ _ one.leaves) is two.whole.0,
+        of_later a c files replies (λ all. texts.replies ≡ all) (same_files p b c _ _ two.leaves ∙ same_files p a b _ _ one.leaves) is three.whole.0,
       );
       short = (one.whole.1, two.whole.1, three.whole.1);
-      long = λ e. absurd (not_ok texts FeedRefused e);
-      ends = (λ e. not_ok texts PlanRefused e, λ e. not_ok texts WriteFault e);
+      long = λ e. absurd (ok_not_err texts FeedRefused e);
+      ends = (λ e. ok_not_err texts PlanRefused e, λ e. ok_not_err texts WriteFault e);
     }

@@ -4,7 +4,7 @@ use Rattle.run_files.specs.declared.stop.Stop.{Stop}
 use Rattle.recount_run.specs.Ends.{RecountEnds}
 use Rattle.recount_run.specs.declared.audit.Audit.{Audit}
 use Rattle.recount_run.proofs.Ends.{ended_by_plan, ended_by_saying, ended_by_texts}
-use Rattle.recount_run.proofs.Reading.{residual_is}
+use Rattle.run_files.proofs.Apart.{residual_is}
 use Rattle.recount_run.proofs.recounting.recount_files.Goals as goal
 
 pub audit_texts-requires-clause-feeds : goal.audit_texts-requires-clause-feeds

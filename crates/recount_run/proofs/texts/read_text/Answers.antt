@@ -2,7 +2,8 @@ use Rattle.std.proofs.Common.{◌∙◌, Err, List, Result, ℕ, subst, sym, ari
 use Rattle.run_files.specs.Outside.{seen_place}
 use Rattle.run_files.specs.declared.stop.Stop.{Stop}
 use Rattle.recount_run.specs.Reading.{ReadsText}
-use Rattle.recount_run.proofs.Reading.{residual_is, text_ended, text_read, text_refused}
+use Rattle.recount_run.proofs.Reading.{text_ended, text_read, text_refused}
+use Rattle.run_files.proofs.Apart.{residual_is}
 use Rattle.recount_run.proofs.texts.read_text.Goals as goal
 
 pub returns-in_err-bytes : goal.returns-in_err-bytes

@@ -3,7 +3,8 @@ use Rattle.run_files.specs.Outside.{seen_place}
 use Rattle.run_files.specs.declared.stop.Stop.{Stop}
 use Rattle.recount_run.specs.Reading.{ReadsTexts}
 use Rattle.recount_run.specs.declared.texts.Texts.{Texts}
-use Rattle.recount_run.proofs.Reading.{ended_by_journal, ended_by_replies, ended_by_script, read_all, residual_is}
+use Rattle.recount_run.proofs.Reading.{ended_by_journal, ended_by_replies, ended_by_script, read_all}
+use Rattle.run_files.proofs.Apart.{residual_is}
 use Rattle.recount_run.proofs.texts.read_texts.Goals as goal
 
 pub returns-in_err-journal : goal.returns-in_err-journal
