@@ -1,5 +1,5 @@
 -- A script that was opened, answered and given back, and one that was not opened.
-use Rattle.std.proofs.Common.{◌≡◌, ◌≢◌, ℕ, Bool, true, false, List, [], ◌∷◌, ◌++◌, take, length, Option, Some, Result, Ok, Err, refl, sym, ◌∙◌, ap, subst, arith, length-append, OnOk, IsErrOf}
+use Rattle.std.proofs.Common.{◌≡◌, ◌≢◌, ℕ, Bool, true, false, List, [], ◌∷◌, ◌++◌, take, length, Option, Some, Result, Ok, Err, refl, sym, ◌∙◌, subst, OnOk, IsErrOf}
 use Rattle.image_run.specs.Answering.{answers_end, lacking_end, script_end, may_lack_memory, AnswersFile}
 use Rattle.run_files.specs.Outside.{PlaceSeen, SinkSeen}
 use Rattle.cube_view.specs.Bag.{Counts, EachCounted}
@@ -13,6 +13,7 @@ use Rattle.outer_io.specs.Files.{Files, file_or_empty}
 use Rattle.outer_io.specs.Lines.{lines}
 use Rattle.outer_io.specs.Told.{Told}
 use Rattle.query_syntax.specs.declared.query.Parsed.{Parsed}
+use Rattle.run_files.proofs.Lists.{not_grown}
 use Rattle.run_files.specs.Stops.{joined_ends}
 use Rattle.run_files.specs.declared.stop.Stop.{Stop}
 use Rattle.run_files.specs.declared.stop.Stop.TheVariants as stop
@@ -23,13 +24,6 @@ use Rattle.session_core.specs.Scripts.{is_script_refused}
 use Rattle.session_core.specs.declared.answering.ScriptEnd.{ScriptEnd}
 use Rattle.session_core.specs.declared.fault.SessionFault.{SessionFault}
 use Rattle.session_core.specs.declared.fault.SessionFault.TheVariants as fault
-
--- a list with an item more is another
-pub not_grown : {A : Type 0} (xs ys : List A) (x : A) → ys ≡ xs ++ x ∷ [] → ys ≡ xs → ⊥
-not_grown xs ys x more same =
-    let a = ap (λ (zs : List _). length zs) more ∙ length-append xs (x ∷ []) in
-    let b = ap (λ (zs : List _). length zs) same in
-    omega (arith, a, b)
 
 -- where no reply may be the line for want of memory, one may be
 front_lacking : (schema : Schema) (is_stat : Stat → Type 0) (h : List Point) (told : ℕ) (a b : Option (List ℕ)) (ps : List Parsed) → GainsFront schema is_stat h told false a b ps → GainsFront schema is_stat h told true a b ps

@@ -1,9 +1,8 @@
 -- How a load ends, by how its stages ended.
 use Rattle.std.proofs.Common.{◌≡◌, ◌≢◌, ◌⊎◌, ◌↔◌, ℕ, zero, suc, ◌+◌, ◌<◌, ◌≤◌, ◌^◌, Bool, true, false, List, [], ◌∷◌, ◌++◌, length, take, Option, Some, None, IfSome, Result, Ok, Err, inl, inr, refl, sym, ◌∙◌, ap, ap₂, subst, arith, append_assoc}
 use Rattle.std.proofs.lemmas.Bool.{cases_lt}
-use Rattle.std.proofs.lemmas.List.{append-nil, length-take-le, take_all}
+use Rattle.std.proofs.lemmas.List.{length-take-le, take_all}
 use Rattle.std.proofs.Math.Logic.{∥∥₁_elim, ∥∥₁_map}
-use Rattle.std.specs.Result.{IsErrAnd}
 use Rattle.cube_schema.specs.declared.plan.Plan.{Plan}
 use Rattle.cube_store.specs.Counted.{CountsPoints}
 use Rattle.cube_store.specs.Holding.{CubeCounts}
@@ -20,15 +19,17 @@ use Rattle.image_read.specs.Read.{IsFitImage, Refuses}
 use Rattle.image_read.specs.declared.fault.ImageFault.{ImageFault}
 use Rattle.image_read.specs.declared.fault.ImageFault.TheVariants as image
 use Rattle.node_arena.specs.Slots.{Slot}
-use Rattle.outer_io.specs.Bytes.{Gains, GainsPart}
 use Rattle.outer_io.specs.Faults.{Rose}
 use Rattle.outer_io.specs.Files.{Files, file_or_empty}
 use Rattle.outer_io.specs.Lines.{lines}
 use Rattle.outer_io.specs.Told.{Told}
-use Rattle.run_files.proofs.Stages.{all_opened, leaves_ended, leaves_more, leaves_then, nothing_made}
+use Rattle.run_files.proofs.Apart.{err_is, ok_not_err, same_stop}
+use Rattle.run_files.proofs.PlanReads.{plan_end, says_plan}
+use Rattle.run_files.proofs.Putting.{fails_after, puts_after, silent_after}
+use Rattle.run_files.proofs.Stages.{all_opened, leaves_ended, leaves_more, leaves_then, nothing_made, opened_front, same_created, same_files}
 use Rattle.run_files.specs.Leaving.{LeavesPlace}
 use Rattle.run_files.specs.Outside.{FailsToPut, file_of, PlaceSeen, Puts, Silent, SinkSeen}
-use Rattle.run_files.specs.Planned.{IsPlanOf, ReadsPlan, RefusesPlan}
+use Rattle.run_files.specs.Planned.{IsPlanOf, ReadsPlan}
 use Rattle.run_files.specs.declared.stop.Stop.{Stop}
 use Rattle.run_files.specs.declared.stop.Stop.TheVariants as stop
 use Rattle.session_core.specs.Answered.{GainsReplies, GainsFront}
@@ -83,72 +84,22 @@ not_refused schema bytes slots size image.NoMemory F R = R.0 refl
 accepted_not_refused : (schema : Schema) (bytes : List ℕ) (fault : ImageFault) → IsAcceptedImage schema bytes → IsRefusedFor schema bytes fault → ⊥
 accepted_not_refused schema bytes fault A R = ∥∥₁_elim A (λ x y. absurd x) (λ (s : (h : List Point) × IsCubeImage schema bytes h). not_refused schema bytes s.1.slots (length s.0) fault s.1.fit R)
 
--- ---- lists and ends
-
--- an answer that has this error
-pub residual_is : {T E : Type 0} (r : Result T E) (e : E) → IsErrAnd r (λ f. f ≡ e) → r ≡ Err e
-residual_is (Ok x) e bad = absurd bad
-residual_is (Err f) e is = ap (λ k. Err k) is
-
-take_front : {A : Type 0} (xs ys : List A) → take (length xs) (xs ++ ys) ≡ xs
-take_front [] ys = refl
-take_front (x ∷ xs) ys = ap (λ zs. x ∷ zs) (take_front xs ys)
-
-not_ok : (e : ImageEnd) (k : Stop) → ◌≡◌ {A = End} (Ok e) (Err k) → ⊥
-not_ok e k is = cc
+-- ---- ends
 
 not_err : (e : ImageEnd) (k : Stop) → ◌≡◌ {A = End} (Err k) (Ok e) → ⊥
 not_err e k is = cc
 
-err_is : (k l : Stop) → ◌≡◌ {A = End} (Err k) (Err l) → k ≡ l
-err_is k l is = cc
-
-stop_is : (k l : Stop) → ◌≡◌ {A = Result (Unit {0}) Stop} (Err k) (Err l) → k ≡ l
-stop_is k l is = cc
-
-some_is : (k l : Stop) → Some k ≡ Some l → k ≡ l
-some_is k l is = cc
-
-module _ {O : Type 0} (s : SinkSeen O) (a b c : O) (quiet : Silent s a b) where
-  then_silent : Silent s b c → Silent s a c
-  then_silent more = record { held = more.held ∙ quiet.held; faults = more.faults ∙ quiet.faults; name = more.name ∙ quiet.name }
-
-  then_puts : (bytes : List ℕ) → Puts s b c bytes → Puts s a c bytes
-  then_puts bytes more = record {
-    held = subst (λ (h : Option (List ℕ)). Gains h (s.held c) bytes) quiet.held more.held;
-    faults = more.faults ∙ quiet.faults;
-    name = more.name ∙ quiet.name;
-  }
-
-  then_fails : (bytes : List ℕ) → FailsToPut s b c bytes → FailsToPut s a c bytes
-  then_fails bytes more = record {
-    held = subst (λ (h : Option (List ℕ)). GainsPart h (s.held c) bytes) quiet.held more.held;
-    faults = subst (λ (n : ℕ). Rose n (s.faults c)) quiet.faults more.faults;
-    name = more.name ∙ quiet.name;
-  }
-
 module _ {P O : Type 0} (p : PlaceSeen P) (s : SinkSeen O) where
-  same_files : (a b : P) (inputs : List (List ℕ)) (stop : Option Stop) → LeavesPlace p a b inputs [] stop → p.files b ≡ p.files a
-  same_files a b inputs stop stage = stage.untouched (nothing_made p a b inputs stop stage)
-
-  same_created : (a b : P) (inputs : List (List ℕ)) (stop : Option Stop) → LeavesPlace p a b inputs [] stop → p.created b ≡ p.created a
-  same_created a b inputs stop stage = stage.created ∙ (ap (λ m. p.created a ++ m) (nothing_made p a b inputs stop stage) ∙ append-nil _)
-
-  -- what was opened is a front of the names
-  opened_front : (a b : P) (inputs : List (List ℕ)) (stop : Option Stop) → LeavesPlace p a b inputs [] stop → (k : ℕ) × (p.opened b ≡ p.opened a ++ take k inputs)
-  opened_front a b inputs stop stage =
-      (length stage.opens, stage.opened ∙ ap (λ ns. p.opened a ++ ns) (sym (ap (take (length stage.opens)) stage.inputs_are ∙ take_front stage.opens stage.unopened)))
-
   -- the faults of a stage that ended the run
   faults_ended : (a b : P) (out out' : O) (inputs : List (List ℕ)) (k : Stop) → LeavesPlace p a b inputs [] (Some k) → (k ≡ stop.WriteFault → Rose (s.faults out) (s.faults out')) → (k ≢ stop.WriteFault → k ≢ stop.NoMemory → k ≢ stop.PlanRefused → s.faults out' ≡ s.faults out) → s.name out' ≡ s.name out → HasLoadFaults {T = ImageEnd} p s a b out out' (Err k)
   faults_ended a b out out' inputs k stage rose quiet name = record {
     read = λ e. stage.read (ap (λ l. Some l) (err_is k stop.ReadFault e));
     write = λ e. rose (err_is k stop.WriteFault e);
-    quiet_place = λ r m. stage.read_quiet (λ e. r (ap (λ l. Err l) (some_is k stop.ReadFault e)));
+    quiet_place = λ r m. stage.read_quiet (λ e. r (ap (λ l. Err l) (same_stop k stop.ReadFault e)));
     quiet_sink = λ w m l. quiet (λ e. w (ap (λ j. Err j) e)) (λ e. m (ap (λ j. Err j) e)) (λ e. l (ap (λ j. Err j) e));
     name = name;
-    files = same_files a b inputs (Some k) stage;
-    created = same_created a b inputs (Some k) stage;
+    files = same_files p a b inputs (Some k) stage;
+    created = same_created p a b inputs (Some k) stage;
     write_faults = stage.unwritten (nothing_made p a b inputs (Some k) stage);
   }
 
@@ -158,13 +109,6 @@ module _ {P O : Type 0} (p : PlaceSeen P) (s : SinkSeen O) where
 
     abbrev Ends : P → P → O → O → End → Type 0
     Ends a b out out' result = LoadEnds p s a b out out' name image script result
-
-    plan_end : (k : Stop) → (k ≢ stop.WriteFault) × (k ≢ stop.FeedRefused) → (◌≡◌ {A = End} (Err k) (Err stop.NoMemory)) ⊎ (◌≡◌ {A = End} (Err k) (Err stop.ReadFault)) ⊎ (◌≡◌ {A = End} (Err k) (Err stop.PlanRefused))
-    plan_end stop.NoMemory ends = inl refl
-    plan_end stop.PlanRefused ends = inr (inr refl)
-    plan_end stop.ReadFault ends = inr (inl refl)
-    plan_end stop.WriteFault ends = absurd (ends.0 refl)
-    plan_end stop.FeedRefused ends = absurd (ends.1 refl)
 
     -- the plan was refused, or was not read
     pub ended_by_plan : (a b : P) (out out' : O) (k : Stop) → LeavesPlace p a b (name ∷ []) [] (Some k) → ReadsPlan s out out' (file_of (p.files a) name) (Err k) → Ends a b out out' (Err k)
@@ -178,8 +122,8 @@ module _ {P O : Type 0} (p : PlaceSeen P) (s : SinkSeen O) where
           done = λ e. absurd (not_err Done k e);
           refused_image = λ e. absurd (not_err Refused k e);
           refused = λ e. absurd (reads.ends.1 (err_is k stop.FeedRefused e));
-          said = says k reads;
-          opened = opened_front a b (name ∷ image ∷ script ∷ []) (Some k) all;
+          said = says_plan s out out' (file_of (p.files a) name) k reads;
+          opened = opened_front p a b (name ∷ image ∷ script ∷ []) (Some k) all;
           opened_all = λ e. absurd (not_err Done k e);
           faults = faults_ended a b out out' (name ∷ image ∷ script ∷ []) k all (λ e. absurd (reads.ends.0 e)) (λ w m l. (reads.silent (λ e. l (plan_is e))).faults) (named k reads);
           complete = λ r w. tt;
@@ -187,13 +131,6 @@ module _ {P O : Type 0} (p : PlaceSeen P) (s : SinkSeen O) where
       where
         plan_is : {k : Stop} → ◌≡◌ {A = Result Plan Stop} (Err k) (Err stop.PlanRefused) → k ≡ stop.PlanRefused
         plan_is e = cc
-
-        says : (k : Stop) → ReadsPlan s out out' (file_of (p.files a) name) (Err k) → Silent s out out' ⊎ RefusesPlan s out out' (file_of (p.files a) name)
-        says stop.NoMemory r = inl (r.silent (λ e. cc))
-        says stop.PlanRefused r = inr (r.refused refl)
-        says stop.ReadFault r = inl (r.silent (λ e. cc))
-        says stop.WriteFault r = inl (r.silent (λ e. cc))
-        says stop.FeedRefused r = inl (r.silent (λ e. cc))
 
         said_name : (line : List ℕ) → Puts s out out' line ⊎ FailsToPut s out out' line → s.name out' ≡ s.name out
         said_name line (inl x) = x.name
@@ -215,7 +152,7 @@ module _ {P O : Type 0} (p : PlaceSeen P) (s : SinkSeen O) where
       whole k more = leaves_then p a b c (name ∷ []) (image ∷ []) [] k leaves more
 
       same : p.files b ≡ p.files a
-      same = same_files a b (name ∷ []) None leaves
+      same = same_files p a b (name ∷ []) None leaves
 
       read_end : (k : Stop) → (k ≢ stop.PlanRefused) × (k ≢ stop.WriteFault) × (k ≢ stop.FeedRefused) → (k ≡ stop.ReadFault → ⊥) → (e : ImageEnd) → IsOrLacks e (Err k)
       read_end stop.NoMemory ends read e = inr refl
@@ -237,7 +174,7 @@ module _ {P O : Type 0} (p : PlaceSeen P) (s : SinkSeen O) where
             refused_image = λ e. absurd (not_err Refused k e);
             refused = λ e. absurd (ends.2 (err_is k stop.FeedRefused e));
             said = inl quiet;
-            opened = opened_front a c (name ∷ image ∷ script ∷ []) (Some k) all;
+            opened = opened_front p a c (name ∷ image ∷ script ∷ []) (Some k) all;
             opened_all = λ e. absurd (not_err Done k e);
             faults = faults_ended a c out mid (name ∷ image ∷ script ∷ []) k all (λ e. absurd (ends.1 e)) (λ w m l. quiet.faults) quiet.name;
             complete = λ r w files is. (
@@ -267,26 +204,26 @@ module _ {P O : Type 0} (p : PlaceSeen P) (s : SinkSeen O) where
 
         pub ended_by_refusal : (out' : O) → RefusesImage s mid out' pl.schema bytes (Puts s mid out') → Ends a c out out' (Ok Refused)
         ended_by_refusal out' R =
-            let F = refused_for out' (Puts s mid out') (Puts s out out') (then_puts s out mid out' quiet) R in
+            let F = refused_for out' (Puts s mid out') (Puts s out out') (puts_after s out mid out' quiet) R in
             record {
               plan = Some pl;
               plan_is = reads.plan;
               unplanned = λ e. cc;
-              refused_plan = λ e. absurd (not_ok Refused stop.PlanRefused e);
+              refused_plan = λ e. absurd (ok_not_err Refused stop.PlanRefused e);
               done = λ e. cc;
               refused_image = λ e. (pl, refl, F, opened_two);
-              refused = λ e. absurd (not_ok Refused stop.FeedRefused e);
+              refused = λ e. absurd (ok_not_err Refused stop.FeedRefused e);
               said = inr (inl (record { fault = F.fault; refuses = F.refuses; says = inl F.says }));
               opened = (2, opened_two);
               opened_all = λ e. cc;
               faults = record {
-                read = λ e. absurd (not_ok Refused stop.ReadFault e);
-                write = λ e. absurd (not_ok Refused stop.WriteFault e);
+                read = λ e. absurd (ok_not_err Refused stop.ReadFault e);
+                write = λ e. absurd (ok_not_err Refused stop.WriteFault e);
                 quiet_place = λ r m. both.read_quiet (λ e. cc);
                 quiet_sink = λ w m l. F.says.faults;
                 name = F.says.name;
-                files = same_files a c Two None both;
-                created = same_created a c Two None both;
+                files = same_files p a c Two None both;
+                created = same_created p a c Two None both;
                 write_faults = both.unwritten (nothing_made p a c Two None both);
               };
               complete = λ r w files is. (
@@ -298,7 +235,7 @@ module _ {P O : Type 0} (p : PlaceSeen P) (s : SinkSeen O) where
         -- saying that failed, or memory was wanted
         pub ended_unsaid : (out' : O) → RefusesImage s mid out' pl.schema bytes (FailsToPut s mid out') → Ends a c out out' (Err stop.WriteFault)
         ended_unsaid out' R =
-            let F = refused_for out' (FailsToPut s mid out') (FailsToPut s out out') (then_fails s out mid out' quiet) R in
+            let F = refused_for out' (FailsToPut s mid out') (FailsToPut s out out') (fails_after s out mid out' quiet) R in
             let all : LeavesPlace p a c (name ∷ image ∷ script ∷ []) [] (Some stop.WriteFault) = leaves_more p a c Two (script ∷ []) [] stop.WriteFault (leaves_ended p a c Two (Some stop.WriteFault) (λ e. cc) both) in
             record {
               plan = Some pl;
@@ -318,7 +255,7 @@ module _ {P O : Type 0} (p : PlaceSeen P) (s : SinkSeen O) where
         pub ended_lacking : (out' : O) → Silent s mid out' → Ends a c out out' (Err stop.NoMemory)
         ended_lacking out' silent =
             let all : LeavesPlace p a c (name ∷ image ∷ script ∷ []) [] (Some stop.NoMemory) = leaves_more p a c Two (script ∷ []) [] stop.NoMemory (leaves_ended p a c Two (Some stop.NoMemory) (λ e. cc) both) in
-            let still = then_silent s out mid out' quiet silent in
+            let still = silent_after s out mid out' quiet silent in
             record {
               plan = Some pl;
               plan_is = reads.plan;
@@ -348,10 +285,10 @@ module _ {P O : Type 0} (p : PlaceSeen P) (s : SinkSeen O) where
           counted = Counts (spot_weight cube.schema cube.arena) cube.size
 
           still : Silent s out then
-          still = then_silent s out mid then quiet silent
+          still = silent_after s out mid then quiet silent
 
           told : (files : Files) → p.files a ≡ Some files → p.files c ≡ Some files
-          told files is = same_files a c Two None both ∙ is
+          told files is = same_files p a c Two None both ∙ is
 
           all_of : (files : Files) → p.files a ≡ Some files → bytes ≡ file_or_empty files image
           all_of files is = same_front (file_or_empty files image) bytes (of_file files is) K.fit.short
@@ -394,8 +331,8 @@ module _ {P O : Type 0} (p : PlaceSeen P) (s : SinkSeen O) where
               quiet_place = λ x m. faults.quiet_place (λ e. x (from stop.ReadFault e)) (λ e. m (from stop.NoMemory e)) ∙ both.read_quiet (λ e. cc);
               quiet_sink = λ x m l. faults.quiet_sink (λ e. x (from stop.WriteFault e)) (λ e. m (from stop.NoMemory e)) (λ e. l (from stop.PlanRefused e)) ∙ still.faults;
               name = faults.name ∙ still.name;
-              files = faults.files ∙ same_files a c Two None both;
-              created = faults.created ∙ same_created a c Two None both;
+              files = faults.files ∙ same_files p a c Two None both;
+              created = faults.created ∙ same_created p a c Two None both;
               write_faults = faults.write_faults ∙ both.unwritten (nothing_made p a c Two None both);
             }
 
@@ -404,14 +341,14 @@ module _ {P O : Type 0} (p : PlaceSeen P) (s : SinkSeen O) where
             plan = Some pl;
             plan_is = reads.plan;
             unplanned = λ e. cc;
-            refused_plan = λ e. absurd (not_ok Done stop.PlanRefused e);
+            refused_plan = λ e. absurd (ok_not_err Done stop.PlanRefused e);
             done = λ e. (pl, refl, λ files is. let w = answers.done files (told files is) refl in (all_replies (Ok x) answers faults files is w.0, w.1));
             refused_image = λ e. cc;
-            refused = λ e. absurd (not_ok Done stop.FeedRefused e);
+            refused = λ e. absurd (ok_not_err Done stop.FeedRefused e);
             said = inr (inr (some_replies (Ok x) answers faults));
             opened = opened_three (Ok x) answers faults;
             opened_all = λ e. answers.opened_it refl ∙ (ap (λ ns. ns ++ script ∷ []) opened_two ∙ append_assoc (p.opened a) Two (script ∷ []));
-            faults = faults_of (Ok x) answers faults (Ok Done) (λ k e. absurd (not_ok Done k e)) (λ k e. cc);
+            faults = faults_of (Ok x) answers faults (Ok Done) (λ k e. absurd (ok_not_err Done k e)) (λ k e. cc);
             complete = λ r w files is. (λ y z. inl refl, λ fault y. no_refusal (Ok x) answers faults fault files is Refused (Ok Done) y);
           }
 
@@ -441,7 +378,7 @@ module _ {P O : Type 0} (p : PlaceSeen P) (s : SinkSeen O) where
             said = inr (inr (λ files is. subst (GainsSomeImageAnswers s out out' pl.schema (file_or_empty files image) (file_or_empty files script)) (same_lack k) (some_replies (Err k) answers faults files is)));
             opened = opened_three (Err k) answers faults;
             opened_all = λ e. absurd (not_err Done k e);
-            faults = faults_of (Err k) answers faults (Err k) (λ l e. ap (λ m. Err m) (err_is k l e)) (λ l e. ap (λ m. Err m) (stop_is k l e));
+            faults = faults_of (Err k) answers faults (Err k) (λ l e. ap (λ m. Err m) (err_is k l e)) (λ l e. ap (λ m. Err m) (err_is k l e));
             complete = λ r w files is. (λ y z. ended_well k answers faults r w files is z, λ fault y. no_refusal (Err k) answers faults fault files is Refused (Err k) y);
           }
 

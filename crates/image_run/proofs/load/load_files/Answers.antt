@@ -5,7 +5,8 @@ use Rattle.run_files.specs.declared.stop.Stop.{Stop}
 use Rattle.image_run.specs.Ends.{LoadEnds}
 use Rattle.image_run.specs.Taking.{TakesImage}
 use Rattle.image_run.specs.declared.end.ImageEnd.{ImageEnd}
-use Rattle.image_run.proofs.Ending.{ended_by_image, ended_by_plan, ended_by_refusal, ended_taking, ended_with, ended_without, residual_is}
+use Rattle.image_run.proofs.Ending.{ended_by_image, ended_by_plan, ended_by_refusal, ended_taking, ended_with, ended_without}
+use Rattle.run_files.proofs.Apart.{residual_is}
 use Rattle.image_run.proofs.load.load_files.Goals as goal
 
 pub returns-in_err-plan : goal.returns-in_err-plan
