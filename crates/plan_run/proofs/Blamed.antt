@@ -1,14 +1,15 @@
 -- What an end that several joined ends have says of them, and what a count that rose says of the place.
-use Rattle.std.proofs.Common.{◌≡◌, ◌≢◌, ◌⊎◌, inl, inr, ◌+◌, ◌≤◌, ◌==◌, nat_lt, ℕ, zero, suc, Bool, true, false, not, cond, List, [], ◌∷◌, ◌++◌, All, map, Option, Some, None, Result, Ok, Err, refl, ap, ◌∙◌, arith, zero-add}
+use Rattle.std.proofs.Common.{◌≡◌, ◌≢◌, ◌⊎◌, inl, inr, ◌+◌, ◌≤◌, nat_lt, ℕ, zero, suc, Bool, true, false, cond, List, [], ◌∷◌, ◌++◌, All, map, Option, Some, None, Result, Ok, Err, refl, ap, arith}
 use Rattle.std.specs.Prelude.{Contains, fold}
 use Rattle.std.proofs.lemmas.List.Elements.{All-head, All-tail, Contains-append_right, Contains-get_or}
-use Rattle.std.proofs.lemmas.List.Sums.{sum_by-append}
-use Rattle.outer_io.specs.Faults.{Rose, RoseBy}
+use Rattle.outer_io.specs.Faults.{Rose}
 use Rattle.outer_io.specs.declared.cutter.CutFault.{CutFault}
 use Rattle.outer_io.specs.declared.cutter.CutFault.TheVariants as cut
 use Rattle.outer_io.specs.declared.fault.IoFault.{IoFault}
 use Rattle.outer_io.specs.declared.fault.IoFault.TheVariants as io
 use Rattle.plan_run.proofs.Joined.{End, ended}
+use Rattle.run_files.proofs.Counts.{faulty-cons}
+pub use Rattle.run_files.proofs.Counts.{rose_later}
 use Rattle.run_files.specs.GivingBack.{faulty}
 use Rattle.run_files.specs.Stops.{joined_ends, rank_of, write_end}
 use Rattle.run_files.specs.declared.stop.Stop.{Stop}
@@ -134,20 +135,13 @@ write_failed (Err io.NoMemory) is = absurd (cc is)
 
 -- ---- counts
 
-pub faulty-cons : (n : ℕ) (counts : List ℕ) → faulty (n ∷ counts) ≡ cond (not (n == 0)) 1 0 + faulty counts
-faulty-cons n counts = sum_by-append (λ n. cond (not (n == 0)) 1 0) (n ∷ []) counts ∙ ap (λ k. k + faulty counts) (zero-add (cond (not (n == 0)) 1 0))
-
 pub some_faulty : (counts : List ℕ) → AnyOf (λ n. Rose 0 n) counts → 1 ≤ faulty counts
 some_faulty [] any = absurd any
 some_faulty (zero ∷ counts) (inl rose) = absurd (omega (arith, rose.1))
 some_faulty (suc n ∷ counts) (inl rose) = grind (arith, faulty-cons (suc n) counts)
 some_faulty (n ∷ counts) (inr any) = omega (arith, faulty-cons n counts, some_faulty counts any)
 
-pub rose_once : (k a b : ℕ) → 1 ≤ k → RoseBy k a b → Rose a b
-rose_once k a b one rose = (rose.0, omega (arith, rose.0, rose.1, one))
-
-pub rose_later : (a b c : ℕ) → Rose a b → b ≤ c → Rose a c
-rose_later a b c rose more = (omega (arith, rose.0), omega (arith, rose.1))
+-- ---- ends of parts
 
 pub feed_not_plan : (f : Option CutFault) → feed_end f ≢ Err PlanRefused
 feed_not_plan None is = cc is

@@ -8,9 +8,9 @@ use Rattle.crew_session.specs.declared.done.SessionDone.{SessionDone}
 use Rattle.outer_io.specs.Faults.{Rose, RoseBy}
 use Rattle.outer_io.specs.declared.cutter.CutFault.{CutFault}
 use Rattle.outer_io.specs.declared.cutter.CutFault.TheVariants as cut
-use Rattle.plan_run.proofs.Blamed.{faulty-cons}
 use Rattle.plan_run.proofs.Causes.{FeedCause, SessionCause}
 use Rattle.plan_run.specs.Interrupted.{is_script_unread, is_unread}
+use Rattle.run_files.proofs.Counts.{faulty-cons}
 use Rattle.run_files.specs.GivingBack.{faulty}
 use Rattle.session_core.specs.declared.fault.SessionFault.{SessionFault}
 use Rattle.session_core.specs.declared.fault.SessionFault.TheVariants as fault

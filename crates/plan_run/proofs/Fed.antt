@@ -1,5 +1,5 @@
 -- What a feed of a run leaves that was read to its end.
-use Rattle.std.proofs.Common.{◌≡◌, ◌+◌, ℕ, false, List, [], ◌∷◌, ◌++◌, drop, length, map, Option, Some, None, option_map, IsSomeAnd, Ok, sym, ap, subst, ◌∙◌}
+use Rattle.std.proofs.Common.{◌≡◌, ◌+◌, ℕ, false, List, ◌∷◌, length, map, Option, Some, None, IsSomeAnd, sym, ap, subst, ◌∙◌}
 use Rattle.crew_feeder.specs.Leaving.{GivesUntil}
 use Rattle.crew_feeder.specs.RowCounts.{count_blank, count_refused, first_refusals}
 use Rattle.crew_feeder.specs.declared.job.FeedDone.{FeedDone}
@@ -7,32 +7,20 @@ use Rattle.crew_feeder.specs.declared.job.FeedJob.{FeedJob}
 use Rattle.cube_crew.specs.Crewed.{LeavesFeed, feed_rows}
 use Rattle.cube_view.specs.Points.{Point}
 use Rattle.cube_view.specs.declared.schema.Schema.{Schema}
-use Rattle.feed_reader.proofs.FeedLaws.{feed_read, head_of_lines-cons}
+use Rattle.feed_reader.proofs.FeedLaws.{feed_read}
+pub use Rattle.feed_reader.proofs.FeedLaws.{rows_read}
 use Rattle.feed_reader.proofs.FeedStart.{some_told}
-use Rattle.feed_reader.specs.Feeds.{accepted, feed_head, head_of_lines, is_feed_refused, points_in, rows, rows_under}
+pub use Rattle.feed_reader.proofs.FeedStart.{new_lines, new_rest}
+use Rattle.feed_reader.specs.Feeds.{accepted, is_feed_refused, points_in, rows}
 use Rattle.feed_reader.specs.Rows.{row_of_line}
 use Rattle.outer_io.proofs.ToldLaws.{Told-some}
-use Rattle.outer_io.specs.Cutting.{Cutter, IsNew, lines_left, rest_of}
-use Rattle.outer_io.specs.Lines.{Line, lines, lines_from}
+use Rattle.outer_io.specs.Cutting.{Cutter, lines_left, rest_of}
+use Rattle.outer_io.specs.Lines.{lines}
 use Rattle.outer_io.specs.Progress.{PassesAll}
 use Rattle.plan_run.specs.Completed.{whole_rows}
 use Rattle.run_files.specs.Headed.{IsHeaded}
 use Rattle.run_report.specs.Reports.{counts_of_rows}
 use Rattle.run_stages.specs.Counted.{feed_counts}
-
--- the bytes that a new cutter has left, and their lines
-pub new_rest : {S : Type 0} (left : S → Option (List ℕ)) (c : Cutter S) (source : S) (bytes : List ℕ) → IsNew source c → left source ≡ Some bytes → rest_of left c ≡ Some bytes
-new_rest left c source bytes new told = ap (λ k. rest_of left k) new ∙ ap (λ (o : Option (List ℕ)). option_map (λ more. [] ++ more) o) told
-
-pub new_lines : {S : Type 0} (left : S → Option (List ℕ)) (c : Cutter S) (source : S) (bytes : List ℕ) → IsNew source c → left source ≡ Some bytes → lines_left left c ≡ Some (lines bytes)
-new_lines left c source bytes new told = ap (λ k. lines_left left k) new ∙ ap (λ (o : Option (List ℕ)). option_map (lines_from 0 0) (option_map (λ more. [] ++ more) o)) told
-
--- all rows of a feed, by its lines
-pub rows_read : (schema : Schema) (bytes places : List ℕ) (line : Line) (rest : List Line) → lines bytes ≡ line ∷ rest → head_of_lines schema (line ∷ []) ≡ Ok places → rows schema bytes ≡ map (row_of_line schema places) rest
-unfolding rows feed_head
-rows_read schema bytes places line rest is head =
-    ap (λ (all : List Line). rows_under schema (head_of_lines schema all) (drop 1 all)) is
-    ∙ ap (λ h. rows_under schema h rest) (head_of_lines-cons schema line rest ∙ head)
 
 -- A feed with these bytes was read to its end, and these are its points
 pub record IsFed {I : Type 0} (schema : Schema) (bytes : List ℕ) (sent : List Point) (done : FeedDone I) : Type 0 where

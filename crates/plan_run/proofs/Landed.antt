@@ -10,6 +10,7 @@ use Rattle.outer_io.specs.Files.{Files, HasFile, SameBut}
 use Rattle.outer_io.specs.Told.{Told}
 use Rattle.outer_io.specs.declared.fault.IoFault.{IoFault}
 use Rattle.plan_run.proofs.Joined.{All-unmapped, IsWell, all_well, written_well}
+pub use Rattle.run_files.proofs.Lists.{All-back, All-front}
 use Rattle.run_files.specs.GivingBack.{Lands, TakesSinks}
 use Rattle.run_files.specs.Outside.{PlaceSeen, SinkSeen}
 use Rattle.run_files.specs.Stops.{write_end}
@@ -60,14 +61,6 @@ AllPairs-head R x xs all = λ k d within. all 0 (suc k) d (omega arith) (omega a
 pub AllPairs-back : {X : Type 0} (R : X → X → Type 0) (xs ys : List X) → AllPairs R (xs ++ ys) → AllPairs R ys
 AllPairs-back R [] ys all = all
 AllPairs-back R (x ∷ xs) ys all = AllPairs-back R xs ys (AllPairs-tail R x (xs ++ ys) all)
-
-pub All-front : {X : Type 0} (P : X → Type 0) (xs ys : List X) → All P (xs ++ ys) → All P xs
-All-front P [] ys all = All-nil P
-All-front P (x ∷ xs) ys all = All-cons P x xs (All-head P x (xs ++ ys) all) (All-front P xs ys (All-tail P x (xs ++ ys) all))
-
-pub All-back : {X : Type 0} (P : X → Type 0) (xs ys : List X) → All P (xs ++ ys) → All P ys
-All-back P [] ys all = all
-All-back P (x ∷ xs) ys all = All-back P xs ys (All-tail P x (xs ++ ys) all)
 
 pub AllPairs-front : {X : Type 0} (R : X → X → Type 0) (xs ys : List X) → AllPairs R (xs ++ ys) → AllPairs R xs
 AllPairs-front R [] ys all = λ i j d before within. absurd (omega arith)

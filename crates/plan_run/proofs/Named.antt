@@ -1,8 +1,6 @@
 -- Which names and files a run leaves changed.
-use Rattle.std.proofs.Common.{◌≡◌, ℕ, Bool, List, [], ◌∷◌, ◌++◌, codes, map, append-nil, Option, Some, None, refl, sym, ap, subst, ◌∙◌}
-use Rattle.std.specs.Prelude.{Contains}
+use Rattle.std.proofs.Common.{◌≡◌, ℕ, Bool, List, [], ◌∷◌, ◌++◌, codes, map, append-nil, Option, Some, None, refl, ap, subst, ◌∙◌}
 use Rattle.std.specs.List.{AllZip}
-use Rattle.std.proofs.lemmas.List.Elements.{Contains-push}
 use Rattle.crew_session.specs.declared.done.SessionDone.{SessionDone}
 use Rattle.cube_crew.specs.Crewed.{LeavesTranscript}
 use Rattle.cube_schema.specs.Repeats.{outputs}
@@ -10,9 +8,10 @@ use Rattle.cube_view.specs.Points.{Point}
 use Rattle.cube_view.specs.declared.schema.Schema.{Schema}
 use Rattle.cube_view.specs.declared.stat.Stat.{Stat}
 use Rattle.live_session.specs.State.{SessionState}
-use Rattle.outer_io.specs.Files.{ChangesOnly, Files}
+use Rattle.outer_io.specs.Files.{Files}
 use Rattle.plan_run.specs.Ends.{LeavesNames}
 use Rattle.plan_run.specs.Seen.{PartSeen}
+pub use Rattle.run_files.proofs.Stages.{KeepsOthers-one}
 use Rattle.run_files.specs.Leaving.{KeepsOthers, LeavesPlace}
 use Rattle.run_files.specs.Outside.{PlaceSeen, SinkSeen}
 use Rattle.run_files.specs.declared.stop.Stop.{Stop}
@@ -24,12 +23,6 @@ KeepsOthers-twice None now after names one two = tt
 KeepsOthers-twice (Some files) None after names one two = absurd one
 KeepsOthers-twice (Some files) (Some now) None names one two = absurd two
 KeepsOthers-twice (Some files) (Some now) (Some last) names one two = λ other apart. two other apart ∙ one other apart
-
--- what changes one file keeps the others of it
-pub KeepsOthers-one : (before after : Option Files) (name : List ℕ) → ChangesOnly before after name → KeepsOthers before after (name ∷ [])
-KeepsOthers-one None after name only = tt
-KeepsOthers-one (Some files) None name only = absurd only
-KeepsOthers-one (Some files) (Some now) name only = λ other apart. only other (λ is. apart (subst (Contains (name ∷ [])) (sym is) (Contains-push [] name)))
 
 module _ {I O : Type 0} (i : PartSeen I) (s : SinkSeen O) (files : Option Files) where
   -- the sinks of sessions are named by the outputs of their scripts

@@ -1,15 +1,15 @@
 -- Which counts rose where closing a run ended in a read fault or a write fault.
-use Rattle.std.proofs.Common.{◌≡◌, ◌≢◌, ◌⊎◌, inl, inr, ◌≤◌, ℕ, zero, suc, Bool, true, false, List, [], ◌∷◌, ◌++◌, All, map, Result, Ok, Err, refl, sym, subst, ◌∙◌, arith}
+use Rattle.std.proofs.Common.{◌≡◌, ◌≢◌, ◌⊎◌, inl, inr, ◌≤◌, ℕ, Bool, true, false, List, [], ◌∷◌, ◌++◌, All, map, Result, Err, refl, sym, subst, ◌∙◌}
 use Rattle.std.specs.Prelude.{IsErrOf}
 use Rattle.crew_feeder.specs.declared.job.FeedDone.{FeedDone}
 use Rattle.crew_session.specs.declared.done.SessionDone.{SessionDone}
 use Rattle.cube_schema.specs.declared.plan.Plan.{Plan}
-use Rattle.outer_io.specs.Asking.{CountsPart}
 use Rattle.outer_io.specs.Faults.{Rose}
-use Rattle.outer_io.specs.declared.fault.IoFault.{IoFault}
 use Rattle.outer_io.specs.declared.fault.IoFault.TheVariants as io
-use Rattle.plan_run.proofs.Blamed.{AnyOf, all_err, any_in, any_left, any_mapped, any_right, any_unmapped, any_with, feed_not_plan, feed_not_write, feed_read_end, rose_later, rose_once, session_not_plan, session_read_end, session_write_end, some_faulty, write_failed, write_not_plan, write_not_read}
+use Rattle.plan_run.proofs.Blamed.{AnyOf, all_err, any_in, any_left, any_mapped, any_right, any_unmapped, any_with, feed_not_plan, feed_not_write, feed_read_end, session_not_plan, session_read_end, session_write_end, some_faulty, write_failed, write_not_plan, write_not_read}
 use Rattle.plan_run.proofs.Causes.{FeedCause, SessionCause}
+use Rattle.run_files.proofs.Counts.{rose_later, rose_once}
+pub use Rattle.run_files.proofs.Counts.{counts_failed, counts_grow, rose_from_before}
 use Rattle.run_files.specs.GivingBack.{TakesSources}
 use Rattle.run_files.specs.Outside.{PlaceSeen, SinkSeen}
 use Rattle.run_files.specs.Stops.{write_end}
@@ -18,22 +18,6 @@ use Rattle.run_files.specs.declared.stop.Stop.TheVariants.{NoMemory, PlanRefused
 use Rattle.run_stages.specs.Closing.{ClosesRun, threads_end}
 use Rattle.run_stages.specs.Ends.{feed_end, feeds_end, session_end, sessions_end, starved_end}
 use Rattle.run_stages.specs.declared.done.RunDone.{RunDone}
-
--- a count that rose later rose from before
-pub rose_from_before : (a b c : ℕ) → a ≤ b → Rose b c → Rose a c
-rose_from_before a b c less rose = (omega (arith, rose.0), omega (arith, rose.0, rose.1))
-
--- giving a part back lets no count fall
-pub counts_grow : (before now part : ℕ) (r : Result (Unit {0}) IoFault) → CountsPart before now part r → before ≤ now
-counts_grow before now (suc part) r counts = (counts.rose (omega arith, omega arith)).0
-counts_grow before now zero (Ok x) counts = let e = (counts.cause refl).quiet (λ bad. cc bad) in omega (arith, e)
-counts_grow before now zero (Err io.Failed) counts = ((counts.cause refl).rose refl).0
-counts_grow before now zero (Err io.NoMemory) counts = let e = (counts.cause refl).quiet (λ bad. cc bad) in omega (arith, e)
-
--- and one that failed raises it
-pub counts_failed : (before now part : ℕ) (r : Result (Unit {0}) IoFault) → r ≡ Err io.Failed → CountsPart before now part r → Rose before now
-counts_failed before now (suc part) r failed counts = counts.rose (omega arith, omega arith)
-counts_failed before now zero r failed counts = (counts.cause refl).rose (subst (λ r. IsErrOf r io.Failed) (sym failed) refl)
 
 pub starved_of : (starved : Bool) (e : Stop) → e ≢ NoMemory → starved_end starved ≢ Err e
 starved_of true e other is = other (sym (cc is))

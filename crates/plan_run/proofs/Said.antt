@@ -1,62 +1,38 @@
 -- What a run puts, and what follows where nothing is refused and no count rose.
-use Rattle.std.proofs.Common.{◌≡◌, ◌≢◌, ◌⊎◌, inl, inr, ℕ, true, not, ◌||◌, nat_lt, List, [], ◌∷◌, ◌++◌, length, length-append, arith, Option, Some, None, Result, Ok, Err, refl, sym, ap, subst, ◌∙◌}
-use Rattle.std.specs.Prelude.{Contains, IfSome, IsOk, is_ok}
+use Rattle.std.proofs.Common.{◌≡◌, ◌≢◌, ◌⊎◌, inl, inr, ℕ, List, [], ◌∷◌, ◌++◌, length, length-append, arith, Option, Some, None, Result, Ok, Err, refl, sym, ap, subst}
+use Rattle.std.specs.Prelude.{Contains, IfSome, IsOk}
 use Rattle.std.proofs.lemmas.List.Elements.{All-contains, Contains-append_left, Contains-push}
 use Rattle.cube_schema.specs.Files.{output_names}
 use Rattle.cube_schema.specs.Repeats.{outputs}
 use Rattle.cube_schema.specs.declared.plan.Plan.{Plan}
-use Rattle.cube_view.specs.declared.schema.Schema.{Schema}
-use Rattle.feed_reader.specs.Feeds.{feed_head, is_feed_refused}
+use Rattle.feed_reader.proofs.FeedLaws.{headless_refused}
+use Rattle.feed_reader.specs.Feeds.{feed_head}
 use Rattle.feed_reader.specs.declared.header.HeadFault.{HeadFault}
 use Rattle.outer_io.proofs.ToldLaws.{Told-some}
-use Rattle.outer_io.specs.Bytes.{Gains, GainsPart}
 use Rattle.outer_io.specs.Faults.{Rose}
 use Rattle.outer_io.specs.Files.{Files, file_or_empty}
-use Rattle.outer_io.specs.Lines.{input_limit}
 use Rattle.outer_io.specs.Told.{Told}
 use Rattle.plan_run.proofs.Unreported.{ended_early, read_unmade}
-use Rattle.plan_run.specs.Ends.{AreHeaded, HasReported, IsDoneOrLacking, HasRefusedInput, MissesNothing, PutsOrFails, SaysOfRun, TellsTruth}
+use Rattle.plan_run.specs.Ends.{AreHeaded, HasReported, IsDoneOrLacking, HasRefusedInput, MissesNothing, SaysOfRun, TellsTruth}
+use Rattle.run_files.proofs.Putting.{fails_after, refuses_saying}
+pub use Rattle.run_files.proofs.Putting.{puts_after, silent_after}
 use Rattle.run_files.specs.Headed.{RefusesLast}
 use Rattle.run_files.specs.Leaving.{LeavesPlace}
-use Rattle.run_files.specs.Outside.{FailsToPut, file_of, PlaceSeen, Puts, Silent, SinkSeen}
+use Rattle.run_files.specs.Outside.{FailsToPut, file_of, PlaceSeen, Puts, PutsOrFails, Silent, SinkSeen}
 use Rattle.run_files.specs.declared.stop.Stop.{Stop}
 use Rattle.run_files.specs.declared.stop.Stop.TheVariants.{NoMemory, PlanRefused, ReadFault, WriteFault, FeedRefused}
 use Rattle.run_opening.specs.Opening.{EndsAtFeeds, OpensInOrder, OpensRun, outputs_of}
 use Rattle.run_stages.specs.Said.{SaysText}
 use Rattle.session_core.proofs.WholeScripts.{told_by}
 
--- a feed whose first line is no header is refused
-headless : (schema : Schema) (feed : List ℕ) (fault : HeadFault) → feed_head schema feed ≡ Err fault → is_feed_refused schema feed ≡ true
-unfolding is_feed_refused
-headless schema feed fault bad = ap (λ h. not (is_ok h) || nat_lt input_limit (length feed)) bad
-
--- a refusal of which one thing is said, and so another
-said_else : (schema : Schema) (file : List ℕ → Option (List ℕ)) (names : List (List ℕ)) (One Other : List ℕ → Type 0) → ((text : List ℕ) → One text → Other text) → RefusesLast schema file names One → RefusesLast schema file names Other
-said_else schema file names One Other f last = record {
-  earlier = last.earlier;
-  name = last.name;
-  names_are = last.names_are;
-  refuses = record { fault = last.refuses.fault; of_line = last.refuses.of_line; refused = last.refuses.refused; says = f _ last.refuses.says };
-}
-
 module _ {T : Type 0} (t : SinkSeen T) (a b c : T) (silent : Silent t a b) where
-  -- what is put after nothing was
-  pub puts_after : (text : List ℕ) → Puts t b c text → Puts t a c text
-  puts_after text puts = record { held = subst (λ o. Gains o (t.held c) text) silent.held puts.held; faults = puts.faults ∙ silent.faults; name = puts.name ∙ silent.name }
-
-  fails_after : (text : List ℕ) → FailsToPut t b c text → FailsToPut t a c text
-  fails_after text fails = record { held = subst (λ o. GainsPart o (t.held c) text) silent.held fails.held; faults = subst (λ n. Rose n (t.faults c)) silent.faults fails.faults; name = fails.name ∙ silent.name }
-
-  pub silent_after : Silent t b c → Silent t a c
-  silent_after quiet = record { held = quiet.held ∙ silent.held; faults = quiet.faults ∙ silent.faults; name = quiet.name ∙ silent.name }
-
   -- a text that was put, or a part of it, or nothing
   pub text_after : (text : List ℕ) (r : Result (Unit {0}) Stop) → SaysText t b c text r → Silent t a c ⊎ PutsOrFails t a c text
-  text_after text (Ok x) says = inr (inl (puts_after text says.puts))
-  text_after text (Err NoMemory) says = inl (silent_after (says.silent refl))
+  text_after text (Ok x) says = inr (inl (puts_after t a b c silent text says.puts))
+  text_after text (Err NoMemory) says = inl (silent_after t a b c silent (says.silent refl))
   text_after text (Err PlanRefused) says = absurd (says.ends.0 refl)
   text_after text (Err ReadFault) says = absurd (says.ends.1 refl)
-  text_after text (Err WriteFault) says = inr (inr (fails_after text (says.fails refl)))
+  text_after text (Err WriteFault) says = inr (inr (fails_after t a b c silent text (says.fails refl)))
   text_after text (Err FeedRefused) says = absurd (says.ends.2 refl)
 
 module _ {P T : Type 0} (p : PlaceSeen P) (t : SinkSeen T) (place mid : P) (out out1 : T) (name : List ℕ) where
@@ -88,9 +64,9 @@ module _ {P T : Type 0} (p : PlaceSeen P) (t : SinkSeen T) (place mid : P) (out 
   opening_said ReadFault (Some plan) opens makes run unplanned (later, e, inl feeds) = inl (feeds.silent (λ e. cc) (λ e. cc))
   opening_said PlanRefused (Some plan) opens makes run unplanned (later, e, inl feeds) = absurd (feeds.ends.1 refl)
   opening_said WriteFault (Some plan) opens makes run unplanned (later, e, inl feeds) =
-      inr (inl (later, said_else plan.schema (file_of (p.files place)) later (FailsToPut t out out1) (PutsOrFails t out out1) (λ text fails. inr fails) (feeds.unsaid refl)))
+      inr (inl (later, refuses_saying plan.schema (file_of (p.files place)) later (FailsToPut t out out1) (PutsOrFails t out out1) (λ text fails. inr fails) (feeds.unsaid refl)))
   opening_said FeedRefused (Some plan) opens makes run unplanned (later, e, inl feeds) =
-      inr (inl (later, said_else plan.schema (file_of (p.files place)) later (Puts t out out1) (PutsOrFails t out out1) (λ text puts. inl puts) (feeds.refused refl)))
+      inr (inl (later, refuses_saying plan.schema (file_of (p.files place)) later (Puts t out out1) (PutsOrFails t out out1) (λ text puts. inl puts) (feeds.refused refl)))
 
   -- and which feed is refused where it says so
   pub opening_refused : (stop : Stop) (plan : Option Plan) (opens makes : List (List ℕ)) → stop ≡ FeedRefused → (plan ≡ None → Unplanned stop) → IfSome plan (InOrder stop opens makes) → (which : Plan) × (plan ≡ Some which) × Told (p.files place) (λ files. HasRefusedInput files which)
@@ -109,7 +85,7 @@ module _ {P T : Type 0} (p : PlaceSeen P) (t : SinkSeen T) (place mid : P) (out 
     where
       of_files : (files : Option Files) (feed : List ℕ) → Contains plan.feeds feed → (fault : HeadFault) → Told (file_of files feed) (λ bytes. feed_head plan.schema bytes ≡ Err fault) → Told files (λ files. HasRefusedInput files plan)
       of_files None feed among fault refused = tt
-      of_files (Some files) feed among fault refused = inl (feed, among, headless plan.schema (file_or_empty files feed) fault refused)
+      of_files (Some files) feed among fault refused = inl (feed, among, headless_refused plan.schema (file_or_empty files feed) fault refused)
 
   -- where nothing is refused and no count rose a run is done, or memory was wanted
   pub completes : (plan : Option Plan) (result : Result (Unit {0}) Stop) → (result ≡ Err PlanRefused → plan ≡ None) → (result ≡ Err FeedRefused → (which : Plan) × (plan ≡ Some which) × Told (p.files place) (λ files. HasRefusedInput files which))

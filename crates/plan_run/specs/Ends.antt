@@ -12,7 +12,8 @@ use Rattle.plan_run.specs.Completed.{IsCompleted}
 use Rattle.plan_run.specs.Interrupted.{Account, BeginsFiles, HoldsAll, HoldsFiles, account_text, read_stops}
 use Rattle.run_files.specs.Headed.{RefusesLast}
 use Rattle.run_files.specs.Leaving.{KeepsOthers}
-use Rattle.run_files.specs.Outside.{FailsToPut, file_of, PlaceSeen, Puts, Silent, SinkSeen}
+use Rattle.run_files.specs.Outside.{file_of, PlaceSeen, Puts, Silent, SinkSeen}
+pub use Rattle.run_files.specs.Outside.{PutsOrFails}
 use Rattle.run_files.specs.Planned.{IsPlanOf, RefusesPlan}
 use Rattle.run_files.specs.declared.stop.Stop.{Stop}
 use Rattle.run_files.specs.declared.stop.Stop.TheVariants.{NoMemory, PlanRefused, ReadFault, WriteFault, FeedRefused}
@@ -46,10 +47,6 @@ HasRefusedInput files plan =
 -- the run was done, or memory was wanted
 abbrev pub IsDoneOrLacking : Result (Unit {0}) Stop → Type 0
 IsDoneOrLacking result = (result ≡ Ok tt) ⊎ (result ≡ Err NoMemory)
-
--- a text was put into a sink, or a part of it where the put failed
-abbrev pub PutsOrFails : {T : Type 0} → SinkSeen T → T → T → List ℕ → Type 0
-PutsOrFails s out out' text = Puts s out out' text ⊎ FailsToPut s out out' text
 
 module _ {P T : Type 0} (p : PlaceSeen P) (s : SinkSeen T) (place place' : P) (out out' : T) where
   -- The run of the named plan is completed
