@@ -1,2 +1,2 @@
-mod RowLists
+pub mod RowLists
 mod Reading

@@ -3,6 +3,7 @@ use Rattle.std.proofs.Common.{◌≡◌, ℕ, ◌+◌, ◌≤◌, ◌<◌, lit�
 use Rattle.std.proofs.lemmas.List.{length-map, length_push, map_push}
 use Rattle.std.proofs.lemmas.List.Sums.{count_by-le-length}
 use Rattle.cube_view.specs.declared.schema.Schema.{Schema}
+use Rattle.feed_reader.proofs.FewPoints.{points_in-length}
 use Rattle.feed_reader.specs.Feeds.{points_in}
 use Rattle.feed_reader.specs.Headings.{Heading}
 use Rattle.feed_reader.specs.Reading.{ReadsRow}
@@ -23,7 +24,7 @@ use Rattle.crew_feeder.specs.Leaving.{GivesUntil, HasFed, HasFirst, HasTaken}
 use Rattle.crew_feeder.specs.RowCounts.{is_blank_row, is_refused_row}
 use Rattle.crew_feeder.specs.Taking.{IsReady, having_ended, having_taken_row}
 use Rattle.crew_feeder.specs.declared.work.FeedWork.{FeedWork}
-use Rattle.crew_feeder.proofs.RowLists.{few_points, taken_alike, taken_more}
+use Rattle.crew_feeder.proofs.RowLists.{taken_alike, taken_more}
 
 later_of : {A : Type 0} (o : Option (List A)) (all lines : List A) → IsSomeAnd o (λ rest. all ≡ lines ++ rest) → (later : List A) × (all ≡ lines ++ later)
 later_of None all lines h = absurd h
@@ -85,7 +86,7 @@ module _ {I : Type 0} (left : I → Option (List ℕ)) (faults : I → ℕ) (sta
         let rows = map row_at on.lines in
         let len : length rows ≡ length on.lines = length-map on.lines row_at in
         let points : length now.end.points ≡ length (points_in rows) = ap length (on.taken.sent ∙ ap (λ ps. ps ++ points_in rows) ready.unsent.0) in (
-          omega (arith, points, few_points rows, len),
+          omega (arith, points, points_in-length rows, len),
           omega (arith, on.taken.blank, ready.unrun.0, count_by-le-length is_blank_row rows, len),
           omega (arith, on.taken.refused, ready.unrun.1, count_by-le-length is_refused_row rows, len),
         )

@@ -1,5 +1,5 @@
 -- Rows that are taken one after another.
-use Rattle.std.proofs.Common.{◌≡◌, ℕ, zero, suc, ◌+◌, ◌≤◌, lit≤, Bool, cond, List, [], ◌∷◌, ◌++◌, length, take, count_by, refl, sym, ◌∙◌, ap, arith, append-nil, append_assoc, add_assoc, add-zero}
+use Rattle.std.proofs.Common.{◌≡◌, ℕ, zero, suc, ◌+◌, Bool, cond, List, [], ◌∷◌, ◌++◌, length, take, count_by, refl, sym, ◌∙◌, ap, arith, append-nil, append_assoc, add_assoc, add-zero}
 use Rattle.std.proofs.lemmas.List.Sums.{sum_by-append}
 use Rattle.cube_view.specs.Points.{Point}
 use Rattle.feed_queue.specs.Ends.{FeedState}
@@ -24,21 +24,14 @@ refusals_append line (row.Point p ∷ xs) ys = refusals_append (line + 1) xs ys 
 refusals_append line (row.Refused f ∷ xs) ys = ap (λ rs. record { line = line; fault = f } ∷ rs) (refusals_append (line + 1) xs ys ∙ ap (λ n. refusals_from (line + 1) xs ++ refusals_from n ys) (one_on line (length xs)))
 
 -- of the first items and further ones, the first are the first of all
-take_twice : {X : Type 0} (n : ℕ) (xs ys : List X) → take n (take n xs ++ ys) ≡ take n (xs ++ ys)
+pub take_twice : {X : Type 0} (n : ℕ) (xs ys : List X) → take n (take n xs ++ ys) ≡ take n (xs ++ ys)
 take_twice zero xs ys = refl
 take_twice (suc n) [] ys = refl
 take_twice (suc n) (x ∷ xs) ys = ap (λ zs. x ∷ zs) (take_twice n xs ys)
 
 -- the first refusals of rows, and then of one row more
-first_more : (line : ℕ) (rows : List Row) (row : Row) → first_refusals line (rows ++ row ∷ []) ≡ take kept_refusals (first_refusals line rows ++ refusals_from (line + length rows) (row ∷ []))
+pub first_more : (line : ℕ) (rows : List Row) (row : Row) → first_refusals line (rows ++ row ∷ []) ≡ take kept_refusals (first_refusals line rows ++ refusals_from (line + length rows) (row ∷ []))
 first_more line rows row = ap (λ rs. take kept_refusals rs) (refusals_append line rows (row ∷ [])) ∙ sym (take_twice kept_refusals (refusals_from line rows) _)
-
--- there are no more points than rows
-pub few_points : (rows : List Row) → length (points_in rows) ≤ length rows
-few_points [] = lit≤ tt
-few_points (row.Blank ∷ rows) = omega (arith, few_points rows)
-few_points (row.Point p ∷ rows) = omega (arith, few_points rows)
-few_points (row.Refused f ∷ rows) = omega (arith, few_points rows)
 
 count_more : (p : Row → Bool) (rows : List Row) (row : Row) (n k : ℕ) → n ≡ k + count_by p rows → n + count_by p (row ∷ []) ≡ k + count_by p (rows ++ row ∷ [])
 count_more p rows row n k e = ap (λ m. m + count_by p (row ∷ [])) e ∙ add_assoc k (count_by p rows) (count_by p (row ∷ [])) ∙ ap (λ m. k + m) (sym (sum_by-append (λ x. cond (p x) 1 0) rows (row ∷ [])))

@@ -18,8 +18,8 @@ use Rattle.outer_io.specs.declared.cutter.CutFault.{CutFault}
 use Rattle.outer_io.specs.declared.cutter.CutFault.TheVariants as fault
 use Rattle.run_files.specs.declared.feeds.HeadedFeed.{HeadedFeed}
 use Rattle.run_report.specs.declared.counts.FeedCounts.{FeedCounts}
-use Rattle.cube_feeds.specs.Counting.{TakesFeed}
-use Rattle.cube_feeds.specs.Taking.{AreQuiet, EndsBy, HasRows, IsUnread, counts_of}
+use Rattle.cube_feeds.specs.Counting.{JoinsFeed}
+use Rattle.cube_feeds.specs.Taking.{AreQuiet, EndsBy, HasRows, IsUnread, counts_at_end}
 
 -- lists that are the same from a place on are the same from the next on
 drop_next : {X : Type 0} (n : ℕ) (xs ys : List X) → drop n xs ≡ drop n ys → drop (n + 1) xs ≡ drop (n + 1) ys
@@ -38,7 +38,7 @@ module _ {S : Type 0} (left : S → Option (List ℕ)) (faults : S → ℕ) (sch
     pub read : AllZip (HasRows left faults) (take n before) rows
     pub schema_is : cube.schema ≡ schema
     pub points : CubeCounts cube (flat_map points_in rows)
-    pub counts_are : counts ≡ map counts_of rows
+    pub counts_are : counts ≡ map counts_at_end rows
     pub quiet : AreQuiet left faults now
     pub rest : drop n now ≡ drop n before
     pub whole : length now ≡ length before
@@ -76,7 +76,7 @@ module _ {S : Type 0} (left : S → Option (List ℕ)) (faults : S → ℕ) (sch
       quiet_on quiet = All-set (λ (feed : HeadedFeed (Cutter S)). faults feed.cutter.source ≡ 0) now n after quiet on.quiet
 
       -- a feed more is read
-      pub one_more : (cube' : Cube) (of_feed : FeedCounts) (counts' : List FeedCounts) → TakesFeed left faults (get_or now n d) cube cube' of_feed → cube'.schema ≡ cube.schema → cube'.size ≤ cube.size + input_limit
+      pub one_more : (cube' : Cube) (of_feed : FeedCounts) (counts' : List FeedCounts) → JoinsFeed left faults (get_or now n d) cube cube' of_feed → cube'.schema ≡ cube.schema → cube'.size ≤ cube.size + input_limit
           → faults after.cutter.source ≡ 0 → counts' ≡ counts ++ of_feed ∷ [] → HasTaken (n + 1) (set now n after) cube' counts'
       one_more cube' of_feed counts' taken schema_is size quiet counted =
           let more : take (n + 1) before ≡ take n before ++ get_or now n d ∷ [] = take_more before n d lt ∙ ap (λ feed. take n before ++ feed ∷ []) (sym next_is) in
@@ -85,7 +85,7 @@ module _ {S : Type 0} (left : S → Option (List ℕ)) (faults : S → ℕ) (sch
             read = subst (λ (feeds : List (HeadedFeed (Cutter S))). AllZip (HasRows left faults) feeds (on.rows ++ taken.rows ∷ [])) (sym more) (all_zipped_more (HasRows left faults) (take n before) on.rows (get_or now n d) taken.rows on.read taken.read);
             schema_is = schema_is ∙ on.schema_is;
             points = subst (λ points. CubeCounts cube' points) (flat_map_more points_in [] on.rows taken.rows) (taken.points (flat_map points_in on.rows) on.points);
-            counts_are = counted ∙ ap (λ cs. cs ++ of_feed ∷ []) on.counts_are ∙ ap (λ c. map counts_of on.rows ++ c ∷ []) taken.counts_are ∙ sym (map_push counts_of on.rows taken.rows);
+            counts_are = counted ∙ ap (λ cs. cs ++ of_feed ∷ []) on.counts_are ∙ ap (λ c. map counts_at_end on.rows ++ c ∷ []) taken.counts_are ∙ sym (map_push counts_at_end on.rows taken.rows);
             quiet = quiet_on quiet;
             rest = drop-set-lt (n + 1) now n after (omega arith) ∙ drop_next n now before on.rest;
             whole = length-set now n after ∙ on.whole;

@@ -23,7 +23,7 @@ use Rattle.outer_io.specs.declared.cutter.CutFault.{CutFault}
 use Rattle.outer_io.specs.declared.cutter.CutFault.TheVariants as fault
 use Rattle.run_files.specs.declared.feeds.HeadedFeed.{HeadedFeed}
 use Rattle.run_report.specs.declared.counts.FeedCounts.{FeedCounts}
-use Rattle.cube_feeds.specs.Counting.{CubeTakes, TakesFeed, counts_in, having_counted, tally_of}
+use Rattle.cube_feeds.specs.Counting.{CubeTakes, JoinsFeed, tally_counts, having_counted, tally_of}
 use Rattle.cube_feeds.specs.declared.tally.Tally.{Tally}
 use Rattle.cube_feeds.proofs.Tallies.{few_counted, tally_more}
 
@@ -123,12 +123,12 @@ module _ {S : Type 0} (left : S → Option (List ℕ)) (faults : S → ℕ) (sta
         }
 
     -- it comes to the end of its cutter
-    pub at_end : (cutter : Cutter S) (counts : FeedCounts) → IsEnd left faults feed.cutter cutter → counts ≡ counts_in tally → TakesFeed left faults start before cube counts
+    pub at_end : (cutter : Cutter S) (counts : FeedCounts) → IsEnd left faults feed.cutter cutter → counts ≡ tally_counts tally → JoinsFeed left faults start before cube counts
     at_end cutter counts end is =
         let all : PassesAll left faults start.cutter cutter on.lines = subst (λ ls. PassesAll left faults start.cutter cutter ls) (append-nil on.lines) (passes_all left faults start.cutter feed.cutter cutter on.lines [] on.passed end.passed) in
         record {
           rows = map row_at on.lines;
           read = record { lines = on.lines; all = all.covers; within = all.size; rows_are = refl };
           points = on.points;
-          counts_are = is ∙ ap counts_in on.counted;
+          counts_are = is ∙ ap tally_counts on.counted;
         }

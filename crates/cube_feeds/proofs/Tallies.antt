@@ -1,35 +1,17 @@
 -- Rows that are counted one after another.
-use Rattle.std.proofs.Common.{◌≡◌, ℕ, zero, suc, ◌+◌, ◌≤◌, lit≤, Bool, cond, List, [], ◌∷◌, ◌++◌, length, take, count_by, refl, sym, ◌∙◌, ap, arith, append-nil, add-zero}
+use Rattle.std.proofs.Common.{◌≡◌, ℕ, ◌+◌, ◌≤◌, Bool, cond, List, [], ◌∷◌, ◌++◌, length, take, count_by, refl, sym, ◌∙◌, ap, arith, append-nil, add-zero}
 use Rattle.std.proofs.lemmas.List.{length_push}
 use Rattle.std.proofs.lemmas.List.Sums.{count_by-le-length, sum_by-append}
+use Rattle.crew_feeder.proofs.RowLists.{first_more, take_twice}
 use Rattle.crew_feeder.specs.RowCounts.{count_accepted, count_blank, count_refused, first_refusals, is_blank_row, is_refused_row, kept_refusals, refusals_from}
 use Rattle.crew_feeder.specs.Taking.{having_kept}
 use Rattle.feed_reader.proofs.FeedLaws.{points_in-append}
+use Rattle.feed_reader.proofs.FewPoints.{points_in-length}
 use Rattle.feed_reader.specs.Feeds.{points_in}
 use Rattle.feed_reader.specs.declared.row.Row.{Row}
 use Rattle.feed_reader.specs.declared.row.Row.TheVariants as row
 use Rattle.cube_feeds.specs.Counting.{having_counted, tally_of}
 use Rattle.cube_feeds.specs.declared.tally.Tally.{Tally}
-
-one_on : (line n : ℕ) → (line + 1) + n ≡ line + suc n
-one_on line n = omega arith
-
--- the refusals of rows, and then those of further rows
-refusals_append : (line : ℕ) (xs ys : List Row) → refusals_from line (xs ++ ys) ≡ refusals_from line xs ++ refusals_from (line + length xs) ys
-refusals_append line [] ys = ap (λ n. refusals_from n ys) (sym (add-zero line))
-refusals_append line (row.Blank ∷ xs) ys = refusals_append (line + 1) xs ys ∙ ap (λ n. refusals_from (line + 1) xs ++ refusals_from n ys) (one_on line (length xs))
-refusals_append line (row.Point p ∷ xs) ys = refusals_append (line + 1) xs ys ∙ ap (λ n. refusals_from (line + 1) xs ++ refusals_from n ys) (one_on line (length xs))
-refusals_append line (row.Refused f ∷ xs) ys = ap (λ rs. record { line = line; fault = f } ∷ rs) (refusals_append (line + 1) xs ys ∙ ap (λ n. refusals_from (line + 1) xs ++ refusals_from n ys) (one_on line (length xs)))
-
--- of the first items and further ones, the first are the first of all
-take_twice : {X : Type 0} (n : ℕ) (xs ys : List X) → take n (take n xs ++ ys) ≡ take n (xs ++ ys)
-take_twice zero xs ys = refl
-take_twice (suc n) [] ys = refl
-take_twice (suc n) (x ∷ xs) ys = ap (λ zs. x ∷ zs) (take_twice n xs ys)
-
--- the first refusals of rows, and then of one row more
-first_more : (line : ℕ) (rows : List Row) (row : Row) → first_refusals line (rows ++ row ∷ []) ≡ take kept_refusals (first_refusals line rows ++ refusals_from (line + length rows) (row ∷ []))
-first_more line rows row = ap (λ rs. take kept_refusals rs) (refusals_append line rows (row ∷ [])) ∙ sym (take_twice kept_refusals (refusals_from line rows) _)
 
 -- a row that is not refused leaves the first refusals
 first_same : (line : ℕ) (rows : List Row) (row : Row) → refusals_from (line + length rows) (row ∷ []) ≡ [] → first_refusals line rows ≡ first_refusals line (rows ++ row ∷ [])
@@ -66,20 +48,13 @@ tally_more rows line (row.Refused f) number =
     let first = ap (λ n. having_kept (first_refusals 2 rows) (record { line = n; fault = f })) number ∙ sym (first_more 2 rows (row.Refused f)) in
     λ i. record { accepted = accepted i; blank = blank i; refused = refused i; first = first i }
 
--- there are no more points than rows
-few_points : (rows : List Row) → length (points_in rows) ≤ length rows
-few_points [] = lit≤ tt
-few_points (row.Blank ∷ rows) = omega (arith, few_points rows)
-few_points (row.Point p ∷ rows) = omega (arith, few_points rows)
-few_points (row.Refused f ∷ rows) = omega (arith, few_points rows)
-
 -- no count of a tally is larger than the number of its rows
 pub few_counted : (rows : List Row) (tally : Tally) → tally ≡ tally_of rows → (tally.accepted ≤ length rows) × (tally.blank ≤ length rows) × (tally.refused ≤ length rows)
 few_counted rows tally is =
     let accepted : tally.accepted ≡ count_accepted rows = ap (λ (t : Tally). t.accepted) is in
     let blank : tally.blank ≡ count_blank rows = ap (λ (t : Tally). t.blank) is in
     let refused : tally.refused ≡ count_refused rows = ap (λ (t : Tally). t.refused) is in (
-      omega (arith, accepted, few_points rows),
+      omega (arith, accepted, points_in-length rows),
       omega (arith, blank, count_by-le-length is_blank_row rows),
       omega (arith, refused, count_by-le-length is_refused_row rows),
     )

@@ -11,7 +11,7 @@ use Rattle.feed_reader.specs.declared.row.Row.TheVariants as row
 use Rattle.outer_io.specs.Cutting.{Cutter}
 use Rattle.run_files.specs.declared.feeds.HeadedFeed.{HeadedFeed}
 use Rattle.run_report.specs.declared.counts.FeedCounts.{FeedCounts}
-use Rattle.cube_feeds.specs.Taking.{HasRows, counts_of}
+use Rattle.cube_feeds.specs.Taking.{HasRows, counts_at_end}
 use Rattle.cube_feeds.specs.declared.tally.Tally.{Tally}
 
 -- the tally of these rows, the first of which is that of line 2
@@ -25,18 +25,18 @@ having_counted tally line (row.Point p) = record tally { accepted = tally.accept
 having_counted tally line (row.Refused f) = record tally { refused = tally.refused + 1; first = having_kept tally.first (record { line = line; fault = f }) }
 
 -- what a tally says of a feed that was read to its end
-abbrev pub counts_in : Tally → FeedCounts
-counts_in tally = record { accepted = tally.accepted; blank = tally.blank; refused = tally.refused; first = tally.first; fault = None }
+abbrev pub tally_counts : Tally → FeedCounts
+tally_counts tally = record { accepted = tally.accepted; blank = tally.blank; refused = tally.refused; first = tally.first; fault = None }
 
 -- the second cube counts the points that the first counts, and these behind them
 abbrev pub CubeTakes : Cube → Cube → List Point → Type 0
 CubeTakes before after points = (h : List Point) → CubeCounts before h → CubeCounts after (h ++ points)
 
 -- A feed was read to its end: the cube took the points among its rows, and this is what is counted of them
-pub record TakesFeed {S : Type 0} (left : S → Option (List ℕ)) (faults : S → ℕ) (feed : HeadedFeed (Cutter S)) (before after : Cube) (counts : FeedCounts) : Type 0 where
+pub record JoinsFeed {S : Type 0} (left : S → Option (List ℕ)) (faults : S → ℕ) (feed : HeadedFeed (Cutter S)) (before after : Cube) (counts : FeedCounts) : Type 0 where
   -- the rows of the feed
   pub rows : List Row
   pub read : HasRows left faults feed rows
   -- the cube counts the points among them
   pub points : CubeTakes before after (points_in rows)
-  pub counts_are : counts ≡ counts_of rows
+  pub counts_are : counts ≡ counts_at_end rows

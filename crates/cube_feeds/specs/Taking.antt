@@ -19,8 +19,8 @@ use Rattle.run_report.specs.Reports.{counts_of_rows}
 use Rattle.run_report.specs.declared.counts.FeedCounts.{FeedCounts}
 
 -- what is counted of a feed that was read to its end and has these rows
-abbrev pub counts_of : List Row → FeedCounts
-counts_of rows = counts_of_rows (record { rows = rows; fault = None })
+abbrev pub counts_at_end : List Row → FeedCounts
+counts_at_end rows = counts_of_rows (record { rows = rows; fault = None })
 
 module _ {S : Type 0} (left : S → Option (List ℕ)) (faults : S → ℕ) where
   -- no source of these feeds met a fault
@@ -49,7 +49,7 @@ module _ {S : Type 0} (left : S → Option (List ℕ)) (faults : S → ℕ) wher
     -- the cube counts the points among them
     pub schema_is : cube.schema ≡ schema
     pub points : CubeCounts cube (flat_map points_in rows)
-    pub counts_are : counts ≡ map counts_of rows
+    pub counts_are : counts ≡ map counts_at_end rows
     -- no source met a fault
     pub quiet : AreQuiet after
 

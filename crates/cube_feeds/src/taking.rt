@@ -1,6 +1,6 @@
 //! Feeds read into a cube.
 ghost use Rattle.std.specs.Prelude.{◌≡◌, ◌+◌, ◌≤◌, [], All, IfOk, IsErrOf, OnOk, length};
-ghost use Rattle.cube_feeds.specs.Counting.{TakesFeed};
+ghost use Rattle.cube_feeds.specs.Counting.{JoinsFeed};
 ghost use Rattle.cube_feeds.specs.Taking.{IsUnread, TakesFeeds};
 ghost use Rattle.cube_store.specs.Holding.{CubeCounts};
 ghost use Rattle.cube_view.specs.Bag.{most_points};
@@ -35,7 +35,7 @@ fn take_feed<S: Source>(
     requires unread { IsUnread S.left S.faults schema.now feed.old }
     requires schema { cube.old.schema ≡ schema.now }
     requires room { cube.old.size + input_limit ≤ most_points }
-    ensures taken { IfOk result (TakesFeed S.left S.faults feed.old cube.old cube.new) }
+    ensures taken { IfOk result (JoinsFeed S.left S.faults feed.old cube.old cube.new) }
     ensures schema { cube.new.schema ≡ cube.old.schema }
     ensures size { OnOk result (cube.new.size ≤ cube.old.size + input_limit) }
     ensures too_much { IsErrOf result CutFault.TooMuch → IsTooLarge S.left feed.old.cutter }

@@ -1,6 +1,6 @@
 //! The counts of a feed while it is read.
 ghost use Rattle.std.specs.Prelude.{◌≡◌, ◌+◌, ◌^◌, ◌<◌, ◌≤◌, [], ◌∷◌, IfOk, OnOk};
-ghost use Rattle.cube_feeds.specs.Counting.{CubeTakes, counts_in, having_counted, tally_of};
+ghost use Rattle.cube_feeds.specs.Counting.{CubeTakes, tally_counts, having_counted, tally_of};
 ghost use Rattle.cube_view.specs.Bag.{most_points};
 ghost use Rattle.feed_reader.specs.Feeds.{points_in};
 ghost use Rattle.feed_reader.specs.Rows.{IsValidRow};
@@ -37,7 +37,7 @@ impl Tally {
 
     /// What was counted of a feed that was read to its end. It takes no memory.
     pub(crate) fn into_counts(self) -> FeedCounts
-        ensures { result ≡ counts_in self }
+        ensures { result ≡ tally_counts self }
     {
         let Tally {
             accepted,

@@ -1,36 +1,38 @@
 -- How a save ends before its feeds were read, and what stands once they were.
-use Rattle.std.proofs.Common.{◌≡◌, ◌≢◌, ◌⊎◌, ◌+◌, ◌<◌, ◌≤◌, ℕ, zero, suc, ◌==◌, not, cond, true, false, List, [], ◌∷◌, ◌++◌, get_or, length, map, take, Option, Some, None, IfSome, Result, Ok, Err, inl, inr, refl, sym, ◌∙◌, ap, subst, arith}
+use Rattle.std.proofs.Common.{◌≡◌, ◌≢◌, ◌⊎◌, ◌+◌, ◌<◌, ◌≤◌, ℕ, zero, suc, ◌==◌, not, cond, true, false, List, [], ◌∷◌, ◌++◌, get_or, length, map, Option, Some, None, IfSome, Result, Ok, Err, inl, inr, refl, sym, ◌∙◌, ap, subst, arith}
 use Rattle.std.proofs.lemmas.Bool.Decides.{nat_tests}
 use Rattle.std.proofs.lemmas.List.{append-nil}
-use Rattle.std.proofs.lemmas.List.Sums.{sum_by-cons}
 use Rattle.std.proofs.lemmas.List.Elements.{All-contains, All-map, Contains-append_left, Contains-push}
 use Rattle.std.specs.List.{AllZip}
 use Rattle.std.specs.Prelude.{Any, Contains}
-use Rattle.std.specs.Result.{IsErrAnd}
 use Rattle.cube_feeds.specs.Taking.{AreQuiet, EndsBy, TakesAll, TakesFeeds}
 use Rattle.cube_schema.specs.declared.plan.Plan.{Plan}
 use Rattle.cube_store.specs.Holding.{CubeCounts}
 use Rattle.cube_store.specs.declared.cube.Cube.{Cube}
 use Rattle.cube_view.specs.Points.{Point}
 use Rattle.cube_view.specs.declared.schema.Schema.{Schema}
-use Rattle.feed_reader.proofs.FeedLaws.{refused_by_head, refused_by_size}
+use Rattle.feed_reader.proofs.FeedLaws.{headless_refused, refused_by_size}
 use Rattle.feed_reader.specs.Accepting.{AcceptsSound}
 use Rattle.feed_reader.specs.Feeds.{feed_head, is_feed_refused}
-use Rattle.feed_reader.specs.declared.header.HeadFault.{HeadFault}
 use Rattle.image_run.specs.Ends.{IsOrLacks}
 use Rattle.image_run.specs.declared.end.ImageEnd.TheVariants.{Done, Refused}
 use Rattle.outer_io.specs.Cutting.{Cutter}
-use Rattle.outer_io.specs.Faults.{Rose, RoseBy}
+use Rattle.outer_io.specs.Faults.{Rose}
 use Rattle.outer_io.specs.Files.{Files, file_or_empty}
 use Rattle.outer_io.specs.Progress.{IsTooLarge}
 use Rattle.outer_io.specs.Told.{Told}
 use Rattle.outer_io.specs.declared.cutter.CutFault.{CutFault}
 use Rattle.outer_io.specs.declared.cutter.CutFault.TheVariants as cut
-use Rattle.run_files.proofs.Stages.{all_opened, KeepsOthers-same, leaves_reading, leaves_then, nothing_made}
+use Rattle.run_files.proofs.Apart.{err_is}
+use Rattle.run_files.proofs.Counts.{faulty-cons, rose_once}
+use Rattle.run_files.proofs.Lists.{not_grown}
+use Rattle.run_files.proofs.PlanReads.{plan_end, says_plan}
+use Rattle.run_files.proofs.Putting.{fails_after, puts_after, refuses_saying, silent_after}
+use Rattle.run_files.proofs.Stages.{all_opened, KeepsOthers-same, leaves_reading, leaves_then, nothing_made, opened_front, same_created, same_files}
 use Rattle.run_files.specs.GivingBack.{faulty, TakesSources}
 use Rattle.run_files.specs.Headed.{IsHeaded, OpensFeeds, RefusesLast}
 use Rattle.run_files.specs.Leaving.{LeavesPlace}
-use Rattle.run_files.specs.Outside.{FailsToPut, file_of, PlaceSeen, Puts, Silent, SinkSeen}
+use Rattle.run_files.specs.Outside.{FailsToPut, file_of, PlaceSeen, Puts, PutsOrFails, Silent, SinkSeen}
 use Rattle.run_files.specs.Planned.{IsPlanOf, ReadsPlan, RefusesPlan}
 use Rattle.run_files.specs.Stops.{stop_of_cut}
 use Rattle.run_files.specs.declared.feeds.HeadedFeed.{HeadedFeed}
@@ -38,22 +40,13 @@ use Rattle.run_files.specs.declared.stop.Stop.{Stop}
 use Rattle.run_files.specs.declared.stop.Stop.TheVariants as stop
 use Rattle.run_report.specs.declared.counts.FeedCounts.{FeedCounts}
 use Rattle.save_run.proofs.Fed.{any_large, are_fed}
-use Rattle.save_run.proofs.Lists.{not_grown, take_front}
 use Rattle.save_run.proofs.Records.{are_records}
-use Rattle.save_run.proofs.Stood.{End, Stood, then_fails, then_puts, then_silent}
-use Rattle.save_run.specs.Ends.{CreatesNone, feeds_of, OfFiles, PutsOrFails, SaveEnds, SaysHeader, SaysOfSave}
+use Rattle.save_run.proofs.Stood.{End, Stood}
+use Rattle.save_run.specs.Ends.{CreatesNone, feeds_of, AtEntry, SaveEnds, SaysHeader, SaysOfSave}
 use Rattle.save_run.specs.Reading.{taken_end, ReadsFeeds}
 use Rattle.save_run.specs.Saved.{AreTaken, HasLongFeed}
 
 -- ---- lists and ends
-
--- an answer that has this error
-pub residual_is : {T E : Type 0} (r : Result T E) (e : E) → IsErrAnd r (λ f. f ≡ e) → r ≡ Err e
-residual_is (Ok x) e bad = absurd bad
-residual_is (Err f) e is = ap (λ k. Err k) is
-
-err_is : (k l : Stop) → ◌≡◌ {A = End} (Err k) (Err l) → k ≡ l
-err_is k l is = cc
 
 -- the fault that ended the reading of the feeds, and none where they were read
 abbrev Taken : Type 0
@@ -72,10 +65,6 @@ told_of : {A : Type 0} (o : Option A) (Q : A → Type 0) → ((x : A) → o ≡ 
 told_of None Q each = tt
 told_of (Some x) Q each = each x refl
 
--- one of some counts that is not 0 is counted
-faulty-cons : (n : ℕ) (counts : List ℕ) → faulty (n ∷ counts) ≡ cond (not (n == 0)) 1 0 + faulty counts
-faulty-cons n counts = sum_by-cons (λ n. cond (not (n == 0)) 1 0) n counts
-
 counted_some : (n m : ℕ) → Rose 0 n → 1 ≤ cond (not (n == 0)) 1 0 + m
 counted_some n m rose = let some = rose.1 in grind (arith, nat_tests)
 
@@ -84,51 +73,23 @@ faulty_some count [] k x within is rose = absurd (omega (arith, within))
 faulty_some count (y ∷ xs) zero x within is rose = let some = counted_some (count y) (faulty (map count xs)) (subst (λ (z : _). Rose 0 (count z)) (sym is) rose) in let both = faulty-cons (count y) (map count xs) in omega (arith, some, both)
 faulty_some count (y ∷ xs) (suc k) x within is rose = let later = faulty_some count xs k x (omega (arith, within)) is rose in let both = faulty-cons (count y) (map count xs) in omega (arith, later, both)
 
-rose_by_some : (n a b : ℕ) → 1 ≤ n → RoseBy n a b → Rose a b
-rose_by_some n a b some rose = let l = rose.1 in (rose.0, omega (arith, some, l))
-
--- of the last feed that is refused something else is said
-refuses_saying : (schema : Schema) (file : List ℕ → Option (List ℕ)) (names : List (List ℕ)) (Says More : List ℕ → Type 0) → ((line : List ℕ) → Says line → More line) → RefusesLast schema file names Says → RefusesLast schema file names More
-refuses_saying schema file names Says More step last = record {
-  earlier = last.earlier;
-  name = last.name;
-  names_are = last.names_are;
-  refuses = record { fault = last.refuses.fault; of_line = last.refuses.of_line; refused = last.refuses.refused; says = step _ last.refuses.says };
-}
-
--- a feed with a header that is refused is one
-head_refused : (schema : Schema) (feed : List ℕ) (fault : HeadFault) → feed_head schema feed ≡ Err fault → is_feed_refused schema feed ≡ true
-unfolding feed_head
-head_refused schema feed fault bad = refused_by_head schema feed fault bad
-
 -- a feed that is refused is not taken
 not_both : (schema : Schema) (feed : List ℕ) → is_feed_refused schema feed ≡ true → is_feed_refused schema feed ≡ false → ⊥
 not_both schema feed refused taken = let z : true ≡ false = sym refused ∙ taken in absurd cc
 
 module _ {P O : Type 0} (p : PlaceSeen P) (s : SinkSeen O) where
-  same_files : (a b : P) (inputs : List (List ℕ)) (stop : Option Stop) → LeavesPlace p a b inputs [] stop → p.files b ≡ p.files a
-  same_files a b inputs stop stage = stage.untouched (nothing_made p a b inputs stop stage)
-
-  same_created : (a b : P) (inputs : List (List ℕ)) (stop : Option Stop) → LeavesPlace p a b inputs [] stop → p.created b ≡ p.created a
-  same_created a b inputs stop stage = stage.created ∙ (ap (λ m. p.created a ++ m) (nothing_made p a b inputs stop stage) ∙ append-nil _)
-
-  -- what was opened is a front of the names
-  opened_front : (a b : P) (inputs : List (List ℕ)) (stop : Option Stop) → LeavesPlace p a b inputs [] stop → (k : ℕ) × (p.opened b ≡ p.opened a ++ take k inputs)
-  opened_front a b inputs stop stage =
-      (length stage.opens, stage.opened ∙ ap (λ ns. p.opened a ++ ns) (sym (ap (take (length stage.opens)) stage.inputs_are ∙ take_front stage.opens stage.unopened)))
-
   module _ (a b : P) (out out' : O) (name image : List ℕ) where
     -- with any trouble before the image is created
     ended_early : (plan : Option Plan) (k : Stop) → LeavesPlace p a b (name ∷ feeds_of plan) [] (Some k) → IfSome plan (IsPlanOf (file_of (p.files a) name))
         → (plan ≡ None → (◌≡◌ {A = End} (Err k) (Err stop.NoMemory)) ⊎ (◌≡◌ {A = End} (Err k) (Err stop.ReadFault)) ⊎ (◌≡◌ {A = End} (Err k) (Err stop.PlanRefused)))
         → (k ≡ stop.PlanRefused → (plan ≡ None) × RefusesPlan s out out' (file_of (p.files a) name))
-        → (k ≡ stop.FeedRefused → (which : Plan) × (plan ≡ Some which) × CreatesNone p s a b out out' name image × (SaysHeader p s a b out out' name image which (Puts s out out') ⊎ (Silent s out out' × OfFiles p s a b out out' name image (HasLongFeed which))))
+        → (k ≡ stop.FeedRefused → (which : Plan) × (plan ≡ Some which) × CreatesNone p s a b out out' name image × (SaysHeader p s a b out out' name image which (Puts s out out') ⊎ (Silent s out out' × AtEntry p s a b out out' name image (HasLongFeed which))))
         → SaysOfSave p s a b out out' name image plan
         → (k ≡ stop.WriteFault → Rose (s.faults out) (s.faults out'))
-        → (¬ Rose (p.read_faults a) (p.read_faults b) → ¬ Rose (s.faults out) (s.faults out') → IfSome plan (λ which. OfFiles p s a b out out' name image (λ files. AreTaken which files → IsOrLacks Done (Err k) ⊎ IsOrLacks Refused (Err k))))
+        → (¬ Rose (p.read_faults a) (p.read_faults b) → ¬ Rose (s.faults out) (s.faults out') → IfSome plan (λ which. AtEntry p s a b out out' name image (λ files. AreTaken which files → IsOrLacks Done (Err k) ⊎ IsOrLacks Refused (Err k))))
         → SaveEnds p s a b out out' name image (Err k)
     ended_early plan k leaves plan_is unplanned refused_plan refused said write complete =
-        let stays = same_created a b (name ∷ feeds_of plan) (Some k) leaves in
+        let stays = same_created p a b (name ∷ feeds_of plan) (Some k) leaves in
         record {
           plan = plan;
           plan_is = plan_is;
@@ -138,11 +99,11 @@ module _ {P O : Type 0} (p : PlaceSeen P) (s : SinkSeen O) where
           refused_image = λ e. cc;
           refused = λ e. refused (err_is k stop.FeedRefused e);
           said = said;
-          opened = opened_front a b (name ∷ feeds_of plan) (Some k) leaves;
+          opened = opened_front p a b (name ∷ feeds_of plan) (Some k) leaves;
           created = inl stays;
           created_last = λ e. absurd (not_grown (p.created a) (p.created b) image e stays);
-          others = KeepsOthers-same (p.files a) (p.files b) (image ∷ []) (same_files a b (name ∷ feeds_of plan) (Some k) leaves);
-          untouched = λ e. same_files a b (name ∷ feeds_of plan) (Some k) leaves;
+          others = KeepsOthers-same (p.files a) (p.files b) (image ∷ []) (same_files p a b (name ∷ feeds_of plan) (Some k) leaves);
+          untouched = λ e. same_files p a b (name ∷ feeds_of plan) (Some k) leaves;
           read = λ e. leaves.read (ap (λ l. Some l) (err_is k stop.ReadFault e));
           write = λ e. inr (write (err_is k stop.WriteFault e));
           unsaid = λ e w c. absurd (not_grown (p.created a) (p.created b) image c stays);
@@ -151,23 +112,9 @@ module _ {P O : Type 0} (p : PlaceSeen P) (s : SinkSeen O) where
 
     -- ---- the plan was refused, or was not read
 
-    plan_end : (k : Stop) → (k ≢ stop.WriteFault) × (k ≢ stop.FeedRefused) → (◌≡◌ {A = End} (Err k) (Err stop.NoMemory)) ⊎ (◌≡◌ {A = End} (Err k) (Err stop.ReadFault)) ⊎ (◌≡◌ {A = End} (Err k) (Err stop.PlanRefused))
-    plan_end stop.NoMemory ends = inl refl
-    plan_end stop.PlanRefused ends = inr (inr refl)
-    plan_end stop.ReadFault ends = inr (inl refl)
-    plan_end stop.WriteFault ends = absurd (ends.0 refl)
-    plan_end stop.FeedRefused ends = absurd (ends.1 refl)
-
-    says_plan : (k : Stop) → ReadsPlan s out out' (file_of (p.files a) name) (Err k) → Silent s out out' ⊎ RefusesPlan s out out' (file_of (p.files a) name)
-    says_plan stop.NoMemory r = inl (r.silent (λ e. cc))
-    says_plan stop.PlanRefused r = inr (r.refused refl)
-    says_plan stop.ReadFault r = inl (r.silent (λ e. cc))
-    says_plan stop.WriteFault r = inl (r.silent (λ e. cc))
-    says_plan stop.FeedRefused r = inl (r.silent (λ e. cc))
-
     pub ended_by_plan : (k : Stop) → LeavesPlace p a b (name ∷ []) [] (Some k) → ReadsPlan s out out' (file_of (p.files a) name) (Err k) → SaveEnds p s a b out out' name image (Err k)
     ended_by_plan k leaves reads =
-        ended_early None k leaves tt (λ e. plan_end k reads.ends) (λ e. (refl, reads.refused (ap (λ l. Err l) e))) (λ e. absurd (reads.ends.1 e)) (says_plan k reads) (λ e. absurd (reads.ends.0 e)) (λ r u. tt)
+        ended_early None k leaves tt (λ e. plan_end k reads.ends) (λ e. (refl, reads.refused (ap (λ l. Err l) e))) (λ e. absurd (reads.ends.1 e)) (says_plan s out out' (file_of (p.files a) name) k reads) (λ e. absurd (reads.ends.0 e)) (λ r u. tt)
 
   -- ---- there is a plan
 
@@ -176,7 +123,7 @@ module _ {P O : Type 0} (p : PlaceSeen P) (s : SinkSeen O) where
     quiet = reads.silent (λ e. cc)
 
     same : p.files b ≡ p.files a
-    same = same_files a b (name ∷ []) None leaves
+    same = same_files p a b (name ∷ []) None leaves
 
     -- where the plan's files are told
     told : (files : Files) → p.files a ≡ Some files → p.files b ≡ Some files
@@ -197,11 +144,11 @@ module _ {P O : Type 0} (p : PlaceSeen P) (s : SinkSeen O) where
 
       -- what is said where opening feeds ended so
       says_head : (k : Stop) → OpensFeeds p s pl.schema b c mid out' pl.feeds (Some k) → SaysOfSave p s a c out out' name image (Some pl)
-      says_head stop.NoMemory O = inl (then_silent s out mid out' quiet (O.silent (λ e. cc) (λ e. cc)))
-      says_head stop.PlanRefused O = inl (then_silent s out mid out' quiet (O.silent (λ e. cc) (λ e. cc)))
-      says_head stop.ReadFault O = inl (then_silent s out mid out' quiet (O.silent (λ e. cc) (λ e. cc)))
-      says_head stop.WriteFault O = inr (inl (O.leaves.opens, at_first O.leaves.opens (FailsToPut s mid out') (PutsOrFails p s a c out out' name image) (λ line x. inr (then_fails s out mid out' quiet line x)) (O.unsaid refl)))
-      says_head stop.FeedRefused O = inr (inl (O.leaves.opens, at_first O.leaves.opens (Puts s mid out') (PutsOrFails p s a c out out' name image) (λ line x. inl (then_puts s out mid out' quiet line x)) (O.refused refl)))
+      says_head stop.NoMemory O = inl (silent_after s out mid out' quiet (O.silent (λ e. cc) (λ e. cc)))
+      says_head stop.PlanRefused O = inl (silent_after s out mid out' quiet (O.silent (λ e. cc) (λ e. cc)))
+      says_head stop.ReadFault O = inl (silent_after s out mid out' quiet (O.silent (λ e. cc) (λ e. cc)))
+      says_head stop.WriteFault O = inr (inl (O.leaves.opens, at_first O.leaves.opens (FailsToPut s mid out') (PutsOrFails s out out') (λ line x. inr (fails_after s out mid out' quiet line x)) (O.unsaid refl)))
+      says_head stop.FeedRefused O = inr (inl (O.leaves.opens, at_first O.leaves.opens (Puts s mid out') (PutsOrFails s out out') (λ line x. inl (puts_after s out mid out' quiet line x)) (O.refused refl)))
 
       -- a feed of the plan whose header is refused is none that is taken
       refused_none : (opens unopened : List (List ℕ)) (Says : List ℕ → Type 0) (files : Files) → p.files b ≡ Some files → pl.feeds ≡ opens ++ unopened → RefusesLast pl.schema (file_of (p.files b)) opens Says → AreTaken pl files → ⊥
@@ -209,7 +156,7 @@ module _ {P O : Type 0} (p : PlaceSeen P) (s : SinkSeen O) where
           let among : Contains pl.feeds last.name =
           subst (λ (ns : List (List ℕ)). Contains ns last.name) (sym (are ∙ ap (λ o. o ++ unopened) last.names_are)) (Contains-append_left (last.earlier ++ last.name ∷ []) unopened last.name (Contains-push last.earlier last.name)) in
           let bad : feed_head pl.schema (file_or_empty files last.name) ≡ Err last.refuses.fault = subst (λ (f : Option Files). Told (file_of f last.name) (λ feed. feed_head pl.schema feed ≡ Err last.refuses.fault)) is last.refuses.refused in
-          not_both pl.schema (file_or_empty files last.name) (head_refused pl.schema (file_or_empty files last.name) last.refuses.fault bad)
+          not_both pl.schema (file_or_empty files last.name) (headless_refused pl.schema (file_or_empty files last.name) last.refuses.fault bad)
           (All-contains (λ n. is_feed_refused pl.schema (file_or_empty files n) ≡ false) pl.feeds last.name taken among)
 
       -- what is complete where opening feeds ended so
@@ -217,16 +164,16 @@ module _ {P O : Type 0} (p : PlaceSeen P) (s : SinkSeen O) where
       head_end stop.NoMemory O r u files is taken = inl (inr refl)
       head_end stop.PlanRefused O r u files is taken = absurd (O.ends refl)
       head_end stop.ReadFault O r u files is taken = absurd (r refl)
-      head_end stop.WriteFault O r u files is taken = absurd (u (then_fails s out mid out' quiet _ (O.unsaid refl).refuses.says).faults)
+      head_end stop.WriteFault O r u files is taken = absurd (u (fails_after s out mid out' quiet _ (O.unsaid refl).refuses.says).faults)
       head_end stop.FeedRefused O r u files is taken = absurd (refused_none O.leaves.opens O.leaves.unopened (Puts s mid out') files (told files is) O.leaves.inputs_are (O.refused refl) taken)
 
       pub ended_by_header : (k : Stop) → OpensFeeds p s pl.schema b c mid out' pl.feeds (Some k) → SaveEnds p s a c out out' name image (Err k)
       ended_by_header k O =
           let all : LeavesPlace p a c (name ∷ pl.feeds) [] (Some k) = leaves_then p a b c (name ∷ []) pl.feeds [] (Some k) leaves O.leaves in
           ended_early a c out out' name image (Some pl) k all reads.plan (λ e. cc) (λ e. absurd (O.ends (ap (λ l. Some l) e)))
-          (λ e. (pl, refl, same_created a c (name ∷ pl.feeds) (Some k) all, inl (O.leaves.opens, at_first O.leaves.opens (Puts s mid out') (Puts s out out') (then_puts s out mid out' quiet) (O.refused (ap (λ l. Some l) e)))))
+          (λ e. (pl, refl, same_created p a c (name ∷ pl.feeds) (Some k) all, inl (O.leaves.opens, at_first O.leaves.opens (Puts s mid out') (Puts s out out') (puts_after s out mid out' quiet) (O.refused (ap (λ l. Some l) e)))))
           (says_head k O)
-          (λ e. (then_fails s out mid out' quiet _ (O.unsaid (ap (λ l. Some l) e)).refuses.says).faults)
+          (λ e. (fails_after s out mid out' quiet _ (O.unsaid (ap (λ l. Some l) e)).refuses.says).faults)
           (λ r u. told_of (p.files a) _ (λ files is taken. head_end k O (λ e. r (all.read (ap (λ l. Some l) e))) u files is taken))
 
     -- ---- all feeds were opened
@@ -240,7 +187,7 @@ module _ {P O : Type 0} (p : PlaceSeen P) (s : SinkSeen O) where
       count feed = faults feed.cutter.source
 
       still : Silent s out then
-      still = then_silent s out mid then quiet (opens.silent (λ e. cc) (λ e. cc))
+      still = silent_after s out mid then quiet (opens.silent (λ e. cc) (λ e. cc))
 
       -- both stages
       both : LeavesPlace p a c (name ∷ pl.feeds) [] None
@@ -254,10 +201,10 @@ module _ {P O : Type 0} (p : PlaceSeen P) (s : SinkSeen O) where
         opened_all = back.opened ∙ both.opened ∙ ap (λ ns. p.opened a ++ ns) (sym (all_opened p a c (name ∷ pl.feeds) [] both))
 
         created_none : p.created d ≡ p.created a
-        created_none = back.created ∙ same_created a c (name ∷ pl.feeds) None both
+        created_none = back.created ∙ same_created p a c (name ∷ pl.feeds) None both
 
         files_same : p.files d ≡ p.files a
-        files_same = back.files ∙ same_files a c (name ∷ pl.feeds) None both
+        files_same = back.files ∙ same_files p a c (name ∷ pl.feeds) None both
 
         writes_same : p.write_faults d ≡ p.write_faults a
         writes_same = back.write_faults ∙ both.unwritten (nothing_made p a c (name ∷ pl.feeds) None both)
@@ -268,7 +215,7 @@ module _ {P O : Type 0} (p : PlaceSeen P) (s : SinkSeen O) where
         reads_rose : Any (λ (feed : Feed). Rose 0 (count feed)) read → Rose (p.read_faults a) (p.read_faults d)
         reads_rose any =
             subst (λ (n : ℕ). Rose n (p.read_faults d)) (both.read_quiet (λ e. cc))
-            (rose_by_some (faulty (map count read)) (p.read_faults c) (p.read_faults d) (faulty_some count read any.0 any.1 any.2 any.3 any.4) back.rose)
+            (rose_once (faulty (map count read)) (p.read_faults c) (p.read_faults d) (faulty_some count read any.0 any.1 any.2 any.3 any.4) back.rose)
 
         -- ---- reading them met a fault
 

@@ -1,36 +1,26 @@
 -- Feeds whose headers were read, and whose other lines have these rows.
-use Rattle.std.proofs.Common.{◌≡◌, ◌+◌, ◌<◌, ◌≤◌, ℕ, zero, suc, false, List, [], ◌∷◌, ◌++◌, All, drop, get_or, length, map, Option, Some, option_map, IsSomeAnd, Ok, refl, sym, ap, subst, ◌∙◌, arith}
+use Rattle.std.proofs.Common.{◌≡◌, ◌+◌, ◌<◌, ◌≤◌, ℕ, zero, suc, false, List, [], ◌∷◌, ◌++◌, All, get_or, length, map, Option, Some, option_map, IsSomeAnd, refl, sym, ap, subst, ◌∙◌, arith}
 use Rattle.std.specs.Prelude.{Any, Contains}
 use Rattle.std.specs.List.{AllZip, flat_map}
 use Rattle.std.proofs.lemmas.List.Elements.{All-cons, All-head, All-nil, All-tail, Contains-append_right}
-use Rattle.cube_feeds.specs.Taking.{counts_of, HasRows, IsUnread}
+use Rattle.cube_feeds.specs.Taking.{counts_at_end, HasRows, IsUnread}
 use Rattle.cube_view.specs.declared.schema.Schema.{Schema}
-use Rattle.feed_reader.proofs.FeedLaws.{accepted-lines, head_of_lines-cons, not_refused}
-use Rattle.feed_reader.proofs.FeedStart.{some_told}
-use Rattle.feed_reader.specs.Feeds.{accepted, feed_head, head_of_lines, is_feed_refused, points_in, rows, rows_under}
+use Rattle.feed_reader.proofs.FeedLaws.{accepted-lines, not_refused, rows_read}
+use Rattle.feed_reader.proofs.FeedStart.{new_lines, some_told}
+use Rattle.feed_reader.specs.Feeds.{accepted, is_feed_refused, points_in, rows}
 use Rattle.feed_reader.specs.Rows.{row_of_line}
 use Rattle.feed_reader.specs.declared.row.Row.{Row}
 use Rattle.outer_io.proofs.ToldLaws.{Told-some}
 use Rattle.outer_io.specs.Cutting.{Cutter, IsNew, input_size, lines_left}
-use Rattle.outer_io.specs.Lines.{Line, input_limit, lines, lines_from}
+use Rattle.outer_io.specs.Lines.{input_limit, lines}
 use Rattle.outer_io.specs.Progress.{IsTooLarge}
 use Rattle.run_files.specs.Headed.{IsHeaded}
 use Rattle.run_files.specs.declared.feeds.HeadedFeed.{HeadedFeed}
 use Rattle.run_report.specs.declared.counts.FeedCounts.{FeedCounts}
 
--- the lines that a new cutter has left, and the size of its input
-new_lines : {S : Type 0} (left : S → Option (List ℕ)) (c : Cutter S) (source : S) (bytes : List ℕ) → IsNew source c → left source ≡ Some bytes → lines_left left c ≡ Some (lines bytes)
-new_lines left c source bytes new told = ap (λ k. lines_left left k) new ∙ ap (λ (o : Option (List ℕ)). option_map (lines_from 0 0) (option_map (λ more. [] ++ more) o)) told
-
+-- the size of the input of a new cutter
 new_size : {S : Type 0} (left : S → Option (List ℕ)) (c : Cutter S) (source : S) (bytes : List ℕ) → IsNew source c → left source ≡ Some bytes → input_size left c ≡ Some (0 + length bytes)
 new_size left c source bytes new told = ap (λ k. input_size left k) new ∙ ap (λ (o : Option (List ℕ)). option_map (λ rest. 0 + length rest) (option_map (λ more. [] ++ more) o)) told
-
--- all rows of a feed, by its lines
-rows_read : (schema : Schema) (bytes places : List ℕ) (line : Line) (rest : List Line) → lines bytes ≡ line ∷ rest → head_of_lines schema (line ∷ []) ≡ Ok places → rows schema bytes ≡ map (row_of_line schema places) rest
-unfolding rows feed_head
-rows_read schema bytes places line rest is head =
-    ap (λ (all : List Line). rows_under schema (head_of_lines schema all) (drop 1 all)) is
-    ∙ ap (λ h. rows_under schema h rest) (head_of_lines-cons schema line rest ∙ head)
 
 -- the points among all rows are the accepted records
 accepted_are : (schema : Schema) (bytes : List ℕ) → points_in (rows schema bytes) ≡ accepted schema bytes
@@ -113,7 +103,7 @@ module _ {I : Type 0} (left : I → Option (List ℕ)) (faults : I → ℕ) (sch
 
     -- What is known of feeds that all were read to their ends and have these rows
     pub record AreFed (names : List (List ℕ)) (rss : List (List Row)) : Type 0 where
-      pub counts : map counts_of rss ≡ map (λ name. counts_of (rows schema (bytes name))) names
+      pub counts : map counts_at_end rss ≡ map (λ name. counts_at_end (rows schema (bytes name))) names
       pub points : flat_map points_in rss ≡ flat_map (λ name. accepted schema (bytes name)) names
       pub taken : All IsTaken names
 
@@ -130,7 +120,7 @@ module _ {I : Type 0} (left : I → Option (List ℕ)) (faults : I → ℕ) (sch
         let one = is_fed (bytes n) f r headed.0 read.0 in
         let later = are_fed names feeds rss headed.1 read.1 in
         record {
-          counts = ap (λ (x : List Row). counts_of x ∷ map counts_of rss) one.rows_are ∙ ap (λ (xs : List FeedCounts). counts_of (rows schema (bytes n)) ∷ xs) later.counts;
+          counts = ap (λ (x : List Row). counts_at_end x ∷ map counts_at_end rss) one.rows_are ∙ ap (λ (xs : List FeedCounts). counts_at_end (rows schema (bytes n)) ∷ xs) later.counts;
           points = ap (λ (x : List Row). points_in x ++ flat_map points_in rss) one.rows_are ∙ ap (λ (ps : List _). ps ++ flat_map points_in rss) (accepted_are schema (bytes n)) ∙ ap (λ (ps : List _). accepted schema (bytes n) ++ ps) later.points;
           taken = All-cons IsTaken n names one.taken later.taken;
         }

@@ -13,20 +13,21 @@ use Rattle.image_run.specs.Lines.{image_line}
 use Rattle.image_run.specs.declared.end.ImageEnd.{ImageEnd}
 use Rattle.image_run.specs.declared.end.ImageEnd.TheVariants.{Done, Refused}
 use Rattle.outer_io.proofs.ToldLaws.{Told-both, Told-each}
-use Rattle.outer_io.specs.Bytes.{Gains, GainsPart}
 use Rattle.outer_io.specs.Faults.{Rose}
 use Rattle.outer_io.specs.Files.{Files}
 use Rattle.outer_io.specs.Told.{Told}
+use Rattle.run_files.proofs.Lists.{not_grown}
+use Rattle.run_files.proofs.Putting.{fails_after, puts_after, silent_after}
 use Rattle.run_files.proofs.Stages.{KeepsOthers-after}
 use Rattle.run_files.specs.Leaving.{KeepsOthers}
-use Rattle.run_files.specs.Outside.{FailsToPut, file_of, PlaceSeen, Puts, Silent, SinkSeen}
+use Rattle.run_files.specs.Outside.{FailsToPut, file_of, PlaceSeen, Puts, PutsOrFails, Silent, SinkSeen}
 use Rattle.run_files.specs.Planned.{IsPlanOf}
 use Rattle.run_files.specs.declared.stop.Stop.{Stop}
 use Rattle.run_files.specs.declared.stop.Stop.TheVariants as stop
 use Rattle.run_report.specs.declared.counts.FeedCounts.{FeedCounts}
-use Rattle.save_run.proofs.Lists.{not_grown, take_whole}
-use Rattle.save_run.specs.Ends.{CreatesImage, CreatesNone, IsQuiet, OpensAll, PutsOrFails, SaveEnds, SaysImage, SaysOfSave, SaysTooLong}
-use Rattle.save_run.specs.Saved.{accepted_records, AreTaken, HasImage, HasLongRecords, whole_counts}
+use Rattle.save_run.proofs.Lists.{take_whole}
+use Rattle.save_run.specs.Ends.{CreatesImage, CreatesNone, IsQuiet, OpensAll, SaveEnds, SaysImage, SaysOfSave, SaysTooLong}
+use Rattle.save_run.specs.Saved.{accepted_records, AreTaken, HoldsImage, HasLongRecords, whole_counts}
 use Rattle.save_run.specs.Writing.{FailsToWrite, IsTooLong, MayWrite, SavesCube, SavesImage}
 
 abbrev pub End : Type 0
@@ -38,26 +39,6 @@ pub record IsCubeOf (plan : Plan) (files : Files) (cube : Cube) (counts : List F
   pub counts_are : counts ≡ whole_counts plan files
   pub counted : CubeCounts cube (accepted_records plan files)
   pub records : AreRecords plan.schema (accepted_records plan files)
-
--- ---- a sink into which nothing was put at first
-
-module _ {O : Type 0} (s : SinkSeen O) (a b c : O) (quiet : Silent s a b) where
-  pub then_silent : Silent s b c → Silent s a c
-  then_silent more = record { held = more.held ∙ quiet.held; faults = more.faults ∙ quiet.faults; name = more.name ∙ quiet.name }
-
-  pub then_puts : (bytes : List ℕ) → Puts s b c bytes → Puts s a c bytes
-  then_puts bytes more = record {
-    held = subst (λ (h : Option (List ℕ)). Gains h (s.held c) bytes) quiet.held more.held;
-    faults = more.faults ∙ quiet.faults;
-    name = more.name ∙ quiet.name;
-  }
-
-  pub then_fails : (bytes : List ℕ) → FailsToPut s b c bytes → FailsToPut s a c bytes
-  then_fails bytes more = record {
-    held = subst (λ (h : Option (List ℕ)). GainsPart h (s.held c) bytes) quiet.held more.held;
-    faults = subst (λ (n : ℕ). Rose n (s.faults c)) quiet.faults more.faults;
-    name = more.name ∙ quiet.name;
-  }
 
 module _ {P O : Type 0} (p : PlaceSeen P) (s : SinkSeen O) (a d : P) (out mid : O) (name : List ℕ) (pl : Plan) (cube : Cube) (counts : List FeedCounts) where
   -- The feeds were read, and this is left
@@ -133,7 +114,7 @@ module _ {P O : Type 0} (p : PlaceSeen P) (s : SinkSeen O) (a d : P) (out mid : 
       size = length I.bytes;
       holds = Told-each (p.files a) _ _
           (λ files both.
-          some_each (p.files f) (λ now. get now image ≡ Some I.bytes) (λ now. HasImage pl files now image counts (length I.bytes))
+          some_each (p.files f) (λ now. get now image ≡ Some I.bytes) (λ now. HoldsImage pl files now image counts (length I.bytes))
           (λ now is. record {
             taken = both.0.taken;
             counts_are = both.0.counts_are;
@@ -170,25 +151,25 @@ module _ {P O : Type 0} (p : PlaceSeen P) (s : SinkSeen O) (a d : P) (out mid : 
 
     pub saved : SavesImage p s d f mid out' pl cube counts image (Puts s mid out') → SaveEnds p s a f out out' name image (Ok Done)
     saved I =
-        let said = image_said (Puts s mid out') (Puts s out out') (then_puts s out mid out' S.silent) I in
+        let said = image_said (Puts s mid out') (Puts s out out') (puts_after s out mid out' S.silent) I in
         ends_with (Ok Done) I.writes.keeps (λ e. cc, λ e. cc, λ e. cc)
         (λ e. (said, (I.writes.keeps.read_faults ∙ S.read_faults, I.writes.write_faults ∙ S.write_faults, said.says.faults)))
         (λ e. cc)
-        (inr (inr (inr (image_said (Puts s mid out') (PutsOrFails p s a f out out' name image) (λ line x. inl (then_puts s out mid out' S.silent line x)) I))))
+        (inr (inr (inr (image_said (Puts s mid out') (PutsOrFails s out out') (λ line x. inl (puts_after s out mid out' S.silent line x)) I))))
         (λ e. cc) (λ e. cc)
 
     pub ended_too_long : IsTooLong p s d f mid out' pl cube counts image (Puts s mid out') → SaveEnds p s a f out out' name image (Ok Refused)
     ended_too_long T =
-        let said = too_long_said (Puts s mid out') (Puts s out out') (then_puts s out mid out' S.silent) T in
+        let said = too_long_said (Puts s mid out') (Puts s out out') (puts_after s out mid out' S.silent) T in
         ends_with (Ok Refused) (unwritten T.same) (λ e. cc, λ e. cc, λ e. cc)
         (λ e. cc)
         (λ e. (said, (ap p.read_faults T.same ∙ S.read_faults, ap p.write_faults T.same ∙ S.write_faults, said.says.faults)))
-        (inr (inr (inl (too_long_said (Puts s mid out') (PutsOrFails p s a f out out' name image) (λ line x. inl (then_puts s out mid out' S.silent line x)) T))))
+        (inr (inr (inl (too_long_said (Puts s mid out') (PutsOrFails s out out') (λ line x. inl (puts_after s out mid out' S.silent line x)) T))))
         (λ e. cc) (λ e. cc)
 
     pub ended_lacking : MayWrite p d f image → Silent s mid out' → SaveEnds p s a f out out' name image (Err stop.NoMemory)
     ended_lacking keeps silent =
-        ends_with (Err stop.NoMemory) keeps (λ e. cc, λ e. cc, λ e. cc) (λ e. cc) (λ e. cc) (inl (then_silent s out mid out' S.silent silent)) (λ e. cc) (λ e. cc)
+        ends_with (Err stop.NoMemory) keeps (λ e. cc, λ e. cc, λ e. cc) (λ e. cc) (λ e. cc) (inl (silent_after s out mid out' S.silent silent)) (λ e. cc) (λ e. cc)
 
     -- a count of writing that rose since the feeds were read rose since the start
     rose_since : Rose (p.write_faults d) (p.write_faults f) → Rose (p.write_faults a) (p.write_faults f)
@@ -196,21 +177,21 @@ module _ {P O : Type 0} (p : PlaceSeen P) (s : SinkSeen O) (a d : P) (out mid : 
 
     pub ended_writing : FailsToWrite p s d f mid out' pl cube counts image → SaveEnds p s a f out out' name image (Err stop.WriteFault)
     ended_writing F =
-        ends_with (Err stop.WriteFault) F.keeps (λ e. cc, λ e. cc, λ e. cc) (λ e. cc) (λ e. cc) (inl (then_silent s out mid out' S.silent F.silent)) (λ e. inl (rose_since F.rose)) (λ e w c. absurd (w (rose_since F.rose)))
+        ends_with (Err stop.WriteFault) F.keeps (λ e. cc, λ e. cc, λ e. cc) (λ e. cc) (λ e. cc) (inl (silent_after s out mid out' S.silent F.silent)) (λ e. inl (rose_since F.rose)) (λ e w c. absurd (w (rose_since F.rose)))
 
     pub ended_unsaid : IsTooLong p s d f mid out' pl cube counts image (FailsToPut s mid out') → SaveEnds p s a f out out' name image (Err stop.WriteFault)
     ended_unsaid T =
-        let said = too_long_said (FailsToPut s mid out') (FailsToPut s out out') (then_fails s out mid out' S.silent) T in
+        let said = too_long_said (FailsToPut s mid out') (FailsToPut s out out') (fails_after s out mid out' S.silent) T in
         ends_with (Err stop.WriteFault) (unwritten T.same) (λ e. cc, λ e. cc, λ e. cc) (λ e. cc) (λ e. cc)
-        (inr (inr (inl (too_long_said (FailsToPut s mid out') (PutsOrFails p s a f out out' name image) (λ line x. inr (then_fails s out mid out' S.silent line x)) T))))
+        (inr (inr (inl (too_long_said (FailsToPut s mid out') (PutsOrFails s out out') (λ line x. inr (fails_after s out mid out' S.silent line x)) T))))
         (λ e. inr said.says.faults)
         (λ e w c. absurd (not_grown (p.created a) (p.created f) image c (ap p.created T.same ∙ S.created)))
 
     pub ended_saying : SavesImage p s d f mid out' pl cube counts image (FailsToPut s mid out') → SaveEnds p s a f out out' name image (Err stop.WriteFault)
     ended_saying I =
-        let said = image_said (FailsToPut s mid out') (FailsToPut s out out') (then_fails s out mid out' S.silent) I in
+        let said = image_said (FailsToPut s mid out') (FailsToPut s out out') (fails_after s out mid out' S.silent) I in
         ends_with (Err stop.WriteFault) I.writes.keeps (λ e. cc, λ e. cc, λ e. cc) (λ e. cc) (λ e. cc)
-        (inr (inr (inr (image_said (FailsToPut s mid out') (PutsOrFails p s a f out out' name image) (λ line x. inr (then_fails s out mid out' S.silent line x)) I))))
+        (inr (inr (inr (image_said (FailsToPut s mid out') (PutsOrFails s out out') (λ line x. inr (fails_after s out mid out' S.silent line x)) I))))
         (λ e. inr said.says.faults)
         (λ e w c. said)
 

@@ -10,6 +10,7 @@ use Rattle.outer_io.specs.Files.{Files, ChangesOnly, HasFile}
 use Rattle.outer_io.specs.Told.{Told}
 use Rattle.outer_io.specs.declared.fault.IoFault.{IoFault}
 use Rattle.outer_io.specs.declared.fault.IoFault.TheVariants as fault
+use Rattle.run_files.proofs.Lists.{not_grown}
 use Rattle.run_files.proofs.Stages.{all_made, front_nil, KeepsOthers-itself, KeepsOthers-more}
 use Rattle.run_files.specs.Leaving.{KeepsOthers}
 use Rattle.run_files.specs.Outside.{PlaceSeen, SinkSeen}
@@ -17,7 +18,7 @@ use Rattle.run_files.specs.Scripted.{IsOutput, OpensScripts}
 use Rattle.run_files.specs.Stops.{joined_ends, write_end}
 use Rattle.run_files.specs.declared.stop.Stop.{Stop}
 use Rattle.run_files.specs.declared.stop.Stop.TheVariants as stop
-use Rattle.save_run.proofs.Lists.{not_grown, one_front}
+use Rattle.save_run.proofs.Lists.{one_front}
 use Rattle.save_run.specs.Writing.{MayWrite, WritesFile}
 
 abbrev Answer : Type 0

@@ -11,13 +11,13 @@ use Rattle.outer_io.specs.Files.{Files}
 use Rattle.outer_io.specs.Told.{Told}
 use Rattle.run_files.specs.Headed.{RefusesLast}
 use Rattle.run_files.specs.Leaving.{KeepsOthers}
-use Rattle.run_files.specs.Outside.{FailsToPut, file_of, PlaceSeen, Puts, Silent, SinkSeen}
+use Rattle.run_files.specs.Outside.{FailsToPut, file_of, PlaceSeen, Puts, PutsOrFails, Silent, SinkSeen}
 use Rattle.run_files.specs.Planned.{IsPlanOf, RefusesPlan}
 use Rattle.run_files.specs.declared.stop.Stop.{Stop}
 use Rattle.run_files.specs.declared.stop.Stop.TheVariants.{NoMemory, PlanRefused, ReadFault, WriteFault, FeedRefused}
 use Rattle.run_report.specs.declared.counts.FeedCounts.{FeedCounts}
 use Rattle.save_run.specs.Lines.{saved_text}
-use Rattle.save_run.specs.Saved.{AreTaken, HasImage, HasLongFeed, HasLongRecords}
+use Rattle.save_run.specs.Saved.{AreTaken, HoldsImage, HasLongFeed, HasLongRecords}
 
 -- the feeds of a plan, none without one
 abbrev pub feeds_of : Option Plan → List (List ℕ)
@@ -27,12 +27,12 @@ feeds_of (Some plan) = plan.feeds
 -- what saving the feeds of the named plan under the name of an image leaves of a place and a sink
 module _ {P O : Type 0} (p : PlaceSeen P) (s : SinkSeen O) (place place' : P) (out out' : O) (name image : List ℕ) where
   -- the claim holds of the files before, where the place tells them
-  abbrev pub OfFiles : (Files → Type 0) → Type 0
-  OfFiles Claim = Told (p.files place) Claim
+  abbrev pub AtEntry : (Files → Type 0) → Type 0
+  AtEntry Claim = Told (p.files place) Claim
 
   -- and of the files before and after
-  abbrev pub OfBothFiles : (Files → Files → Type 0) → Type 0
-  OfBothFiles Claim = Told (p.files place) (λ files. IsSomeAnd (p.files place') (Claim files))
+  abbrev pub AtEntryAndExit : (Files → Files → Type 0) → Type 0
+  AtEntryAndExit Claim = Told (p.files place) (λ files. IsSomeAnd (p.files place') (Claim files))
 
   -- all that is read was opened, once and in order
   abbrev pub OpensAll : Plan → Type 0
@@ -57,29 +57,25 @@ module _ {P O : Type 0} (p : PlaceSeen P) (s : SinkSeen O) (place place' : P) (o
     -- what is counted of the feeds, and how many bytes the image has
     pub counts : List FeedCounts
     pub size : ℕ
-    pub holds : OfBothFiles (λ files files'. HasImage plan files files' image counts size)
+    pub holds : AtEntryAndExit (λ files files'. HoldsImage plan files files' image counts size)
     pub says : Says (saved_text plan counts size)
 
   -- The image has too many bytes, of which this is said
   pub record SaysTooLong (plan : Plan) (Says : List ℕ → Type 0) : Type 0 where
     pub opened : OpensAll plan
     pub created : CreatesNone
-    pub long : OfFiles (HasLongRecords plan)
+    pub long : AtEntry (HasLongRecords plan)
     pub says : Says (image_line image_fault.TooLong)
 
   -- the feed that was opened last has no header, of which this is said
   abbrev pub SaysHeader : Plan → (List ℕ → Type 0) → Type 0
   SaysHeader plan Says = (opens : List (List ℕ)) × RefusesLast plan.schema (file_of (p.files place)) opens Says
 
-  -- a text was put, or a part of it where the put failed
-  abbrev pub PutsOrFails : List ℕ → Type 0
-  PutsOrFails text = Puts s out out' text ⊎ FailsToPut s out out' text
-
   -- what is put: nothing, or the line of a refused plan, or that of a refused feed, or that of an image that is too long,
   -- or what is said of the image, or a part of one of these
   abbrev pub SaysOfSave : Option Plan → Type 0
   SaysOfSave None = Silent s out out' ⊎ RefusesPlan s out out' (file_of (p.files place) name)
-  SaysOfSave (Some plan) = Silent s out out' ⊎ SaysHeader plan PutsOrFails ⊎ SaysTooLong plan PutsOrFails ⊎ SaysImage plan PutsOrFails
+  SaysOfSave (Some plan) = Silent s out out' ⊎ SaysHeader plan (PutsOrFails s out out') ⊎ SaysTooLong plan (PutsOrFails s out out') ⊎ SaysImage plan (PutsOrFails s out out')
 
   -- How it ends
   pub record SaveEnds (result : Result ImageEnd Stop) : Type 0 where
@@ -95,14 +91,14 @@ module _ {P O : Type 0} (p : PlaceSeen P) (s : SinkSeen O) (place place' : P) (o
     -- with Refused the image has too many bytes, which was said, and no call failed
     pub refused_image : result ≡ Ok Refused → (which : Plan) × (plan ≡ Some which) × SaysTooLong which (Puts s out out') × IsQuiet
     -- a feed is refused only where it has no header, which is said, or has more than 2^30 bytes, and then nothing is created
-    pub refused : result ≡ Err FeedRefused → (which : Plan) × (plan ≡ Some which) × CreatesNone × (SaysHeader which (Puts s out out') ⊎ (Silent s out out' × OfFiles (HasLongFeed which)))
+    pub refused : result ≡ Err FeedRefused → (which : Plan) × (plan ≡ Some which) × CreatesNone × (SaysHeader which (Puts s out out') ⊎ (Silent s out out' × AtEntry (HasLongFeed which)))
     -- of what is put nothing else comes
     pub said : SaysOfSave plan
     -- the plan was opened, and then its feeds, each once at most
     pub opened : (k : ℕ) × (p.opened place' ≡ p.opened place ++ take k (name ∷ feeds_of plan))
     -- the image was created, once at most, and only where all feeds were read to their ends
     pub created : CreatesNone ⊎ CreatesImage
-    pub created_last : CreatesImage → (which : Plan) × (plan ≡ Some which) × OpensAll which × OfFiles (AreTaken which)
+    pub created_last : CreatesImage → (which : Plan) × (plan ≡ Some which) × OpensAll which × AtEntry (AreTaken which)
     -- every other file is as before, and that too where it was not created
     pub others : KeepsOthers (p.files place) (p.files place') (image ∷ [])
     pub untouched : CreatesNone → p.files place' ≡ p.files place
@@ -114,4 +110,4 @@ module _ {P O : Type 0} (p : PlaceSeen P) (s : SinkSeen O) (place place' : P) (o
     pub unsaid : result ≡ Err WriteFault → ¬ Rose (p.write_faults place) (p.write_faults place') → CreatesImage → (which : Plan) × (plan ≡ Some which) × SaysImage which (FailsToPut s out out')
     -- where there is a plan, no feed is refused and no count rose, the image is written or has too many bytes, or memory was wanted
     pub complete : ¬ Rose (p.read_faults place) (p.read_faults place') → ¬ Rose (p.write_faults place) (p.write_faults place') → ¬ Rose (s.faults out) (s.faults out')
-        → IfSome plan (λ which. OfFiles (λ files. AreTaken which files → IsOrLacks Done result ⊎ IsOrLacks Refused result))
+        → IfSome plan (λ which. AtEntry (λ files. AreTaken which files → IsOrLacks Done result ⊎ IsOrLacks Refused result))

@@ -2,7 +2,7 @@
 use Rattle.std.specs.Prelude.{◌≡◌, ℕ, ◌<◌, false, List, All, Contains, length, map, Some}
 use Rattle.std.specs.FinMap.{get}
 use Rattle.std.specs.List.{flat_map}
-use Rattle.cube_feeds.specs.Taking.{counts_of}
+use Rattle.cube_feeds.specs.Taking.{counts_at_end}
 use Rattle.cube_schema.specs.declared.plan.Plan.{Plan}
 use Rattle.cube_view.specs.Points.{Point}
 use Rattle.feed_reader.specs.Feeds.{accepted, is_feed_refused, rows}
@@ -18,7 +18,7 @@ module _ (plan : Plan) (files : Files) where
 
   -- what is counted of all rows of each of them
   abbrev pub whole_counts : List FeedCounts
-  whole_counts = map (λ name. counts_of (rows plan.schema (file_or_empty files name))) plan.feeds
+  whole_counts = map (λ name. counts_at_end (rows plan.schema (file_or_empty files name))) plan.feeds
 
   -- no feed of the plan is refused, by its header or its length
   abbrev pub AreTaken : Type 0
@@ -35,7 +35,7 @@ module _ (plan : Plan) (files : Files) where
 
   -- No feed is refused, and afterwards the file of that name is the image of a cube of their records, of so many bytes;
   -- what is counted of the feeds is this
-  pub record HasImage (files' : Files) (image : List ℕ) (counts : List FeedCounts) (size : ℕ) : Type 0 where
+  pub record HoldsImage (files' : Files) (image : List ℕ) (counts : List FeedCounts) (size : ℕ) : Type 0 where
     pub taken : AreTaken
     pub counts_are : counts ≡ whole_counts
     pub bytes : List ℕ

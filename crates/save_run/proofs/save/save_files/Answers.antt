@@ -5,7 +5,8 @@ use Rattle.run_files.specs.Headed.{IsHeaded, OpensFeeds}
 use Rattle.run_files.specs.Outside.{file_of, seen_place, seen_sink}
 use Rattle.run_files.specs.declared.stop.Stop.{Stop}
 use Rattle.run_report.specs.declared.counts.FeedCounts.{FeedCounts}
-use Rattle.save_run.proofs.Ending.{residual_is, ended_by_header, ended_by_plan, ended_reading, stood_reading}
+use Rattle.save_run.proofs.Ending.{ended_by_header, ended_by_plan, ended_reading, stood_reading}
+use Rattle.run_files.proofs.Apart.{residual_is}
 use Rattle.save_run.proofs.Fed.{all_unread, few_feeds}
 use Rattle.save_run.proofs.Stood.{ended_by_cube}
 use Rattle.save_run.specs.Ends.{SaveEnds}

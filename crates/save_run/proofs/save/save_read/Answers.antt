@@ -2,7 +2,7 @@ use Rattle.std.proofs.Common.{ℕ, List, ap, Result, Err, refl, sym, subst}
 use Rattle.run_files.specs.Outside.{Puts, seen_place, seen_sink}
 use Rattle.run_files.specs.declared.stop.Stop.{Stop}
 use Rattle.image_run.specs.declared.end.ImageEnd.{ImageEnd}
-use Rattle.save_run.proofs.Ending.{residual_is}
+use Rattle.run_files.proofs.Apart.{residual_is}
 use Rattle.save_run.proofs.Saving.{image_unsaid, long_unsaid}
 use Rattle.save_run.specs.Lines.{saved_text}
 use Rattle.save_run.specs.Writing.{PutsText, SavesCube, Writes}

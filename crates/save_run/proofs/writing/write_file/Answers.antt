@@ -3,7 +3,7 @@ use Rattle.run_files.specs.Outside.{seen_place, seen_sink}
 use Rattle.run_files.specs.Stops.{joined_ends}
 use Rattle.run_files.specs.declared.stop.Stop.{Stop}
 use Rattle.save_run.specs.Writing.{WritesFile}
-use Rattle.save_run.proofs.Ending.{residual_is}
+use Rattle.run_files.proofs.Apart.{residual_is}
 use Rattle.save_run.proofs.Written.{not_created, written}
 use Rattle.save_run.proofs.writing.write_file.Goals as goal
 
