@@ -8,7 +8,7 @@ use Rattle.node_arena.specs.Stats.{AllRising}
 use Rattle.image_shape.proofs.Core.{IsApart}
 
 -- a label that all labels are above has no child
-none_below : (kids : Children) (l : ℕ) → ((i : ℕ) (d : ℕ × Link) → i < length kids → l < (get_or kids i d).0) → child kids l ≡ None
+pub none_below : (kids : Children) (l : ℕ) → ((i : ℕ) (d : ℕ × Link) → i < length kids → l < (get_or kids i d).0) → child kids l ≡ None
 none_below [] l above = refl
 none_below (k ∷ kids) l above =
     let lt = above 0 k (omega arith) in

@@ -1,11 +1,11 @@
 -- The conditions give the shape of a cube of the slots' own bag, and any cube's shape gives the conditions.
 use Rattle.std.proofs.Common.{◌≡◌, ◌⊎◌, inl, inr, ℕ, zero, suc, ◌<◌, ◌≤◌, Bool, true, false, cond, List, [], ◌∷◌, ◌++◌, length, map, Some, Contains, All, refl, sym, ap, ap₂, ◌∙◌, subst, arith}
-use Rattle.std.proofs.lemmas.List.{nil_from_length}
+use Rattle.std.proofs.lemmas.List.{nil_from_length, map-append}
 use Rattle.std.specs.FinMap.{entries, len-entries, len-empty}
 use Rattle.std.specs.Ordering.{nat_cmp}
-use Rattle.std.proofs.lemmas.List.Elements.{All-nil, All-cons, All-head, All-tail, All-append}
+use Rattle.std.proofs.lemmas.List.Elements.{All-nil, All-cons, All-head, All-tail, All-append, Contains-append_cases}
 use Rattle.cube_view.specs.Walks.{down, across, Walk, SpotPath}
-use Rattle.cube_view.proofs.Walking.{under-some, Contains-cons, Contains-head, Contains-cases}
+use Rattle.cube_view.proofs.Walking.{under-some}
 use Rattle.node_arena.specs.Amounts.{Weighted, spots_in, amount_under}
 use Rattle.node_arena.specs.Shape.{home_of, HasShape}
 use Rattle.node_arena.specs.Slots.{Slot, node, table, empty_node, slot_of, counts_of, IsTable}
@@ -25,7 +25,8 @@ first_left : (dims : ℕ) (levels : List ℕ) → EndsWithTime dims levels → (
 first_left dims [] T = let a = T.size in let b = T.some in absurd (omega (arith, a, b))
 first_left dims (n ∷ levels) T = (record { rest = n; later = levels }, refl)
 
-nothing_later : (xs : List (List ℕ)) → map (λ path. length path) xs ≡ [] → xs ≡ []
+-- without lengths there are no paths
+pub nothing_later : (xs : List (List ℕ)) → map (λ path. length path) xs ≡ [] → xs ≡ []
 nothing_later [] x = refl
 nothing_later (y ∷ xs) x = absurd cc
 
@@ -68,6 +69,10 @@ lengths_along levels (across ∷ a) path later w e = let b = level_begun (left l
         go [] z = absurd cc
         go (n ∷ ls) z = let t : record { rest = n; later = ls } ≡ record { rest = length path; later = map (λ p. length p) later } = cc in ap (λ (v : Levels). v.rest ∷ v.later) t
 
+-- a spot of two lists is in one of them
+pub in_either : (h k : List Weighted) (q : SpotPath) → Contains (spots_in (h ++ k)) q → Contains (spots_in h) q ⊎ Contains (spots_in k) q
+in_either h k q c = Contains-append_cases (spots_in h) (spots_in k) q (subst (λ (qs : List SpotPath). Contains qs q) (map-append (λ (w : Weighted). w.spot) h k) c)
+
 module _ (levels : List ℕ) (slots : List Slot) (homes : List Walk) where
   abbrev rows : ℕ → List Weighted
   rows i = rows_at levels (home_of homes i) (slot_of slots i)
@@ -79,20 +84,8 @@ module _ (levels : List ℕ) (slots : List Slot) (homes : List Walk) where
   -- a spot of the rows is one of a slot
   spot_from : (n : ℕ) (q : SpotPath) → Contains (spots_in (joined rows n)) q → (i : ℕ) × (i < n) × Contains (spots_in (rows i)) q
   spot_from zero q c = absurd (omega (arith, c.1))
-  spot_from (suc n) q c = go (split (joined rows n) (rows n) q c) (λ d. spot_from n q d)
+  spot_from (suc n) q c = go (in_either (joined rows n) (rows n) q c) (λ d. spot_from n q d)
     where
-      split : (h k : List Weighted) (q : SpotPath) → Contains (spots_in (h ++ k)) q → Contains (spots_in h) q ⊎ Contains (spots_in k) q
-      split [] k q c = inr c
-      split (w ∷ h) k q c = pick (Contains-cases (spots_in (h ++ k)) w.spot q c) (λ d. split h k q d)
-        where
-          pick : (w.spot ≡ q) ⊎ Contains (spots_in (h ++ k)) q → (Contains (spots_in (h ++ k)) q → Contains (spots_in h) q ⊎ Contains (spots_in k) q) → Contains (spots_in (w ∷ h)) q ⊎ Contains (spots_in k) q
-          pick (inl e) rest = inl (subst (λ (z : SpotPath). Contains (spots_in (w ∷ h)) z) e (Contains-head (spots_in h) w.spot))
-          pick (inr d) rest = on (rest d)
-            where
-              on : Contains (spots_in h) q ⊎ Contains (spots_in k) q → Contains (spots_in (w ∷ h)) q ⊎ Contains (spots_in k) q
-              on (inl x) = inl (Contains-cons (spots_in h) w.spot q x)
-              on (inr x) = inr x
-
       go : Contains (spots_in (joined rows n)) q ⊎ Contains (spots_in (rows n)) q → (Contains (spots_in (joined rows n)) q → (i : ℕ) × (i < n) × Contains (spots_in (rows i)) q) → (i : ℕ) × (i < suc n) × Contains (spots_in (rows i)) q
       go (inl d) rest = let r = rest d in (r.0, (let lt = r.1 in omega (arith, lt)), r.2)
       go (inr d) rest = (n, omega arith, d)

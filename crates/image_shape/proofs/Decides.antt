@@ -10,7 +10,7 @@ use Rattle.node_arena.specs.Slots.{proper, Slot, empty_node, slot_of, children_o
 use Rattle.node_arena.specs.Stats.{AllRising}
 use Rattle.node_arena.proofs.Reaching.{walk_home}
 use Rattle.image_shape.specs.Levels.{Levels, left, no_levels, label_counts}
-use Rattle.image_shape.specs.Local.{HasLevels, HasCountBelow, IsLocal}
+use Rattle.image_shape.specs.Local.{HasLevels, IsLocal, AllHaveLevels, AllHaveCounts, AllContentsMerge}
 use Rattle.image_shape.specs.Ways.{Way, along, count_below, IsFinest, Merges}
 use Rattle.image_shape.proofs.Listed.{joined, ListsRows}
 use Rattle.image_shape.proofs.Apart.{all_apart}
@@ -18,6 +18,20 @@ use Rattle.image_shape.proofs.Back.{found_counts, left_along, shape_merges}
 use Rattle.image_shape.proofs.Core.{HasAmounts, no_step, counted}
 use Rattle.image_shape.proofs.Local.{levels_of, left_spot, own_way, local_shaped}
 use Rattle.image_shape.proofs.Root.{root_tells}
+
+-- a spot lies under the home of each slot but the root
+pub under_home : (dims : ℕ) (slots : List Slot) (homes : List Walk) (h : List Weighted) → HasShape dims slots homes h → (j : ℕ) → 0 < j → j < length slots → HasSpot (spots_in h) (home_of homes j)
+under_home dims slots homes h S j some l =
+    let o = S.has_homes.owner j some l in
+    let w = S.holds.wanted o.by o.step (proper j) o.owns in
+    let e = (S.has_homes.at_home o.by j o.step o.owns).1 in
+    subst (HasSpot (spots_in h)) (sym e) w
+
+-- where there is no slot nothing is counted, so it merges
+pub merges_past : (slots : List Slot) (i : ℕ) (way : Way) (bin : ℕ) → length slots ≤ i → Merges slots i way bin
+merges_past slots i way bin l =
+    let e : slot_of slots i ≡ empty_node = get_or-eq_default slots empty_node l in
+    no_step slots i across way bin (ap (λ (s : Slot). link s across) e) ∙ sym (ap (λ (s : Slot). sum_by (λ k. count_below slots i (down k.0 ∷ across ∷ way) bin) (children_of s)) e)
 
 module _ (dims : ℕ) (levels : List ℕ) (first : Levels) (begins_at : left levels [] ≡ Some first) (time : (a : Walk) (c : Levels) → left levels a ≡ Some c → (dimension a ≡ dims) ↔ (c ≡ no_levels)) where
   ends : (a : Walk) → left levels a ≡ Some (record { rest = 0; later = [] }) → dimension a ≡ dims
@@ -33,28 +47,20 @@ module _ (dims : ℕ) (levels : List ℕ) (first : Levels) (begins_at : left lev
 
   -- the other: of any list
   module _ (slots : List Slot) (homes : List Walk) (h : List Weighted) (S : HasShape dims slots homes h) (heavy : HasAmounts h) (spots : (q : SpotPath) → Contains (spots_in h) q → label_counts q ≡ levels) (rising : AllRising slots) where
-    -- a spot lies under the home of each slot but the root
-    under_home : (j : ℕ) → 0 < j → j < length slots → HasSpot (spots_in h) (home_of homes j)
-    under_home j some l =
-        let o = S.has_homes.owner j some l in
-        let w = S.holds.wanted o.by o.step (proper j) o.owns in
-        let e = (S.has_homes.at_home o.by j o.step o.owns).1 in
-        record { spot = w.spot; is_in = w.is_in; lies = subst (Under w.spot) (sym e) w.lies }
-
     spot_left : (a : Walk) (w : HasSpot (spots_in h) a) → HasLevels levels a
     spot_left a w =
         let s = under-some w.spot a w.lies in
         record { levels_left = levels_of s.0; is = ap (λ (z : List ℕ). left z a) (sym (spots w.spot w.is_in)) ∙ left_spot w.spot a s.0 s.1 }
 
-    within : (i : ℕ) → i < length slots → HasLevels levels (home_of homes i)
+    within : AllHaveLevels levels slots homes
     within zero l = record { levels_left = first; is = ap (left levels) S.has_homes.root ∙ begins_at }
-    within (suc i) l = spot_left (home_of homes (suc i)) (under_home (suc i) (omega arith) l)
+    within (suc i) l = spot_left (home_of homes (suc i)) (under_home dims slots homes h S (suc i) (omega arith) l)
 
-    filled : (j : ℕ) → 0 < j → j < length slots → HasCountBelow levels slots homes j
+    filled : AllHaveCounts levels slots homes
     filled j some l = record { way = way.0; bin = w.spot.bin; finest = finest; some = count }
       where
         w : HasSpot (spots_in h) (home_of homes j)
-        w = under_home j some l
+        w = under_home dims slots homes h S j some l
 
         s : (c : Cursor) × (cursor w.spot (home_of homes j) ≡ Some c)
         s = under-some w.spot (home_of homes j) w.lies
@@ -77,14 +83,12 @@ module _ (dims : ℕ) (levels : List ℕ) (first : Levels) (begins_at : left lev
             let n = counted w.spot (along (home_of homes j) way.0) h heavy w.is_in way.2 in
             omega (arith, f, n)
 
-    merges : (i n m : ℕ) (later : List ℕ) → left levels (home_of homes i) ≡ Some (record { rest = suc n; later = m ∷ later }) → (way : Way) → IsFinest m later way → (bin : ℕ) → Merges slots i way bin
+    merges : AllContentsMerge levels slots homes
     merges i n m later at way f bin = go (cases_lt i (length slots))
       where
         go : (i < length slots) ⊎ (length slots ≤ i) → Merges slots i way bin
         go (inl l) = shape_merges dims levels slots homes h S.shaped spots ends i n m later l at (all_apart slots rising i) way f bin
-        go (inr l) =
-            let e : slot_of slots i ≡ empty_node = get_or-eq_default slots empty_node l in
-            no_step slots i across way bin (ap (λ (s : Slot). link s across) e) ∙ sym (ap (λ (s : Slot). sum_by (λ k. count_below slots i (down k.0 ∷ across ∷ way) bin) (children_of s)) e)
+        go (inr l) = merges_past slots i way bin l
 
     pub shape_is_local : IsLocal dims levels slots homes
     shape_is_local = record {

@@ -5,7 +5,7 @@ use Rattle.cube_view.proofs.Walking.{begun, Contains-cons, Contains-head, under-
 use Rattle.node_arena.specs.declared.link.Link.{Link}
 use Rattle.node_arena.specs.Amounts.{Weighted, spots_in, amount_under}
 use Rattle.node_arena.specs.Slots.{proper, target, Slot, link_of}
-use Rattle.node_arena.specs.Shape.{home_of, IsLinked, IsShaped}
+use Rattle.node_arena.specs.Shape.{home_of, IsLinked, IsShaped, HasHomes}
 use Rattle.node_arena.proofs.Linked.{linked-lt}
 use Rattle.node_arena.proofs.Reaching.{link_coarser, target-lt}
 use Rattle.image_shape.specs.Levels.{Levels, level_down, level_across, level_step, then_level, left, label_counts}
@@ -88,6 +88,14 @@ finer_root top e = refl
 finer_root (by_down f) e = absurd cc
 finer_root (by_across f) e = absurd cc
 finer_root (longer f) e = absurd cc
+
+-- no link leads to the root
+pub after_root : (slots : List Slot) (homes : List Walk) → HasHomes slots homes → (i : ℕ) (e : Step) (k : Link) → link_of slots i e ≡ Some k → 0 < target k
+after_root slots homes H i e k o = go (target k) refl
+  where
+    go : (t : ℕ) → target k ≡ t → 0 < target k
+    go zero z = let x : e ∷ home_of homes i ≡ [] = finer_root (link_coarser slots homes H i e k o) (ap (home_of homes) z ∙ H.root) in absurd cc
+    go (suc t) z = omega (arith, z)
 
 -- where some are counted there is a spot
 present : (h : List Weighted) (a : Walk) (bin : ℕ) → 0 < amount_under h a bin → HasSpot (spots_in h) a
@@ -187,17 +195,10 @@ module _ (dims : ℕ) (levels : List ℕ) (slots : List Slot) (homes : List Walk
       let b = level_begun (left levels (home_of homes i)) e c.levels_left at in
       (c.levels_left, c.is, at, step_tells i (home_of homes i) e b.0 c.levels_left k refl b.1 (tells i (linked-lt slots i e k o) b.0 b.1) b.2 o)
 
-  after_root : (i : ℕ) (e : Step) (k : Link) → link_of slots i e ≡ Some k → 0 < target k
-  after_root i e k o = go (target k) refl
-    where
-      go : (t : ℕ) → target k ≡ t → 0 < target k
-      go zero z = let x : e ∷ home_of homes i ≡ [] = finer_root (link_coarser slots homes L.has_homes i e k o) (ap (home_of homes) z ∙ L.has_homes.root) in absurd cc
-      go (suc t) z = omega (arith, z)
-
   wanted : (i : ℕ) (e : Step) (k : Link) → link_of slots i e ≡ Some k → HasSpot (spots_in h) (e ∷ home_of homes i)
   wanted i e k o =
       let c = at_link i e k o in
-      let f = L.filled (target k) (after_root i e k o) (target-lt slots homes L.has_homes i e k o) in
+      let f = L.filled (target k) (after_root slots homes L.has_homes i e k o) (target-lt slots homes L.has_homes i e k o) in
       let t = c.3 f.way (f.finest c.0 c.1) f.bin in
       let s = f.some in
       let p = present h (along (e ∷ home_of homes i) f.way) f.bin (omega (arith, t, s)) in

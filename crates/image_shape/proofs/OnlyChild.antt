@@ -1,5 +1,5 @@
 -- Nodes with one child.
-use Rattle.std.proofs.Common.{◌≡◌, ◌↔◌, ◌⊎◌, inl, inr, ℕ, zero, suc, ◌<◌, Bool, true, false, not, ◌&&◌, cond, eqb, eqb-true, eq-eqb, ne_eqb, List, [], ◌∷◌, length, Option, Some, None, refl, sym, ap, ap₂, ◌∙◌, subst, arith}
+use Rattle.std.proofs.Common.{◌≡◌, ◌↔◌, ◌⊎◌, inl, inr, ℕ, ◌<◌, Bool, true, false, not, ◌&&◌, cond, eqb, eqb-true, eq-eqb, ne_eqb, List, [], ◌∷◌, length, Option, Some, None, refl, sym, ap, ap₂, ◌∙◌, subst, arith}
 use Rattle.cube_view.specs.Walks.{Step, down, across}
 use Rattle.node_arena.specs.declared.link.Link.{Link}
 use Rattle.node_arena.specs.Calls.{only_link}
@@ -39,37 +39,37 @@ module _ (slots : List Slot) (i : ℕ) where
   shares_alone R e label l H = absurd (not_one (children_of (slot_of slots i)) R e label l (sym (at_label label) ∙ H.is) (λ m k z. H.only m k (at_label m ∙ z)))
 
   module _ (c : Link) (one : only_link (children_of (slot_of slots i)) ≡ Some c) where
-    found : (label : ℕ) × (children_of (slot_of slots i) ≡ (label, c) ∷ [])
-    found = one_of (children_of (slot_of slots i)) c one
+    pub alone : (label : ℕ) × (children_of (slot_of slots i) ≡ (label, c) ∷ [])
+    alone = one_of (children_of (slot_of slots i)) c one
 
     -- the label of a child is the one child's
-    its_label : (m : ℕ) (k : Link) → link_of slots i (down m) ≡ Some k → (m ≡ found.0) × (k ≡ c)
-    its_label m k z = pick (eqb found.0 m) refl (sym (at_label m ∙ ap (λ (ks : Children). child ks m) found.1) ∙ z)
+    its_label : (m : ℕ) (k : Link) → link_of slots i (down m) ≡ Some k → (m ≡ alone.0) × (k ≡ c)
+    its_label m k z = pick (eqb alone.0 m) refl (sym (at_label m ∙ ap (λ (ks : Children). child ks m) alone.1) ∙ z)
       where
-        pick : (b : Bool) → eqb found.0 m ≡ b → cond b (Some c) None ≡ Some k → (m ≡ found.0) × (k ≡ c)
-        pick true e f = (sym (eqb-true found.0 m e), cc)
+        pick : (b : Bool) → eqb alone.0 m ≡ b → cond b (Some c) None ≡ Some k → (m ≡ alone.0) × (k ≡ c)
+        pick true e f = (sym (eqb-true alone.0 m e), cc)
         pick false e f = absurd cc
 
-    has_one : HasOneChild slots i found.0 c
+    pub has_one : HasOneChild slots i alone.0 c
     has_one = record {
-      is = at_label found.0 ∙ (ap (λ (ks : Children). child ks found.0) found.1 ∙ ap (λ (b : Bool). cond {A = Option Link} b (Some c) None) (eq-eqb found.0 found.0 refl));
+      is = at_label alone.0 ∙ (ap (λ (ks : Children). child ks alone.0) alone.1 ∙ ap (λ (b : Bool). cond {A = Option Link} b (Some c) None) (eq-eqb alone.0 alone.0 refl));
       only = λ m k z. (its_label m k z).0;
     }
 
     pub child_within : LeadsWithin slots → target c < length slots
-    child_within W = W i (down found.0) c has_one.is
+    child_within W = W i (down alone.0) c has_one.is
 
     from_one : SharesContent slots i c → SharesAt slots i
     from_one S label l H = subst (SharesContent slots i) (sym (its_label label l H.is).1) S
 
     pub no_content : link_of slots (target c) across ≡ None → SharesAt slots i → ⊥
-    no_content none S = let s = S found.0 c has_one in let e = sym none ∙ s.of_child in let z : None ≡ Some s.content = e in absurd cc
+    no_content none S = let s = S alone.0 c has_one in let e = sym none ∙ s.of_child in let z : None ≡ Some s.content = e in absurd cc
 
     pub no_own : link_of slots i across ≡ None → SharesAt slots i → ⊥
-    no_own none S = let s = S found.0 c has_one in let z : None ≡ Some (shared (target s.content)) = sym none ∙ s.of_node in absurd cc
+    no_own none S = let s = S alone.0 c has_one in let z : None ≡ Some (shared (target s.content)) = sym none ∙ s.of_node in absurd cc
 
     pub shares_test : (below own : Link) (b : Bool) → link_of slots (target c) across ≡ Some below → link_of slots i across ≡ Some own → b ≡ (not (is_proper own) && eqb (target own) (target below)) → (b ≡ true) ↔ SharesAt slots i
-    shares_test below own b of_child of_node is = (λ yes. from_one (forth (sym is ∙ yes)), λ S. is ∙ back (S found.0 c has_one))
+    shares_test below own b of_child of_node is = (λ yes. from_one (forth (sym is ∙ yes)), λ S. is ∙ back (S alone.0 c has_one))
       where
         forth : (not (is_proper own) && eqb (target own) (target below)) ≡ true → SharesContent slots i c
         forth t = record {

@@ -17,7 +17,7 @@ use Rattle.image_shape.proofs.Core.{Tells, one_under, absent}
 use Rattle.image_shape.proofs.Local.{level_begun}
 
 -- a finest way leads to a whole address
-along_whole : (levels : List ℕ) (a : Walk) (n : ℕ) (later : List ℕ) (way : Way) → IsWhole levels a → left levels a ≡ Some (record { rest = n; later = later }) → IsFinest n later way → IsWhole levels (along a way)
+pub along_whole : (levels : List ℕ) (a : Walk) (n : ℕ) (later : List ℕ) (way : Way) → IsWhole levels a → left levels a ≡ Some (record { rest = n; later = later }) → IsFinest n later way → IsWhole levels (along a way)
 along_whole levels a n later [] w at f = w
 along_whole levels a n later (down l ∷ way) w at f =
     along_whole levels (down l ∷ a) f.0 later way w (ap (λ (o : Option Levels). then_level o (down l)) at ∙ ap (λ (x : ℕ). level_step (down l) (record { rest = x; later = later })) f.1) f.2
@@ -25,7 +25,7 @@ along_whole levels a n later (across ∷ way) w at f =
     along_whole levels (across ∷ a) f.0 f.1 way (w, later, at ∙ ap (λ (x : ℕ). Some (record { rest = x; later = later })) f.2) (ap (λ (o : Option Levels). then_level o across) at ∙ ap (λ (x : List ℕ). level_step across (record { rest = n; later = x })) f.3) f.4
 
 -- nothing is finer than a whole address but itself
-finer_whole : {loose : Bool} {a b : Walk} (levels : List ℕ) → Finer loose a b → IsWhole levels a → (c d : Levels) → left levels a ≡ Some c → left levels b ≡ Some d → (loose ≡ true → c.rest ≡ 0) → a ≡ b
+pub finer_whole : {loose : Bool} {a b : Walk} (levels : List ℕ) → Finer loose a b → IsWhole levels a → (c d : Levels) → left levels a ≡ Some c → left levels b ≡ Some d → (loose ≡ true → c.rest ≡ 0) → a ≡ b
 finer_whole levels top w c d x y z = refl
 finer_whole levels (by_down {l = l} {a = a} {b = b} f) w c d x y z =
     let s = level_begun (left levels a) (down l) c x in let t = level_begun (left levels b) (down l) d y in

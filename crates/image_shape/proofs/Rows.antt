@@ -1,16 +1,17 @@
 -- The rows of the tables at whole addresses, as spots.
-use Rattle.std.proofs.Common.{◌≡◌, ◌⊎◌, inl, inr, ℕ, ◌<◌, Bool, true, false, cond, ◌&&◌, eqb, eq-eqb, ne_eqb, eqb-true, List, [], ◌∷◌, length, map, Option, Some, None, is_some, unwrap_or, Contains, sum_by, refl, sym, ap, ap₂, ◌∙◌, arith, true≢false, nat_cmp, ltb, ltb-true, T}
+use Rattle.std.proofs.Common.{◌≡◌, ◌⊎◌, inl, inr, ℕ, ◌<◌, Bool, true, false, cond, ◌&&◌, eqb, eq-eqb, ne_eqb, eqb-true, List, [], ◌∷◌, map, Option, Some, None, is_some, unwrap_or, Contains, sum_by, refl, sym, ap, ap₂, ◌∙◌, arith, true≢false, nat_cmp, T}
 use Rattle.std.proofs.lemmas.List.{nil_from_length}
 use Rattle.std.specs.FinMap.{entries, entries_sorted, get-entries, find}
 use Rattle.std.specs.FinMap.Entries.{is_sorted, below_all}
 use Rattle.std.specs.Cmp.{unsigned_tied}
 use Rattle.std.specs.Ordering.{eq_by_cmp, is_lt}
-use Rattle.std.specs.declared.cmp.Ordering.TheVariants.{Less, Equal, Greater}
 use Rattle.std.proofs.lemmas.Bool.{and_parts}
 use Rattle.std.proofs.lemmas.List.Sums.{sum_by-cons}
+use Rattle.std.proofs.lemmas.Float.{T_from_true}
 use Rattle.cube_view.specs.Walks.{down, across, Walk, SpotPath, Cursor, after_down, after_across, then_step, cursor, Under, whole_of, whole_from, down_all}
 use Rattle.cube_view.proofs.Walking.{begun, Contains-cases}
 use Rattle.time_table.specs.Counts.{BinCounts, count_of}
+use Rattle.time_table.proofs.Passing.{below}
 use Rattle.node_arena.specs.Amounts.{spots_in, amount_under}
 use Rattle.node_arena.specs.Slots.{Slot, counts_of}
 use Rattle.image_shape.specs.Levels.{Levels, left, label_counts}
@@ -103,17 +104,14 @@ rows_amount a (e ∷ es) bin =
     let o : one_under (spot_at a e) a bin ≡ cond {A = ℕ} (eqb e.0 bin) e.1 0 = ap (λ (b : Bool). cond {A = ℕ} (b && eqb e.0 bin) e.1 0) (at_own a (record { paths = paths_along a [] []; bin = e.0 }) refl) in
     omega (arith, s, t, r, o)
 
-from_test : (b : Bool) → T b → b ≡ true
+-- a test that holds, as an equation
+pub from_test : (b : Bool) → T b → b ≡ true
 from_test true t = refl
 from_test false t = absurd t
 
-less_of : (a b : ℕ) → is_lt (nat_cmp a b) ≡ true → a < b
-less_of a b e = go (ltb a b) (eqb a b) refl e
-  where
-    go : (t u : Bool) → ltb a b ≡ t → is_lt (cond t Less (cond u Equal Greater)) ≡ true → a < b
-    go true u f e = ltb-true a b f
-    go false true f e = absurd cc
-    go false false f e = absurd cc
+-- what the test of an order says
+pub less_of : (a b : ℕ) → is_lt (nat_cmp a b) ≡ true → a < b
+less_of a b e = below a b (T_from_true (is_lt (nat_cmp a b)) e)
 
 none_there : (k bin : ℕ) (es : List (ℕ × ℕ)) → k ≡ bin → is_sorted nat_cmp es ≡ true → below_all nat_cmp k es ≡ true → sum_by (λ (e : ℕ × ℕ). cond {A = ℕ} (eqb e.0 bin) e.1 0) es ≡ 0
 none_there k bin [] e S B = refl

@@ -7,9 +7,10 @@ use Rattle.cube_view.specs.Walks.{down, across}
 use Rattle.node_arena.specs.Slots.{Children, IsRising, Slot, child, children_of, slot_of, target}
 use Rattle.image_shape.specs.Ways.{Way, count_below}
 use Rattle.image_shape.proofs.Core.{link_down, step_first}
+use Rattle.image_shape.proofs.Apart.{none_below}
 use Rattle.shape_test.specs.Links.{NoneFrom, IsFirstLink}
 use Rattle.shape_test.specs.Merging.{parts_count}
-use Rattle.shape_test.proofs.Childwise.{past, before}
+use Rattle.shape_test.proofs.Childwise.{past}
 
 -- the sum over the labels before one
 abbrev pub sum_upto : (ℕ → ℕ) → ℕ → Children → ℕ
@@ -57,7 +58,7 @@ upto_more f (x ∷ xs) from label l R low there least = go (cases_lt x.0 from) (
         omega (arith, r, u, v, p, q)
     go (inr a) (inl b) c rest = let n : None ≡ Some x.1 = sym (least x.0 a b) ∙ own in absurd cc
     go (inr a) (inr b) (inl c) rest =
-        let n : None ≡ Some l = sym (before (x ∷ xs) label above) ∙ there in absurd cc
+        let n : None ≡ Some l = sym (none_below (x ∷ xs) label above) ∙ there in absurd cc
       where
         above : (i : ℕ) (d : ℕ × Link) → i < length (x ∷ xs) → label < (get_or (x ∷ xs) i d).0
         above zero d lt = c

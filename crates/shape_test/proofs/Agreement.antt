@@ -1,17 +1,16 @@
 -- Tables that agree along all ways, and the contents of a node and of its children.
-use Rattle.std.proofs.Common.{◌≡◌, ◌⊎◌, inl, inr, ℕ, suc, ◌-◌, ◌<◌, ◌≤◌, Bool, true, false, cond, eqb, eqb-true, eq-eqb, List, [], ◌∷◌, ◌++◌, Option, Some, None, is_some, sum_by, refl, sym, ap, ◌∙◌, subst, arith}
+use Rattle.std.proofs.Common.{◌≡◌, ◌⊎◌, inl, inr, ℕ, suc, ◌-◌, ◌<◌, ◌≤◌, Bool, true, false, cond, eqb, eqb-true, List, [], ◌∷◌, ◌++◌, Option, Some, None, is_some, sum_by, refl, sym, ap, ◌∙◌, subst, arith}
 use Rattle.std.proofs.lemmas.Bool.{cases_lt}
 use Rattle.std.proofs.lemmas.List.{append-nil, append_assoc, map-append}
 use Rattle.std.proofs.lemmas.List.Sums.{sum_by-cons}
 use Rattle.cube_view.specs.Walks.{down, across}
 use Rattle.node_arena.specs.declared.link.Link.{Link}
 use Rattle.node_arena.specs.Calls.{only_link}
-use Rattle.node_arena.specs.Shape.{HasOneChild}
 use Rattle.node_arena.specs.Slots.{shared, target, Children, Slot, IsTable, child, children_of, slot_of, link_of, count}
 use Rattle.image_shape.specs.Sharing.{SharesAt}
 use Rattle.image_shape.specs.Ways.{Way, count_below, Merges}
 use Rattle.image_shape.proofs.Core.{link_down, no_step, step_first}
-use Rattle.image_shape.proofs.OnlyChild.{table_link}
+use Rattle.image_shape.proofs.OnlyChild.{table_link, alone, has_one}
 use Rattle.shape_test.specs.Agreeing.{content_below, AgreesAs, Agrees, CountedAgree, AllAgree, CoversPart, CoversParts, MergesOver}
 use Rattle.shape_test.specs.Homes.{step_of, way_of}
 use Rattle.shape_test.specs.declared.home.Move.{Move}
@@ -149,38 +148,16 @@ module _ (slots : List Slot) (i : ℕ) where
       no_step slots i across way bin (table_link (slot_of slots i) across table) ∙ sym (zero_sum (λ (l : ℕ). count_below slots i (down l ∷ across ∷ way) bin) (children_of (slot_of slots i)) (λ l. no_step slots i (down l) (across ∷ way) bin (table_link (slot_of slots i) (down l) table)))
 
   -- the content of an only child
-  one_of : (children : Children) (c : Link) → only_link children ≡ Some c → (label : ℕ) × (children ≡ (label, c) ∷ [])
-  one_of [] c e = absurd cc
-  one_of (x ∷ []) c e = let s : x.1 ≡ c = cc in (x.0, ap (λ (k : Link). (x.0, k) ∷ []) s)
-  one_of (x ∷ y ∷ children) c e = absurd cc
-
   only_merges : (n : ℕ) (c : Link) → only_link (children_of (slot_of slots i)) ≡ Some c → SharesAt slots i → MergesOver slots i n
   only_merges n c one S way o bin =
-      let s = S label c has_one in
+      let child = alone slots i c one in
+      let own = has_one slots i c one in
+      let s = S child.0 c own in
       let a = step_first slots i across (shared (target s.content)) way bin s.of_node in
-      let b = step_first slots i (down label) c (across ∷ way) bin (has_one.is) in
+      let b = step_first slots i (down child.0) c (across ∷ way) bin own.is in
       let d = step_first slots (target c) across s.content way bin s.of_child in
-      let e = ap (λ (ks : Children). sum_by (λ (k : ℕ × Link). count_below slots i (down k.0 ∷ across ∷ way) bin) ks) alone in
+      let e = ap (λ (ks : Children). sum_by (λ (k : ℕ × Link). count_below slots i (down k.0 ∷ across ∷ way) bin) ks) child.1 in
       omega (arith, a, b, d, e)
-    where
-      label : ℕ
-      label = (one_of (children_of (slot_of slots i)) c one).0
-
-      alone : children_of (slot_of slots i) ≡ (label, c) ∷ []
-      alone = (one_of (children_of (slot_of slots i)) c one).1
-
-      at_label : (m : ℕ) → link_of slots i (down m) ≡ cond {A = Option Link} (eqb label m) (Some c) None
-      at_label m = link_down (slot_of slots i) m ∙ ap (λ (ks : Children). child ks m) alone
-
-      has_one : HasOneChild slots i label c
-      has_one = record {
-        is = at_label label ∙ ap (λ (b : Bool). cond {A = Option Link} b (Some c) None) (eq-eqb label label refl);
-        only = λ m k e. pick m k (eqb label m) refl (sym (at_label m) ∙ e);
-      }
-        where
-          pick : (m : ℕ) (k : Link) (b : Bool) → eqb label m ≡ b → cond {A = Option Link} b (Some c) None ≡ Some k → m ≡ label
-          pick m k true t e = sym (eqb-true label m t)
-          pick m k false t e = absurd cc
 
   pub found_merges : (n : ℕ) (o : Option Link) → o ≡ only_link (children_of (slot_of slots i)) → is_some o ≡ true → SharesAt slots i → MergesOver slots i n
   found_merges n None e some S = absurd cc

@@ -6,6 +6,7 @@ use Rattle.node_arena.specs.declared.link.Link.{Link}
 use Rattle.node_arena.specs.Calls.{child_from}
 use Rattle.node_arena.specs.Slots.{Children, IsRising, Slot, child, children_of, slot_of, link_of}
 use Rattle.image_shape.proofs.Core.{link_down}
+use Rattle.image_shape.proofs.Apart.{none_below}
 use Rattle.shape_test.specs.Links.{HasSmallLabels, NoneFrom, IsFirstLink, LinkFits, ChildrenFit, LinksFit}
 
 -- the first child from a label on stands at the least label from there on
@@ -17,13 +18,6 @@ pub record IsFirst (children : Children) (from : ℕ) (x : ℕ × Link) : Type 0
 -- the child at another label than the first is one of the others
 pub past : (x : ℕ × Link) (children : Children) (m : ℕ) → (x.0 ≡ m → ⊥) → child (x ∷ children) m ≡ child children m
 past x children m other = ap (λ (b : Bool). cond b (Some x.1) (child children m)) (ne_eqb x.0 m other)
-
--- before the first label there is no child
-pub before : (children : Children) (m : ℕ) → ((i : ℕ) (d : ℕ × Link) → i < length children → m < (get_or children i d).0) → child children m ≡ None
-before [] m all = refl
-before (x ∷ children) m all =
-    let first = all 0 x (omega arith) in
-    past x children m (λ e. omega (arith, e, first)) ∙ before children m (λ i d lt. all (suc i) d (omega (arith, lt)))
 
 none_from : (children : Children) (from : ℕ) → child_from children from ≡ None → (m : ℕ) → from ≤ m → child children m ≡ None
 none_from [] from is m le = refl
@@ -53,7 +47,7 @@ some_from (y ∷ children) from x R is = go (ltb y.0 from) refl is (λ r. some_f
         subst (λ (k : ℕ × Link). IsFirst (y ∷ children) from k) same (record {
           low = le;
           there = ap (λ (b : Bool). cond b (Some y.1) (child children y.0)) (eq-eqb y.0 y.0 refl);
-          least = λ m low less. before (y ∷ children) m (above m less);
+          least = λ m low less. none_below (y ∷ children) m (above m less);
         })
       where
         above : (m : ℕ) → m < y.0 → (i : ℕ) (d : ℕ × Link) → i < length (y ∷ children) → m < (get_or (y ∷ children) i d).0

@@ -4,6 +4,7 @@ use Rattle.cube_view.specs.Walks.{down, across, Walk, Finer, top, by_down, by_ac
 use Rattle.shape_test.specs.declared.home.Move.{Move}
 use Rattle.shape_test.specs.declared.home.Move.TheVariants.{Down, Across}
 use Rattle.shape_test.specs.Homes.{is_across, step_of, walk_of}
+use Rattle.image_shape.proofs.Local.{finer_root}
 
 -- a list taken whole
 take_length : {A : Type 0} (xs : List A) (n : ℕ) → n ≡ length xs → take n xs ≡ xs
@@ -28,13 +29,6 @@ begun_with {A = A} (x ∷ b) d l = ap (λ (ys : List A). x ∷ ys) (sym (take_le
 pub first_is : (a : List Move) (e : Move) → slice_get a 0 ≡ Some e → a ≡ e ∷ take (length a - 1) (drop 1 a)
 first_is [] e x = absurd cc
 first_is (y ∷ a) e x = let z : y ≡ e = cc in ap (λ (w : Move). w ∷ a) z ∙ ap (λ (ys : List Move). e ∷ ys) (sym (take_length a (suc (length a) - 1) (omega arith)))
-
--- from no step on
-pub none_coarser : {loose : Bool} {a b : Walk} → Finer loose a b → b ≡ [] → a ≡ []
-none_coarser top e = refl
-none_coarser (by_down f) e = absurd cc
-none_coarser (by_across f) e = absurd cc
-none_coarser (longer f) e = absurd cc
 
 -- both go on by one step
 pub same_step : (loose : Bool) (e : Move) (a b : Walk) → Finer (is_across e) a b → Finer loose (step_of e ∷ a) (step_of e ∷ b)
@@ -84,7 +78,7 @@ was_may false far e = absurd cc
 -- no step is left
 pub at_top : (loose r : Bool) (a b : List Move) → length b < 1 → r ≡ eqb (length a) 0 → (r ≡ true) ↔ Finer loose (walk_of a) (walk_of b)
 at_top loose r a (x ∷ b) l e = absurd (omega (arith, l))
-at_top loose r a [] l e = (λ y. forth a (sym e ∙ y), λ f. e ∙ back a (none_coarser f refl))
+at_top loose r a [] l e = (λ y. forth a (sym e ∙ y), λ f. e ∙ back a (finer_root f refl))
   where
     forth : (a : List Move) → eqb (length a) 0 ≡ true → Finer loose (walk_of a) []
     forth [] y = top

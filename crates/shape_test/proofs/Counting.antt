@@ -1,7 +1,7 @@
 -- What tables and slots count.
 use Rattle.std.proofs.Common.{◌≡◌, ◌↔◌, ◌⊎◌, inl, inr, ℕ, zero, suc, ◌+◌, ◌<◌, ◌≤◌, Bool, true, false, cond, eqb, ltb-true, nat_lt, List, [], ◌∷◌, map, filter, None, sum_by, refl, sym, ap, ◌∙◌, subst, arith}
 use Rattle.std.specs.FinMap.{entries}
-use Rattle.std.proofs.lemmas.Bool.{cases_lt}
+use Rattle.std.proofs.lemmas.Bool.{cases_lt, lt-ltb}
 use Rattle.std.proofs.lemmas.List.Sums.{sum_by-cons}
 use Rattle.time_table.specs.Counts.{BinCounts, count_of, count_before}
 use Rattle.time_table.proofs.AddLaws.{count_of-empty}
@@ -79,10 +79,7 @@ row_test slots i n m r small is test = (λ y. forth (some_before m n (ltb-true 0
     back h =
         let some : 0 < count_of m h.bin = subst (λ (z : BinCounts). 0 < count_of z h.bin) (sym is) h.some in
         let le = before_some m n h.bin (small h.bin h.some) in
-        test ∙ lt_test (count_before m n) (omega (arith, some, le))
-      where
-        lt_test : (k : ℕ) → 0 < k → nat_lt 0 k ≡ true
-        lt_test k l = grind arith
+        test ∙ lt-ltb 0 (count_before m n) (omega (arith, some, le))
 
 -- a node counts nothing
 pub node_count : (s : Slot) (bin : ℕ) → IsNode s → 0 ≡ count s bin

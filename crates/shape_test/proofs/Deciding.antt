@@ -1,22 +1,24 @@
 -- The conditions on single slots hold exactly of a schema's cube.
-use Rattle.std.proofs.Common.{◌≡◌, ◌⊎◌, inl, inr, ℕ, zero, suc, ◌+◌, ◌-◌, ◌<◌, ◌≤◌, true, List, [], ◌∷◌, ◌++◌, length, get_or, Contains, refl, sym, ap, ◌∙◌, subst, arith}
+use Rattle.std.proofs.Common.{◌≡◌, ◌⊎◌, inl, inr, ℕ, zero, suc, ◌+◌, ◌-◌, ◌<◌, ◌≤◌, true, List, [], length, get_or, Contains, refl, ap, ◌∙◌, arith}
 use Rattle.cube_view.specs.Places.{deepest, time_dim}
-use Rattle.cube_view.specs.Walks.{Walk, SpotPath, HasSpot}
+use Rattle.cube_view.specs.Walks.{Walk, SpotPath}
 use Rattle.cube_view.specs.declared.schema.Schema.{Schema}
-use Rattle.cube_view.proofs.Walking.{under-some, Contains-cons, Contains-head, Contains-cases}
+use Rattle.cube_view.proofs.Walking.{under-some}
 use Rattle.node_arena.specs.Amounts.{Weighted, spots_in}
-use Rattle.node_arena.specs.Shape.{home_of, HasShape}
-use Rattle.node_arena.specs.Slots.{proper, Slot, slot_of}
+use Rattle.node_arena.specs.Shape.{home_of}
+use Rattle.node_arena.specs.Slots.{Slot, slot_of}
 use Rattle.node_arena.specs.Stats.{AllRising}
 use Rattle.image_shape.specs.Laws.{AllTablesCounted}
 use Rattle.image_shape.specs.Levels.{EndsWithTime}
 use Rattle.image_shape.specs.Wholes.{rows_at, spelled_rows}
-use Rattle.image_shape.proofs.Bag.{tells_cube, tells_local}
+use Rattle.image_shape.proofs.Bag.{in_either, tells_cube, tells_local}
 use Rattle.image_shape.proofs.Rows.{rows_at-paths}
+use Rattle.image_shape.proofs.Decides.{under_home}
 use Rattle.shape_test.specs.Fits.{IsSchemaCube, IsSchemaLocal, slots_bag}
 use Rattle.shape_test.specs.Labels.{levels_from, schema_levels, labels_fit, paths_fit}
 use Rattle.shape_test.specs.Laws.{DecidesCube, OwnsBag}
 use Rattle.shape_test.proofs.Labelled.{used_fit, paths_of_fit}
+use Rattle.shape_test.proofs.Over.{in_time}
 
 length-levels : (schema : Schema) (dim n : ℕ) → length (levels_from schema dim n) ≡ n
 length-levels schema dim zero = refl
@@ -27,23 +29,12 @@ level_at schema zero dim k l = absurd (omega (arith, l))
 level_at schema (suc n) dim zero l = ap (deepest schema) (omega arith)
 level_at schema (suc n) dim (suc k) l = level_at schema n (suc dim) k (omega (arith, l)) ∙ ap (deepest schema) (omega arith)
 
-no_level : (schema : Schema) → deepest schema (time_dim schema) ≡ 0
-no_level schema = grind arith
-
 pub ends_with_time : (schema : Schema) → EndsWithTime (time_dim schema) (schema_levels schema)
 ends_with_time schema = record {
   size = length-levels schema 1 (time_dim schema);
   some = omega arith;
-  last = level_at schema (time_dim schema) 1 (time_dim schema - 1) (omega arith) ∙ (ap (deepest schema) (omega arith) ∙ no_level schema);
+  last = level_at schema (time_dim schema) 1 (time_dim schema - 1) (omega arith) ∙ (ap (deepest schema) (omega arith) ∙ in_time schema (time_dim schema) (omega arith));
 }
-
--- a spot lies under the home of each slot but the root
-pub under_home : (dims : ℕ) (slots : List Slot) (homes : List Walk) (h : List Weighted) → HasShape dims slots homes h → (j : ℕ) → 0 < j → j < length slots → HasSpot (spots_in h) (home_of homes j)
-under_home dims slots homes h S j some l =
-    let o = S.has_homes.owner j some l in
-    let w = S.holds.wanted o.by o.step (proper j) o.owns in
-    let e = (S.has_homes.at_home o.by j o.step o.owns).1 in
-    subst (HasSpot (spots_in h)) (sym e) w
 
 labels_at : (schema : Schema) (slots : List Slot) (homes : List Walk) (h : List Weighted) → IsSchemaCube schema slots homes h → (i : ℕ) → i < length slots → labels_fit schema (home_of homes i) ≡ true
 labels_at schema slots homes h C zero l = ap (labels_fit schema) C.cube.shape.has_homes.root
@@ -58,25 +49,12 @@ cube_is_local schema slots homes h R C = record {
   labels = labels_at schema slots homes h C;
 }
 
--- a spot in two lists is in one of them
-split : (h k : List Weighted) (q : SpotPath) → Contains (spots_in (h ++ k)) q → Contains (spots_in h) q ⊎ Contains (spots_in k) q
-split [] k q c = inr c
-split (w ∷ h) k q c = pick (Contains-cases (spots_in (h ++ k)) w.spot q c) (λ d. split h k q d)
-  where
-    on : Contains (spots_in h) q ⊎ Contains (spots_in k) q → Contains (spots_in (w ∷ h)) q ⊎ Contains (spots_in k) q
-    on (inl x) = inl (Contains-cons (spots_in h) w.spot q x)
-    on (inr x) = inr x
-
-    pick : (w.spot ≡ q) ⊎ Contains (spots_in (h ++ k)) q → (Contains (spots_in (h ++ k)) q → Contains (spots_in h) q ⊎ Contains (spots_in k) q) → Contains (spots_in (w ∷ h)) q ⊎ Contains (spots_in k) q
-    pick (inl e) rest = inl (subst (λ (z : SpotPath). Contains (spots_in (w ∷ h)) z) e (Contains-head (spots_in h) w.spot))
-    pick (inr d) rest = on (rest d)
-
 module _ (schema : Schema) (slots : List Slot) (homes : List Walk) (labels : (i : ℕ) → i < length slots → labels_fit schema (home_of homes i) ≡ true) where
   -- the rows of the first slots have labels of the schema
   bag_labels : (n : ℕ) → n ≤ length slots → (q : SpotPath) → Contains (spots_in (spelled_rows (schema_levels schema) slots homes n)) q → paths_fit schema 1 q.paths ≡ true
   bag_labels zero le q c = absurd (omega (arith, c.1))
   bag_labels (suc n) le q c =
-      go (split (spelled_rows (schema_levels schema) slots homes n) (rows_at (schema_levels schema) (home_of homes n) (slot_of slots n)) q c) (λ d. bag_labels n (omega arith) q d)
+      go (in_either (spelled_rows (schema_levels schema) slots homes n) (rows_at (schema_levels schema) (home_of homes n) (slot_of slots n)) q c) (λ d. bag_labels n (omega arith) q d)
     where
       go : Contains (spots_in (spelled_rows (schema_levels schema) slots homes n)) q ⊎ Contains (spots_in (rows_at (schema_levels schema) (home_of homes n) (slot_of slots n))) q → (Contains (spots_in (spelled_rows (schema_levels schema) slots homes n)) q → paths_fit schema 1 q.paths ≡ true) → paths_fit schema 1 q.paths ≡ true
       go (inl d) rest = rest d

@@ -1,22 +1,22 @@
 -- Slots that are placed and merge meet the conditions of a cube.
-use Rattle.std.proofs.Common.{◌≡◌, ◌↔◌, ◌⊎◌, inl, inr, ℕ, zero, suc, ◌+◌, ◌-◌, ◌<◌, ◌≤◌, true, false, eqb, ne_eqb, List, [], ◌∷◌, length, Option, Some, None, MatchOption, sum_by, refl, sym, ap, ap₂, ◌∙◌, subst, arith}
-use Rattle.std.proofs.Math.ListN.{get_or-eq_default}
+use Rattle.std.proofs.Common.{◌≡◌, ◌↔◌, ◌⊎◌, inl, inr, ℕ, zero, suc, ◌+◌, ◌-◌, ◌<◌, ◌≤◌, true, false, eqb, ne_eqb, List, [], ◌∷◌, length, Option, Some, None, MatchOption, refl, sym, ap, ap₂, ◌∙◌, subst, arith}
 use Rattle.std.proofs.lemmas.Bool.{cases_lt}
 use Rattle.cube_view.specs.Places.{deepest, time_dim}
 use Rattle.cube_view.specs.Walks.{Step, down, across, Walk, dimension}
 use Rattle.cube_view.specs.declared.schema.Schema.{Schema}
 use Rattle.node_arena.specs.declared.link.Link.{Link}
 use Rattle.node_arena.specs.Shape.{home_of, HasProperLinks, HasHomes, HasTables, SharesOnlyContent, SharesContent, IsLinked}
-use Rattle.node_arena.specs.Slots.{shared, target, Slot, empty_node, IsNode, IsTable, slot_of, children_of, link, link_of}
+use Rattle.node_arena.specs.Slots.{shared, target, Slot, IsNode, IsTable, slot_of, link_of}
 use Rattle.node_arena.specs.Stats.{AllRising}
 use Rattle.node_arena.proofs.Linked.{linked-lt}
 use Rattle.node_arena.proofs.Reaching.{link_coarser, target-lt}
 use Rattle.image_shape.specs.Levels.{Levels, level_step, then_level, left, no_levels}
-use Rattle.image_shape.specs.Local.{HasLevels, HasCountBelow}
+use Rattle.image_shape.specs.Local.{AllHaveLevels, AllHaveCounts, AllContentsMerge}
 use Rattle.image_shape.specs.Ways.{Way, count_below, IsFinest, Merges}
-use Rattle.image_shape.proofs.Core.{step_first, no_step}
-use Rattle.image_shape.proofs.Local.{finer_left, finer_root}
+use Rattle.image_shape.proofs.Core.{step_first}
+use Rattle.image_shape.proofs.Local.{finer_left, after_root}
 use Rattle.image_shape.proofs.OnlyChild.{table_link}
+use Rattle.image_shape.proofs.Decides.{merges_past}
 use Rattle.shape_test.specs.Agreeing.{IsOver, MergesFrom}
 use Rattle.shape_test.specs.Filled.{HasRow, HasChild, IsFilledNode}
 use Rattle.shape_test.specs.Fits.{IsSchemaLocal}
@@ -72,7 +72,7 @@ module _ (schema : Schema) (slots : List Slot) (homes : List Walk) (P : HasPrope
       go i l (inl t) = (λ _. (told i l).dim ∙ t.time, λ _. t.table)
       go i l (inr n) = (λ t. absurd (no_both (slot_of slots i) n.node t), λ d. absurd (n.before (sym (told i l).dim ∙ d)))
 
-  within : (i : ℕ) → i < length slots → HasLevels (schema_levels schema) (home_of homes i)
+  within : AllHaveLevels (schema_levels schema) slots homes
   within i l = record { levels_left = levels_at schema (all i l).place; is = (told i l).levels }
 
   at_time : (i : ℕ) → i < length slots → IsTable (slot_of slots i) → left (schema_levels schema) (home_of homes i) ≡ Some no_levels
@@ -127,13 +127,6 @@ module _ (schema : Schema) (slots : List Slot) (homes : List Walk) (P : HasPrope
       go (inl s) = s.row
       go (inr s) = absurd (s.before (time_left schema (all i l).place (told i l).placed.dim.1 (ap (λ (c : Levels). c.later) (is_left i l no_levels at))))
 
-  after_root : (i : ℕ) (e : Step) (k : Link) → link_of slots i e ≡ Some k → 0 < target k
-  after_root i e k o = go (target k) refl
-    where
-      go : (t : ℕ) → target k ≡ t → 0 < target k
-      go zero z = let x : e ∷ home_of homes i ≡ [] = finer_root (link_coarser slots homes has_homes i e k o) (ap (home_of homes) z ∙ P.root) in absurd cc
-      go (suc t) z = omega (arith, z)
-
   -- what a target has left
   target_left : (i : ℕ) (e : Step) (b c : Levels) (k : Link) → left (schema_levels schema) (home_of homes i) ≡ Some b → level_step e b ≡ Some c → link_of slots i e ≡ Some k → left (schema_levels schema) (home_of homes (target k)) ≡ Some c
   target_left i e b c k at s o =
@@ -147,18 +140,18 @@ module _ (schema : Schema) (slots : List Slot) (homes : List Walk) (P : HasPrope
   descend (m ∷ later) zero j some l at =
       let k = has_content j 0 m later some l at in
       let t = target_left j across (record { rest = 0; later = m ∷ later }) (record { rest = m; later = later }) k.link at refl k.is in
-      let r = descend later m (target k.link) (after_root j across k.link k.is) (target-lt slots homes has_homes j across k.link k.is) t in
+      let r = descend later m (target k.link) (after_root slots homes has_homes j across k.link k.is) (target-lt slots homes has_homes j across k.link k.is) t in
       let s = step_first slots j across k.link r.0 r.1 k.is in
       (across ∷ r.0, r.1, (m, later, refl, refl, r.2), omega (arith, s, r.3))
   descend later (suc n) j some l at =
       let h = has_child j n later some l at in
       let k = h.linked in
       let t = target_left j (down h.label) (record { rest = suc n; later = later }) (record { rest = n; later = later }) k.link at refl k.is in
-      let r = descend later n (target k.link) (after_root j (down h.label) k.link k.is) (target-lt slots homes has_homes j (down h.label) k.link k.is) t in
+      let r = descend later n (target k.link) (after_root slots homes has_homes j (down h.label) k.link k.is) (target-lt slots homes has_homes j (down h.label) k.link k.is) t in
       let s = step_first slots j (down h.label) k.link r.0 r.1 k.is in
       (down h.label ∷ r.0, r.1, (n, refl, r.2), omega (arith, s, r.3))
 
-  filled : (j : ℕ) → 0 < j → j < length slots → HasCountBelow (schema_levels schema) slots homes j
+  filled : AllHaveCounts (schema_levels schema) slots homes
   filled j some l =
       let c = within j l in
       let r = descend c.levels_left.later c.levels_left.rest j some l c.is in
@@ -177,7 +170,7 @@ module _ (schema : Schema) (slots : List Slot) (homes : List Walk) (P : HasPrope
       go (inr s) = s.shares label c H
 
   module _ (sums : AllMerge schema slots homes) where
-    merges : (i n m : ℕ) (later : List ℕ) → left (schema_levels schema) (home_of homes i) ≡ Some (record { rest = suc n; later = m ∷ later }) → (way : Way) → IsFinest m later way → (bin : ℕ) → Merges slots i way bin
+    merges : AllContentsMerge (schema_levels schema) slots homes
     merges i n m later at way f bin = go (cases_lt i (length slots))
       where
         go : (i < length slots) ⊎ (length slots ≤ i) → Merges slots i way bin
@@ -186,9 +179,7 @@ module _ (schema : Schema) (slots : List Slot) (homes : List Walk) (P : HasPrope
             let rest = ap (λ (c : Levels). c.rest) c in
             let M : MergesFrom schema slots i (all i l).place = subst (MergesAt schema slots i) (all i l).at (sums i l) in
             M (omega (arith, rest)) way (subst (λ (z : List ℕ). IsOver z way) (sym (ap (λ (c : Levels). c.later) c)) f) bin
-        go (inr l) =
-            let e : slot_of slots i ≡ empty_node = get_or-eq_default slots empty_node l in
-            no_step slots i across way bin (ap (λ (s : Slot). link s across) e) ∙ sym (ap (λ (s : Slot). sum_by (λ k. count_below slots i (down k.0 ∷ across ∷ way) bin) (children_of s)) e)
+        go (inr l) = merges_past slots i way bin l
 
     pub gathered : IsSchemaLocal schema slots homes
     gathered = record {

@@ -5,13 +5,14 @@ use Rattle.std.proofs.lemmas.Bool.{cases_lt}
 use Rattle.std.proofs.lemmas.List.{length-replicate, get_or-replicate}
 use Rattle.cube_view.specs.Walks.{Step, down, across}
 use Rattle.node_arena.specs.declared.link.Link.{Link}
-use Rattle.node_arena.specs.Slots.{proper, Slot, node, table, IsTable, slot_of, link, link_of}
+use Rattle.node_arena.specs.Slots.{proper, Slot, IsTable, slot_of, link_of}
 use Rattle.node_arena.proofs.Linked.{linked-lt}
 use Rattle.shape_test.specs.Links.{HasSmallLabels, NoneFrom, IsFirstLink}
 use Rattle.shape_test.specs.declared.home.Move.TheVariants.{Down, Across}
 use Rattle.shape_test.specs.Owners.{Owners, owner_of, owner_at, IsNoted, IsSecond, AreOwners, HasOwners, Before, HasNoHomes}
 use Rattle.shape_test.specs.declared.owner.Owner.{Owner}
 use Rattle.shape_test.proofs.Owning.{still_owners, one_owner, second_owner}
+use Rattle.image_shape.proofs.OnlyChild.{table_link}
 
 before_more : (n from to : ℕ) → from ≤ to → (k : ℕ) (e : Step) → Before n from k e → Before n to k e
 before_more n from to le k e (inl x) = inl x
@@ -94,11 +95,6 @@ module _ (slots : List Slot) (small : HasSmallLabels slots) (i : ℕ) where
               let w : None ≡ Some (proper j) = sym none ∙ (ap (link_of slots i) (sym x.1) ∙ (ap (λ (h : ℕ). link_of slots h e) (sym x.0) ∙ t)) in
               absurd cc
 
--- a table has no links
-table_links : (s : Slot) (e : Step) → IsTable s → link s e ≡ None
-table_links (node children content) e t = absurd cc
-table_links (table counts) e t = refl
-
 pub table_noted : (slots : List Slot) (i : ℕ) (owners : Owners) → IsTable (slot_of slots i) → AreOwners slots (Before i 0) owners → AreOwners slots (Before (i + 1) 0) owners
 table_noted slots i owners is A = still_owners slots (Before i 0) (Before (i + 1) 0) owners (before_next i 0) only A
   where
@@ -109,7 +105,7 @@ table_noted slots i owners is A = still_owners slots (Before i 0) (Before (i + 1
         pick (inl y) = inl y
         pick (inr y) =
             let same : k ≡ i = omega (arith, x, y) in
-            let w : None ≡ Some (proper j) = sym (table_links (slot_of slots i) e is) ∙ (ap (λ (h : ℕ). link_of slots h e) (sym same) ∙ t) in
+            let w : None ≡ Some (proper j) = sym (table_link (slot_of slots i) e is) ∙ (ap (λ (h : ℕ). link_of slots h e) (sym same) ∙ t) in
             absurd cc
     only k j (down n) (inr x) t = let y = x.1 in absurd (omega (arith, y))
     only k j across (inr x) t = absurd x.1

@@ -44,15 +44,16 @@ pub over_more : (n l : ℕ) (way : Way) → IsOver (value_levels n) way → IsOv
 over_more zero l way f = (0, refl, (0, [], refl, refl, f))
 over_more (suc n) l way f = (0, refl, (1, value_levels n, refl, refl, f))
 
-in_category : (schema : Schema) (d : ℕ) → 2 ≤ d → d < time_dim schema → deepest schema d ≡ 1
+-- the levels of a category, and of time
+pub in_category : (schema : Schema) (d : ℕ) → 2 ≤ d → d < time_dim schema → deepest schema d ≡ 1
 in_category schema d two less = grind arith
 
-in_time : (schema : Schema) (d : ℕ) → 2 ≤ d → d ≡ time_dim schema → deepest schema d ≡ 0
-in_time schema d two is = grind arith
+pub in_time : (schema : Schema) (d : ℕ) → time_dim schema ≤ d → deepest schema d ≡ 0
+in_time schema d le = grind arith
 
 -- the levels of categories and time
 pub category_levels : (schema : Schema) (n d : ℕ) → 2 ≤ d → d + n ≡ time_dim schema → levels_from schema d (suc n) ≡ value_levels n
-category_levels schema zero d two is = ap (λ (m : ℕ). m ∷ []) (in_time schema d two (omega (arith, is)))
+category_levels schema zero d two is = ap (λ (m : ℕ). m ∷ []) (in_time schema d (omega (arith, is)))
 category_levels schema (suc n) d two is = ap₂ (λ (m : ℕ) (ms : List ℕ). m ∷ ms) (in_category schema d two (omega (arith, is))) (category_levels schema n (suc d) (omega (arith, two)) (omega (arith, is)))
 
 -- the levels behind a place in space or a category
@@ -67,4 +68,4 @@ before_end schema p less P = go (cases_lt p.dim (time_dim schema))
   where
     go : (p.dim < time_dim schema) ⊎ (time_dim schema ≤ p.dim) → p.dim < time_dim schema
     go (inl x) = x
-    go (inr x) = let e = P.dim.1 in let z = in_time schema p.dim (omega (arith, x)) (omega (arith, x, e)) in absurd (omega (arith, z, less))
+    go (inr x) = let z = in_time schema p.dim x in absurd (omega (arith, z, less))

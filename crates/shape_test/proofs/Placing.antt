@@ -1,6 +1,6 @@
 -- Where addresses stand among the dimensions of a schema.
 use Rattle.std.proofs.Common.{◌≡◌, ℕ, zero, suc, ◌+◌, ◌-◌, ◌<◌, ◌≤◌, Bool, true, false, cond, ◌&&◌, eqb, ltb-true, nat_lt, List, [], ◌∷◌, length, get_or, Option, Some, None, MatchOption, refl, sym, ap, ap₂, ◌∙◌, subst, arith}
-use Rattle.std.proofs.lemmas.Bool.{and_parts}
+use Rattle.std.proofs.lemmas.Bool.{and_parts, lt-ltb}
 use Rattle.cube_view.specs.Places.{deepest, time_dim}
 use Rattle.cube_view.specs.Walks.{Step, down, across, Walk, dimension}
 use Rattle.cube_view.specs.declared.category.Category.{Category}
@@ -81,15 +81,12 @@ place_told schema (e ∷ a) = go (place_at schema a) (place_told schema a)
                 let is : b.0 ≡ levels_at schema p = cc in
                 let some : 0 < deepest schema p.dim - p.level = some_left b.0.rest b.0.later H.levels_left b.2 (ap (λ (c : Levels). c.rest) is) in
                 let f = and_parts (label_fits schema (dimension a) l) (labels_fit schema a) fit in
-                let y = sym x ∙ ap₂ ◌&&◌ (lt_test p.level (deepest schema p.dim) (omega (arith, some))) (ap (λ (n : ℕ). label_fits schema n l) (sym P.dim) ∙ f.0) in
+                let y = sym x ∙ ap₂ ◌&&◌ (lt-ltb p.level (deepest schema p.dim) (omega (arith, some))) (ap (λ (n : ℕ). label_fits schema n l) (sym P.dim) ∙ f.0) in
                 absurd cc
               where
                 some_left : (n : ℕ) (later : List ℕ) (c : Levels) → level_down n later ≡ Some c → n ≡ deepest schema p.dim - p.level → 0 < deepest schema p.dim - p.level
                 some_left zero later c z w = absurd cc
                 some_left (suc n) later c z w = omega (arith, w)
-
-                lt_test : (m n : ℕ) → m < n → nat_lt m n ≡ true
-                lt_test m n l = grind (arith)
         steps across = pick (nat_lt p.dim (time_dim schema)) refl
           where
             pick : (b : Bool) → nat_lt p.dim (time_dim schema) ≡ b → MatchOption (cond b (Some (record { dim = p.dim + 1; level = 0 })) None) (IsOutside schema (across ∷ a)) (IsPlaceOf schema (across ∷ a))

@@ -1,9 +1,7 @@
 -- The rows of a table, from a bin on.
-use Rattle.std.proofs.Common.{◌≡◌, ◌⊎◌, inl, inr, ℕ, ◌+◌, ◌<◌, ◌≤◌, ◌^◌, Bool, true, false, cond, eqb, eq-eqb, ltb, ltb-true, ltb-false, ne_eqb, nat_cmp, T, List, [], ◌∷◌, map, Option, Some, None, IfSome, MatchOption, refl, sym, ap, ◌∙◌, subst, arith}
+use Rattle.std.proofs.Common.{◌≡◌, ◌⊎◌, inl, inr, ℕ, ◌+◌, ◌<◌, ◌≤◌, ◌^◌, Bool, true, false, cond, eq-eqb, ltb, ltb-true, ltb-false, ne_eqb, nat_cmp, List, [], ◌∷◌, map, Option, Some, None, IfSome, MatchOption, refl, sym, ap, ◌∙◌, subst, arith}
 use Rattle.std.specs.FinMap.{entries, entries_sorted}
 use Rattle.std.specs.FinMap.Entries.{is_sorted, below_all}
-use Rattle.std.specs.Ordering.{is_lt}
-use Rattle.std.specs.declared.cmp.Ordering.TheVariants.{Less, Equal, Greater}
 use Rattle.std.proofs.lemmas.Bool.{and_parts, cases_lt}
 use Rattle.time_table.specs.Counts.{BinCounts, count_of, first_from}
 use Rattle.node_arena.specs.Amounts.{amount_under}
@@ -11,7 +9,7 @@ use Rattle.node_arena.specs.Slots.{Slot, slot_of, count, counts_of}
 use Rattle.image_shape.specs.Ways.{Way, Merges}
 use Rattle.image_shape.specs.Wholes.{spot_at}
 use Rattle.image_shape.proofs.Core.{one_under, amount-cons}
-use Rattle.image_shape.proofs.Rows.{table_rows}
+use Rattle.image_shape.proofs.Rows.{table_rows, less_of, from_test}
 use Rattle.shape_test.specs.Merging.{NoRowFrom, IsFirstRow, RowsMerge}
 
 -- what rows count in a bin
@@ -38,14 +36,6 @@ none_in (e ∷ es) from b is le = go (ltb e.0 from) refl is (λ r. none_in es fr
     go true x r rest = let lt = ltb-true e.0 from x in past_bin e es b 0 (λ s. omega (arith, s, lt, le)) (rest r)
     go false x r rest = absurd cc
 
-pub less_of : (a b : ℕ) → is_lt (nat_cmp a b) ≡ true → a < b
-less_of a b e = go (ltb a b) (eqb a b) refl e
-  where
-    go : (t u : Bool) → ltb a b ≡ t → is_lt (cond t Less (cond u Equal Greater)) ≡ true → a < b
-    go true u f e = ltb-true a b f
-    go false true f e = absurd cc
-    go false false f e = absurd cc
-
 all_later : (k b : ℕ) (es : List (ℕ × ℕ)) → b ≤ k → below_all nat_cmp k es ≡ true → in_bin es b ≡ 0
 all_later k b [] le B = refl
 all_later k b (x ∷ es) le B =
@@ -71,10 +61,6 @@ first_in (x ∷ es) from e S is = go (ltb x.0 from) refl is (λ r. first_in es f
         let k : x.0 ≡ e.0 = ap (λ (z : ℕ × ℕ). z.0) same in
         let le = ltb-false x.0 from y in
         (omega (arith, le, k), λ b low less. past_bin x es b 0 (λ s. omega (arith, s, less, k)) (all_later x.0 b es (omega (arith, less, k)) parts.0), subst (λ (z : ℕ × ℕ). in_bin (x ∷ es) z.0 ≡ z.1) same (own_bin x es (all_later x.0 x.0 es (omega arith) parts.0)))
-
-pub from_test : (b : Bool) → T b → b ≡ true
-from_test true t = refl
-from_test false t = absurd t
 
 pub row_told : (m : BinCounts) (from : ℕ) (o : Option (ℕ × ℕ)) → o ≡ first_from from (entries m) → IfSome o (λ row. row.0 < 2 ^ 32) → MatchOption o (NoRowFrom m from) (IsFirstRow m from)
 row_told m from None is small = λ b le. table_rows [] [] m b ∙ none_in (entries m) from b (sym is) le

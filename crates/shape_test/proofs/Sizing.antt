@@ -12,14 +12,13 @@ use Rattle.node_arena.specs.Slots.{Slot, node, table, IsNode, counts_of}
 use Rattle.node_arena.specs.Stats.{capped}
 use Rattle.image_shape.specs.Wholes.{is_whole, spot_at, rows_at}
 use Rattle.image_shape.proofs.Core.{amount-cons}
-use Rattle.image_shape.proofs.Rows.{table_rows}
+use Rattle.image_shape.proofs.Rows.{table_rows, less_of, from_test}
 use Rattle.shape_test.specs.Fits.{bag_sum, least_points, least_size}
 use Rattle.shape_test.specs.Merging.{NoRowFrom, IsFirstRow}
 use Rattle.shape_test.specs.Sizes.{capped_size, table_size, size_of}
 use Rattle.shape_test.specs.declared.size.BagSize.{BagSize}
 use Rattle.shape_test.proofs.Adding.{counted_in, counted_out}
 use Rattle.shape_test.proofs.Counting.{one_more}
-use Rattle.shape_test.proofs.Rowwise.{less_of, from_test}
 
 -- sums that are capped can be added before or after
 pub capped_plus : (a b : ℕ) → capped (capped a + capped b) ≡ capped (a + b)

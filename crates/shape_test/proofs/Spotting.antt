@@ -2,7 +2,7 @@
 use Rattle.std.proofs.Common.{◌≡◌, ◌⊎◌, inl, inr, ℕ, zero, suc, ◌+◌, ◌*◌, ◌-◌, ◌/◌, ◌%◌, ◌^◌, ◌<◌, ◌≤◌, Bool, true, cond, ◌&&◌, eq-eqb, ne_eqb, nat_lt, ltb-true, List, [], ◌∷◌, length, map, get_or, refl, sym, ap, ap₂, ◌∙◌, arith}
 use Rattle.std.specs.List.{list_all}
 use Rattle.std.proofs.Math.ListN.{get_or-eq_default}
-use Rattle.std.proofs.lemmas.Bool.{and_parts, cases_lt}
+use Rattle.std.proofs.lemmas.Bool.{and_parts, cases_lt, lt-ltb}
 use Rattle.std.proofs.lemmas.Nat.{div-mul-add}
 use Rattle.std.proofs.Math.Nat.{pow-suc}
 use Rattle.cube_view.specs.Paths.{labels_from, path_of, paths_from, spot_path}
@@ -14,6 +14,7 @@ use Rattle.cube_view.specs.declared.schema.Schema.{Schema}
 use Rattle.cube_view.specs.declared.spot.Spot.{Spot}
 use Rattle.image_shape.specs.Levels.{label_counts}
 use Rattle.shape_test.specs.Labels.{levels_from, schema_levels, value_count, label_end, label_fits, paths_fit}
+use Rattle.shape_test.proofs.Over.{in_category, in_time}
 
 -- the number whose bits are those of quadrants, the highest first
 abbrev bits_of : (ℕ → ℕ) → List ℕ → ℕ
@@ -109,16 +110,7 @@ all_values cs [] under past = none cs
     none [] = refl
     none (c ∷ cs) = refl
 all_values [] (v ∷ vs) under past = ap₂ ◌&&◌ (eq-eqb v 0 (past 0 (omega arith))) (all_values [] vs (λ i l. absurd (omega (arith, l))) (λ i l. past (suc i) (omega arith)))
-all_values (c ∷ cs) (v ∷ vs) under past = ap₂ ◌&&◌ (less v (length c.values) (under 0 (omega arith))) (all_values cs vs (λ i l. under (suc i) (omega (arith, l))) (λ i l. past (suc i) (omega (arith, l))))
-  where
-    less : (a b : ℕ) → a < b → nat_lt a b ≡ true
-    less a b l = grind arith
-
-in_category : (schema : Schema) (d : ℕ) → 2 ≤ d → d < time_dim schema → deepest schema d ≡ 1
-in_category schema d two less = grind arith
-
-in_time : (schema : Schema) (d : ℕ) → time_dim schema ≤ d → deepest schema d ≡ 0
-in_time schema d le = grind arith
+all_values (c ∷ cs) (v ∷ vs) under past = ap₂ ◌&&◌ (lt-ltb v (length c.values) (under 0 (omega arith))) (all_values cs vs (λ i l. under (suc i) (omega (arith, l))) (λ i l. past (suc i) (omega (arith, l))))
 
 category_end : (schema : Schema) (d : ℕ) → 2 ≤ d → label_end schema d ≡ value_count schema.categories (d - 2)
 category_end schema d two = ap (λ (b : Bool). cond {A = ℕ} b 4 (value_count schema.categories (d - 2))) (ne_eqb d 1 (λ e. omega (arith, e, two)))
@@ -200,11 +192,8 @@ spot_from bin space ps = record { x = bits_of of_x space; y = bits_of of_y space
 
 module _ (schema : Schema) (few : length schema.categories ≤ 4) where
   from_paths : (bin n : ℕ) (space : List ℕ) (ps : List (List ℕ)) → suc n ≡ time_dim schema → length space ≡ deepest schema 1 → map (λ (p : List ℕ). length p) ps ≡ levels_from schema 2 n → list_all (label_fits schema 1) space ≡ true → paths_fit schema 2 ps ≡ true → HasSpotOf schema (record { paths = space ∷ ps; bin = bin })
-  from_paths bin n space ps is deep rest quads fit = record { spot = spot_from bin space ps; is = same; fit = ap₂ ◌&&◌ (ap₂ ◌&&◌ (less (bits_of of_x space) (2 ^ schema.depth) x_lt) (less (bits_of of_y space) (2 ^ schema.depth) y_lt)) values; four = length-filled 4 (firsts ps) }
+  from_paths bin n space ps is deep rest quads fit = record { spot = spot_from bin space ps; is = same; fit = ap₂ ◌&&◌ (ap₂ ◌&&◌ (lt-ltb (bits_of of_x space) (2 ^ schema.depth) x_lt) (lt-ltb (bits_of of_y space) (2 ^ schema.depth) y_lt)) values; four = length-filled 4 (firsts ps) }
     where
-      less : (a b : ℕ) → a < b → nat_lt a b ≡ true
-      less a b l = grind arith
-
       x_lt : bits_of of_x space < 2 ^ schema.depth
       x_lt = let l = bits_lt of_x x_two space quads in let e : 2 ^ length space ≡ 2 ^ schema.depth = ap (λ (k : ℕ). 2 ^ k) deep in omega (arith, l, e)
 

@@ -14,6 +14,7 @@ use Rattle.image_shape.specs.Levels.{Levels, left, label_counts}
 use Rattle.image_shape.specs.Ways.{Way, along, count_below, IsFinest, Merges}
 use Rattle.image_shape.proofs.Core.{under_along}
 use Rattle.image_shape.proofs.Local.{left_spot, own_way, levels_of}
+use Rattle.image_shape.proofs.Decides.{under_home}
 use Rattle.shape_test.specs.Agreeing.{IsOver, MergesFrom}
 use Rattle.shape_test.specs.Filled.{HasRow, HasChild, IsBare, IsFilledNode}
 use Rattle.shape_test.specs.Fits.{IsSchemaCube, IsSchemaLocal, slots_bag}
@@ -22,7 +23,7 @@ use Rattle.shape_test.specs.Links.{LinksFit}
 use Rattle.shape_test.specs.Places.{place_at, levels_at, IsPlaceOf, IsOutside}
 use Rattle.shape_test.specs.Standing.{SuitsPlace, AllStand, MergesAt, AllMerge}
 use Rattle.shape_test.specs.declared.place.Place.{Place}
-use Rattle.shape_test.proofs.Deciding.{ends_with_time, under_home, local_is_cube}
+use Rattle.shape_test.proofs.Deciding.{ends_with_time, local_is_cube}
 use Rattle.shape_test.proofs.Gathering.{told_at}
 use Rattle.shape_test.proofs.Over.{over_none}
 use Rattle.shape_test.proofs.Placing.{place_told}

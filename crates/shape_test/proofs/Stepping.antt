@@ -1,6 +1,6 @@
 -- Addresses within a schema's levels have few steps.
 use Rattle.std.proofs.Common.{◌≡◌, ℕ, zero, suc, ◌+◌, ◌*◌, ◌<◌, ◌≤◌, List, [], ◌∷◌, length, Some, ap, ◌∙◌, arith}
-use Rattle.cube_view.specs.Places.{deepest, time_dim}
+use Rattle.cube_view.specs.Places.{time_dim}
 use Rattle.cube_view.specs.Walks.{down, across, Walk}
 use Rattle.cube_view.specs.declared.schema.Schema.{Schema}
 use Rattle.node_arena.specs.Shape.{home_of}
@@ -8,6 +8,7 @@ use Rattle.image_shape.specs.Levels.{Levels, level_down, level_across, left}
 use Rattle.image_shape.proofs.Local.{level_begun}
 use Rattle.shape_test.specs.Labels.{levels_from, schema_levels}
 use Rattle.shape_test.specs.Owners.{most_steps, TellsShort}
+use Rattle.shape_test.proofs.Over.{in_category, in_time}
 
 -- the steps across to dimensions and down all their levels
 abbrev steps_over : List ℕ → ℕ
@@ -48,17 +49,11 @@ left_steps levels (across ∷ a) c e =
         let q = ap (λ (z : Levels). steps_over z.later) s in
         omega (arith, r, p, q)
 
-category_level : (schema : Schema) (d : ℕ) → 2 ≤ d → d < time_dim schema → deepest schema d ≡ 1
-category_level schema d two less = grind arith
-
-time_level : (schema : Schema) (d : ℕ) → d ≡ time_dim schema → deepest schema d ≡ 0
-time_level schema d is = grind arith
-
 -- over n categories and to time
 category_steps : (schema : Schema) (n d : ℕ) → 2 ≤ d → d + n ≡ time_dim schema → steps_over (levels_from schema d (suc n)) ≡ 2 * n + 1
-category_steps schema zero d two is = let t = time_level schema d (omega (arith, is)) in omega (arith, t)
+category_steps schema zero d two is = let t = in_time schema d (omega (arith, is)) in omega (arith, t)
 category_steps schema (suc n) d two is =
-    let c = category_level schema d two (omega (arith, is)) in
+    let c = in_category schema d two (omega (arith, is)) in
     let r = category_steps schema n (suc d) (omega (arith, two)) (omega (arith, is)) in
     omega (arith, c, r)
 
