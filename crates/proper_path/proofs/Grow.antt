@@ -83,15 +83,16 @@ pub record IsAlike (homes : List Walk) (a : Walk) (t : ℕ) (sure : List SpotPat
 pub alike : (slots : List Slot) (homes : List Walk) (sure all : List SpotPath) → HasHomes slots homes → HoldsSpots slots homes sure all → (i t : ℕ) (e : Step) → link_of slots i e ≡ Some (shared t) → IsAlike homes (e ∷ home_of homes i) t sure
 alike slots homes sure all H S i t e h = record { coarser = (H.finer i t e h).1; agrees = S.agrees i e (shared t) h }
 
+-- a link of a shallow copy was one of its original, and is shared
+came : (slots : List Slot) (t : ℕ) (f : Step) (l : Link) → link (copied (slot_of slots t)) f ≡ Some l → (k : Link) × (link_of slots t f ≡ Some k) × (l ≡ shared (target k))
+came slots t f l h = share-some (link_of slots t f) l (sym (link-copied (slot_of slots t) f) ∙ h)
+
 -- a shallow copy stands at the coarser address as its original does at its home
 pub copy_holds : (slots : List Slot) (homes : List Walk) (sure all : List SpotPath) → HasHomes slots homes → HoldsSpots slots homes sure all → (a : Walk) (t : ℕ) → t < length slots → IsAlike homes a t sure → HoldsAt homes a (copied (slot_of slots t)) sure all
 copy_holds slots homes sure all H S a t lt A = record { needed = needed; wanted = wanted; agrees = agrees; in_range = in_range }
   where
     T : Walk
     T = home_of homes t
-
-    came : (f : Step) (l : Link) → link (copied (slot_of slots t)) f ≡ Some l → (k : Link) × (link_of slots t f ≡ Some k) × (l ≡ shared (target k))
-    came f l h = share-some (link_of slots t f) l (sym (link-copied (slot_of slots t) f) ∙ h)
 
     down_to : (q : SpotPath) (f : Step) → Contains sure q → Under q (f ∷ a) → Under q (f ∷ T)
     down_to q f c u = sym (step_across_finer A.coarser q f (A.agrees q c (under_before q f a u))) ∙ u
@@ -106,34 +107,31 @@ copy_holds slots homes sure all H S a t lt A = record { needed = needed; wanted 
 
     wanted : (f : Step) (l : Link) → link (copied (slot_of slots t)) f ≡ Some l → HasSpot all (f ∷ a)
     wanted f l h =
-        let r = came f l h in let w = S.wanted t f r.0 r.1 in
+        let r = came slots t f l h in let w = S.wanted t f r.0 r.1 in
         record { spot = w.spot; is_in = w.is_in; lies = up_to w.spot f w.lies }
 
     agrees : (f : Step) (l : Link) → link (copied (slot_of slots t)) f ≡ Some l → (q : SpotPath) → Contains sure q → Under q (f ∷ a) → Under q (home_of homes (target l))
     agrees f l h q c u =
-        let r = came f l h in
+        let r = came slots t f l h in
         subst (λ z. Under q (home_of homes (target z))) (sym r.2) (S.agrees t f r.0 r.1 q c (down_to q f c u))
 
     in_range : (f : Step) (l : Link) → link (copied (slot_of slots t)) f ≡ Some l → target l < length homes
     in_range f l h =
-        let r = came f l h in let w = target-lt slots homes H t f r.0 r.1 in
+        let r = came slots t f l h in let w = target-lt slots homes H t f r.0 r.1 in
         subst (λ z. target z < length homes) (sym r.2) (omega (arith, H.size))
 
 pub copy_fits : (slots : List Slot) (homes : List Walk) → HasHomes slots homes → (a : Walk) (t : ℕ) → IsCoarser a (home_of homes t) → FitsUnder slots homes a (copied (slot_of slots t))
 copy_fits slots homes H a t co = record { no_proper = no_proper; finer = finer }
   where
-    came : (f : Step) (l : Link) → link (copied (slot_of slots t)) f ≡ Some l → (k : Link) × (link_of slots t f ≡ Some k) × (l ≡ shared (target k))
-    came f l h = share-some (link_of slots t f) l (sym (link-copied (slot_of slots t) f) ∙ h)
-
     no_proper : (f : Step) (j : ℕ) → link (copied (slot_of slots t)) f ≡ Some (proper j) → ⊥
-    no_proper f j h = let r = came f (proper j) h in proper≢shared j (target r.0) r.2
+    no_proper f j h = let r = came slots t f (proper j) h in proper≢shared j (target r.0) r.2
 
     along : (f : Step) (k : Link) → link_of slots t f ≡ Some k → (target k < length slots) × IsCoarser (f ∷ a) (home_of homes (target k))
     along f k h = (target-lt slots homes H t f k h, finer-trans (finer-step co f) (link_coarser slots homes H t f k h))
 
     finer : (f : Step) (j : ℕ) → link (copied (slot_of slots t)) f ≡ Some (shared j) → (j < length slots) × IsCoarser (f ∷ a) (home_of homes j)
     finer f j h =
-        let r = came f (shared j) h in let e : shared j ≡ shared (target r.0) = r.2 in let k : target r.0 ≡ j = sym (ap target e) in
+        let r = came slots t f (shared j) h in let e : shared j ≡ shared (target r.0) = r.2 in let k : target r.0 ≡ j = sym (ap target e) in
         subst (λ z. (z < length slots) × IsCoarser (f ∷ a) (home_of homes z)) k (along f r.0 r.1)
 
 -- an empty slot stands where no old spot lies

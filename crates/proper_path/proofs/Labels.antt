@@ -11,7 +11,7 @@ use Rattle.proper_path.specs.Making.{IsSpotOf}
 use Rattle.proper_path.specs.Rooted.{path_at}
 use Rattle.proper_path.specs.Order.{shape_of}
 
-length-labels_from : (z : Schema) (s : Spot) (dim level n : ℕ) → length (labels_from z s dim level n) ≡ n
+pub length-labels_from : (z : Schema) (s : Spot) (dim level n : ℕ) → length (labels_from z s dim level n) ≡ n
 length-labels_from z s dim level zero = refl
 length-labels_from z s dim level (suc n) = ap suc (length-labels_from z s dim (level + 1) n)
 
