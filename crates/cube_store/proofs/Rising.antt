@@ -1,31 +1,28 @@
 -- Lists of pairs whose numbers rise: the test of it, and how many different numbers they have.
-use Rattle.std.proofs.Common.{◌≡◌, ℕ, suc, ◌<◌, Bool, true, false, cond, eqb, ltb, T, List, [], ◌∷◌, All, length, get_or, map, refl, ◌∙◌, arith}
+use Rattle.std.proofs.Common.{◌≡◌, ℕ, suc, ◌<◌, Bool, true, false, eqb, T, List, [], ◌∷◌, All, length, get_or, map, refl, ◌∙◌, arith}
 use Rattle.std.specs.FinMap.Entries.{is_sorted, below_all}
 use Rattle.std.specs.List.{AllPairs, list_all}
 use Rattle.std.specs.Ordering.{nat_cmp, is_lt}
 use Rattle.std.specs.Set.{distinct_count}
-use Rattle.std.specs.declared.cmp.Ordering.TheVariants.{Less, Equal, Greater}
-use Rattle.std.proofs.lemmas.Bool.{and_parts, and_from, lt-ltb, ltb-true}
+use Rattle.std.proofs.lemmas.Bool.{and_parts, and_from, lt-ltb}
 use Rattle.std.proofs.lemmas.Bool.Decides.{Decides-eqb}
 use Rattle.std.proofs.lemmas.Cmp.{nat_eq_equiv}
 use Rattle.std.proofs.lemmas.List.{length-map, get_or-map}
 use Rattle.std.proofs.lemmas.List.Elements.{All-nil, All-cons, All-head, All-tail}
 use Rattle.std.proofs.lemmas.List.Kept.{AllPairs-cons}
 use Rattle.std.proofs.lemmas.Map.Made.{distinct_count-from_IsDistinct, IsDistinct-from_AllPairs}
+use Rattle.std.proofs.lemmas.Float.{T_from_true}
+use Rattle.time_table.proofs.Passing.{below}
 
 -- the numbers of the pairs rise
 abbrev pub Rises : {X : Type 0} → List (ℕ × X) → Type 0
 Rises {X} es = AllPairs (λ (a b : ℕ × X). a.0 < b.0) es
 
+-- the test of an order
 less_from : (a b : ℕ) → is_lt (nat_cmp a b) ≡ true → a < b
-less_from a b e = go (ltb a b) (eqb a b) refl e
-  where
-    go : (t u : Bool) → ltb a b ≡ t → is_lt (cond t Less (cond u Equal Greater)) ≡ true → a < b
-    go true u f e = ltb-true a b f
-    go false true f e = absurd cc
-    go false false f e = absurd cc
+less_from a b e = below a b (T_from_true (is_lt (nat_cmp a b)) e)
 
-less_to : (a b : ℕ) → a < b → is_lt (nat_cmp a b) ≡ true
+pub less_to : (a b : ℕ) → a < b → is_lt (nat_cmp a b) ≡ true
 less_to a b lt = rw (lt-ltb a b lt) refl
 
 module _ {X : Type 0} where
