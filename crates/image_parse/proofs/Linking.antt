@@ -1,5 +1,5 @@
 -- Links that are read, the numbers that their proper ones give to slots, and links that are read again.
-use Rattle.std.proofs.Common.{◌≡◌, ℕ, suc, ◌+◌, ◌^◌, ◌<◌, ◌≤◌, false, cond, eqb, ltb, List, [], ◌∷◌, ◌++◌, length, Option, Some, None, refl, ap, subst, arith, inl, inr, eq-eqb}
+use Rattle.std.proofs.Common.{◌≡◌, ℕ, suc, ◌+◌, ◌^◌, ◌<◌, ◌≤◌, false, cond, eqb, ltb, List, [], ◌∷◌, ◌++◌, length, Option, Some, None, refl, ap, subst, arith, inl, inr, eq-eqb, option_and_then}
 use Rattle.std.specs.Int.{w64, to_be_bytes}
 use Rattle.std.proofs.lemmas.Bool.{eqb-true, ltb-true, ltb-false, lt-ltb, le-ltb}
 use Rattle.std.proofs.lemmas.List.{length-append}
@@ -10,7 +10,7 @@ use Rattle.node_arena.specs.Slots.{id_of, proper, shared, target}
 use Rattle.cube_image.specs.Bytes.{kind_byte, link_bytes, content_bytes, child_bytes}
 use Rattle.cube_image.specs.Order.{proper_target, owned_content}
 use Rattle.image_parse.specs.Images.{IsContent}
-use Rattle.image_parse.specs.Reading.{◌>>=◌, Linked, byte_at, width_number_at, link_to, link_at, content_at, child_at}
+use Rattle.image_parse.specs.Reading.{Linked, byte_at, width_number_at, link_to, link_at, content_at, child_at}
 use Rattle.image_parse.proofs.Fields.{IsBytes, bind_some, some_is, chosen, fails_some, passes_some, Takes, Takes-then, byte_takes, wide64, number_takes, number_again}
 
 -- the numbers are those from a number on
@@ -83,7 +83,7 @@ pub record IsLink (n next kind : ℕ) (bytes : List ℕ) (x : Linked Link) : Typ
 pub link_takes : (n next kind : ℕ) (bytes : List ℕ) (x : Linked Link) → IsBytes bytes → link_at n next kind bytes ≡ Some x → IsLink n next kind bytes x
 unfolding link_at
 link_takes n next kind bytes x fits e =
-    let a = bind_some (width_number_at w64 bytes) (λ to. link_to n next kind to.0 >>= λ l. Some (l.0, l.1, to.1)) x e in
+    let a = bind_some (width_number_at w64 bytes) (λ to. option_and_then (λ l. Some (l.0, l.1, to.1)) (link_to n next kind to.0)) x e in
     let b = bind_some (link_to n next kind a.0.0) (λ l. Some (l.0, l.1, a.0.1)) x a.2 in
     let t = number_takes w64 (2 ^ 64) wide64 bytes a.0 fits a.1 in
     let k = link_to_takes n next kind a.0.0 b.0 b.1 in
@@ -109,9 +109,9 @@ pub record IsContentAt (n next : ℕ) (bytes : List ℕ) (x : Linked (Option Lin
 pub content_takes : (n next : ℕ) (bytes : List ℕ) (x : Linked (Option Link)) → IsBytes bytes → content_at n next bytes ≡ Some x → IsContentAt n next bytes x
 unfolding content_at
 content_takes n next bytes x fits e =
-    let a = bind_some (byte_at bytes) (λ kind. cond (eqb kind.0 0) (Some (None, next, kind.1)) (link_at n next kind.0 kind.1 >>= λ l. Some (Some l.0, l.1, l.2))) x e in
+    let a = bind_some (byte_at bytes) (λ kind. cond (eqb kind.0 0) (Some (None, next, kind.1)) (option_and_then (λ l. Some (Some l.0, l.1, l.2)) (link_at n next kind.0 kind.1))) x e in
     let t = byte_takes bytes a.0 fits a.1 in
-    elim (chosen (eqb a.0.0 0) (Some (None, next, a.0.1)) (link_at n next a.0.0 a.0.1 >>= λ l. Some (Some l.0, l.1, l.2)) (Some x) a.2) [
+    elim (chosen (eqb a.0.0 0) (Some (None, next, a.0.1)) (option_and_then (λ l. Some (Some l.0, l.1, l.2)) (link_at n next a.0.0 a.0.1)) (Some x) a.2) [
       | inl p ↦
           let made : Linked (Option Link) = (None, next, a.0.1) in
           let found : IsContentAt n next bytes made = record {
@@ -152,8 +152,8 @@ pub record IsChildAt (n from next : ℕ) (bytes : List ℕ) (x : Linked (ℕ × 
 pub child_takes : (n from next : ℕ) (bytes : List ℕ) (x : Linked (ℕ × Link)) → IsBytes bytes → child_at n from next bytes ≡ Some x → IsChildAt n from next bytes x
 unfolding child_at
 child_takes n from next bytes x fits e =
-    let a = bind_some (byte_at bytes) (λ label. byte_at label.1 >>= λ kind. link_at n next kind.0 kind.1 >>= λ l. cond (ltb label.0 from) None (Some ((label.0, l.0), l.1, l.2))) x e in
-    let b = bind_some (byte_at a.0.1) (λ kind. link_at n next kind.0 kind.1 >>= λ l. cond (ltb a.0.0 from) None (Some ((a.0.0, l.0), l.1, l.2))) x a.2 in
+    let a = bind_some (byte_at bytes) (λ label. option_and_then (λ kind. option_and_then (λ l. cond (ltb label.0 from) None (Some ((label.0, l.0), l.1, l.2))) (link_at n next kind.0 kind.1)) (byte_at label.1)) x e in
+    let b = bind_some (byte_at a.0.1) (λ kind. option_and_then (λ l. cond (ltb a.0.0 from) None (Some ((a.0.0, l.0), l.1, l.2))) (link_at n next kind.0 kind.1)) x a.2 in
     let c = bind_some (link_at n next b.0.0 b.0.1) (λ l. cond (ltb a.0.0 from) None (Some ((a.0.0, l.0), l.1, l.2))) x b.2 in
     let g = fails_some (ltb a.0.0 from) (Some ((a.0.0, c.0.0), c.0.1, c.0.2)) x c.2 in
     let t = byte_takes bytes a.0 fits a.1 in

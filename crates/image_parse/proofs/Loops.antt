@@ -1,26 +1,26 @@
 -- Reading children, and rows, one after another, as loops do.
-use Rattle.std.proofs.Common.{◌≡◌, ℕ, suc, ◌-◌, ◌+◌, ◌≤◌, ◌<◌, List, [], ◌∷◌, ◌++◌, Option, Some, None, refl, sym, ap, ◌∙◌, append_assoc, arith}
+use Rattle.std.proofs.Common.{◌≡◌, ℕ, suc, ◌-◌, ◌+◌, ◌≤◌, ◌<◌, List, [], ◌∷◌, ◌++◌, Option, Some, None, refl, sym, ap, ◌∙◌, append_assoc, arith, option_and_then}
 use Rattle.std.proofs.lemmas.List.{append-nil}
 use Rattle.node_arena.specs.declared.link.Link.{Link}
 use Rattle.node_arena.specs.Slots.{Children, Slot}
 use Rattle.image_parse.specs.declared.fault.ImageParseFault.{ImageParseFault}
 use Rattle.image_parse.specs.declared.fault.ImageParseFault.TheVariants.{NotImage, NoMemory}
-use Rattle.image_parse.specs.Reading.{◌>>=◌, Front, Linked, child_at, children_at, row_at, table_rows_at, slot_at, slots_at}
+use Rattle.image_parse.specs.Reading.{Front, Linked, child_at, children_at, row_at, table_rows_at, slot_at, slots_at}
 use Rattle.image_parse.specs.Views.{Fails, KeepsLight, HasSlots}
 
 -- what was read before, and what is still read
 abbrev pub with_front : {X : Type 0} → List X → Option (Front (List X)) → Option (Front (List X))
-with_front front read = read >>= λ x. Some (front ++ x.0, x.1)
+with_front front read = option_and_then (λ x. Some (front ++ x.0, x.1)) read
 
 -- the same of what has links
 abbrev pub with_linked : {X : Type 0} → List X → Option (Linked (List X)) → Option (Linked (List X))
-with_linked front read = read >>= λ x. Some (front ++ x.0, x.1, x.2)
+with_linked front read = option_and_then (λ x. Some (front ++ x.0, x.1, x.2)) read
 
-regroup_front : {X : Type 0} (front : List X) (first : X) (read : Option (Front (List X))) → with_front front (read >>= λ x. Some (first ∷ x.0, x.1)) ≡ with_front (front ++ first ∷ []) read
+regroup_front : {X : Type 0} (front : List X) (first : X) (read : Option (Front (List X))) → with_front front (option_and_then (λ x. Some (first ∷ x.0, x.1)) read) ≡ with_front (front ++ first ∷ []) read
 regroup_front front first (Some x) = ap (λ xs. Some (xs, x.1)) (simp append_assoc)
 regroup_front front first None = refl
 
-regroup_linked : {X : Type 0} (front : List X) (first : X) (read : Option (Linked (List X))) → with_linked front (read >>= λ x. Some (first ∷ x.0, x.1, x.2)) ≡ with_linked (front ++ first ∷ []) read
+regroup_linked : {X : Type 0} (front : List X) (first : X) (read : Option (Linked (List X))) → with_linked front (option_and_then (λ x. Some (first ∷ x.0, x.1, x.2)) read) ≡ with_linked (front ++ first ∷ []) read
 regroup_linked front first (Some x) = ap (λ xs. Some (xs, x.1, x.2)) (simp append_assoc)
 regroup_linked front first None = refl
 

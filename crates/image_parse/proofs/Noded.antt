@@ -1,5 +1,5 @@
 -- Nodes that are read, and that are read again.
-use Rattle.std.proofs.Common.{◌≡◌, ℕ, zero, suc, ◌+◌, ◌^◌, ◌<◌, ◌≤◌, Bool, cond, List, [], ◌∷◌, ◌++◌, length, Option, Some, refl, sym, ap, subst, ◌∙◌, append_assoc, arith}
+use Rattle.std.proofs.Common.{◌≡◌, ℕ, zero, suc, ◌+◌, ◌^◌, ◌<◌, ◌≤◌, Bool, cond, List, [], ◌∷◌, ◌++◌, length, Option, Some, refl, sym, ap, subst, ◌∙◌, append_assoc, arith, option_and_then}
 use Rattle.std.specs.Int.{w16, to_be_bytes}
 use Rattle.std.specs.List.{flat_map}
 use Rattle.std.proofs.lemmas.Bool.{lt-ltb}
@@ -10,7 +10,7 @@ use Rattle.cube_image.specs.Bytes.{child_bytes, content_bytes, slot_bytes}
 use Rattle.cube_image.specs.Order.{proper_target, owned_children, owned_content, owned_by}
 use Rattle.cube_image.specs.Rest.{byte_children}
 use Rattle.image_parse.specs.Images.{AreChildren, IsContent, IsImageSlot}
-use Rattle.image_parse.specs.Reading.{◌>>=◌, Linked, width_number_at, child_at, children_at, content_at, node_at}
+use Rattle.image_parse.specs.Reading.{Linked, width_number_at, child_at, children_at, content_at, node_at}
 use Rattle.image_parse.specs.Views.{AreImageChildren}
 use Rattle.image_parse.proofs.Fields.{IsBytes, bind_some, some_is, Takes, Takes-then, wide16, number_takes, number_again}
 use Rattle.image_parse.proofs.Linking.{CountsUp, CountsUp-split, Numbers, Numbers-then, Numbers-none, child_takes, child_again, content_takes, content_again}
@@ -27,7 +27,7 @@ unfolding children_at
 children_take zero n from next bytes x fits e =
     subst (AreChildrenAt 0 n from next bytes) (some_is ([], next, bytes) x e) (record { takes = record { parts = refl; rest_fits = fits }; count = refl; fit = tt; numbers = Numbers-none next })
 children_take (suc k) n from next bytes x fits e =
-    let a = bind_some (child_at n from next bytes) (λ first. children_at k n (first.0.0 + 1) first.1 first.2 >>= λ others. Some (first.0 ∷ others.0, others.1, others.2)) x e in
+    let a = bind_some (child_at n from next bytes) (λ first. option_and_then (λ others. Some (first.0 ∷ others.0, others.1, others.2)) (children_at k n (first.0.0 + 1) first.1 first.2)) x e in
     let b = bind_some (children_at k n (a.0.0.0 + 1) a.0.1 a.0.2) (λ others. Some (a.0.0 ∷ others.0, others.1, others.2)) x a.2 in
     let first = child_takes n from next bytes a.0 fits a.1 in
     let others = children_take k n (a.0.0.0 + 1) a.0.1 a.0.2 b.0 first.takes.rest_fits b.1 in
@@ -76,8 +76,8 @@ pub record IsSlotAt (n next kind : ℕ) (bytes : List ℕ) (x : Linked Slot) : T
 pub node_takes : (n next : ℕ) (bytes : List ℕ) (x : Linked Slot) → IsBytes bytes → node_at n next bytes ≡ Some x → IsSlotAt n next 1 bytes x
 unfolding node_at
 node_takes n next bytes x fits e =
-    let a = bind_some (width_number_at w16 bytes) (λ count. children_at count.0 n 0 next count.1 >>= λ children. content_at n children.1 children.2 >>= λ content. Some (node children.0 content.0, content.1, content.2)) x e in
-    let b = bind_some (children_at a.0.0 n 0 next a.0.1) (λ children. content_at n children.1 children.2 >>= λ content. Some (node children.0 content.0, content.1, content.2)) x a.2 in
+    let a = bind_some (width_number_at w16 bytes) (λ count. option_and_then (λ children. option_and_then (λ content. Some (node children.0 content.0, content.1, content.2)) (content_at n children.1 children.2)) (children_at count.0 n 0 next count.1)) x e in
+    let b = bind_some (children_at a.0.0 n 0 next a.0.1) (λ children. option_and_then (λ content. Some (node children.0 content.0, content.1, content.2)) (content_at n children.1 children.2)) x a.2 in
     let c = bind_some (content_at n b.0.1 b.0.2) (λ content. Some (node b.0.0 content.0, content.1, content.2)) x b.2 in
     let t = number_takes w16 (2 ^ 16) wide16 bytes a.0 fits a.1 in
     let u = children_take a.0.0 n 0 next a.0.1 b.0 t.0.rest_fits b.1 in

@@ -1,5 +1,5 @@
 -- Slots that are read, and that are read again.
-use Rattle.std.proofs.Common.{◌≡◌, ℕ, zero, suc, ◌+◌, ◌^◌, ◌<◌, cond, eqb, List, [], ◌∷◌, ◌++◌, length, Some, None, refl, sym, ap, subst, ◌∙◌, append_assoc, arith, inl, inr}
+use Rattle.std.proofs.Common.{◌≡◌, ℕ, zero, suc, ◌+◌, ◌^◌, ◌<◌, cond, eqb, List, [], ◌∷◌, ◌++◌, length, Some, None, refl, sym, ap, subst, ◌∙◌, append_assoc, arith, inl, inr, option_and_then}
 use Rattle.std.specs.List.{flat_map, AllByRecursion}
 use Rattle.std.proofs.lemmas.Bool.{eqb-true}
 use Rattle.std.proofs.lemmas.List.{length-append}
@@ -8,7 +8,7 @@ use Rattle.node_arena.specs.Slots.{Slot, node, table}
 use Rattle.cube_image.specs.Bytes.{slot_bytes}
 use Rattle.cube_image.specs.Order.{owned_by}
 use Rattle.image_parse.specs.Images.{IsImageSlot}
-use Rattle.image_parse.specs.Reading.{◌>>=◌, Linked, byte_at, node_at, table_at, slot_at, slots_at}
+use Rattle.image_parse.specs.Reading.{Linked, byte_at, node_at, table_at, slot_at, slots_at}
 use Rattle.image_parse.proofs.Fields.{IsBytes, bind_some, some_is, chosen, passes_some, Takes, Takes-then, byte_takes}
 use Rattle.image_parse.proofs.Linking.{CountsUp, CountsUp-split, Numbers, Numbers-then, Numbers-none}
 use Rattle.image_parse.proofs.Noded.{node_takes, node_again}
@@ -27,15 +27,15 @@ table_owns s counts e next = subst (λ (t : Slot). Numbers next (owned_by t) nex
 pub slot_takes : (n next : ℕ) (bytes : List ℕ) (x : Linked Slot) → IsBytes bytes → slot_at n next bytes ≡ Some x → IsWholeSlot n next bytes x
 unfolding slot_at
 slot_takes n next bytes x fits e =
-    let a = bind_some (byte_at bytes) (λ kind. cond (eqb kind.0 1) (node_at n next kind.1) (cond (eqb kind.0 2) (table_at kind.1 >>= λ t. Some (t.0, next, t.1)) None)) x e in
+    let a = bind_some (byte_at bytes) (λ kind. cond (eqb kind.0 1) (node_at n next kind.1) (cond (eqb kind.0 2) (option_and_then (λ t. Some (t.0, next, t.1)) (table_at kind.1)) None)) x e in
     let t = byte_takes bytes a.0 fits a.1 in
     let front : (k : ℕ) → a.0.0 ≡ k → bytes ≡ k ∷ a.0.1 = λ k f. t.0.parts ∙ ap (λ (b : ℕ). b ∷ a.0.1) f in
-    elim (chosen (eqb a.0.0 1) (node_at n next a.0.1) (cond (eqb a.0.0 2) (table_at a.0.1 >>= λ t. Some (t.0, next, t.1)) None) (Some x) a.2) [
+    elim (chosen (eqb a.0.0 1) (node_at n next a.0.1) (cond (eqb a.0.0 2) (option_and_then (λ t. Some (t.0, next, t.1)) (table_at a.0.1)) None) (Some x) a.2) [
       | inl p ↦
           let k = node_takes n next a.0.1 x t.0.rest_fits p.1 in
           record { takes = subst (λ (bs : List ℕ). Takes bs (slot_bytes x.0) x.2) (sym (front 1 (eqb-true _ _ p.0))) k.takes; fit = k.fit; numbers = k.numbers }
       | inr p ↦
-          let q = passes_some (eqb a.0.0 2) (table_at a.0.1 >>= λ t. Some (t.0, next, t.1)) x p.1 in
+          let q = passes_some (eqb a.0.0 2) (option_and_then (λ t. Some (t.0, next, t.1)) (table_at a.0.1)) x p.1 in
           let b = bind_some (table_at a.0.1) (λ t. Some (t.0, next, t.1)) x q.1 in
           let k = table_takes a.0.1 b.0 t.0.rest_fits b.1 in
           let made : Linked Slot = (b.0.0, next, b.0.1) in
@@ -66,7 +66,7 @@ unfolding slots_at
 slots_take zero n next bytes x fits e =
     subst (AreSlotsAt 0 n next bytes) (some_is ([], next, bytes) x e) (record { takes = record { parts = refl; rest_fits = fits }; count = refl; fit = tt; numbers = Numbers-none next })
 slots_take (suc k) n next bytes x fits e =
-    let a = bind_some (slot_at n next bytes) (λ first. slots_at k n first.1 first.2 >>= λ others. Some (first.0 ∷ others.0, others.1, others.2)) x e in
+    let a = bind_some (slot_at n next bytes) (λ first. option_and_then (λ others. Some (first.0 ∷ others.0, others.1, others.2)) (slots_at k n first.1 first.2)) x e in
     let b = bind_some (slots_at k n a.0.1 a.0.2) (λ others. Some (a.0.0 ∷ others.0, others.1, others.2)) x a.2 in
     let first = slot_takes n next bytes a.0 fits a.1 in
     let others = slots_take k n a.0.1 a.0.2 b.0 first.takes.rest_fits b.1 in

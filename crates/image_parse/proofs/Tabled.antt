@@ -1,18 +1,19 @@
 -- Tables that are read, and that are read again.
-use Rattle.std.proofs.Common.{◌≡◌, ℕ, zero, suc, ◌+◌, ◌^◌, ◌<◌, ◌≤◌, Bool, true, cond, eqb, ltb, T, List, [], ◌∷◌, ◌++◌, length, Some, None, refl, sym, ap, subst, ◌∙◌, append_assoc, arith}
+use Rattle.std.proofs.Common.{◌≡◌, ℕ, zero, suc, ◌+◌, ◌^◌, ◌<◌, ◌≤◌, Bool, true, cond, eqb, ltb, T, List, [], ◌∷◌, ◌++◌, length, Some, None, refl, sym, ap, subst, ◌∙◌, append_assoc, arith, option_and_then}
 use Rattle.std.specs.FinMap.{from_sorted, entries, entries_sorted, entries-from_sorted, same_entries_map}
 use Rattle.std.specs.FinMap.Entries.{is_sorted, below_all}
 use Rattle.std.specs.Int.{w32, w64, to_be_bytes}
 use Rattle.std.specs.List.{flat_map}
-use Rattle.std.specs.Ordering.{nat_cmp, is_lt}
+use Rattle.std.specs.Ordering.{nat_cmp}
 use Rattle.std.proofs.lemmas.Bool.{and_from, lt-ltb, le-ltb, ltb-false, eqb-false, ne_eqb}
 use Rattle.node_arena.specs.Slots.{Slot, table}
 use Rattle.time_table.specs.Counts.{BinCounts}
 use Rattle.cube_image.specs.Bytes.{row_bytes, table_bytes, slot_bytes}
 use Rattle.cube_image.specs.Rest.{below_number, word_rows}
 use Rattle.image_parse.specs.Images.{AreRows, IsImageSlot}
-use Rattle.image_parse.specs.Reading.{◌>>=◌, Front, width_number_at, row_at, table_rows_at, table_at}
+use Rattle.image_parse.specs.Reading.{Front, width_number_at, row_at, table_rows_at, table_at}
 use Rattle.image_parse.proofs.Fields.{IsBytes, bind_some, some_is, fails_some, Takes, Takes-then, wide32, wide64, number_takes, number_again}
+use Rattle.cube_store.proofs.Rising.{less_to}
 
 -- a row that was read
 record IsRowAt (from : ℕ) (bytes : List ℕ) (x : Front (ℕ × ℕ)) : Type 0 where
@@ -25,7 +26,7 @@ record IsRowAt (from : ℕ) (bytes : List ℕ) (x : Front (ℕ × ℕ)) : Type 0
 row_takes : (from : ℕ) (bytes : List ℕ) (x : Front (ℕ × ℕ)) → IsBytes bytes → row_at from bytes ≡ Some x → IsRowAt from bytes x
 unfolding row_at
 row_takes from bytes x fits e =
-    let a = bind_some (width_number_at w32 bytes) (λ bin. width_number_at w64 bin.1 >>= λ count. cond (ltb bin.0 from) None (cond (eqb count.0 0) None (Some ((bin.0, count.0), count.1)))) x e in
+    let a = bind_some (width_number_at w32 bytes) (λ bin. option_and_then (λ count. cond (ltb bin.0 from) None (cond (eqb count.0 0) None (Some ((bin.0, count.0), count.1)))) (width_number_at w64 bin.1)) x e in
     let b = bind_some (width_number_at w64 a.0.1) (λ count. cond (ltb a.0.0 from) None (cond (eqb count.0 0) None (Some ((a.0.0, count.0), count.1)))) x a.2 in
     let g = fails_some (ltb a.0.0 from) (cond (eqb b.0.0 0) None (Some ((a.0.0, b.0.0), b.0.1))) x b.2 in
     let h = fails_some (eqb b.0.0 0) (Some ((a.0.0, b.0.0), b.0.1)) x g.1 in
@@ -60,7 +61,7 @@ unfolding table_rows_at
 rows_take zero from bytes x fits e =
     subst (AreRowsAt 0 from bytes) (some_is ([], bytes) x e) (record { takes = record { parts = refl; rest_fits = fits }; count = refl; fit = tt })
 rows_take (suc k) from bytes x fits e =
-    let a = bind_some (row_at from bytes) (λ first. table_rows_at k (first.0.0 + 1) first.1 >>= λ others. Some (first.0 ∷ others.0, others.1)) x e in
+    let a = bind_some (row_at from bytes) (λ first. option_and_then (λ others. Some (first.0 ∷ others.0, others.1)) (table_rows_at k (first.0.0 + 1) first.1)) x e in
     let b = bind_some (table_rows_at k (a.0.0.0 + 1) a.0.1) (λ others. Some (a.0.0 ∷ others.0, others.1)) x a.2 in
     let first = row_takes from bytes a.0 fits a.1 in
     let others = rows_take k (a.0.0.0 + 1) a.0.1 b.0 first.takes.rest_fits b.1 in
@@ -95,9 +96,6 @@ rows-few from (e ∷ es) fit le =
     let r = rows-few (e.0 + 1) es fit.4 (omega arith) in
     omega arith
 
-less_to : (a b : ℕ) → a < b → is_lt (nat_cmp a b) ≡ true
-less_to a b lt = rw (lt-ltb a b lt) refl
-
 -- a bin below the number that bins rise from is below all of them
 rows_above : (bin from : ℕ) (es : List (ℕ × ℕ)) → bin < from → AreRows from es → below_all nat_cmp bin es ≡ true
 rows_above bin from [] lt fit = refl
@@ -126,7 +124,7 @@ pub record IsTableAt (bytes : List ℕ) (x : Front Slot) : Type 0 where
 pub table_takes : (bytes : List ℕ) (x : Front Slot) → IsBytes bytes → table_at bytes ≡ Some x → IsTableAt bytes x
 unfolding table_at
 table_takes bytes x fits e =
-    let a = bind_some (width_number_at w64 bytes) (λ count. table_rows_at count.0 0 count.1 >>= λ rows. Some (table (from_sorted rows.0), rows.1)) x e in
+    let a = bind_some (width_number_at w64 bytes) (λ count. option_and_then (λ rows. Some (table (from_sorted rows.0), rows.1)) (table_rows_at count.0 0 count.1)) x e in
     let b = bind_some (table_rows_at a.0.0 0 a.0.1) (λ rows. Some (table (from_sorted rows.0), rows.1)) x a.2 in
     let t = number_takes w64 (2 ^ 64) wide64 bytes a.0 fits a.1 in
     let u = rows_take a.0.0 0 a.0.1 b.0 t.0.rest_fits b.1 in

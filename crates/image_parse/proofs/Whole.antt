@@ -1,5 +1,5 @@
 -- Whole images that are read, and that are read again.
-use Rattle.std.proofs.Common.{◌≡◌, ◌≢◌, ℕ, zero, suc, ◌+◌, ◌^◌, ◌<◌, ◌≤◌, true, false, cond, eqb, ltb, nat_eq, List, [], ◌∷◌, ◌++◌, length, take, drop, codes, Option, Some, None, Result, Ok, Err, MatchResult, MatchOption, IfOk, refl, sym, ap, subst, ◌∙◌, append_assoc, arith, eq-eqb}
+use Rattle.std.proofs.Common.{◌≡◌, ◌≢◌, ℕ, zero, suc, ◌+◌, ◌^◌, ◌<◌, ◌≤◌, true, false, cond, eqb, ltb, nat_eq, List, [], ◌∷◌, ◌++◌, length, take, drop, codes, Option, Some, None, Result, Ok, Err, MatchResult, MatchOption, IfOk, refl, sym, ap, subst, ◌∙◌, append_assoc, arith, eq-eqb, option_and_then}
 use Rattle.std.specs.Int.{w64, to_be_bytes}
 use Rattle.std.specs.List.{flat_map, range_with_len, starts_with, AllByRecursion}
 use Rattle.std.specs.Cmp.Lexicographic.{same_text}
@@ -14,7 +14,7 @@ use Rattle.image_parse.specs.declared.fault.ImageParseFault.TheVariants.{NotImag
 use Rattle.image_parse.specs.declared.image.ParsedImage.{ParsedImage}
 use Rattle.image_parse.specs.Images.{IsImageSlot, IsImage, IsLightImage, IsHeavyImage, IsNoImage}
 use Rattle.image_parse.specs.Laws.{TellsOneMeaning}
-use Rattle.image_parse.specs.Reading.{◌>>=◌, Front, Linked, width_number_at, slots_at, form_name_at, head_at, end_at, all_at, image_at}
+use Rattle.image_parse.specs.Reading.{Front, Linked, width_number_at, slots_at, form_name_at, head_at, end_at, all_at, image_at}
 use Rattle.image_parse.specs.Views.{Fails, KeepsLight, HasSlots, HasImage}
 use Rattle.image_parse.proofs.Fields.{IsBytes, bind_some, some_is, fails_some, passes_some, Takes, Takes-then, wide64, number_takes, number_again, IsBytes-drop}
 use Rattle.image_parse.proofs.Linking.{CountsUp, Numbers}
@@ -43,8 +43,8 @@ record IsHead (bytes : List ℕ) (x : Front (ℕ × ℕ)) : Type 0 where
 head_takes : (bytes : List ℕ) (x : Front (ℕ × ℕ)) → IsBytes bytes → head_at bytes ≡ Some x → IsHead bytes x
 unfolding head_at
 head_takes bytes x fits e =
-    let a = bind_some (form_name_at bytes) (λ rest. width_number_at w64 rest >>= λ size. width_number_at w64 size.1 >>= λ slots. Some ((size.0, slots.0), slots.1)) x e in
-    let b = bind_some (width_number_at w64 a.0) (λ size. width_number_at w64 size.1 >>= λ slots. Some ((size.0, slots.0), slots.1)) x a.2 in
+    let a = bind_some (form_name_at bytes) (λ rest. option_and_then (λ size. option_and_then (λ slots. Some ((size.0, slots.0), slots.1)) (width_number_at w64 size.1)) (width_number_at w64 rest)) x e in
+    let b = bind_some (width_number_at w64 a.0) (λ size. option_and_then (λ slots. Some ((size.0, slots.0), slots.1)) (width_number_at w64 size.1)) x a.2 in
     let c = bind_some (width_number_at w64 b.0.1) (λ slots. Some ((b.0.0, slots.0), slots.1)) x b.2 in
     let t = name_takes bytes a.0 fits a.1 in
     let u = number_takes w64 (2 ^ 64) wide64 a.0 b.0 t.rest_fits b.1 in
@@ -114,7 +114,7 @@ record AreAll (n size : ℕ) (bytes : List ℕ) (x : ℕ × List Slot) : Type 0 
 all_take : (n size : ℕ) (bytes : List ℕ) (x : ℕ × List Slot) → IsBytes bytes → all_at n size bytes ≡ Some x → AreAll n size bytes x
 unfolding all_at
 all_take n size bytes x fits e =
-    let a = bind_some (slots_at n n 1 bytes) (λ slots. end_at n slots >>= λ all. Some (size, all)) x e in
+    let a = bind_some (slots_at n n 1 bytes) (λ slots. option_and_then (λ all. Some (size, all)) (end_at n slots)) x e in
     let b = bind_some (end_at n a.0) (λ all. Some (size, all)) x a.2 in
     let s = slots_take n n 1 bytes a.0 fits a.1 in
     let E = end_takes n a.0 b.0 b.1 in
@@ -167,7 +167,7 @@ slot_some : (s : Slot) → 1 ≤ length (slot_bytes s)
 slot_some (node cs content) = omega arith
 slot_some (table counts) = omega arith
 
-slots_few : (slots : List Slot) → length slots ≤ length (flat_map slot_bytes slots)
+pub slots_few : (slots : List Slot) → length slots ≤ length (flat_map slot_bytes slots)
 slots_few [] = omega arith
 slots_few (s ∷ slots) = let r = slots_few slots in let one = slot_some s in omega (arith, length-append (slot_bytes s) (flat_map slot_bytes slots), r, one)
 

@@ -1,5 +1,5 @@
 -- Reading an image from its front, as functions on its bytes. None comes where no image begins so.
-use Rattle.std.specs.Prelude.{ℕ, zero, suc, ◌+◌, ◌==◌, nat_eq, nat_lt, if◌then◌else◌, List, [], ◌∷◌, length, take, drop, Option, Some, None, codes}
+use Rattle.std.specs.Prelude.{ℕ, zero, suc, ◌+◌, ◌==◌, nat_eq, nat_lt, if◌then◌else◌, List, [], ◌∷◌, length, take, drop, Option, Some, None, codes, option_and_then}
 use Rattle.std.specs.FinMap.{from_sorted}
 use Rattle.std.specs.List.{starts_with}
 use Rattle.std.specs.Int.{Width, w16, w32, w64, byte_len, from_be_bytes}
@@ -8,9 +8,8 @@ use Rattle.node_arena.specs.Slots.{proper, shared, Children, Slot, node, table}
 
 infixl 10 ◌>>=◌
 -- what is read after a first part
-abbrev pub ◌>>=◌ : {A B : Type 0} → Option A → (A → Option B) → Option B
-(Some x) >>= f = f x
-None >>= f = None
+abbrev ◌>>=◌ : {A B : Type 0} → Option A → (A → Option B) → Option B
+read >>= next = option_and_then next read
 
 -- what is read, and the bytes after it
 abbrev pub Front : Type 0 → Type 0
