@@ -25,4 +25,5 @@ mod tests;
 
 pub use fault::SaveFault;
 pub use laws::image_laws;
+pub use length::MOST_BYTES;
 pub use save::write_image;

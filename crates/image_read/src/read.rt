@@ -4,6 +4,7 @@ ghost use Rattle.shape_test.specs.Testable.{AreTestable};
 ghost use Rattle.image_read.specs.Read.{FitsSlots, ReadsImage};
 
 use crate::fault::ImageFault;
+use cube_image::MOST_BYTES;
 use cube_view::Schema;
 use image_parse::{ImageParseFault, ParsedImage, image_parse_laws, parse_image};
 use node_arena::{Arena, SlotId};
@@ -12,9 +13,6 @@ use shape_test::{fits, size_laws};
 use std::alloc::Global;
 use std::marker::Brand;
 use std::sync::ledger::{Blank, Ledger};
-
-/// The most bytes that an image has.
-const MOST_BYTES: usize = 1 << 30;
 
 /// The slots of an image, the root and the size, if they fit the schema, by steps of a ledger of its own.
 fn fit_image<L: Ledger>(
@@ -48,7 +46,7 @@ pub fn read_image(
 {
     image_parse_laws();
     size_laws();
-    if bytes.len() > MOST_BYTES {
+    if bytes.len() as u64 > MOST_BYTES {
         return Err(ImageFault::TooLong);
     }
     match parse_image(alloc, bytes) {
