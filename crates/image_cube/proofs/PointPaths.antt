@@ -1,7 +1,7 @@
 -- The paths of a schema's points have the schema's levels and labels.
 use Rattle.std.proofs.Common.{◌≡◌, ◌⊎◌, inl, inr, ℕ, zero, suc, ◌+◌, ◌*◌, ◌/◌, ◌%◌, ◌-◌, ◌^◌, ◌<◌, ◌≤◌, Bool, true, false, cond, ◌&&◌, eqb, ne_eqb, nat_lt, ltb-true, List, [], ◌∷◌, length, get_or, map, refl, ap, ap₂, ◌∙◌, arith}
 use Rattle.std.specs.List.{list_all}
-use Rattle.std.proofs.lemmas.Bool.{and_parts, cases_eq, cases_lt}
+use Rattle.std.proofs.lemmas.Bool.{and_parts, cases_eq, cases_lt, lt-ltb}
 use Rattle.cube_view.specs.Paths.{labels_from, path_of, paths_from, spot_path}
 use Rattle.cube_view.specs.Places.{deepest, time_dim, label_of, quadrant_at}
 use Rattle.cube_view.specs.Validity.{values_fit, tile_fits, fits}
@@ -11,18 +11,16 @@ use Rattle.cube_view.specs.declared.spot.Spot.{Spot}
 use Rattle.cube_view.proofs.SchemaBounds.{few_categories}
 use Rattle.image_shape.specs.Levels.{label_counts}
 use Rattle.shape_test.specs.Labels.{levels_from, schema_levels, value_count, label_end, label_fits, paths_fit}
+use Rattle.shape_test.proofs.Over.{in_time}
+use Rattle.proper_path.proofs.Labels.{length-labels_from}
 
 one-more : (n : ℕ) → n + 1 ≡ suc n
 one-more n = omega arith
 
-length-labels : (schema : Schema) (s : Spot) (dim level n : ℕ) → length (labels_from schema s dim level n) ≡ n
-length-labels schema s dim level zero = refl
-length-labels schema s dim level (suc n) = let r = length-labels schema s dim (level + 1) n in omega (arith, r)
-
 counts-from : (schema : Schema) (s : Spot) (dim n : ℕ) → map (λ (p : List ℕ). length p) (paths_from schema s dim n) ≡ levels_from schema dim n
 counts-from schema s dim zero = refl
 counts-from schema s dim (suc n) =
-    ap₂ (λ (x : ℕ) (xs : List ℕ). x ∷ xs) (length-labels schema s dim 1 (deepest schema dim)) (counts-from schema s (dim + 1) n ∙ ap (λ (k : ℕ). levels_from schema k n) (one-more dim))
+    ap₂ (λ (x : ℕ) (xs : List ℕ). x ∷ xs) (length-labels_from schema s dim 1 (deepest schema dim)) (counts-from schema s (dim + 1) n ∙ ap (λ (k : ℕ). levels_from schema k n) (one-more dim))
 
 -- a spot has a label for each level
 pub path-levels : (schema : Schema) (s : Spot) → label_counts (spot_path schema s) ≡ schema_levels schema
@@ -34,15 +32,9 @@ value-fits (c ∷ cs) [] k lt some fit = absurd (omega (arith, some))
 value-fits (c ∷ cs) (v ∷ vs) zero lt some fit = ltb-true v (length c.values) (and_parts (nat_lt v (length c.values)) (values_fit cs vs) fit).0
 value-fits (c ∷ cs) (v ∷ vs) (suc k) lt some fit = value-fits cs vs k (omega (arith, lt)) (omega (arith, some)) (and_parts (nat_lt v (length c.values)) (values_fit cs vs) fit).1
 
-less-test : (a b : ℕ) → a < b → nat_lt a b ≡ true
-less-test a b l = grind arith
-
 all-labels : (schema : Schema) (s : Spot) (dim : ℕ) → ((level : ℕ) → label_of schema s dim level < label_end schema dim) → (level n : ℕ) → list_all (label_fits schema dim) (labels_from schema s dim level n) ≡ true
 all-labels schema s dim f level zero = refl
-all-labels schema s dim f level (suc n) = ap₂ ◌&&◌ (less-test (label_of schema s dim level) (label_end schema dim) (f level)) (all-labels schema s dim f (level + 1) n)
-
-no-levels : (schema : Schema) (d : ℕ) → time_dim schema ≤ d → 2 ≤ d → deepest schema d ≡ 0
-no-levels schema d le two = grind arith
+all-labels schema s dim f level (suc n) = ap₂ ◌&&◌ (lt-ltb (label_of schema s dim level) (label_end schema dim) (f level)) (all-labels schema s dim f (level + 1) n)
 
 module _ (schema : Schema) (s : Spot) (fit : fits schema s ≡ true) (four : length s.values ≡ 4) where
   values : values_fit schema.categories s.values ≡ true
@@ -69,7 +61,7 @@ module _ (schema : Schema) (s : Spot) (fit : fits schema s ≡ true) (four : len
       go : (d ≡ 1) ⊎ (d ≡ 1 → ⊥) → (d < time_dim schema) ⊎ (time_dim schema ≤ d) → list_all (label_fits schema d) (path_of schema s d) ≡ true
       go (inl e) y = ap (λ (k : ℕ). list_all (label_fits schema k) (path_of schema s k)) e ∙ all-labels schema s 1 quadrant 1 (deepest schema 1)
       go (inr n) (inl lt) = all-labels schema s d (value d (omega (arith, some, n)) lt) 1 (deepest schema d)
-      go (inr n) (inr le) = ap (λ (k : ℕ). list_all (label_fits schema d) (labels_from schema s d 1 k)) (no-levels schema d le (omega (arith, some, n)))
+      go (inr n) (inr le) = ap (λ (k : ℕ). list_all (label_fits schema d) (labels_from schema s d 1 k)) (in_time schema d le)
 
   paths-fit : (d n : ℕ) → 1 ≤ d → paths_fit schema d (paths_from schema s d n) ≡ true
   paths-fit d zero some = refl

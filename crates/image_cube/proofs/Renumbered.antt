@@ -31,7 +31,7 @@ link-moved places (node cs content) (down l) = child-moved places cs l
 link-moved places (node cs content) across = refl
 link-moved places (table counts) e = refl
 
-table-moved : (places : List ℕ) (s : Slot) → is_table (moved places s) ≡ is_table s
+pub table-moved : (places : List ℕ) (s : Slot) → is_table (moved places s) ≡ is_table s
 table-moved places (node cs content) = refl
 table-moved places (table counts) = refl
 
@@ -69,6 +69,9 @@ module _ (slots : List Slot) (homes : List Walk) (H : HasHomes slots homes) (R :
 
   pub again-size : length again ≡ length slots
   again-size = length-map places (λ (i : ℕ). moved places (slot_of slots i)) ∙ size
+
+  pub in-places : (k : ℕ) → k < length again → k < length places
+  in-places k lt = let a = again-size in omega (arith, lt, a, size)
 
   pub old-lt : (k : ℕ) → k < length places → old k < length slots
   old-lt k lt = each-low (old k) (hits-at places k 0 lt)
@@ -149,9 +152,6 @@ module _ (slots : List Slot) (homes : List Walk) (H : HasHomes slots homes) (R :
     at_home = λ i j e is. at-home i j e is;
   }
     where
-      in-places : (k : ℕ) → k < length again → k < length places
-      in-places k lt = let a = again-size in omega (arith, lt, a, size)
-
       apart : (i j : ℕ) → i < length places → j < length places → home_of moved_homes i ≡ home_of moved_homes j → i ≡ j
       apart i j a b e =
           let same = H.distinct (old i) (old j) (old-lt i a) (old-lt j b) (sym (home-at i a) ∙ (e ∙ home-at j b)) in
@@ -208,16 +208,13 @@ module _ (slots : List Slot) (homes : List Walk) (H : HasHomes slots homes) (R :
       ap (home_of moved_homes) (sym (ap target W.went)) ∙ home-new (target W.link_was) (target-lt slots homes H (old k) e W.link_was W.is)
 
   module _ (dims : ℕ) (h : List Weighted) (S : HasShape dims slots homes h) where
-    in-again : (k : ℕ) → k < length again → k < length places
-    in-again k lt = let a = again-size in omega (arith, lt, a, size)
-
     is-table-at : (k : ℕ) → k < length places → is_table (slot_of again k) ≡ is_table (slot_of slots (old k))
     is-table-at k lt = ap is_table (slot-at k lt) ∙ table-moved places (slot_of slots (old k))
 
     tables-again : HasTables dims again moved_homes
     tables-again = record {
       tables = λ i lt.
-          let k = in-again i lt in
+          let k = in-places i lt in
           let t = S.has_tables.tables (old i) (old-lt i k) in (
             λ is. ap dimension (home-at i k) ∙ t.0 (sym (is-table-at i k) ∙ is),
             λ d. is-table-at i k ∙ t.1 (sym (ap dimension (home-at i k)) ∙ d),
@@ -227,7 +224,7 @@ module _ (slots : List Slot) (homes : List Walk) (H : HasHomes slots homes) (R :
     holds-again : HoldsSpots again moved_homes (spots_in h) (spots_in h)
     holds-again = record {
       needed = λ i e lt w.
-          let k = in-again i lt in
+          let k = in-places i lt in
           let n = S.holds.needed (old i) e (old-lt i k) (subst (λ (b : Walk). HasSpot (spots_in h) (e ∷ b)) (home-at i k) w) in
           record { link = moved_link places n.link; is = becomes-at i e n.link k n.is };
       wanted = λ i e l is.
@@ -241,7 +238,7 @@ module _ (slots : List Slot) (homes : List Walk) (H : HasHomes slots homes) (R :
     counts-again : CountsSpots again moved_homes h
     counts-again = record {
       counts = λ i bin lt t.
-          let k = in-again i lt in
+          let k = in-places i lt in
           ap (λ (s : Slot). count s bin) (slot-at i k)
           ∙ (count-moved places (slot_of slots (old i)) bin
           ∙ (S.counted.counts (old i) bin (old-lt i k) (sym (is-table-at i k) ∙ t)

@@ -1,5 +1,5 @@
 -- What is written of a cube is the image of a cube of its records.
-use Rattle.std.proofs.Common.{◌≡◌, ℕ, ◌^◌, ◌<◌, ◌≤◌, List, [], ◌∷◌, length, get_or, map, Result, Ok, Err, IfOk, refl, sym, ap, ◌∙◌, subst, arith, length-append}
+use Rattle.std.proofs.Common.{◌≡◌, ℕ, ◌^◌, ◌<◌, ◌≤◌, List, length, get_or, map, Result, Ok, Err, IfOk, refl, sym, ap, ◌∙◌, subst, arith, length-append}
 use Rattle.std.proofs.lemmas.List.{length-map, get_or-map}
 use Rattle.std.specs.List.{flat_map}
 use Rattle.cube_view.specs.Bag.{most_points}
@@ -22,13 +22,13 @@ use Rattle.cube_image.proofs.OwnImage.{own_image}
 use Rattle.cube_image.proofs.WholeOrder.{all_in_order}
 use Rattle.image_parse.specs.Images.{IsImage}
 use Rattle.image_parse.proofs.Readable.{orderly}
-use Rattle.image_parse.proofs.Whole.{one_meaning}
+use Rattle.image_parse.proofs.Whole.{slots_few, one_meaning}
 use Rattle.image_read.specs.Read.{IsFitImage}
 use Rattle.image_shape.specs.Laws.{AllTablesCounted}
 use Rattle.image_cube.specs.CubeImages.{AreRecords, IsCubeImage, HasLongCubeImage, KeepsNumbers}
 use Rattle.image_cube.proofs.Fitted.{counted-fits}
 use Rattle.image_cube.proofs.Imaged.{slots-fit}
-use Rattle.image_cube.proofs.Renumbered.{moved_homes, each-low, each-one, old-lt, shape-again}
+use Rattle.image_cube.proofs.Renumbered.{moved_homes, in-places, each-low, each-one, old-lt, shape-again}
 use Rattle.image_cube.proofs.Summed.{stat-again}
 
 -- a slot has its labels and its counts, moved or not
@@ -51,14 +51,6 @@ rising-moved places cs R i j d lt end =
     let e = ap (λ (x : ℕ × Link). x.0) b in
     omega (arith, r, c, e)
 
-slot-some : (s : Slot) → 1 ≤ length (slot_bytes s)
-slot-some (node cs content) = omega arith
-slot-some (table counts) = omega arith
-
-slots-few : (slots : List Slot) → length slots ≤ length (flat_map slot_bytes slots)
-slots-few [] = omega arith
-slots-few (s ∷ slots) = let r = slots-few slots in let one = slot-some s in omega (arith, length-append (slot_bytes s) (flat_map slot_bytes slots), r, one)
-
 module _ (schema : Schema) (slots : List Slot) (size : ℕ) (h : List Point) (C : CountsPoints schema slots 0 size h) (R : AllRising slots) (bytes : List ℕ) (W : IsWritten slots size bytes) where
   abbrev places : List ℕ
   places = W.image.places
@@ -80,19 +72,16 @@ module _ (schema : Schema) (slots : List Slot) (size : ℕ) (h : List Point) (C 
   written-few =
       let t = ap length W.image.text in
       let f = W.fits in
-      let s = slots-few again in
+      let s = slots_few again in
       let a = length-append (head_bytes size (length again)) (flat_map slot_bytes again) in
       let w = whole in
       omega (arith, t, f, s, a, w)
 
-  in-places : (k : ℕ) → k < length again → k < length places
-  in-places k lt = let w = whole in let p = places-size in omega (arith, lt, w, p)
-
   old-at : (k : ℕ) → k < length again → get_or places k 0 < length slots
-  old-at k lt = old-lt slots C.homes C.shape.has_homes R places W.image.ordered places-size k (in-places k lt)
+  old-at k lt = old-lt slots C.homes C.shape.has_homes R places W.image.ordered places-size k (in-places slots C.homes C.shape.has_homes R places W.image.ordered places-size k lt)
 
   slot-again : (k : ℕ) (d : Slot) → k < length again → get_or again k d ≡ moved places (slot_of slots (get_or places k 0))
-  slot-again k d lt = get_or-map (λ (i : ℕ). moved places (slot_of slots i)) places k 0 d (in-places k lt)
+  slot-again k d lt = get_or-map (λ (i : ℕ). moved places (slot_of slots i)) places k 0 d (in-places slots C.homes C.shape.has_homes R places W.image.ordered places-size k lt)
 
   rising-again : AllRising again
   rising-again k d lt =

@@ -9,6 +9,7 @@ use Rattle.node_arena.specs.Stats.{is_proper, is_shared, children_that, content_
 use Rattle.cube_image.specs.Order.{moved, moved_link, moved_child, moved_content, in_order}
 use Rattle.cube_image.proofs.Owned.{hits}
 use Rattle.image_cube.proofs.Parted.{HasPlace, sum_upto, upto-same, part, part-cons, parted}
+use Rattle.image_cube.proofs.Renumbered.{table-moved}
 
 -- ---- sums over the places of a list that has each number once
 
@@ -87,10 +88,6 @@ kinds-moved p same places (node cs content) = ap₂ (λ (a b : ℕ). a + b) (chi
     to : (o : Option Link) → content_that p (moved_content places o) ≡ content_that p o
     to None = refl
     to (Some l) = ap (λ (b : Bool). cond {A = ℕ} b 1 0) (same places l)
-
-table-moved : (places : List ℕ) (s : Slot) → is_table (moved places s) ≡ is_table s
-table-moved places (node cs content) = refl
-table-moved places (table counts) = refl
 
 module _ (slots : List Slot) (places : List ℕ) (low : (j : ℕ) → 0 < hits j places → j < length slots) (one : (j : ℕ) → j < length slots → hits j places ≡ 1) where
   sum-again : (f : Slot → ℕ) → ((s : Slot) → f (moved places s) ≡ f s) → sum_by f (in_order slots places) ≡ sum_by f slots

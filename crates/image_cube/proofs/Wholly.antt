@@ -1,54 +1,26 @@
 -- Each spot of a cube lies under one whole home of a time table.
-use Rattle.std.proofs.Common.{◌≡◌, ℕ, ◌<◌, Bool, true, ◌&&◌, List, [], ◌∷◌, length, map, Option, Some, None, Contains, All, refl, sym, ap, ap₂, ◌∙◌, subst, arith, true≢false}
+use Rattle.std.proofs.Common.{◌≡◌, ℕ, ◌<◌, Bool, true, ◌&&◌, List, [], ◌∷◌, length, map, Some, Contains, All, refl, sym, ap, ap₂, ◌∙◌, subst, arith}
 use Rattle.std.proofs.lemmas.Bool.{and_parts}
 use Rattle.std.proofs.lemmas.List.{nil_from_length}
 use Rattle.std.proofs.lemmas.List.Elements.{All-nil, All-cons}
-use Rattle.cube_view.specs.Walks.{down, across, Walk, SpotPath, Cursor, cursor, after_across, under, Under, dimension, Finer, top, by_down, by_across, longer}
+use Rattle.cube_view.specs.Walks.{Walk, SpotPath, Cursor, cursor, after_across, under, Under, dimension}
 use Rattle.cube_view.proofs.Walking.{under-some, Contains-head, Contains-cons}
 use Rattle.node_arena.specs.Amounts.{Weighted, spots_in}
 use Rattle.node_arena.specs.Shape.{home_of, HasShape}
 use Rattle.node_arena.specs.Slots.{Slot, IsTable, is_table, slot_of, walk_end}
 use Rattle.node_arena.proofs.Reaching.{walk-lt, walk_coarser, walk_reaches}
-use Rattle.image_shape.specs.Levels.{Levels, level_step, then_level, left, no_levels, label_counts, EndsWithTime}
+use Rattle.image_shape.specs.Levels.{Levels, left, no_levels, label_counts, EndsWithTime}
 use Rattle.image_shape.specs.Local.{IsLocal}
 use Rattle.image_shape.specs.Ways.{Way, along, IsFinest}
 use Rattle.image_shape.specs.Wholes.{is_whole, paths_along}
 use Rattle.image_shape.proofs.Back.{left_along}
 use Rattle.image_shape.proofs.Listed.{IsWhole}
-use Rattle.image_shape.proofs.Local.{left_spot, levels_of, level_begun, own_way}
+use Rattle.image_shape.proofs.Local.{left_spot, levels_of, own_way}
 use Rattle.image_shape.proofs.Rows.{whole_from_test, whole_test, labels_are, same_labels}
 use Rattle.image_shape.proofs.Timing.{time_of}
+use Rattle.image_shape.proofs.Root.{along_whole, finer_whole}
+use Rattle.image_shape.proofs.Bag.{nothing_later}
 use Rattle.image_cube.proofs.Parted.{HasPlace}
-
--- a finest way leads to a whole address
-along-whole : (levels : List ℕ) (a : Walk) (n : ℕ) (later : List ℕ) (way : Way) → IsWhole levels a → left levels a ≡ Some (record { rest = n; later = later }) → IsFinest n later way → IsWhole levels (along a way)
-along-whole levels a n later [] w at f = w
-along-whole levels a n later (down l ∷ way) w at f =
-    along-whole levels (down l ∷ a) f.0 later way w (ap (λ (o : Option Levels). then_level o (down l)) at ∙ ap (λ (x : ℕ). level_step (down l) (record { rest = x; later = later })) f.1) f.2
-along-whole levels a n later (across ∷ way) w at f =
-    along-whole levels (across ∷ a) f.0 f.1 way (w, later, at ∙ ap (λ (x : ℕ). Some (record { rest = x; later = later })) f.2) (ap (λ (o : Option Levels). then_level o across) at ∙ ap (λ (x : List ℕ). level_step across (record { rest = n; later = x })) f.3) f.4
-
--- nothing is finer than a whole address but itself
-finer-whole : {loose : Bool} {a b : Walk} (levels : List ℕ) → Finer loose a b → IsWhole levels a → (c d : Levels) → left levels a ≡ Some c → left levels b ≡ Some d → (loose ≡ true → c.rest ≡ 0) → a ≡ b
-finer-whole levels top w c d x y z = refl
-finer-whole levels (by_down {l = l} {a = a} {b = b} f) w c d x y z =
-    let s = level_begun (left levels a) (down l) c x in
-    let t = level_begun (left levels b) (down l) d y in
-    ap (λ v. down l ∷ v) (finer-whole levels f w s.0 t.0 s.1 t.1 (λ e. absurd (true≢false (sym e))))
-finer-whole levels (by_across {a = a} {b = b} f) w c d x y z =
-    let t = level_begun (left levels b) across d y in
-    ap (λ v. across ∷ v) (finer-whole levels f w.0 (record { rest = 0; later = w.1 }) t.0 w.2 t.1 (λ e. refl))
-finer-whole {a = a} levels (longer {l = l} {b = b} f) w c d x y z =
-    let t = level_begun (left levels b) (down l) d y in
-    let same : a ≡ b = finer-whole levels f w c t.0 x t.1 z in
-    let e : Some c ≡ Some t.0 = sym x ∙ (ap (left levels) same ∙ t.1) in
-    let g : c ≡ t.0 = cc in
-    let none : None ≡ Some d = ap (λ (n : ℕ). level_step (down l) (record { rest = n; later = t.0.later })) (sym (z refl) ∙ ap (λ (v : Levels). v.rest) g) ∙ t.2 in
-    absurd cc
-
-nothing-later : (xs : List (List ℕ)) → map (λ (p : List ℕ). length p) xs ≡ [] → xs ≡ []
-nothing-later [] x = refl
-nothing-later (y ∷ xs) x = absurd cc
 
 -- a spot under a whole address with nothing left has its labels
 paths-at : (levels : List ℕ) (q : SpotPath) (b : Walk) → label_counts q ≡ levels → IsWhole levels b → left levels b ≡ Some no_levels → Under q b → q.paths ≡ paths_along b [] []
@@ -57,7 +29,7 @@ paths-at levels q b len w at u =
     let e : Some (levels_of s.0) ≡ Some no_levels = sym (ap (λ (z : List ℕ). left z b) (sym len) ∙ left_spot q b s.0 s.1) ∙ at in
     let f : levels_of s.0 ≡ no_levels = cc in
     let none : s.0.rest ≡ [] = nil_from_length s.0.rest (ap (λ (z : Levels). z.rest) f) in
-    let later : s.0.later ≡ [] = nothing-later s.0.later (ap (λ (z : Levels). z.later) f) in
+    let later : s.0.later ≡ [] = nothing_later s.0.later (ap (λ (z : Levels). z.later) f) in
     labels_are levels q b s.0 len w s.1 ∙ ap₂ (paths_along b) none later
 
 -- a walk begins with the labels in space
@@ -90,7 +62,7 @@ module _ (dims : ℕ) (levels : List ℕ) (slots : List Slot) (homes : List Walk
     at-end = left_along levels [] (length start.0.rest) (map length start.0.later) own.0 own.1 begun
 
     wholly : IsWhole levels a
-    wholly = along-whole levels [] (length start.0.rest) (map length start.0.later) own.0 tt begun own.1
+    wholly = along_whole levels [] (length start.0.rest) (map length start.0.later) own.0 tt begun own.1
 
     reach : (t : ℕ) × (walk_end slots 0 a ≡ Some t)
     reach = walk_reaches dims slots homes h S.shaped a (record { spot = w.spot; is_in = c; lies = own.2 })
@@ -101,7 +73,7 @@ module _ (dims : ℕ) (levels : List ℕ) (slots : List Slot) (homes : List Walk
     same : a ≡ home_of homes reach.0
     same =
         let d = L.within reach.0 lt in
-        finer-whole levels (walk_coarser slots homes S.has_homes a reach.0 reach.1) wholly no_levels d.levels_left at-end d.is (λ x. refl)
+        finer_whole levels (walk_coarser slots homes S.has_homes a reach.0 reach.1) wholly no_levels d.levels_left at-end d.is (λ x. refl)
 
     table-there : IsTable (slot_of slots reach.0)
     table-there = (S.has_tables.tables reach.0 lt).1 (ap dimension (sym same) ∙ (time_of dims levels T a no_levels at-end).1 refl)
