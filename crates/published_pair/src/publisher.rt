@@ -5,7 +5,7 @@ ghost use Rattle.cube_view.specs.Validity.{sound};
 ghost use Rattle.left_right.specs.Sides.{view};
 ghost use Rattle.world_core.specs.PairFact.{IsPrefix};
 ghost use Rattle.published_pair.specs.Rules.{first_word_of};
-ghost use Rattle.published_pair.specs.Pair.{standing, absorbed, names};
+ghost use Rattle.published_pair.specs.Pair.{HasSent, standing, absorbed, names};
 
 use crate::book::{Front, Head};
 use crate::names::{Names, Standing};
@@ -80,10 +80,7 @@ pub(crate) fn show<V: Grow, R: Wait>(
     published: &Front,
     noted: &Front,
 ) -> (PairWriter<V>, Result<(), NoMemory>)
-    requires shown { let x = writer.desk.shown.value in standing x.history.items x.front (V.schema x.view) ≡ standing published.now.points published.now schema.now }
-    requires pends { let x = writer.desk.shown.value in fold absorbed (standing x.history.items x.front (V.schema x.view)) (drop writer.behind writer.log.items) ≡ standing noted.now.points noted.now schema.now }
-    requires book { noted.now.book ≡ published.now.book }
-    requires within { IsPrefix published.now.points noted.now.points }
+    requires { let x = writer.desk.shown.value in HasSent (standing x.history.items x.front (V.schema x.view)) (drop writer.behind writer.log.items) schema.now published.now noted.now }
     ensures shown { OnOk result.1 (let x = result.0.desk.shown.value in standing x.history.items x.front (V.schema x.view) ≡ standing noted.now.points noted.now schema.now) }
     ensures pends { OnOk result.1 (drop result.0.behind result.0.log.items ≡ []) }
     ensures named { OnOk result.1 (view result.0.desk.place ≡ Some (names noted.now.book schema.now noted.now.points)) }
@@ -150,10 +147,7 @@ impl<V: Grow> PublisherOf<Of<V>> {
             &mut self.writer,
             rt,
             |writer, rt|
-                requires shown { let x = writer.desk.shown.value in standing x.history.items x.front (V.schema x.view) ≡ standing published.now.points published.now schema.now }
-                requires pends { let x = writer.desk.shown.value in fold absorbed (standing x.history.items x.front (V.schema x.view)) (drop writer.behind writer.log.items) ≡ standing noted.now.points noted.now schema.now }
-                requires book { noted.now.book ≡ published.now.book }
-                requires within { IsPrefix published.now.points noted.now.points }
+                requires { let x = writer.desk.shown.value in HasSent (standing x.history.items x.front (V.schema x.view)) (drop writer.behind writer.log.items) schema.now published.now noted.now }
             { show(rt, writer, schema, published, noted) },
         );
         outcome?;
