@@ -3,7 +3,8 @@ ghost use Rattle.std.specs.Prelude.{◌≡◌};
 ghost use Rattle.probe_core.specs.Blanks.{IsBlankOf};
 
 use crate::{best_answer, cross_answer};
-use cube_view::{CubeView, Point, Schema, Spot, Tile, is_sound};
+use cube_view::{CubeView, Point, Tile};
+use example_cubes::{cube_of, of_values, tile, weighing};
 use example_schemas::{point, schema_of_kinds, schema_of_two_categories};
 use outer_io::NoMemory;
 use plain_cube::PlainCube;
@@ -14,41 +15,6 @@ use std::marker::Brand;
 use std::process::Abort;
 use std::sync::ledger::{Blank, Ledger};
 use std::test::Fail;
-
-/// A cube of these points.
-fn cube_of(
-    rt: &impl Abort,
-    alloc: Global,
-    schema: Schema,
-    points: &[Point],
-) -> Result<PlainCube, NoMemory> {
-    let mut cube = PlainCube::new(alloc, schema);
-    for point in points {
-        assert!(rt; is_sound(cube.schema(), point));
-        assert!(rt; cube.seen() < 1 << 35);
-        cube.insert(*point)?;
-    }
-    Ok(cube)
-}
-
-/// The point with that weight.
-fn weighing(point: Point, weight: u32) -> Point {
-    Point {
-        spot: point.spot,
-        weight,
-    }
-}
-
-/// The point at (0, 0) of these values of two categories.
-fn of_values(first: u8, second: u8) -> Point {
-    let spot = Spot {
-        x: 0,
-        y: 0,
-        values: [first, second, 0, 0],
-        bin: 0,
-    };
-    Point { spot, weight: 1 }
-}
 
 /// What the verb asks of the records in that tile with these values.
 fn query_of(verb: Verb, region: Tile, sets: [Choice; 4]) -> Query
@@ -63,10 +29,6 @@ fn query_of(verb: Verb, region: Tile, sets: [Choice; 4]) -> Query
             to: 1 << 32,
         },
     }
-}
-
-fn tile(z: u8, x: u32, y: u32) -> Tile {
-    Tile { z, x, y }
 }
 
 /// A row of a cross table as the tests write it, each value by its one letter.
@@ -150,9 +112,10 @@ fn check_cross(
     alloc: Global,
     points: &[Point],
     cases: &[Cross],
-) -> Result<(), NoMemory> {
-    let cube = cube_of(rt, alloc, schema_of_two_categories(alloc)?, points)?;
-    check_cross_in::<Brand>(rt, alloc, &cube, cases, Blank::new(1))
+) -> Result<(), Fail> {
+    let cube = cube_of(alloc, schema_of_two_categories(alloc)?, points)?;
+    check_cross_in::<Brand>(rt, alloc, &cube, cases, Blank::new(1))?;
+    Ok(())
 }
 
 #[test]
@@ -171,8 +134,7 @@ fn crosses_each_value_with_each(rt: HostRuntime) -> Result<(), Fail> {
         row(b'd', b'b', 0),
     ];
     let cases = [of_all(0, 1, &rows), of_all(1, 0, &other_way)];
-    check_cross(&rt, rt.alloc(), &points, &cases)?;
-    Ok(())
+    check_cross(&rt, rt.alloc(), &points, &cases)
 }
 
 #[test]
@@ -191,8 +153,7 @@ fn keeps_the_rows_that_an_item_empties(rt: HostRuntime) -> Result<(), Fail> {
         second: 1,
         rows: &rows,
     };
-    check_cross(&rt, rt.alloc(), &points, &[only_d])?;
-    Ok(())
+    check_cross(&rt, rt.alloc(), &points, &[only_d])
 }
 
 #[test]
@@ -208,8 +169,7 @@ fn a_cross_table_adds_up_weights(rt: HostRuntime) -> Result<(), Fail> {
         row(b'b', b'c', 0),
         row(b'b', b'd', 268_435_457),
     ];
-    check_cross(&rt, rt.alloc(), &points, &[of_all(0, 1, &rows)])?;
-    Ok(())
+    check_cross(&rt, rt.alloc(), &points, &[of_all(0, 1, &rows)])
 }
 
 #[test]
@@ -220,8 +180,7 @@ fn a_cross_table_of_no_points_has_all_rows(rt: HostRuntime) -> Result<(), Fail> 
         row(b'b', b'c', 0),
         row(b'b', b'd', 0),
     ];
-    check_cross(&rt, rt.alloc(), &[], &[of_all(0, 1, &rows)])?;
-    Ok(())
+    check_cross(&rt, rt.alloc(), &[], &[of_all(0, 1, &rows)])
 }
 
 /// A region and the kinds, how many levels down and how many rows, and the rows.
@@ -285,9 +244,10 @@ fn check_best(
     alloc: Global,
     points: &[Point],
     cases: &[BestCase],
-) -> Result<(), NoMemory> {
-    let cube = cube_of(rt, alloc, schema_of_kinds(alloc)?, points)?;
-    check_best_in::<Brand>(rt, alloc, &cube, cases, Blank::new(1))
+) -> Result<(), Fail> {
+    let cube = cube_of(alloc, schema_of_kinds(alloc)?, points)?;
+    check_best_in::<Brand>(rt, alloc, &cube, cases, Blank::new(1))?;
+    Ok(())
 }
 
 #[test]
@@ -297,16 +257,14 @@ fn the_best_tiles_are_those_of_most_records(rt: HostRuntime) -> Result<(), Fail>
     let both = [(tile(3, 0, 0), 2), (tile(3, 7, 7), 1)];
     let whole = [(tile(0, 0, 0), 3)];
     let cases = [best(1, 1, &quarter), best(3, 5, &both), best(0, 1, &whole)];
-    check_best(&rt, rt.alloc(), &points, &cases)?;
-    Ok(())
+    check_best(&rt, rt.alloc(), &points, &cases)
 }
 
 #[test]
 fn of_two_equal_tiles_the_earlier_is_the_best_one(rt: HostRuntime) -> Result<(), Fail> {
     let points = [point(0, 0, 0, 0), point(7, 7, 1, 1)];
     let earlier = [(tile(1, 0, 0), 1)];
-    check_best(&rt, rt.alloc(), &points, &[best(1, 1, &earlier)])?;
-    Ok(())
+    check_best(&rt, rt.alloc(), &points, &[best(1, 1, &earlier)])
 }
 
 #[test]
@@ -320,8 +278,7 @@ fn equal_tiles_stand_in_path_order(rt: HostRuntime) -> Result<(), Fail> {
     let two = [(tile(2, 3, 3), 2), (tile(2, 0, 1), 1)];
     let all = [(tile(2, 3, 3), 2), (tile(2, 0, 1), 1), (tile(2, 2, 0), 1)];
     let cases = [best(2, 2, &two), best(2, 3, &all), best(2, 1000, &all)];
-    check_best(&rt, rt.alloc(), &points, &cases)?;
-    Ok(())
+    check_best(&rt, rt.alloc(), &points, &cases)
 }
 
 #[test]
@@ -334,8 +291,7 @@ fn the_best_tiles_are_those_that_weigh_most(rt: HostRuntime) -> Result<(), Fail>
     let two = [(tile(1, 1, 1), 268_435_455), (tile(1, 0, 1), 9)];
     let first = [(tile(1, 1, 1), 268_435_455)];
     let cases = [best(1, 2, &two), best(1, 1, &first)];
-    check_best(&rt, rt.alloc(), &points, &cases)?;
-    Ok(())
+    check_best(&rt, rt.alloc(), &points, &cases)
 }
 
 #[test]
@@ -363,12 +319,10 @@ fn the_best_tiles_are_of_what_the_filters_ask_for(rt: HostRuntime) -> Result<(),
             tiles: &of_kind,
         },
     ];
-    check_best(&rt, rt.alloc(), &points, &cases)?;
-    Ok(())
+    check_best(&rt, rt.alloc(), &points, &cases)
 }
 
 #[test]
 fn no_points_have_no_best_tiles(rt: HostRuntime) -> Result<(), Fail> {
-    check_best(&rt, rt.alloc(), &[], &[best(2, 3, &[])])?;
-    Ok(())
+    check_best(&rt, rt.alloc(), &[], &[best(2, 3, &[])])
 }

@@ -1,9 +1,8 @@
 -- The one walk costs no more than the walks to its addresses, one by one.
-use Rattle.std.proofs.Common.{◌≡◌, ℕ, zero, suc, ◌+◌, ◌*◌, ◌<◌, ◌≤◌, Bool, true, false, cond, ltb, List, [], ◌∷◌, ◌++◌, map, take, drop, length, get_or, Option, Some, None, refl, sym, ◌∙◌, ap, subst, arith, add-zero}
+use Rattle.std.proofs.Common.{◌≡◌, ℕ, zero, suc, ◌+◌, ◌<◌, ◌≤◌, Bool, true, false, cond, ltb, List, [], ◌∷◌, map, take, length, get_or, Option, Some, None, refl, sym, ◌∙◌, ap, subst, arith, add-zero}
 use Rattle.std.specs.List.{list_any, sum_by, flat_map}
 use Rattle.std.proofs.lemmas.Bool.{and_parts, lt-ltb}
 use Rattle.std.proofs.lemmas.List.Sums.{sum_by-cons, sum_by-append, sum_by-le-sum_by}
-use Rattle.cube_view.proofs.Costing.{cost_if-true, cost_if-false}
 use Rattle.cube_view.specs.Costs.{ViewCosts, has_spot, is_found, cost_if, space_cost, categories_cost, after_space_cost, address_cost}
 use Rattle.cube_view.specs.Bag.{amount, anywhere}
 use Rattle.cube_view.specs.Places.{longer, next_dim, region_address}

@@ -1,19 +1,19 @@
 -- The cost of the one walk, category by category.
-use Rattle.std.proofs.Common.{◌≡◌, ℕ, suc, ◌+◌, ◌<◌, ◌≤◌, true, List, [], ◌∷◌, take, drop, length, get_or, sym, ◌∙◌, ap, arith, add-one, drop-cons}
+use Rattle.std.proofs.Common.{◌≡◌, ℕ, suc, ◌+◌, ◌<◌, true, List, [], ◌∷◌, take, drop, length, get_or, sym, ◌∙◌, ap, arith, add-one, drop-cons}
 use Rattle.std.proofs.lemmas.Bool.{lt-ltb}
 use Rattle.std.proofs.lemmas.List.{get_or-take, length-take, drop_all}
 use Rattle.cube_view.proofs.Amounts.{amount-same}
 use Rattle.cube_view.proofs.Costing.{cost_if-true}
 use Rattle.cube_view.specs.Bag.{amount}
-use Rattle.cube_view.specs.Costs.{ViewCosts, has_spot, cost_if}
+use Rattle.cube_view.specs.Costs.{ViewCosts, has_spot}
 use Rattle.cube_view.specs.Places.{is_below, is_under, longer, next_dim}
 use Rattle.cube_view.specs.Points.{Point}
 use Rattle.cube_view.specs.declared.address.Address.{Address}
 use Rattle.cube_view.specs.declared.schema.Schema.{Schema}
 use Rattle.query_syntax.specs.declared.query.Choice.{Choice}
-use Rattle.query_syntax.specs.declared.query.Choice.TheVariants.{All, Only}
+use Rattle.query_syntax.specs.declared.query.Choice.TheVariants.{All}
 use Rattle.query_syntax.specs.declared.query.Query.{Query}
-use Rattle.query_walk.specs.Costs.{choices_from, rest_cost, value_cost, set_cost}
+use Rattle.query_walk.specs.Costs.{choices_from, rest_cost, value_cost}
 use Rattle.query_walk.specs.Walks.{IsAtCategory}
 use Rattle.query_walk.proofs.Sets.{below_is_longer}
 

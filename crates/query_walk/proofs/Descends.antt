@@ -1,5 +1,5 @@
 -- The way down to a tile, down by down.
-use Rattle.std.proofs.Common.{◌≡◌, ℕ, ◌+◌, ◌<◌, ◌≤◌, true, IsTrue, List, sym, ◌∙◌, ap, subst, arith}
+use Rattle.std.proofs.Common.{◌≡◌, ℕ, ◌+◌, ◌<◌, ◌≤◌, true, List, sym, ◌∙◌, ap, subst, arith}
 use Rattle.cube_view.proofs.Amounts.{none-less}
 use Rattle.cube_view.proofs.Costing.{has_spot-tile_at, is_found-spot, cost_if-true, space_cost-more, space_cost-within}
 use Rattle.cube_view.proofs.TileWays.{longer-tile_label, is_below-tile_label}

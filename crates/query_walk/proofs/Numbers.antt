@@ -1,5 +1,5 @@
 -- The bounds of the searches of the tests, as numbers.
-use Rattle.std.proofs.Common.{◌≡◌, ℕ, ◌≤◌, ◌^◌, true, IsTrue, List, [], ◌∷◌, None, refl, sym, subst, lit≤}
+use Rattle.std.proofs.Common.{◌≡◌, ◌≤◌, ◌^◌, IsTrue, List, [], ◌∷◌, refl, sym, subst, lit≤}
 use Rattle.cube_view.specs.Bag.{amount}
 use Rattle.cube_view.specs.Points.{Point, point_at}
 use Rattle.cube_view.specs.declared.address.Tile.{Tile}

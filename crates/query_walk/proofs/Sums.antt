@@ -1,5 +1,5 @@
 -- Laws of sums over the numbers under a number.
-use Rattle.std.proofs.Common.{◌≡◌, ℕ, zero, suc, ◌+◌, ◌-◌, ◌<◌, ◌≤◌, ap, arith, add-one, add-zero, add-suc}
+use Rattle.std.proofs.Common.{◌≡◌, ℕ, zero, suc, ◌+◌, ◌≤◌, ap, arith, add-one, add-zero, add-suc}
 use Rattle.query_walk.specs.Costs.{sum_upto}
 
 -- one number more

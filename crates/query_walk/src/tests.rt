@@ -1,39 +1,20 @@
 //! Totals of query lines over plain cubes, against numbers that were counted by hand, and how many steps they take.
-ghost use Rattle.std.specs.Prelude.{◌≡◌, ◌+◌, ◌^◌, ◌≤◌, ◌∷◌, [], IfOk};
-ghost use Rattle.plain_cube.specs.Kept.{points_of, schema_of};
+ghost use Rattle.std.specs.Prelude.{◌≡◌, ◌+◌, ◌≤◌};
 ghost use Rattle.probe_core.specs.Blanks.{IsBlankOf};
 
 use crate::total;
-use cube_view::{CubeView, Point, Schema, Tile, is_sound};
+use cube_view::{CubeView, Tile};
+use example_cubes::{cube_of, of_all_records, three_records, weighing};
 use example_schemas::{point, schema_of_kinds, schema_of_two_categories};
 use outer_io::NoMemory;
 use plain_cube::PlainCube;
 use probe_core::Steps;
-use query_syntax::{Choice, Parsed, Query, Span, Verb, parse};
+use query_syntax::{Parsed, Verb, parse};
 use std::alloc::Global;
 use std::marker::Brand;
 use std::process::Abort;
 use std::sync::ledger::{Blank, Ledger};
 use std::test::Fail;
-
-/// A cube of these points.
-fn cube_of(
-    rt: &impl Abort,
-    alloc: Global,
-    schema: Schema,
-    points: &[Point],
-) -> Result<PlainCube, NoMemory>
-    ensures schema { IfOk result (λ cube. schema_of cube ≡ schema) }
-    ensures points { IfOk result (λ cube. points_of cube ≡ points.now) }
-{
-    let mut cube = PlainCube::new(alloc, schema);
-    for point in points {
-        assert!(rt; is_sound(cube.schema(), point));
-        assert!(rt; cube.seen() < 1 << 35);
-        cube.insert(*point)?;
-    }
-    Ok(cube)
-}
 
 /// The total of the query that the line asks for, if it is one.
 fn total_of_line<V: CubeView, L: Ledger>(
@@ -74,15 +55,9 @@ fn check(
     check_in::<Brand>(rt, alloc, cube, totals, Blank::new(1))
 }
 
-/// Two records at (0, 0), of value a, and one at (7, 7), of value b.
-fn three_records(rt: &impl Abort, alloc: Global) -> Result<PlainCube, NoMemory> {
-    let points = [point(0, 0, 0, 0), point(7, 7, 1, 1), point(0, 0, 0, 1)];
-    cube_of(rt, alloc, schema_of_kinds(alloc)?, &points)
-}
-
 #[test]
 fn counts_three_records(rt: HostRuntime) -> Result<(), Fail> {
-    let cube = three_records(&rt, rt.alloc())?;
+    let cube = three_records(rt.alloc())?;
     let totals = [
         ("count", 3),
         ("count in 1/0/0", 2),
@@ -103,7 +78,7 @@ fn counts_by_two_categories(rt: HostRuntime) -> Result<(), Fail> {
     second.spot.values[1] = 1;
     let points = [point(0, 0, 0, 0), second, point(0, 0, 0, 0)];
     let schema = schema_of_two_categories(rt.alloc())?;
-    let cube = cube_of(&rt, rt.alloc(), schema, &points)?;
+    let cube = cube_of(rt.alloc(), schema, &points)?;
     let totals = [
         ("count with m=c", 2),
         ("count with k=a with m=d", 1),
@@ -116,12 +91,11 @@ fn counts_by_two_categories(rt: HostRuntime) -> Result<(), Fail> {
 
 #[test]
 fn a_total_is_the_sum_of_weights(rt: HostRuntime) -> Result<(), Fail> {
-    let mut first = point(0, 0, 0, 0);
-    first.weight = 5;
-    let mut second = point(7, 7, 1, 1);
-    second.weight = 2;
-    let schema = schema_of_kinds(rt.alloc())?;
-    let cube = cube_of(&rt, rt.alloc(), schema, &[first, second])?;
+    let points = [
+        weighing(point(0, 0, 0, 0), 5),
+        weighing(point(7, 7, 1, 1), 2),
+    ];
+    let cube = cube_of(rt.alloc(), schema_of_kinds(rt.alloc())?, &points)?;
     let totals = [
         ("count", 7),
         ("count in 1/0/0", 5),
@@ -139,32 +113,12 @@ fn a_cube_of_no_points_has_no_total(rt: HostRuntime) -> Result<(), Fail> {
     Ok(())
 }
 
-/// The count of a tile, of all values and bins.
-fn count_of(region: Tile) -> Query
-    ensures { result ≡ record { verb = Verb.Count; region = region; sets = Choice.All ∷ Choice.All ∷ Choice.All ∷ Choice.All ∷ []; time = record { from = 0; to = 2 ^ 32 } } }
-{
-    Query {
-        verb: Verb::Count,
-        region,
-        sets: [Choice::All; 4],
-        time: Span {
-            from: 0,
-            to: 1 << 32,
-        },
-    }
-}
-
 /// Each of three points is looked at once: the first down of the way to the tile finds nothing.
-fn counts_a_corner<L: Ledger>(
-    rt: &impl Abort,
-    alloc: Global,
-    steps: &mut Steps<L>,
-) -> Result<u64, NoMemory>
+fn counts_a_corner<L: Ledger>(alloc: Global, steps: &mut Steps<L>) -> Result<u64, NoMemory>
     ensures { steps.new ≤ steps.old + 3 }
 {
-    let points = [point(0, 0, 0, 0), point(7, 7, 1, 1), point(0, 0, 0, 1)];
-    let cube = cube_of(rt, alloc, schema_of_kinds(alloc)?, &points)?;
-    let corner = count_of(Tile { z: 3, x: 0, y: 7 });
+    let cube = three_records(alloc)?;
+    let corner = of_all_records(Verb::Count, Tile { z: 3, x: 0, y: 7 });
     Ok(total(&cube, &corner, steps))
 }
 
@@ -173,7 +127,7 @@ fn counts_no_points<L: Ledger>(alloc: Global, steps: &mut Steps<L>) -> Result<u6
     ensures { steps.new ≤ steps.old + 1 }
 {
     let cube = PlainCube::new(alloc, schema_of_kinds(alloc)?);
-    let all = count_of(Tile { z: 0, x: 0, y: 0 });
+    let all = of_all_records(Verb::Count, Tile { z: 0, x: 0, y: 0 });
     Ok(total(&cube, &all, steps))
 }
 
@@ -181,7 +135,7 @@ fn few_steps<L: Ledger>(rt: &impl Abort, alloc: Global, blank: Blank) -> Result<
     requires { IsBlankOf L.name L.parts blank }
 {
     let mut steps = Steps::<L>::new(blank);
-    assert_eq!(rt; counts_a_corner(rt, alloc, &mut steps)?, 0);
+    assert_eq!(rt; counts_a_corner(alloc, &mut steps)?, 0);
     assert_eq!(rt; counts_no_points(alloc, &mut steps)?, 0);
     Ok(())
 }

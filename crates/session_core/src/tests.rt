@@ -3,7 +3,8 @@ ghost use Rattle.std.specs.Prelude.{◌≡◌, ◌^◌, ◌<◌, ◌≤◌, ◌�
 ghost use Rattle.probe_core.specs.Blanks.{IsBlankOf};
 
 use crate::{ScriptEnd, Served, SessionFault, answer_script, serve};
-use cube_view::{CubeView, Point, Schema, Spot, Tile, is_sound};
+use cube_view::{CubeView, Tile};
+use example_cubes::{cube_of, of_values, three_records, weighing};
 use example_schemas::{point, schema_of_kinds, schema_of_two_categories};
 use outer_io::{List, MemSink, MemSource, NoMemory};
 use plain_cube::PlainCube;
@@ -17,51 +18,6 @@ use std::test::Fail;
 
 /// How many points were told, of which a view may have seen fewer.
 const TOLD: u64 = 7;
-
-fn add(cube: &mut PlainCube, point: Point) -> Result<(), Fail> {
-    if !is_sound(cube.schema(), &point) {
-        return Err(Fail::from("the point is sound"));
-    }
-    if cube.seen() >= 1 << 35 {
-        return Err(Fail::from("there is room"));
-    }
-    cube.insert(point)?;
-    Ok(())
-}
-
-/// The cube of the points.
-fn cube_with(alloc: Global, schema: Schema, points: &[Point]) -> Result<PlainCube, Fail> {
-    let mut cube = PlainCube::new(alloc, schema);
-    for point in points {
-        add(&mut cube, *point)?;
-    }
-    Ok(cube)
-}
-
-/// Two records of value a in one corner and one of b in the other.
-fn three_points(alloc: Global) -> Result<PlainCube, Fail> {
-    let points = [point(0, 0, 0, 0), point(7, 7, 1, 1), point(0, 0, 0, 1)];
-    cube_with(alloc, schema_of_kinds(alloc)?, &points)
-}
-
-/// The point, of that weight.
-fn weighing(point: Point, weight: u32) -> Point {
-    Point {
-        spot: point.spot,
-        weight,
-    }
-}
-
-/// A point of these values of two categories.
-fn of_values(first: u8, second: u8) -> Point {
-    let spot = Spot {
-        x: 0,
-        y: 0,
-        values: [first, second, 0, 0],
-        bin: 0,
-    };
-    Point { spot, weight: 1 }
-}
 
 /// The answer to the line.
 fn serve_line<V: CubeView, L: Ledger>(
@@ -138,7 +94,7 @@ fn answers_each_verb_and_the_first_fault(rt: HostRuntime) -> Result<(), Fail> {
         ("", ""),
         ("# count", ""),
     ];
-    check(&rt, rt.alloc(), &three_points(rt.alloc())?, &cases)?;
+    check(&rt, rt.alloc(), &three_records(rt.alloc())?, &cases)?;
     Ok(())
 }
 
@@ -162,7 +118,7 @@ fn answers_windows_and_their_faults(rt: HostRuntime) -> Result<(), Fail> {
             "{\"at\":6,\"fault\":\"InWithWindow\"}\n",
         ),
     ];
-    check(&rt, rt.alloc(), &three_points(rt.alloc())?, &cases)?;
+    check(&rt, rt.alloc(), &three_records(rt.alloc())?, &cases)?;
     Ok(())
 }
 
@@ -179,7 +135,7 @@ fn answers_best_tiles_and_their_faults(rt: HostRuntime) -> Result<(), Fail> {
         ("best 1 0", "{\"at\":3,\"fault\":\"OutOfRange\"}\n"),
         ("best 1 1001", "{\"at\":3,\"fault\":\"OutOfRange\"}\n"),
     ];
-    check(&rt, rt.alloc(), &three_points(rt.alloc())?, &cases)?;
+    check(&rt, rt.alloc(), &three_records(rt.alloc())?, &cases)?;
     Ok(())
 }
 
@@ -202,7 +158,7 @@ fn best_tiles_go_by_weight_and_then_by_path(rt: HostRuntime) -> Result<(), Fail>
         ),
         ("window 0 0 4 8", "{\"rows\":[[6]],\"seen\":4}\n"),
     ];
-    let cube = cube_with(rt.alloc(), schema_of_kinds(rt.alloc())?, &points)?;
+    let cube = cube_of(rt.alloc(), schema_of_kinds(rt.alloc())?, &points)?;
     check(&rt, rt.alloc(), &cube, &cases)?;
     Ok(())
 }
@@ -232,7 +188,7 @@ fn answers_cross_tables_and_their_faults(rt: HostRuntime) -> Result<(), Fail> {
         ("cross k x", "{\"at\":3,\"fault\":\"UnknownCategory\"}\n"),
         ("cross k", "{\"at\":3,\"fault\":\"MissingWord\"}\n"),
     ];
-    let cube = cube_with(rt.alloc(), schema_of_two_categories(rt.alloc())?, &points)?;
+    let cube = cube_of(rt.alloc(), schema_of_two_categories(rt.alloc())?, &points)?;
     check(&rt, rt.alloc(), &cube, &cases)?;
     Ok(())
 }
@@ -378,7 +334,7 @@ fn answers_a_script_up_to_its_quit_or_a_fault(rt: HostRuntime) -> Result<(), Fai
             put: "",
         },
     ];
-    let cube = three_points(rt.alloc())?;
+    let cube = three_records(rt.alloc())?;
     for script in &scripts {
         check_script(&rt, rt.alloc(), &cube, script)?;
     }

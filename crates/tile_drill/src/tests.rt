@@ -1,47 +1,20 @@
 //! Tables of query lines over plain cubes, against rows that were counted by hand, and how many steps a map takes.
-ghost use Rattle.std.specs.Prelude.{◌≡◌, ◌+◌, ◌^◌, ◌≤◌, ◌∷◌, [], IfOk};
-ghost use Rattle.plain_cube.specs.Kept.{points_of, schema_of};
+ghost use Rattle.std.specs.Prelude.{◌≡◌, ◌+◌, ◌≤◌};
 ghost use Rattle.probe_core.specs.Blanks.{IsBlankOf};
 
 use crate::answer;
-use cube_view::{CubeView, Point, Schema, Tile, is_sound};
+use cube_view::{CubeView, Tile};
+use example_cubes::{cube_of, of_all_records, three_records, tile, weighing};
 use example_schemas::{point, schema_of_kinds};
 use outer_io::NoMemory;
 use plain_cube::PlainCube;
 use probe_core::Steps;
-use query_syntax::{Choice, Parsed, Query, RowOut, Span, Table, Verb, is_drill, parse};
+use query_syntax::{Parsed, RowOut, Table, Verb, is_drill, parse};
 use std::alloc::Global;
 use std::marker::Brand;
 use std::process::Abort;
 use std::sync::ledger::{Blank, Ledger};
 use std::test::Fail;
-
-/// A cube of these points.
-fn cube_of(
-    rt: &impl Abort,
-    alloc: Global,
-    schema: Schema,
-    points: &[Point],
-) -> Result<PlainCube, NoMemory>
-    ensures schema { IfOk result (λ cube. schema_of cube ≡ schema) }
-    ensures points { IfOk result (λ cube. points_of cube ≡ points.now) }
-{
-    let mut cube = PlainCube::new(alloc, schema);
-    for point in points {
-        assert!(rt; is_sound(cube.schema(), point));
-        assert!(rt; cube.seen() < 1 << 35);
-        cube.insert(*point)?;
-    }
-    Ok(cube)
-}
-
-/// The point with that weight.
-fn weighing(point: Point, weight: u32) -> Point {
-    Point {
-        spot: point.spot,
-        weight,
-    }
-}
 
 /// The table that the line asks for, if it asks for one.
 fn table_of_line<V: CubeView, L: Ledger>(
@@ -83,41 +56,41 @@ fn is_row(row: &RowOut, want: &Row) -> bool {
     }
 }
 
-/// A line, its rows, and how many points the view is of.
-#[derive(Drop)]
-struct Case<'a> {
-    line: &'static str,
-    rows: &'a [Row],
-    seen: u64,
-}
-
 fn check_in<L: Ledger>(
     rt: &impl Abort,
     alloc: Global,
     cube: &PlainCube,
-    cases: &[Case],
+    seen: u64,
+    tables: &[(&str, &[Row])],
     blank: Blank,
 ) -> Result<(), NoMemory>
     requires { IsBlankOf L.name L.parts blank }
 {
     let mut steps = Steps::<L>::new(blank);
-    for case in cases {
-        let table = table_of_line(alloc, cube, case.line, &mut steps)?.expect(rt, "a table");
-        assert_eq!(rt; table.seen, case.seen, "at {}", case.line);
-        assert_eq!(rt; table.rows.len(), case.rows.len(), "at {}", case.line);
-        for (found, want) in table.rows.as_slice().iter().zip(case.rows) {
-            assert!(rt; is_row(found, want), "at {}", case.line);
+    for (line, rows) in tables {
+        let table = table_of_line(alloc, cube, line, &mut steps)?.expect(rt, "a table");
+        assert_eq!(rt; table.seen, seen, "at {line}");
+        assert_eq!(rt; table.rows.len(), rows.len(), "at {line}");
+        for (found, want) in table.rows.as_slice().iter().zip(*rows) {
+            assert!(rt; is_row(found, want), "at {line}");
         }
     }
     Ok(())
 }
 
-fn check(rt: &impl Abort, alloc: Global, cube: &PlainCube, cases: &[Case]) -> Result<(), NoMemory> {
-    check_in::<Brand>(rt, alloc, cube, cases, Blank::new(1))
+/// Each line has its rows, and the view is of so many points.
+fn check(
+    rt: &impl Abort,
+    alloc: Global,
+    cube: &PlainCube,
+    seen: u64,
+    tables: &[(&str, &[Row])],
+) -> Result<(), NoMemory> {
+    check_in::<Brand>(rt, alloc, cube, seen, tables, Blank::new(1))
 }
 
 fn area(z: u8, x: u32, y: u32, total: u64) -> Row {
-    Row::Area(Tile { z, x, y }, total)
+    Row::Area(tile(z, x, y), total)
 }
 
 #[test]
@@ -126,119 +99,71 @@ fn each_verb_has_its_rows(rt: HostRuntime) -> Result<(), Fail> {
         weighing(point(0, 0, 0, 0), 5),
         weighing(point(7, 7, 1, 1), 2),
     ];
-    let cube = cube_of(&rt, rt.alloc(), schema_of_kinds(rt.alloc())?, &points)?;
-    let cases = [
-        Case {
-            line: "count",
-            rows: &[Row::One(7)],
-            seen: 2,
-        },
-        Case {
-            line: "count in 1/0/0",
-            rows: &[Row::One(5)],
-            seen: 2,
-        },
-        Case {
-            line: "hist kind",
-            rows: &[Row::Value(b'a', 5), Row::Value(b'b', 2)],
-            seen: 2,
-        },
-        Case {
-            line: "map 1",
-            rows: &[area(1, 0, 0, 5), area(1, 1, 1, 2)],
-            seen: 2,
-        },
-        Case {
-            line: "series 0 1 3",
-            rows: &[Row::Bin(0, 5), Row::Bin(1, 2), Row::Bin(2, 0)],
-            seen: 2,
-        },
-    ];
-    check(&rt, rt.alloc(), &cube, &cases)?;
+    let cube = cube_of(rt.alloc(), schema_of_kinds(rt.alloc())?, &points)?;
+    check(
+        &rt,
+        rt.alloc(),
+        &cube,
+        2,
+        &[
+            ("count", &[Row::One(7)]),
+            ("count in 1/0/0", &[Row::One(5)]),
+            ("hist kind", &[Row::Value(b'a', 5), Row::Value(b'b', 2)]),
+            ("map 1", &[area(1, 0, 0, 5), area(1, 1, 1, 2)]),
+            (
+                "series 0 1 3",
+                &[Row::Bin(0, 5), Row::Bin(1, 2), Row::Bin(2, 0)],
+            ),
+        ],
+    )?;
     Ok(())
 }
 
 #[test]
 fn an_empty_view_has_empty_rows(rt: HostRuntime) -> Result<(), Fail> {
     let cube = PlainCube::new(rt.alloc(), schema_of_kinds(rt.alloc())?);
-    let cases = [
-        Case {
-            line: "count",
-            rows: &[Row::One(0)],
-            seen: 0,
-        },
-        Case {
-            line: "hist kind",
-            rows: &[Row::Value(b'a', 0), Row::Value(b'b', 0)],
-            seen: 0,
-        },
-        Case {
-            line: "map 2",
-            rows: &[],
-            seen: 0,
-        },
-        Case {
-            line: "series 3 2 1",
-            rows: &[Row::Bin(3, 0)],
-            seen: 0,
-        },
-    ];
-    check(&rt, rt.alloc(), &cube, &cases)?;
+    check(
+        &rt,
+        rt.alloc(),
+        &cube,
+        0,
+        &[
+            ("count", &[Row::One(0)]),
+            ("hist kind", &[Row::Value(b'a', 0), Row::Value(b'b', 0)]),
+            ("map 2", &[]),
+            ("series 3 2 1", &[Row::Bin(3, 0)]),
+        ],
+    )?;
     Ok(())
 }
 
 #[test]
 fn sums_are_wider_than_32_bits(rt: HostRuntime) -> Result<(), Fail> {
-    let heavy = weighing(point(0, 0, 0, 0), 268_435_455);
-    let points = [heavy; 17];
-    let cube = cube_of(&rt, rt.alloc(), schema_of_kinds(rt.alloc())?, &points)?;
-    let cases = [
-        Case {
-            line: "count",
-            rows: &[Row::One(4_563_402_735)],
-            seen: 17,
-        },
-        Case {
-            line: "map 1",
-            rows: &[area(1, 0, 0, 4_563_402_735)],
-            seen: 17,
-        },
-        Case {
-            line: "series 0 1 2",
-            rows: &[Row::Bin(0, 4_563_402_735), Row::Bin(1, 0)],
-            seen: 17,
-        },
-    ];
-    check(&rt, rt.alloc(), &cube, &cases)?;
+    let points = [weighing(point(0, 0, 0, 0), 268_435_455); 17];
+    let cube = cube_of(rt.alloc(), schema_of_kinds(rt.alloc())?, &points)?;
+    check(
+        &rt,
+        rt.alloc(),
+        &cube,
+        17,
+        &[
+            ("count", &[Row::One(4_563_402_735)]),
+            ("map 1", &[area(1, 0, 0, 4_563_402_735)]),
+            (
+                "series 0 1 2",
+                &[Row::Bin(0, 4_563_402_735), Row::Bin(1, 0)],
+            ),
+        ],
+    )?;
     Ok(())
 }
 
-/// The map one level below a tile, of all values and bins.
-fn map_below(region: Tile) -> Query
-    ensures { result ≡ record { verb = Verb.Map 1; region = region; sets = Choice.All ∷ Choice.All ∷ Choice.All ∷ Choice.All ∷ []; time = record { from = 0; to = 2 ^ 32 } } }
-{
-    Query {
-        verb: Verb::Map(1),
-        region,
-        sets: [Choice::All; 4],
-        time: Span {
-            from: 0,
-            to: 1 << 32,
-        },
-    }
-}
-
 /// Each of three points is looked at once: the down to the region finds nothing.
-fn map_of_an_empty_tile<L: Ledger>(
-    rt: &impl Abort,
-    alloc: Global,
-    steps: &mut Steps<L>,
-) -> Result<Table, NoMemory>
+fn map_of_an_empty_tile<L: Ledger>(alloc: Global, steps: &mut Steps<L>) -> Result<Table, NoMemory>
     ensures { steps.new ≤ steps.old + 3 }
 {
-    let points = [point(0, 0, 0, 0), point(7, 7, 1, 1), point(0, 0, 0, 1)];
-    let cube = cube_of(rt, alloc, schema_of_kinds(alloc)?, &points)?;
-    let map = map_below(Tile { z: 1, x: 1, y: 0 });
+    let cube = three_records(alloc)?;
+    let map = of_all_records(Verb::Map(1), Tile { z: 1, x: 1, y: 0 });
     answer(alloc, &cube, &map, steps)
 }
 
@@ -246,7 +171,7 @@ fn few_steps<L: Ledger>(rt: &impl Abort, alloc: Global, blank: Blank) -> Result<
     requires { IsBlankOf L.name L.parts blank }
 {
     let mut steps = Steps::<L>::new(blank);
-    let table = map_of_an_empty_tile(rt, alloc, &mut steps)?;
+    let table = map_of_an_empty_tile(alloc, &mut steps)?;
     assert!(rt; table.rows.is_empty());
     Ok(())
 }

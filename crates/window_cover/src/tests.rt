@@ -3,7 +3,8 @@ ghost use Rattle.std.specs.Prelude.{◌≡◌, ◌^◌, ◌≤◌, ◌∷◌, []
 ghost use Rattle.probe_core.specs.Blanks.{IsBlankOf};
 
 use crate::{cover, window_answer, window_total};
-use cube_view::{CubeView, Point, Schema, Tile, is_sound};
+use cube_view::{CubeView, Schema, Tile};
+use example_cubes::{cube_of, three_records, tile, weighing};
 use example_schemas::{point, schema_of_kinds};
 use outer_io::{List, NoMemory};
 use plain_cube::PlainCube;
@@ -19,10 +20,6 @@ fn rect(x0: u32, y0: u32, x1: u32, y1: u32) -> Rect
     ensures { result ≡ record { x0 = x0; y0 = y0; x1 = x1; y1 = y1 } }
 {
     Rect { x0, y0, x1, y1 }
-}
-
-fn tile(z: u8, x: u32, y: u32) -> Tile {
-    Tile { z, x, y }
 }
 
 #[test]
@@ -72,22 +69,6 @@ fn covers_at_the_deepest_level(rt: HostRuntime) -> Result<(), Fail> {
     let half = cover(rt.alloc(), &schema, &rect(1 << 19, 0, last + 1, last + 1))?;
     assert_eq!(rt; half.as_slice(), [tile(1, 1, 0), tile(1, 1, 1)].as_slice());
     Ok(())
-}
-
-/// A cube of these points.
-fn cube_of(
-    rt: &impl Abort,
-    alloc: Global,
-    schema: Schema,
-    points: &[Point],
-) -> Result<PlainCube, NoMemory> {
-    let mut cube = PlainCube::new(alloc, schema);
-    for point in points {
-        assert!(rt; is_sound(cube.schema(), point));
-        assert!(rt; cube.seen() < 1 << 35);
-        cube.insert(*point)?;
-    }
-    Ok(cube)
 }
 
 /// The window of the records of these kinds, in the bins of the span.
@@ -182,15 +163,9 @@ fn check(rt: &impl Abort, alloc: Global, cube: &PlainCube, cases: &[Case]) -> Re
     check_in::<Brand>(rt, alloc, cube, cases, Blank::new(1))
 }
 
-/// Two records at (0, 0), of value a, and one at (7, 7), of value b.
-fn three_records(rt: &impl Abort, alloc: Global) -> Result<PlainCube, NoMemory> {
-    let points = [point(0, 0, 0, 0), point(7, 7, 1, 1), point(0, 0, 0, 1)];
-    cube_of(rt, alloc, schema_of_kinds(alloc)?, &points)
-}
-
 #[test]
 fn counts_windows_of_three_records(rt: HostRuntime) -> Result<(), Fail> {
-    let cube = three_records(&rt, rt.alloc())?;
+    let cube = three_records(rt.alloc())?;
     let cases = [
         window(rect(0, 0, 4, 4), 2),
         window(rect(1, 0, 8, 8), 1),
@@ -214,7 +189,7 @@ fn counts_windows_at_the_deepest_level(rt: HostRuntime) -> Result<(), Fail> {
         point(half - 1, half, 0, 0),
     ];
     let schema = Schema::new(20, List::new(rt.alloc()), 0, 1, 1, None);
-    let cube = cube_of(&rt, rt.alloc(), schema, &points)?;
+    let cube = cube_of(rt.alloc(), schema, &points)?;
     let cases = [
         window(rect(0, 0, last + 1, last + 1), 3),
         window(rect(1, 0, last + 1, last + 1), 2),
@@ -230,7 +205,7 @@ fn counts_windows_at_the_deepest_level(rt: HostRuntime) -> Result<(), Fail> {
 
 #[test]
 fn counts_what_the_filters_ask_for(rt: HostRuntime) -> Result<(), Fail> {
-    let cube = three_records(&rt, rt.alloc())?;
+    let cube = three_records(rt.alloc())?;
     let cases = [
         of_kind(0, rect(0, 0, 8, 8), 2),
         of_kind(1, rect(0, 0, 7, 7), 0),
@@ -244,16 +219,11 @@ fn counts_what_the_filters_ask_for(rt: HostRuntime) -> Result<(), Fail> {
 
 #[test]
 fn a_window_is_the_sum_of_weights(rt: HostRuntime) -> Result<(), Fail> {
-    let mut first = point(0, 0, 0, 0);
-    first.weight = 5;
-    let mut second = point(7, 7, 1, 1);
-    second.weight = 2;
-    let cube = cube_of(
-        &rt,
-        rt.alloc(),
-        schema_of_kinds(rt.alloc())?,
-        &[first, second],
-    )?;
+    let points = [
+        weighing(point(0, 0, 0, 0), 5),
+        weighing(point(7, 7, 1, 1), 2),
+    ];
+    let cube = cube_of(rt.alloc(), schema_of_kinds(rt.alloc())?, &points)?;
     let cases = [
         window(rect(0, 0, 8, 8), 7),
         window(rect(0, 0, 7, 7), 5),

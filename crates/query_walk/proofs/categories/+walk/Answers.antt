@@ -1,4 +1,4 @@
-use Rattle.std.proofs.Common.{◌≡◌, ℕ, suc, cond, false, get_or, length, ◌+◌, ◌<◌, ◌^◌, ◌-◌, ◌∙◌, sym, ap, arith}
+use Rattle.std.proofs.Common.{ℕ, cond, false, get_or, length, ◌+◌, ◌<◌, ◌^◌, ◌∙◌, sym, ap, arith}
 use Rattle.std.specs.Coded.{le_prop}
 use Rattle.std.proofs.Math.Logic.{∥∥₁_elim}
 use Rattle.std.proofs.lemmas.Bool.{cond-true}

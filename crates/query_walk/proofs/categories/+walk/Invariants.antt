@@ -1,4 +1,4 @@
-use Rattle.std.proofs.Common.{◌≡◌, ◌+◌, ◌*◌, ◌-◌, ◌≤◌, false, cond, get_or, length, List}
+use Rattle.std.proofs.Common.{◌≡◌, ◌+◌, ◌*◌, ◌-◌, ◌≤◌, false, cond, get_or}
 use Rattle.cube_view.specs.Bag.{amount, EachCounted}
 use Rattle.query_walk.specs.Costs.{choices_from, sum_upto, value_cost}
 use Rattle.query_walk.proofs.Sets.{is_left_below}

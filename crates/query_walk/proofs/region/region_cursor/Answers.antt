@@ -1,8 +1,5 @@
-use Rattle.std.proofs.Common.{◌≡◌, ℕ, ◌∙◌, refl, arith, ap, subst, true}
-use Rattle.cube_view.specs.Costs.{is_found, space_cost}
-use Rattle.cube_view.specs.Places.{region_address}
-use Rattle.cube_view.specs.declared.address.Tile.{Tile}
-use Rattle.cube_view.proofs.TileWays.{tile_at-zero, tile_at-own}
+use Rattle.std.proofs.Common.{◌∙◌, refl, arith}
+use Rattle.cube_view.proofs.TileWays.{tile_at-zero}
 use Rattle.query_walk.proofs.Descends.{none_here, found_next, next_place, paid_further, paid_at_end}
 use Rattle.query_walk.proofs.region.region_cursor.Goals as goal
 

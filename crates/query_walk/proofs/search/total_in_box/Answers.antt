@@ -1,4 +1,4 @@
-use Rattle.std.proofs.Common.{◌≡◌, ℕ, ◌∙◌, ap, arith}
+use Rattle.std.proofs.Common.{◌∙◌, ap, arith}
 use Rattle.cube_view.specs.Places.{next_dim}
 use Rattle.cube_view.specs.declared.address.Address.{Address}
 use Rattle.query_walk.specs.Costs.{choices_from, rest_cost}

@@ -1,5 +1,4 @@
-use Rattle.std.proofs.Common.{◌≤◌, ◌∷◌, [], ◌∙◌, arith}
-use Rattle.cube_view.specs.Points.{Point}
+use Rattle.std.proofs.Common.{◌≤◌, arith}
 use Rattle.plain_cube.specs.Listed.{scan_costs}
 use Rattle.plain_cube.specs.Owned.{Counts-own}
 use Rattle.query_walk.specs.Costs.{search_cost}
@@ -7,12 +6,11 @@ use Rattle.query_walk.proofs.Numbers.{corner_valid, corner_few}
 use Rattle.query_walk.proofs.tests.counts_a_corner.Goals as goal
 
 pub total-requires-clause-valid : goal.total-requires-clause-valid
-total-requires-clause-valid g c κs within = corner_valid _ _ (c.in_ok-cube.ensures.schema ∙ c.in_ok-schema_of_kinds.ensures) c.count_of-corner.ensures
+total-requires-clause-valid g c κs within = corner_valid _ _ c.in_ok-cube.ensures.schema c.of_all_records-corner.ensures
 
 pub returns : goal.returns
 returns g c =
     let points = c.in_ok-cube.cube.points.items in
-    let same = c.in_ok-cube.ensures.points ∙ (λ i. c.point.ensures i ∷ c.point-2.ensures i ∷ c.point-3.ensures i ∷ []) in
-    let few : search_cost (scan_costs points) c.in_ok-cube.cube.schema points c.count_of-corner.result ≤ 3 = corner_few c.in_ok-cube.cube.schema points c.count_of-corner.result (c.in_ok-cube.ensures.schema ∙ c.in_ok-schema_of_kinds.ensures) same c.count_of-corner.ensures in
+    let few : search_cost (scan_costs points) c.in_ok-cube.cube.schema points c.of_all_records-corner.result ≤ 3 = corner_few c.in_ok-cube.cube.schema points c.of_all_records-corner.result c.in_ok-cube.ensures.schema c.in_ok-cube.ensures.points c.of_all_records-corner.ensures in
     let cost = c.total.ensures.cost points (Counts-own points) in
     omega (arith, few, cost)

@@ -6,11 +6,11 @@ use Rattle.query_walk.proofs.Numbers.{whole_valid, empty_few}
 use Rattle.query_walk.proofs.tests.counts_no_points.Goals as goal
 
 pub total-requires-clause-valid : goal.total-requires-clause-valid
-total-requires-clause-valid g c κs within = whole_valid _ _ (c.new-cube.ensures.schema ∙ c.in_ok-schema_of_kinds.ensures) c.count_of-all.ensures
+total-requires-clause-valid g c κs within = whole_valid _ _ (c.new-cube.ensures.schema ∙ c.in_ok-schema_of_kinds.ensures) c.of_all_records-all.ensures
 
 pub returns : goal.returns
 returns g c =
     let points = c.new-cube.result.points.items in
-    let few : search_cost (scan_costs points) c.new-cube.result.schema points c.count_of-all.result ≤ 1 = empty_few c.new-cube.result.schema points c.count_of-all.result (c.new-cube.ensures.schema ∙ c.in_ok-schema_of_kinds.ensures) c.new-cube.ensures.points c.count_of-all.ensures in
+    let few : search_cost (scan_costs points) c.new-cube.result.schema points c.of_all_records-all.result ≤ 1 = empty_few c.new-cube.result.schema points c.of_all_records-all.result (c.new-cube.ensures.schema ∙ c.in_ok-schema_of_kinds.ensures) c.new-cube.ensures.points c.of_all_records-all.ensures in
     let cost = c.total.ensures.cost points (Counts-own points) in
     omega (arith, few, cost)

@@ -1,4 +1,4 @@
-use Rattle.std.proofs.Common.{◌∙◌, ap}
+use Rattle.std.proofs.Common.{◌∙◌}
 use Rattle.window_cover.proofs.Numbers.{asks_window, window_in, window_valid}
 use Rattle.window_cover.proofs.tests.window_of_no_points.Goals as goal
 
