@@ -9,6 +9,7 @@ use Rattle.cube_crew.specs.Crewed.{LeavesTranscript}
 use Rattle.cube_store.specs.Numbers.{OwnsAllButRoot}
 use Rattle.cube_view.specs.Points.{Point}
 use Rattle.cube_view.specs.declared.schema.Schema.{Schema}
+use Rattle.feed_reader.proofs.FeedStart.{new_lines}
 use Rattle.live_session.specs.News.{News}
 use Rattle.live_session.specs.SoFar.{AnswersAll, AsksFirst, HasAnswered, HasDone}
 use Rattle.live_session.specs.State.{SessionState}
@@ -19,7 +20,6 @@ use Rattle.outer_io.specs.Cutting.{lines_left}
 use Rattle.outer_io.specs.Files.{Files, file_or_empty}
 use Rattle.outer_io.specs.Lines.{lines}
 use Rattle.outer_io.specs.Progress.{IsTooLarge}
-use Rattle.plan_run.proofs.Fed.{new_lines}
 use Rattle.plan_run.proofs.Landing.{LandsAs}
 use Rattle.plan_run.proofs.Ranked.{rank_end, session_lacking, session_read}
 use Rattle.plan_run.proofs.Refused.{large_script}

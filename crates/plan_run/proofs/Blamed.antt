@@ -9,7 +9,6 @@ use Rattle.outer_io.specs.declared.fault.IoFault.{IoFault}
 use Rattle.outer_io.specs.declared.fault.IoFault.TheVariants as io
 use Rattle.plan_run.proofs.Joined.{End, ended}
 use Rattle.run_files.proofs.Counts.{faulty-cons}
-pub use Rattle.run_files.proofs.Counts.{rose_later}
 use Rattle.run_files.specs.GivingBack.{faulty}
 use Rattle.run_files.specs.Stops.{joined_ends, rank_of, write_end}
 use Rattle.run_files.specs.declared.stop.Stop.{Stop}

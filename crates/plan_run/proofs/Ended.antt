@@ -24,25 +24,26 @@ use Rattle.outer_io.specs.declared.fault.IoFault.TheVariants as io
 use Rattle.plan_run.proofs.Causes.{FeedCause, SessionCause, feed_causes, session_causes}
 use Rattle.plan_run.proofs.Joined.{End, ended}
 use Rattle.plan_run.proofs.Landed.{some_is, told_pair}
-use Rattle.plan_run.proofs.Named.{KeepsOthers-one, KeepsOthers-twice, dones_named, names_of, names_then, sessions_named}
+use Rattle.plan_run.proofs.Named.{KeepsOthers-twice, dones_named, names_of, names_then, sessions_named}
 use Rattle.plan_run.proofs.Blamed.{AnyOf, all_err, any_in, any_left, any_right, any_unmapped}
 use Rattle.plan_run.proofs.OneJournal.{EntryLaws}
 use Rattle.plan_run.proofs.Raised.{closing_not_plan, closing_read, closing_write, starved_of}
 use Rattle.plan_run.proofs.Refused.{large_feeds, refused_scripts, write_not_refused}
-use Rattle.plan_run.proofs.Said.{completes, opening_refused, opening_said, opening_truth, opening_unmade, opening_wrote, puts_after, silent_after, text_after}
+use Rattle.plan_run.proofs.Said.{completes, opening_refused, opening_said, opening_truth, opening_unmade, opening_wrote, text_after}
 use Rattle.plan_run.proofs.Whole.{all_quiet, completed}
 use Rattle.plan_run.proofs.Truth.{account, account_is, begins_files, holds_files, kept_found, kept_well, kept_where, reads_counted, said_found, said_lost, wrote_found, wrote_well, wrote_where}
 use Rattle.plan_run.proofs.Unreported.{empty_made, given_back_empty}
 use Rattle.plan_run.proofs.Zips.{AllZip-right}
 use Rattle.plan_run.specs.Completed.{IsCompleted}
-use Rattle.plan_run.specs.Ends.{AreHeaded, EndsBeforeThreads, HasReported, IsDone, HasRefusedInput, LacksReport, LeavesNames, MissesNothing, PutsOrFails, RunEnds, SaysOfRun, TellsTruth}
+use Rattle.plan_run.specs.Ends.{AreHeaded, EndsBeforeThreads, HasReported, IsDone, HasRefusedInput, LacksReport, LeavesNames, MissesNothing, RunEnds, SaysOfRun, TellsTruth}
 use Rattle.plan_run.specs.Interrupted.{Account, BeginsFiles, HoldsFiles, account_text, read_stops}
 use Rattle.plan_run.specs.Parts.{GivesBack, RunsParts, run_done_of, jobs_of}
 use Rattle.plan_run.specs.Seen.{PartSeen}
 use Rattle.run_files.proofs.Emptied.{told_still}
-use Rattle.run_files.proofs.Stages.{KeepsOthers-after, KeepsOthers-more, all_empty, all_made, all_opened}
+use Rattle.run_files.proofs.Putting.{puts_after, silent_after}
+use Rattle.run_files.proofs.Stages.{all_empty, all_made, all_opened, KeepsOthers-after, KeepsOthers-more, KeepsOthers-one}
 use Rattle.run_files.specs.Leaving.{KeepsOthers, LeavesPlace}
-use Rattle.run_files.specs.Outside.{file_of, PlaceSeen, Puts as Said, Silent, SinkSeen}
+use Rattle.run_files.specs.Outside.{file_of, PlaceSeen, Puts as Said, PutsOrFails, Silent, SinkSeen}
 use Rattle.run_files.specs.Planned.{IsPlanOf}
 use Rattle.run_files.specs.Stops.{write_end}
 use Rattle.run_files.specs.declared.stop.Stop.{Stop}

@@ -7,10 +7,8 @@ use Rattle.crew_feeder.specs.declared.job.FeedJob.{FeedJob}
 use Rattle.cube_crew.specs.Crewed.{LeavesFeed, feed_rows}
 use Rattle.cube_view.specs.Points.{Point}
 use Rattle.cube_view.specs.declared.schema.Schema.{Schema}
-use Rattle.feed_reader.proofs.FeedLaws.{feed_read}
-pub use Rattle.feed_reader.proofs.FeedLaws.{rows_read}
-use Rattle.feed_reader.proofs.FeedStart.{some_told}
-pub use Rattle.feed_reader.proofs.FeedStart.{new_lines, new_rest}
+use Rattle.feed_reader.proofs.FeedLaws.{feed_read, rows_read}
+use Rattle.feed_reader.proofs.FeedStart.{new_lines, new_rest, some_told}
 use Rattle.feed_reader.specs.Feeds.{accepted, is_feed_refused, points_in, rows}
 use Rattle.feed_reader.specs.Rows.{row_of_line}
 use Rattle.outer_io.proofs.ToldLaws.{Told-some}

@@ -10,7 +10,7 @@ use Rattle.outer_io.specs.Files.{Files, HasFile, SameBut}
 use Rattle.outer_io.specs.Told.{Told}
 use Rattle.outer_io.specs.declared.fault.IoFault.{IoFault}
 use Rattle.plan_run.proofs.Joined.{All-unmapped, IsWell, all_well, written_well}
-pub use Rattle.run_files.proofs.Lists.{All-back, All-front}
+use Rattle.run_files.proofs.Lists.{All-back, All-front}
 use Rattle.run_files.specs.GivingBack.{Lands, TakesSinks}
 use Rattle.run_files.specs.Outside.{PlaceSeen, SinkSeen}
 use Rattle.run_files.specs.Stops.{write_end}

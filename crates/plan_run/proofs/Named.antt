@@ -11,7 +11,6 @@ use Rattle.live_session.specs.State.{SessionState}
 use Rattle.outer_io.specs.Files.{Files}
 use Rattle.plan_run.specs.Ends.{LeavesNames}
 use Rattle.plan_run.specs.Seen.{PartSeen}
-pub use Rattle.run_files.proofs.Stages.{KeepsOthers-one}
 use Rattle.run_files.specs.Leaving.{KeepsOthers, LeavesPlace}
 use Rattle.run_files.specs.Outside.{PlaceSeen, SinkSeen}
 use Rattle.run_files.specs.declared.stop.Stop.{Stop}

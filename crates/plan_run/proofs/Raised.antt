@@ -8,8 +8,7 @@ use Rattle.outer_io.specs.Faults.{Rose}
 use Rattle.outer_io.specs.declared.fault.IoFault.TheVariants as io
 use Rattle.plan_run.proofs.Blamed.{AnyOf, all_err, any_in, any_left, any_mapped, any_right, any_unmapped, any_with, feed_not_plan, feed_not_write, feed_read_end, session_not_plan, session_read_end, session_write_end, some_faulty, write_failed, write_not_plan, write_not_read}
 use Rattle.plan_run.proofs.Causes.{FeedCause, SessionCause}
-use Rattle.run_files.proofs.Counts.{rose_later, rose_once}
-pub use Rattle.run_files.proofs.Counts.{counts_failed, counts_grow, rose_from_before}
+use Rattle.run_files.proofs.Counts.{counts_failed, counts_grow, rose_from_before, rose_later, rose_once}
 use Rattle.run_files.specs.GivingBack.{TakesSources}
 use Rattle.run_files.specs.Outside.{PlaceSeen, SinkSeen}
 use Rattle.run_files.specs.Stops.{write_end}

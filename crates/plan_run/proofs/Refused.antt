@@ -11,6 +11,7 @@ use Rattle.cube_view.specs.Points.{Point}
 use Rattle.cube_view.specs.declared.schema.Schema.{Schema}
 use Rattle.cube_view.specs.declared.stat.Stat.{Stat}
 use Rattle.feed_reader.proofs.FeedLaws.{too_large_refused}
+use Rattle.feed_reader.proofs.FeedStart.{new_rest}
 use Rattle.feed_reader.specs.Feeds.{is_feed_refused}
 use Rattle.live_session.specs.State.{SessionState}
 use Rattle.outer_io.proofs.ToldLaws.{Told-some}
@@ -23,7 +24,6 @@ use Rattle.outer_io.specs.declared.fault.IoFault.{IoFault}
 use Rattle.outer_io.specs.declared.fault.IoFault.TheVariants as io
 use Rattle.plan_run.proofs.Blamed.{AnyOf}
 use Rattle.plan_run.proofs.Causes.{ended_by}
-use Rattle.plan_run.proofs.Fed.{new_rest}
 use Rattle.plan_run.specs.Seen.{PartSeen}
 use Rattle.run_files.specs.Outside.{SinkSeen}
 use Rattle.run_files.specs.Stops.{write_end}

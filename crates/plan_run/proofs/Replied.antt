@@ -6,6 +6,7 @@ use Rattle.cube_crew.specs.Crewed.{LeavesTranscript}
 use Rattle.cube_view.specs.Points.{Point}
 use Rattle.cube_view.specs.declared.schema.Schema.{Schema}
 use Rattle.cube_view.specs.declared.stat.Stat.{Stat}
+use Rattle.feed_reader.proofs.FeedStart.{new_lines}
 use Rattle.live_session.specs.SoFar.{AnswersAll, AsksFirst, HasAnswered, HasDone}
 use Rattle.live_session.specs.News.{News}
 use Rattle.live_session.specs.State.{SessionState}
@@ -15,7 +16,6 @@ use Rattle.outer_io.specs.Bytes.{Gains}
 use Rattle.outer_io.specs.Cutting.{lines_left}
 use Rattle.outer_io.specs.Files.{Files}
 use Rattle.outer_io.specs.Lines.{lines}
-use Rattle.plan_run.proofs.Fed.{new_lines}
 use Rattle.plan_run.specs.Completed.{reply_counts}
 use Rattle.query_syntax.specs.declared.query.Parsed.{Parsed}
 use Rattle.reply_json.specs.declared.reply.Reply.{Reply}

@@ -14,8 +14,7 @@ use Rattle.outer_io.specs.Files.{Files, file_or_empty}
 use Rattle.outer_io.specs.Told.{Told}
 use Rattle.plan_run.proofs.Unreported.{ended_early, read_unmade}
 use Rattle.plan_run.specs.Ends.{AreHeaded, HasReported, IsDoneOrLacking, HasRefusedInput, MissesNothing, SaysOfRun, TellsTruth}
-use Rattle.run_files.proofs.Putting.{fails_after, refuses_saying}
-pub use Rattle.run_files.proofs.Putting.{puts_after, silent_after}
+use Rattle.run_files.proofs.Putting.{fails_after, puts_after, refuses_saying, silent_after}
 use Rattle.run_files.specs.Headed.{RefusesLast}
 use Rattle.run_files.specs.Leaving.{LeavesPlace}
 use Rattle.run_files.specs.Outside.{FailsToPut, file_of, PlaceSeen, Puts, PutsOrFails, Silent, SinkSeen}

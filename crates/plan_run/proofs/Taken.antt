@@ -10,7 +10,8 @@ use Rattle.crew_feeder.specs.declared.job.FeedJob.{FeedJob}
 use Rattle.cube_crew.specs.Crewed.{FeedsLeave, LeavesFeed, feed_rows}
 use Rattle.cube_view.specs.Points.{Point}
 use Rattle.cube_view.specs.declared.schema.Schema.{Schema}
-use Rattle.feed_reader.proofs.FeedLaws.{points_in-append}
+use Rattle.feed_reader.proofs.FeedLaws.{points_in-append, rows_read}
+use Rattle.feed_reader.proofs.FeedStart.{new_lines}
 use Rattle.feed_reader.specs.Feeds.{accepted, points_in, rows}
 use Rattle.feed_reader.specs.Rows.{row_of_line}
 use Rattle.feed_reader.specs.declared.row.Row.{Row}
@@ -20,7 +21,6 @@ use Rattle.outer_io.specs.Files.{Files, file_or_empty}
 use Rattle.outer_io.specs.Lines.{Line, input_limit, lines}
 use Rattle.outer_io.specs.declared.cutter.CutFault.{CutFault}
 use Rattle.outer_io.specs.declared.cutter.CutFault.TheVariants as cut
-use Rattle.plan_run.proofs.Fed.{new_lines, rows_read}
 use Rattle.plan_run.proofs.Landed.{told_pair}
 use Rattle.plan_run.proofs.Ranked.{feed_lacking, feed_read, rank_end}
 use Rattle.plan_run.specs.Interrupted.{ReportsFeed}

@@ -28,22 +28,22 @@ use Rattle.outer_io.specs.declared.cutter.CutFault.{CutFault}
 use Rattle.outer_io.specs.declared.fault.IoFault.{IoFault}
 use Rattle.outer_io.specs.declared.fault.IoFault.TheVariants as io
 use Rattle.plan_run.proofs.Answering.{HasRun, answers_script, stops_script}
-use Rattle.plan_run.proofs.Blamed.{rose_later}
 use Rattle.plan_run.proofs.Causes.{FeedCause, SessionCause}
 use Rattle.plan_run.proofs.Counting.{count-map, rose_both, unread_feeds, unread_scripts}
 use Rattle.plan_run.proofs.Fronts.{interleaves_fronts}
 use Rattle.plan_run.proofs.Holding.{all_held}
 use Rattle.plan_run.proofs.Joined.{All-unmapped, End}
-use Rattle.plan_run.proofs.Landed.{All-back, All-front, AllPairs-back, AllPairs-front, AllPairs-last, told_pair}
+use Rattle.plan_run.proofs.Landed.{AllPairs-back, AllPairs-front, AllPairs-last, told_pair}
 use Rattle.plan_run.proofs.Landing.{LandsAs, all_landed_as}
 use Rattle.plan_run.proofs.Named.{dones_named}
-use Rattle.plan_run.proofs.Raised.{counts_failed, counts_grow, rose_from_before}
 use Rattle.plan_run.proofs.Ranked.{ComesFirst, all_ranked, lacking, rank_end}
 use Rattle.plan_run.proofs.Taken.{Gave, GaveRows, StandsAfterOne, all_gave, points_begin, takes_feed}
 use Rattle.plan_run.proofs.Zips.{AllZip-ap, AllZip-length, AllZip-mapped, AllZip-right, AllZip-then, AllZip-with}
 use Rattle.plan_run.specs.Interrupted.{Account, BeginsFiles, AnswersInFile, HoldsFiles, InterleavesFronts, StopsScript, ReportsFeed, account_text, accepted_lists, is_script_unread, is_unread, read_stops}
 use Rattle.plan_run.specs.Parts.{run_done_of, jobs_of}
 use Rattle.plan_run.specs.Seen.{PartSeen}
+use Rattle.run_files.proofs.Counts.{counts_failed, counts_grow, rose_from_before, rose_later}
+use Rattle.run_files.proofs.Lists.{All-back, All-front}
 use Rattle.run_files.specs.GivingBack.{Lands, faulty}
 use Rattle.run_files.specs.Outside.{file_of, PlaceSeen, SinkSeen}
 use Rattle.run_files.specs.Stops.{joined_ends, write_end}

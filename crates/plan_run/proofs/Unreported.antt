@@ -15,12 +15,12 @@ use Rattle.outer_io.specs.Faults.{Rose}
 use Rattle.outer_io.specs.Files.{Files, HasFile}
 use Rattle.outer_io.specs.Told.{Told}
 use Rattle.plan_run.proofs.Landed.{some_is, told_pair}
-use Rattle.plan_run.proofs.Named.{KeepsOthers-one}
 use Rattle.plan_run.proofs.Zips.{AllZip-right}
 use Rattle.plan_run.specs.Ends.{EndsBeforeThreads}
 use Rattle.plan_run.specs.Parts.{GivesBack}
 use Rattle.plan_run.specs.Seen.{PartSeen}
 use Rattle.run_files.proofs.Emptied.{empty_given, told_still}
+use Rattle.run_files.proofs.Stages.{KeepsOthers-one}
 use Rattle.run_files.specs.Headed.{RefusesLast}
 use Rattle.run_files.specs.Leaving.{KeepsOthers, LeavesPlace}
 use Rattle.run_files.specs.Outside.{file_of, PlaceSeen, Puts, Silent, SinkSeen}

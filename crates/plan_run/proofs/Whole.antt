@@ -27,12 +27,13 @@ use Rattle.outer_io.specs.declared.fault.IoFault.TheVariants as io
 use Rattle.plan_run.proofs.Causes.{FeedCause, SessionCause, feed_causes, session_causes}
 use Rattle.plan_run.proofs.Completing.{all_replied, all_taken, are_fed, sinks_named, transcripts}
 use Rattle.plan_run.proofs.Joined.{All-unmapped, IsWell, all_well, feed_well, session_well, starved_well, written_well}
-use Rattle.plan_run.proofs.Landed.{All-back, All-front, AllPairs-back, AllPairs-front, AllPairs-last, all_landed, some_is, told_pair}
+use Rattle.plan_run.proofs.Landed.{AllPairs-back, AllPairs-front, AllPairs-last, all_landed, some_is, told_pair}
 use Rattle.plan_run.proofs.OneJournal.{EntryLaws, entries_valid}
 use Rattle.plan_run.proofs.Zips.{AllZip-length, AllZip-right}
 use Rattle.plan_run.specs.Completed.{IsCompleted, reply_counts, whole_rows}
 use Rattle.plan_run.specs.Parts.{run_done_of, jobs_of}
 use Rattle.plan_run.specs.Seen.{PartSeen}
+use Rattle.run_files.proofs.Lists.{All-back, All-front}
 use Rattle.run_files.specs.GivingBack.{Lands, TakesSinks}
 use Rattle.run_files.specs.Outside.{file_of, PlaceSeen, Puts as Said, SinkSeen}
 use Rattle.run_files.specs.Stops.{write_end}

@@ -12,8 +12,7 @@ use Rattle.plan_run.specs.Completed.{IsCompleted}
 use Rattle.plan_run.specs.Interrupted.{Account, BeginsFiles, HoldsAll, HoldsFiles, account_text, read_stops}
 use Rattle.run_files.specs.Headed.{RefusesLast}
 use Rattle.run_files.specs.Leaving.{KeepsOthers}
-use Rattle.run_files.specs.Outside.{file_of, PlaceSeen, Puts, Silent, SinkSeen}
-pub use Rattle.run_files.specs.Outside.{PutsOrFails}
+use Rattle.run_files.specs.Outside.{file_of, PlaceSeen, Puts, PutsOrFails, Silent, SinkSeen}
 use Rattle.run_files.specs.Planned.{IsPlanOf, RefusesPlan}
 use Rattle.run_files.specs.declared.stop.Stop.{Stop}
 use Rattle.run_files.specs.declared.stop.Stop.TheVariants.{NoMemory, PlanRefused, ReadFault, WriteFault, FeedRefused}
