@@ -1,4 +1,4 @@
-mod Zips
+pub mod Zips
 mod Feeding
 mod Answering
 mod Closing

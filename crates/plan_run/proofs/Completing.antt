@@ -6,6 +6,7 @@ use Rattle.std.proofs.lemmas.List.Elements.{All-cons, All-head, All-nil, All-tai
 use Rattle.crew_feeder.specs.declared.job.FeedDone.{FeedDone}
 use Rattle.crew_feeder.specs.declared.job.FeedJob.{FeedJob}
 use Rattle.crew_session.specs.declared.done.SessionDone.{SessionDone}
+use Rattle.cube_crew.proofs.Zips.{AllZip-map, AllZip-then}
 use Rattle.cube_crew.specs.Crewed.{FeedsLeave, LeavesTranscript}
 use Rattle.cube_schema.specs.Repeats.{outputs}
 use Rattle.cube_store.specs.Numbers.{OwnsAllButRoot}
@@ -19,7 +20,7 @@ use Rattle.outer_io.specs.Told.{Told}
 use Rattle.plan_run.proofs.Fed.{is_fed}
 use Rattle.plan_run.proofs.Landed.{kept_file}
 use Rattle.plan_run.proofs.Replied.{IsReplied, is_replied}
-use Rattle.plan_run.proofs.Zips.{AllZip-map, AllZip-then, AllZip-with}
+use Rattle.plan_run.proofs.Zips.{AllZip-with}
 use Rattle.plan_run.specs.Completed.{HasTranscript, output_of, reply_counts, whole_rows}
 use Rattle.plan_run.specs.Seen.{PartSeen}
 use Rattle.reply_json.specs.declared.reply.Reply.{Reply}

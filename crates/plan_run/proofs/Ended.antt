@@ -8,6 +8,7 @@ use Rattle.std.proofs.lemmas.List.Elements.{All-weaker}
 use Rattle.crew_feeder.specs.declared.job.FeedDone.{FeedDone}
 use Rattle.crew_feeder.specs.declared.job.FeedJob.{FeedJob}
 use Rattle.crew_session.specs.declared.done.SessionDone.{SessionDone}
+use Rattle.cube_crew.proofs.Zips.{AllZip-right}
 use Rattle.cube_crew.specs.Crewed.{IsCrewed, LeavesTranscript}
 use Rattle.cube_crew.specs.declared.jobs.Crewed.{Crewed}
 use Rattle.cube_schema.specs.Files.{input_names, output_names}
@@ -33,7 +34,6 @@ use Rattle.plan_run.proofs.Said.{completes, opening_refused, opening_said, openi
 use Rattle.plan_run.proofs.Whole.{all_quiet, completed}
 use Rattle.plan_run.proofs.Truth.{account, account_is, begins_files, holds_files, kept_found, kept_well, kept_where, reads_counted, said_found, said_lost, wrote_found, wrote_well, wrote_where}
 use Rattle.plan_run.proofs.Unreported.{empty_made, given_back_empty}
-use Rattle.plan_run.proofs.Zips.{AllZip-right}
 use Rattle.plan_run.specs.Completed.{IsCompleted}
 use Rattle.plan_run.specs.Ends.{AreHeaded, EndsBeforeThreads, HasReported, IsDone, HasRefusedInput, LacksReport, LeavesNames, MissesNothing, RunEnds, SaysOfRun, TellsTruth}
 use Rattle.plan_run.specs.Interrupted.{Account, BeginsFiles, HoldsFiles, account_text, read_stops}

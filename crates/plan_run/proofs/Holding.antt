@@ -2,6 +2,7 @@
 use Rattle.std.proofs.Common.{◌≡◌, ◌≢◌, inl, inr, ℕ, Bool, true, false, List, [], ◌∷◌, length, map, take, Result, Ok, Err, refl, sym, subst, ◌∙◌, arith}
 use Rattle.std.specs.List.{AllZip}
 use Rattle.std.proofs.lemmas.List.{take_all}
+use Rattle.cube_crew.proofs.Zips.{AllZip-map}
 use Rattle.cube_schema.specs.declared.plan.Plan.{Plan}
 use Rattle.cube_store.specs.Numbers.{OwnsAllButRoot}
 use Rattle.cube_view.specs.Points.{Point}
@@ -10,7 +11,6 @@ use Rattle.outer_io.specs.Files.{Files, file_or_empty}
 use Rattle.outer_io.specs.Lines.{lines}
 use Rattle.plan_run.proofs.Joined.{End}
 use Rattle.plan_run.proofs.Taken.{points_all}
-use Rattle.plan_run.proofs.Zips.{AllZip-map}
 use Rattle.plan_run.specs.Completed.{HasTranscript}
 use Rattle.plan_run.specs.Interrupted.{AnswersInFile, HoldsAll, IsReadOrLacking, StopsScript, ReportsFeed, accepted_lists, is_lacking}
 use Rattle.reply_json.specs.declared.reply.Reply.{Reply}

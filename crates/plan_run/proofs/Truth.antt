@@ -10,6 +10,7 @@ use Rattle.std.proofs.lemmas.List.Elements.{All-contains, All-contains_itself, A
 use Rattle.crew_feeder.specs.declared.job.FeedDone.{FeedDone}
 use Rattle.crew_feeder.specs.declared.job.FeedJob.{FeedJob}
 use Rattle.crew_session.specs.declared.done.SessionDone.{SessionDone}
+use Rattle.cube_crew.proofs.Zips.{AllZip-length, AllZip-right, AllZip-then}
 use Rattle.cube_crew.specs.Crewed.{IsCrewed, LeavesTranscript}
 use Rattle.cube_crew.specs.declared.jobs.Crewed.{Crewed}
 use Rattle.cube_schema.specs.Files.{NamesFiles, input_names, output_names}
@@ -38,7 +39,7 @@ use Rattle.plan_run.proofs.Landing.{LandsAs, all_landed_as}
 use Rattle.plan_run.proofs.Named.{dones_named}
 use Rattle.plan_run.proofs.Ranked.{ComesFirst, all_ranked, lacking, rank_end}
 use Rattle.plan_run.proofs.Taken.{Gave, GaveRows, StandsAfterOne, all_gave, points_begin, takes_feed}
-use Rattle.plan_run.proofs.Zips.{AllZip-ap, AllZip-length, AllZip-mapped, AllZip-right, AllZip-then, AllZip-with}
+use Rattle.plan_run.proofs.Zips.{AllZip-ap, AllZip-mapped, AllZip-with}
 use Rattle.plan_run.specs.Interrupted.{Account, BeginsFiles, AnswersInFile, HoldsFiles, InterleavesFronts, StopsScript, ReportsFeed, account_text, accepted_lists, is_script_unread, is_unread, read_stops}
 use Rattle.plan_run.specs.Parts.{run_done_of, jobs_of}
 use Rattle.plan_run.specs.Seen.{PartSeen}

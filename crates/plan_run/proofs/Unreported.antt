@@ -6,6 +6,7 @@ use Rattle.std.specs.List.{AllZip}
 use Rattle.std.proofs.lemmas.Bool.{false≢true}
 use Rattle.std.proofs.lemmas.List.{length-append}
 use Rattle.std.proofs.lemmas.List.Elements.{All-append, All-map, All-weaker}
+use Rattle.cube_crew.proofs.Zips.{AllZip-right}
 use Rattle.cube_schema.specs.Files.{output_names}
 use Rattle.cube_schema.specs.Repeats.{outputs}
 use Rattle.cube_schema.specs.declared.plan.Plan.{Plan}
@@ -15,7 +16,6 @@ use Rattle.outer_io.specs.Faults.{Rose}
 use Rattle.outer_io.specs.Files.{Files, HasFile}
 use Rattle.outer_io.specs.Told.{Told}
 use Rattle.plan_run.proofs.Landed.{some_is, told_pair}
-use Rattle.plan_run.proofs.Zips.{AllZip-right}
 use Rattle.plan_run.specs.Ends.{EndsBeforeThreads}
 use Rattle.plan_run.specs.Parts.{GivesBack}
 use Rattle.plan_run.specs.Seen.{PartSeen}

@@ -9,6 +9,7 @@ use Rattle.std.proofs.lemmas.List.Elements.{All-append, All-cons, All-head, All-
 use Rattle.crew_feeder.specs.declared.job.FeedDone.{FeedDone}
 use Rattle.crew_feeder.specs.declared.job.FeedJob.{FeedJob}
 use Rattle.crew_session.specs.declared.done.SessionDone.{SessionDone}
+use Rattle.cube_crew.proofs.Zips.{AllZip-length, AllZip-right}
 use Rattle.cube_crew.specs.Crewed.{IsCrewed}
 use Rattle.cube_crew.specs.declared.jobs.Crewed.{Crewed}
 use Rattle.cube_schema.specs.Files.{NamesFiles, input_names, output_names}
@@ -29,7 +30,6 @@ use Rattle.plan_run.proofs.Completing.{all_replied, all_taken, are_fed, sinks_na
 use Rattle.plan_run.proofs.Joined.{All-unmapped, IsWell, all_well, feed_well, session_well, starved_well, written_well}
 use Rattle.plan_run.proofs.Landed.{AllPairs-back, AllPairs-front, AllPairs-last, all_landed, some_is, told_pair}
 use Rattle.plan_run.proofs.OneJournal.{EntryLaws, entries_valid}
-use Rattle.plan_run.proofs.Zips.{AllZip-length, AllZip-right}
 use Rattle.plan_run.specs.Completed.{IsCompleted, reply_counts, whole_rows}
 use Rattle.plan_run.specs.Parts.{run_done_of, jobs_of}
 use Rattle.plan_run.specs.Seen.{PartSeen}

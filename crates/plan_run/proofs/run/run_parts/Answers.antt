@@ -1,7 +1,7 @@
 use Rattle.std.proofs.Common.{arith, true, false, length, ap}
+use Rattle.cube_crew.proofs.Zips.{AllZip-length}
 use Rattle.cube_crew.specs.Crewed.{LeavesTranscript}
 use Rattle.cube_store.specs.Numbers.{OwnsAllButRoot}
-use Rattle.plan_run.proofs.Zips.{AllZip-length}
 use Rattle.run_stages.specs.declared.done.RunDone.{RunDone}
 use Rattle.world_core.specs.Interleaving.{entry_points}
 use Rattle.plan_run.proofs.run.run_parts.Goals as goal
