@@ -1,12 +1,11 @@
 -- How an audit ends, by how its stages ended.
-use Rattle.std.proofs.Common.{◌≡◌, ◌≢◌, ◌⊎◌, ℕ, true, false, ◌≤◌, ◌<◌, List, [], ◌∷◌, length, Option, Some, None, Result, Ok, Err, inl, inr, refl, sym, ◌∙◌, ap, subst, arith}
+use Rattle.std.proofs.Common.{◌≡◌, ◌≢◌, ◌⊎◌, ℕ, true, false, ◌≤◌, List, [], ◌∷◌, length, Option, Some, None, Result, Ok, Err, inl, inr, refl, sym, ◌∙◌, ap, subst, arith}
 use Rattle.std.specs.Prelude.{IsOk, is_ok}
 use Rattle.cube_schema.specs.Meaning.{plan_meaning}
 use Rattle.cube_schema.specs.declared.fault.PlanFault.{PlanFault}
 use Rattle.cube_schema.specs.declared.plan.Plan.{Plan}
 use Rattle.outer_io.specs.Files.{Files, file_or_empty}
 use Rattle.outer_io.specs.Lines.{input_limit}
-use Rattle.outer_io.specs.Told.{Told}
 use Rattle.recount.specs.declared.verdict.Verdict.{Verdict}
 use Rattle.run_files.proofs.Apart.{err_is, ok_not_err, same_stop, stopped}
 use Rattle.run_files.proofs.Putting.{fails_after, puts_after, silent_after}

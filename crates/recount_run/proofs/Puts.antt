@@ -1,5 +1,5 @@
 -- What is put of the verdict on texts.
-use Rattle.std.proofs.Common.{◌≡◌, ◌≢◌, ℕ, List, length, Result, Ok, Err, refl, subst}
+use Rattle.std.proofs.Common.{◌≡◌, ℕ, List, length, Result, Ok, Err, refl, subst}
 use Rattle.std.specs.Prelude.{◌↔◌}
 use Rattle.cube_schema.specs.declared.plan.Plan.{Plan}
 use Rattle.recount.specs.Agreement.{IsAgreement}

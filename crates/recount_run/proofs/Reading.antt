@@ -1,5 +1,5 @@
 -- Texts that were read whole.
-use Rattle.std.proofs.Common.{◌≡◌, ◌≢◌, ℕ, ◌+◌, ◌≤◌, ◌<◌, List, [], ◌∷◌, length, take, Option, Some, None, Ok, Err, inl, inr, sym, ◌∙◌, ap, subst, arith}
+use Rattle.std.proofs.Common.{◌≡◌, ◌≢◌, ℕ, ◌+◌, ◌≤◌, ◌<◌, List, [], ◌∷◌, length, take, Option, Some, None, Ok, Err, inl, inr, ◌∙◌, ap, subst, arith}
 use Rattle.std.proofs.lemmas.Bool.{cases_lt}
 use Rattle.std.proofs.lemmas.List.{length-take-le, take_all}
 use Rattle.outer_io.specs.Files.{Files, file_or_empty}
@@ -10,8 +10,8 @@ use Rattle.run_files.proofs.Stages.{leaves_ended, leaves_more, leaves_then, same
 use Rattle.run_files.specs.Leaving.{LeavesPlace}
 use Rattle.run_files.specs.Outside.{file_of, PlaceSeen}
 use Rattle.run_files.specs.declared.stop.Stop.{Stop}
-use Rattle.run_files.specs.declared.stop.Stop.TheVariants.{PlanRefused, ReadFault, WriteFault, FeedRefused}
-use Rattle.recount_run.specs.Reading.{AreShort, IsOneLong, ReadsText, ReadsTexts}
+use Rattle.run_files.specs.declared.stop.Stop.TheVariants.{PlanRefused, WriteFault, FeedRefused}
+use Rattle.recount_run.specs.Reading.{IsOneLong, ReadsText, ReadsTexts}
 use Rattle.recount_run.specs.declared.texts.Texts.{Texts}
 
 -- what holds of a file that is told holds of its bytes

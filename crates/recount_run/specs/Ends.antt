@@ -1,5 +1,5 @@
 -- How an audit of a session's transcript ends, from files.
-use Rattle.std.specs.Prelude.{◌≡◌, ◌≢◌, ◌⊎◌, ℕ, List, [], ◌∷◌, Some, Result, Ok, Err, IfOk, IsOk}
+use Rattle.std.specs.Prelude.{◌≡◌, ◌≢◌, ◌⊎◌, ℕ, List, [], ◌∷◌, Some, Result, Err, IfOk, IsOk}
 use Rattle.std.specs.Result.{result_err}
 use Rattle.cube_schema.specs.Meaning.{plan_meaning}
 use Rattle.cube_schema.specs.declared.fault.PlanFault.{PlanFault}

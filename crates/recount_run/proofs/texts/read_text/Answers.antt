@@ -1,4 +1,4 @@
-use Rattle.std.proofs.Common.{◌∙◌, Err, List, Result, ℕ, subst, sym, arith}
+use Rattle.std.proofs.Common.{List, Result, ℕ, subst, sym, arith}
 use Rattle.run_files.specs.Outside.{seen_place}
 use Rattle.run_files.specs.declared.stop.Stop.{Stop}
 use Rattle.recount_run.specs.Reading.{ReadsText}

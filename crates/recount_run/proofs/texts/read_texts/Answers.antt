@@ -1,4 +1,4 @@
-use Rattle.std.proofs.Common.{Err, Ok, Result, subst, sym}
+use Rattle.std.proofs.Common.{Result, subst, sym}
 use Rattle.run_files.specs.Outside.{seen_place}
 use Rattle.run_files.specs.declared.stop.Stop.{Stop}
 use Rattle.recount_run.specs.Reading.{ReadsTexts}
