@@ -94,7 +94,7 @@ pub fn nanocube<R: AllocGlobal + Threads + Wait + Sync, P: Place, O: Sink>(
     place: &mut P,
     out: &mut O,
 ) -> Status
-    // Which words are a form that is built. For others nothing is read or written.
+    // Which words are a form of the program. For others nothing is read or written.
     ensures usage { ((result ≡ Status.Usage) ↔ AreNoForm (map string_bytes words.now)) × (result ≡ Status.Usage → (place.new ≡ place.old) × (out.new ≡ out.old)) }
 
     // How each form ends.

@@ -1,5 +1,5 @@
 -- What taking an image as a cube leaves of a sink, and answers.
-use Rattle.std.specs.Prelude.{◌≡◌, ◌≢◌, ℕ, List, Option, Some, None, Result, Ok, Err}
+use Rattle.std.specs.Prelude.{◌≢◌, ℕ, List, Option, Some, None, Result, Ok, Err}
 use Rattle.cube_store.specs.declared.cube.Cube.{Cube}
 use Rattle.cube_view.specs.declared.schema.Schema.{Schema}
 use Rattle.image_cube.specs.CubeImages.{IsCubeOfImage}

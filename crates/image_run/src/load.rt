@@ -5,12 +5,10 @@ ghost use Rattle.image_run.specs.Ends.{LoadEnds};
 use crate::ImageEnd;
 use crate::answering::answer_file;
 use crate::taking::take_image;
+use cube_image::MOST_BYTES;
 use outer_io::{Place, Sink};
 use run_files::{Stop, load_plan, read_file};
 use std::alloc::Global;
-
-/// The most bytes of an image.
-const LONGEST_IMAGE: usize = 1 << 30;
 
 /// The names of the three files of a load.
 #[derive(Clone, Copy)]
@@ -32,7 +30,7 @@ pub fn load_files<P: Place, O: Sink>(
     ensures { LoadEnds (seen_place P.files P.read_faults P.write_faults P.opened P.created) (seen_sink O.held O.faults O.name) place.old place.new out.old out.new names.now.plan.now names.now.image.now names.now.script.now result }
 {
     let plan = load_plan(alloc, names.plan, place, out)?;
-    let bytes = read_file(alloc, names.image, LONGEST_IMAGE, place)?;
+    let bytes = read_file(alloc, names.image, MOST_BYTES as usize, place)?;
     match take_image(alloc, plan.schema, bytes, out)? {
         Some(cube) => {
             answer_file(alloc, &cube, names.script, place, out)?;
