@@ -21,7 +21,8 @@ use std::alloc::Global;
 
 /// A cube of no points under the plan that is built in.
 fn empty_cube(alloc: Global) -> Result<Cube, NoMemory>
-    ensures { IfOk result (λ cube. (⟦<Cube as CubeView>⟧.schema cube ≡ built_in) × Counts (⟦<Cube as CubeView>⟧.weight_at cube) (⟦<Cube as CubeView>⟧.seen cube) []) }
+    ensures schema { IfOk result (λ cube. ⟦<Cube as CubeView>⟧.schema cube ≡ built_in) }
+    ensures empty { IfOk result (λ cube. Counts (⟦<Cube as CubeView>⟧.weight_at cube) (⟦<Cube as CubeView>⟧.seen cube) []) }
 {
     let schema = built_in_schema(alloc)?;
     Cube::new(alloc, schema)
