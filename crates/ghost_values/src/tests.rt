@@ -21,7 +21,7 @@ fn at_five() -> Counter
     let count = 5;
     Counter {
         count,
-        start: GhostValue::of(&count).again(),
+        start: GhostValue::of(&count),
         counts: GhostList::new().and(&count),
     }
 }

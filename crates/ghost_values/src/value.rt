@@ -29,13 +29,4 @@ impl<T> GhostValue<T> {
             marker: PhantomData,
         }
     }
-
-    /// The same value again.
-    pub fn again(&self) -> GhostValue<T>
-        ensures { result.value ≡ self.now.value }
-    {
-        GhostValue {
-            marker: PhantomData,
-        }
-    }
 }
