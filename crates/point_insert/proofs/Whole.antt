@@ -12,7 +12,8 @@ use Rattle.proper_path.specs.Trails.{IsTrailLink}
 use Rattle.point_insert.specs.Ending.{Ends, HasNotOneChild}
 use Rattle.point_insert.specs.Visited.{HasPathChild, IsEntered}
 use Rattle.cube_view.proofs.Walking.{under_before, Contains-cases}
-use Rattle.proper_path.proofs.Above.{under_above, same_down}
+use Rattle.node_arena.proofs.Labelled.{same_down}
+use Rattle.proper_path.proofs.Above.{under_above}
 use Rattle.proper_path.proofs.Links.{table_link}
 use Rattle.proper_path.proofs.Homes.{IsFree}
 use Rattle.proper_path.proofs.Shares.{MayShare, shares_ends, shares_relinked}

@@ -1,6 +1,6 @@
 -- What finer, above and before say of the spots under an address.
-use Rattle.std.proofs.Common.{◌≡◌, ℕ, Bool, true, false, cond, eqb, List, [], ◌∷◌, Option, Some, None, is_some, refl, sym, ap, ◌∙◌, subst, eqb-true}
-use Rattle.cube_view.specs.Walks.{down, across, Walk, SpotPath, Cursor, after_down, then_step, cursor, Under, Finer, top, by_down, by_across, longer}
+use Rattle.std.proofs.Common.{◌≡◌, ℕ, Bool, true, false, ◌∷◌, Some, refl, ap, subst, is_some}
+use Rattle.cube_view.specs.Walks.{down, across, Walk, SpotPath, Cursor, cursor, Under, Finer, top, by_down, by_across, longer}
 use Rattle.cube_view.proofs.Walking.{under_before}
 use Rattle.proper_path.specs.Order.{IsAbove, itself, further, IsBefore}
 
@@ -10,25 +10,6 @@ some-under q a c h = ap is_some h
 pub under_above : {a b : Walk} → IsAbove a b → (q : SpotPath) → Under q b → Under q a
 under_above itself q h = h
 under_above (further {e = e} {b = b} r) q h = under_above r q (under_before q e b h)
-
--- two steps that both go down to a spot are the same
-pub same_down : (q : SpotPath) (l m : ℕ) (a : Walk) → Under q (down l ∷ a) → Under q (down m ∷ a) → l ≡ m
-same_down q l m a h k = go (cursor q a) h k
-  where
-    at : (rest : List ℕ) (later : List (List ℕ)) → is_some (after_down l rest later) ≡ true → is_some (after_down m rest later) ≡ true → l ≡ m
-    at [] later x y = absurd cc
-    at (n ∷ rest) later x y = eqb-true l n (test l x) ∙ sym (eqb-true m n (test m y))
-      where
-        test : (k : ℕ) → is_some (after_down k (n ∷ rest) later) ≡ true → eqb k n ≡ true
-        test k z = pick (eqb k n) z
-          where
-            pick : (b : Bool) → is_some {T = Cursor} (cond b (Some (record { rest = rest; later = later })) None) ≡ true → b ≡ true
-            pick true w = refl
-            pick false w = absurd cc
-
-    go : (o : Option Cursor) → is_some (then_step o (down l)) ≡ true → is_some (then_step o (down m)) ≡ true → l ≡ m
-    go None x y = absurd cc
-    go (Some c) x y = at c.rest c.later x y
 
 -- the order of visits: an address that is finer than another and not equal to it comes before it
 data Side (a b : Walk) : Bool → Type 0 where

@@ -1,5 +1,5 @@
 -- The arena grows in the middle of an insertion.
-use Rattle.std.proofs.Common.{◌≡◌, ℕ, ◌<◌, true, ◌⊎◌, inl, inr, ◌↔◌, List, [], ◌∷◌, ◌++◌, Some, None, Contains, length, sym, ap, ◌∙◌, subst, arith, subst₂}
+use Rattle.std.proofs.Common.{◌≡◌, ℕ, ◌<◌, true, ◌⊎◌, inl, inr, ◌↔◌, List, ◌∷◌, Some, None, Contains, length, sym, ap, ◌∙◌, subst, arith, subst₂}
 use Rattle.cube_view.specs.Walks.{Step, Walk, Under, IsCoarser, dimension, HasSpot}
 use Rattle.node_arena.specs.declared.link.Link.{Link}
 use Rattle.node_arena.specs.Slots.{shared, target, Slot, link_of, slot_of, count, is_table}
@@ -10,7 +10,7 @@ use Rattle.proper_path.specs.Changes.{IsGrown}
 use Rattle.cube_view.proofs.Walking.{dimension-finer, coarser_under, Contains-head}
 use Rattle.node_arena.proofs.Amounting.{amount-none, amount_along}
 use Rattle.proper_path.proofs.Links.{count-copied, is_table-copied}
-use Rattle.proper_path.proofs.Homes.{home-push_old, home-push_new, cases_grown, FitsUnder, IsFree, homes_grown}
+use Rattle.proper_path.proofs.Homes.{grown_homes, grown_home, KeepsHomes, keeps_homes, cases_grown, FitsUnder, IsFree, homes_grown}
 use Rattle.proper_path.proofs.Grow.{HoldsAt, holds_grown, IsAlike, alike, copy_holds, copy_fits, IsEmpty, empty_holds, empty_fits}
 use Rattle.node_arena.proofs.Reaching.{target-lt}
 use Rattle.node_arena.specs.Amounts.{Weighted, spots_in, amount_under}
@@ -20,101 +20,62 @@ pub record CountsAt (dims : ℕ) (a : Walk) (s : Slot) (h : List Weighted) : Typ
   pub kind : (is_table s ≡ true) ↔ (dimension a ≡ dims)
   pub counts : (bin : ℕ) → is_table s ≡ true → count s bin ≡ amount_under h a bin
 
-pub tables_grown : (dims : ℕ) (old new : List Slot) (homes : List Walk) (i : ℕ) (e : Step) (s : Slot) → IsGrown old new i e s → HasHomes old homes → HasTables dims old homes → (is_table s ≡ true) ↔ (dimension (e ∷ home_of homes i) ≡ dims) → HasTables dims new (homes ++ (e ∷ home_of homes i) ∷ [])
-tables_grown dims old new homes i e s G H T kind = record { tables = λ j l. tables j (cases_grown n j (length new) G.size l) }
+pub tables_grown : (dims : ℕ) (old new : List Slot) (homes : List Walk) (i : ℕ) (e : Step) (s : Slot) → IsGrown old new i e s → HasHomes old homes → HasTables dims old homes → (is_table s ≡ true) ↔ (dimension (e ∷ home_of homes i) ≡ dims) → HasTables dims new (grown_homes homes i e)
+tables_grown dims old new homes i e s G H T kind = record { tables = λ j l. tables j (cases_grown (length old) j (length new) G.size l) }
   where
-    A : Walk
-    A = e ∷ home_of homes i
+    K : KeepsHomes old homes i e
+    K = keeps_homes old homes i e H
 
-    homes' : List Walk
-    homes' = homes ++ A ∷ []
+    tables : (j : ℕ) → (j < length old) ⊎ (j ≡ length old) → (is_table (slot_of new j) ≡ true) ↔ (dimension (grown_home homes i e j) ≡ dims)
+    tables j (inl l) = subst₂ (λ x y. (x ≡ true) ↔ (dimension y ≡ dims)) (sym (G.old_kind j l)) (sym (K.was j l)) (T.tables j l)
+    tables j (inr x) = subst₂ (λ x y. (x ≡ true) ↔ (dimension y ≡ dims)) (sym G.new_kind ∙ ap (λ z. is_table (slot_of new z)) (sym x)) (sym K.is_new ∙ ap (grown_home homes i e) (sym x)) kind
 
-    n : ℕ
-    n = length old
-
-    tables : (j : ℕ) → (j < n) ⊎ (j ≡ n) → (is_table (slot_of new j) ≡ true) ↔ (dimension (home_of homes' j) ≡ dims)
-    tables j (inl l) = subst₂ (λ x y. (x ≡ true) ↔ (dimension y ≡ dims)) (sym (G.old_kind j l)) (sym (home-push_old homes A j (omega (arith, H.size)))) (T.tables j l)
-    tables j (inr x) = subst₂ (λ x y. (x ≡ true) ↔ (dimension y ≡ dims)) (sym G.new_kind ∙ ap (λ z. is_table (slot_of new z)) (sym x)) (sym (home-push_new homes A (length old) H.size) ∙ ap (home_of homes') (sym x)) kind
-
-pub counts_grown : (dims : ℕ) (old new : List Slot) (homes : List Walk) (i : ℕ) (e : Step) (s : Slot) (h : List Weighted) (p : Weighted) (done : Walk → Type 0) → IsGrown old new i e s → HasHomes old homes → CountsBetween old homes h p done → CountsAt dims (e ∷ home_of homes i) s h → (done (e ∷ home_of homes i) → ⊥) → CountsBetween new (homes ++ (e ∷ home_of homes i) ∷ []) h p done
+pub counts_grown : (dims : ℕ) (old new : List Slot) (homes : List Walk) (i : ℕ) (e : Step) (s : Slot) (h : List Weighted) (p : Weighted) (done : Walk → Type 0) → IsGrown old new i e s → HasHomes old homes → CountsBetween old homes h p done → CountsAt dims (e ∷ home_of homes i) s h → (done (e ∷ home_of homes i) → ⊥) → CountsBetween new (grown_homes homes i e) h p done
 counts_grown dims old new homes i e s h p done G H C at fresh = record {
-  still = λ j bin l t d. still j bin t d (cases_grown n j (length new) G.size l);
-  now = λ j bin l t d. now j bin t d (cases_grown n j (length new) G.size l);
+  still = λ j bin l t d. still j bin t d (cases_grown (length old) j (length new) G.size l);
+  now = λ j bin l t d. now j bin t d (cases_grown (length old) j (length new) G.size l);
 }
   where
-    A : Walk
-    A = e ∷ home_of homes i
+    K : KeepsHomes old homes i e
+    K = keeps_homes old homes i e H
 
-    homes' : List Walk
-    homes' = homes ++ A ∷ []
-
-    n : ℕ
-    n = length old
-
-    was : (j : ℕ) → j < length old → home_of homes' j ≡ home_of homes j
-    was j l = home-push_old homes A j (omega (arith, H.size))
-
-    is_new : home_of homes' (length old) ≡ A
-    is_new = home-push_new homes A (length old) H.size
-
-    still : (j bin : ℕ) → is_table (slot_of new j) ≡ true → (done (home_of homes' j) → ⊥) → (j < n) ⊎ (j ≡ n) → count (slot_of new j) bin ≡ amount_under h (home_of homes' j) bin
-    still j bin t d (inl l) = G.old_count j bin l ∙ (C.still j bin l (sym (G.old_kind j l) ∙ t) (λ w. d (subst done (sym (was j l)) w)) ∙ ap (λ z. amount_under h z bin) (sym (was j l)))
+    still : (j bin : ℕ) → is_table (slot_of new j) ≡ true → (done (grown_home homes i e j) → ⊥) → (j < length old) ⊎ (j ≡ length old) → count (slot_of new j) bin ≡ amount_under h (grown_home homes i e j) bin
+    still j bin t d (inl l) = G.old_count j bin l ∙ (C.still j bin l (sym (G.old_kind j l) ∙ t) (λ w. d (subst done (sym (K.was j l)) w)) ∙ ap (λ z. amount_under h z bin) (sym (K.was j l)))
     still j bin t d (inr x) =
-        ap (λ z. count (slot_of new z) bin) x ∙ (G.new_count bin ∙ (at.counts bin (sym G.new_kind ∙ (ap (λ z. is_table (slot_of new z)) (sym x) ∙ t)) ∙ ap (λ z. amount_under h z bin) (sym is_new ∙ ap (home_of homes') (sym x))))
+        ap (λ z. count (slot_of new z) bin) x ∙ (G.new_count bin ∙ (at.counts bin (sym G.new_kind ∙ (ap (λ z. is_table (slot_of new z)) (sym x) ∙ t)) ∙ ap (λ z. amount_under h z bin) (sym K.is_new ∙ ap (grown_home homes i e) (sym x))))
 
-    now : (j bin : ℕ) → is_table (slot_of new j) ≡ true → done (home_of homes' j) → (j < n) ⊎ (j ≡ n) → count (slot_of new j) bin ≡ amount_under (p ∷ h) (home_of homes' j) bin
-    now j bin t d (inl l) = G.old_count j bin l ∙ (C.now j bin l (sym (G.old_kind j l) ∙ t) (subst done (was j l) d) ∙ ap (λ z. amount_under (p ∷ h) z bin) (sym (was j l)))
-    now j bin t d (inr x) = absurd (fresh (subst done (ap (home_of homes') x ∙ is_new) d))
+    now : (j bin : ℕ) → is_table (slot_of new j) ≡ true → done (grown_home homes i e j) → (j < length old) ⊎ (j ≡ length old) → count (slot_of new j) bin ≡ amount_under (p ∷ h) (grown_home homes i e j) bin
+    now j bin t d (inl l) = G.old_count j bin l ∙ (C.now j bin l (sym (G.old_kind j l) ∙ t) (subst done (K.was j l) d) ∙ ap (λ z. amount_under (p ∷ h) z bin) (sym (K.was j l)))
+    now j bin t d (inr x) = absurd (fresh (subst done (ap (grown_home homes i e) x ∙ K.is_new) d))
 
-pub visited_grown : (old new : List Slot) (homes : List Walk) (i : ℕ) (e : Step) (s : Slot) (p : Weighted) (done : Walk → Type 0) → IsGrown old new i e s → HasHomes old homes → IsVisited old homes p done → (done (home_of homes i) → ⊥) → (done (e ∷ home_of homes i) → ⊥) → IsVisited new (homes ++ (e ∷ home_of homes i) ∷ []) p done
+pub visited_grown : (old new : List Slot) (homes : List Walk) (i : ℕ) (e : Step) (s : Slot) (p : Weighted) (done : Walk → Type 0) → IsGrown old new i e s → HasHomes old homes → IsVisited old homes p done → (done (home_of homes i) → ⊥) → (done (e ∷ home_of homes i) → ⊥) → IsVisited new (grown_homes homes i e) p done
 visited_grown old new homes i e s p done G H V here fresh = record {
   holds = V.holds;
-  links = λ j f l d u. links j f d u (cases_grown n j (length new) G.size l);
+  links = λ j f l d u. links j f d u (cases_grown (length old) j (length new) G.size l);
 }
   where
-    A : Walk
-    A = e ∷ home_of homes i
+    K : KeepsHomes old homes i e
+    K = keeps_homes old homes i e H
 
-    homes' : List Walk
-    homes' = homes ++ A ∷ []
-
-    n : ℕ
-    n = length old
-
-    was : (j : ℕ) → j < length old → home_of homes' j ≡ home_of homes j
-    was j l = home-push_old homes A j (omega (arith, H.size))
-
-    is_new : home_of homes' (length old) ≡ A
-    is_new = home-push_new homes A (length old) H.size
-
-    links : (j : ℕ) (f : Step) → done (home_of homes' j) → Under p.spot (f ∷ home_of homes' j) → (j < n) ⊎ (j ≡ n) → (l : Link) × (link_of new j f ≡ Some l) × Under p.spot (home_of homes' (target l))
+    links : (j : ℕ) (f : Step) → done (grown_home homes i e j) → Under p.spot (f ∷ grown_home homes i e j) → (j < length old) ⊎ (j ≡ length old) → (l : Link) × (link_of new j f ≡ Some l) × Under p.spot (grown_home homes i e (target l))
     links j f d u (inl l) =
-        let d' : done (home_of homes j) = subst done (was j l) d in
-        let r = V.links j f l d' (subst (λ z. Under p.spot (f ∷ z)) (was j l) u) in
-        (r.0, G.old_link j f l (λ x y. here (subst (λ z. done (home_of homes z)) x d')) ∙ r.1, subst (Under p.spot) (sym (was (target r.0) (target-lt old homes H j f r.0 r.1))) r.2)
-    links j f d u (inr x) = absurd (fresh (subst done (ap (home_of homes') x ∙ is_new) d))
+        let d' : done (home_of homes j) = subst done (K.was j l) d in
+        let r = V.links j f l d' (subst (λ z. Under p.spot (f ∷ z)) (K.was j l) u) in
+        (r.0, G.old_link j f l (λ x y. here (subst (λ z. done (home_of homes z)) x d')) ∙ r.1, subst (Under p.spot) (sym (K.was (target r.0) (target-lt old homes H j f r.0 r.1))) r.2)
+    links j f d u (inr x) = absurd (fresh (subst done (ap (grown_home homes i e) x ∙ K.is_new) d))
 
-pub updates_grown : (old new : List Slot) (homes : List Walk) (i : ℕ) (e : Step) (s : Slot) (done : Walk → Type 0) (updated : List ℕ) → IsGrown old new i e s → HasHomes old homes → HasUpdated old homes done updated → (done (e ∷ home_of homes i) → ⊥) → HasUpdated new (homes ++ (e ∷ home_of homes i) ∷ []) done updated
+pub updates_grown : (old new : List Slot) (homes : List Walk) (i : ℕ) (e : Step) (s : Slot) (done : Walk → Type 0) (updated : List ℕ) → IsGrown old new i e s → HasHomes old homes → HasUpdated old homes done updated → (done (e ∷ home_of homes i) → ⊥) → HasUpdated new (grown_homes homes i e) done updated
 updates_grown old new homes i e s done updated G H U fresh = record {
-  listed = λ j c. let r = U.listed j c in (omega (arith, G.size), subst done (sym (was j r.0)) r.1, subst IsContentHome (sym (was j r.0)) r.2);
-  lists = λ j l d k. lists j d k (cases_grown n j (length new) G.size l);
+  listed = λ j c. let r = U.listed j c in (omega (arith, G.size), subst done (sym (K.was j r.0)) r.1, subst IsContentHome (sym (K.was j r.0)) r.2);
+  lists = λ j l d k. lists j d k (cases_grown (length old) j (length new) G.size l);
 }
   where
-    A : Walk
-    A = e ∷ home_of homes i
+    K : KeepsHomes old homes i e
+    K = keeps_homes old homes i e H
 
-    homes' : List Walk
-    homes' = homes ++ A ∷ []
-
-    n : ℕ
-    n = length old
-
-    was : (j : ℕ) → j < length old → home_of homes' j ≡ home_of homes j
-    was j l = home-push_old homes A j (omega (arith, H.size))
-
-    lists : (j : ℕ) → done (home_of homes' j) → IsContentHome (home_of homes' j) → (j < n) ⊎ (j ≡ n) → Contains updated j
-    lists j d k (inl l) = U.lists j l (subst done (was j l) d) (subst IsContentHome (was j l) k)
-    lists j d k (inr x) = absurd (fresh (subst done (ap (home_of homes') x ∙ home-push_new homes A (length old) H.size) d))
+    lists : (j : ℕ) → done (grown_home homes i e j) → IsContentHome (grown_home homes i e j) → (j < length old) ⊎ (j ≡ length old) → Contains updated j
+    lists j d k (inl l) = U.lists j l (subst done (K.was j l) d) (subst IsContentHome (K.was j l) k)
+    lists j d k (inr x) = absurd (fresh (subst done (ap (grown_home homes i e) x ∙ K.is_new) d))
 
 -- the invariant is kept where a slot that stands well at its address is added
 pub record StandsAt (dims : ℕ) (slots : List Slot) (homes : List Walk) (a : Walk) (s : Slot) (h : List Weighted) (p : Weighted) : Type 0 where
@@ -128,7 +89,7 @@ pub record MayGrow (slots : List Slot) (homes : List Walk) (i : ℕ) (e : Step) 
   pub open_node : done (home_of homes i) → ⊥
   pub open_link : done (e ∷ home_of homes i) → ⊥
 
-pub growing_grown : (dims : ℕ) (old new : List Slot) (homes : List Walk) (i : ℕ) (e : Step) (s : Slot) (h : List Weighted) (p : Weighted) (done : Walk → Type 0) → IsGrown old new i e s → IsGrowing dims old homes h p done → MayGrow old homes i e p done → StandsAt dims old homes (e ∷ home_of homes i) s h p → IsGrowing dims new (homes ++ (e ∷ home_of homes i) ∷ []) h p done
+pub growing_grown : (dims : ℕ) (old new : List Slot) (homes : List Walk) (i : ℕ) (e : Step) (s : Slot) (h : List Weighted) (p : Weighted) (done : Walk → Type 0) → IsGrown old new i e s → IsGrowing dims old homes h p done → MayGrow old homes i e p done → StandsAt dims old homes (e ∷ home_of homes i) s h p → IsGrowing dims new (grown_homes homes i e) h p done
 growing_grown dims old new homes i e s h p done G M may st = record {
   has_homes = homes_grown old new homes i e s G M.has_homes may.free st.fits;
   has_tables = tables_grown dims old new homes i e s G M.has_homes M.has_tables st.counted.kind;
@@ -137,7 +98,7 @@ growing_grown dims old new homes i e s h p done G M may st = record {
   counted = counts_grown dims old new homes i e s h p done G M.has_homes M.counted st.counted may.open_link;
 }
 
-pub midway_grown : (dims : ℕ) (old new : List Slot) (homes : List Walk) (i : ℕ) (e : Step) (s : Slot) (h : List Weighted) (p : Weighted) (done : Walk → Type 0) (updated : List ℕ) → IsGrown old new i e s → IsMidway dims old homes h p done updated → MayGrow old homes i e p done → StandsAt dims old homes (e ∷ home_of homes i) s h p → IsMidway dims new (homes ++ (e ∷ home_of homes i) ∷ []) h p done updated
+pub midway_grown : (dims : ℕ) (old new : List Slot) (homes : List Walk) (i : ℕ) (e : Step) (s : Slot) (h : List Weighted) (p : Weighted) (done : Walk → Type 0) (updated : List ℕ) → IsGrown old new i e s → IsMidway dims old homes h p done updated → MayGrow old homes i e p done → StandsAt dims old homes (e ∷ home_of homes i) s h p → IsMidway dims new (grown_homes homes i e) h p done updated
 midway_grown dims old new homes i e s h p done updated G M may st = record {
   growing = growing_grown dims old new homes i e s h p done G M.growing may st;
   updates = updates_grown old new homes i e s done updated G M.has_homes M.updates may.open_link;

@@ -1,5 +1,5 @@
 -- The arena grows by a slot: an empty one, or a shallow copy of the target of the shared link that is replaced.
-use Rattle.std.proofs.Common.{◌≡◌, ℕ, ◌<◌, ◌⊎◌, inl, inr, List, [], ◌∷◌, ◌++◌, Some, None, Contains, length, refl, sym, ap, ◌∙◌, subst, arith, ap₂, subst₂}
+use Rattle.std.proofs.Common.{◌≡◌, ℕ, ◌<◌, ◌⊎◌, inl, inr, List, ◌∷◌, Some, None, Contains, length, refl, sym, ap, ◌∙◌, subst, arith, ap₂, subst₂}
 use Rattle.cube_view.specs.Walks.{Step, down, across, Walk, SpotPath, Under, IsCoarser, HasSpot}
 use Rattle.node_arena.specs.declared.link.Link.{Link}
 use Rattle.node_arena.specs.Slots.{proper, shared, target, Slot, table, empty_node, link, link_of, slot_of, count}
@@ -12,7 +12,7 @@ use Rattle.std.specs.FinMap.{empty, get-empty}
 use Rattle.std.specs.Ordering.{nat_cmp}
 use Rattle.std.proofs.Common.{unwrap_or}
 use Rattle.proper_path.proofs.Links.{link-copied, share-some, proper≢shared, same_place}
-use Rattle.proper_path.proofs.Homes.{home-push_old, home-push_new, cases_grown, FitsUnder}
+use Rattle.proper_path.proofs.Homes.{grown_homes, grown_home, KeepsHomes, keeps_homes, cases_grown, FitsUnder}
 
 -- what the added slot has to be at its address, among the homes of the old ones
 pub record HoldsAt (homes : List Walk) (a : Walk) (s : Slot) (sure all : List SpotPath) : Type 0 where
@@ -29,50 +29,38 @@ still_linked old new i e s G j f lt r = go (same_place j i f e)
     go (inl x) = record { link = proper (length old); is = ap₂ (link_of new) x.0 x.1 ∙ G.set_link }
     go (inr ne) = record { link = r.link; is = G.old_link j f lt ne ∙ r.is }
 
-pub holds_grown : (old new : List Slot) (homes : List Walk) (i : ℕ) (e : Step) (s : Slot) (sure all : List SpotPath) → IsGrown old new i e s → HasHomes old homes → HoldsSpots old homes sure all → HoldsAt homes (e ∷ home_of homes i) s sure all → HasSpot all (e ∷ home_of homes i) → HoldsSpots new (homes ++ (e ∷ home_of homes i) ∷ []) sure all
+pub holds_grown : (old new : List Slot) (homes : List Walk) (i : ℕ) (e : Step) (s : Slot) (sure all : List SpotPath) → IsGrown old new i e s → HasHomes old homes → HoldsSpots old homes sure all → HoldsAt homes (e ∷ home_of homes i) s sure all → HasSpot all (e ∷ home_of homes i) → HoldsSpots new (grown_homes homes i e) sure all
 holds_grown old new homes i e s sure all G H S at some = record {
-  needed = λ j f l w. needed j f w (cases_grown n j (length new) G.size l);
+  needed = λ j f l w. needed j f w (cases_grown (length old) j (length new) G.size l);
   wanted = λ j f l h. wanted j f l h (G.came j f);
   agrees = λ j f l h q c u. agrees j f l h (G.came j f) q c u;
 }
   where
-    A : Walk
-    A = e ∷ home_of homes i
+    K : KeepsHomes old homes i e
+    K = keeps_homes old homes i e H
 
-    homes' : List Walk
-    homes' = homes ++ A ∷ []
-
-    n : ℕ
-    n = length old
-
-    was : (j : ℕ) → j < length old → home_of homes' j ≡ home_of homes j
-    was j l = home-push_old homes A j (omega (arith, H.size))
-
-    is_new : home_of homes' (length old) ≡ A
-    is_new = home-push_new homes A (length old) H.size
-
-    needed : (j : ℕ) (f : Step) → HasSpot sure (f ∷ home_of homes' j) → (j < n) ⊎ (j ≡ n) → IsLinked new j f
-    needed j f w (inl l) = still_linked old new i e s G j f l (S.needed j f l (subst (λ z. HasSpot sure (f ∷ z)) (was j l) w))
+    needed : (j : ℕ) (f : Step) → HasSpot sure (f ∷ grown_home homes i e j) → (j < length old) ⊎ (j ≡ length old) → IsLinked new j f
+    needed j f w (inl l) = still_linked old new i e s G j f l (S.needed j f l (subst (λ z. HasSpot sure (f ∷ z)) (K.was j l) w))
     needed j f w (inr x) =
-        let r = at.needed f (subst (λ z. HasSpot sure (f ∷ z)) (ap (home_of homes') x ∙ is_new) w) in
+        let r = at.needed f (subst (λ z. HasSpot sure (f ∷ z)) (ap (grown_home homes i e) x ∙ K.is_new) w) in
         record { link = r.0; is = ap (λ z. link_of new z f) x ∙ (G.new_link f ∙ r.1) }
 
-    wanted : (j : ℕ) (f : Step) (l : Link) → link_of new j f ≡ Some l → Came old i e s (Some (proper (length old))) j f (link_of new j f) → HasSpot all (f ∷ home_of homes' j)
-    wanted j f l h (of_new en el) = subst (λ z. HasSpot all (f ∷ z)) (sym is_new ∙ ap (home_of homes') (sym en)) (at.wanted f l (sym el ∙ h))
-    wanted j f l h (of_set ei ee el) = subst₂ (λ x y. HasSpot all (x ∷ y)) (sym ee) (ap (home_of homes) (sym ei) ∙ sym (was j (subst (λ z. z < length old) (sym ei) G.place))) some
-    wanted j f l h (of_old lt ne el) = subst (λ z. HasSpot all (f ∷ z)) (sym (was j lt)) (S.wanted j f l (sym el ∙ h))
+    wanted : (j : ℕ) (f : Step) (l : Link) → link_of new j f ≡ Some l → Came old i e s (Some (proper (length old))) j f (link_of new j f) → HasSpot all (f ∷ grown_home homes i e j)
+    wanted j f l h (of_new en el) = subst (λ z. HasSpot all (f ∷ z)) (sym K.is_new ∙ ap (grown_home homes i e) (sym en)) (at.wanted f l (sym el ∙ h))
+    wanted j f l h (of_set ei ee el) = subst₂ (λ x y. HasSpot all (x ∷ y)) (sym ee) (ap (home_of homes) (sym ei) ∙ sym (K.was j (subst (λ z. z < length old) (sym ei) G.place))) some
+    wanted j f l h (of_old lt ne el) = subst (λ z. HasSpot all (f ∷ z)) (sym (K.was j lt)) (S.wanted j f l (sym el ∙ h))
     wanted j f l h (of_none el) = absurd cc
 
-    agrees : (j : ℕ) (f : Step) (l : Link) → link_of new j f ≡ Some l → Came old i e s (Some (proper (length old))) j f (link_of new j f) → (q : SpotPath) → Contains sure q → Under q (f ∷ home_of homes' j) → Under q (home_of homes' (target l))
+    agrees : (j : ℕ) (f : Step) (l : Link) → link_of new j f ≡ Some l → Came old i e s (Some (proper (length old))) j f (link_of new j f) → (q : SpotPath) → Contains sure q → Under q (f ∷ grown_home homes i e j) → Under q (grown_home homes i e (target l))
     agrees j f l h (of_new en el) q c u =
         let k : link s f ≡ Some l = sym el ∙ h in
-        subst (λ z. Under q z) (sym (was (target l) (omega (arith, at.in_range f l k, H.size)))) (at.agrees f l k q c (subst (λ z. Under q (f ∷ z)) (ap (home_of homes') en ∙ is_new) u))
+        subst (λ z. Under q z) (sym (K.was (target l) (omega (arith, at.in_range f l k, H.size)))) (at.agrees f l k q c (subst (λ z. Under q (f ∷ z)) (ap (grown_home homes i e) en ∙ K.is_new) u))
     agrees j f l h (of_set ei ee el) q c u =
         let k : l ≡ proper (length old) = cc in
-        subst (λ z. Under q z) (ap₂ ◌∷◌ ee (was j (subst (λ z. z < length old) (sym ei) G.place) ∙ ap (home_of homes) ei) ∙ (sym is_new ∙ ap (λ z. home_of homes' (target z)) (sym k))) u
+        subst (λ z. Under q z) (ap₂ ◌∷◌ ee (K.was j (subst (λ z. z < length old) (sym ei) G.place) ∙ ap (home_of homes) ei) ∙ (sym K.is_new ∙ ap (λ z. grown_home homes i e (target z)) (sym k))) u
     agrees j f l h (of_old lt ne el) q c u =
         let k : link_of old j f ≡ Some l = sym el ∙ h in
-        subst (λ z. Under q z) (sym (was (target l) (target-lt old homes H j f l k))) (S.agrees j f l k q c (subst (λ z. Under q (f ∷ z)) (was j lt) u))
+        subst (λ z. Under q z) (sym (K.was (target l) (target-lt old homes H j f l k))) (S.agrees j f l k q c (subst (λ z. Under q (f ∷ z)) (K.was j lt) u))
     agrees j f l h (of_none el) q c u = absurd cc
 
 -- the spots under the link's address are those under its target's home

@@ -9,11 +9,24 @@ use Rattle.proper_path.specs.Changes.{IsGrown, Came, of_new, of_set, of_old, of_
 use Rattle.node_arena.proofs.Linked.{linked-lt}
 use Rattle.proper_path.proofs.Links.{proper≢shared}
 
-pub home-push_old : (homes : List Walk) (a : Walk) (i : ℕ) → i < length homes → home_of (homes ++ a ∷ []) i ≡ home_of homes i
-home-push_old homes a i l = get_or_append_left homes (a ∷ []) [] i l
+-- the homes after a slot was added for the link at i and e, with the link's address for the slot at their end
+abbrev pub grown_homes : List Walk → ℕ → Step → List Walk
+grown_homes homes i e = homes ++ (e ∷ home_of homes i) ∷ []
 
-pub home-push_new : (homes : List Walk) (a : Walk) (n : ℕ) → length homes ≡ n → home_of (homes ++ a ∷ []) n ≡ a
-home-push_new homes a n e = get_or_push homes a [] n e
+-- the home of a slot among them
+abbrev pub grown_home : List Walk → ℕ → Step → ℕ → Walk
+grown_home homes i e j = home_of (grown_homes homes i e) j
+
+-- each old slot keeps its home, and the added slot's is the link's address
+pub record KeepsHomes (old : List Slot) (homes : List Walk) (i : ℕ) (e : Step) : Type 0 where
+  pub was : (j : ℕ) → j < length old → grown_home homes i e j ≡ home_of homes j
+  pub is_new : grown_home homes i e (length old) ≡ e ∷ home_of homes i
+
+pub keeps_homes : (old : List Slot) (homes : List Walk) (i : ℕ) (e : Step) → HasHomes old homes → KeepsHomes old homes i e
+keeps_homes old homes i e H = record {
+  was = λ j l. get_or_append_left homes ((e ∷ home_of homes i) ∷ []) [] j (omega (arith, H.size));
+  is_new = get_or_push homes (e ∷ home_of homes i) [] (length old) H.size;
+}
 
 -- the link at i and e is no proper one
 abbrev pub IsFree : List Slot → ℕ → Step → Type 0
@@ -44,62 +57,50 @@ cases_grown n j m e l = go (cases_lt j n)
     go (inl x) = inl x
     go (inr x) = inr (omega arith)
 
-pub homes_grown : (old new : List Slot) (homes : List Walk) (i : ℕ) (e : Step) (s : Slot) → IsGrown old new i e s → HasHomes old homes → IsFree old i e → FitsUnder old homes (e ∷ home_of homes i) s → HasHomes new (homes ++ (e ∷ home_of homes i) ∷ [])
+pub homes_grown : (old new : List Slot) (homes : List Walk) (i : ℕ) (e : Step) (s : Slot) → IsGrown old new i e s → HasHomes old homes → IsFree old i e → FitsUnder old homes (e ∷ home_of homes i) s → HasHomes new (grown_homes homes i e)
 homes_grown old new homes i e s G H free fits = record {
   owned = record {
-    size = omega (arith, length_push homes A, H.size, G.size);
+    size = omega (arith, length_push homes (e ∷ home_of homes i), H.size, G.size);
     some = omega (arith, G.size);
-    root = was 0 H.some ∙ H.root;
-    distinct = λ j k lj lk eq. distinct j k eq (cases_grown n j (length new) G.size lj) (cases_grown n k (length new) G.size lk);
-    owner = λ j p l. owner j p (cases_grown n j (length new) G.size l);
+    root = K.was 0 H.some ∙ H.root;
+    distinct = λ j k lj lk eq. distinct j k eq (cases_grown (length old) j (length new) G.size lj) (cases_grown (length old) k (length new) G.size lk);
+    owner = λ j p l. owner j p (cases_grown (length old) j (length new) G.size l);
     at_home = λ j k f h. at_home j k f h (G.came j f);
   };
   finer = λ j k f h. finer j k f h (G.came j f);
 }
   where
-    A : Walk
-    A = e ∷ home_of homes i
+    K : KeepsHomes old homes i e
+    K = keeps_homes old homes i e H
 
-    homes' : List Walk
-    homes' = homes ++ A ∷ []
-
-    n : ℕ
-    n = length old
-
-    was : (j : ℕ) → j < length old → home_of homes' j ≡ home_of homes j
-    was j l = home-push_old homes A j (omega (arith, H.size))
-
-    is_new : home_of homes' (length old) ≡ A
-    is_new = home-push_new homes A (length old) H.size
-
-    distinct : (j k : ℕ) → home_of homes' j ≡ home_of homes' k → (j < n) ⊎ (j ≡ n) → (k < n) ⊎ (k ≡ n) → j ≡ k
-    distinct j k eq (inl a) (inl b) = H.distinct j k a b (sym (was j a) ∙ (eq ∙ was k b))
-    distinct j k eq (inl a) (inr b) = absurd (home_free old homes H i e G.place free j a (sym (was j a) ∙ (eq ∙ (ap (home_of homes') b ∙ is_new))))
-    distinct j k eq (inr a) (inl b) = absurd (home_free old homes H i e G.place free k b (sym (was k b) ∙ (sym eq ∙ (ap (home_of homes') a ∙ is_new))))
+    distinct : (j k : ℕ) → grown_home homes i e j ≡ grown_home homes i e k → (j < length old) ⊎ (j ≡ length old) → (k < length old) ⊎ (k ≡ length old) → j ≡ k
+    distinct j k eq (inl a) (inl b) = H.distinct j k a b (sym (K.was j a) ∙ (eq ∙ K.was k b))
+    distinct j k eq (inl a) (inr b) = absurd (home_free old homes H i e G.place free j a (sym (K.was j a) ∙ (eq ∙ (ap (grown_home homes i e) b ∙ K.is_new))))
+    distinct j k eq (inr a) (inl b) = absurd (home_free old homes H i e G.place free k b (sym (K.was k b) ∙ (sym eq ∙ (ap (grown_home homes i e) a ∙ K.is_new))))
     distinct j k eq (inr a) (inr b) = a ∙ sym b
 
-    owner : (j : ℕ) → 0 < j → (j < n) ⊎ (j ≡ n) → IsOwned new j
+    owner : (j : ℕ) → 0 < j → (j < length old) ⊎ (j ≡ length old) → IsOwned new j
     owner j p (inl l) =
         let o = H.owner j p l in
         record { by = o.by; step = o.step; owns = G.old_link o.by o.step (linked-lt old o.by o.step (proper j) o.owns) (λ x y. free j (subst (λ z. link_of old z e ≡ Some (proper j)) x (subst (λ z. link_of old o.by z ≡ Some (proper j)) y o.owns))) ∙ o.owns }
     owner j p (inr x) = record { by = i; step = e; owns = G.set_link ∙ ap (λ z. Some (proper z)) (sym x) }
 
-    at_home : (j k : ℕ) (f : Step) → link_of new j f ≡ Some (proper k) → Came old i e s (Some (proper (length old))) j f (link_of new j f) → (k < length new) × (home_of homes' k ≡ f ∷ home_of homes' j)
+    at_home : (j k : ℕ) (f : Step) → link_of new j f ≡ Some (proper k) → Came old i e s (Some (proper (length old))) j f (link_of new j f) → (k < length new) × (grown_home homes i e k ≡ f ∷ grown_home homes i e j)
     at_home j k f h (of_new en el) = absurd (fits.no_proper f k (sym el ∙ h))
     at_home j k f h (of_set ei ee el) =
         let kp : proper k ≡ proper (length old) = cc in let kn : k ≡ length old = ap target kp in
-        (omega (arith, G.size), ap (home_of homes') kn ∙ (is_new ∙ ap₂ ◌∷◌ (sym ee) (ap (home_of homes) (sym ei) ∙ sym (was j (subst (λ z. z < length old) (sym ei) G.place)))))
+        (omega (arith, G.size), ap (grown_home homes i e) kn ∙ (K.is_new ∙ ap₂ ◌∷◌ (sym ee) (ap (home_of homes) (sym ei) ∙ sym (K.was j (subst (λ z. z < length old) (sym ei) G.place)))))
     at_home j k f h (of_old l ne el) =
         let r = H.at_home j k f (sym el ∙ h) in
-        (omega (arith, G.size), was k r.0 ∙ (r.1 ∙ ap (λ z. f ∷ z) (sym (was j l))))
+        (omega (arith, G.size), K.was k r.0 ∙ (r.1 ∙ ap (λ z. f ∷ z) (sym (K.was j l))))
     at_home j k f h (of_none el) = absurd cc
 
-    finer : (j k : ℕ) (f : Step) → link_of new j f ≡ Some (shared k) → Came old i e s (Some (proper (length old))) j f (link_of new j f) → (k < length new) × IsCoarser (f ∷ home_of homes' j) (home_of homes' k)
+    finer : (j k : ℕ) (f : Step) → link_of new j f ≡ Some (shared k) → Came old i e s (Some (proper (length old))) j f (link_of new j f) → (k < length new) × IsCoarser (f ∷ grown_home homes i e j) (grown_home homes i e k)
     finer j k f h (of_new en el) =
         let r = fits.finer f k (sym el ∙ h) in
-        (omega (arith, G.size), subst₂ (λ x y. IsCoarser (f ∷ x) y) (sym is_new ∙ ap (home_of homes') (sym en)) (sym (was k r.0)) r.1)
+        (omega (arith, G.size), subst₂ (λ x y. IsCoarser (f ∷ x) y) (sym K.is_new ∙ ap (grown_home homes i e) (sym en)) (sym (K.was k r.0)) r.1)
     finer j k f h (of_set ei ee el) = absurd (proper≢shared (length old) k (let m : Some (proper (length old)) ≡ Some (shared k) = sym el ∙ h in cc))
     finer j k f h (of_old l ne el) =
         let r = H.finer j k f (sym el ∙ h) in
-        (omega (arith, G.size), subst₂ (λ x y. IsCoarser (f ∷ x) y) (sym (was j l)) (sym (was k r.0)) r.1)
+        (omega (arith, G.size), subst₂ (λ x y. IsCoarser (f ∷ x) y) (sym (K.was j l)) (sym (K.was k r.0)) r.1)
     finer j k f h (of_none el) = absurd cc

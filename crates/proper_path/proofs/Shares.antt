@@ -1,5 +1,5 @@
 -- A node with one child shares that child's content, also in the middle of an insertion.
-use Rattle.std.proofs.Common.{◌≡◌, ℕ, ◌<◌, ◌⊎◌, inl, inr, List, [], ◌∷◌, ◌++◌, Some, Contains, length, refl, sym, ap, ◌∙◌, subst, arith, ap₂}
+use Rattle.std.proofs.Common.{◌≡◌, ℕ, ◌<◌, ◌⊎◌, inl, inr, List, [], ◌∷◌, Some, Contains, length, refl, sym, ap, ◌∙◌, subst, ap₂}
 use Rattle.cube_view.specs.Walks.{Step, down, across, Walk, SpotPath, Under, IsCoarser, HasSpot}
 use Rattle.proper_path.specs.Order.{IsAbove, itself, further}
 use Rattle.node_arena.specs.declared.link.Link.{Link}
@@ -11,7 +11,7 @@ use Rattle.proper_path.proofs.Above.{comes_before}
 use Rattle.cube_view.proofs.Walking.{coarser_under, under_before}
 use Rattle.node_arena.proofs.Linked.{linked-lt}
 use Rattle.proper_path.proofs.Links.{cases_step, same_place}
-use Rattle.proper_path.proofs.Homes.{IsFree, FitsUnder, home-push_old, home-push_new}
+use Rattle.proper_path.proofs.Homes.{IsFree, FitsUnder, grown_homes, grown_home, KeepsHomes, keeps_homes}
 use Rattle.proper_path.proofs.Grow.{still_linked}
 use Rattle.node_arena.proofs.Reaching.{target-lt, link_coarser}
 use Rattle.proper_path.proofs.Order.{before_down}
@@ -46,38 +46,29 @@ child_settled slots homes p done H closed j label l is d u = pick d (cases_addre
     pick (inl x) (inr n) = closed (home_of homes j) (home_of homes (target l)) x u (inr (before_down (comes_before (down label ∷ home_of homes j) (home_of homes (target l)) co n)))
 
 -- the arena grows at a link of a node on p's path that isn't visited yet
-pub shares_grown : (old new : List Slot) (homes : List Walk) (i : ℕ) (e : Step) (s : Slot) (p : Weighted) (done : Walk → Type 0) → IsGrown old new i e s → HasHomes old homes → FitsUnder old homes (e ∷ home_of homes i) s → IsClosed p done → Under p.spot (e ∷ home_of homes i) → (done (home_of homes i) → ⊥) → (done (e ∷ home_of homes i) → ⊥) → (e ≡ across → (label : ℕ) → Under p.spot (down label ∷ home_of homes i) → HasTwoChildren old i) → SharesBetween old homes p done → SharesBetween new (homes ++ (e ∷ home_of homes i) ∷ []) p done
+pub shares_grown : (old new : List Slot) (homes : List Walk) (i : ℕ) (e : Step) (s : Slot) (p : Weighted) (done : Walk → Type 0) → IsGrown old new i e s → HasHomes old homes → FitsUnder old homes (e ∷ home_of homes i) s → IsClosed p done → Under p.spot (e ∷ home_of homes i) → (done (home_of homes i) → ⊥) → (done (e ∷ home_of homes i) → ⊥) → (e ≡ across → (label : ℕ) → Under p.spot (down label ∷ home_of homes i) → HasTwoChildren old i) → SharesBetween old homes p done → SharesBetween new (grown_homes homes i e) p done
 shares_grown old new homes i e s p done G H F closed u here there two S = record {
   shares = λ j label l d O. shares j label l d O (G.came j (down label));
   many = λ j to label is v. many j to label is v (G.came j across);
 }
   where
-    A : Walk
-    A = e ∷ home_of homes i
+    K : KeepsHomes old homes i e
+    K = keeps_homes old homes i e H
 
-    homes' : List Walk
-    homes' = homes ++ A ∷ []
-
-    was : (j : ℕ) → j < length old → home_of homes' j ≡ home_of homes j
-    was j l = home-push_old homes A j (omega (arith, H.size))
-
-    is_new : home_of homes' (length old) ≡ A
-    is_new = home-push_new homes A (length old) H.size
-
-    settled : (j : ℕ) → j < length old → (done (home_of homes' j) ⊎ (Under p.spot (home_of homes' j) → ⊥)) → done (home_of homes j) ⊎ (Under p.spot (home_of homes j) → ⊥)
-    settled j l d = subst (λ z. done z ⊎ (Under p.spot z → ⊥)) (was j l) d
+    settled : (j : ℕ) → j < length old → (done (grown_home homes i e j) ⊎ (Under p.spot (grown_home homes i e j) → ⊥)) → done (home_of homes j) ⊎ (Under p.spot (home_of homes j) → ⊥)
+    settled j l d = subst (λ z. done z ⊎ (Under p.spot z → ⊥)) (K.was j l) d
 
     not_here : (j : ℕ) → (done (home_of homes j) ⊎ (Under p.spot (home_of homes j) → ⊥)) → j ≡ i → ⊥
     not_here j (inl d) x = here (subst (λ z. done (home_of homes z)) x d)
     not_here j (inr n) x = n (subst (λ z. Under p.spot (home_of homes z)) (sym x) (under_before p.spot e (home_of homes i) u))
 
-    shares : (j label : ℕ) (l : Link) → (done (home_of homes' j) ⊎ (Under p.spot (home_of homes' j) → ⊥)) → HasOneChild new j label l → Came old i e s (Some (proper (length old))) j (down label) (link_of new j (down label)) → SharesContent new j l
+    shares : (j label : ℕ) (l : Link) → (done (grown_home homes i e j) ⊎ (Under p.spot (grown_home homes i e j) → ⊥)) → HasOneChild new j label l → Came old i e s (Some (proper (length old))) j (down label) (link_of new j (down label)) → SharesContent new j l
     shares j label l d O (of_new en el) = absurd (settled_new d)
       where
-        at_new : home_of homes' j ≡ A
-        at_new = ap (home_of homes') en ∙ is_new
+        at_new : grown_home homes i e j ≡ e ∷ home_of homes i
+        at_new = ap (grown_home homes i e) en ∙ K.is_new
 
-        settled_new : (done (home_of homes' j) ⊎ (Under p.spot (home_of homes' j) → ⊥)) → ⊥
+        settled_new : (done (grown_home homes i e j) ⊎ (Under p.spot (grown_home homes i e j) → ⊥)) → ⊥
         settled_new (inl x) = there (subst done at_new x)
         settled_new (inr n) = n (subst (Under p.spot) (sym at_new) u)
     shares j label l d O (of_set ei ee el) = absurd (not_here j (settled j (subst (λ z. z < length old) (sym ei) G.place) d) ei)
@@ -102,12 +93,12 @@ shares_grown old new homes i e s p done G H F closed u here there two S = record
         let b = still_linked old new i e s G j (down t.other) lt (record { link = t.second; is = t.is_second }) in
         record { one = t.one; other = t.other; differ = t.differ; first = a.link; second = b.link; is_first = a.is; is_second = b.is }
 
-    many : (j to label : ℕ) → link_of new j across ≡ Some (proper to) → Under p.spot (down label ∷ home_of homes' j) → Came old i e s (Some (proper (length old))) j across (link_of new j across) → HasTwoChildren new j
+    many : (j to label : ℕ) → link_of new j across ≡ Some (proper to) → Under p.spot (down label ∷ grown_home homes i e j) → Came old i e s (Some (proper (length old))) j across (link_of new j across) → HasTwoChildren new j
     many j to label is v (of_new en el) = absurd (F.no_proper across to (sym el ∙ is))
     many j to label is v (of_set ei ee el) =
         let lt : j < length old = subst (λ z. z < length old) (sym ei) G.place in
-        more j lt (subst (HasTwoChildren old) (sym ei) (two (sym ee) label (subst (λ z. Under p.spot (down label ∷ z)) (was j lt ∙ ap (home_of homes) ei) v)))
-    many j to label is v (of_old lt ne el) = more j lt (S.many j to label (sym el ∙ is) (subst (λ z. Under p.spot (down label ∷ z)) (was j lt) v))
+        more j lt (subst (HasTwoChildren old) (sym ei) (two (sym ee) label (subst (λ z. Under p.spot (down label ∷ z)) (K.was j lt ∙ ap (home_of homes) ei) v)))
+    many j to label is v (of_old lt ne el) = more j lt (S.many j to label (sym el ∙ is) (subst (λ z. Under p.spot (down label ∷ z)) (K.was j lt) v))
     many j to label is v (of_none el) = absurd cc
 
 -- the content link of node i, which is not visited yet, is set to lead to u as a shared link

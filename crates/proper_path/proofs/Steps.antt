@@ -1,5 +1,5 @@
 -- A link of a node that is not visited yet is made proper: what that keeps, and what it leaves as it was.
-use Rattle.std.proofs.Common.{◌≡◌, ℕ, zero, suc, ◌<◌, true, false, ◌⊎◌, inl, inr, ◌↔◌, List, [], ◌∷◌, ◌++◌, Some, Contains, length, refl, sym, ap, ◌∙◌, subst, arith, subst₂, true≢false}
+use Rattle.std.proofs.Common.{◌≡◌, ℕ, zero, suc, ◌<◌, true, false, ◌⊎◌, inl, inr, ◌↔◌, List, [], ◌∷◌, Some, Contains, length, refl, sym, ap, ◌∙◌, subst, arith, subst₂, true≢false}
 use Rattle.cube_view.specs.Walks.{Step, down, across, Walk, Under, dimension, IsCoarser, by_across}
 use Rattle.proper_path.specs.Order.{IsAbove, itself, further, IsBefore}
 use Rattle.node_arena.specs.Slots.{proper, shared, Slot, link_of, slot_of, is_table}
@@ -9,7 +9,7 @@ use Rattle.proper_path.specs.Midway.{IsContentHome, IsGrowing, IsMidway, SharesB
 use Rattle.proper_path.specs.Changes.{IsGrown}
 use Rattle.proper_path.specs.Making.{State, home, AddsSlot, Makes, has, copies, adds, Keeps}
 use Rattle.node_arena.proofs.Linked.{linked-lt}
-use Rattle.proper_path.proofs.Homes.{IsFree, FitsUnder, home_free, home-push_old, home-push_new, homes_grown}
+use Rattle.proper_path.proofs.Homes.{IsFree, FitsUnder, home_free, grown_homes, KeepsHomes, keeps_homes, homes_grown}
 use Rattle.proper_path.proofs.Between.{StandsAt, midway_grown, tables_grown, copy_kind, copy_stands, empty_stands}
 use Rattle.proper_path.proofs.Grow.{copy_fits, empty_fits}
 use Rattle.cube_view.proofs.Walking.{dimension-finer}
@@ -82,10 +82,8 @@ between_same dims h p done next a to back B = record {
     turn i (inl d) = inl (back (home a i) d)
     turn i (inr n) = inr n
 
--- a link is made proper: homes and tables stand, and what is outside the node is as before
-pub record IsPlaced (dims : ℕ) (a : State) (i : ℕ) (e : Step) (j : ℕ) (b : State) : Type 0 where
-  pub has_homes : HasHomes b.slots b.homes
-  pub has_tables : HasTables dims b.slots b.homes
+-- a link of a node leads properly to slot j, whose home is the link's address; what is outside the node, and its other links, are as before
+pub record LeadsProperly (a : State) (i : ℕ) (e : Step) (j : ℕ) (b : State) : Type 0 where
   pub keeps : Keeps a b (home a i)
   pub others : (f : Step) → (f ≡ e → ⊥) → link_of b.slots i f ≡ link_of a.slots i f
   pub link : link_of b.slots i e ≡ Some (proper j)
@@ -93,37 +91,59 @@ pub record IsPlaced (dims : ℕ) (a : State) (i : ℕ) (e : Step) (j : ℕ) (b :
   pub at_home : home b j ≡ e ∷ home a i
   pub updated : b.updated ≡ a.updated
 
-placed : (dims : ℕ) (a b : State) (i j : ℕ) (e : Step) (s : Slot) → HasHomes a.slots a.homes → HasTables dims a.slots a.homes → IsFree a.slots i e → FitsUnder a.slots a.homes (e ∷ home a i) s → (is_table s ≡ true) ↔ (dimension (e ∷ home a i) ≡ dims) → AddsSlot a i e s j b → IsPlaced dims a i e j b
-placed dims a b i j e s H T free fits kind D = record {
-  has_homes = subst (λ x. HasHomes b.slots x) (sym D.homes) (homes_grown a.slots b.slots a.homes i e s G H free fits);
-  has_tables = subst (λ x. HasTables dims b.slots x) (sym D.homes) (tables_grown dims a.slots b.slots a.homes i e s G H T kind);
+-- so it does where nothing has to be done ..
+has_leads : (a : State) (i j : ℕ) (e : Step) → HasHomes a.slots a.homes → link_of a.slots i e ≡ Some (proper j) → LeadsProperly a i e j a
+has_leads a i j e H is = record {
+  keeps = keeps-refl a (home a i);
+  others = λ f n. refl;
+  link = is;
+  in_range = (H.at_home i j e is).0;
+  at_home = (H.at_home i j e is).1;
+  updated = refl;
+}
+
+-- .. and where a slot was added
+adds_leads : (a b : State) (i j : ℕ) (e : Step) (s : Slot) → HasHomes a.slots a.homes → AddsSlot a i e s j b → LeadsProperly a i e j b
+adds_leads a b i j e s H D = record {
   keeps = record {
     size = omega (arith, G.size);
-    homes = λ k l. ap (λ x. home_of x k) D.homes ∙ home-push_old a.homes (e ∷ home a i) k (omega (arith, H.size));
+    homes = λ k l. ap (λ x. home_of x k) D.homes ∙ K.was k l;
     links = λ k f l n. G.old_link k f l (λ x y. n (subst (λ z. IsAbove (home a i) (home a z)) (sym x) itself));
     kinds = λ k l. G.old_kind k l;
   };
   others = λ f n. G.old_link i f G.place (λ x y. n y);
   link = G.set_link ∙ ap (λ z. Some (proper z)) (sym D.is);
   in_range = let k = D.is in omega (arith, G.size);
-  at_home = ap (home_of b.homes) D.is ∙ (ap (λ x. home_of x (length a.slots)) D.homes ∙ home-push_new a.homes (e ∷ home a i) (length a.slots) H.size);
+  at_home = ap (home_of b.homes) D.is ∙ (ap (λ x. home_of x (length a.slots)) D.homes ∙ K.is_new);
   updated = D.updated;
 }
   where
     G : IsGrown a.slots b.slots i e s
     G = D.grown
 
+    K : KeepsHomes a.slots a.homes i e
+    K = keeps_homes a.slots a.homes i e H
+
+-- a link is made proper: homes and tables stand
+pub record IsPlaced (dims : ℕ) (a : State) (i : ℕ) (e : Step) (j : ℕ) (b : State) : Type 0 where
+  pub has_homes : HasHomes b.slots b.homes
+  pub has_tables : HasTables dims b.slots b.homes
+  pub leads : LeadsProperly a i e j b
+  pub open leads use *
+
+placed : (dims : ℕ) (a b : State) (i j : ℕ) (e : Step) (s : Slot) → HasHomes a.slots a.homes → HasTables dims a.slots a.homes → IsFree a.slots i e → FitsUnder a.slots a.homes (e ∷ home a i) s → (is_table s ≡ true) ↔ (dimension (e ∷ home a i) ≡ dims) → AddsSlot a i e s j b → IsPlaced dims a i e j b
+placed dims a b i j e s H T free fits kind D = record {
+  has_homes = subst (λ x. HasHomes b.slots x) (sym D.homes) (homes_grown a.slots b.slots a.homes i e s D.grown H free fits);
+  has_tables = subst (λ x. HasTables dims b.slots x) (sym D.homes) (tables_grown dims a.slots b.slots a.homes i e s D.grown H T kind);
+  leads = adds_leads a b i j e s H D;
+}
+
 pub makes_placed : (dims : ℕ) (a b : State) (i j : ℕ) (e : Step) → HasHomes a.slots a.homes → HasTables dims a.slots a.homes → Makes dims a i e j b → IsPlaced dims a i e j b
 makes_placed dims a b i j e H T (has is same) =
     subst (λ z. IsPlaced dims a i e j z) (sym same) (record {
       has_homes = H;
       has_tables = T;
-      keeps = keeps-refl a (home a i);
-      others = λ f n. refl;
-      link = is;
-      in_range = (H.at_home i j e is).0;
-      at_home = (H.at_home i j e is).1;
-      updated = refl;
+      leads = has_leads a i j e H is;
     })
 makes_placed dims a b i j e H T (copies t is n D) =
     let r = H.finer i t e is in
@@ -143,51 +163,26 @@ not_updated dims slots homes h p done updated M i t is n d =
 -- a link of a node that isn't visited yet is made proper
 pub record IsMade (dims : ℕ) (h : List Weighted) (p : Weighted) (done : Walk → Type 0) (a : State) (i : ℕ) (e : Step) (j : ℕ) (b : State) : Type 0 where
   pub between : Between dims h p done b
-  pub keeps : Keeps a b (home a i)
-  pub others : (f : Step) → (f ≡ e → ⊥) → link_of b.slots i f ≡ link_of a.slots i f
-  pub link : link_of b.slots i e ≡ Some (proper j)
-  pub in_range : j < length b.slots
-  pub at_home : home b j ≡ e ∷ home a i
-  pub updated : b.updated ≡ a.updated
+  pub leads : LeadsProperly a i e j b
+  pub open leads use *
 
 added : (dims : ℕ) (h : List Weighted) (p : Weighted) (done : Walk → Type 0) (a b : State) (i j : ℕ) (e : Step) (s : Slot) → Between dims h p done a → IsClosed p done → Under p.spot (e ∷ home a i) → (done (home a i) → ⊥) → (done (e ∷ home a i) → ⊥) → (e ≡ across → (label : ℕ) → Under p.spot (down label ∷ home a i) → HasTwoChildren a.slots i) → IsFree a.slots i e → StandsAt dims a.slots a.homes (e ∷ home a i) s h p → AddsSlot a i e s j b → IsMade dims h p done a i e j b
 added dims h p done a b i j e s B closed u here there two free st D = record {
   between = subst₂ (λ x y. IsBetween dims b.slots x h p done y) (sym D.homes) (sym D.updated) grown;
-  keeps = record {
-    size = omega (arith, G.size);
-    homes = λ k l. ap (λ x. home_of x k) D.homes ∙ home-push_old a.homes (e ∷ home a i) k (omega (arith, H.size));
-    links = λ k f l n. G.old_link k f l (λ x y. n (subst (λ z. IsAbove (home a i) (home a z)) (sym x) itself));
-    kinds = λ k l. G.old_kind k l;
-  };
-  others = λ f n. G.old_link i f G.place (λ x y. n y);
-  link = G.set_link ∙ ap (λ z. Some (proper z)) (sym D.is);
-  in_range = let k = D.is in omega (arith, G.size);
-  at_home = ap (home_of b.homes) D.is ∙ (ap (λ x. home_of x (length a.slots)) D.homes ∙ home-push_new a.homes (e ∷ home a i) (length a.slots) H.size);
-  updated = D.updated;
+  leads = adds_leads a b i j e s B.midway.has_homes D;
 }
   where
-    G : IsGrown a.slots b.slots i e s
-    G = D.grown
-
-    H : HasHomes a.slots a.homes
-    H = B.midway.has_homes
-
-    grown : IsBetween dims b.slots (a.homes ++ (e ∷ home a i) ∷ []) h p done a.updated
+    grown : IsBetween dims b.slots (grown_homes a.homes i e) h p done a.updated
     grown = record {
-      midway = midway_grown dims a.slots b.slots a.homes i e s h p done a.updated G B.midway (record { free = free; lies = u; open_node = here; open_link = there }) st;
-      shares = shares_grown a.slots b.slots a.homes i e s p done G H st.fits closed u here there two B.shares;
+      midway = midway_grown dims a.slots b.slots a.homes i e s h p done a.updated D.grown B.midway (record { free = free; lies = u; open_node = here; open_link = there }) st;
+      shares = shares_grown a.slots b.slots a.homes i e s p done D.grown B.midway.has_homes st.fits closed u here there two B.shares;
     }
 
 pub makes_kept : (dims : ℕ) (h : List Weighted) (p : Weighted) (done : Walk → Type 0) (a b : State) (i j : ℕ) (e : Step) → Between dims h p done a → IsClosed p done → i < length a.slots → is_table (slot_of a.slots i) ≡ false → Under p.spot (e ∷ home a i) → (done (home a i) → ⊥) → (done (e ∷ home a i) → ⊥) → (e ≡ across → (label : ℕ) → Under p.spot (down label ∷ home a i) → HasTwoChildren a.slots i) → Makes dims a i e j b → IsMade dims h p done a i e j b
 makes_kept dims h p done a b i j e B closed lt node u here there two (has is same) =
     subst (λ z. IsMade dims h p done a i e j z) (sym same) (record {
       between = B;
-      keeps = keeps-refl a (home a i);
-      others = λ f n. refl;
-      link = is;
-      in_range = (B.midway.has_homes.at_home i j e is).0;
-      at_home = (B.midway.has_homes.at_home i j e is).1;
-      updated = refl;
+      leads = has_leads a i j e B.midway.has_homes is;
     })
 makes_kept dims h p done a b i j e B closed lt node u here there two (copies t is n D) =
     added dims h p done a b i j e (copied (slot_of a.slots t)) B closed u here there two free (copy_stands dims a.slots a.homes h p done B.midway.growing i t e is (old e is n)) D
