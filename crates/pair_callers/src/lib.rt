@@ -12,8 +12,6 @@
 #[cfg(test)]
 mod beginning;
 #[cfg(test)]
-mod both;
-#[cfg(test)]
 mod callers;
 #[cfg(test)]
 mod seats;

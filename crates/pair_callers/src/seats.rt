@@ -2,11 +2,11 @@
 ghost use Rattle.std.specs.Prelude.{◌≡◌, []};
 ghost use Rattle.world_core.specs.PairFact.{IsPrefix};
 
-use crate::both::run_both;
 use crate::callers::{build, look_beside_open_look};
 use core::mem::replace_with;
 use cube_view::{Grow, Schema};
 use published_pair::{Of, Pairing, PublisherOf, Viewer};
+use side_by_side::run_both;
 use std::process::Abort;
 use std::sync::Wait;
 use std::thread::Threads;

@@ -1,5 +1,20 @@
-//! Two works side by side.
+//! Two works side by side, by fork and join: one in a thread of its own, where one can be made, and one in the caller's.
+//!
+//! [`run_both`] gives each work its number and a value that it alone may change, and returns when both are done. What it
+//! promises of each is what that work promises, over every order of the two threads' steps. It stands on std alone. What the
+//! works are, and which may go first where no thread can be made, is left to the caller.
+//!
+//! ```
+//! let (mut left, mut right) = (1, 2);
+//! run_both(rt, &|_: usize, it: &mut u32| *it += 10, &mut left, &|_: usize, it: &mut u32| *it += 20, &mut right);
+//! // left is 11 and right is 22
+//! ```
+#![tactic(auto)]
+
 ghost use Rattle.std.specs.Fork.{AcceptsAt, ChangesAt};
+
+#[cfg(test)]
+mod tests;
 
 use std::thread::{Threads, join_mut};
 
@@ -29,6 +44,7 @@ pub fn run_both<R: Threads, X: Send, Y, F: Fn(usize, &mut X) + Sync, G: Fn(usize
     );
 }
 
+/// Calls a work with its number and its value.
 fn call_at<T, F: Fn(usize, &mut T)>(f: &F, i: usize, it: &mut T)
     requires { AcceptsAt F.Fn f.now i it.old }
     ensures { ChangesAt F.Fn f.now i it.old it.new }
