@@ -1,11 +1,11 @@
 -- The content of a node is made its own.
-use Rattle.std.proofs.Common.{◌≡◌, ℕ, ◌<◌, Bool, true, false, cond, eqb, List, [], ◌∷◌, ◌++◌, length, Some, None, Contains, refl, sym, ap, ◌∙◌, subst, arith, true≢false, eq-eqb, eqb-true}
+use Rattle.std.proofs.Common.{◌≡◌, ℕ, ◌<◌, Bool, true, false, cond, eqb, List, [], ◌∷◌, ◌++◌, length, Some, None, Contains, refl, sym, ap, ◌∙◌, subst, arith, true≢false, eqb-true}
 use Rattle.std.specs.FinMap.{empty}
-use Rattle.std.proofs.lemmas.Bool.{ne_eqb}
 use Rattle.cube_view.specs.Walks.{down, across}
 use Rattle.node_arena.specs.declared.link.Link.{Link}
 use Rattle.node_arena.specs.Slots.{proper, shared, Slot, node, table, empty_node, Children, IsRising, children_of, child, link, link_of, slot_of, is_table}
 use Rattle.node_arena.specs.Calls.{copied, only_link, add_node, add_table, copy_slot, set_content}
+use Rattle.node_arena.proofs.Labelled.{child_here, child_past}
 use Rattle.proper_path.specs.Changes.{IsGrown}
 use Rattle.proper_path.proofs.Grow.{node_empty, table_empty}
 use Rattle.proper_path.proofs.Calls.{grow_content}
@@ -31,9 +31,6 @@ pub filled_node : (dims next : ℕ) (updated : List ℕ) (old mid new : List Slo
 filled_node dims next updated old mid new at to lt nd is e t m n = adds empty_node (sym is) node_empty.no_link node_empty.no_count (λ x. absurd (true≢false (sym x)), λ d. absurd (e d)) t (grown_from old mid new at to empty_node lt nd t m n)
 
 -- the one child or the two first ones
-first_child : (x : ℕ × Link) (children : Children) → child (x ∷ children) x.0 ≡ Some x.1
-first_child x children = ap (λ (b : Bool). cond b (Some x.1) (child children x.0)) (eq-eqb x.0 x.0 refl)
-
 only_first : (x : ℕ × Link) (m : ℕ) (k : Link) → child (x ∷ []) m ≡ Some k → m ≡ x.0
 only_first x m k h = go (eqb x.0 m) refl h
   where
@@ -42,7 +39,7 @@ only_first x m k h = go (eqb x.0 m) refl h
     go false e r = absurd cc
 
 second_child : (x y : ℕ × Link) (children : Children) → x.0 < y.0 → child (x ∷ y ∷ children) y.0 ≡ Some y.1
-second_child x y children less = ap (λ (b : Bool). cond b (Some x.1) (child (y ∷ children) y.0)) (ne_eqb x.0 y.0 (λ e. omega (arith, e, less))) ∙ first_child y children
+second_child x y children less = child_past x (y ∷ children) y.0 (λ e. omega (arith, e, less)) ∙ child_here y children
 
 tells : (s : Slot) → IsRising (children_of s) → (slots : List Slot) (i : ℕ) → slot_of slots i ≡ s → TellsOnlyChild slots i (only_link (children_of s))
 tells (table counts) R slots i e = λ label l h. let x : None ≡ Some l = sym (ap (λ z. link z (down label)) e) ∙ h in absurd cc
@@ -50,7 +47,7 @@ tells (node [] content) R slots i e = λ label l h. let x : None ≡ Some l = sy
 tells (node (x ∷ []) content) R slots i e = (
   x.0,
   record {
-    is = ap (λ z. link z (down x.0)) e ∙ first_child x [];
+    is = ap (λ z. link z (down x.0)) e ∙ child_here x [];
     only = λ m k h. only_first x m k (sym (ap (λ z. link z (down m)) e) ∙ h);
   },
 )
@@ -60,7 +57,7 @@ tells (node (x ∷ y ∷ rest) content) R slots i e = λ label l h. record {
   differ = λ d. let less : x.0 < y.0 = R 0 1 x (omega arith) (omega arith) in omega (arith, d, less);
   first = x.1;
   second = y.1;
-  is_first = ap (λ z. link z (down x.0)) e ∙ first_child x (y ∷ rest);
+  is_first = ap (λ z. link z (down x.0)) e ∙ child_here x (y ∷ rest);
   is_second = ap (λ z. link z (down y.0)) e ∙ second_child x y rest (R 0 1 x (omega arith) (omega arith));
 }
 

@@ -1,11 +1,11 @@
 //! Adding a point to a dimension.
-ghost use Rattle.std.specs.Prelude.{◌≡◌, ◌+◌, ◌*◌, ◌<◌, ◌≤◌, OnOk, IsTrue};
+ghost use Rattle.std.specs.Prelude.{◌+◌, ◌*◌, ◌<◌, ◌≤◌, OnOk, IsTrue};
 ghost use Rattle.cube_view.specs.Places.{time_dim};
 ghost use Rattle.cube_view.specs.Validity.{sound};
 ghost use Rattle.probe_core.specs.Blanks.{IsBlankOf};
 ghost use Rattle.proper_path.specs.Paths.{point_path};
 ghost use Rattle.proper_path.specs.Stepped.{KeepsRoom};
-ghost use Rattle.point_insert.specs.Known.{CanEnter};
+ghost use Rattle.point_insert.specs.Known.{CanAdd, CanFill};
 ghost use Rattle.point_insert.specs.Room.{visits_from, allowance};
 ghost use Rattle.point_insert.specs.Visited.{CanVisit, Enters, Visits, VisitsAll};
 
@@ -33,10 +33,7 @@ pub fn add(
     root: SlotId,
     updated: &mut Updated,
 ) -> Result<(), NoMemory>
-    requires sound { IsTrue (sound schema.now point.now) }
-    requires dim { (1 ≤ dim) × (dim < time_dim schema.now) }
-    requires known { ∥ CanEnter (time_dim schema.now) (point_path schema.now point.now) work.old.slots updated.old dim root.0 ∥₁ }
-    requires room { work.old.made + 5 * visits_from schema.now dim ≤ work.old.room }
+    requires { CanAdd schema.now point.now work.old updated.old dim root.0 }
     ensures all { OnOk result (VisitsAll (time_dim schema.now) (point_path schema.now point.now) work.old.slots work.new.slots updated.old updated.new dim root.0) }
     ensures changes { KeepsRoom (5 * visits_from schema.now dim) work.old work.new }
 {
@@ -64,10 +61,7 @@ fn add_counted<L: Ledger>(
     blank: Blank,
 ) -> Result<(), NoMemory>
     requires blank { IsBlankOf L.name L.parts blank }
-    requires sound { IsTrue (sound schema.now point.now) }
-    requires dim { (1 ≤ dim) × (dim < time_dim schema.now) }
-    requires known { ∥ CanEnter (time_dim schema.now) (point_path schema.now point.now) work.old.slots updated.old dim root.0 ∥₁ }
-    requires room { work.old.made + 5 * visits_from schema.now dim ≤ work.old.room }
+    requires able { CanAdd schema.now point.now work.old updated.old dim root.0 }
     ensures all { OnOk result (VisitsAll (time_dim schema.now) (point_path schema.now point.now) work.old.slots work.new.slots updated.old updated.new dim root.0) }
     ensures changes { KeepsRoom (5 * visits_from schema.now dim) work.old work.new }
 {
@@ -87,10 +81,7 @@ fn add_in<L: Ledger>(
     updated: &mut Updated,
     steps: &mut Steps<L>,
 ) -> Result<(), NoMemory>
-    requires sound { IsTrue (sound schema.now point.now) }
-    requires dim { (1 ≤ dim) × (dim < time_dim schema.now) }
-    requires known { ∥ CanEnter (time_dim schema.now) (point_path schema.now point.now) work.old.slots updated.old dim root.0 ∥₁ }
-    requires room { work.old.made + 5 * visits_from schema.now dim ≤ work.old.room }
+    requires { CanAdd schema.now point.now work.old updated.old dim root.0 }
     ensures all { OnOk result (VisitsAll (time_dim schema.now) (point_path schema.now point.now) work.old.slots work.new.slots updated.old updated.new dim root.0) }
     ensures changes { KeepsRoom (5 * visits_from schema.now dim) work.old work.new }
 {
@@ -143,10 +134,7 @@ fn update<L: Ledger>(
     updated: &mut Updated,
     steps: &mut Steps<L>,
 ) -> Result<(), NoMemory>
-    requires sound { IsTrue (sound schema.now point.now) }
-    requires dim { (2 ≤ dim) × (dim ≤ time_dim schema.now) }
-    requires known { ∥ CanEnter (time_dim schema.now) (point_path schema.now point.now) work.old.slots updated.old dim slot.0 ∥₁ }
-    requires room { work.old.made + allowance schema.now dim ≤ work.old.room }
+    requires { CanFill schema.now point.now work.old updated.old dim slot.0 }
     ensures done { OnOk result (Enters (time_dim schema.now) (point_path schema.now point.now) work.old.slots work.new.slots updated.old updated.new dim slot.0) }
     ensures changes { KeepsRoom (allowance schema.now dim) work.old work.new }
 {
@@ -166,10 +154,7 @@ fn fill<L: Ledger>(
     updated: &mut Updated,
     steps: &mut Steps<L>,
 ) -> Result<(), NoMemory>
-    requires sound { IsTrue (sound schema.now point.now) }
-    requires dim { (2 ≤ dim) × (dim ≤ time_dim schema.now) }
-    requires known { ∥ CanEnter (time_dim schema.now) (point_path schema.now point.now) work.old.slots updated.old dim slot.0 ∥₁ }
-    requires room { work.old.made + allowance schema.now dim ≤ work.old.room }
+    requires { CanFill schema.now point.now work.old updated.old dim slot.0 }
     ensures all { OnOk result (VisitsAll (time_dim schema.now) (point_path schema.now point.now) work.old.slots work.new.slots updated.old updated.new dim slot.0) }
     ensures changes { KeepsRoom (allowance schema.now dim) work.old work.new }
 {

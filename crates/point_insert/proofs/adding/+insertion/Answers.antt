@@ -16,25 +16,25 @@ pub add_in-trail-requires-clause-root : goal.add_in-trail-requires-clause-root
 add_in-trail-requires-clause-root g t c = root_of _ _ _ _ _ _ c.requires.known
 
 pub add_in-trail-requires-clause-room : goal.add_in-trail-requires-clause-room
-add_in-trail-requires-clause-room g t c = let w = trail_within c.args.schema.now c.args.dim c.requires.dim.1 in let r = c.requires.room in omega (arith, w, r)
+add_in-trail-requires-clause-room g t c = let w = trail_within c.args.schema.now c.args.dim c.requires.in_dims.1 in let r = c.requires.room in omega (arith, w, r)
 
 pub add_in-returns-in_err-trail-clause-changes : goal.add_in-returns-in_err-trail-clause-changes
-add_in-returns-in_err-trail-clause-changes g t c = keeps_within _ _ _ _ (trail_within c.args.schema.now c.args.dim c.requires.dim.1) c.trail.ensures.changes
+add_in-returns-in_err-trail-clause-changes g t c = keeps_within _ _ _ _ (trail_within c.args.schema.now c.args.dim c.requires.in_dims.1) c.trail.ensures.changes
 
 pub add_in-loop-at-init : goal.add_in-loop-at-init
 add_in-loop-at-init g t c =
     let z = c.args.schema.now in
-    let size = stack_size z c.args.point.now _ _ _ c.args.dim c.args.root.0 c.trail.new.stack c.requires.dim.0 (omega (arith, c.requires.dim.1)) c.requires.known c.in_ok-trail.ensures.trail in
+    let size = stack_size z c.args.point.now _ _ _ c.args.dim c.args.root.0 c.trail.new.stack c.requires.in_dims.0 (omega (arith, c.requires.in_dims.1)) c.requires.known c.in_ok-trail.ensures.trail in
     record {
       left = leaves_trail _ _ _ _ _ _ _ _ c.in_ok-trail.ensures.trail;
-      spending = spending_starts z c.args.dim (length c.trail.new.stack) c.args.work.now c.trail.new.work c.requires.dim.1 size c.in_ok-trail.ensures.changes;
+      spending = spending_starts z c.args.dim (length c.trail.new.stack) c.args.work.now c.trail.new.work c.requires.in_dims.1 size c.in_ok-trail.ensures.changes;
     }
 
 pub add_in-visit-requires : goal.add_in-visit-requires
 add_in-visit-requires g t c κs within =
     let e = ap places_of c.in-Some.ensures.taken ∙ places-push c.pop.new.self c.in-Some.at in
     let size = taken_size c.loop-at.stack c.pop.new.self c.in-Some.at c.in-Some.ensures.taken in
-    (search rules, (search rules, (c.requires.sound, (c.requires.dim, (can_visit_last _ _ _ _ _ _ _ _ _ _ _ c.requires.known c.loop-at.invariant.left e, spending_room c.args.schema.now c.args.dim _ (length c.pop.new.self) c.args.work.now c.loop-at.work c.loop-at.invariant.spending size c.requires.room)))))
+    (search rules, (search rules, (c.requires.is_sound, (c.requires.in_dims, (can_visit_last _ _ _ _ _ _ _ _ _ _ _ c.requires.known c.loop-at.invariant.left e, spending_room c.args.schema.now c.args.dim _ (length c.pop.new.self) c.args.work.now c.loop-at.work c.loop-at.invariant.spending size c.requires.room)))))
 
 pub add_in-loop-at-preserved : goal.add_in-loop-at-preserved
 add_in-loop-at-preserved g t c =
@@ -63,7 +63,7 @@ fill-returns-then-is_time-clause-all g t c =
 
 pub update-returns-clause-done : goal.update-returns-clause-done
 update-returns-clause-done g t c =
-    on_ok_weaker c.put.result (λ J. enters_content _ _ _ _ _ _ _ c.args.dim c.args.slot.0 c.requires.dim.0 J c.in_ok-fill.ensures.all) c.put.ensures.joined
+    on_ok_weaker c.put.result (λ J. enters_content _ _ _ _ _ _ _ c.args.dim c.args.slot.0 c.requires.in_dims.0 J c.in_ok-fill.ensures.all) c.put.ensures.joined
 
 pub visit-share_content-requires-clause-child_in :
     goal.visit-share_content-requires-clause-child_in
@@ -80,8 +80,20 @@ pub visit-own_content-requires-clause-inside : goal.visit-own_content-requires-c
 visit-own_content-requires-clause-inside g t c = content_in _ _ _ _ _ _ c.requires.known
 
 pub visit-update-requires : goal.visit-update-requires
-visit-update-requires g t c κs within =
-    (search rules, (search rules, (c.requires.sound, ((omega (arith, c.requires.dim.0), omega (arith, c.requires.dim.1)), (can_enter _ _ _ _ _ _ _ _ c.requires.known c.in_default.ensures (rw c.in-Some-2.is at c.in_ok-content.ensures.filled), update_room c.args.schema.now (c.args.dim + 1) c.args.work.now c.own_content.new.work c.in_ok-content.ensures.changes c.requires.room)))))
+visit-update-requires g t c κs within = (
+  search rules,
+  (
+    search rules,
+    record {
+      in_dims = (omega (arith, c.requires.dim.0), omega (arith, c.requires.dim.1));
+      within = record {
+        is_sound = c.requires.sound;
+        known = can_enter _ _ _ _ _ _ _ _ c.requires.known c.in_default.ensures (rw c.in-Some-2.is at c.in_ok-content.ensures.filled);
+        room = update_room c.args.schema.now (c.args.dim + 1) c.args.work.now c.own_content.new.work c.in_ok-content.ensures.changes c.requires.room;
+      };
+    },
+  ),
+)
 
 pub visit-returns-in-Some-2-clause-visited : goal.visit-returns-in-Some-2-clause-visited
 visit-returns-in-Some-2-clause-visited g t c =
