@@ -4,7 +4,7 @@ use Rattle.cube_view.specs.Walks.{down}
 use Rattle.node_arena.specs.declared.link.Link.{Link}
 use Rattle.node_arena.specs.Calls.{child_from}
 use Rattle.node_arena.specs.Slots.{Slot, empty_node, IsRising, children_of, slot_of, link_of}
-use Rattle.cube_store.proofs.Labelled.{link_down}
+use Rattle.node_arena.proofs.Labelled.{link_down}
 use Rattle.cube_image.specs.Conditions.{IsReadable}
 use Rattle.cube_image.specs.Rest.{from_number, IsNextPair, told_children}
 use Rattle.cube_image.proofs.Rests.{Rises, rises, below-rises, from_number-all, next-child, next-linked, child-below}

@@ -23,7 +23,7 @@ use Rattle.cube_store.specs.Reading.{IsWalkAddress, slot_under, children_in, cou
 use Rattle.cube_store.proofs.Bagging.{points_of_schema}
 use Rattle.cube_store.proofs.Differing.{distinct_count-same, distinct_count-below, below-kept, member-weighing, member-children, member-bins}
 use Rattle.cube_store.proofs.Finding.{same_amount, under-steps, fits-contained, reached_there, counts_here, below_some, below_none}
-use Rattle.cube_store.proofs.Labelled.{link_down}
+use Rattle.node_arena.proofs.Labelled.{link_down}
 use Rattle.cube_store.proofs.Listed.{amount-failing}
 use Rattle.cube_store.proofs.Totalling.{is_under_at, amount_steps}
 

@@ -24,7 +24,7 @@ use Rattle.node_arena.proofs.Reaching.{walk_coarser, walk-lt, walk_counts, walk_
 use Rattle.cube_store.specs.Counted.{paths_of, CountsPoints}
 use Rattle.cube_store.specs.Reading.{IsWalkAddress, StandsAt, spot_weight}
 use Rattle.cube_store.proofs.Bagging.{points_of_schema, Counts-points}
-use Rattle.cube_store.proofs.Labelled.{link_down, IsFirstFrom, child_from-none}
+use Rattle.node_arena.proofs.Labelled.{link_down, IsFirstFrom, child_from-none}
 use Rattle.cube_store.proofs.Leaving.{level_of, under-down, under-across, under-top}
 use Rattle.cube_store.proofs.Listed.{amount-contained, amount-failing, point_of_path, path_of_point, All-contained}
 use Rattle.cube_store.proofs.Placing.{dimension-steps_of, level-steps_of}

@@ -5,7 +5,6 @@ pub mod Empty
 pub mod Finding
 pub mod Growing
 pub mod Inserted
-pub mod Labelled
 pub mod Leaving
 pub mod Listed
 pub mod Listing

@@ -20,14 +20,14 @@ use Rattle.cube_view.specs.declared.spot.Spot.{Spot}
 use Rattle.cube_view.proofs.Weighing.{all-weigh}
 use Rattle.time_table.specs.Counts.{BinCounts, AllCounted, count_of, count_before}
 use Rattle.node_arena.specs.Calls.{child_from}
-use Rattle.node_arena.specs.Slots.{Slot, IsRising, IsNode, IsTable, children_of, counts_of, link_of, slot_of, target, walk_end}
+use Rattle.node_arena.specs.Slots.{Slot, proper, IsRising, IsNode, IsTable, children_of, counts_of, link_of, slot_of, target, walk_end}
 use Rattle.node_arena.specs.declared.link.Link.{Link}
+use Rattle.node_arena.proofs.Labelled.{child_from-some}
 use Rattle.proper_path.proofs.Labels.{deepest-time}
 use Rattle.cube_store.specs.Counted.{HasPoints}
 use Rattle.cube_store.specs.Reading.{StandsAt, spot_weight, children_in, counts_in, label_count, bin_count, slot_under}
 use Rattle.cube_store.proofs.Bagging.{points_of_schema}
 use Rattle.cube_store.proofs.Finding.{in_range, node_before_time, table_at_time, counts_here, step_some, below_some, below_none, across_some, across_none, next_some, next_none, same_amount, step_on, under-below, fits-contained}
-use Rattle.cube_store.proofs.Labelled.{child_from-some, label_count-rising}
 use Rattle.cube_store.proofs.Placing.{steps-longer, steps-next, walked-longer, walked-next}
 use Rattle.cube_store.proofs.Rising.{from_T, rises_from_test, distinct-rising}
 use Rattle.cube_store.proofs.Totalling.{is_under_at, amount_steps, before_total}
@@ -114,7 +114,7 @@ module _ (z : Schema) (slots : List Slot) (root size : ℕ) (has : HasPoints z s
 -- What the calls cost where a cursor stands
 
 pub down_cost-here : (z : Schema) (slots : List Slot) (slot : ℕ) (a : Address) → StandsAt z slots slot a → IsRising (children_of (slot_of slots slot)) → bits (length (children_of (slot_of slots slot))) ≡ bits (label_count (children_in slots (slot_under slots a)))
-down_cost-here z slots slot a S rising = ap bits (sym (label_count-rising (children_of (slot_of slots slot)) rising) ∙ ap (λ (o : Option ℕ). label_count (children_in slots o)) (sym S.reached))
+down_cost-here z slots slot a S rising = ap bits (sym (distinct-rising (proper 0) (children_of (slot_of slots slot)) rising) ∙ ap (λ (o : Option ℕ). label_count (children_in slots o)) (sym S.reached))
 
 some_each : (es : List (ℕ × ℕ)) → All (λ (n : ℕ). 0 < n) (map (λ (e : ℕ × ℕ). e.1) es) → filter (λ (e : ℕ × ℕ). ltb 0 e.1) es ≡ es
 some_each [] all = refl
