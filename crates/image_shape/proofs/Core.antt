@@ -2,12 +2,13 @@
 use Rattle.std.proofs.Common.{◌≡◌, ℕ, zero, suc, ◌+◌, ◌<◌, ◌≤◌, Bool, true, false, cond, ◌&&◌, eqb, List, [], ◌∷◌, Option, Some, None, is_some, Contains, All, sum_by, refl, sym, ap, ◌∙◌, subst, arith, ap₂, eqb-true, eq-eqb, true≢false, ◌⊎◌, inl, inr}
 use Rattle.std.proofs.lemmas.List.Elements.{All-head, All-tail}
 use Rattle.std.proofs.lemmas.List.Sums.{sum_by-cons}
-use Rattle.cube_view.specs.Walks.{Step, down, across, Walk, SpotPath, Cursor, after_down, after_across, then_step, cursor, under, Under, IsCoarser}
+use Rattle.cube_view.specs.Walks.{Step, down, across, Walk, SpotPath, Cursor, after_across, then_step, cursor, under, Under, IsCoarser}
 use Rattle.cube_view.proofs.Walking.{begun, later_kept, under-some, finer-step, coarser_under, under_before, Contains-cons, Contains-head, Contains-cases}
 use Rattle.node_arena.specs.declared.link.Link.{Link}
 use Rattle.node_arena.specs.Amounts.{Weighted, spots_in, amount_under}
 use Rattle.node_arena.specs.Reach.{count_reached}
-use Rattle.node_arena.specs.Slots.{target, Children, Slot, node, table, child, link, link_of, slot_of, reached, children_of}
+use Rattle.node_arena.specs.Slots.{target, Children, Slot, child, link_of, slot_of, reached, children_of}
+use Rattle.node_arena.proofs.Labelled.{same_down, link_down}
 use Rattle.image_shape.specs.Ways.{Way, found, along, count_below, IsFinest, Merges}
 
 -- no label stands twice
@@ -32,25 +33,6 @@ HasWays h At = (a : Walk) (n : ℕ) (later : List ℕ) → At a n later → (q :
 -- each amount is one
 abbrev pub HasAmounts : List Weighted → Type 0
 HasAmounts h = All (λ (w : Weighted). 0 < w.amount) h
-
--- two steps that both go down to a spot are the same
-pub same_down : (q : SpotPath) (l m : ℕ) (a : Walk) → Under q (down l ∷ a) → Under q (down m ∷ a) → l ≡ m
-same_down q l m a h k = go (cursor q a) h k
-  where
-    at : (rest : List ℕ) (later : List (List ℕ)) → is_some (after_down l rest later) ≡ true → is_some (after_down m rest later) ≡ true → l ≡ m
-    at [] later x y = absurd cc
-    at (n ∷ rest) later x y = eqb-true l n (test l x) ∙ sym (eqb-true m n (test m y))
-      where
-        test : (k : ℕ) → is_some (after_down k (n ∷ rest) later) ≡ true → eqb k n ≡ true
-        test k z = pick (eqb k n) z
-          where
-            pick : (b : Bool) → is_some {T = Cursor} (cond b (Some (record { rest = rest; later = later })) None) ≡ true → b ≡ true
-            pick true w = refl
-            pick false w = absurd cc
-
-    go : (o : Option Cursor) → is_some (then_step o (down l)) ≡ true → is_some (then_step o (down m)) ≡ true → l ≡ m
-    go None x y = absurd cc
-    go (Some c) x y = at c.rest c.later x y
 
 -- a way that no slot begins finds nothing
 pub found-none : (slots : List Slot) (way : Way) (bin : ℕ) → count_reached slots (found slots None way) bin ≡ 0
@@ -109,6 +91,13 @@ sum_same f g [] e = refl
 sum_same f g (x ∷ xs) e =
     let a = sum_by-cons f x xs in let b = sum_by-cons g x xs in let r = sum_same f g xs e in let s = e x in omega (arith, a, b, r, s)
 
+-- the child at another label gives nothing to the sum
+other_kid : (f : ℕ → ℕ) (l : ℕ) (k : ℕ × Link) (kids : List (ℕ × Link)) → eqb k.0 l ≡ false → ((m : ℕ) → (m ≡ l → ⊥) → f m ≡ 0) → sum_by (λ (k : ℕ × Link). f k.0) (k ∷ kids) ≡ sum_by (λ (k : ℕ × Link). f k.0) kids
+other_kid f l k kids e z =
+    let a = sum_by-cons (λ (k : ℕ × Link). f k.0) k kids in
+    let s : f k.0 ≡ 0 = z k.0 (λ w. true≢false (sym (eq-eqb k.0 l w) ∙ e)) in
+    omega (arith, a, s)
+
 -- where the labels are apart, one child alone gives to the sum
 pub no_kid : (f : ℕ → ℕ) (l : ℕ) (kids : List (ℕ × Link)) → child kids l ≡ None → ((m : ℕ) → (m ≡ l → ⊥) → f m ≡ 0) → sum_by (λ (k : ℕ × Link). f k.0) kids ≡ 0
 no_kid f l [] h z = refl
@@ -116,11 +105,7 @@ no_kid f l (k ∷ kids) h z = go (eqb k.0 l) refl h (λ x. no_kid f l kids x z)
   where
     go : (b : Bool) → eqb k.0 l ≡ b → cond b (Some k.1) (child kids l) ≡ None → (child kids l ≡ None → sum_by (λ (k : ℕ × Link). f k.0) kids ≡ 0) → sum_by (λ (k : ℕ × Link). f k.0) (k ∷ kids) ≡ 0
     go true e x rest = absurd cc
-    go false e x rest =
-        let a = sum_by-cons (λ (k : ℕ × Link). f k.0) k kids in
-        let r = rest x in
-        let s : f k.0 ≡ 0 = z k.0 (λ w. true≢false (sym (eq-eqb k.0 l w) ∙ e)) in
-        omega (arith, a, r, s)
+    go false e x rest = other_kid f l k kids e z ∙ rest x
 
 pub one_kid : (f : ℕ → ℕ) (l : ℕ) (t : Link) (kids : List (ℕ × Link)) → IsApart kids → child kids l ≡ Some t → ((m : ℕ) → (m ≡ l → ⊥) → f m ≡ 0) → sum_by (λ (k : ℕ × Link). f k.0) kids ≡ f l
 one_kid f l t [] A h z = absurd cc
@@ -133,11 +118,7 @@ one_kid f l t (k ∷ kids) A h z = go (eqb k.0 l) refl h (λ x. one_kid f l t ki
         let r = no_kid f l kids (subst (λ m. child kids m ≡ None) same A.0) z in
         let s : f k.0 ≡ f l = ap f same in
         omega (arith, a, r, s)
-    go false e x rest =
-        let a = sum_by-cons (λ (k : ℕ × Link). f k.0) k kids in
-        let r = rest x in
-        let s : f k.0 ≡ 0 = z k.0 (λ w. true≢false (sym (eq-eqb k.0 l w) ∙ e)) in
-        omega (arith, a, r, s)
+    go false e x rest = other_kid f l k kids e z ∙ rest x
 
 -- the spots under a, across, are shared by the children
 abbrev pub one_under : Weighted → Walk → ℕ → ℕ
@@ -212,10 +193,6 @@ absent (x ∷ h) a bin n =
 -- what slot i tells, its children tell ..
 pub down_tells : (slots : List Slot) (h : List Weighted) (i : ℕ) (a : Walk) (n : ℕ) (later : List ℕ) (l : ℕ) (k : Link) → link_of slots i (down l) ≡ Some k → Tells slots h i a (suc n) later → Tells slots h (target k) (down l ∷ a) n later
 down_tells slots h i a n later l k e T way f bin = sym (step_first slots i (down l) k way bin e) ∙ T (down l ∷ way) (n, refl, f) bin
-
-pub link_down : (s : Slot) (l : ℕ) → link s (down l) ≡ child (children_of s) l
-link_down (node kids content) l = refl
-link_down (table rows) l = refl
 
 -- a way with a count begins with a link
 pub begins : (slots : List Slot) (i : ℕ) (e : Step) (way : Way) (bin : ℕ) → 0 < count_below slots i (e ∷ way) bin → (k : Link) × (link_of slots i e ≡ Some k)

@@ -8,7 +8,7 @@ use Rattle.node_arena.specs.Slots.{shared, target, Children, IsRising, Slot, nod
 use Rattle.node_arena.specs.Stats.{is_proper}
 use Rattle.node_arena.proofs.Linked.{link_cases}
 use Rattle.image_shape.specs.Sharing.{SharesAt, LeadsWithin}
-use Rattle.image_shape.proofs.Core.{link_down}
+use Rattle.node_arena.proofs.Labelled.{link_down}
 
 -- the one child
 one_of : (children : Children) (l : Link) → only_link children ≡ Some l → (label : ℕ) × (children ≡ (label, l) ∷ [])

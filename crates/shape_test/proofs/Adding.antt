@@ -1,16 +1,15 @@
 -- Sums over the children of a node, label by label.
-use Rattle.std.proofs.Common.{◌≡◌, ◌⊎◌, inl, inr, ℕ, zero, suc, ◌+◌, ◌<◌, ◌≤◌, Bool, cond, nat_lt, eq-eqb, List, [], ◌∷◌, length, get_or, Some, None, sum_by, refl, sym, ap, ◌∙◌, arith}
+use Rattle.std.proofs.Common.{◌≡◌, ◌⊎◌, inl, inr, ℕ, suc, ◌+◌, ◌<◌, ◌≤◌, cond, nat_lt, List, [], ◌∷◌, length, get_or, Some, None, sum_by, refl, sym, ap, ◌∙◌, arith}
 use Rattle.std.proofs.lemmas.Bool.{cases_lt}
 use Rattle.std.proofs.lemmas.List.Sums.{sum_by-cons}
 use Rattle.node_arena.specs.declared.link.Link.{Link}
 use Rattle.cube_view.specs.Walks.{down, across}
 use Rattle.node_arena.specs.Slots.{Children, IsRising, Slot, child, children_of, slot_of, target}
 use Rattle.image_shape.specs.Ways.{Way, count_below}
-use Rattle.image_shape.proofs.Core.{link_down, step_first}
-use Rattle.image_shape.proofs.Apart.{none_below}
+use Rattle.node_arena.proofs.Labelled.{link_down, child_past, child_here, rising-tail, none_before}
+use Rattle.image_shape.proofs.Core.{step_first}
 use Rattle.shape_test.specs.Links.{NoneFrom, IsFirstLink}
 use Rattle.shape_test.specs.Merging.{parts_count}
-use Rattle.shape_test.proofs.Childwise.{past}
 
 -- the sum over the labels before one
 abbrev pub sum_upto : (ℕ → ℕ) → ℕ → Children → ℕ
@@ -40,29 +39,19 @@ upto_none f n (x ∷ xs) all =
 
 pub upto_more : (f : ℕ → ℕ) (children : Children) (from label : ℕ) (l : Link) → IsRising children → from ≤ label → child children label ≡ Some l → ((m : ℕ) → from ≤ m → m < label → child children m ≡ None) → sum_upto f (label + 1) children ≡ sum_upto f from children + f label
 upto_more f [] from label l R low there least = absurd cc
-upto_more f (x ∷ xs) from label l R low there least = go (cases_lt x.0 from) (cases_lt x.0 label) (cases_lt label x.0) (λ t n. upto_more f xs from label l tail low t n)
+upto_more f (x ∷ xs) from label l R low there least = go (cases_lt x.0 from) (cases_lt x.0 label) (cases_lt label x.0) (λ t n. upto_more f xs from label l (rising-tail x xs R) low t n)
   where
-    tail : IsRising xs
-    tail = λ i j d less within. R (suc i) (suc j) d (omega arith) (omega arith)
-
-    own : child (x ∷ xs) x.0 ≡ Some x.1
-    own = ap (λ (b : Bool). cond b (Some x.1) (child xs x.0)) (eq-eqb x.0 x.0 refl)
-
     go : (x.0 < from) ⊎ (from ≤ x.0) → (x.0 < label) ⊎ (label ≤ x.0) → (label < x.0) ⊎ (x.0 ≤ label) → (child xs label ≡ Some l → ((m : ℕ) → from ≤ m → m < label → child xs m ≡ None) → sum_upto f (label + 1) xs ≡ sum_upto f from xs + f label) → sum_upto f (label + 1) (x ∷ xs) ≡ sum_upto f from (x ∷ xs) + f label
     go (inl a) b c rest =
-        let r = rest (sym (past x xs label (λ e. omega (arith, e, a, low))) ∙ there) (λ m le lt. sym (past x xs m (λ e. omega (arith, e, a, le))) ∙ least m le lt) in
+        let r = rest (sym (child_past x xs label (λ e. omega (arith, e, a, low))) ∙ there) (λ m le lt. sym (child_past x xs m (λ e. omega (arith, e, a, le))) ∙ least m le lt) in
         let u = upto_cons f (label + 1) x xs in
         let v = upto_cons f from x xs in
         let p = counted_in x.0 (label + 1) (f x.0) (omega (arith, a, low)) in
         let q = counted_in x.0 from (f x.0) a in
         omega (arith, r, u, v, p, q)
-    go (inr a) (inl b) c rest = let n : None ≡ Some x.1 = sym (least x.0 a b) ∙ own in absurd cc
+    go (inr a) (inl b) c rest = let n : None ≡ Some x.1 = sym (least x.0 a b) ∙ child_here x xs in absurd cc
     go (inr a) (inr b) (inl c) rest =
-        let n : None ≡ Some l = sym (none_below (x ∷ xs) label above) ∙ there in absurd cc
-      where
-        above : (i : ℕ) (d : ℕ × Link) → i < length (x ∷ xs) → label < (get_or (x ∷ xs) i d).0
-        above zero d lt = c
-        above (suc i) d lt = let r = R 0 (suc i) d (omega arith) lt in omega (arith, r, c)
+        let n : None ≡ Some l = sym (none_before x xs label R c) ∙ there in absurd cc
     go (inr a) (inr b) (inr c) rest =
         let e : x.0 ≡ label = omega (arith, b, c) in
         let u = upto_cons f (label + 1) x xs in
@@ -80,12 +69,12 @@ upto_all f [] from none = refl
 upto_all f (x ∷ xs) from none = go (cases_lt x.0 from) (λ n. upto_all f xs from n)
   where
     go : (x.0 < from) ⊎ (from ≤ x.0) → (((m : ℕ) → from ≤ m → child xs m ≡ None) → sum_upto f from xs ≡ sum_by (λ (k : ℕ × Link). f k.0) xs) → sum_upto f from (x ∷ xs) ≡ sum_by (λ (k : ℕ × Link). f k.0) (x ∷ xs)
-    go (inr a) rest = let n : None ≡ Some x.1 = sym (none x.0 a) ∙ ap (λ (b : Bool). cond b (Some x.1) (child xs x.0)) (eq-eqb x.0 x.0 refl) in absurd cc
+    go (inr a) rest = let n : None ≡ Some x.1 = sym (none x.0 a) ∙ child_here x xs in absurd cc
     go (inl a) rest =
         let u = upto_cons f from x xs in
         let p = counted_in x.0 from (f x.0) a in
         let s = sum_by-cons (λ (k : ℕ × Link). f k.0) x xs in
-        let r = rest (λ m le. sym (past x xs m (λ e. omega (arith, e, a, le))) ∙ none m le) in
+        let r = rest (λ m le. sym (child_past x xs m (λ e. omega (arith, e, a, le))) ∙ none m le) in
         omega (arith, u, p, s, r)
 
 -- the sum over some labels is at most that over all

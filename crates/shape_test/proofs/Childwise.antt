@@ -1,64 +1,18 @@
 -- The children of a slot, from a label on.
 use Rattle.std.proofs.lemmas.Bool.{cases_lt}
-use Rattle.std.proofs.Common.{◌≡◌, ◌↔◌, ℕ, zero, suc, ◌+◌, ◌<◌, ◌≤◌, ◌⊎◌, inl, inr, Bool, true, false, cond, ltb, ltb-true, ltb-false, ne_eqb, eq-eqb, List, [], ◌∷◌, length, get_or, Option, Some, None, MatchOption, refl, sym, ap, ◌∙◌, subst, arith}
+use Rattle.std.proofs.Common.{◌≡◌, ◌↔◌, ℕ, ◌+◌, ◌<◌, ◌≤◌, ◌⊎◌, inl, inr, Bool, true, List, Option, Some, None, MatchOption, refl, sym, ap, ◌∙◌, subst, arith}
 use Rattle.cube_view.specs.Walks.{down, across, Walk}
 use Rattle.node_arena.specs.declared.link.Link.{Link}
 use Rattle.node_arena.specs.Calls.{child_from}
-use Rattle.node_arena.specs.Slots.{Children, IsRising, Slot, child, children_of, slot_of, link_of}
-use Rattle.image_shape.proofs.Core.{link_down}
-use Rattle.image_shape.proofs.Apart.{none_below}
+use Rattle.node_arena.specs.Slots.{IsRising, Slot, children_of, slot_of, link_of}
+use Rattle.node_arena.proofs.Labelled.{link_down, child_from-none, child_from-some}
 use Rattle.shape_test.specs.Links.{HasSmallLabels, NoneFrom, IsFirstLink, LinkFits, ChildrenFit, LinksFit}
-
--- the first child from a label on stands at the least label from there on
-pub record IsFirst (children : Children) (from : ℕ) (x : ℕ × Link) : Type 0 where
-  pub low : from ≤ x.0
-  pub there : child children x.0 ≡ Some x.1
-  pub least : (m : ℕ) → from ≤ m → m < x.0 → child children m ≡ None
-
--- the child at another label than the first is one of the others
-pub past : (x : ℕ × Link) (children : Children) (m : ℕ) → (x.0 ≡ m → ⊥) → child (x ∷ children) m ≡ child children m
-past x children m other = ap (λ (b : Bool). cond b (Some x.1) (child children m)) (ne_eqb x.0 m other)
-
-none_from : (children : Children) (from : ℕ) → child_from children from ≡ None → (m : ℕ) → from ≤ m → child children m ≡ None
-none_from [] from is m le = refl
-none_from (x ∷ children) from is m le = go (ltb x.0 from) refl is (λ r. none_from children from r m le)
-  where
-    go : (b : Bool) → ltb x.0 from ≡ b → cond b (child_from children from) (Some x) ≡ None → (child_from children from ≡ None → child children m ≡ None) → child (x ∷ children) m ≡ None
-    go true e r rest = let lt = ltb-true x.0 from e in past x children m (λ same. omega (arith, lt, le, same)) ∙ rest r
-    go false e r rest = absurd cc
-
-some_from : (children : Children) (from : ℕ) (x : ℕ × Link) → IsRising children → child_from children from ≡ Some x → IsFirst children from x
-some_from [] from x R is = absurd cc
-some_from (y ∷ children) from x R is = go (ltb y.0 from) refl is (λ r. some_from children from x (λ i j d less within. R (suc i) (suc j) d (omega arith) (omega arith)) r)
-  where
-    go : (b : Bool) → ltb y.0 from ≡ b → cond b (child_from children from) (Some y) ≡ Some x → (child_from children from ≡ Some x → IsFirst children from x) → IsFirst (y ∷ children) from x
-    go true e r rest =
-        let lt = ltb-true y.0 from e in
-        let F = rest r in
-        let low = F.low in
-        record {
-          low = F.low;
-          there = past y children x.0 (λ same. omega (arith, lt, low, same)) ∙ F.there;
-          least = λ m le less. past y children m (λ same. omega (arith, lt, le, same)) ∙ F.least m le less;
-        }
-    go false e r rest =
-        let same : y ≡ x = cc in
-        let le = ltb-false y.0 from e in
-        subst (λ (k : ℕ × Link). IsFirst (y ∷ children) from k) same (record {
-          low = le;
-          there = ap (λ (b : Bool). cond b (Some y.1) (child children y.0)) (eq-eqb y.0 y.0 refl);
-          least = λ m low less. none_below (y ∷ children) m (above m less);
-        })
-      where
-        above : (m : ℕ) → m < y.0 → (i : ℕ) (d : ℕ × Link) → i < length (y ∷ children) → m < (get_or (y ∷ children) i d).0
-        above m less zero d lt = less
-        above m less (suc i) d lt = let r = R 0 (suc i) d (omega arith) lt in omega (arith, r, less)
 
 -- what a search from a label on tells
 pub first_told : (slots : List Slot) (i from : ℕ) (o : Option (ℕ × Link)) → HasSmallLabels slots → IsRising (children_of (slot_of slots i)) → o ≡ child_from (children_of (slot_of slots i)) from → MatchOption o (NoneFrom slots i from) (IsFirstLink slots i from)
-first_told slots i from None S R is = λ m le. link_down (slot_of slots i) m ∙ none_from (children_of (slot_of slots i)) from (sym is) m le
+first_told slots i from None S R is = λ m le. link_down (slot_of slots i) m ∙ child_from-none (children_of (slot_of slots i)) from (sym is) m le
 first_told slots i from (Some c) S R is =
-    let F = some_from (children_of (slot_of slots i)) from c R (sym is) in
+    let F = child_from-some (children_of (slot_of slots i)) from c R (sym is) in
     let there = link_down (slot_of slots i) c.0 ∙ F.there in
     record {
       low = F.low;
