@@ -19,3 +19,8 @@ HasByteLabels slots = (i label : ℕ) (l : Link) → link_of slots i (down label
 pub record IsReadable (slots : List Slot) : Type 0 where
   pub rising : AllRising slots
   pub targets : (i : ℕ) (e : Step) (l : Link) → link_of slots i e ≡ Some l → target l < length slots
+
+-- the slots can be put: each has a number in the order, and can be read
+pub record CanPut (slots : List Slot) (numbers : List ℕ) : Type 0 where
+  pub numbered : length numbers ≡ length slots
+  pub readable : IsReadable slots

@@ -3,7 +3,7 @@ ghost use Rattle.std.specs.Prelude.{◌≡◌, ◌<◌, ◌++◌, length, OnOk, 
 ghost use Rattle.std.specs.List.{flat_map};
 ghost use Rattle.node_arena.specs.Slots.{IsNode, slot_of, children_of, target};
 ghost use Rattle.cube_image.specs.Bytes.{link_bytes, child_bytes, row_bytes, table_bytes, slot_bytes};
-ghost use Rattle.cube_image.specs.Conditions.{IsReadable};
+ghost use Rattle.cube_image.specs.Conditions.{CanPut};
 ghost use Rattle.cube_image.specs.Order.{moved, moved_child, moved_link, in_order};
 ghost use Rattle.cube_image.specs.Rest.{word_rows, told_children};
 
@@ -25,8 +25,7 @@ pub fn put_slots<L: Ledger>(
     steps: &mut Steps<L>,
 ) -> Result<(), NoMemory>
     requires within { All (λ i. i < length arena.now) order.now.places }
-    requires numbered { length order.now.numbers.items ≡ length arena.now }
-    requires readable { IsReadable arena.now }
+    requires able { CanPut arena.now order.now.numbers.items }
     ensures { OnOk result (out.new.items ≡ out.old.items ++ flat_map slot_bytes (in_order arena.now order.now.places)) }
 {
     for place in order.places.as_slice() {
@@ -44,8 +43,7 @@ fn put_slot<L: Ledger>(
     steps: &mut Steps<L>,
 ) -> Result<(), NoMemory>
     requires in_range { id.0 < length arena.now }
-    requires numbered { length order.now.numbers.items ≡ length arena.now }
-    requires readable { IsReadable arena.now }
+    requires able { CanPut arena.now order.now.numbers.items }
     ensures { OnOk result (out.new.items ≡ out.old.items ++ slot_bytes (moved order.now.places (slot_of arena.now id.0))) }
 {
     if arena.is_table(id) {
@@ -65,8 +63,7 @@ fn put_node<L: Ledger>(
 ) -> Result<(), NoMemory>
     requires in_range { id.0 < length arena.now }
     requires is_node { IsNode (slot_of arena.now id.0) }
-    requires numbered { length order.now.numbers.items ≡ length arena.now }
-    requires readable { IsReadable arena.now }
+    requires able { CanPut arena.now order.now.numbers.items }
     ensures { OnOk result (out.new.items ≡ out.old.items ++ slot_bytes (moved order.now.places (slot_of arena.now id.0))) }
 {
     put(out, &[1])?;
@@ -89,8 +86,7 @@ fn put_children<L: Ledger>(
 ) -> Result<(), NoMemory>
     requires in_range { id.0 < length arena.now }
     requires is_node { IsNode (slot_of arena.now id.0) }
-    requires numbered { length order.now.numbers.items ≡ length arena.now }
-    requires readable { IsReadable arena.now }
+    requires able { CanPut arena.now order.now.numbers.items }
     ensures { OnOk result (out.new.items ≡ out.old.items ++ flat_map (λ c. child_bytes (moved_child order.now.places c)) (told_children arena.now id.0)) }
 {
     let mut from = 0;

@@ -10,5 +10,5 @@ use Rattle.cube_image.proofs.print.put_children.Goals as goal
 pub loop-label-init : goal.loop-label-init
 loop-label-init g c = record {
   last = omega arith;
-  left = read_none (λ (k : ℕ × Link). child_bytes (moved_child c.args.order.now.places k)) c.args.out.now.items (told_children c.args.arena.now c.args.id.0) (children-rise c.args.arena.now c.args.id.0 c.requires.readable c.requires.in_range);
+  left = read_none (λ (k : ℕ × Link). child_bytes (moved_child c.args.order.now.places k)) c.args.out.now.items (told_children c.args.arena.now c.args.id.0) (children-rise c.args.arena.now c.args.id.0 c.requires.able.readable c.requires.in_range);
 }

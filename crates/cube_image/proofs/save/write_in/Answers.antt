@@ -9,8 +9,8 @@ order_of-requires-clause-readable g c = readable c.args.arena.now c.requires.hom
 pub image_len-requires-clause-readable : goal.image_len-requires-clause-readable
 image_len-requires-clause-readable g c = readable c.args.arena.now c.requires.homes c.tell_order.ensures
 
-pub put_slots-requires-clause-readable : goal.put_slots-requires-clause-readable
-put_slots-requires-clause-readable g c = readable c.args.arena.now c.requires.homes c.tell_order.ensures
+pub put_slots-requires-clause-able : goal.put_slots-requires-clause-able
+put_slots-requires-clause-able g c = record { numbered = c.in_ok-order.ensures.all; readable = readable c.args.arena.now c.requires.homes c.tell_order.ensures }
 
 pub returns-in_default-clause-too_long : goal.returns-in_default-clause-too_long
 returns-in_default-clause-too_long g c = λ is.
