@@ -7,6 +7,7 @@ use cube_view::{Category, Schema, Tile};
 use example_schemas::schema_of_kinds;
 use outer_io::{List, NoMemory, Text};
 use std::alloc::Global;
+use std::process::Abort;
 use std::test::Fail;
 
 fn category(
@@ -52,6 +53,21 @@ fn printed(alloc: Global, schema: &Schema, line: &[u8]) -> Result<(Parsed, List<
     Ok((parsed, text))
 }
 
+// Each line is printed as the line beside it, which asks for the same.
+fn check(
+    rt: &impl Abort,
+    alloc: Global,
+    schema: &Schema,
+    cases: &[(&[u8], &[u8])],
+) -> Result<(), NoMemory> {
+    for (line, want) in cases {
+        let (parsed, text) = printed(alloc, schema, line)?;
+        assert_eq!(rt; text.as_slice(), *want);
+        assert_eq!(rt; parse(alloc, schema, text.as_slice())?, parsed);
+    }
+    Ok(())
+}
+
 #[test]
 fn prints_each_verb_and_its_filters_in_one_order(rt: HostRuntime) -> Result<(), Fail> {
     let cases: [(&[u8], &[u8]); 11] = [
@@ -77,11 +93,7 @@ fn prints_each_verb_and_its_filters_in_one_order(rt: HostRuntime) -> Result<(), 
         (b"quit", b"quit"),
     ];
     let schema = schema_of_kinds(rt.alloc())?;
-    for (line, want) in cases {
-        let (parsed, text) = printed(rt.alloc(), &schema, line)?;
-        assert_eq!(rt; text.as_slice(), want);
-        assert_eq!(rt; parse(rt.alloc(), &schema, text.as_slice())?, parsed);
-    }
+    check(&rt, rt.alloc(), &schema, &cases)?;
     Ok(())
 }
 
@@ -97,11 +109,7 @@ fn quotes_values_with_a_space_or_a_bar(rt: HostRuntime) -> Result<(), Fail> {
         (b"cross  m k with m=e", b"cross m k with m=e"),
     ];
     let schema = spaced_schema(rt.alloc())?;
-    for (line, want) in cases {
-        let (parsed, text) = printed(rt.alloc(), &schema, line)?;
-        assert_eq!(rt; text.as_slice(), want);
-        assert_eq!(rt; parse(rt.alloc(), &schema, text.as_slice())?, parsed);
-    }
+    check(&rt, rt.alloc(), &schema, &cases)?;
     Ok(())
 }
 
