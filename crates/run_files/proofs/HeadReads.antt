@@ -27,6 +27,7 @@ use Rattle.run_files.proofs.Returning.{leaves_given_back}
 use Rattle.run_files.proofs.Stages.{leaves_reading, leaves_then, leaves_more, nothing_made, all_opened}
 use Rattle.run_report.specs.Lines.{head_line}
 use Rattle.run_files.specs.GivingBack.{TakesSources}
+use Rattle.run_files.specs.Leaving.{LeavesPlace}
 use Rattle.run_files.specs.Headed.{HasHeader, IsHeaded, OpensFeeds, RefusesHead, RefusesLast}
 use Rattle.run_files.specs.Outside.{FailsToPut, file_of, PlaceSeen, Puts, Silent, SinkSeen}
 use Rattle.run_files.specs.declared.stop.Stop.{Stop}
@@ -107,42 +108,48 @@ HasHeader-first schema files first opens more i all is few lt =
     (All-get_or (λ n. HasHeader schema (file_of files n)) opens i [] within (subst (λ ns. All (λ n. HasHeader schema (file_of files n)) ns) is all))
 
 module _ {P O : Type 0} (p : PlaceSeen P) (s : SinkSeen O) (schema : Schema) where
+  -- what holds of the feeds that were opened holds whatever else is left
+  opens_leaving : (a b c : P) (o o' : O) (names others : List (List ℕ)) (stop : Option Stop) (one : OpensFeeds p s schema a b o o' names stop) (leaves : LeavesPlace p a c others [] stop) → leaves.opens ≡ one.leaves.opens
+      → OpensFeeds p s schema a c o o' others stop
+  opens_leaving a b c o o' names others stop one leaves same = record {
+    leaves = leaves;
+    headed = λ i lt. subst (λ ns. HasHeader schema (file_of (p.files a) (get_or ns i []))) (sym same) (one.headed i (subst (λ ns. i + 1 < length ns) same lt));
+    refused = λ e. subst (λ ns. RefusesLast schema (file_of (p.files a)) ns (Puts s o o')) (sym same) (one.refused e);
+    unsaid = λ e. subst (λ ns. RefusesLast schema (file_of (p.files a)) ns (FailsToPut s o o')) (sym same) (one.unsaid e);
+    silent = one.silent;
+    ends = one.ends;
+  }
+
+  -- the first trouble leaves the further feeds unopened
+  pub opens_more : (a b : P) (o o' : O) (names more : List (List ℕ)) (stop : Stop) → OpensFeeds p s schema a b o o' names (Some stop) → OpensFeeds p s schema a b o o' (names ++ more) (Some stop)
+  unfolding leaves_more
+  opens_more a b o o' names more stop one = opens_leaving a b b o o' names (names ++ more) (Some stop) one (leaves_more p a b names more [] stop one.leaves) refl
+
+  -- of no feeds none is opened
+  opens_unnamed : (a b : P) (o : O) (stop : Option Stop) → ((k : Stop) → stop ≡ Some k → k ≡ NoMemory) → p.opened b ≡ p.opened a → p.created b ≡ p.created a → p.write_faults b ≡ p.write_faults a → p.files b ≡ p.files a → p.read_faults b ≡ p.read_faults a
+      → OpensFeeds p s schema a b o o [] stop
+  unfolding leaves_reading
+  opens_unnamed a b o stop only opened created write files quiet = record {
+    leaves = leaves_reading p a b [] [] [] stop refl (opened ∙ sym (append-nil _)) (λ _. refl) created write files (λ e. let k = only ReadFault e in absurd (cc)) (λ _. quiet);
+    headed = λ i lt. absurd (omega (arith, lt));
+    refused = λ e. let k = only FeedRefused e in absurd (cc);
+    unsaid = λ e. let k = only WriteFault e in absurd (cc);
+    silent = λ _ _. silent_itself s o;
+    ends = λ e. let k = only PlanRefused e in cc;
+  }
+
   -- no feed is opened
   pub opens_none : (a : P) (o : O) → OpensFeeds p s schema a a o o [] None
-  unfolding leaves_reading
-  opens_none a o = record {
-    leaves = leaves_reading p a a [] [] [] None refl (sym (append-nil _)) (λ _. refl) refl refl refl (λ e. absurd (cc)) (λ _. refl);
-    headed = λ i lt. absurd (omega (arith, lt));
-    refused = λ e. absurd (cc);
-    unsaid = λ e. absurd (cc);
-    silent = λ _ _. silent_itself s o;
-    ends = λ e. cc;
-  }
+  opens_none a o = opens_unnamed a a o None (λ k e. absurd (cc)) refl refl refl refl refl
 
   -- no feed is opened, for want of memory
   pub opens_nothing : (a : P) (o : O) (names : List (List ℕ)) → OpensFeeds p s schema a a o o names (Some NoMemory)
-  unfolding leaves_reading
-  opens_nothing a o names = record {
-    leaves = leaves_reading p a a names [] names (Some NoMemory) refl (sym (append-nil _)) (λ e. absurd (cc)) refl refl refl (λ e. absurd (cc)) (λ _. refl);
-    headed = λ i lt. absurd (omega (arith, lt));
-    refused = λ e. absurd (cc);
-    unsaid = λ e. absurd (cc);
-    silent = λ _ _. silent_itself s o;
-    ends = λ e. cc;
-  }
+  opens_nothing a o names = opens_more a a o o [] names NoMemory (opens_unnamed a a o (Some NoMemory) (λ k e. cc) refl refl refl refl refl)
 
   -- one feed is not opened, for want of memory
   pub opens_not : (a b : P) (o : O) (name : List ℕ) → p.opened b ≡ p.opened a → p.created b ≡ p.created a → p.write_faults b ≡ p.write_faults a → p.files b ≡ p.files a → p.read_faults b ≡ p.read_faults a
       → OpensFeeds p s schema a b o o (name ∷ []) (Some NoMemory)
-  unfolding leaves_reading
-  opens_not a b o name opened created write files quiet = record {
-    leaves = leaves_reading p a b (name ∷ []) [] (name ∷ []) (Some NoMemory) refl (opened ∙ sym (append-nil _)) (λ e. absurd (cc)) created write files (λ e. absurd (cc)) (λ _. quiet);
-    headed = λ i lt. absurd (omega (arith, lt));
-    refused = λ e. absurd (cc);
-    unsaid = λ e. absurd (cc);
-    silent = λ _ _. silent_itself s o;
-    ends = λ e. cc;
-  }
+  opens_not a b o name opened created write files quiet = opens_more a b o o [] (name ∷ []) NoMemory (opens_unnamed a b o (Some NoMemory) (λ k e. cc) opened created write files quiet)
 
   -- one feed is opened
   pub opens_one : (a b : P) (o o' : O) (name : List ℕ) (stop : Option Stop) → p.opened b ≡ p.opened a ++ name ∷ [] → p.created b ≡ p.created a → p.write_faults b ≡ p.write_faults a → p.files b ≡ p.files a
@@ -179,18 +186,6 @@ module _ {P O : Type 0} (p : PlaceSeen P) (s : SinkSeen O) (schema : Schema) whe
   pub same_files : (a b : P) (o o' : O) (names : List (List ℕ)) (stop : Option Stop) → OpensFeeds p s schema a b o o' names stop → p.files b ≡ p.files a
   same_files a b o o' names stop one = one.leaves.untouched (nothing_made p a b names stop one.leaves)
 
-  -- the first trouble leaves the further feeds unopened
-  pub opens_more : (a b : P) (o o' : O) (names more : List (List ℕ)) (stop : Stop) → OpensFeeds p s schema a b o o' names (Some stop) → OpensFeeds p s schema a b o o' (names ++ more) (Some stop)
-  unfolding leaves_more
-  opens_more a b o o' names more stop one = record {
-    leaves = leaves_more p a b names more [] stop one.leaves;
-    headed = one.headed;
-    refused = one.refused;
-    unsaid = one.unsaid;
-    silent = one.silent;
-    ends = one.ends;
-  }
-
   -- so it is where `?` hands the trouble on
   pub opens_residual : (a b : P) (o o' : O) (names first more : List (List ℕ)) (r : Result (Unit {0}) Stop) (stop : Stop) → names ≡ first ++ more → IsErrAnd r (λ e. e ≡ stop) → OpensFeeds p s schema a b o o' first (Some stop)
       → OpensFeeds p s schema a b o o' names (result_err r)
@@ -202,11 +197,4 @@ module _ {P O : Type 0} (p : PlaceSeen P) (s : SinkSeen O) (schema : Schema) whe
   pub opens_given_back : (a b c : P) (o o' : O) (names : List (List ℕ)) (stop : Option Stop) (counts : List ℕ) → OpensFeeds p s schema a b o o' names stop → TakesSources p b c counts → All (λ n. n ≡ 0) counts
       → OpensFeeds p s schema a c o o' names stop
   unfolding leaves_given_back
-  opens_given_back a b c o o' names stop counts one back none = record {
-    leaves = leaves_given_back p a b c names [] stop counts one.leaves back none;
-    headed = one.headed;
-    refused = one.refused;
-    unsaid = one.unsaid;
-    silent = one.silent;
-    ends = one.ends;
-  }
+  opens_given_back a b c o o' names stop counts one back none = opens_leaving a b c o o' names names stop one (leaves_given_back p a b c names [] stop counts one.leaves back none) refl

@@ -1,5 +1,5 @@
 -- Scripts that are opened, and outputs that are created, one after another.
-use Rattle.std.proofs.Common.{All, Err, List, None, Ok, Option, Result, Some, [], ap, append_assoc, inl, inr, map, refl, subst, sym, ℕ, ◌++◌, ◌∙◌, ◌∷◌, ◌≡◌, ◌≢◌}
+use Rattle.std.proofs.Common.{All, Err, List, None, Ok, Option, Result, Some, [], ap, append_assoc, inr, map, refl, subst, sym, ℕ, ◌++◌, ◌∙◌, ◌∷◌, ◌≡◌, ◌≢◌}
 use Rattle.std.proofs.lemmas.Bool.{false≢true}
 use Rattle.std.proofs.lemmas.List.Elements.{All-cons, All-nil}
 use Rattle.std.proofs.lemmas.List.{append-nil, map-append}
@@ -12,7 +12,7 @@ use Rattle.outer_io.specs.Faults.{Rose}
 use Rattle.outer_io.specs.Files.{ChangesOnly, Files, HasFile}
 use Rattle.run_files.proofs.Emptied.{told_still}
 use Rattle.run_files.proofs.Lists.{AllZip-more}
-use Rattle.run_files.proofs.Stages.{KeepsOthers-one, KeepsOthers-same, leaves_and_creates, leaves_as_before, leaves_more, leaves_reading, leaves_then, leaves_unmade, nothing_made}
+use Rattle.run_files.proofs.Stages.{KeepsOthers-one, leaves_and_creates, leaves_as_before, leaves_more, leaves_reading, leaves_then, leaves_unmade, nothing_made}
 use Rattle.run_files.proofs.Returning.{leaves_given_back}
 use Rattle.run_files.specs.GivingBack.{TakesSources}
 use Rattle.run_files.specs.Leaving.{LeavesPlace}
@@ -135,31 +135,9 @@ module _ {P : Type 0} (p : PlaceSeen P) where
 
   -- one output is not created, for want of memory
   pub creates_not : (a b : P) (name : List ℕ) → p.created b ≡ p.created a → p.opened b ≡ p.opened a → p.read_faults b ≡ p.read_faults a → p.files b ≡ p.files a → p.write_faults b ≡ p.write_faults a → OpensScripts p a b [] (name ∷ []) (Some NoMemory)
-  creates_not a b name created opened read files write = record {
-    leaves = record {
-      opens = [];
-      unopened = [];
-      inputs_are = refl;
-      opened = opened ∙ sym (append-nil _);
-      opens_all = λ _. refl;
-      makes = [];
-      unmade = name ∷ [];
-      outputs_are = refl;
-      created = created ∙ sym (append-nil _);
-      makes_all = λ e. cc;
-      opens_first = inl refl;
-      read_first = λ _. refl;
-      emptied = λ _ _. All-nil (λ n. HasFile (p.files b) n []);
-      read = λ e. cc;
-      read_quiet = λ _. read;
-      unwritten = λ _. write;
-      write_quiet = λ _ _. write;
-      untouched = λ _. files;
-      others = KeepsOthers-same _ _ [] files;
-    };
-    write = λ e. absurd (lacked_not_write e);
-    ends = lacked_ends;
-  }
+  creates_not a b name created opened read files write =
+      scripts_unmade a b [] [] (name ∷ []) NoMemory
+      (record { leaves = leaves_reading p a b [] [] [] (Some NoMemory) refl (opened ∙ sym (append-nil _)) (λ _. refl) created write files (λ e. cc) (λ _. read); write = λ e. absurd (lacked_not_write e); ends = lacked_ends })
 
 module _ {S : Type 0} (left : S → Option (List ℕ)) (faults : S → ℕ) (files : Option Files) where
   -- one script more is opened of the same files

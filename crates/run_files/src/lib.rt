@@ -30,4 +30,4 @@ pub use feeds::{HeadedFeed, open_feeds};
 pub use giving_back::{give_back_cutters, give_back_feeds, give_back_sinks, give_back_sources};
 pub use loading::{load_plan, read_file};
 pub use scripts::{ScriptParts, create_file, open_scripts};
-pub use stop::{Stop, ended_after, joined_ends, stop_of_cut, stop_of_session};
+pub use stop::{Stop, ended_after, joined_ends, read_end, stop_of_cut, stop_of_session, write_end};

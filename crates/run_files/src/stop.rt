@@ -62,7 +62,7 @@ pub fn ended_after(stop: Stop, given: Result<(), Stop>) -> Stop
 }
 
 /// What opening or reading a file answered, as a stage of a run answers it.
-pub(crate) fn read_end<T>(read: Result<T, IoFault>) -> Result<T, Stop>
+pub fn read_end<T>(read: Result<T, IoFault>) -> Result<T, Stop>
     ensures { result ≡ read_end read }
 {
     match read {
@@ -73,7 +73,7 @@ pub(crate) fn read_end<T>(read: Result<T, IoFault>) -> Result<T, Stop>
 }
 
 /// What creating a file or giving it back answered, as a stage of a run answers it.
-pub(crate) fn write_end<T>(written: Result<T, IoFault>) -> Result<T, Stop>
+pub fn write_end<T>(written: Result<T, IoFault>) -> Result<T, Stop>
     ensures { result ≡ write_end written }
 {
     match written {

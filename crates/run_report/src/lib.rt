@@ -25,4 +25,5 @@ mod texts;
 
 pub use counts::{FeedCounts, ScriptCounts};
 pub use journal::write_journal;
+pub use lines::push_counts;
 pub use reporting::{feeds_report, header_refused, plan_refused, report};

@@ -23,9 +23,9 @@ fn push_blank_and_refused(text: &mut String, blank: u64, refused: u64) -> Result
     write!(text, "{blank} blank, {refused} refused\n")
 }
 
-/// Appends the line of a feed's counts.
+/// Appends the line of a feed's counts, as a run prints it.
 #[tactic(auto, unfolding(crate::specs::Lines::counts_line))]
-fn push_counts(text: &mut String, name: &str, counts: &FeedCounts) -> Result<(), AllocError>
+pub fn push_counts(text: &mut String, name: &str, counts: &FeedCounts) -> Result<(), AllocError>
     ensures { OnOk result (string_bytes text.new ≡ string_bytes text.old ++ counts_line name.now counts.now) }
 {
     let accepted = counts.accepted;
