@@ -1,33 +1,26 @@
 -- The bounds of the searches of the tests, as numbers.
-use Rattle.std.proofs.Common.{◌≡◌, ◌≤◌, ◌^◌, IsTrue, List, [], ◌∷◌, refl, sym, subst, lit≤}
+use Rattle.std.proofs.Common.{◌≡◌, ◌≤◌, IsTrue, List, [], refl, sym, subst, lit≤}
 use Rattle.cube_view.specs.Bag.{amount}
-use Rattle.cube_view.specs.Points.{Point, point_at}
+use Rattle.cube_view.specs.Points.{Point}
 use Rattle.cube_view.specs.declared.address.Tile.{Tile}
 use Rattle.cube_view.specs.declared.schema.Schema.{Schema}
+use Rattle.example_cubes.specs.Examples.{all_records, three}
 use Rattle.example_schemas.specs.Examples.{kinds}
 use Rattle.plain_cube.specs.Listed.{scan_costs}
 use Rattle.query_syntax.specs.Queries.{is_valid_query}
-use Rattle.query_syntax.specs.declared.query.Choice.TheVariants.{All}
 use Rattle.query_syntax.specs.declared.query.Query.{Query}
 use Rattle.query_syntax.specs.declared.query.Verb.TheVariants.{Count}
 use Rattle.query_walk.specs.Costs.{search_cost}
 
 -- the count of a tile, of all values and bins
 abbrev pub count_in : Tile → Query
-count_in t = record { verb = Count; region = t; sets = All ∷ All ∷ All ∷ All ∷ []; time = record { from = 0; to = 2 ^ 32 } }
+count_in t = all_records Count t
 
 abbrev pub corner : Tile
 corner = record { z = 3; x = 0; y = 7 }
 
 abbrev pub whole : Tile
 whole = record { z = 0; x = 0; y = 0 }
-
--- two points at (0, 0), of value a, and one at (7, 7), of value b
-abbrev pub three : List Point
-three = point_at (record { x = 0; y = 0; values = 0 ∷ 0 ∷ 0 ∷ 0 ∷ []; bin = 0 })
-    ∷ point_at (record { x = 7; y = 7; values = 1 ∷ 0 ∷ 0 ∷ 0 ∷ []; bin = 1 })
-    ∷ point_at (record { x = 0; y = 0; values = 0 ∷ 0 ∷ 0 ∷ 0 ∷ []; bin = 1 })
-    ∷ []
 
 corner_is : IsTrue (is_valid_query kinds (count_in corner))
 unfolding is_valid_query

@@ -1,5 +1,5 @@
 -- Where a walk stands, and which spots it has still to count.
-use Rattle.std.specs.Prelude.{◌≡◌, ℕ, ◌+◌, ◌≤◌, Bool, true, false, ◌&&◌, ◌==◌, nat_le, nat_lt, IsTrue, List, [], ◌∷◌, length, map, drop, None, slice_index, slice_index_or}
+use Rattle.std.specs.Prelude.{◌≡◌, ℕ, ◌+◌, ◌<◌, ◌≤◌, Bool, true, false, ◌&&◌, ◌==◌, nat_le, nat_lt, IsTrue, List, [], ◌∷◌, length, map, drop, None, slice_index, slice_index_or}
 use Rattle.std.specs.List.{list_any}
 use Rattle.cube_view.specs.Bag.{amount}
 use Rattle.cube_view.specs.Places.{is_under}
@@ -72,3 +72,12 @@ pub record HasChoicesFrom (schema : Schema) (q : Query) (k : ℕ) : Type 0 where
   pub wide : length q.sets ≡ 4
   pub choices : IsTrue (are_walkable (drop k schema.categories) (drop k q.sets))
   pub order : q.time.from ≤ q.time.to
+
+-- The address is where a walk of the query asks for values of category k, counted from 0.
+pub record AsksAtCategory (schema : Schema) (q : Query) (address : Address) (k : ℕ) : Type 0 where
+  -- the schema has the category
+  pub category : k < length schema.categories
+  -- the address is at level 0 of it
+  pub here : IsAtCategory address k
+  -- the schema takes what the query asks from there on
+  pub choices : HasChoicesFrom schema q k

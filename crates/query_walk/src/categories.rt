@@ -3,7 +3,7 @@ ghost use Rattle.std.specs.Prelude.{◌≡◌, ℕ, ◌+◌, ◌*◌, ◌-◌, �
 ghost use Rattle.cube_view.specs.Bag.{amount, EachCounted};
 ghost use Rattle.cube_view.specs.Places.{longer, next_dim};
 ghost use Rattle.query_walk.specs.Costs.{choices_from, rest_cost, set_cost, value_cost};
-ghost use Rattle.query_walk.specs.Walks.{IsAtCategory, HasChoicesFrom, are_walkable, is_left, is_left_in_set};
+ghost use Rattle.query_walk.specs.Walks.{IsAtCategory, HasChoicesFrom, AsksAtCategory, are_walkable, is_left, is_left_in_set};
 
 use crate::span::total_in_span;
 use cube_view::CubeView;
@@ -50,9 +50,7 @@ fn total_in_set<V: CubeView, L: Ledger>(
     steps: &mut Steps<L>,
 ) -> u64
     requires stands { V.stands view.now cursor }
-    requires here { IsAtCategory (V.address view.now cursor) k }
-    requires choices { HasChoicesFrom (V.schema view.now) query.now k }
-    requires category { k < length (V.schema view.now).categories }
+    requires walk { AsksAtCategory (V.schema view.now) query.now (V.address view.now cursor) k }
     requires wide { length set.now ≡ 256 }
     ensures total { EachCounted (V.weight_at view.now) (V.seen view.now) (λ h. result ≡ amount (is_left_in_set (V.schema view.now) query.now (V.address view.now cursor) k set.now) h) }
     ensures cost { EachCounted (V.weight_at view.now) (V.seen view.now) (λ h. steps.new ≤ steps.old + set_cost (V.costs view.now) (V.schema view.now) h (choices_from (V.schema view.now) query.now (k + 1)) (V.address view.now cursor) set.now) }
@@ -78,9 +76,7 @@ fn total_at_value<V: CubeView, L: Ledger>(
     steps: &mut Steps<L>,
 ) -> u64
     requires stands { V.stands view.now cursor }
-    requires here { IsAtCategory (V.address view.now cursor) k }
-    requires choices { HasChoicesFrom (V.schema view.now) query.now k }
-    requires category { k < length (V.schema view.now).categories }
+    requires walk { AsksAtCategory (V.schema view.now) query.now (V.address view.now cursor) k }
     ensures total { EachCounted (V.weight_at view.now) (V.seen view.now) (λ h. result ≡ amount (is_left (V.schema view.now) query.now (next_dim (longer (V.address view.now cursor) value)) (k + 1)) h) }
     ensures cost { EachCounted (V.weight_at view.now) (V.seen view.now) (λ h. steps.new ≤ steps.old + value_cost (V.costs view.now) (V.schema view.now) h (choices_from (V.schema view.now) query.now (k + 1)) (V.address view.now cursor) value) }
 {

@@ -20,12 +20,12 @@ use Rattle.query_walk.proofs.categories.+walk.Goals as goal
 pub total_at_value-returns-in_default-clause-total : goal.total_at_value-returns-in_default-clause-total
 total_at_value-returns-in_default-clause-total g t c h counts =
     let z = g.V.CubeView.schema c.args.view.now in
-    sets.none_at z c.args.query.now (g.V.CubeView.address c.args.view.now c.args.cursor) c.args.k h c.args.value (below_four z c.args.k c.requires.category) c.requires.here (c.in_default.ensures.found h counts)
+    sets.none_at z c.args.query.now (g.V.CubeView.address c.args.view.now c.args.cursor) c.args.k h c.args.value (below_four z c.args.k c.requires.walk.category) c.requires.walk.here (c.in_default.ensures.found h counts)
 
 pub total_at_value-total_from-requires-clause-choices : goal.total_at_value-total_from-requires-clause-choices
 total_at_value-total_from-requires-clause-choices g t c κs within =
     let z = g.V.CubeView.schema c.args.view.now in
-    choices_next z c.args.query.now c.args.k c.requires.choices c.requires.category
+    choices_next z c.args.query.now c.args.k c.requires.walk.choices c.requires.walk.category
 
 pub total_at_value-returns-in-None-clause-total : goal.total_at_value-returns-in-None-clause-total
 total_at_value-returns-in-None-clause-total g t c h counts = none-anywhere _ h (c.in-None.ensures.found h counts)
@@ -96,7 +96,7 @@ total_at_value-returns-in-Some-across-clause-cost g t c h counts =
     let costs = g.V.CubeView.costs c.args.view.now in
     let cs = choices_from z c.args.query.now (c.args.k + 1) in
     let a = g.V.CubeView.address c.args.view.now c.args.cursor in
-    let e = value_is costs z h cs a c.args.k c.args.value (below_four z c.args.k c.requires.category) c.requires.here (c.in-Some.ensures.found h counts) in
+    let e = value_is costs z h cs a c.args.k c.args.value (below_four z c.args.k c.requires.walk.category) c.requires.walk.here (c.in-Some.ensures.found h counts) in
     let next = ap (λ (b : Address). rest_cost costs z h cs b) (c.in-Some-across.ensures.place.1 ∙ ap next_dim c.in-Some.ensures.place.1) in
     let rest = c.total_from.ensures.cost h counts in
     omega (arith, e, next, c.in-Some.ensures.cost, c.in-Some-across.ensures.cost, rest)
@@ -104,7 +104,7 @@ total_at_value-returns-in-Some-across-clause-cost g t c h counts =
 pub total_at_value-returns-in-None-clause-cost : goal.total_at_value-returns-in-None-clause-cost
 total_at_value-returns-in-None-clause-cost g t c h counts =
     let z = g.V.CubeView.schema c.args.view.now in
-    let e = value_is (g.V.CubeView.costs c.args.view.now) z h (choices_from z c.args.query.now (c.args.k + 1)) (g.V.CubeView.address c.args.view.now c.args.cursor) c.args.k c.args.value (below_four z c.args.k c.requires.category) c.requires.here (c.in-Some.ensures.found h counts) in
+    let e = value_is (g.V.CubeView.costs c.args.view.now) z h (choices_from z c.args.query.now (c.args.k + 1)) (g.V.CubeView.address c.args.view.now c.args.cursor) c.args.k c.args.value (below_four z c.args.k c.requires.walk.category) c.requires.walk.here (c.in-Some.ensures.found h counts) in
     omega (arith, e, c.in-Some.ensures.cost, c.in-None.ensures.cost)
 
 pub total_in_set-loop-value-init : goal.total_in_set-loop-value-init
@@ -115,8 +115,8 @@ total_in_set-overflow_add-sum g t c =
     let small : c.loop-value.sum + c.total_at_value-at_value.result < 2 ^ 64 = ∥∥₁_elim (g.met.V.CubeView.bag c.args.view.now).counted le_prop (λ p.
     let z = g.V.CubeView.schema c.args.view.now in
     let a = g.V.CubeView.address c.args.view.now c.args.cursor in
-    let lt = below_four z c.args.k c.requires.category in
-    let e = sets.below_yes z c.args.query.now a c.args.k p.0 c.args.set.now c.loop-value.value lt c.requires.here (sym c.has.ensures ∙ c.if-has.true) in
+    let lt = below_four z c.args.k c.requires.walk.category in
+    let e = sets.below_yes z c.args.query.now a c.args.k p.0 c.args.set.now c.loop-value.value lt c.requires.walk.here (sym c.has.ensures ∙ c.if-has.true) in
     let b = c.loop-value.invariant.total p.0 p.1 in
     let d = c.total_at_value-at_value.ensures.total p.0 p.1 in
     sets.sum_fits (sets.is_left_below z c.args.query.now a c.args.k c.args.set.now (c.loop-value.value + 1)) p.0 c.loop-value.sum c.total_at_value-at_value.result (omega (arith, e, b, d)) (IsBag-small _ _ (g.met.V.CubeView.bag c.args.view.now) p.0 p.1)) in
@@ -126,13 +126,13 @@ pub total_in_set-loop-value-preserved : goal.total_in_set-loop-value-preserved
 total_in_set-loop-value-preserved g t c =
     let z = g.V.CubeView.schema c.args.view.now in
     let a = g.V.CubeView.address c.args.view.now c.args.cursor in
-    let lt = below_four z c.args.k c.requires.category in
+    let lt = below_four z c.args.k c.requires.walk.category in
     let cs = choices_from z c.args.query.now (c.args.k + 1) in
     record {
       total = λ h counts.
           let b = c.loop-value.invariant.total h counts in
           elim c.if-has.branch [
-            | total_in_set-then-has w ↦ (let e = sets.below_yes z c.args.query.now a c.args.k h c.args.set.now c.loop-value.value lt c.requires.here (sym c.has.ensures ∙ w.if-has.true) in let d = w.total_at_value-at_value.ensures.total h counts in omega (arith, e, b, d, w.sum-is))
+            | total_in_set-then-has w ↦ (let e = sets.below_yes z c.args.query.now a c.args.k h c.args.set.now c.loop-value.value lt c.requires.walk.here (sym c.has.ensures ∙ w.if-has.true) in let d = w.total_at_value-at_value.ensures.total h counts in omega (arith, e, b, d, w.sum-is))
             | total_in_set-else-has w ↦ (let e = sets.below_no z c.args.query.now a c.args.k h c.args.set.now c.loop-value.value (sym c.has.ensures ∙ w.if-has.false) in omega (arith, e, b, w.sum-is))
           ];
       cost = λ h counts.
