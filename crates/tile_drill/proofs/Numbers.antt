@@ -1,21 +1,20 @@
 -- The bound of the map of the tests, as a number.
-use Rattle.std.proofs.Common.{◌≡◌, ◌≤◌, ◌^◌, IsTrue, List, [], ◌∷◌, refl, sym, subst, lit≤}
+use Rattle.std.proofs.Common.{◌≡◌, ◌≤◌, IsTrue, List, refl, sym, subst, lit≤}
 use Rattle.cube_view.specs.Bag.{amount}
 use Rattle.cube_view.specs.Points.{Point}
 use Rattle.cube_view.specs.declared.schema.Schema.{Schema}
+use Rattle.example_cubes.specs.Examples.{all_records, three}
 use Rattle.example_schemas.specs.Examples.{kinds}
 use Rattle.plain_cube.specs.Listed.{scan_costs}
 use Rattle.query_syntax.specs.Queries.{is_valid_query}
 use Rattle.query_syntax.specs.Tables.{is_drill}
-use Rattle.query_syntax.specs.declared.query.Choice.TheVariants.{All}
 use Rattle.query_syntax.specs.declared.query.Query.{Query}
 use Rattle.query_syntax.specs.declared.query.Verb.TheVariants.{Map}
-use Rattle.query_walk.proofs.Numbers.{three}
 use Rattle.tile_drill.specs.Costs.{table_cost}
 
 -- the map one level below the tile 1/1/0, of all values and bins
 abbrev pub empty_map : Query
-empty_map = record { verb = Map 1; region = record { z = 1; x = 1; y = 0 }; sets = All ∷ All ∷ All ∷ All ∷ []; time = record { from = 0; to = 2 ^ 32 } }
+empty_map = all_records (Map 1) (record { z = 1; x = 1; y = 0 })
 
 valid_is : IsTrue (is_valid_query kinds empty_map)
 unfolding is_valid_query

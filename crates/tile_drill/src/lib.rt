@@ -2,7 +2,7 @@
 //!
 //! [`answer`] gives the rows that `query_syntax` defines over any list of points that the view counts. It reads the
 //! view by cursors alone: each row is a walk of `query_walk`, and the tiles of a map are come to from the region down,
-//! through those that have a spot. How a line is read and how a table is written is left to `query_syntax` and
+//! through those that have a spot. [`value_total`] is a row of a histogram alone, for other tables. How a line is read and how a table is written is left to `query_syntax` and
 //! `reply_json`, the tables of the other verbs to `window_cover` and `cross_table`.
 //!
 //! ```text
@@ -18,3 +18,4 @@ mod tests;
 mod values;
 
 pub use table::answer;
+pub use values::value_total;

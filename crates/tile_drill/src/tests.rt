@@ -100,40 +100,30 @@ fn each_verb_has_its_rows(rt: HostRuntime) -> Result<(), Fail> {
         weighing(point(7, 7, 1, 1), 2),
     ];
     let cube = cube_of(rt.alloc(), schema_of_kinds(rt.alloc())?, &points)?;
-    check(
-        &rt,
-        rt.alloc(),
-        &cube,
-        2,
-        &[
-            ("count", &[Row::One(7)]),
-            ("count in 1/0/0", &[Row::One(5)]),
-            ("hist kind", &[Row::Value(b'a', 5), Row::Value(b'b', 2)]),
-            ("map 1", &[area(1, 0, 0, 5), area(1, 1, 1, 2)]),
-            (
-                "series 0 1 3",
-                &[Row::Bin(0, 5), Row::Bin(1, 2), Row::Bin(2, 0)],
-            ),
-        ],
-    )?;
+    let tables: [(&str, &[Row]); 5] = [
+        ("count", &[Row::One(7)]),
+        ("count in 1/0/0", &[Row::One(5)]),
+        ("hist kind", &[Row::Value(b'a', 5), Row::Value(b'b', 2)]),
+        ("map 1", &[area(1, 0, 0, 5), area(1, 1, 1, 2)]),
+        (
+            "series 0 1 3",
+            &[Row::Bin(0, 5), Row::Bin(1, 2), Row::Bin(2, 0)],
+        ),
+    ];
+    check(&rt, rt.alloc(), &cube, 2, &tables)?;
     Ok(())
 }
 
 #[test]
 fn an_empty_view_has_empty_rows(rt: HostRuntime) -> Result<(), Fail> {
     let cube = PlainCube::new(rt.alloc(), schema_of_kinds(rt.alloc())?);
-    check(
-        &rt,
-        rt.alloc(),
-        &cube,
-        0,
-        &[
-            ("count", &[Row::One(0)]),
-            ("hist kind", &[Row::Value(b'a', 0), Row::Value(b'b', 0)]),
-            ("map 2", &[]),
-            ("series 3 2 1", &[Row::Bin(3, 0)]),
-        ],
-    )?;
+    let tables: [(&str, &[Row]); 4] = [
+        ("count", &[Row::One(0)]),
+        ("hist kind", &[Row::Value(b'a', 0), Row::Value(b'b', 0)]),
+        ("map 2", &[]),
+        ("series 3 2 1", &[Row::Bin(3, 0)]),
+    ];
+    check(&rt, rt.alloc(), &cube, 0, &tables)?;
     Ok(())
 }
 
@@ -141,20 +131,15 @@ fn an_empty_view_has_empty_rows(rt: HostRuntime) -> Result<(), Fail> {
 fn sums_are_wider_than_32_bits(rt: HostRuntime) -> Result<(), Fail> {
     let points = [weighing(point(0, 0, 0, 0), 268_435_455); 17];
     let cube = cube_of(rt.alloc(), schema_of_kinds(rt.alloc())?, &points)?;
-    check(
-        &rt,
-        rt.alloc(),
-        &cube,
-        17,
-        &[
-            ("count", &[Row::One(4_563_402_735)]),
-            ("map 1", &[area(1, 0, 0, 4_563_402_735)]),
-            (
-                "series 0 1 2",
-                &[Row::Bin(0, 4_563_402_735), Row::Bin(1, 0)],
-            ),
-        ],
-    )?;
+    let tables: [(&str, &[Row]); 3] = [
+        ("count", &[Row::One(4_563_402_735)]),
+        ("map 1", &[area(1, 0, 0, 4_563_402_735)]),
+        (
+            "series 0 1 2",
+            &[Row::Bin(0, 4_563_402_735), Row::Bin(1, 0)],
+        ),
+    ];
+    check(&rt, rt.alloc(), &cube, 17, &tables)?;
     Ok(())
 }
 

@@ -17,8 +17,8 @@ use query_walk::total_in_box;
 use std::alloc::Global;
 use std::sync::ledger::Ledger;
 
-/// How much the bag has in the query's box, of its set of the category this value alone.
-fn value_total<V: CubeView, L: Ledger>(
+/// How much the bag has in the query's box, of its set of the category this value alone. It takes no memory.
+pub fn value_total<V: CubeView, L: Ledger>(
     view: &V,
     query: &Query,
     category: usize,
