@@ -2,5 +2,6 @@ mod Pairs
 mod Paying
 mod Ranked
 mod Summing
+mod Tables
 mod Topmost
 mod Tops

@@ -4,18 +4,23 @@ use Rattle.std.proofs.Math.Bool.{and-true, and-false}
 use Rattle.std.proofs.lemmas.List.{length-map, length-set}
 use Rattle.cube_view.proofs.Amounts.{amount-nil, amount-cons, amount-same}
 use Rattle.cube_view.proofs.OneWeight.{weigh}
+use Rattle.cube_view.proofs.SchemaBounds.{few_categories}
 use Rattle.cube_view.specs.Bag.{amount, gives}
 use Rattle.cube_view.specs.Places.{in_tile}
 use Rattle.cube_view.specs.Points.{Point, spot_of, weight_of_point}
 use Rattle.cube_view.specs.declared.schema.Schema.{Schema}
 use Rattle.cube_view.specs.declared.spot.Spot.{Spot}
+use Rattle.cross_table.specs.Values.{IsValue}
+use Rattle.query_syntax.proofs.SchemaLimits.{few_values}
 use Rattle.query_syntax.proofs.TableLaws.{box_value, box_value_out}
 use Rattle.query_syntax.specs.Boxes.{Box, box, chosen, are_in_sets, inside, total}
 use Rattle.query_syntax.specs.CrossTables.{pair_total}
 use Rattle.query_syntax.specs.Narrowing.{any_value, with_value}
 use Rattle.query_syntax.specs.Parts.{with_one_value}
-use Rattle.query_syntax.specs.declared.query.Choice.TheVariants.{All}
+use Rattle.query_syntax.specs.declared.query.Choice.{Choice}
 use Rattle.query_syntax.specs.declared.query.Query.{Query}
+use Rattle.query_walk.specs.Walks.{HasBox}
+use Rattle.tile_drill.proofs.Boxes.{value_has_box, chosen_at}
 
 -- Tests in another order
 
@@ -91,21 +96,38 @@ box_wide q wide = length-map q.sets chosen ∙ wide
 pub value_wide : (b : Box) (k v : ℕ) → length b.sets ≡ 4 → length (with_value b k v).sets ≡ 4
 value_wide b k v wide = length-set b.sets k _ ∙ wide
 
-module _ (z : Schema) (q : Query) (h : List Point) (k l v w : ℕ) (wide : length q.sets ≡ 4) (one : k < 4) (other : l < 4) where
+-- a value's number is one of a set
+value_small : (z : Schema) (k v : ℕ) → IsValue z k v → v < 256
+value_small z k v known = let few = few_values z k known.0 in let lt = known.1 in omega (arith, few, lt)
+
+-- a query with one value alone can be walked too
+pub alone_has_box : (z : Schema) (q : Query) (k v : ℕ) → HasBox z q → IsValue z k v → HasBox z (with_one_value q k v)
+alone_has_box z q k v has known = value_has_box z q k v has known.0 (value_small z k v known)
+
+module _ (z : Schema) (q : Query) (h : List Point) (k l v w : ℕ) (has : HasBox z q) (first : IsValue z k v) (second : IsValue z l w) where
   -- the points with the second value
   abbrev rest : List Point
   rest = having l w h
 
   pair_kept : pair_total z q h k l v w ≡ total z (with_value (box q) k v) rest
-  pair_kept = let four = value_wide (box q) k v (box_wide q wide) in total_value z (with_value (box q) k v) l w h (omega (arith, four, other))
+  pair_kept =
+      let four = value_wide (box q) k v (box_wide q has.wide) in
+      let few = few_categories z in
+      let other = second.0 in
+      total_value z (with_value (box q) k v) l w h (omega (arith, four, few, other))
 
-  -- a first value that the query asks for: the query with it alone, and the second value
-  pub pair_asked : v < 256 → chosen (get_or q.sets k All) v ≡ true → total z (with_value (box (with_one_value q k v)) l w) h ≡ pair_total z q h k l v w
-  pair_asked small is =
+  -- a first value that the query asks for, where its choice was looked up: the query with it alone, and the second value
+  pub pair_asked : (d : Choice) → chosen (get_or q.sets k d) v ≡ true → total z (with_value (box (with_one_value q k v)) l w) h ≡ pair_total z q h k l v w
+  pair_asked d found =
       let alone = with_one_value q k v in
-      let four = box_wide alone (length-set q.sets k _ ∙ wide) in
-      total_value z (box alone) l w h (omega (arith, four, other)) ∙ (sym (box_value z q rest k v (omega (arith, wide, one)) small is) ∙ sym pair_kept)
+      let four = box_wide alone (length-set q.sets k _ ∙ has.wide) in
+      let few = few_categories z in
+      let one = first.0 in
+      let other = second.0 in
+      let wide = has.wide in
+      let is = chosen_at z q k v d true has one found in
+      total_value z (box alone) l w h (omega (arith, four, few, other)) ∙ (sym (box_value z q rest k v (omega (arith, wide, few, one)) (value_small z k v first) is) ∙ sym pair_kept)
 
   -- another has nothing
-  pub pair_not_asked : chosen (get_or q.sets k All) v ≡ false → 0 ≡ pair_total z q h k l v w
-  pair_not_asked is = sym (pair_kept ∙ box_value_out z q rest k v is)
+  pub pair_not_asked : (d : Choice) → chosen (get_or q.sets k d) v ≡ false → 0 ≡ pair_total z q h k l v w
+  pair_not_asked d found = sym (pair_kept ∙ box_value_out z q rest k v (chosen_at z q k v d false has first.0 found))

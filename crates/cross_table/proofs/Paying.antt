@@ -1,5 +1,5 @@
 -- The rows of a cross table and what they cost, value by value.
-use Rattle.std.proofs.Common.{◌≡◌, ℕ, ◌+◌, ◌≤◌, List, [], ◌∷◌, ◌++◌, length, map, take, sym, ◌∙◌, ap, arith}
+use Rattle.std.proofs.Common.{◌≡◌, ℕ, ◌+◌, ◌<◌, ◌≤◌, List, [], ◌∷◌, ◌++◌, length, map, take, sym, ◌∙◌, ap, arith}
 use Rattle.std.specs.List.{flat_map, range_with_len, sum_by}
 use Rattle.std.proofs.lemmas.Grind.{flat_map-append}
 use Rattle.std.proofs.lemmas.List.{append_assoc, append-nil, map-id}
@@ -59,3 +59,10 @@ number_of_values schema k = length (values_at schema.categories k)
 -- how many texts a category has, where they were looked up
 pub texts_counted : (y z : Schema) (k : ℕ) (texts : List (List ℕ)) → y ≡ z → texts ≡ values_at y.categories k → length texts ≡ number_of_values z k
 texts_counted y z k texts same found = ap length found ∙ ap (λ (x : Schema). number_of_values x k) same
+
+-- where a loop through a category's values, whose texts were looked up, ends at value n, what it took is within what all take
+pub paid_to_value : (y z : Schema) (k : ℕ) (texts : List (List ℕ)) (cost : ℕ → ℕ) (n start old new : ℕ) → y ≡ z → texts ≡ values_at y.categories k → n < length texts
+    → old ≤ start + sum_by cost (values_under n) → new ≤ old + cost n → new ≤ start + sum_by cost (values_under (number_of_values z k))
+paid_to_value y z k texts cost n start old new same found lt so_far step =
+    let count = texts_counted y z k texts same found in
+    paid_in_all cost (n + 1) (number_of_values z k) start new (omega (arith, count, lt)) (paid_more cost n start old new so_far step)

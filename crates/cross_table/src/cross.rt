@@ -19,9 +19,9 @@ use cube_view::{CubeView, Schema};
 use outer_io::{List, NoMemory, Text};
 use probe_core::Steps;
 use query_syntax::{Query, RowOut, Table, Verb};
-use query_walk::total_in_box;
 use std::alloc::Global;
 use std::sync::ledger::Ledger;
+use tile_drill::value_total;
 
 /// A value of a category, each by its number from 0.
 #[derive(Clone, Copy)]
@@ -48,25 +48,6 @@ fn text_of(alloc: Global, schema: &Schema, of: CategoryValue) -> Result<Text, No
     Text::copy_of(alloc, texts[usize::from(of.value)].as_str())
 }
 
-/// How much the bag has in the query's box that has the value.
-fn total_of_value<V: CubeView, L: Ledger>(
-    view: &V,
-    query: &Query,
-    of: CategoryValue,
-    steps: &mut Steps<L>,
-) -> u64
-    requires has_box { HasBox (V.schema view.now) query.now }
-    requires value { IsValue (V.schema view.now) of.category of.value }
-    ensures total { EachCounted (V.weight_at view.now) (V.seen view.now) (λ h. result ≡ total_of (V.schema view.now) (with_value (box query.now) of.category of.value) h) }
-    ensures cost { EachCounted (V.weight_at view.now) (V.seen view.now) (λ h. steps.new ≤ steps.old + search_cost (V.costs view.now) (V.schema view.now) h (with_one_value query.now of.category of.value)) }
-{
-    if !query.sets[of.category].has(of.value) {
-        return 0;
-    }
-    let alone = query.with_one_value(of.category, of.value);
-    total_in_box(view, &alone, steps)
-}
-
 /// How much the bag has in the query's box that has both values.
 fn total_of_pair<V: CubeView, L: Ledger>(
     view: &V,
@@ -85,7 +66,7 @@ fn total_of_pair<V: CubeView, L: Ledger>(
         return 0;
     }
     let alone = query.with_one_value(first.category, first.value);
-    total_of_value(view, &alone, second, steps)
+    value_total(view, &alone, second.category, second.value, steps)
 }
 
 /// The row of both values.

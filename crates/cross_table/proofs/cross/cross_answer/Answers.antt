@@ -1,7 +1,7 @@
-use Rattle.std.proofs.Common.{◌+◌, ◌<◌, ◌≤◌, length, ℕ, ◌∙◌, ap, arith, sym}
+use Rattle.std.proofs.Common.{◌∙◌, arith}
 use Rattle.cross_table.proofs.Summing.{cross_valid}
+use Rattle.cross_table.proofs.Tables.{table_is}
 use Rattle.query_syntax.specs.CrossTables.{cross_rows}
-use Rattle.query_syntax.specs.Tables.{rows_of_verb, table, table_rows}
 use Rattle.query_walk.proofs.Boxed.{valid_has_box}
 use Rattle.cross_table.proofs.cross.cross_answer.Goals as goal
 
@@ -19,10 +19,7 @@ cross_rows-requires-clause-second g c κs within =
     omega (arith, known, c.from-second.ensures)
 
 pub returns-clause-table : goal.returns-clause-table
-unfolding table table_rows
 returns-clause-table g c h counts =
     let z = g.V.CubeView.schema c.args.view.now in
-    let q = c.args.query.now in
-    let rows = c.in_ok-rows.ensures.rows h counts ∙ ((λ i. cross_rows z q h (c.from-first.ensures i) (c.from-second.ensures i)) ∙ sym (ap (rows_of_verb z q h) c.in-Cross.is)) in
-    let seen = c.seen.ensures ∙ counts.number in
-    λ i. record { rows = rows i; seen = seen i }
+    let rows = c.in_ok-rows.ensures.rows h counts ∙ (λ i. cross_rows z c.args.query.now h (c.from-first.ensures i) (c.from-second.ensures i)) in
+    table_is z c.args.query.now h _ _ _ c.in-Cross.is rows (c.seen.ensures ∙ counts.number)

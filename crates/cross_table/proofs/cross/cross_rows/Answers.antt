@@ -1,6 +1,6 @@
-use Rattle.std.proofs.Common.{◌≡◌, ℕ, ◌+◌, ◌∙◌, ap, arith}
+use Rattle.std.proofs.Common.{◌≡◌, ℕ, ◌∙◌, ap, arith}
 use Rattle.std.specs.List.{flat_map}
-use Rattle.cross_table.proofs.Paying.{number_of_values, rows_more, paid_more, paid_in_all, texts_counted, values_under}
+use Rattle.cross_table.proofs.Paying.{number_of_values, rows_more, paid_more, paid_in_all, paid_to_value, texts_counted, values_under}
 use Rattle.cross_table.specs.Costs.{within_cost}
 use Rattle.query_syntax.specs.CrossTables.{rows_within, cross_rows}
 use Rattle.cross_table.proofs.cross.cross_rows.Goals as goal
@@ -17,11 +17,9 @@ push_rows_within-requires-clause-first g c κs within =
 pub loop-value-preserved : goal.loop-value-preserved
 loop-value-preserved g c =
     let z = g.V.CubeView.schema c.args.view.now in
-    let costs = g.V.CubeView.costs c.args.view.now in
-    let q = c.args.query.now in
     record {
-      rows = λ h counts. rows_more (rows_within z q h c.args.first c.args.second) c.loop-value.value c.loop-value.rows c.push_rows_within.new.rows (c.loop-value.invariant.rows h counts) (c.in_ok-push_rows_within.ensures.rows h counts);
-      cost = λ h counts. paid_more (within_cost costs z h q c.args.first c.args.second) c.loop-value.value c.args.steps.now c.loop-value.steps _ (c.loop-value.invariant.cost h counts) (c.push_rows_within.ensures.cost h counts);
+      rows = λ h counts. rows_more (rows_within z c.args.query.now h c.args.first c.args.second) c.loop-value.value c.loop-value.rows c.push_rows_within.new.rows (c.loop-value.invariant.rows h counts) (c.in_ok-push_rows_within.ensures.rows h counts);
+      cost = λ h counts. paid_more (within_cost (g.V.CubeView.costs c.args.view.now) z h c.args.query.now c.args.first c.args.second) c.loop-value.value c.args.steps.now c.loop-value.steps _ (c.loop-value.invariant.cost h counts) (c.push_rows_within.ensures.cost h counts);
     }
 
 pub returns : goal.returns
@@ -39,8 +37,5 @@ returns g c =
 
 pub returns-in_err-push_rows_within-clause-cost : goal.returns-in_err-push_rows_within-clause-cost
 returns-in_err-push_rows_within-clause-cost g c h counts =
-    let z = g.V.CubeView.schema c.args.view.now in
-    let costs = g.V.CubeView.costs c.args.view.now in
-    let cost = within_cost costs z h c.args.query.now c.args.first c.args.second in
-    let count = texts_counted c.schema.result.now z c.args.first c.value_texts-value-end.result.now c.schema.ensures c.value_texts-value-end.ensures.texts in
-    paid_in_all cost (c.loop-value.value + 1) (number_of_values z c.args.first) c.args.steps.now _ (omega (arith, count, c.loop-value-test.true)) (paid_more cost c.loop-value.value c.args.steps.now c.loop-value.steps _ (c.loop-value.invariant.cost h counts) (c.push_rows_within.ensures.cost h counts))
+    let cost = within_cost (g.V.CubeView.costs c.args.view.now) (g.V.CubeView.schema c.args.view.now) h c.args.query.now c.args.first c.args.second in
+    paid_to_value c.schema.result.now (g.V.CubeView.schema c.args.view.now) c.args.first c.value_texts-value-end.result.now cost c.loop-value.value c.args.steps.now c.loop-value.steps _ c.schema.ensures c.value_texts-value-end.ensures.texts (omega (arith, c.loop-value-test.true)) (c.loop-value.invariant.cost h counts) (c.push_rows_within.ensures.cost h counts)
