@@ -20,8 +20,6 @@ mod order;
 mod print;
 mod rows;
 mod save;
-#[cfg(test)]
-mod tests;
 
 pub use fault::SaveFault;
 pub use laws::image_laws;
