@@ -1,35 +1,9 @@
 //! The images of cubes of no points and of one, of the schema that is built in; parts of them; and bytes near to them.
 use crate::{ImageParseFault, ParsedImage, parse_image};
-use cube_image::{SaveFault, write_image};
-use cube_store::Cube;
-use cube_view::{Stat, is_sound};
+use cube_view::Stat;
+use example_images::{EMPTY, ONE_RECORD, cube_of, image_of};
 use example_schemas::{point, schema_of_kinds};
-use outer_io::List;
-use std::alloc::Global;
 use std::test::Fail;
-
-/// The name of the form, the size and how many slots there are, and then the root.
-const EMPTY: [u8; 28] = [
-    78, 65, 78, 79, 67, 85, 66, 49, // NANOCUB1
-    0, 0, 0, 0, 0, 0, 0, 0, // no points
-    0, 0, 0, 0, 0, 0, 0, 1, // one slot
-    1, 0, 0, 0, // a node without children and content
-];
-
-/// Three nodes that share the content of the deepest tile, that tile, the node of the category, which shares the
-/// content of its value, the node of the value, and its time table.
-const ONE_RECORD: [u8; 157] = [
-    78, 65, 78, 79, 67, 85, 66, 49, // NANOCUB1
-    0, 0, 0, 0, 0, 0, 0, 1, // one point
-    0, 0, 0, 0, 0, 0, 0, 7, // seven slots
-    1, 0, 1, 0, 1, 0, 0, 0, 0, 0, 0, 0, 1, 2, 0, 0, 0, 0, 0, 0, 0, 4, // the root
-    1, 0, 1, 0, 1, 0, 0, 0, 0, 0, 0, 0, 2, 2, 0, 0, 0, 0, 0, 0, 0, 4, // level 1
-    1, 0, 1, 0, 1, 0, 0, 0, 0, 0, 0, 0, 3, 2, 0, 0, 0, 0, 0, 0, 0, 4, // level 2
-    1, 0, 0, 1, 0, 0, 0, 0, 0, 0, 0, 4, // the tile
-    1, 0, 1, 0, 1, 0, 0, 0, 0, 0, 0, 0, 5, 2, 0, 0, 0, 0, 0, 0, 0, 6, // the category
-    1, 0, 0, 1, 0, 0, 0, 0, 0, 0, 0, 6, // the value
-    2, 0, 0, 0, 0, 0, 0, 0, 1, 0, 0, 0, 0, 0, 0, 0, 0, 0, 0, 0, 1, // one row: bin 0, count 1
-];
 
 /// A root whose content is a table of two rows, which count 2^63 and 1.
 const HEAVY: [u8; 70] = [
@@ -103,19 +77,10 @@ fn refuses_a_byte_after_an_image(rt: HostRuntime) {
     assert!(rt; is_refused(&rt, &HEAVY));
 }
 
-/// The image of a cube.
-fn image_of(alloc: Global, cube: &Cube) -> Result<List<u8>, SaveFault> {
-    write_image(alloc, &cube.arena, cube.root, cube.size)
-}
-
 #[test]
 fn reads_what_is_written(rt: HostRuntime) -> Result<(), Fail> {
-    let mut cube = Cube::new(rt.alloc(), schema_of_kinds(rt.alloc())?)?;
-    for point in [point(0, 0, 0, 0), point(7, 7, 1, 1), point(0, 0, 0, 1)] {
-        assert!(rt; is_sound(&cube.schema, &point));
-        assert!(rt; cube.size < 1 << 35);
-        cube.insert(point)?;
-    }
+    let points = [point(0, 0, 0, 0), point(7, 7, 1, 1), point(0, 0, 0, 1)];
+    let cube = cube_of(rt.alloc(), schema_of_kinds(rt.alloc())?, &points)?;
     let bytes = image_of(rt.alloc(), &cube)?;
     let image = found(&rt, bytes.as_slice())?;
     assert_eq!(rt; image.size, 3);
