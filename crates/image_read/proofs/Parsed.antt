@@ -60,10 +60,11 @@ bins_small n (s ∷ slots) A (suc i) bin some = bins_small n slots A.1 i bin som
 pub image_testable : (bytes : List ℕ) (size : ℕ) (slots : List Slot) → IsOrderly bytes size slots → IsImage bytes size slots → AreTestable slots
 image_testable bytes size slots O I = record {
   rising = O.readable.rising;
-  labels = labels_small (length slots) slots I.fit;
-  within = O.readable.targets;
+  readable = record {
+    linked = record { within = O.readable.targets; labels = labels_small (length slots) slots I.fit };
+    bins = bins_small (length slots) slots I.fit;
+  };
   counted = O.counted;
-  bins = bins_small (length slots) slots I.fit;
 }
 
 all_light : (slots : List Slot) → ((i : ℕ) → i < length slots → total_count (counts_of (slot_of slots i)) ≤ 2 ^ 63) → AllLight slots

@@ -1,11 +1,10 @@
 //! Whether the content of a node counts along a way what the contents of its children count together.
 ghost use Rattle.std.specs.Prelude.{◌≡◌, ◌↔◌, ◌<◌, ◌≤◌, ◌^◌, length, IsTrue, MatchOption};
 ghost use Rattle.node_arena.specs.Slots.{IsNode, slot_of};
-ghost use Rattle.image_shape.specs.Sharing.{LeadsWithin};
 ghost use Rattle.image_shape.specs.Ways.{Merges};
 ghost use Rattle.shape_test.specs.Homes.{way_of};
-ghost use Rattle.shape_test.specs.Links.{HasSmallLabels};
 ghost use Rattle.shape_test.specs.Merging.{parts_count};
+ghost use Rattle.shape_test.specs.Testable.{AreLinked};
 
 use crate::children::first_child;
 use crate::counts::content_count;
@@ -25,8 +24,7 @@ fn children_count<L: Ledger>(
 ) -> Option<u64>
     requires in_range { id.0 < length arena.now }
     requires is_node { IsNode (slot_of arena.now id.0) }
-    requires within { LeadsWithin arena.now }
-    requires labels { HasSmallLabels arena.now }
+    requires linked { AreLinked arena.now }
     ensures { MatchOption result (2 ^ 64 ≤ parts_count arena.now id.0 (way_of way.now) bin) (λ n. n ≡ parts_count arena.now id.0 (way_of way.now) bin) }
 {
     let mut total: u64 = 0;
@@ -52,8 +50,7 @@ pub fn merges_at<L: Ledger>(
 ) -> bool
     requires in_range { id.0 < length arena.now }
     requires is_node { IsNode (slot_of arena.now id.0) }
-    requires within { LeadsWithin arena.now }
-    requires labels { HasSmallLabels arena.now }
+    requires linked { AreLinked arena.now }
     ensures { IsTrue result ↔ Merges arena.now id.0 (way_of way.now) bin }
 {
     let whole = content_count(arena, id, way, bin, steps);

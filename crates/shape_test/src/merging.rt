@@ -5,8 +5,8 @@ ghost use Rattle.image_shape.specs.Sharing.{LeadsWithin, SharesAt};
 ghost use Rattle.shape_test.specs.Agreeing.{AllAgree, BinsAgree, CountedAgree, Covers, CoversParts, MergesFrom, MergesOver, RowsAgree};
 ghost use Rattle.shape_test.specs.Filled.{HasSmallBins};
 ghost use Rattle.shape_test.specs.Homes.{way_of};
-ghost use Rattle.shape_test.specs.Links.{HasSmallLabels};
 ghost use Rattle.shape_test.specs.Places.{IsSchemaPlace};
+ghost use Rattle.shape_test.specs.Testable.{AreReadable};
 
 use crate::children::first_child;
 use crate::counts::{content_count, link_along, slot_count};
@@ -69,9 +69,7 @@ fn slot_agrees<L: Ledger>(
 ) -> bool
     requires in_range { (side.node.0 < length arena.now) × (at.0 < length arena.now) }
     requires is_node { IsNode (slot_of arena.now side.node.0) }
-    requires within { LeadsWithin arena.now }
-    requires labels { HasSmallLabels arena.now }
-    requires bins { HasSmallBins arena.now }
+    requires readable { AreReadable arena.now }
     ensures told { IsTrue result → RowsAgree arena.now side (way_of way.now) at.0 }
     ensures all { BinsAgree arena.now side (way_of way.now) at.0 → IsTrue result }
 {
@@ -112,9 +110,7 @@ fn content_agrees<L: Ledger>(
 ) -> Result<bool, NoMemory>
     requires in_range { (side.node.0 < length arena.now) × (of.0 < length arena.now) }
     requires is_node { IsNode (slot_of arena.now side.node.0) }
-    requires within { LeadsWithin arena.now }
-    requires labels { HasSmallLabels arena.now }
-    requires bins { HasSmallBins arena.now }
+    requires readable { AreReadable arena.now }
     ensures told { IfOk result (λ r. IsTrue r → CountedAgree arena.now side (way_of way.old) of.0 left) }
     ensures all { AllAgree arena.now side (way_of way.old) of.0 left → IfOk result (λ r. IsTrue r) }
     ensures same { OnOk result (way.new ≡ way.old) }
@@ -151,9 +147,7 @@ fn parts_agree<L: Ledger>(
 ) -> Result<bool, NoMemory>
     requires in_range { id.0 < length arena.now }
     requires is_node { IsNode (slot_of arena.now id.0) }
-    requires within { LeadsWithin arena.now }
-    requires labels { HasSmallLabels arena.now }
-    requires bins { HasSmallBins arena.now }
+    requires readable { AreReadable arena.now }
     requires at_start { way.old ≡ [] }
     ensures { IfOk result (λ r. IsTrue r ↔ CoversParts arena.now id.0 left) }
 {
@@ -182,9 +176,7 @@ fn contents_merge<L: Ledger>(
 ) -> Result<bool, NoMemory>
     requires in_range { id.0 < length arena.now }
     requires shares { SharesAt arena.now id.0 }
-    requires within { LeadsWithin arena.now }
-    requires labels { HasSmallLabels arena.now }
-    requires bins { HasSmallBins arena.now }
+    requires readable { AreReadable arena.now }
     ensures { IfOk result (λ r. IsTrue r ↔ MergesOver arena.now id.0 left) }
 {
     if arena.is_table(id) || arena.only_child(id).is_some() {
@@ -214,9 +206,7 @@ pub fn node_merges<L: Ledger>(
     requires in_range { id.0 < length arena.now }
     requires placed { IsSchemaPlace schema.now place }
     requires shares { SharesAt arena.now id.0 }
-    requires within { LeadsWithin arena.now }
-    requires labels { HasSmallLabels arena.now }
-    requires bins { HasSmallBins arena.now }
+    requires readable { AreReadable arena.now }
     ensures { IfOk result (λ r. IsTrue r ↔ MergesFrom schema.now arena.now id.0 place) }
 {
     if place.level >= deepest(schema, place.dim) {

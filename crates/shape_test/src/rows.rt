@@ -2,12 +2,10 @@
 ghost use Rattle.std.specs.Prelude.{◌≡◌, ℕ, ◌<◌, ◌^◌, length, IsTrue, MatchOption};
 ghost use Rattle.time_table.specs.Counts.{count_of};
 ghost use Rattle.node_arena.specs.Slots.{IsNode, IsTable, slot_of};
-ghost use Rattle.image_shape.specs.Sharing.{LeadsWithin};
 ghost use Rattle.image_shape.specs.Ways.{Merges};
-ghost use Rattle.shape_test.specs.Filled.{HasSmallBins};
 ghost use Rattle.shape_test.specs.Homes.{way_of};
-ghost use Rattle.shape_test.specs.Links.{HasSmallLabels};
 ghost use Rattle.shape_test.specs.Merging.{NoRowFrom, IsFirstRow, RowsMerge};
+ghost use Rattle.shape_test.specs.Testable.{AreReadable};
 
 use crate::home::Move;
 use crate::merges::merges_at;
@@ -43,9 +41,7 @@ pub fn rows_merge<L: Ledger>(
 ) -> bool
     requires in_range { (id.0 < length arena.now) × (table.0 < length arena.now) }
     requires kinds { IsNode (slot_of arena.now id.0) × IsTable (slot_of arena.now table.0) }
-    requires within { LeadsWithin arena.now }
-    requires labels { HasSmallLabels arena.now }
-    requires bins { HasSmallBins arena.now }
+    requires readable { AreReadable arena.now }
     ensures told { IsTrue result → RowsMerge arena.now id.0 table.0 (way_of way.now) }
     ensures all { ((bin : ℕ) → Merges arena.now id.0 (way_of way.now) bin) → IsTrue result }
 {

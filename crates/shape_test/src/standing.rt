@@ -4,13 +4,13 @@ ghost use Rattle.node_arena.specs.Shape.{HasProperLinks};
 ghost use Rattle.node_arena.specs.Slots.{IsNode, IsTable, slot_of};
 ghost use Rattle.node_arena.specs.Stats.{AllRising};
 ghost use Rattle.image_shape.specs.Laws.{AllTablesCounted};
-ghost use Rattle.image_shape.specs.Sharing.{LeadsWithin, SharesAt};
+ghost use Rattle.image_shape.specs.Sharing.{SharesAt};
 ghost use Rattle.shape_test.specs.Filled.{HasSmallBins};
 ghost use Rattle.shape_test.specs.Fits.{IsSchemaLocal};
 ghost use Rattle.shape_test.specs.Homes.{walk_of, walks_of};
-ghost use Rattle.shape_test.specs.Links.{HasSmallLabels};
 ghost use Rattle.shape_test.specs.Standing.{TableStands, NodeStands, SuitsPlace, SlotStands, AllStand, MergesAt, AllMerge};
 ghost use Rattle.shape_test.specs.Places.{place_at};
+ghost use Rattle.shape_test.specs.Testable.{AreLinked, AreReadable};
 
 use crate::counts::has_row;
 use crate::filled::is_filled;
@@ -55,8 +55,7 @@ fn node_stands<L: Ledger>(
 ) -> bool
     requires in_range { id.0 < length arena.now }
     requires is_node { IsNode (slot_of arena.now id.0) }
-    requires within { LeadsWithin arena.now }
-    requires labels { HasSmallLabels arena.now }
+    requires linked { AreLinked arena.now }
     ensures { IsTrue result ↔ NodeStands schema.now arena.now id.0 place }
 {
     if place.dim == time_dim(schema) {
@@ -78,9 +77,7 @@ fn suits_place<L: Ledger>(
     steps: &mut Steps<L>,
 ) -> bool
     requires in_range { id.0 < length arena.now }
-    requires within { LeadsWithin arena.now }
-    requires labels { HasSmallLabels arena.now }
-    requires bins { HasSmallBins arena.now }
+    requires readable { AreReadable arena.now }
     ensures { IsTrue result ↔ SuitsPlace schema.now arena.now id.0 place }
 {
     if arena.is_table(id) {
@@ -100,9 +97,7 @@ fn slot_stands<L: Ledger>(
 ) -> bool
     requires in_range { id.0 < length arena.now }
     requires homes { length homes.now ≡ length arena.now }
-    requires within { LeadsWithin arena.now }
-    requires labels { HasSmallLabels arena.now }
-    requires bins { HasSmallBins arena.now }
+    requires readable { AreReadable arena.now }
     ensures { IsTrue result ↔ SlotStands schema.now arena.now (walks_of homes.now) id.0 }
 {
     let Some(place) = place_of(schema, homes.get(id.0 as usize).as_slice()) else {
@@ -123,9 +118,7 @@ fn all_stand<L: Ledger>(
 ) -> bool
     requires few { length arena.now < 2 ^ 32 }
     requires homes { length homes.now ≡ length arena.now }
-    requires within { LeadsWithin arena.now }
-    requires labels { HasSmallLabels arena.now }
-    requires bins { HasSmallBins arena.now }
+    requires readable { AreReadable arena.now }
     ensures { IsTrue result ↔ AllStand schema.now arena.now (walks_of homes.now) }
 {
     for i in 0..arena.len() {
@@ -147,9 +140,7 @@ fn slot_merges<L: Ledger>(
 ) -> Result<bool, NoMemory>
     requires in_range { id.0 < length arena.now }
     requires shares { SharesAt arena.now id.0 }
-    requires within { LeadsWithin arena.now }
-    requires labels { HasSmallLabels arena.now }
-    requires bins { HasSmallBins arena.now }
+    requires readable { AreReadable arena.now }
     ensures { IfOk result (λ r. IsTrue r ↔ MergesAt schema.now arena.now id.0 (place_at schema.now (walk_of home.now))) }
 {
     match place_of(schema, home) {
@@ -169,9 +160,7 @@ fn all_merge<L: Ledger>(
     requires few { length arena.now < 2 ^ 32 }
     requires homes { length homes.now ≡ length arena.now }
     requires stand { AllStand schema.now arena.now (walks_of homes.now) }
-    requires within { LeadsWithin arena.now }
-    requires labels { HasSmallLabels arena.now }
-    requires bins { HasSmallBins arena.now }
+    requires readable { AreReadable arena.now }
     ensures { IfOk result (λ r. IsTrue r ↔ AllMerge schema.now arena.now (walks_of homes.now)) }
 {
     for i in 0..arena.len() {
@@ -196,9 +185,7 @@ pub fn slots_fit<L: Ledger>(
     requires homes { HasProperLinks arena.now (walks_of homes.now) }
     requires rising { AllRising arena.now }
     requires counted { AllTablesCounted arena.now }
-    requires within { LeadsWithin arena.now }
-    requires labels { HasSmallLabels arena.now }
-    requires bins { HasSmallBins arena.now }
+    requires readable { AreReadable arena.now }
     ensures { IfOk result (λ r. IsTrue r ↔ IsSchemaLocal schema.now arena.now (walks_of homes.now)) }
 {
     if !all_stand(schema, arena, homes, steps) {
