@@ -2,46 +2,19 @@
 ghost use Rattle.std.specs.Prelude.{◌<◌, length};
 
 use crate::{ImageFault, read_image};
-use cube_image::{SaveFault, image_laws, write_image};
-use cube_store::Cube;
-use cube_view::{Point, Schema, Spot, is_sound};
+use cube_image::write_image;
+use cube_view::{Point, Schema, Spot};
+use example_images::{cube_of, image_of};
 use example_schemas::{point, schema_of_kinds, schema_of_two_categories};
 use outer_io::{List, NoMemory, Text};
 use std::alloc::{AllocError, Global};
 use std::process::Abort;
 use std::test::Fail;
 
-/// The cube of some points.
-fn cube_of(
-    rt: &impl Abort,
-    alloc: Global,
-    schema: Schema,
-    points: &[Point],
-) -> Result<Cube, NoMemory> {
-    let mut cube = Cube::new(alloc, schema)?;
-    for point in points {
-        assert!(rt; is_sound(&cube.schema, point));
-        assert!(rt; cube.size < 1 << 35);
-        cube.insert(*point)?;
-    }
-    Ok(cube)
-}
-
-/// Its image.
-fn written(alloc: Global, cube: &Cube) -> Result<List<u8>, SaveFault> {
-    image_laws();
-    write_image(alloc, &cube.arena, cube.root, cube.size)
-}
-
 /// The image of the cube of some points.
-fn image_of(
-    rt: &impl Abort,
-    alloc: Global,
-    schema: &Schema,
-    points: &[Point],
-) -> Result<List<u8>, Fail> {
-    let cube = cube_of(rt, alloc, schema.copy(alloc)?, points)?;
-    Ok(written(alloc, &cube)?)
+fn written(alloc: Global, schema: &Schema, points: &[Point]) -> Result<List<u8>, Fail> {
+    let cube = cube_of(alloc, schema.copy(alloc)?, points)?;
+    Ok(image_of(alloc, &cube)?)
 }
 
 /// What is written of what is read.
@@ -63,7 +36,7 @@ fn what_is_written_is_read_and_written_again(rt: HostRuntime) -> Result<(), Fail
     let points = [point(0, 0, 0, 0), point(7, 7, 1, 1), point(0, 0, 0, 1)];
     let schema = schema_of_kinds(rt.alloc())?;
     for (number, len) in [(0, 28), (1, 157), (3, 400)] {
-        let image = image_of(&rt, rt.alloc(), &schema, &points[..number])?;
+        let image = written(rt.alloc(), &schema, &points[..number])?;
         assert_eq!(rt; image.len(), len);
         let again = written_again(rt.alloc(), &schema, image.as_slice())?;
         assert_eq!(rt; again.as_slice(), image.as_slice());
@@ -95,7 +68,7 @@ fn a_cut_image_is_none_and_one_with_another_count_does_not_fit(
     rt: HostRuntime,
 ) -> Result<(), Fail> {
     let schema = schema_of_kinds(rt.alloc())?;
-    let image = image_of(&rt, rt.alloc(), &schema, &[point(0, 0, 0, 0)])?;
+    let image = written(rt.alloc(), &schema, &[point(0, 0, 0, 0)])?;
     let bytes = image.as_slice();
     assert_eq!(rt; bytes.len(), 157);
     let Some((_, cut)) = bytes.split_last() else {
@@ -112,7 +85,7 @@ fn a_cut_image_is_none_and_one_with_another_count_does_not_fit(
 #[test]
 fn an_image_with_any_byte_changed_is_refused_or_is_whole(rt: HostRuntime) -> Result<(), Fail> {
     let schema = schema_of_kinds(rt.alloc())?;
-    let image = image_of(&rt, rt.alloc(), &schema, &[point(0, 0, 0, 0)])?;
+    let image = written(rt.alloc(), &schema, &[point(0, 0, 0, 0)])?;
     let bytes = image.as_slice();
     for place in 0..bytes.len() {
         for byte in 0..=255u8 {
@@ -126,7 +99,7 @@ fn an_image_with_any_byte_changed_is_refused_or_is_whole(rt: HostRuntime) -> Res
 #[test]
 fn an_image_fits_no_schema_with_other_dimensions(rt: HostRuntime) -> Result<(), Fail> {
     let schema = schema_of_kinds(rt.alloc())?;
-    let image = image_of(&rt, rt.alloc(), &schema, &[point(0, 0, 0, 0)])?;
+    let image = written(rt.alloc(), &schema, &[point(0, 0, 0, 0)])?;
     let other = schema_of_two_categories(rt.alloc())?;
     let fault = fault_of(rt.alloc(), &other, image.as_slice());
     assert_eq!(rt; fault, Some(ImageFault::NotShape));
@@ -153,7 +126,7 @@ fn heavy_point(x: u32, y: u32, bin: u32, weight: u32) -> Point {
 #[test]
 fn a_heavy_point_fits_only_a_schema_with_weights(rt: HostRuntime) -> Result<(), Fail> {
     let schema = weighted(rt.alloc())?;
-    let image = image_of(&rt, rt.alloc(), &schema, &[heavy_point(1, 2, 0, 2)])?;
+    let image = written(rt.alloc(), &schema, &[heavy_point(1, 2, 0, 2)])?;
     let again = written_again(rt.alloc(), &schema, image.as_slice())?;
     assert_eq!(rt; again.as_slice(), image.as_slice());
     let plain = Schema::new(3, List::new(rt.alloc()), 0, 10, 1, None);
@@ -179,7 +152,7 @@ fn random_cubes_with_weights_are_read_and_written_again(rt: HostRuntime) -> Resu
     let schema = weighted(rt.alloc())?;
     for seed in 0..200 {
         let points = random_points(rt.alloc(), seed)?;
-        let image = image_of(&rt, rt.alloc(), &schema, points.as_slice())?;
+        let image = written(rt.alloc(), &schema, points.as_slice())?;
         let again = written_again(rt.alloc(), &schema, image.as_slice())?;
         assert_eq!(rt; again.as_slice(), image.as_slice(), "{seed}");
     }
@@ -206,7 +179,7 @@ fn random_cubes_with_any_byte_one_up_are_refused_or_whole(rt: HostRuntime) -> Re
     let schema = weighted(rt.alloc())?;
     for seed in 0..200 {
         let points = random_points(rt.alloc(), seed)?;
-        let image = image_of(&rt, rt.alloc(), &schema, points.as_slice())?;
+        let image = written(rt.alloc(), &schema, points.as_slice())?;
         check_each_byte_up(&rt, rt.alloc(), &schema, image.as_slice())?;
     }
     Ok(())
