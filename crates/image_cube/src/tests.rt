@@ -1,39 +1,22 @@
 //! Cubes that are saved and loaded again.
 use crate::{load_cube, save_cube};
 use cube_image::SaveFault;
-use cube_store::Cube;
-use cube_view::{CubeView, Point, Schema, is_sound};
+use cube_view::{CubeView, Point, Schema};
+use example_cubes::NoCube;
+use example_images::cube_of;
 use example_schemas::{point, schema_of_kinds};
 use image_read::ImageFault;
 use outer_io::{List, NoMemory};
 use std::alloc::Global;
-use std::process::Abort;
 use std::test::Fail;
 
-/// The cube of some points.
-fn cube_of(
-    rt: &impl Abort,
-    alloc: Global,
-    schema: &Schema,
-    points: &[Point],
-) -> Result<Cube, NoMemory> {
-    let mut cube = Cube::new(alloc, schema.copy(alloc)?)?;
-    for point in points {
-        assert!(rt; is_sound(&cube.schema, point));
-        assert!(rt; cube.size < 1 << 35);
-        cube.insert(*point)?;
-    }
-    Ok(cube)
-}
-
 /// Whether a cube of the schema and one loaded from its image have the same size and numbers, or memory was wanted.
-fn comes_again(
-    rt: &impl Abort,
-    alloc: Global,
-    schema: &Schema,
-    points: &[Point],
-) -> Result<bool, NoMemory> {
-    let cube = cube_of(rt, alloc, schema, points)?;
+fn comes_again(alloc: Global, schema: &Schema, points: &[Point]) -> Result<bool, NoMemory> {
+    let cube = match cube_of(alloc, schema.copy(alloc)?, points) {
+        Ok(cube) => cube,
+        Err(NoCube::NoMemory) => return Err(NoMemory),
+        Err(_) => return Ok(false),
+    };
     let bytes = match save_cube(alloc, &cube) {
         Ok(bytes) => bytes,
         Err(SaveFault::NoMemory) => return Err(NoMemory),
@@ -56,19 +39,19 @@ const FIVE: [(u32, u32, u8, u32); 5] = [
 ];
 
 /// The first of the five records come again from their image.
-fn check_first(rt: &impl Abort, alloc: Global, number: usize) -> Result<bool, NoMemory> {
+fn check_first(alloc: Global, number: usize) -> Result<bool, NoMemory> {
     let schema = schema_of_kinds(alloc)?;
     let mut points = List::new(alloc);
     for (x, y, value, bin) in FIVE.iter().take(number) {
         points.add(point(*x, *y, *value, *bin))?;
     }
-    comes_again(rt, alloc, &schema, points.as_slice())
+    comes_again(alloc, &schema, points.as_slice())
 }
 
 #[test]
 fn what_is_saved_is_loaded(rt: HostRuntime) -> Result<(), Fail> {
     for number in 0..6 {
-        assert!(rt; check_first(&rt, rt.alloc(), number)?, "{number}");
+        assert!(rt; check_first(rt.alloc(), number)?, "{number}");
     }
     Ok(())
 }
@@ -76,7 +59,7 @@ fn what_is_saved_is_loaded(rt: HostRuntime) -> Result<(), Fail> {
 /// Where an allocation is made to fail, memory is wanted, or all comes again.
 #[test]
 fn ends_where_memory_is_wanted(rt: HostRuntime) {
-    match check_first(&rt, rt.alloc(), 5) {
+    match check_first(rt.alloc(), 5) {
         Ok(again) => assert!(rt; again),
         Err(NoMemory) => {}
     }
