@@ -1,5 +1,5 @@
 -- The steps of a pair are events of the loading machine.
-use Rattle.std.proofs.Common.{◌≡◌, ℕ, suc, ◌<◌, List, [], ◌∷◌, ◌++◌, length, Option, Some, None, IfSome, refl, ap, sym, ◌∙◌}
+use Rattle.std.proofs.Common.{◌≡◌, ℕ, suc, List, [], ◌∷◌, ◌++◌, length, Option, Some, None, IfSome, refl, ap, sym, ◌∙◌}
 use mathlib.Core.Option.{some}
 use lib.ListN.{get_elem?}
 use Rattle.std.proofs.lemmas.List.{get_or-set_same, length-map}
@@ -10,8 +10,8 @@ use Rattle.query_syntax.specs.Tables.{table}
 use Rattle.world_core.specs.Interleaving.{entry_points}
 use Rattle.world_core.specs.PairFact.{IsPrefix, pair_fact}
 use Rattle.world_core.specs.declared.entry.Entry.{Entry}
-use Rattle.published_pair.specs.Pair.{KeepsPair, Knows, Sees}
-use Rattle.published_pair.specs.PairLaws.{lists_seen, FreshIsPairFact, IsMachineLook, RuleIsPairFact, PublicationIsPublish, TellingIsTell, LookingIsLook}
+use Rattle.published_pair.specs.Pair.{Knows}
+use Rattle.published_pair.specs.PairLaws.{lists_seen, FreshIsPairFact, RuleIsPairFact, PublicationIsPublish, TellingIsTell, LookingIsLook}
 use Rattle.published_pair.specs.Rules.{Known}
 use Rattle.published_pair.specs.declared.names.Names.{Names}
 use Rattle.published_pair.proofs.Beginnings.{two_prefixes}

@@ -1,23 +1,17 @@
 -- The steps of the pair keep its rule.
-use Rattle.std.proofs.Common.{◌≡◌, ◌≢◌, ℕ, ◌<◌, Bool, true, IsTrue, if◌then◌else◌, List, [], ◌∷◌, ◌++◌, length, fold, set, Option, Some, None, IfSome, refl, sym, ◌∙◌, ap, subst, ⊎_elim}
+use Rattle.std.proofs.Common.{◌≡◌, ◌≢◌, ℕ, Bool, true, if◌then◌else◌, List, [], ◌∷◌, ◌++◌, set, Option, Some, None, IfSome, refl, sym, ◌∙◌, ap, subst, ⊎_elim}
 use mathlib.Core.Option.{some}
 use lib.ListN.{get_elem?}
 use Rattle.atomic_table.proofs.Lists.{at_set, at_snoc}
-use Rattle.cube_view.specs.Bag.{most_points}
 use Rattle.cube_view.specs.Points.{Point}
-use Rattle.cube_view.specs.Validity.{sound}
 use Rattle.cube_view.specs.declared.schema.Schema.{Schema}
 use Rattle.logbook.specs.Pages.{Book}
-use Rattle.std.proofs.lemmas.Bool.{and_from, lt-ltb}
-use Rattle.std.proofs.lemmas.List.Sums.{fold_push}
 use Rattle.world_core.proofs.Worlds.{IsPrefix-then}
 use Rattle.world_core.specs.PairFact.{IsPrefix}
 use Rattle.published_pair.specs.declared.names.Names.{Names}
 use Rattle.published_pair.specs.declared.names.Standing.{Standing}
-use Rattle.published_pair.specs.declared.stand.Sent.{Sent}
-use Rattle.published_pair.specs.declared.stand.Sent.TheVariants.{Added, Noted}
 use Rattle.published_pair.specs.Rules.{Known, first_word_of}
-use Rattle.published_pair.specs.Pair.{KeepsPair, Knows, Sees, names, standing, absorbed, takes, with_point}
+use Rattle.published_pair.specs.Pair.{KeepsPair, Knows, Sees, names, standing, takes, with_point}
 use Rattle.published_pair.proofs.Beginnings.{prefix_self}
 
 abbrev KnowsIf : List Point → Known → Schema → Option Names → Type 0

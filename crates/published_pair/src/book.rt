@@ -1,8 +1,9 @@
 //! What was published, as a history that only proofs read and that only grows, until it ends. What runs keeps two lengths alone.
-ghost use Rattle.std.specs.Prelude.{◌≡◌, ◌+◌, ◌<◌, ◌≤◌, ◌^◌, ◌++◌, ◌∷◌, [], length, max, drop, MatchBool, IfSome, Some};
+ghost use Rattle.std.specs.Prelude.{◌≡◌, ◌+◌, ◌<◌, ◌≤◌, ◌^◌, ◌++◌, ◌∷◌, [], length, max, drop, MatchBool, IfSome, Some, None};
 ghost use Rattle.left_right.specs.Sides.{view};
 ghost use Rattle.cube_view.specs.Bag.{most_points};
 ghost use Rattle.world_core.specs.PairFact.{IsPrefix};
+ghost use Rattle.published_pair.specs.Notes.{batches_of, open_of};
 ghost use Rattle.published_pair.specs.Rules.{first_word_of, known, Known};
 
 use crate::note::Note;
@@ -189,23 +190,16 @@ impl Front {
         requires room { length self.now.points + size ≤ most_points }
         ensures { IfSome result (λ f. f ≡ known self.now.book (self.now.points ++ batch.now.items)) }
     {
-        let mut seen = self.seen.again();
-        let mut offer: Offer<Note, u64, Law, Nothing> = seen.plain::<
-            Nothing,
-            GhostList<Point>,
-            Add,
-        >(batch);
-        let mut pen = seen.no_pen();
-        let notes = self.notes;
-        let found = head
-            .word
-            .compare_exchange::<Add, Nothing>(notes, notes + 1, &mut seen, &mut offer, &mut pen);
-        if found != notes {
+        let seen = self.seen.again();
+        let offer: Offer<Note, u64, Law, Nothing> = seen.plain::<Nothing, GhostList<Point>, Add>(
+            batch,
+        );
+        let Some(seen) = write_behind(head, seen, self.notes, offer) else {
             return None;
-        }
+        };
         Some(Front {
             count: self.count + size,
-            notes: notes + 1,
+            notes: self.notes + 1,
             seen,
         })
     }
@@ -234,21 +228,40 @@ impl Front {
         requires room { length self.now.points ≤ most_points }
         ensures { IfSome result (λ w. w ≡ self.now) }
     {
-        let mut seen = self.seen.again();
-        let mut offer: Offer<Note, u64, Law, Nothing> = seen.plain::<Nothing, (), Close>(&());
-        let mut pen = seen.no_pen();
-        let notes = self.notes;
-        let found = head
-            .word
-            .compare_exchange::<Add, Nothing>(notes, notes + 1, &mut seen, &mut offer, &mut pen);
-        if found != notes {
+        let seen = self.seen.again();
+        let offer: Offer<Note, u64, Law, Nothing> = seen.plain::<Nothing, (), Close>(&());
+        let Some(seen) = write_behind(head, seen, self.notes, offer) else {
             return None;
-        }
+        };
         Some(Whole {
             count: self.count,
             seen,
         })
     }
+}
+
+// Writes the offered note behind all that is seen, and tells what is seen then; or nothing, if more had been written.
+fn write_behind(
+    head: &Head,
+    mut seen: Seen<Note, u64, Law>,
+    notes: u64,
+    mut offer: Offer<Note, u64, Law, Nothing>,
+) -> Option<Seen<Note, u64, Law>>
+    requires book { head.now.word ≡ first_word_of seen.book }
+    requires open { seen.log ≡ open_of (batches_of seen.log) }
+    requires notes { (notes ≡ length seen.log) × (notes ≤ most_points) }
+    requires offer { (offer.names ≡ seen.names) × (offer.state ≡ None) }
+    ensures book { IfSome result (λ s. s.book ≡ seen.book) }
+    ensures log { IfSome result (λ s. s.log ≡ seen.log ++ offer.ask ∷ []) }
+{
+    let mut pen = seen.no_pen();
+    let found = head
+        .word
+        .compare_exchange::<Add, Nothing>(notes, notes + 1, &mut seen, &mut offer, &mut pen);
+    if found != notes {
+        return None;
+    }
+    Some(seen)
 }
 
 /// Ends the history of a pair whose shown copy has all that was sent. Whoever has the head is alone, so it succeeds at once.
