@@ -3,14 +3,14 @@ use Rattle.std.proofs.Common.{◌≡◌, ℕ, suc, ◌+◌, ◌-◌, ◌*◌, �
 use Rattle.std.specs.List.{flat_map, sum_by}
 use Rattle.std.proofs.Math.Bool.{and_assoc}
 use Rattle.std.proofs.Math.Nat.{add-mul}
-use Rattle.std.proofs.lemmas.Bool.{and_parts, and_from, and_right, both_ways, eq-eqb, ne_eqb, leb-true, lt-ltb, le-ltb, cases_eq, cases_lt}
+use Rattle.std.proofs.lemmas.Bool.{and_parts, and_from, and_right, both_ways, eq-eqb, ne_eqb, leb-true, le-leb, lt-ltb, le-ltb, cases_eq, cases_lt}
 use Rattle.std.proofs.lemmas.List.Sums.{sum_by-cons}
 use Rattle.cube_view.proofs.Amounts.{amount-nil, amount-none, amount-same, amount-split, none-less}
 use Rattle.cube_view.proofs.Costing.{cost_if-true, has_spot-quadrant, is_found-spot}
 use Rattle.cube_view.proofs.OneWeight.{one_if}
-use Rattle.cube_view.specs.Bag.{amount}
+use Rattle.cube_view.specs.Bag.{amount, EachCounted}
 use Rattle.cube_view.specs.Costs.{ViewCosts, is_found}
-use Rattle.cube_view.specs.Places.{in_tile, is_below, longer_tile, quadrant_at, region_address}
+use Rattle.cube_view.specs.Places.{in_tile, is_below, longer, longer_tile, quadrant_at, region_address}
 use Rattle.cube_view.specs.Points.{Point}
 use Rattle.cube_view.specs.declared.address.Address.{Address}
 use Rattle.cube_view.specs.declared.address.Tile.{Tile}
@@ -27,13 +27,14 @@ use Rattle.query_syntax.specs.declared.query.Verb.{Verb}
 use Rattle.query_syntax.specs.declared.query.Verb.TheVariants.{Count, Hist, Map, Series, Window, Cross, Best, Stat, Told, Quit}
 use Rattle.query_syntax.specs.declared.table.RowOut.{RowOut}
 use Rattle.query_syntax.specs.declared.table.Table.{Table}
+use Rattle.query_walk.proofs.Boxed.{valid_has_box}
 use Rattle.query_walk.proofs.Sums.{sum_upto-more}
 use Rattle.query_walk.specs.Costs.{sum_upto}
 use Rattle.window_cover.specs.Costs.{crossed_cost, tile_cost, window_cost}
 use Rattle.window_cover.specs.Covers.{all_tiles, cover, tiles_from}
 use Rattle.query_syntax.specs.declared.rect.Rect.{Rect}
 use Rattle.window_cover.specs.Rects.{is_crossed, is_inside}
-use Rattle.window_cover.specs.Ways.{below_cost, cover_below, inside_cost, is_asked_in, is_window_in}
+use Rattle.window_cover.specs.Ways.{HasComeTo, below_cost, cover_below, inside_cost, is_asked_in, is_window_in}
 use Rattle.window_cover.specs.Windows.{rect_of_verb}
 use Rattle.window_cover.proofs.Counting.{and_given, and_never, sum_four, whole_holds}
 use Rattle.window_cover.proofs.Filtering.{cover_is_inside, inside_deeper, inside_whole, uncrossed_apart}
@@ -132,6 +133,22 @@ module _ (z y : Schema) (r : Rect) (t : Tile) (answer b : Bool) (schema : y ≡ 
 pub deep_in : (z y : Schema) (t : Tile) → y ≡ z → t.z < y.depth → t.z < z.depth
 deep_in z y t schema deep = let e = ap (λ (x : Schema). x.depth) schema in omega (arith, e, deep)
 
+-- a walk that is at a tile and finds a quadrant of it comes to the quadrant
+pub comes_to_quadrant : (weight_at : Spot → ℕ) (seen : ℕ) (z : Schema) (q : Query) (t below : Tile) (l : ℕ) (a d : Address) → t.z < z.depth → HasComeTo weight_at seen z q a t
+    → below ≡ longer_tile 1 t l → (below.x < 2 ^ below.z) × (below.y < 2 ^ below.z) → d ≡ longer a l → EachCounted weight_at seen (λ h. 0 < amount (is_below z a l) h) → HasComeTo weight_at seen z q d below
+comes_to_quadrant weight_at seen z q t below l a d deep come is within at some =
+    let level = ap (λ (u : Tile). u.z) is in
+    record {
+      has_box = come.has_box;
+      tile = and_from _ _ (and_from _ _ (le-leb below.z z.depth (omega (arith, level, deep))) (lt-ltb below.x (2 ^ below.z) within.0)) (lt-ltb below.y (2 ^ below.z) within.1);
+      place = at ∙ (ap (λ (b : Address). longer b l) come.place ∙ ap region_address (sym is));
+      found = λ h counts. ap (λ (u : Tile). is_found z h u) is ∙ is_found-spot z h (longer_tile 1 t l) (has_spot-quadrant z t l h deep (subst (λ (b : Address). 0 < amount (is_below z b l) h) come.place (some h counts)));
+    }
+
+-- the walk for a valid window begins at all of space
+pub comes_to_whole : (weight_at : Spot → ℕ) (seen : ℕ) (z : Schema) (q : Query) (a : Address) → is_valid_query z q ≡ true → a ≡ region_address whole_space → HasComeTo weight_at seen z q a whole_space
+comes_to_whole weight_at seen z q a valid at = record { has_box = valid_has_box z q valid; tile = and_from _ _ (and_from _ _ (le-leb 0 z.depth (omega arith)) refl) refl; place = at; found = λ h counts. refl }
+
 -- the rectangle of a valid window is in range
 pub rect_range : (z : Schema) (q : Query) (r : Rect) → is_valid_query z q ≡ true → q.verb ≡ Window r → rect_in_range z.depth r ≡ true
 rect_range z q r valid is = subst (λ (v : Verb). verb_in_range z.depth (length z.categories) v ≡ true) is (valid_parts z q valid).verb
@@ -171,11 +188,6 @@ module _ (costs : ViewCosts) (z : Schema) (h : List Point) (q : Query) (r : Rect
   pub paid_past : (t : Tile) (l : ℕ) (a : Address) (start old mid : ℕ) → a ≡ region_address t → old ≤ start + paid t l → mid ≤ old + costs.down_cost a → mid ≤ start + paid t (l + 1)
   paid_past t l a start old mid at so_far step =
       paid_more t l a start old mid mid at so_far step (omega arith)
-
-  -- the quadrant of a cursor that was found
-  pub found_quadrant : (t : Tile) (l : ℕ) (a : Address) → t.z < z.depth → a ≡ region_address t → 0 < amount (is_below z a l) h → is_found z h (longer_tile 1 t l) ≡ true
-  found_quadrant t l a deep at some =
-      is_found-spot z h (longer_tile 1 t l) (has_spot-quadrant z t l h deep (subst (λ (b : Address). 0 < amount (is_below z b l) h) at some))
 
   -- a tile inside the rectangle
   pub inside_paid : (t : Tile) (old new : ℕ) → is_inside z.depth r t ≡ true → new ≤ old + tile_cost costs z h q t → new ≤ old + inside_cost costs z h q r t

@@ -9,7 +9,7 @@ use example_schemas::{point, schema_of_kinds};
 use outer_io::{List, NoMemory};
 use plain_cube::PlainCube;
 use probe_core::Steps;
-use query_syntax::{Choice, Query, Rect, RowOut, Span, Table, ValueSet, Verb, is_valid_query};
+use query_syntax::{Choice, Query, Rect, RowOut, Span, ValueSet, Verb, is_valid_query};
 use std::alloc::Global;
 use std::marker::Brand;
 use std::process::Abort;
@@ -131,14 +131,6 @@ fn in_bins(from: u64, to: u64, rect: Rect, total: u64) -> Case {
     }
 }
 
-/// Whether the table is of this one row.
-fn has_total(table: &Table, total: u64) -> bool {
-    match table.rows.as_slice() {
-        [RowOut::One(got)] => *got == total,
-        _ => false,
-    }
-}
-
 fn check_in<L: Ledger>(
     rt: &impl Abort,
     alloc: Global,
@@ -154,7 +146,8 @@ fn check_in<L: Ledger>(
         assert!(rt; is_valid_query(cube.schema(), &query));
         let table = window_answer(alloc, cube, &query, &mut steps)?;
         assert_eq!(rt; table.seen, cube.seen());
-        assert!(rt; has_total(&table, case.total), "of {:?}", case.rect);
+        let one_row = matches!(table.rows.as_slice(), [RowOut::One(total)] if *total == case.total);
+        assert!(rt; one_row, "of {:?}", case.rect);
     }
     Ok(())
 }

@@ -10,7 +10,7 @@ ghost use Rattle.query_syntax.specs.Verbs.{is_window};
 ghost use Rattle.query_syntax.specs.Windows.{window_total as window_total_of};
 ghost use Rattle.query_walk.specs.Walks.{HasBox};
 ghost use Rattle.window_cover.specs.Costs.{tile_cost, window_cost};
-ghost use Rattle.window_cover.specs.Ways.{inside_cost, is_asked_in, is_window_in};
+ghost use Rattle.window_cover.specs.Ways.{HasComeTo, inside_cost, is_asked_in, is_window_in};
 ghost use Rattle.window_cover.specs.Windows.{rect_of_verb};
 
 use crate::rect::{crosses, has_tile};
@@ -30,11 +30,8 @@ fn total_in_tile<V: CubeView, L: Ledger>(
     cursor: V::Cursor,
     steps: &mut Steps<L>,
 ) -> u64
-    requires has_box { HasBox (V.schema view.now) query.now }
-    requires tile { IsTrue (is_tile (V.schema view.now).depth tile.now) }
     requires stands { V.stands view.now cursor }
-    requires place { V.address view.now cursor ≡ region_address tile.now }
-    requires found { EachCounted (V.weight_at view.now) (V.seen view.now) (λ h. IsTrue (is_found (V.schema view.now) h tile.now)) }
+    requires walk { HasComeTo (V.weight_at view.now) (V.seen view.now) (V.schema view.now) query.now (V.address view.now cursor) tile.now }
     ensures total { EachCounted (V.weight_at view.now) (V.seen view.now) (λ h. result ≡ amount (is_asked_in (V.schema view.now).depth query.now tile.now) h) }
     ensures cost { EachCounted (V.weight_at view.now) (V.seen view.now) (λ h. steps.new ≤ steps.old + tile_cost (V.costs view.now) (V.schema view.now) h query.now tile.now) }
 {
@@ -53,11 +50,8 @@ fn total_inside<V: CubeView, L: Ledger>(
     cursor: V::Cursor,
     steps: &mut Steps<L>,
 ) -> u64
-    requires has_box { HasBox (V.schema view.now) query.now }
-    requires tile { IsTrue (is_tile (V.schema view.now).depth tile.now) }
     requires stands { V.stands view.now cursor }
-    requires place { V.address view.now cursor ≡ region_address tile.now }
-    requires found { EachCounted (V.weight_at view.now) (V.seen view.now) (λ h. IsTrue (is_found (V.schema view.now) h tile.now)) }
+    requires walk { HasComeTo (V.weight_at view.now) (V.seen view.now) (V.schema view.now) query.now (V.address view.now cursor) tile.now }
     ensures total { EachCounted (V.weight_at view.now) (V.seen view.now) (λ h. result ≡ amount (is_window_in (V.schema view.now).depth query.now rect.now tile.now) h) }
     ensures cost { EachCounted (V.weight_at view.now) (V.seen view.now) (λ h. steps.new ≤ steps.old + inside_cost (V.costs view.now) (V.schema view.now) h query.now rect.now tile.now) }
 {

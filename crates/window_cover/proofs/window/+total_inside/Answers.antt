@@ -2,7 +2,6 @@ use Rattle.std.proofs.Common.{◌+◌, ◌<◌, ◌^◌, ◌∙◌, ap, arith, s
 use Rattle.std.specs.Coded.{le_prop}
 use Rattle.std.proofs.Math.Logic.{∥∥₁_elim}
 use Rattle.cube_view.proofs.Weighing.{IsBag-small}
-use Rattle.cube_view.specs.Costs.{is_found}
 use Rattle.cube_view.specs.declared.address.Tile.{Tile}
 use Rattle.query_walk.proofs.Sets.{sum_fits}
 use Rattle.window_cover.proofs.Sharing as sharing
@@ -34,11 +33,11 @@ loop-label-init g t c = record {
   cost = λ h counts. omega arith;
 }
 
-pub total_inside-sum-requires-clause-found : goal.total_inside-sum-requires-clause-found
-total_inside-sum-requires-clause-found g t c κs within h counts =
+pub total_inside-sum-requires-clause-walk : goal.total_inside-sum-requires-clause-walk
+total_inside-sum-requires-clause-walk g t c κs within =
     let z = g.V.CubeView.schema c.args.view.now in
     let deep = deep_in z _ c.args.tile.now c.schema.ensures (c.crosses.ensures.quadrants c.if-not-crosses.false) in
-    ap (λ (u : Tile). is_found z h u) c.quadrant-below.ensures.quadrant ∙ sharing.found_quadrant (g.V.CubeView.costs c.args.view.now) z h c.args.query.now c.args.rect.now c.args.tile.now c.loop-label.label _ deep c.requires.place (c.in-Some.ensures.found h counts)
+    sharing.comes_to_quadrant _ _ z c.args.query.now c.args.tile.now c.quadrant-below.result c.loop-label.label _ _ deep c.requires.walk c.quadrant-below.ensures.quadrant c.quadrant-below.ensures.within c.in-Some.ensures.place.1 c.in-Some.ensures.found
 
 pub overflow_add-sum : goal.overflow_add-sum
 overflow_add-sum g t c =
@@ -59,16 +58,16 @@ loop-label-preserved g t c =
     record {
       total = λ h counts. elim c.match-down.branch [
         | in-Some w ↦ w.sum-is ∙ sharing.gone_through z q r c.args.tile.now h c.loop-label.label c.loop-label.sum w.total_inside-sum.result _ deep c.loop-label-test.true w.quadrant-below.ensures.quadrant (c.loop-label.invariant.total h counts) (w.total_inside-sum.ensures.total h counts)
-        | in_default w ↦ w.sum-is ∙ sharing.passed_over z q r c.args.tile.now h c.loop-label.label c.loop-label.sum _ deep c.loop-label-test.true c.requires.place (w.in_default.ensures.found h counts) (c.loop-label.invariant.total h counts)
+        | in_default w ↦ w.sum-is ∙ sharing.passed_over z q r c.args.tile.now h c.loop-label.label c.loop-label.sum _ deep c.loop-label-test.true c.requires.walk.place (w.in_default.ensures.found h counts) (c.loop-label.invariant.total h counts)
       ];
       cost = λ h counts. elim c.match-down.branch [
         | in-Some w ↦
             (let inner = ap (λ (u : Tile). inside_cost costs z h q r u) w.quadrant-below.ensures.quadrant in
             let deeper = w.total_inside-sum.ensures.cost h counts in
-            let paid = sharing.paid_more costs z h q r c.args.tile.now c.loop-label.label _ c.args.steps.now c.loop-label.steps c.down.new.steps w.total_inside-sum.new.steps c.requires.place (c.loop-label.invariant.cost h counts) c.down.ensures.cost (omega (arith, inner, deeper)) in
+            let paid = sharing.paid_more costs z h q r c.args.tile.now c.loop-label.label _ c.args.steps.now c.loop-label.steps c.down.new.steps w.total_inside-sum.new.steps c.requires.walk.place (c.loop-label.invariant.cost h counts) c.down.ensures.cost (omega (arith, inner, deeper)) in
             omega (arith, paid, w.steps-is))
         | in_default w ↦
-            (let paid = sharing.paid_past costs z h q r c.args.tile.now c.loop-label.label _ c.args.steps.now c.loop-label.steps c.down.new.steps c.requires.place (c.loop-label.invariant.cost h counts) c.down.ensures.cost in
+            (let paid = sharing.paid_past costs z h q r c.args.tile.now c.loop-label.label _ c.args.steps.now c.loop-label.steps c.down.new.steps c.requires.walk.place (c.loop-label.invariant.cost h counts) c.down.ensures.cost in
             omega (arith, paid, w.steps-is))
       ];
     }
@@ -83,4 +82,4 @@ returns-clause-cost g t c h counts =
     let out = tells_inside z _ c.args.rect.now c.args.tile.now _ _ c.schema.ensures c.has_tile.ensures c.if-has_tile.false in
     let crossed = tells_crossed z _ c.args.rect.now c.args.tile.now _ _ c.schema.ensures c.crosses.ensures.crossed c.if-not-crosses.false in
     let deep = deep_in z _ c.args.tile.now c.schema.ensures (c.crosses.ensures.quadrants c.if-not-crosses.false) in
-    sharing.crossed_paid (g.V.CubeView.costs c.args.view.now) z h c.args.query.now c.args.rect.now c.args.tile.now c.loop-label.label c.args.steps.now c.loop-label.steps deep out crossed (c.requires.found h counts) c.loop-label-test.false c.loop-label.auto.label-end (c.loop-label.invariant.cost h counts)
+    sharing.crossed_paid (g.V.CubeView.costs c.args.view.now) z h c.args.query.now c.args.rect.now c.args.tile.now c.loop-label.label c.args.steps.now c.loop-label.steps deep out crossed (c.requires.walk.found h counts) c.loop-label-test.false c.loop-label.auto.label-end (c.loop-label.invariant.cost h counts)

@@ -1,16 +1,15 @@
 use Rattle.std.proofs.Common.{◌∙◌, ap, sym}
 use Rattle.query_syntax.specs.Windows.{window_total}
 use Rattle.query_syntax.specs.declared.query.Verb.{Verb}
-use Rattle.query_walk.proofs.Boxed.{valid_has_box}
-use Rattle.window_cover.proofs.Sharing.{no_window, rect_range, window_is, window_paid}
+use Rattle.window_cover.proofs.Sharing.{comes_to_whole, no_window, rect_range, window_is, window_paid}
 use Rattle.window_cover.specs.Windows.{rect_of_verb}
 use Rattle.window_cover.proofs.window.window_total.Goals as goal
 
 pub returns-then-seen-eq0-clause-total : goal.returns-then-seen-eq0-clause-total
 returns-then-seen-eq0-clause-total g c h counts = no_window c.args.query.now (rect_of_verb c.args.query.now.verb) h c.seen.result (c.seen.ensures ∙ counts.number) c.if-seen-eq0.true
 
-pub total_inside-requires-clause-has_box : goal.total_inside-requires-clause-has_box
-total_inside-requires-clause-has_box g c κs within = valid_has_box (g.V.CubeView.schema c.args.view.now) c.args.query.now c.requires.valid
+pub total_inside-requires-clause-walk : goal.total_inside-requires-clause-walk
+total_inside-requires-clause-walk g c κs within = comes_to_whole _ _ (g.V.CubeView.schema c.args.view.now) c.args.query.now _ c.requires.valid c.top.ensures.place
 
 pub returns-clause-total : goal.returns-clause-total
 returns-clause-total g c h counts =
