@@ -2,8 +2,9 @@
 //!
 //! [`answer`] gives the rows that `query_syntax` defines over any list of points that the view counts. It reads the
 //! view by cursors alone: each row is a walk of `query_walk`, and the tiles of a map are come to from the region down,
-//! through those that have a spot. [`value_total`] is a row of a histogram alone, for other tables. How a line is read and how a table is written is left to `query_syntax` and
-//! `reply_json`, the tables of the other verbs to `window_cover` and `cross_table`.
+//! through those that have a spot. [`value_total`] gives one row of a histogram, for the tables of `cross_table`. How a line
+//! is read and how a table is written is left to `query_syntax` and `reply_json`, the tables of the other verbs to
+//! `window_cover` and `cross_table`.
 //!
 //! ```text
 //! answer(alloc, &view, &query, &mut steps)?     // of `map 1`: a row for each tile of level 1 that weighs something
