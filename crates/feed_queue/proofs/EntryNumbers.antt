@@ -120,7 +120,8 @@ taken_small (suc n) (v ∷ values) all =
 -- What a valid entry has
 
 module _ (schema : Schema) (e : Entry) (is : IsEntryOf schema e) where
-  parts : (IsTrue (leb 1 e.feeder && leb e.feeder 8)) × (IsTrue (valid schema e.point))
+  -- its feeder is 1 to 8, and its point is valid
+  pub parts : (IsTrue (leb 1 e.feeder && leb e.feeder 8)) × (IsTrue (valid schema e.point))
   parts = and_parts (leb 1 e.feeder && leb e.feeder 8) (valid schema e.point) is.1
 
   point_parts : (IsTrue (sound schema e.point)) × (IsTrue (weight_is_told schema.weight e.point.weight))

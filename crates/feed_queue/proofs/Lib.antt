@@ -1,7 +1,7 @@
 mod ByteByByte
 mod Drawing
 pub mod EndCounts
-mod EntryNumbers
+pub mod EntryNumbers
 pub mod InTurn
 pub mod ItemOrder
 mod Joining

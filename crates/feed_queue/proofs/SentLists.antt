@@ -1,6 +1,6 @@
 -- Ends that stand in a list of something, before and after they have sent all their points.
-use Rattle.std.proofs.Common.{◌≡◌, ℕ, zero, suc, ◌+◌, ◌-◌, ◌^◌, ◌<◌, false, IsTrue, List, [], ◌∷◌, ◌++◌, All, length, length-append, map, get_or, refl, sym, ap, ◌∙◌, subst, arith, add-one}
-use Rattle.std.proofs.lemmas.List.{length-map, get_or-map, map-append}
+use Rattle.std.proofs.Common.{◌≡◌, ℕ, zero, suc, ◌+◌, ◌-◌, ◌^◌, ◌<◌, false, IsTrue, List, [], ◌∷◌, ◌++◌, All, length, length-append, map, get_or, refl, sym, ap, ◌∙◌, subst, arith}
+use Rattle.std.proofs.lemmas.List.{length-map, get_or-map}
 use Rattle.std.proofs.lemmas.List.Elements.{All-append, All-cons, All-map}
 use Rattle.atomic_table.specs.Seated.{TableId}
 use Rattle.cube_view.specs.Points.{Point}

@@ -1,3 +1,4 @@
+pub mod Carrying
 pub mod Ends
 pub mod Items
 pub mod Journal

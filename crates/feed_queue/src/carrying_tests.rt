@@ -1,9 +1,9 @@
 //! Lanes whose ends run in threads: what is kept of the draws is an interleaving of what was to be sent, proved from the
 //! contracts of the ends alone.
-ghost use Rattle.std.specs.Prelude.{◌≡◌, ◌≤◌, ◌<◌, ◌-◌, ◌^◌, ℕ, [], true, length, map, All, IfOk, IsTrue, slice_index_or, vec_len};
+ghost use Rattle.std.specs.Prelude.{◌≡◌, ◌≤◌, [], true, length, map, All, IfOk, IsTrue};
 ghost use Rattle.cube_view.specs.Validity.{valid};
-ghost use Rattle.feed_queue.specs.Ends.{MaySendAll, having_sent_all, IsDrawn};
-ghost use Rattle.feed_queue.specs.Items.{count_ends, entries_in};
+ghost use Rattle.feed_queue.specs.Carrying.{MayBeFed, HaveSent, HasDrained};
+ghost use Rattle.feed_queue.specs.Ends.{MaySendAll, having_sent_all};
 ghost use Rattle.world_core.specs.Interleaving.{IsInterleaving, list_of};
 
 use crate::{DrawEnd, Ended, FeedEnd, Item, open_lane};
@@ -45,8 +45,7 @@ fn send_all<R: Wait>(rt: &R, end: &mut FeedEnd, points: &[Point])
 /// Each feeder sends its points in a thread of its own.
 fn send_each<R: Threads + Wait + Sync>(rt: &R, seats: &mut [Seat])
     requires { All (λ s. MaySendAll s.end s.points) seats.old }
-    ensures each { (i : ℕ) (d : _) → i < length seats.old → (slice_index_or seats.new i d).end ≡ having_sent_all (slice_index_or seats.old i d).end (slice_index_or seats.old i d).points }
-    ensures size { length seats.new ≡ length seats.old }
+    ensures { HaveSent (λ s. s.end) (λ s. s.points) seats.old seats.new }
 {
     for_each_mut(
         rt,
@@ -68,9 +67,7 @@ fn drain<R: Wait + Abort>(
 ) -> (DrawEnd, List<Entry>)
     requires empty { kept ≡ [] }
     requires fresh { (end.drawn ≡ []) × (end.feeders ≡ feeders) }
-    ensures same { (result.0.lane ≡ end.lane) × (result.0.feeders ≡ end.feeders) }
-    ensures ended { IsDrawn result.0 × (count_ends result.0.drawn ≡ end.feeders) }
-    ensures kept { result.1 ≡ entries_in result.0.drawn }
+    ensures { HasDrained end result.0 result.1 }
 {
     let mut ended = 0u8;
     for _ in rt.forever() {
@@ -126,9 +123,7 @@ fn carry<R: Threads + Wait + Abort + Sync>(
     feeds: List<List<Point>>,
 ) -> Result<List<Entry>, NoMemory>
     requires room { (1 ≤ room) × (room ≤ 65536) }
-    requires feeds { (1 ≤ length feeds) × (length feeds ≤ 8) }
-    requires few { All (λ points. length points < 2 ^ 32 - 1) feeds }
-    requires valid { All (All (λ p. IsTrue (valid schema.now p))) feeds }
+    requires feeds { MayBeFed schema.now feeds }
     ensures { IfOk result (λ entries. IsInterleaving (length feeds) (list_of feeds) entries) }
 {
     let feeders = feeds.len() as u8;
@@ -139,8 +134,7 @@ fn carry<R: Threads + Wait + Abort + Sync>(
         rt,
         move || -> Vec<Seat>
             requires { All (λ s. MaySendAll s.end s.points) seats.items }
-            ensures each { (i : ℕ) (d : _) → i < length seats.items → (slice_index_or result.items i d).end ≡ having_sent_all (slice_index_or seats.items i d).end (slice_index_or seats.items i d).points }
-            ensures size { length result.items ≡ length seats.items }
+            ensures { HaveSent (λ s. s.end) (λ s. s.points) seats.items result.items }
         {
             let mut seats = seats;
             send_each(rt, seats.as_mut_slice());
@@ -148,9 +142,7 @@ fn carry<R: Threads + Wait + Abort + Sync>(
         },
         move || -> (DrawEnd, List<Entry>)
             requires { (kept ≡ []) × (draws.drawn ≡ []) × (draws.feeders ≡ feeders) }
-            ensures same { (result.0.lane ≡ draws.lane) × (result.0.feeders ≡ draws.feeders) }
-            ensures ended { IsDrawn result.0 × (count_ends result.0.drawn ≡ draws.feeders) }
-            ensures kept { result.1 ≡ entries_in result.0.drawn }
+            ensures { HasDrained draws result.0 result.1 }
         { drain(rt, draws, feeders, kept) },
     );
     let ended = finish_each(alloc, seats)?;

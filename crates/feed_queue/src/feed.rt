@@ -70,50 +70,34 @@ impl FeedEnd {
         requires { self.ended ≡ true }
         ensures { result ≡ self }
     {
-        let FeedEnd {
-            line: _,
-            pass,
-            feeder,
-            sent,
-        } = self;
-        Ended { pass, feeder, sent }
+        Ended { end: self }
     }
 }
 
-/// What is left of a feeder's end that has finished.
+/// A feeder's end that has finished: it sends nothing more. Contracts see what they see of the end.
 #[derive(Drop)]
 pub struct Ended {
-    pass: LanePass,
-    feeder: u8,
-    sent: u32,
+    end: FeedEnd,
 }
 
 impl Model for Ended {
-    ghost use Rattle.std.specs.Prelude.{◌≡◌, [], true, length};
+    ghost use Rattle.std.specs.Prelude.{◌≡◌, true};
     ghost use Rattle.feed_queue.specs.Ends.{FeedState};
-    ghost use Rattle.feed_queue.specs.Passes.{feed_end_of, KnowsFeed};
 
     ghost Value = { FeedState };
 
-    ghost view = { λ e. feed_end_of e.pass e.feeder };
+    ghost view = { λ e. e.end };
 
-    /// No slot is out with the pass, which is of this feeder and has sent its End, and the count is that of the points sent.
-    ghost invariant = { λ e. (e.pass.me.1 ≡ []) × KnowsFeed e.pass (feed_end_of e.pass e.feeder) × ((feed_end_of e.pass e.feeder).ended ≡ true) × (e.sent ≡ length (feed_end_of e.pass e.feeder).points) };
+    /// It has sent its End.
+    ghost invariant = { λ e. e.end.ended ≡ true };
 }
 
 impl Ended {
-    /// The feeder's number, from 1.
-    pub fn feeder(&self) -> u8
-        ensures { result ≡ self.now.feeder }
+    /// The end, to be read alone.
+    pub fn end(&self) -> &FeedEnd
+        ensures { result.now ≡ self.now }
     {
-        self.feeder
-    }
-
-    /// How many entries the feeder has sent.
-    pub fn sent(&self) -> u32
-        ensures { result ≡ length self.now.points }
-    {
-        self.sent
+        &self.end
     }
 
     /// Gives the feeder's pass back to that of the drawing end.
@@ -125,7 +109,8 @@ impl Ended {
         ensures joined { view pass.new ≡ joined_with (view pass.old) (Feeds (feeding_of self)) }
         ensures ended { self.ended ≡ true }
     {
+        let Ended { end } = self;
         // The drawing end's pass has what the feeder had sent, and the feeder's pass is spent.
-        line.absorb::<Returns>(pass, self.pass);
+        line.absorb::<Returns>(pass, end.pass);
     }
 }

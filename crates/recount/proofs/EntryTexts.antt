@@ -1,15 +1,13 @@
 -- The line of an entry has no line feed in it.
-use Rattle.std.proofs.Common.{◌≡◌, ℕ, zero, suc, ◌+◌, ◌-◌, ◌/◌, ◌%◌, ◌^◌, ◌≤◌, ◌<◌, ◌&&◌, ne_eqb, leb, ltb, IsTrue, List, [], ◌∷◌, ◌++◌, All, Option, Some, None, length, take, refl, sym, ap, ◌∙◌, subst, append_assoc, append-nil, arith}
+use Rattle.std.proofs.Common.{◌≡◌, ℕ, ◌+◌, ◌/◌, ◌%◌, ◌^◌, ◌≤◌, ◌<◌, ne_eqb, leb, IsTrue, List, [], ◌∷◌, ◌++◌, All, Option, Some, None, refl, sym, ap, ◌∙◌, subst, append_assoc, append-nil, arith}
 use Rattle.std.proofs.lemmas.Bool.{and_parts, leb-true}
-use Rattle.std.proofs.Math.Pow.{pow_mono}
 use Rattle.std.proofs.lemmas.Fmt.{decimal_by_steps}
-use Rattle.std.proofs.lemmas.List.Elements.{All-append, All-cons, All-head, All-tail}
+use Rattle.std.proofs.lemmas.List.Elements.{All-head, All-tail}
 use Rattle.std.specs.Fmt.{decimal}
-use Rattle.cube_view.specs.Points.{Point}
-use Rattle.cube_view.specs.Validity.{values_fit, tile_fits, is_weight, weight_is_told, fits, sound, valid}
+use Rattle.cube_view.specs.Validity.{weight_is_told, sound}
 use Rattle.cube_view.specs.declared.schema.Schema.{Schema}
-use Rattle.cube_view.proofs.SchemaBounds.{depth_bounds}
-use Rattle.feed_queue.specs.Journal.{number_text, told_weight, entry_numbers, entry_text, entry_line, IsEntryOf, LinesArePrefixFree}
+use Rattle.feed_queue.specs.Journal.{number_text, entry_numbers, entry_text, entry_line, IsEntryOf, LinesArePrefixFree}
+use Rattle.feed_queue.proofs.EntryNumbers.{parts, numbers_small}
 use Rattle.outer_io.specs.Pieces.{NoFeed}
 use Rattle.outer_io.proofs.Feeds.{NoFeed-append}
 use Rattle.world_core.specs.declared.entry.Entry.{Entry}
@@ -37,57 +35,18 @@ NoFeed-numbers (n ∷ []) all = NoFeed-decimal n (All-head small n [] all)
 NoFeed-numbers (n ∷ m ∷ numbers) all =
     NoFeed-append (decimal n) (32 ∷ number_text (m ∷ numbers)) (NoFeed-decimal n (All-head small n (m ∷ numbers) all)) (refl, NoFeed-numbers (m ∷ numbers) (All-tail small n (m ∷ numbers) all))
 
-told_small : (weight : Option (List ℕ)) (p : Point) → p.weight < 2 ^ 32 → All small (told_weight weight p)
-told_small None p h = λ k d less. absurd (omega arith)
-told_small (Some column) p h = All-cons small p.weight [] h (λ k d less. absurd (omega arith))
-
-taken_small : (n : ℕ) (values : List ℕ) → All (λ v. v < 256) values → All small (take n values)
-taken_small zero values all = λ k d less. absurd (omega arith)
-taken_small (suc n) [] all = λ k d less. absurd (omega arith)
-taken_small (suc n) (v ∷ values) all =
-    let first = all 0 v (omega arith) in
-    All-cons small v (take n values) (omega (arith, first)) (taken_small n values (All-tail (λ v. v < 256) v values all))
-
 module _ (schema : Schema) (e : Entry) (is : IsEntryOf schema e) where
-  parts : (IsTrue (leb 1 e.feeder && leb e.feeder 8)) × (IsTrue (valid schema e.point))
-  parts = and_parts (leb 1 e.feeder && leb e.feeder 8) (valid schema e.point) is.1
-
   -- its feeder is 1 to 8
   pub feeder_bounds : (1 ≤ e.feeder) × (e.feeder ≤ 8)
-  feeder_bounds = let both = and_parts (leb 1 e.feeder) (leb e.feeder 8) parts.0 in (leb-true 1 e.feeder both.0, leb-true e.feeder 8 both.1)
+  feeder_bounds = let both = and_parts (leb 1 e.feeder) (leb e.feeder 8) (parts schema e is).0 in (leb-true 1 e.feeder both.0, leb-true e.feeder 8 both.1)
 
   -- and its point is sound
   pub point_sound : IsTrue (sound schema e.point)
-  point_sound = (and_parts (sound schema e.point) (weight_is_told schema.weight e.point.weight) parts.1).0
-
-  spot_parts : (IsTrue (fits schema e.point.spot)) × (IsTrue (is_weight e.point.weight))
-  spot_parts = and_parts (fits schema e.point.spot) (is_weight e.point.weight) point_sound
-
-  fit_parts : (IsTrue (tile_fits schema.depth e.point.spot)) × (IsTrue (values_fit schema.categories e.point.spot.values))
-  fit_parts = and_parts (tile_fits schema.depth e.point.spot) (values_fit schema.categories e.point.spot.values) spot_parts.0
-
-  numbers_small : All small (entry_numbers schema e)
-  numbers_small =
-      let feeder = feeder_bounds.1 in
-      let tile = and_parts (ltb e.point.spot.x (2 ^ schema.depth)) (ltb e.point.spot.y (2 ^ schema.depth)) fit_parts.0 in
-      let depth = (depth_bounds schema).1 in
-      let edge : 2 ^ schema.depth ≤ 2 ^ 20 = pow_mono depth in
-      let x : e.point.spot.x < 2 ^ 32 = let h = leb-true (suc e.point.spot.x) (2 ^ schema.depth) tile.0 in omega (arith, h, edge) in
-      let y : e.point.spot.y < 2 ^ 32 = let h = leb-true (suc e.point.spot.y) (2 ^ schema.depth) tile.1 in omega (arith, h, edge) in
-      let weight : e.point.weight < 2 ^ 32 = let h = leb-true e.point.weight (2 ^ 28 - 1) (and_parts (leb 1 e.point.weight) (leb e.point.weight (2 ^ 28 - 1)) spot_parts.1).1 in omega (arith, h) in
-      let s = e.point.spot in
-      let last = s.bin ∷ told_weight schema.weight e.point in
-      let taken = take (length schema.categories) s.values in
-      All-cons small e.feeder (e.number ∷ s.x ∷ s.y ∷ (taken ++ last)) (omega (arith, feeder))
-      (All-cons small e.number (s.x ∷ s.y ∷ (taken ++ last)) is.0.number
-      (All-cons small s.x (s.y ∷ (taken ++ last)) x
-      (All-cons small s.y (taken ++ last) y
-      (All-append small taken last (taken_small (length schema.categories) s.values is.0.bytes)
-      (All-cons small s.bin (told_weight schema.weight e.point) is.0.bin (told_small schema.weight e.point weight))))))
+  point_sound = (and_parts (sound schema e.point) (weight_is_told schema.weight e.point.weight) (parts schema e is).1).0
 
   pub NoFeed-entry : NoFeed (entry_text schema e)
   unfolding entry_text
-  NoFeed-entry = NoFeed-numbers (entry_numbers schema e) numbers_small
+  NoFeed-entry = NoFeed-numbers (entry_numbers schema e) (numbers_small schema e is)
 
 module _ (schema : Schema) where
   -- a line with its line feed, and what follows

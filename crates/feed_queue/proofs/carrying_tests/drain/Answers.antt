@@ -1,4 +1,4 @@
-use Rattle.std.proofs.Common.{◌≡◌, ap, ◌∙◌, arith, rules}
+use Rattle.std.proofs.Common.{ap, ◌∙◌, arith, rules}
 use Rattle.feed_queue.specs.Ends.{DrawState}
 use Rattle.feed_queue.proofs.EndCounts.{count_ends-entry, count_ends-end}
 use Rattle.feed_queue.proofs.ItemOrder.{entries_in-entry, entries_in-end}

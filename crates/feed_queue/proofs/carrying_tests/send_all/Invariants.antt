@@ -1,4 +1,4 @@
-use Rattle.std.proofs.Common.{◌≡◌, ◌++◌, take, false}
+use Rattle.std.proofs.Common.{◌≡◌, take, false}
 use Rattle.feed_queue.specs.Ends.{feed_state}
 use Rattle.feed_queue.proofs.carrying_tests.send_all.Given as goal
 
