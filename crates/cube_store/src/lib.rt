@@ -15,8 +15,6 @@
 //! ```
 #![tactic(auto)]
 
-#[cfg(test)]
-mod agreement_tests;
 mod cube;
 mod laws;
 #[cfg(test)]

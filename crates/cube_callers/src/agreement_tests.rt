@@ -1,125 +1,85 @@
-//! Cubes and plain cubes of the same points: they answer alike at every address.
-ghost use Rattle.std.specs.Prelude.{◌≡◌, ◌<◌, ◌≤◌, IfSome};
-ghost use Rattle.cube_view.specs.Places.{time_dim};
+//! Cubes and plain cubes of the same points: they have the same labels at each tile, and count alike in it by any values.
+ghost use Rattle.std.specs.Prelude.{◌≡◌, ◌^◌, ◌<◌, ◌≤◌};
+ghost use Rattle.probe_core.specs.Blanks.{IsBlankOf};
 
-use crate::Cube;
-use cube_view::{CubeView, Grow, Point, Schema, Spot, is_sound};
+use cube_store::Cube;
+use cube_view::{CubeView, Grow, Point, Schema, Spot, Tile, is_sound};
+use example_cubes::{of_all_records, tile};
 use example_schemas::{point, schema_of_kinds, schema_of_two_categories};
 use outer_io::NoMemory;
 use plain_cube::PlainCube;
 use probe_core::Steps;
+use query_syntax::{Choice, Query, Span, ValueSet, Verb, is_valid_query};
+use query_walk::{region_cursor, total};
 use std::alloc::Global;
 use std::marker::Brand;
 use std::process::Abort;
 use std::sync::ledger::{Blank, Ledger};
 use std::test::Fail;
 
-// A way down a view: some quadrants from all of space on, and perhaps a value of each category.
-#[derive(Clone, Copy)]
-struct Way {
-    levels: u8,
-    quadrants: [u8; 3],
-    values: [Option<u8>; 4],
-}
-
-// What a view answers on a way: the next labels at the tile from three labels on, and the totals before four ends.
-#[derive(Clone, Copy, PartialEq, Eq, Debug)]
-struct Answers {
-    labels: [Option<u8>; 3],
-    totals: Option<[u64; 4]>,
-}
-
-// The way to a tile, counted from all of space on level by level, and by a value or none of each of two categories.
-fn way_of(tile: u32, choice: u32) -> Way
-    ensures { result.levels ≤ 3 }
+// The tile of that number: they are counted level by level from all of space on.
+fn tile_of(number: u32) -> Tile
+    ensures { (result.x < 2 ^ result.z) × (result.y < 2 ^ result.z) }
 {
-    let (levels, n) = match tile {
-        0 => (0, 0),
-        1..5 => (1, tile - 1),
-        5..21 => (2, tile - 5),
-        _ => (3, tile - 21),
-    };
-    Way {
-        levels,
-        quadrants: [(n % 4) as u8, (n / 4 % 4) as u8, (n / 16 % 4) as u8],
-        values: [value(choice % 3), value(choice / 3 % 3), None, None],
+    match number {
+        0 => tile(0, 0, 0),
+        1..5 => tile(1, (number - 1) % 2, (number - 1) / 2 % 2),
+        5..21 => tile(2, (number - 5) % 4, (number - 5) / 4 % 4),
+        _ => tile(3, (number - 21) % 8, (number - 21) / 8 % 8),
     }
 }
 
-fn value(choice: u32) -> Option<u8>
-    requires { choice < 3 }
+// All values for 0, else one of two values.
+fn choice_of(number: u32) -> Choice
+    requires { number < 3 }
 {
-    if choice == 2 {
-        None
+    if number == 0 {
+        Choice::All
     } else {
-        Some(choice as u8)
+        Choice::Only(ValueSet::one((number - 1) as u8))
     }
 }
 
-fn tile<V: CubeView, L: Ledger>(view: &V, way: &Way, steps: &mut Steps<L>) -> Option<V::Cursor>
-    requires { (way.now.levels ≤ 3) × (way.now.levels ≤ (V.schema view.now).depth) }
-    ensures { IfSome result (λ c. V.stands view.now c × ((V.address view.now c).dim ≡ 1) × ((V.address view.now c).level ≡ way.now.levels)) }
+// The count of the tile's records, of one of nine choices in two categories. The first three have all values of the
+// second.
+fn query_of(region: Tile, choice: u32) -> Query {
+    let mut query = of_all_records(Verb::Count, region);
+    query.sets[0] = choice_of(choice % 3);
+    query.sets[1] = choice_of(choice / 3 % 3);
+    query
+}
+
+// The next labels at the tile from three labels on, if it has quadrants and the view a spot in it.
+fn labels_at<V: CubeView, L: Ledger>(view: &V, tile: &Tile, steps: &mut Steps<L>) -> [Option<u8>; 3]
+    requires { (tile.now.x < 2 ^ tile.now.z) × (tile.now.y < 2 ^ tile.now.z) }
 {
-    let mut cursor = view.top();
-    for level in 0..way.levels {
-        cursor = view.down(cursor, way.quadrants[level as usize], steps)?;
+    if tile.z >= view.schema().depth {
+        return [None; 3];
     }
-    Some(cursor)
+    let Some(cursor) = region_cursor(view, tile, steps) else {
+        return [None; 3];
+    };
+    [
+        view.next_label(cursor, 0, steps),
+        view.next_label(cursor, 2, steps),
+        view.next_label(cursor, 3, steps),
+    ]
 }
 
-fn table<V: CubeView, L: Ledger>(
+// What the query counts in bins before the end.
+fn total_before<V: CubeView, L: Ledger>(
+    rt: &impl Abort,
     view: &V,
-    cursor: V::Cursor,
-    values: &[Option<u8>; 4],
+    query: &Query,
+    end: u64,
     steps: &mut Steps<L>,
-) -> Option<V::Cursor>
-    requires stands { V.stands view.now cursor }
-    requires space { (V.address view.now cursor).dim ≡ 1 }
-    ensures { IfSome result (λ c. V.stands view.now c × ((V.address view.now c).dim ≡ time_dim (V.schema view.now))) }
-{
-    let mut cursor = view.across(cursor, steps)?;
-    for k in 0..view.schema().categories.len() {
-        if let Some(value) = values[k] {
-            cursor = view.down(cursor, value, steps)?;
-        }
-        cursor = view.across(cursor, steps)?;
-    }
-    Some(cursor)
+) -> u64 {
+    let until = query.with_span(Span { from: 0, to: end });
+    assert!(rt; is_valid_query(view.schema(), &until));
+    total(view, &until, steps)
 }
 
-fn answers_on<V: CubeView, L: Ledger>(view: &V, way: &Way, steps: &mut Steps<L>) -> Answers
-    requires { way.now.levels ≤ 3 }
-{
-    let mut answers = Answers {
-        labels: [None; 3],
-        totals: None,
-    };
-    if way.levels > view.schema().depth {
-        return answers;
-    }
-    let Some(at_tile) = tile(view, way, steps) else {
-        return answers;
-    };
-    if way.levels < view.schema().depth {
-        answers.labels = [
-            view.next_label(at_tile, 0, steps),
-            view.next_label(at_tile, 2, steps),
-            view.next_label(at_tile, 3, steps),
-        ];
-    }
-    let Some(at_table) = table(view, at_tile, &way.values, steps) else {
-        return answers;
-    };
-    answers.totals = Some([
-        view.before(at_table, 1, steps),
-        view.before(at_table, 2, steps),
-        view.before(at_table, 3, steps),
-        view.before(at_table, 1 << 32, steps),
-    ]);
-    answers
-}
-
-// How many tiles a schema's space has up to the third level, and the choices of a value or none in its categories.
+// How many tiles a schema's space has up to the third level, and the choices of a value or all in its categories.
 #[derive(Clone, Copy)]
 struct Extent {
     tiles: u32,
@@ -130,16 +90,21 @@ fn same_at_tile<V: CubeView, W: CubeView, L: Ledger>(
     rt: &impl Abort,
     one: &V,
     other: &W,
-    tile: u32,
+    tile: &Tile,
     choices: u32,
     steps: &mut Steps<L>,
-) {
+)
+    requires { (tile.now.x < 2 ^ tile.now.z) × (tile.now.y < 2 ^ tile.now.z) }
+{
+    assert_eq!(rt; labels_at(one, tile, steps), labels_at(other, tile, steps));
     for choice in 0..choices {
-        let way = way_of(tile, choice);
-        assert_eq!(rt;
-            answers_on(one, &way, steps),
-            answers_on(other, &way, steps)
-        );
+        let query = query_of(*tile, choice);
+        for end in [1, 2, 3, 1 << 32] {
+            assert_eq!(rt;
+                total_before(rt, one, &query, end, steps),
+                total_before(rt, other, &query, end, steps)
+            );
+        }
     }
 }
 
@@ -150,8 +115,8 @@ fn same_answers<V: CubeView, W: CubeView, L: Ledger>(
     extent: Extent,
     steps: &mut Steps<L>,
 ) {
-    for tile in 0..extent.tiles {
-        same_at_tile(rt, one, other, tile, extent.choices, steps);
+    for number in 0..extent.tiles {
+        same_at_tile(rt, one, other, &tile_of(number), extent.choices, steps);
     }
 }
 
@@ -171,9 +136,7 @@ fn check_in<L: Ledger>(
     points: &[Point],
     blank: Blank,
 ) -> Result<(), NoMemory>
-    requires name { blank.name ≡ L.name }
-    requires parts { blank.parts ≡ L.parts }
-    requires some { 0 < blank.parts }
+    requires { IsBlankOf L.name L.parts blank }
 {
     let mut steps = Steps::<L>::new(blank);
     let mut cube = Cube::new(alloc, schema.copy(alloc)?)?;

@@ -1,4 +1,4 @@
-use Rattle.cube_store.proofs.agreement_tests.check.Given as goal
+use Rattle.cube_callers.proofs.agreement_tests.check.Given as goal
 
 abbrev pub ghosts-check_in : goal.ghosts-check_in
 ghosts-check_in g a = record { name = a.blank.name; parts = a.blank.parts }
