@@ -1,13 +1,11 @@
 //! Loads of files in memory.
 use crate::{ImageEnd, LoadNames, load_files};
-use cube_store::Cube;
-use cube_view::{Point, is_sound};
+use example_images::cube_of;
 use example_schemas::{point, schema_of_kinds};
 use image_cube::save_cube;
 use outer_io::{List, MemPlace, MemSink, NoMemory};
 use run_files::Stop;
 use std::alloc::Global;
-use std::process::Abort;
 use std::test::Fail;
 
 /// A plan of the schema of kinds.
@@ -27,17 +25,6 @@ const NAMES: LoadNames<'static> = LoadNames {
     image: "c.img",
     script: "q.txt",
 };
-
-/// The image of the cube of some points.
-fn image_of(rt: &impl Abort, alloc: Global, points: &[Point]) -> Result<List<u8>, Fail> {
-    let mut cube = Cube::new(alloc, schema_of_kinds(alloc)?)?;
-    for point in points {
-        assert!(rt; is_sound(&cube.schema, point));
-        assert!(rt; cube.size < 1 << 35);
-        cube.insert(*point)?;
-    }
-    Ok(save_cube(alloc, &cube)?)
-}
 
 /// Puts a file.
 fn put_file(alloc: Global, place: &mut MemPlace, name: &str, bytes: &[u8]) -> Result<(), Fail> {
@@ -67,14 +54,15 @@ fn loaded(
 }
 
 /// The image of three records.
-fn three(rt: &impl Abort, alloc: Global) -> Result<List<u8>, Fail> {
+fn three(alloc: Global) -> Result<List<u8>, Fail> {
     let points = [point(0, 0, 0, 0), point(7, 7, 1, 1), point(0, 0, 0, 1)];
-    image_of(rt, alloc, &points)
+    let cube = cube_of(alloc, schema_of_kinds(alloc)?, &points)?;
+    Ok(save_cube(alloc, &cube)?)
 }
 
 #[test]
 fn a_script_is_answered_over_an_image(rt: HostRuntime) -> Result<(), Fail> {
-    let image = three(&rt, rt.alloc())?;
+    let image = three(rt.alloc())?;
     let script = "map 1\ntold\nstat\n";
     let (end, out) = loaded(rt.alloc(), PLAN, image.as_slice(), script, &[])?;
     assert_eq!(rt; end, Ok(ImageEnd::Done));
@@ -89,7 +77,7 @@ fn an_image_that_is_refused_is_named(rt: HostRuntime) -> Result<(), Fail> {
     let (end, out) = loaded(rt.alloc(), PLAN, FEED.as_bytes(), "told\n", &[])?;
     assert_eq!(rt; end, Ok(ImageEnd::Refused));
     assert_eq!(rt; out.bytes(), b"image: NotImage\n".as_slice());
-    let image = three(&rt, rt.alloc())?;
+    let image = three(rt.alloc())?;
     let (end, out) = loaded(rt.alloc(), DEEPER, image.as_slice(), "told\n", &[])?;
     assert_eq!(rt; end, Ok(ImageEnd::Refused));
     assert_eq!(rt; out.bytes(), b"image: NotShape\n".as_slice());
