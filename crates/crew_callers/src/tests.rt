@@ -92,7 +92,7 @@ fn feed<R: Wait + Abort>(
         first: _,
         fault,
     } = done;
-    assert_eq!(rt; counted, u64::from(ended.end().sent()));
+    assert_eq!(rt; counted, u64::from(ended.sent()));
     if let Some(case) = case {
         let (one, two) = case.accepted;
         let want = if feeder == 1 { one } else { two };

@@ -130,7 +130,7 @@ fn check_source<I: Source + Drop, R: Wait + Abort>(
         fault,
     } = done;
     assert_eq!(rt;
-        (accepted, u64::from(ended.end().sent())),
+        (accepted, u64::from(ended.sent())),
         (case.points.len() as u64, case.points.len() as u64)
     );
     assert_eq!(rt;

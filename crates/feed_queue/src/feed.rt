@@ -93,11 +93,18 @@ impl Model for Ended {
 }
 
 impl Ended {
-    /// The end, to be read alone.
-    pub fn end(&self) -> &FeedEnd
-        ensures { result.now ≡ self.now }
+    /// The feeder's number, from 1.
+    pub fn feeder(&self) -> u8
+        ensures { result ≡ self.now.feeder }
     {
-        &self.end
+        self.end.feeder()
+    }
+
+    /// How many entries the feeder has sent.
+    pub fn sent(&self) -> u32
+        ensures { result ≡ length self.now.points }
+    {
+        self.end.sent()
     }
 
     /// Gives the feeder's pass back to that of the drawing end.

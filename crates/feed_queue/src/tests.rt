@@ -86,8 +86,8 @@ fn carry_one<R: Wait + Abort>(rt: &R, alloc: Global) -> Result<(), NoMemory> {
     };
     assert_eq!(rt; (one.feeder(), two.feeder()), (1, 2));
     let (one, two, draws) = send_and_draw(rt, one, two, draws, point(7, 7, 1, 1));
-    assert_eq!(rt; (one.end().feeder(), one.end().sent()), (1, 1));
-    assert_eq!(rt; (two.end().feeder(), two.end().sent()), (2, 0));
+    assert_eq!(rt; (one.feeder(), one.sent()), (1, 1));
+    assert_eq!(rt; (two.feeder(), two.sent()), (2, 0));
     let Ok(ended) = vec![in alloc; one, two] else {
         return Err(NoMemory);
     };
