@@ -36,7 +36,7 @@ use Rattle.session_core.specs.Asked.{asked}
 use Rattle.session_core.specs.Scripts.{is_script_refused}
 use Rattle.shape_test.specs.Fits.{Fits}
 use Rattle.image_run.specs.Answering.{AnswersFile, may_lack_memory}
-use Rattle.image_run.specs.Ends.{lacks, IsAcceptedImage, IsRefusedFor, IsOrLacks, GainsImageAnswers, GainsSomeImageAnswers, LoadEnds, SaysFault}
+use Rattle.image_run.specs.Ends.{lacks, IsAcceptedImage, IsRefusedFor, IsOrLacks, GainsImageAnswers, GainsSomeImageAnswers, LoadEnds, SaysFault, SaysOfLoad}
 use Rattle.image_run.specs.Faults.{HasLoadFaults}
 use Rattle.image_run.specs.Lines.{image_line}
 use Rattle.image_run.specs.Taking.{RefusesImage, TakesImage}
@@ -160,27 +160,30 @@ module _ {P O : Type 0} (p : PlaceSeen P) (s : SinkSeen O) where
       read_end stop.WriteFault ends read e = absurd (ends.1 refl)
       read_end stop.FeedRefused ends read e = absurd (ends.2 refl)
 
+      -- it ends by a stop before the script is answered
+      stopped : (out' : O) (k : Stop) → (k ≢ stop.PlanRefused) × (k ≢ stop.FeedRefused) → (n : ℕ) × (p.opened c ≡ p.opened a ++ take n (name ∷ image ∷ script ∷ [])) → SaysOfLoad p s a c out out' name image script (Some pl) (Err k)
+          → HasLoadFaults {T = ImageEnd} p s a c out out' (Err k) → (¬ Rose (p.read_faults a) (p.read_faults c) → ¬ Rose (s.faults out) (s.faults out') → (e : ImageEnd) → IsOrLacks e (Err k)) → Ends a c out out' (Err k)
+      stopped out' k other opened said faults complete = record {
+        plan = Some pl;
+        plan_is = reads.plan;
+        unplanned = λ e. cc;
+        refused_plan = λ e. absurd (other.0 (err_is k stop.PlanRefused e));
+        done = λ e. absurd (not_err Done k e);
+        refused_image = λ e. absurd (not_err Refused k e);
+        refused = λ e. absurd (other.1 (err_is k stop.FeedRefused e));
+        said = said;
+        opened = opened;
+        opened_all = λ e. absurd (not_err Done k e);
+        faults = faults;
+        complete = λ r w files is. (λ x y. complete r w Done, λ fault x. complete r w Refused);
+      }
+
       -- the image was not read
       pub ended_by_image : (k : Stop) → LeavesPlace p b c (image ∷ []) [] (Some k) → (k ≢ stop.PlanRefused) × (k ≢ stop.WriteFault) × (k ≢ stop.FeedRefused) → Ends a c out mid (Err k)
       ended_by_image k more ends =
           let all : LeavesPlace p a c (name ∷ image ∷ script ∷ []) [] (Some k) = leaves_more p a c Two (script ∷ []) [] k (whole (Some k) more) in
-          record {
-            plan = Some pl;
-            plan_is = reads.plan;
-            unplanned = λ e. cc;
-            refused_plan = λ e. absurd (ends.0 (err_is k stop.PlanRefused e));
-            done = λ e. absurd (not_err Done k e);
-            refused_image = λ e. absurd (not_err Refused k e);
-            refused = λ e. absurd (ends.2 (err_is k stop.FeedRefused e));
-            said = inl quiet;
-            opened = opened_front p a c (name ∷ image ∷ script ∷ []) (Some k) all;
-            opened_all = λ e. absurd (not_err Done k e);
-            faults = faults_ended a c out mid (name ∷ image ∷ script ∷ []) k all (λ e. absurd (ends.1 e)) (λ w m l. quiet.faults) quiet.name;
-            complete = λ r w files is. (
-              λ x y. read_end k ends (λ e. r (all.read (ap (λ l. Some l) e))) Done,
-              λ fault x. read_end k ends (λ e. r (all.read (ap (λ l. Some l) e))) Refused,
-            );
-          }
+          stopped mid k (ends.0, ends.2) (opened_front p a c (name ∷ image ∷ script ∷ []) (Some k) all) (inl quiet)
+          (faults_ended a c out mid (name ∷ image ∷ script ∷ []) k all (λ e. absurd (ends.1 e)) (λ w m l. quiet.faults) quiet.name) (λ r w. read_end k ends (λ e. r (all.read (ap (λ l. Some l) e))))
 
       -- the image was read
       module _ (bytes : List ℕ) (more : LeavesPlace p b c (image ∷ []) [] None) (front : Told (file_of (p.files b) image) (λ all. bytes ≡ take (2 ^ 30 + 1) all)) where
@@ -236,39 +239,15 @@ module _ {P O : Type 0} (p : PlaceSeen P) (s : SinkSeen O) where
         ended_unsaid out' R =
             let F = refused_for out' (FailsToPut s mid out') (FailsToPut s out out') (fails_after s out mid out' quiet) R in
             let all : LeavesPlace p a c (name ∷ image ∷ script ∷ []) [] (Some stop.WriteFault) = leaves_more p a c Two (script ∷ []) [] stop.WriteFault (leaves_ended p a c Two (Some stop.WriteFault) (λ e. cc) both) in
-            record {
-              plan = Some pl;
-              plan_is = reads.plan;
-              unplanned = λ e. cc;
-              refused_plan = λ e. cc;
-              done = λ e. cc;
-              refused_image = λ e. cc;
-              refused = λ e. cc;
-              said = inr (inl (record { fault = F.fault; refuses = F.refuses; says = inr F.says }));
-              opened = (2, opened_two);
-              opened_all = λ e. cc;
-              faults = faults_ended a c out out' (name ∷ image ∷ script ∷ []) stop.WriteFault all (λ e. F.says.faults) (λ x m l. absurd (x refl)) F.says.name;
-              complete = λ r w files is. (λ x y. absurd (w F.says.faults), λ fault x. absurd (w F.says.faults));
-            }
+            stopped out' stop.WriteFault ((λ e. cc), (λ e. cc)) (2, opened_two) (inr (inl (record { fault = F.fault; refuses = F.refuses; says = inr F.says })))
+            (faults_ended a c out out' (name ∷ image ∷ script ∷ []) stop.WriteFault all (λ e. F.says.faults) (λ x m l. absurd (x refl)) F.says.name) (λ r w e. absurd (w F.says.faults))
 
         pub ended_lacking : (out' : O) → Silent s mid out' → Ends a c out out' (Err stop.NoMemory)
         ended_lacking out' silent =
             let all : LeavesPlace p a c (name ∷ image ∷ script ∷ []) [] (Some stop.NoMemory) = leaves_more p a c Two (script ∷ []) [] stop.NoMemory (leaves_ended p a c Two (Some stop.NoMemory) (λ e. cc) both) in
             let still = silent_after s out mid out' quiet silent in
-            record {
-              plan = Some pl;
-              plan_is = reads.plan;
-              unplanned = λ e. cc;
-              refused_plan = λ e. cc;
-              done = λ e. cc;
-              refused_image = λ e. cc;
-              refused = λ e. cc;
-              said = inl still;
-              opened = (2, opened_two);
-              opened_all = λ e. cc;
-              faults = faults_ended a c out out' (name ∷ image ∷ script ∷ []) stop.NoMemory all (λ e. cc) (λ x m l. absurd (m refl)) still.name;
-              complete = λ r w files is. (λ x y. inr refl, λ fault x. inr refl);
-            }
+            stopped out' stop.NoMemory ((λ e. cc), (λ e. cc)) (2, opened_two) (inl still)
+            (faults_ended a c out out' (name ∷ image ∷ script ∷ []) stop.NoMemory all (λ e. cc) (λ x m l. absurd (m refl)) still.name) (λ r w e. inr refl)
 
         -- by how taking it ended
         pub ended_taking : (out' : O) (k : Stop) → TakesImage s mid out' pl.schema bytes (Err k) → Ends a c out out' (Err k)

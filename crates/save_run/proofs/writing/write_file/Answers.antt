@@ -20,7 +20,7 @@ returns g c =
     let put = c.put-put.result in
     let kept = c.give_back_out-kept.result in
     subst (λ (r : Result (Unit {0}) Stop). WritesFile p c.args.place.now c.give_back_out-kept.new.self c.args.name.now c.args.bytes.now r)
-    (sym (c.joined_ends.ensures ∙ ap₂ joined_ends c.io_end.ensures c.io_end-2.ensures))
+    (sym (c.joined_ends.ensures ∙ ap₂ joined_ends c.write_end.ensures c.write_end-2.ensures))
     (written p s c.args.place.now c.create_file.new.place c.give_back_out-kept.new.self c.args.name.now c.args.bytes.now c.in_ok-sink.sink c.put-put.new.self c.in_ok-sink.ensures.opens c.in_ok-sink.ensures.output put kept
     (record { gains = c.put-put.ensures.put; cause = c.put-put.ensures.cause; kept_name = c.put-put.ensures.name })
     (record { holds = c.give_back_out-kept.ensures.holds; others = c.give_back_out-kept.ensures.others; counts = c.give_back_out-kept.ensures.counts; created = c.give_back_out-kept.ensures.created; reading = c.give_back_out-kept.ensures.reading }))
