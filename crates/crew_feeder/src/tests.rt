@@ -1,14 +1,15 @@
 //! Feeds that are read on one thread, and then drawn there.
-ghost use Rattle.std.specs.Prelude.{◌≡◌, [], false, IfOk, None};
+ghost use Rattle.std.specs.Prelude.{◌≡◌, [], false, IfOk};
 ghost use Rattle.feed_queue.specs.Ends.{feed_state};
 ghost use Rattle.outer_io.specs.Progress.{IsGoing};
 
 use crate::{FeedDone, FeedJob, FeedWork, FirstRefusals, Refusal};
 use cube_view::{Point, Schema};
 use example_schemas::{point, schema_of_kinds};
+use feed_maker::Endless;
 use feed_queue::{DrawEnd, FeedEnd, Item, open_lane};
 use feed_reader::{Column, RowFault, read_header};
-use outer_io::{CutFault, Failed, LineCutter, List, MemSource, NoMemory, Source, StillSource};
+use outer_io::{CutFault, LineCutter, List, MemSource, NoMemory, Source, StillSource};
 use std::alloc::Global;
 use std::process::Abort;
 use std::sync::Wait;
@@ -39,27 +40,6 @@ fn refused_case<'a>(feed: &'a [u8], blank: u64, refused: u64, first: &'a [Refusa
         refused,
         first,
         fault: None,
-    }
-}
-
-/// Some bytes, and then the byte `x` without end.
-#[derive(Drop)]
-struct Endless {
-    first: StillSource,
-}
-
-impl Source for Endless {
-    ghost left = { λ _. None };
-
-    ghost faults = { λ _. 0 };
-
-    fn read(&mut self, buf: &mut [u8]) -> Result<usize, Failed> {
-        let n = self.first.read(buf)?;
-        if n > 0 {
-            return Ok(n);
-        }
-        buf.fill(b'x');
-        Ok(buf.len())
     }
 }
 
@@ -228,9 +208,7 @@ fn a_line_of_4097_bytes_is_refused(rt: HostRuntime) -> Result<(), Fail> {
 #[test]
 fn a_line_without_end_is_too_much(rt: HostRuntime) -> Result<(), Fail> {
     let header = b"x,y,kind,time\n".to_vec(rt.alloc())?;
-    let source = Endless {
-        first: StillSource::new(List::from_vec(header), 7),
-    };
+    let source = Endless::new(StillSource::new(List::from_vec(header), 7), b'x');
     let case = Case {
         fault: Some(CutFault::TooMuch),
         ..refused_case(b"", 0, 0, &[])

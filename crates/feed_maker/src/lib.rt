@@ -1,5 +1,6 @@
 //! A feed that is made from two numbers, so that a run over it can be repeated by anybody. [`GenSource`] is a source of
-//! its bytes, which are the definition `generated_feed` of `specs/GeneratedFeed.antt`.
+//! its bytes, which are the definition `generated_feed` of `specs/GeneratedFeed.antt`. [`Endless`] is a source without
+//! end, for tests of what is too much.
 //!
 //! It stands on `outer_io`, which says what a source is. What its rows mean under a plan is left to whoever reads them.
 //!
@@ -11,6 +12,7 @@
 //! ```
 #![tactic(auto)]
 
+mod endless;
 mod line;
 mod rest;
 mod rows;
@@ -18,4 +20,5 @@ mod source;
 #[cfg(test)]
 mod tests;
 
+pub use endless::Endless;
 pub use source::GenSource;
