@@ -1,14 +1,14 @@
 -- A reply that was put, or a part of it, is the next one of the session.
-use Rattle.std.proofs.Common.{◌≡◌, ℕ, ◌+◌, ◌≤◌, Bool, true, false, ◌||◌, if◌then◌else◌, List, [], ◌∷◌, ◌++◌, length, Option, Some, None, inl, inr, refl, sym, ap, ◌∙◌, subst, arith, append-nil, Result, Ok, Err, IfOk}
+use Rattle.std.proofs.Common.{◌≡◌, ℕ, ◌≤◌, Bool, true, false, ◌||◌, if◌then◌else◌, List, [], ◌∷◌, ◌++◌, length, Option, Some, None, inl, inr, refl, sym, ap, ◌∙◌, subst, arith, append-nil, Result, Ok, Err, IfOk}
 use Rattle.std.proofs.Math.Bool.{or-true}
 use Rattle.cube_view.specs.Points.{Point}
 use Rattle.cube_view.specs.declared.schema.Schema.{Schema}
 use Rattle.cube_view.specs.declared.stat.Stat.{Stat}
-use Rattle.live_session.specs.Answered.{Answered, IsAnswer, IsBroken}
+use Rattle.live_session.specs.Answered.{Answered, IsAnswer, IsBroken, PutsLine}
 use Rattle.live_session.specs.News.{seen_asked}
 use Rattle.live_session.specs.Saying.{Says}
 use Rattle.live_session.specs.State.{SessionState}
-use Rattle.live_session.specs.Turned.{AreNext, is_lack, listed, seens_of}
+use Rattle.live_session.specs.Turned.{AreNext, HasPut, is_lack, listed, seens_of}
 use Rattle.live_session.specs.declared.turn.Turn.{Turn}
 use Rattle.live_session.specs.declared.turn.Turn.TheVariants as turn
 use Rattle.outer_io.specs.Bytes.{Gains, GainsPart}
@@ -80,6 +80,16 @@ pub or-false : (b : Bool) → b || false ≡ b
 or-false true = refl
 or-false false = refl
 
+-- nothing was put
+pub put_none : {I O : Type 0} (held : O → Option (List ℕ)) (before after : SessionState I O) → after.sink ≡ before.sink → after.replies ≡ before.replies → after.seens ≡ before.seens → after.lacked ≡ before.lacked → HasPut held before after []
+put_none {O = O} held before after sink replies seens lacked =
+    record {
+      gained = subst (λ (o : O). Gains (held before.sink) (held o) []) (sym sink) (gains_none (held before.sink));
+      counted = omega (arith, replies);
+      noted = seens ∙ sym (append-nil before.seens);
+      lacks = lacked ∙ sym (or-false before.lacked);
+    }
+
 -- where the number is printed, a look was asked for
 seen_looks : (n m : ℕ) (b : Bool) → (if b then Some n else None) ≡ Some m → b ≡ true
 seen_looks n m true e = refl
@@ -106,10 +116,7 @@ module _ {I O : Type 0} (held : O → Option (List ℕ)) (schema : Schema) (is_s
       record {
         replies = [];
         next = next_none after.lacked (asked_then p []) none;
-        gained = subst (λ (o : O). Gains (held before.sink) (held o) []) (sym sink) (gains_none (held before.sink));
-        counted = omega (arith, replies);
-        noted = seens ∙ sym (append-nil before.seens);
-        lacks = lacked ∙ sym (or-false before.lacked);
+        put = put_none held before after sink replies seens lacked;
         answer = answer;
       }
 
@@ -125,22 +132,20 @@ module _ {I O : Type 0} (held : O → Option (List ℕ)) (schema : Schema) (is_s
       let quit : asks_to_end p ≡ true = subst (Says schema is_stat h v p) is says in
       answered_none turn.Ended (asked_then-end p [] quit) sink replies seens lacked (quit, refl, ended)
 
-  -- what a put tells of a line and the number noted for it
-  abbrev pub Puts : List ℕ → Option ℕ → Bool → Turn → Type 0
-  Puts line seen was t =
-      (t ≡ turn.Replied) × Gains (held before.sink) (held after.sink) line × (after.replies ≡ before.replies + 1) × (after.seens ≡ before.seens ++ listed seen) × (after.lacked ≡ was) × (after.ended ≡ false)
-
-  answered_one : (line : List ℕ) (seen : Option ℕ) (was : Bool) (reply : Reply) (t : Turn) → asks_reply p ≡ true → line ≡ reply_line reply → seen ≡ seen_of reply → was ≡ before.lacked || is_lack reply → AreNext schema is_stat l h u v after.lacked (asked_then p []) (reply ∷ []) → Puts line seen was t → Answered held schema is_stat l h u v before after p t
-  answered_one line seen was reply t asks text number wants next puts =
-      subst (Answered held schema is_stat l h u v before after p) (sym puts.0)
+  -- one line was put from a state that may differ in that want of memory is noted
+  answered_one : (was : Bool) (line : List ℕ) (seen : Option ℕ) (reply : Reply) (t : Turn) → asks_reply p ≡ true → line ≡ reply_line reply → seen ≡ seen_of reply → was ≡ before.lacked || is_lack reply → AreNext schema is_stat l h u v after.lacked (asked_then p []) (reply ∷ []) → PutsLine held (record before { lacked = was }) after line seen t → Answered held schema is_stat l h u v before after p t
+  answered_one was line seen reply t asks text number wants next puts =
+      subst (Answered held schema is_stat l h u v before after p) (sym puts.replied)
       (record {
         replies = reply ∷ [];
         next = next;
-        gained = subst (Gains (held before.sink) (held after.sink)) (text ∙ sym (one_text reply)) puts.1;
-        counted = puts.2;
-        noted = puts.3 ∙ ap (λ ns. before.seens ++ ns) (ap listed number ∙ sym (one_seen reply));
-        lacks = puts.4 ∙ wants ∙ ap (λ b. before.lacked || b) (sym (or-false (is_lack reply)));
-        answer = (reply, refl, reply-goes_on p asks, puts.5);
+        put = record {
+          gained = subst (Gains (held before.sink) (held after.sink)) (text ∙ sym (one_text reply)) puts.gained;
+          counted = puts.counted;
+          noted = puts.noted ∙ ap (λ ns. before.seens ++ ns) (ap listed number ∙ sym (one_seen reply));
+          lacks = puts.lacks ∙ wants ∙ ap (λ b. before.lacked || b) (sym (or-false (is_lack reply)));
+        };
+        answer = (reply, refl, reply-goes_on p asks, puts.going);
       })
 
   -- what is said is a reply
@@ -151,10 +156,10 @@ module _ {I O : Type 0} (held : O → Option (List ℕ)) (schema : Schema) (is_s
     comes_of : (reply : Reply) → seen_of reply ≡ seen_asked (length h) p → IsReply schema is_stat true h v p reply → MayCome (length l) u reply
     comes_of reply number r = may_come_final schema is_stat l h u v reply (prefix-longer l h front) more (λ n e. fresh (seen_looks (length h) n (asks_look p) (sym number ∙ e))) r.numbers
 
-    pub answered_reply : {E : Type 0} (r : Result Turn E) (s : Served) (bytes line : List ℕ) (seen : Option ℕ) → s ≡ served.Reply line → bytes ≡ line → seen ≡ seen_asked (length h) p → Says schema is_stat h v p s → IfOk r (Puts bytes seen before.lacked) → IfOk r (Answered held schema is_stat l h u v before after p)
+    pub answered_reply : {E : Type 0} (r : Result Turn E) (s : Served) (bytes line : List ℕ) (seen : Option ℕ) → s ≡ served.Reply line → bytes ≡ line → seen ≡ seen_asked (length h) p → Says schema is_stat h v p s → IfOk r (PutsLine held before after bytes seen) → IfOk r (Answered held schema is_stat l h u v before after p)
     answered_reply (Ok t) s bytes line seen is same shown says puts =
         let said : SaysReply line = subst (Says schema is_stat h v p) is says in
-        answered_one bytes seen before.lacked said.0 t said.4 (same ∙ said.2) (shown ∙ sym said.3) (sym (ap (λ b. before.lacked || b) (no_lack _ _ _ _ p said.0 said.1.meant) ∙ or-false before.lacked)) (next_one after.lacked said.0 said.4 (comes_of said.0 said.3 said.1) (inl said.1)) puts
+        answered_one before.lacked bytes seen said.0 t said.4 (same ∙ said.2) (shown ∙ sym said.3) (sym (ap (λ b. before.lacked || b) (no_lack _ _ _ _ p said.0 said.1.meant) ∙ or-false before.lacked)) (next_one after.lacked said.0 said.4 (comes_of said.0 said.3 said.1) (inl said.1)) puts
     answered_reply (Err e) s bytes line seen is same shown says puts = tt
 
     pub broken_reply : (s : Served) (bytes line : List ℕ) → s ≡ served.Reply line → bytes ≡ line → Says schema is_stat h v p s → GainsPart (held before.sink) (held after.sink) bytes → after.lacked ≡ before.lacked → IsBroken held schema is_stat l h u v before after p
@@ -169,9 +174,9 @@ module _ {I O : Type 0} (held : O → Option (List ℕ)) (schema : Schema) (is_s
         }
 
   -- the line for want of memory, which is noted before it is put
-  pub answered_lack : {E : Type 0} (r : Result Turn E) (bytes line : List ℕ) → bytes ≡ line → line ≡ reply_text Reply.NoMemory ++ 10 ∷ [] → asks_reply p ≡ true → IfOk r (Puts bytes None true) → IfOk r (Answered held schema is_stat l h u v before after p)
+  pub answered_lack : {E : Type 0} (r : Result Turn E) (bytes line : List ℕ) → bytes ≡ line → line ≡ reply_text Reply.NoMemory ++ 10 ∷ [] → asks_reply p ≡ true → IfOk r (PutsLine held (record before { lacked = true }) after bytes None) → IfOk r (Answered held schema is_stat l h u v before after p)
   answered_lack (Ok t) bytes line same text asks puts =
-      answered_one bytes None true Reply.NoMemory t asks (same ∙ text ∙ sym lack_line) refl (sym (or-true before.lacked)) (next_one after.lacked Reply.NoMemory asks tt (inr (puts.4, refl))) puts
+      answered_one true bytes None Reply.NoMemory t asks (same ∙ text ∙ sym lack_line) refl (sym (or-true before.lacked)) (next_one after.lacked Reply.NoMemory asks tt (inr (puts.lacks, refl))) puts
   answered_lack (Err e) bytes line same text asks puts = tt
 
   pub broken_lack : (bytes line : List ℕ) → bytes ≡ line → line ≡ reply_text Reply.NoMemory ++ 10 ∷ [] → asks_reply p ≡ true → GainsPart (held before.sink) (held after.sink) bytes → after.lacked ≡ true → IsBroken held schema is_stat l h u v before after p

@@ -1,10 +1,10 @@
 -- What a turn keeps, from what its parts do.
-use Rattle.std.proofs.Common.{◌≡◌, ◌≢◌, ℕ, ◌≤◌, Bool, true, false, ◌||◌, List, [], length, Option, Some, None, ◌⊎◌, inl, inr, refl, sym, ap, ◌∙◌, subst, arith, append-nil, Result, Ok, Err, IfOk, OnErr, IsErrOf, IfSome}
+use Rattle.std.proofs.Common.{◌≡◌, ◌≢◌, ℕ, ◌≤◌, Bool, true, ◌||◌, List, [], length, Option, Some, None, ◌⊎◌, inl, inr, refl, sym, ap, ◌∙◌, subst, arith, append-nil, Result, Ok, Err, IfOk, OnErr, IsErrOf, IfSome}
 use Rattle.cube_view.specs.Points.{Point}
 use Rattle.cube_view.specs.declared.schema.Schema.{Schema}
 use Rattle.cube_view.specs.declared.spot.Spot.{Spot}
 use Rattle.cube_view.specs.declared.stat.Stat.{Stat}
-use Rattle.live_session.specs.News.{Goes, HasNews, asks_news, news_of, takes_for}
+use Rattle.live_session.specs.News.{Goes, GoesFor, HasNews, KeepsViewer, news_of, takes_for}
 use Rattle.live_session.specs.Saying.{IsShown}
 use Rattle.live_session.specs.State.{SessionState}
 use Rattle.live_session.specs.Turned.{HasFaults, is_no_memory}
@@ -80,14 +80,22 @@ goes_on shown learned last last' shown' learned' shown'' learned'' same p q = re
   ended = ended_on shown last last' shown' shown'' same p.ended q.ended;
 }
 
+-- the same of a viewer
+pub keeps_on : {shown learned : Known} {last : Option Known} {schema : Schema} {shown' learned' : Known} {last' : Option Known} {schema' : Schema} {shown'' learned'' : Known} {last'' : Option Known} {schema'' : Schema} → KeepsViewer shown learned last schema shown' learned' last' schema' → KeepsViewer shown' learned' last' schema' shown'' learned'' last'' schema'' → KeepsViewer shown learned last schema shown'' learned'' last'' schema''
+keeps_on p q = record {
+  goes = goes_on _ _ _ _ _ _ _ _ p.same_last p.goes q.goes;
+  same_last = q.same_last ∙ p.same_last;
+  same_schema = q.same_schema ∙ p.same_schema;
+}
+
 -- what answering a line changes of what is shown and told
-pub has_news : (p : Parsed) (shown learned : Known) (last : Option Known) (mail : OutEnd) (shown' learned' : Known) (mail' : OutEnd) → Goes shown learned last shown' learned' → (asks_look p ≡ true → IsPrefix learned'.points shown'.points) → (asks_look p ≡ false → shown' ≡ shown) → (asks_news p ≡ false → learned' ≡ learned) → mail' ≡ mail_out mail.mailbox mail.pair (takes_for p mail.takes) → HasNews p (news_of shown learned mail) (news_of shown' learned' mail')
-has_news p shown learned last mail shown' learned' mail' goes look unseen unasked taken = record {
-  takes = ap (λ (m : OutEnd). m.takes) taken;
-  told = λ e. ap (λ (k : Known). k.points) (unasked e);
-  unseen = λ e. ap (λ (k : Known). k.points) (unseen e);
-  fresh = look;
-  goes_on = (goes.seen, goes.told);
+pub has_news : (p : Parsed) (shown learned : Known) (last : Option Known) (mail : OutEnd) (shown' learned' : Known) (mail' : OutEnd) → GoesFor p shown learned last mail shown' learned' mail' → HasNews p (news_of shown learned mail) (news_of shown' learned' mail')
+has_news p shown learned last mail shown' learned' mail' did = record {
+  takes = ap (λ (m : OutEnd). m.takes) did.mail.0;
+  told = λ e. ap (λ (k : Known). k.points) (did.unasked e);
+  unseen = λ e. ap (λ (k : Known). k.points) (did.unseen e);
+  fresh = λ e. (did.look e).0;
+  goes_on = (did.goes.seen, did.goes.told);
 }
 
 -- what answering a line changes where all is known already

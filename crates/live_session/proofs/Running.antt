@@ -1,20 +1,22 @@
 -- A session's turns to its end.
-use Rattle.std.proofs.Common.{◌≡◌, ◌≢◌, ℕ, ◌<◌, ◌≤◌, Bool, false, List, length, Option, Some, None, ◌⊎◌, inl, inr, refl, sym, ap, ◌∙◌, subst, arith, Result, Ok, Err, IfOk, IsErrOf, IfSome}
+use Rattle.std.proofs.Common.{◌≡◌, ◌≢◌, ℕ, ◌<◌, ◌≤◌, Bool, true, false, List, length, Option, Some, None, ◌⊎◌, inl, inr, refl, sym, ap, ◌∙◌, subst, arith, Result, Ok, Err, IfOk, IsErrOf, IfSome}
 use Rattle.cube_view.specs.declared.schema.Schema.{Schema}
 use Rattle.cube_view.specs.declared.stat.Stat.{Stat}
-use Rattle.live_session.specs.News.{News}
-use Rattle.live_session.specs.SoFar.{AnswersAll, HasAnswered, HasDone}
+use Rattle.live_session.specs.News.{KeepsViewer, News, news_of}
+use Rattle.live_session.specs.SoFar.{AnswersAll, HasAnswered, HasDone, KeepsAnswers}
 use Rattle.live_session.specs.State.{SessionState}
-use Rattle.live_session.specs.Turned.{HasFaults, Turned}
+use Rattle.live_session.specs.Turned.{HasFaults, IsTurn, Turned}
 use Rattle.live_session.specs.declared.turn.Turn.{Turn}
 use Rattle.live_session.specs.declared.turn.Turn.TheVariants as turn
-use Rattle.live_session.proofs.OneTurn.{as_fault, of_err, of_ok}
+use Rattle.live_session.proofs.OneTurn.{as_fault, keeps_on, of_err, of_ok, ok_answer}
 use Rattle.live_session.proofs.SoFarLaws.{all_at_end, all_at_too_much}
 use Rattle.mailbox.specs.Ends.{OutEnd, mail_out}
+use Rattle.outer_io.specs.Counts.{next_count}
 use Rattle.outer_io.specs.Cutting.{input_size}
 use Rattle.outer_io.specs.Lines.{input_limit}
 use Rattle.outer_io.specs.Progress.{IsTooLarge}
 use Rattle.outer_io.specs.Told.{Told}
+use Rattle.published_pair.specs.Rules.{Known}
 use Rattle.session_core.specs.declared.fault.SessionFault.{SessionFault}
 use Rattle.session_core.specs.declared.fault.SessionFault.TheVariants as fault
 
@@ -39,11 +41,11 @@ mail_same mail mail' taken (inr e) = (ap (λ (m : OutEnd). m.mailbox) e, ap (λ 
 
 module _ {I O : Type 0} (left : I → Option (List ℕ)) (faults : I → ℕ) (held : O → Option (List ℕ)) (is_stat : Stat → Type 0) (taken : ℕ) (final : Bool) (a b : News) (start before after : SessionState I O) where
   -- what a turn does under a schema that is another's
-  done_under : (z z' : Schema) (r : Result Turn SessionFault) → z ≡ z' → (HasAnswered left faults held z is_stat final taken a start before → HasDone left faults held z is_stat final taken b start after r) → HasAnswered left faults held z' is_stat final taken a start before → HasDone left faults held z' is_stat final taken b start after r
-  done_under z z' r same = subst (λ (y : Schema). HasAnswered left faults held y is_stat final taken a start before → HasDone left faults held y is_stat final taken b start after r) same
+  done_under : (z z' : Schema) (r : Result Turn SessionFault) → z ≡ z' → KeepsAnswers left faults held z is_stat final a b before after r → HasAnswered left faults held z' is_stat final taken a start before → HasDone left faults held z' is_stat final taken b start after r
+  done_under z z' r same clause = subst (λ (y : Schema). HasAnswered left faults held y is_stat final taken a start before → HasDone left faults held y is_stat final taken b start after r) same (clause start taken)
 
   -- a turn without a fault
-  pub answered_on : (z z' : Schema) (r : Result Turn SessionFault) (t : Turn) → z ≡ z' → r ≡ Ok t → (HasAnswered left faults held z is_stat final taken a start before → HasDone left faults held z is_stat final taken b start after r) → HasAnswered left faults held z' is_stat final taken a start before → HasAnswered left faults held z' is_stat final taken b start after
+  pub answered_on : (z z' : Schema) (r : Result Turn SessionFault) (t : Turn) → z ≡ z' → r ≡ Ok t → KeepsAnswers left faults held z is_stat final a b before after r → HasAnswered left faults held z' is_stat final taken a start before → HasAnswered left faults held z' is_stat final taken b start after
   answered_on z z' r t same is clause s = subst (HasDone left faults held z' is_stat final taken b start after) is (done_under z z' r same clause s)
 
   unit_done : (z : Schema) (f : SessionFault) → HasDone left faults held z is_stat final taken b start after {T = Turn} (Err f) → HasDone left faults held z is_stat final taken b start after {T = Unit {0}} (Err f)
@@ -53,7 +55,7 @@ module _ {I O : Type 0} (left : I → Option (List ℕ)) (faults : I → ℕ) (h
   unit_done z fault.Write d = d
 
   -- a turn with a fault
-  pub done_fault : (z z' : Schema) (r : Result Turn SessionFault) (f : SessionFault) → z ≡ z' → r ≡ Err f → (HasAnswered left faults held z is_stat final taken a start before → HasDone left faults held z is_stat final taken b start after r) → HasAnswered left faults held z' is_stat final taken a start before → HasDone left faults held z' is_stat final taken b start after {T = Unit {0}} (Err f)
+  pub done_fault : (z z' : Schema) (r : Result Turn SessionFault) (f : SessionFault) → z ≡ z' → r ≡ Err f → KeepsAnswers left faults held z is_stat final a b before after r → HasAnswered left faults held z' is_stat final taken a start before → HasDone left faults held z' is_stat final taken b start after {T = Unit {0}} (Err f)
   done_fault z z' r f same is clause s = unit_done z' f (subst (HasDone left faults held z' is_stat final taken b start after) is (done_under z z' r same clause s))
 
   module _ (A : Stat → Type 0) (weaker : (stat : Stat) → A stat → is_stat stat) where
@@ -81,6 +83,15 @@ module _ {I O : Type 0} (left : I → Option (List ℕ)) (faults : I → ℕ) (h
         subst (λ (y : Schema). AnswersAll left y start after) same
         (all_at_end left faults held z is_stat taken final A weaker a b start before after t end going (subst (λ (y : Schema). HasAnswered left faults held y is_stat final taken a start before) (sym same) s) (of_ok (Turned left faults held z A a b before after) r t is d))
 
+    -- and the session is at its end
+    ended_turn : (z : Schema) (t : Turn) → t ≡ turn.Ended → Turned left faults held z A a b before after t → after.ended ≡ true
+    ended_turn z t end d =
+        let answer : IsTurn left faults held z A a b before after d.lines d.replies turn.Ended = subst (IsTurn left faults held z A a b before after d.lines d.replies) end d.answer in
+        answer.0
+
+    pub has_ended : (z : Schema) (r : Result Turn SessionFault) (t : Turn) → r ≡ Ok t → t ≡ turn.Ended → IfOk r (Turned left faults held z A a b before after) → after.ended ≡ true
+    has_ended z r t is end d = ended_turn z t end (of_ok (Turned left faults held z A a b before after) r t is d)
+
   large_before : (x y : Option ℕ) → Told x (λ size. y ≡ Some size) → Told y (λ size. input_limit < size) → Told x (λ size. input_limit < size)
   large_before None y p q = tt
   large_before (Some n) y p q = subst (λ (o : Option ℕ). Told o (λ size. input_limit < size)) p q
@@ -93,3 +104,46 @@ module _ {I O : Type 0} (left : I → Option (List ℕ)) (faults : I → ℕ) (h
         all_at_too_much left faults held z' is_stat taken final is_stat (λ stat m. m) a b start before after going s much counted.1,
         large_before (input_size left start.source) (input_size left before.source) (s.goes_on going).0.size much.0,
       )
+
+-- What holds between two turns of a run, from a viewer, an end of a mailbox and a session to what they are now
+pub record BetweenTurns {I O : Type 0} (left : I → Option (List ℕ)) (faults : I → ℕ) (held : O → Option (List ℕ)) (put_faults : O → ℕ) (name_of : O → List ℕ) (is_stat : Stat → Type 0) (shown learned : Known) (last : Option Known) (schema : Schema) (mail : OutEnd) (start : SessionState I O) (shown' learned' : Known) (last' : Option Known) (schema' : Schema) (mail' : OutEnd) (now : SessionState I O) : Type 0 where
+  -- what was answered so far
+  pub so_far : HasAnswered left faults held schema is_stat false mail.takes (news_of shown' learned' mail') start now
+  -- finally, where the viewer had learned the ended list
+  pub finals : IfSome last (λ w. HasAnswered left faults held schema is_stat true mail.takes (news_of w w mail') start now)
+  -- the session goes on
+  pub going : now.ended ≡ false
+  -- viewer and mailbox are of one pair
+  pub pair : shown'.book ≡ mail'.pair
+  -- no fault came
+  pub source : faults now.source.source ≡ faults start.source.source
+  pub sink : put_faults now.sink ≡ put_faults start.sink
+  -- the viewer is the same
+  pub viewer : KeepsViewer shown learned last schema shown' learned' last' schema'
+  -- and the mailbox, and the names
+  pub mailbox : mail'.mailbox ≡ mail.mailbox
+  pub mail_pair : mail'.pair ≡ mail.pair
+  pub name : name_of now.sink ≡ name_of start.sink
+
+module _ {I O : Type 0} {left : I → Option (List ℕ)} {faults : I → ℕ} {held : O → Option (List ℕ)} {put_faults : O → ℕ} {name_of : O → List ℕ} {is_stat : Stat → Type 0} {shown learned : Known} {last : Option Known} {schema : Schema} {mail : OutEnd} {start : SessionState I O} {shown' learned' : Known} {last' : Option Known} {schema' : Schema} {mail' : OutEnd} {now : SessionState I O} where
+  -- it holds after a turn that is not the last
+  pub after_turn : (A : Stat → Type 0) (shown'' learned'' : Known) (last'' : Option Known) (schema'' : Schema) (mail'' : OutEnd) (after : SessionState I O) (r : Result Turn SessionFault) (t : Turn) → BetweenTurns left faults held put_faults name_of is_stat shown learned last schema mail start shown' learned' last' schema' mail' now → r ≡ Ok t → t ≢ turn.Ended
+      → ((stat : Stat) → A stat → is_stat stat) → IfOk r (Turned left faults held schema' A (news_of shown' learned' mail') (news_of shown'' learned'' mail'') now after) → HasFaults left faults held put_faults now after r × (name_of after.sink ≡ name_of now.sink)
+      → KeepsViewer shown' learned' last' schema' shown'' learned'' last'' schema'' → (mail'' ≡ mail') ⊎ (mail'' ≡ mail_out mail'.mailbox mail'.pair (next_count mail'.takes))
+      → KeepsAnswers left faults held schema' is_stat false (news_of shown' learned' mail') (news_of shown'' learned'' mail'') now after r
+      → IfSome last' (λ w. KeepsAnswers left faults held schema' is_stat true (news_of w w mail') (news_of w w mail'') now after r)
+      → BetweenTurns left faults held put_faults name_of is_stat shown learned last schema mail start shown'' learned'' last'' schema'' mail'' after
+  after_turn A shown'' learned'' last'' schema'' mail'' after r t was is ne weaker turned fs viewer mails so_far finals =
+      let names = mail_same mail' mail'' (next_count mail'.takes) mails in
+      record {
+        so_far = answered_on left faults held is_stat mail.takes false (news_of shown' learned' mail') (news_of shown'' learned'' mail'') start now after schema' schema r t was.viewer.same_schema is so_far was.so_far;
+        finals = some_on last last' was.viewer.same_last (λ w. answered_on left faults held is_stat mail.takes true (news_of w w mail') (news_of w w mail'') start now after schema' schema r t was.viewer.same_schema is) finals was.finals;
+        going = still_going left faults held is_stat mail.takes false (news_of shown' learned' mail') (news_of shown'' learned'' mail'') start now after A weaker schema' r t ne is turned;
+        pair = viewer.goes.pair ∙ was.pair ∙ sym names.1;
+        source = fs.0.read.quiet (ok_answer r t fault.Read is) ∙ was.source;
+        sink = fs.0.write.quiet (ok_answer r t fault.Write is) ∙ was.sink;
+        viewer = keeps_on was.viewer viewer;
+        mailbox = names.0 ∙ was.mailbox;
+        mail_pair = names.1 ∙ was.mail_pair;
+        name = fs.1 ∙ was.name;
+      }

@@ -187,7 +187,7 @@ module _ {I O : Type 0} (left : I → Option (List ℕ)) (faults : I → ℕ) (h
     answered_turn goes t open_before s d =
         let on = s.goes_on open_before in
         let asks : asked schema (s.lines ++ d.lines) ≡ asked schema s.lines ++ asked schema d.lines = asked-append schema s.lines d.lines on.1 in
-        let may : before.lacked ≡ true → after.lacked ≡ true = λ e. d.lacks ∙ or_true before.lacked (has_lack d.replies) e in
+        let may : before.lacked ≡ true → after.lacked ≡ true = λ e. d.put.lacks ∙ or_true before.lacked (has_lack d.replies) e in
         let next : IsTranscript schema is_stat true b.shown (length b.told) after.lacked (asked schema d.lines) d.replies = transcript_weaker schema A is_stat weaker after.lacked true b.shown (length b.told) (asked schema d.lines) d.replies d.next.transcript in
         let all : IsTranscript schema is_stat final b.shown (length b.told) after.lacked (asked schema s.lines ++ asked schema d.lines) (s.replies ++ d.replies) = goes.joins before.lacked after.lacked (asked schema s.lines) (asked schema d.lines) s.replies d.replies may s.transcript next d.next.follows in
         record {
@@ -195,9 +195,9 @@ module _ {I O : Type 0} (left : I → Option (List ℕ)) (faults : I → ℕ) (h
           replies = s.replies ++ d.replies;
           first = first_on schema (lines_left left start.source) (lines_left left before.source) s.lines d.lines on.0.covers d.read;
           transcript = subst (λ (ps : List Parsed). IsTranscript schema is_stat final b.shown (length b.told) after.lacked ps (s.replies ++ d.replies)) (sym asks) all;
-          gained = subst (Gains (held start.sink) (held after.sink)) (sym (text_on s.replies d.replies)) (gains_on (held start.sink) (held before.sink) (held after.sink) (replies_text s.replies) (replies_text d.replies) s.gained d.gained);
-          counted = omega (arith, s.counted, d.counted, length-append s.replies d.replies);
-          noted = d.noted ∙ ap (λ ns. ns ++ seens_of d.replies) s.noted ∙ append_assoc start.seens (seens_of s.replies) (seens_of d.replies) ∙ ap (λ ns. start.seens ++ ns) (sym (seens_on s.replies d.replies));
+          gained = subst (Gains (held start.sink) (held after.sink)) (sym (text_on s.replies d.replies)) (gains_on (held start.sink) (held before.sink) (held after.sink) (replies_text s.replies) (replies_text d.replies) s.gained d.put.gained);
+          counted = omega (arith, s.counted, d.put.counted, length-append s.replies d.replies);
+          noted = d.put.noted ∙ ap (λ ns. ns ++ seens_of d.replies) s.noted ∙ append_assoc start.seens (seens_of s.replies) (seens_of d.replies) ∙ ap (λ ns. start.seens ++ ns) (sym (seens_on s.replies d.replies));
           takes = takes_on schema s.lines d.lines taken a b s.takes d.news;
           goes_on = λ going. (passes_on left faults start.source before.source after.source s.lines d.lines on.0 (d.passed going).0, no_quit-append schema s.lines d.lines on.1 (turn_no_quit d.lines d.replies t d.answer going));
         }
@@ -259,7 +259,7 @@ module _ {I O : Type 0} (left : I → Option (List ℕ)) (faults : I → ℕ) (h
     pub all_at_end : (t : Turn) → t ≡ turn.Ended → before.ended ≡ false → HasAnswered left faults held schema is_stat final taken a start before → Turned left faults held schema A a b before after t → AnswersAll left schema start after
     all_at_end t is open_before s d =
         let answer : IsTurn left faults held schema A a b before after d.lines d.replies turn.Ended = subst (IsTurn left faults held schema A a b before after d.lines d.replies) is d.answer in
-        let same : after.replies ≡ before.replies = omega (arith, d.counted, ap length answer.1) in
+        let same : after.replies ≡ before.replies = omega (arith, d.put.counted, ap length answer.1) in
         all_replied s open_before same (none_left d.lines open_before d.read answer.2)
 
     pub all_at_too_much : before.ended ≡ false → HasAnswered left faults held schema is_stat final taken a start before → IsTooMuch left before.source → after.replies ≡ before.replies → AnswersAll left schema start after

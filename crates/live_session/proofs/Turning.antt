@@ -1,5 +1,5 @@
 -- A turn: nothing at the end, or a line and what was done with what it means.
-use Rattle.std.proofs.Common.{◌≡◌, ℕ, ◌+◌, ◌≤◌, Bool, true, ◌||◌, List, [], ◌∷◌, ◌++◌, length, Option, Some, None, inl, inr, refl, sym, ap, ◌∙◌, subst, arith, append-nil, Result, Ok, Err, IfOk}
+use Rattle.std.proofs.Common.{◌≡◌, ℕ, ◌+◌, ◌≤◌, Bool, true, ◌||◌, List, [], ◌∷◌, ◌++◌, length, Option, Some, None, inl, inr, refl, sym, ap, ◌∙◌, subst, arith, Result, Ok, Err, IfOk}
 use Rattle.std.proofs.lemmas.Bool.{false≢true}
 use Rattle.cube_view.specs.declared.schema.Schema.{Schema}
 use Rattle.cube_view.specs.declared.stat.Stat.{Stat}
@@ -14,7 +14,6 @@ use Rattle.outer_io.specs.Cutting.{Cutter, lines_left}
 use Rattle.outer_io.specs.Lines.{Line, input_limit}
 use Rattle.outer_io.specs.Progress.{Passes, PassesAll}
 use Rattle.outer_io.specs.Told.{Told}
-use Rattle.outer_io.proofs.GainedLaws.{gains_none}
 use Rattle.query_syntax.specs.declared.query.Parsed.{Parsed}
 use Rattle.reply_json.specs.declared.reply.Reply.{Reply}
 use Rattle.session_core.specs.Asked.{asked_then, asks_to_end, line_meaning, reply_line}
@@ -22,7 +21,7 @@ use Rattle.session_core.specs.Transcript.{replies_text}
 use Rattle.session_core.specs.Turns.{PassesLine}
 use Rattle.session_core.proofs.Transcripts.{transcript_none}
 use Rattle.std.specs.Prelude.{IsSomeAnd}
-use Rattle.live_session.proofs.NextReply.{or-false}
+use Rattle.live_session.proofs.NextReply.{put_none}
 
 module _ (schema : Schema) where
   -- what is told of lines that are passed
@@ -58,10 +57,7 @@ module _ {I O : Type 0} (left : I → Option (List ℕ)) (faults : I → ℕ) (h
         passed = λ going. absurd (false≢true (sym going ∙ ended));
         news = same;
         next = record { transcript = transcript_none schema is_stat after.lacked true b.shown (length b.told); follows = tt };
-        gained = subst (λ (o : O). Gains (held before.sink) (held o) []) (sym sink) (gains_none (held before.sink));
-        counted = omega (arith, replies);
-        noted = seens ∙ sym (append-nil before.seens);
-        lacks = lacked ∙ sym (or-false before.lacked);
+        put = put_none held before after sink replies seens lacked;
         answer = answer;
       }
 
@@ -90,10 +86,12 @@ module _ {I O : Type 0} (left : I → Option (List ℕ)) (faults : I → ℕ) (h
         passed = λ going. (passed, subst (λ (s : Cutter I). s.given ≤ input_limit) (sym source) passes.further.1);
         news = (b, subst (λ (m : Parsed). HasNews m a b) means news, refl);
         next = subst (λ (m : Parsed). AreNext schema is_stat a.shown b.shown (length a.told) (length b.told) after.lacked (asked_then m []) done.replies) means done.next;
-        gained = subst (λ o. Gains (held o) (held after.sink) (replies_text done.replies)) sink done.gained;
-        counted = done.counted ∙ ap (λ n. n + length done.replies) replies;
-        noted = done.noted ∙ ap (λ ns. ns ++ seens_of done.replies) seens;
-        lacks = done.lacks ∙ ap (λ (x : Bool). x || has_lack done.replies) lacked;
+        put = record {
+          gained = subst (λ o. Gains (held o) (held after.sink) (replies_text done.replies)) sink done.put.gained;
+          counted = done.put.counted ∙ ap (λ n. n + length done.replies) replies;
+          noted = done.put.noted ∙ ap (λ ns. ns ++ seens_of done.replies) seens;
+          lacks = done.put.lacks ∙ ap (λ (x : Bool). x || has_lack done.replies) lacked;
+        };
         answer = is_turn mid after line p done.replies t means done.answer before;
       }
 

@@ -1,18 +1,38 @@
 -- What a session does with what a line means.
-use Rattle.std.specs.Prelude.{◌≡◌, ℕ, ◌+◌, true, false, ◌||◌, List, [], ◌∷◌, ◌++◌, length, Option}
+use Rattle.std.specs.Prelude.{◌≡◌, ℕ, ◌+◌, true, false, ◌||◌, List, [], ◌∷◌, ◌++◌, length, Option, Result, IfOk, IsErrOf}
 use Rattle.cube_view.specs.Points.{Point}
 use Rattle.cube_view.specs.declared.schema.Schema.{Schema}
+use Rattle.cube_view.specs.declared.spot.Spot.{Spot}
 use Rattle.cube_view.specs.declared.stat.Stat.{Stat}
+use Rattle.live_session.specs.News.{HasNews, News}
+use Rattle.live_session.specs.Saying.{IsNewsOf, IsShown}
 use Rattle.live_session.specs.State.{SessionState}
-use Rattle.live_session.specs.Turned.{AreNext, has_lack, is_lack, seens_of}
+use Rattle.live_session.specs.Turned.{AreNext, HasPut, is_lack, listed}
 use Rattle.live_session.specs.declared.turn.Turn.{Turn}
 use Rattle.live_session.specs.declared.turn.Turn.TheVariants as turn
 use Rattle.outer_io.specs.Bytes.{Gains, GainsPart}
+use Rattle.published_pair.specs.Rules.{Known}
 use Rattle.query_syntax.specs.declared.query.Parsed.{Parsed}
 use Rattle.query_syntax.specs.declared.query.Parsed.TheVariants.{Skip}
 use Rattle.reply_json.specs.declared.reply.Reply.{Reply}
 use Rattle.session_core.specs.Asked.{asked_then, asks_to_end, reply_line}
-use Rattle.session_core.specs.Transcript.{replies_text}
+use Rattle.session_core.specs.declared.fault.SessionFault.{SessionFault}
+use Rattle.session_core.specs.declared.fault.SessionFault.TheVariants as fault
+
+-- What a put of a line without a fault leaves, where this number of points seen is noted for it, or none
+pub record PutsLine {I O : Type 0} (held : O → Option (List ℕ)) (before after : SessionState I O) (line : List ℕ) (seen : Option ℕ) (answer : Turn) : Type 0 where
+  -- the answer is that a reply was put
+  pub replied : answer ≡ turn.Replied
+  -- the sink gained the line
+  pub gained : Gains (held before.sink) (held after.sink) line
+  -- it is counted
+  pub counted : after.replies ≡ before.replies + 1
+  -- its number is noted
+  pub noted : after.seens ≡ before.seens ++ listed seen
+  -- no want of memory is noted
+  pub lacks : after.lacked ≡ before.lacked
+  -- the session goes on
+  pub going : after.ended ≡ false
 
 -- of a session that had been shown the list l and told u, and is shown h and told v for what a line means
 module _ {I O : Type 0} (held : O → Option (List ℕ)) (schema : Schema) (is_stat : Stat → Type 0) (l h : List Point) (u v : ℕ) (before after : SessionState I O) (p : Parsed) where
@@ -28,14 +48,8 @@ module _ {I O : Type 0} (held : O → Option (List ℕ)) (schema : Schema) (is_s
     pub replies : List Reply
     -- they are the next of the session
     pub next : AreNext schema is_stat l h u v after.lacked (asked_then p []) replies
-    -- the sink gained their text
-    pub gained : Gains (held before.sink) (held after.sink) (replies_text replies)
-    -- they are counted
-    pub counted : after.replies ≡ before.replies + length replies
-    -- and their numbers noted
-    pub noted : after.seens ≡ before.seens ++ seens_of replies
-    -- the line for want of memory is noted
-    pub lacks : after.lacked ≡ before.lacked || has_lack replies
+    -- they were put
+    pub put : HasPut held before after replies
     -- the answer is as it says
     pub answer : IsAnswer replies turn
 
@@ -51,3 +65,10 @@ module _ {I O : Type 0} (held : O → Option (List ℕ)) (schema : Schema) (is_s
     pub gained : GainsPart (held before.sink) (held after.sink) (reply_line reply)
     -- whether it is the line for want of memory is noted
     pub lacks : after.lacked ≡ before.lacked || is_lack reply
+
+-- What is put for what a line means, for a viewer of the schema that was shown and told these lists, with this answer
+pub record PutsFor {I O V : Type 0} (held : O → Option (List ℕ)) (weight_at : V → Spot → ℕ) (seen : V → ℕ) (schema_of : V → Schema) (numbers : V → Stat) (schema : Schema) (shown learned : Known) (before after : SessionState I O) (p : Parsed) (result : Result Turn SessionFault) : Type 0 where
+  -- without a fault the replies to it are put, whatever it changed of the session's news
+  pub answered : (a b : News) → HasNews p a b → IsNewsOf shown learned p b → IfOk result (Answered held schema (IsShown weight_at seen schema_of numbers schema shown.points) a.shown b.shown (length a.told) (length b.told) before after p)
+  -- where the put fails a part of the reply to it is
+  pub broken : (a b : News) → HasNews p a b → IsNewsOf shown learned p b → IsErrOf result fault.Write → IsBroken held schema (IsShown weight_at seen schema_of numbers schema shown.points) a.shown b.shown (length a.told) (length b.told) before after p

@@ -1,8 +1,10 @@
 pub mod News
 pub mod Saying
 pub mod State
+pub mod Reading
 pub mod Turned
 pub mod Answered
 pub mod SoFar
 pub mod Refusing
+pub mod Ending
 pub mod TranscriptLaws

@@ -1,8 +1,8 @@
 -- What a session is shown and told, and what a line asks of it.
-use Rattle.std.specs.Prelude.{◌≡◌, ℕ, ◌⊎◌, Bool, true, false, not, if◌then◌else◌, List, [], ◌∷◌, Option, Some, None, IfSome}
+use Rattle.std.specs.Prelude.{◌≡◌, ℕ, ◌≤◌, ◌⊎◌, Bool, true, false, not, if◌then◌else◌, List, [], ◌∷◌, Option, Some, None, IfSome}
 use Rattle.cube_view.specs.Points.{Point}
 use Rattle.cube_view.specs.declared.schema.Schema.{Schema}
-use Rattle.mailbox.specs.Ends.{OutEnd}
+use Rattle.mailbox.specs.Ends.{OutEnd, mail_out}
 use Rattle.outer_io.specs.Counts.{next_count}
 use Rattle.outer_io.specs.Lines.{Line}
 use Rattle.published_pair.specs.Rules.{Known}
@@ -71,3 +71,25 @@ pub record Goes (shown learned : Known) (last : Option Known) (shown' learned' :
   pub told : IsPrefix learned.points learned'.points
   -- it was shown nothing new, or the ended list where it has learned that
   pub ended : (shown' ≡ shown) ⊎ IfSome last (λ w. shown'.points ≡ w.points)
+
+-- The same viewer, after steps in which its lists went on
+pub record KeepsViewer (shown learned : Known) (last : Option Known) (schema : Schema) (shown' learned' : Known) (last' : Option Known) (schema' : Schema) : Type 0 where
+  -- its lists go on
+  pub goes : Goes shown learned last shown' learned'
+  -- the ended list, where it has learned that, is as it was
+  pub same_last : last' ≡ last
+  -- and its schema
+  pub same_schema : schema' ≡ schema
+
+-- What answering what a line means changes of the viewer's lists and of the mailbox's end that takes
+pub record GoesFor (p : Parsed) (shown learned : Known) (last : Option Known) (out : OutEnd) (shown' learned' : Known) (out' : OutEnd) : Type 0 where
+  -- the lists go on
+  pub goes : Goes shown learned last shown' learned'
+  -- for a look the list that is shown goes on from all that is told by then, and is the ended one where that is learned
+  pub look : asks_look p ≡ true → IsPrefix learned'.points shown'.points × IfSome last (λ w. shown'.points ≡ w.points)
+  -- only for a look another is shown
+  pub unseen : asks_look p ≡ false → shown' ≡ shown
+  -- only for a look or the told length more is told
+  pub unasked : asks_news p ≡ false → learned' ≡ learned
+  -- and exactly then the mailbox was asked
+  pub mail : (out' ≡ mail_out out.mailbox out.pair (takes_for p out.takes)) × (out.takes ≤ out'.takes)

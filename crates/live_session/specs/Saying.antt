@@ -1,5 +1,5 @@
 -- What is said to a line over the list that is shown.
-use Rattle.std.specs.Prelude.{◌≡◌, ℕ, true, List, length}
+use Rattle.std.specs.Prelude.{◌≡◌, ℕ, true, List, length, Result, IfOk, OnErr}
 use Rattle.cube_view.specs.Bag.{Counts}
 use Rattle.cube_view.specs.Points.{Point}
 use Rattle.cube_view.specs.declared.schema.Schema.{Schema}
@@ -30,6 +30,13 @@ Says schema is_stat h told p served.Quit = asks_to_end p ≡ true
 -- the same over each list that is the shown one where the line asks for a look
 abbrev pub SaysOver : Schema → (Stat → Type 0) → List Point → ℕ → Parsed → Served → Type 0
 SaysOver schema is_stat shown told p s = (h : List Point) → (asks_look p ≡ true → shown ≡ h) → Says schema is_stat h told p s
+
+-- What is served for what a line means, to a viewer of the schema that was shown and told these lists
+pub record IsServed {V E : Type 0} (weight_at : V → Spot → ℕ) (seen : V → ℕ) (schema_of : V → Schema) (numbers : V → Stat) (schema : Schema) (shown learned : Known) (p : Parsed) (served : Result Served E) : Type 0 where
+  -- it is what is said over them
+  pub says : IfOk served (SaysOver schema (IsShown weight_at seen schema_of numbers schema shown.points) shown.points (length learned.points) p)
+  -- or want of memory, only where the line asks for a reply
+  pub no_memory : OnErr served (asks_reply p ≡ true)
 
 -- the news are those of a viewer that knows these lists: what it was told, and what it was shown where the line asks for a look
 abbrev pub IsNewsOf : Known → Known → Parsed → News → Type 0

@@ -74,6 +74,11 @@ module _ {I O : Type 0} (left : I → Option (List ℕ)) (faults : I → ℕ) (h
   HasDone (Err fault.TooMuch) = HasAnswered
   HasDone (Err fault.Write) = HasBroken
 
+-- what a session that was shown and told `a` has answered by then, since any state of it and any number of asks of the
+-- mailbox, goes on over a turn after which it was shown and told `b`
+abbrev pub KeepsAnswers : {I O T : Type 0} → (I → Option (List ℕ)) → (I → ℕ) → (O → Option (List ℕ)) → Schema → (Stat → Type 0) → Bool → News → News → SessionState I O → SessionState I O → Result T SessionFault → Type 0
+KeepsAnswers {I} {O} left faults held schema is_stat final a b before after result = (start : SessionState I O) (taken : ℕ) → HasAnswered left faults held schema is_stat final taken a start before → HasDone left faults held schema is_stat final taken b start after result
+
 -- all that the script asks was answered
 abbrev pub AnswersAll : {I O : Type 0} → (I → Option (List ℕ)) → Schema → SessionState I O → SessionState I O → Type 0
 AnswersAll left schema start now = Told (lines_left left start.source) (λ all. now.replies ≡ start.replies + length (asked schema all))

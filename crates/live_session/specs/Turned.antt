@@ -1,10 +1,12 @@
 -- What a turn of a session does.
-use Rattle.std.specs.Prelude.{◌≡◌, ◌≢◌, ℕ, ◌+◌, ◌≤◌, ◌⊎◌, Bool, true, false, ◌||◌, List, [], ◌∷◌, ◌++◌, length, Option, Some, None, Result, Err, OnErr, IsErrOf}
+use Rattle.std.specs.Prelude.{◌≡◌, ◌≢◌, ℕ, ◌+◌, ◌≤◌, ◌⊎◌, Bool, true, false, ◌||◌, List, [], ◌∷◌, ◌++◌, length, Option, Some, None, Result, Err, IfOk, OnErr, IsErrOf}
 use Rattle.std.specs.List.{flat_map}
 use Rattle.cube_view.specs.Points.{Point}
 use Rattle.cube_view.specs.declared.schema.Schema.{Schema}
+use Rattle.cube_view.specs.declared.spot.Spot.{Spot}
 use Rattle.cube_view.specs.declared.stat.Stat.{Stat}
 use Rattle.live_session.specs.News.{HasNews, News, NewsFor}
+use Rattle.live_session.specs.Saying.{IsShown}
 use Rattle.live_session.specs.State.{SessionState}
 use Rattle.live_session.specs.declared.turn.Turn.{Turn}
 use Rattle.live_session.specs.declared.turn.Turn.TheVariants as turn
@@ -56,6 +58,17 @@ pub record AreNext (schema : Schema) (is_stat : Stat → Type 0) (l h : List Poi
   -- none falls below what was shown and told before
   pub follows : NeverFalls (length l) u replies
 
+-- What putting these replies leaves
+pub record HasPut {I O : Type 0} (held : O → Option (List ℕ)) (before after : SessionState I O) (replies : List Reply) : Type 0 where
+  -- the sink gained their text
+  pub gained : Gains (held before.sink) (held after.sink) (replies_text replies)
+  -- they are counted
+  pub counted : after.replies ≡ before.replies + length replies
+  -- the numbers of points seen that they print are noted
+  pub noted : after.seens ≡ before.seens ++ seens_of replies
+  -- the line for want of memory is noted
+  pub lacks : after.lacked ≡ before.lacked || has_lack replies
+
 -- a turn of a session that had been shown and told `a`, and is shown and told `b` after it
 module _ {I O : Type 0} (left : I → Option (List ℕ)) (faults : I → ℕ) (held : O → Option (List ℕ)) (schema : Schema) (is_stat : Stat → Type 0) (a b : News) (before after : SessionState I O) where
   -- the session is at its end: it was, or no line is left of its script, or the line that it read is `quit`
@@ -87,14 +100,8 @@ module _ {I O : Type 0} (left : I → Option (List ℕ)) (faults : I → ℕ) (h
     pub news : NewsFor schema lines a b
     -- the replies are to what the lines ask, over the list and the told length as they are now
     pub next : AreNext schema is_stat a.shown b.shown (length a.told) (length b.told) after.lacked (asked schema lines) replies
-    -- the sink gained their text
-    pub gained : Gains (held before.sink) (held after.sink) (replies_text replies)
-    -- they are counted
-    pub counted : after.replies ≡ before.replies + length replies
-    -- the numbers of points seen that they print are noted
-    pub noted : after.seens ≡ before.seens ++ seens_of replies
-    -- the line for want of memory is noted
-    pub lacks : after.lacked ≡ before.lacked || has_lack replies
+    -- they were put
+    pub put : HasPut held before after replies
     -- the answer is as it says
     pub answer : IsTurn lines replies turn
 
@@ -120,6 +127,13 @@ module _ {I O : Type 0} (left : I → Option (List ℕ)) (faults : I → ℕ) (h
     pub uncounted : (after.replies ≡ before.replies) × (after.seens ≡ before.seens)
     -- whether it is the line for want of memory is noted
     pub lacks : after.lacked ≡ before.lacked || is_lack reply
+
+-- What a turn of a session over a view of the schema does, which had been shown and told `a`, and is `b` after it
+pub record HasTurned {I O V : Type 0} (left : I → Option (List ℕ)) (faults : I → ℕ) (held : O → Option (List ℕ)) (weight_at : V → Spot → ℕ) (seen : V → ℕ) (schema_of : V → Schema) (numbers : V → Stat) (schema : Schema) (a b : News) (before after : SessionState I O) (result : Result Turn SessionFault) : Type 0 where
+  -- without a fault
+  pub turned : IfOk result (Turned left faults held schema (IsShown weight_at seen schema_of numbers schema b.shown) a b before after)
+  -- where its put fails
+  pub broken : IsErrOf result fault.Write → BreaksOff left faults held schema (IsShown weight_at seen schema_of numbers schema b.shown) a b before after
 
 -- When the faults of a turn come, and what they leave
 pub record HasFaults {I O : Type 0} (left : I → Option (List ℕ)) (faults : I → ℕ) (held : O → Option (List ℕ)) (put_faults : O → ℕ) (before after : SessionState I O) {T : Type 0} (result : Result T SessionFault) : Type 0 where

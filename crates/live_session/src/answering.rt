@@ -1,11 +1,11 @@
 //! What is answered to a line, by what the mailbox holds and the viewer is shown.
-ghost use Rattle.std.specs.Prelude.{◌≡◌, ◌≤◌, length, true, false, IsTrue, IfOk, IfSome, OnErr};
-ghost use Rattle.live_session.specs.News.{Goes, asks_news, takes_for};
-ghost use Rattle.live_session.specs.Saying.{IsShown, Says, SaysOver};
+ghost use Rattle.std.specs.Prelude.{◌≡◌, ◌≤◌, true, false, IsTrue, IfSome};
+ghost use Rattle.live_session.specs.News.{GoesFor, asks_news, takes_for};
+ghost use Rattle.live_session.specs.Saying.{IsServed};
 ghost use Rattle.mailbox.specs.Ends.{mail_out};
 ghost use Rattle.published_pair.specs.Pair.{Fresh};
 ghost use Rattle.query_syntax.specs.Meaning.{asks_valid};
-ghost use Rattle.session_core.specs.Asked.{asks_look, asks_reply};
+ghost use Rattle.session_core.specs.Asked.{asks_look};
 ghost use Rattle.world_core.specs.PairFact.{IsPrefix};
 
 use crate::asking::{asks_look, asks_news};
@@ -50,12 +50,13 @@ fn look_once<V: Grow, R: Wait, L: Ledger>(
     parsed: &Parsed,
     steps: &mut Steps<L>,
 ) -> (Viewer<V>, Result<Served, NoMemory>)
-    requires { IsTrue (asks_valid viewer.schema parsed.now) }
-    ensures says { IfOk result.1 (Says viewer.schema (IsShown V.weight_at V.seen V.schema V.numbers viewer.schema result.0.shown.points) result.0.shown.points (length result.0.learned.points) parsed.now) }
-    ensures no_memory { OnErr result.1 (asks_reply parsed.now ≡ true) }
+    requires valid { IsTrue (asks_valid viewer.schema parsed.now) }
+    requires look { asks_look parsed.now ≡ true }
+    ensures served { IsServed V.weight_at V.seen V.schema V.numbers viewer.schema result.0.shown result.0.learned parsed.now result.1 }
     ensures fresh { Fresh viewer.shown.points viewer.learned.points result.0.shown.points }
     ensures ended { IfSome viewer.last (λ w. result.0.shown.points ≡ w.points) }
-    ensures same { (result.0.shown.book ≡ viewer.shown.book) × (result.0.learned ≡ viewer.learned) × (result.0.last ≡ viewer.last) × (result.0.schema ≡ viewer.schema) }
+    ensures pair { result.0.shown.book ≡ viewer.shown.book }
+    ensures same { (result.0.learned ≡ viewer.learned) × (result.0.last ≡ viewer.last) × (result.0.schema ≡ viewer.schema) }
 {
     let told = viewer.told();
     let shown = viewer.look(rt);
@@ -75,14 +76,9 @@ pub(crate) fn answer_line<V: Grow, R: Wait, L: Ledger>(
 ) -> (Viewer<V>, Result<Served, NoMemory>)
     requires pair { viewer.shown.book ≡ mail.old.pair }
     requires valid { IsTrue (asks_valid viewer.schema parsed.now) }
-    ensures says { IfOk result.1 (SaysOver viewer.schema (IsShown V.weight_at V.seen V.schema V.numbers viewer.schema result.0.shown.points) result.0.shown.points (length result.0.learned.points) parsed.now) }
-    ensures no_memory { OnErr result.1 (asks_reply parsed.now ≡ true) }
-    ensures goes { Goes viewer.shown viewer.learned viewer.last result.0.shown result.0.learned }
-    ensures look { asks_look parsed.now ≡ true → IsPrefix result.0.learned.points result.0.shown.points × IfSome viewer.last (λ w. result.0.shown.points ≡ w.points) }
-    ensures unseen { asks_look parsed.now ≡ false → result.0.shown ≡ viewer.shown }
-    ensures unasked { asks_news parsed.now ≡ false → result.0.learned ≡ viewer.learned }
+    ensures served { IsServed V.weight_at V.seen V.schema V.numbers viewer.schema result.0.shown result.0.learned parsed.now result.1 }
+    ensures goes { GoesFor parsed.now viewer.shown viewer.learned viewer.last mail.old result.0.shown result.0.learned mail.new }
     ensures same { (result.0.last ≡ viewer.last) × (result.0.schema ≡ viewer.schema) }
-    ensures mail { (mail.new ≡ mail_out mail.old.mailbox mail.old.pair (takes_for parsed.now mail.old.takes)) × (mail.old.takes ≤ mail.new.takes) }
 {
     let viewer = catch_up(rt, viewer, mail, parsed);
     if asks_look(parsed) {

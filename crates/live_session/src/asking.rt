@@ -11,17 +11,7 @@ pub(crate) fn asks_look(parsed: &Parsed) -> bool
 {
     match parsed {
         Parsed::Skip | Parsed::Fault(..) => false,
-        Parsed::Ask(query) => match query.verb {
-            Verb::Count
-            | Verb::Hist(_)
-            | Verb::Map(_)
-            | Verb::Series { .. }
-            | Verb::Window(_)
-            | Verb::Cross(_, _)
-            | Verb::Best { .. }
-            | Verb::Stat => true,
-            Verb::Told | Verb::Quit => false,
-        },
+        Parsed::Ask(query) => !matches!(query.verb, Verb::Told | Verb::Quit),
     }
 }
 
@@ -31,18 +21,7 @@ pub(crate) fn asks_news(parsed: &Parsed) -> bool
 {
     match parsed {
         Parsed::Skip | Parsed::Fault(..) => false,
-        Parsed::Ask(query) => match query.verb {
-            Verb::Count
-            | Verb::Hist(_)
-            | Verb::Map(_)
-            | Verb::Series { .. }
-            | Verb::Window(_)
-            | Verb::Cross(_, _)
-            | Verb::Best { .. }
-            | Verb::Stat
-            | Verb::Told => true,
-            Verb::Quit => false,
-        },
+        Parsed::Ask(query) => !matches!(query.verb, Verb::Quit),
     }
 }
 

@@ -1,25 +1,19 @@
 //! A session: a script answered line by line over what a live pair shows.
-ghost use Rattle.std.specs.Prelude.{◌≡◌, ◌≢◌, ℕ, ◌+◌, ◌<◌, ◌≤◌, ◌⊎◌, List, [], ◌∷◌, ◌++◌, ◌||◌, length, true, false, Ok, Err, Some, None, IsTrue, IfOk, OnOk, OnErr, IfSome, IsErrOf, vec_len, vec_capacity};
-ghost use Rattle.cube_view.specs.Points.{Point};
-ghost use Rattle.live_session.specs.Answered.{Answered, IsBroken};
-ghost use Rattle.live_session.specs.News.{Goes, HasNews, News, news_of, seen_asked};
-ghost use Rattle.live_session.specs.Refusing.{RefusesExactly};
-ghost use Rattle.live_session.specs.Saying.{IsNewsOf, IsShown, SaysOver};
-ghost use Rattle.live_session.specs.SoFar.{AnswersAll, HasAnswered, HasDone};
+ghost use Rattle.std.specs.Prelude.{◌≡◌, ◌≢◌, ◌+◌, ◌<◌, ◌≤◌, ◌⊎◌, ◌++◌, length, true, false, Ok, Err, IfOk, IfSome, IsErrOf, vec_len, vec_capacity};
+ghost use Rattle.live_session.specs.Answered.{PutsFor, PutsLine};
+ghost use Rattle.live_session.specs.Ending.{EndsScript};
+ghost use Rattle.live_session.specs.News.{KeepsViewer, news_of, seen_asked};
+ghost use Rattle.live_session.specs.Reading.{ReadsNext};
+ghost use Rattle.live_session.specs.Saying.{IsServed};
+ghost use Rattle.live_session.specs.SoFar.{HasDone, KeepsAnswers};
 ghost use Rattle.live_session.specs.State.{SessionState, new_session};
-ghost use Rattle.live_session.specs.Turned.{BreaksOff, HasFaults, Turned, listed};
+ghost use Rattle.live_session.specs.Turned.{HasFaults, HasTurned, listed};
 ghost use Rattle.mailbox.specs.Ends.{mail_out};
 ghost use Rattle.outer_io.specs.Counts.{next_count};
-ghost use Rattle.outer_io.specs.Bytes.{Gains, GainsPart};
-ghost use Rattle.outer_io.specs.Cuts.{IsTooMuch};
+ghost use Rattle.outer_io.specs.Bytes.{GainsPart};
 ghost use Rattle.outer_io.specs.Cutting.{IsNew};
 ghost use Rattle.outer_io.specs.Faults.{HasCause};
 ghost use Rattle.outer_io.specs.Lines.{input_limit};
-ghost use Rattle.outer_io.specs.Progress.{IsTooLarge};
-ghost use Rattle.query_syntax.specs.Meaning.{asks_valid};
-ghost use Rattle.session_core.specs.Asked.{asks_look, asks_reply};
-ghost use Rattle.session_core.specs.Turns.{AsksNext};
-ghost use Rattle.world_core.specs.PairFact.{IsPrefix};
 
 use crate::answering::answer_line;
 use crate::asking::seen_asked;
@@ -138,12 +132,8 @@ impl<I: Source, O: Sink> Session<I, O> {
     /// What the next line means, or none where the session is at its end.
     fn read_next(&mut self, alloc: Global, schema: &Schema) -> Result<Option<Parsed>, SessionFault>
         requires { self.old.ended ≡ false }
-        ensures asked { IfOk result (AsksNext I.left I.faults schema.now self.old.source self.new.source) }
-        ensures valid { IfOk result (λ next. IfSome next (λ p. IsTrue (asks_valid schema.now p))) }
-        ensures going { IfOk result (λ next. IfSome next (λ _. (self.new.ended ≡ false) × (self.new.replies < self.new.source.given) × (self.new.source.given ≤ input_limit))) }
-        ensures end { result ≡ Ok None → (self.new.ended ≡ true) × (self.new.source.given ≡ self.old.source.given) }
+        ensures reads { ReadsNext I.left I.faults schema.now self.old self.new result }
         ensures same { (self.new.sink ≡ self.old.sink) × (self.new.seens ≡ self.old.seens) × (self.new.replies ≡ self.old.replies) }
-        ensures lacked { OnOk result (self.new.lacked ≡ self.old.lacked) }
         ensures faults { HasFaults I.left I.faults O.held O.faults self.old self.new result }
         ensures no_write { result ≢ Err SessionFault.Write }
     {
@@ -169,7 +159,7 @@ impl<I: Source, O: Sink> Session<I, O> {
     fn put(&mut self, line: &[u8], seen: Option<u64>) -> Result<Turn, SessionFault>
         requires open { self.old.ended ≡ false }
         requires room { (self.old.replies < self.old.source.given) × (self.old.source.given ≤ input_limit) }
-        ensures put { IfOk result (λ turn. (turn ≡ Turn.Replied) × Gains (O.held self.old.sink) (O.held self.new.sink) line.now × (self.new.replies ≡ self.old.replies + 1) × (self.new.seens ≡ self.old.seens ++ listed seen) × (self.new.lacked ≡ self.old.lacked) × (self.new.ended ≡ false)) }
+        ensures put { IfOk result (PutsLine O.held self.old self.new line.now seen) }
         ensures source { self.new.source ≡ self.old.source }
         ensures write { IsErrOf result SessionFault.Write → GainsPart (O.held self.old.sink) (O.held self.new.sink) line.now × (self.new.lacked ≡ self.old.lacked) }
         ensures faults { HasFaults I.left I.faults O.held O.faults self.old self.new result }
@@ -212,10 +202,8 @@ impl<I: Source, O: Sink> Session<I, O> {
     ) -> Result<Turn, SessionFault>
         requires open { self.old.ended ≡ false }
         requires room { (self.old.replies < self.old.source.given) × (self.old.source.given ≤ input_limit) }
-        requires says { IfOk served (SaysOver viewer.now.schema (IsShown V.weight_at V.seen V.schema V.numbers viewer.now.schema viewer.now.shown.points) viewer.now.shown.points (length viewer.now.learned.points) parsed.now) }
-        requires no_memory { OnErr served (asks_reply parsed.now ≡ true) }
-        ensures answered { (a b : News) → HasNews parsed.now a b → IsNewsOf viewer.now.shown viewer.now.learned parsed.now b → IfOk result (Answered O.held viewer.now.schema (IsShown V.weight_at V.seen V.schema V.numbers viewer.now.schema viewer.now.shown.points) a.shown b.shown (length a.told) (length b.told) self.old self.new parsed.now) }
-        ensures broken { (a b : News) → HasNews parsed.now a b → IsNewsOf viewer.now.shown viewer.now.learned parsed.now b → IsErrOf result SessionFault.Write → IsBroken O.held viewer.now.schema (IsShown V.weight_at V.seen V.schema V.numbers viewer.now.schema viewer.now.shown.points) a.shown b.shown (length a.told) (length b.told) self.old self.new parsed.now }
+        requires served { IsServed V.weight_at V.seen V.schema V.numbers viewer.now.schema viewer.now.shown viewer.now.learned parsed.now served }
+        ensures puts { PutsFor O.held V.weight_at V.seen V.schema V.numbers viewer.now.schema viewer.now.shown viewer.now.learned self.old self.new parsed.now result }
         ensures source { self.new.source ≡ self.old.source }
         ensures faults { HasFaults I.left I.faults O.held O.faults self.old self.new result }
         ensures others { (result ≢ Err SessionFault.Read) × (result ≢ Err SessionFault.TooMuch) }
@@ -251,14 +239,13 @@ impl<I: Source, O: Sink> Session<I, O> {
         steps: &mut Steps<L>,
     ) -> (Viewer<V>, Result<Turn, SessionFault>)
         requires { viewer.shown.book ≡ mail.old.pair }
-        ensures turned { IfOk result.1 (Turned I.left I.faults O.held viewer.schema (IsShown V.weight_at V.seen V.schema V.numbers viewer.schema result.0.shown.points) (news_of viewer.shown viewer.learned mail.old) (news_of result.0.shown result.0.learned mail.new) self.old self.new) }
-        ensures broken { IsErrOf result.1 SessionFault.Write → BreaksOff I.left I.faults O.held viewer.schema (IsShown V.weight_at V.seen V.schema V.numbers viewer.schema result.0.shown.points) (news_of viewer.shown viewer.learned mail.old) (news_of result.0.shown result.0.learned mail.new) self.old self.new }
+        ensures turned { HasTurned I.left I.faults O.held V.weight_at V.seen V.schema V.numbers viewer.schema (news_of viewer.shown viewer.learned mail.old) (news_of result.0.shown result.0.learned mail.new) self.old self.new result.1 }
         ensures ended { self.old.ended ≡ true → (result.1 ≡ Ok Turn.Ended) × (self.new ≡ self.old) × (mail.new ≡ mail.old) × (result.0.shown ≡ viewer.shown) × (result.0.learned ≡ viewer.learned) }
         ensures faults { HasFaults I.left I.faults O.held O.faults self.old self.new result.1 × (O.name self.new.sink ≡ O.name self.old.sink) }
-        ensures viewer { Goes viewer.shown viewer.learned viewer.last result.0.shown result.0.learned × (result.0.last ≡ viewer.last) × (result.0.schema ≡ viewer.schema) }
+        ensures viewer { KeepsViewer viewer.shown viewer.learned viewer.last viewer.schema result.0.shown result.0.learned result.0.last result.0.schema }
         ensures mail { (mail.new ≡ mail.old) ⊎ (mail.new ≡ mail_out mail.old.mailbox mail.old.pair (next_count mail.old.takes)) }
-        ensures so_far { (start : SessionState I O) (taken : ℕ) → HasAnswered I.left I.faults O.held viewer.schema V.is_stat false taken (news_of viewer.shown viewer.learned mail.old) start self.old → HasDone I.left I.faults O.held viewer.schema V.is_stat false taken (news_of result.0.shown result.0.learned mail.new) start self.new result.1 }
-        ensures finals { (start : SessionState I O) (taken : ℕ) → IfSome viewer.last (λ w. HasAnswered I.left I.faults O.held viewer.schema V.is_stat true taken (news_of w w mail.old) start self.old → HasDone I.left I.faults O.held viewer.schema V.is_stat true taken (news_of w w mail.new) start self.new result.1) }
+        ensures so_far { KeepsAnswers I.left I.faults O.held viewer.schema V.is_stat false (news_of viewer.shown viewer.learned mail.old) (news_of result.0.shown result.0.learned mail.new) self.old self.new result.1 }
+        ensures finals { IfSome viewer.last (λ w. KeepsAnswers I.left I.faults O.held viewer.schema V.is_stat true (news_of w w mail.old) (news_of w w mail.new) self.old self.new result.1) }
     {
         if self.ended {
             return (viewer, Ok(Turn::Ended));
@@ -289,12 +276,11 @@ impl<I: Source, O: Sink> Session<I, O> {
         requires { (viewer.shown.book ≡ mail.old.pair) × (self.old.ended ≡ false) }
         ensures done { HasDone I.left I.faults O.held viewer.schema V.is_stat false mail.old.takes (news_of result.0.shown result.0.learned mail.new) self.old self.new result.1 }
         ensures finals { IfSome viewer.last (λ w. HasDone I.left I.faults O.held viewer.schema V.is_stat true mail.old.takes (news_of w w mail.new) self.old self.new result.1) }
-        ensures all { OnOk result.1 (AnswersAll I.left viewer.schema self.old self.new) }
-        ensures too_much { IsErrOf result.1 SessionFault.TooMuch → AnswersAll I.left viewer.schema self.old self.new × IsTooLarge I.left self.old.source }
-        ensures refused { RefusesExactly I.left viewer.schema self.old.source result.1 }
-        ensures causes { HasCause (I.faults self.old.source.source) (I.faults self.new.source.source) result.1 SessionFault.Read × HasCause (O.faults self.old.sink) (O.faults self.new.sink) result.1 SessionFault.Write }
-        ensures viewer { Goes viewer.shown viewer.learned viewer.last result.0.shown result.0.learned × (result.0.last ≡ viewer.last) × (result.0.schema ≡ viewer.schema) }
-        ensures ended { (self.new.ended ≡ true) × (O.name self.new.sink ≡ O.name self.old.sink) × (mail.new.mailbox ≡ mail.old.mailbox) × (mail.new.pair ≡ mail.old.pair) }
+        ensures script { EndsScript I.left viewer.schema self.old self.new result.1 }
+        ensures read { HasCause (I.faults self.old.source.source) (I.faults self.new.source.source) result.1 SessionFault.Read }
+        ensures write { HasCause (O.faults self.old.sink) (O.faults self.new.sink) result.1 SessionFault.Write }
+        ensures viewer { KeepsViewer viewer.shown viewer.learned viewer.last viewer.schema result.0.shown result.0.learned result.0.last result.0.schema }
+        ensures names { (O.name self.new.sink ≡ O.name self.old.sink) × (mail.new.mailbox ≡ mail.old.mailbox) × (mail.new.pair ≡ mail.old.pair) }
     {
         let mut viewer = viewer;
         'turns: loop {

@@ -1,17 +1,21 @@
 //! Scripts over pairs of plain cubes and of cubes, on one thread. Three points are published between the lines.
-ghost use Rattle.std.specs.Prelude.{◌≡◌, ℕ, List, Option, None, false, [], All};
+ghost use Rattle.std.specs.Prelude.{◌≡◌, None, false, []};
 ghost use Rattle.cube_view.specs.Bag.{Counts};
 ghost use Rattle.probe_core.specs.Blanks.{IsBlankOf};
 
 use crate::{Session, Turn};
 use cube_store::Cube;
-use cube_view::{Grow, Point, Schema, is_sound};
+use cube_view::{Grow, Schema};
+use example_ends::{open_seen, publish_one};
 use example_schemas::{point, schema_of_kinds};
+use feed_maker::Endless;
 use mailbox::{MailIn, MailOut, open_mail};
-use outer_io::{Failed, IoFault, LineCutter, List, MemSink, MemSource, NoMemory, Sink, Source};
+use outer_io::{
+    IoFault, LineCutter, List, MemSink, MemSource, NoMemory, Sink, Source, StillSource,
+};
 use plain_cube::PlainCube;
 use probe_core::Steps;
-use published_pair::{Publisher, Viewer, open};
+use published_pair::{Publisher, Viewer};
 use session_core::SessionFault;
 use std::alloc::Global;
 use std::marker::Brand;
@@ -24,14 +28,16 @@ use std::test::Fail;
 const NEVER: u32 = 1000;
 
 /// A script that is read in pieces of 5 bytes: before which turn, from 0, the three points are published, how many told
-/// lengths are put then (that before the points comes first), which read and which put fail, and what is to come of it.
+/// lengths are put then (that before the points comes first), which reads and which puts fail, whether the turns are a run
+/// that begins once the points are published, and what is to come of it.
 #[derive(Clone, Copy)]
 struct Case<'a> {
     script: &'a [u8],
     grows: u32,
     tells: u32,
-    failing_read: Option<u32>,
-    failing_put: Option<u32>,
+    failing_reads: &'a [u32],
+    failing_puts: &'a [u32],
+    runs: bool,
     end: Result<Turn, SessionFault>,
     replies: u64,
     seens: &'a [u64],
@@ -53,32 +59,15 @@ fn quiet_case<'a>(
         script,
         grows,
         tells,
-        failing_read: None,
-        failing_put: None,
+        failing_reads: &[],
+        failing_puts: &[],
+        runs: false,
         end: Ok(Turn::Ended),
         replies,
         seens,
         takes,
         put,
     }
-}
-
-fn publish_one<V: Grow, R: Wait + Abort>(
-    rt: &R,
-    publisher: &mut Publisher<V>,
-    schema: &Schema,
-    point: Point,
-)
-    requires shown { publisher.old.published.points ≡ publisher.old.appended.items }
-    requires schema { publisher.old.schema ≡ schema.now }
-    ensures shown { publisher.new.published.points ≡ publisher.new.appended.items }
-    ensures same { (publisher.new.schema ≡ publisher.old.schema) × (publisher.new.published.book ≡ publisher.old.published.book) }
-{
-    assert!(rt; is_sound(schema, &point));
-    assert!(rt; publisher.len() < 1 << 35);
-    let done = publisher.append(point);
-    assert!(rt; done.is_ok());
-    publisher.publish(rt).expect(rt, "a publication");
 }
 
 /// Puts how many points are published, if it is to.
@@ -109,9 +98,9 @@ fn grow_before<V: Grow, R: Wait + Abort>(
 {
     if turn == case.grows {
         put_mark(rt, publisher, put, case.tells > 1);
-        publish_one(rt, publisher, schema, point(0, 0, 0, 0));
-        publish_one(rt, publisher, schema, point(7, 7, 1, 1));
-        publish_one(rt, publisher, schema, point(0, 0, 0, 1));
+        assert!(rt; publish_one(rt, publisher, schema, point(0, 0, 0, 0)));
+        assert!(rt; publish_one(rt, publisher, schema, point(7, 7, 1, 1)));
+        assert!(rt; publish_one(rt, publisher, schema, point(0, 0, 0, 1)));
         put_mark(rt, publisher, put, case.tells > 0);
     }
 }
@@ -123,7 +112,7 @@ fn is_last(answer: Result<Turn, SessionFault>) -> bool {
     }
 }
 
-/// Takes turns up to the last, which gives the answer.
+/// Takes turns up to the last, which gives the answer, one by one or by a run.
 fn take_turns<V: Grow, R: Wait + Abort, L: Ledger>(
     rt: &R,
     alloc: Global,
@@ -140,8 +129,17 @@ fn take_turns<V: Grow, R: Wait + Abort, L: Ledger>(
     requires schema { publisher.old.schema ≡ schema.now }
     requires pair { publisher.old.published.book ≡ put.old.pair }
     requires viewer { viewer.shown.book ≡ take.old.pair }
+    requires going { session.old.ended ≡ false }
     ensures { result.0.shown.book ≡ take.new.pair }
 {
+    if case.runs {
+        grow_before(rt, publisher, schema, put, case, case.grows);
+        let (viewer, end) = session.run(rt, alloc, viewer, take, steps);
+        return match end {
+            Ok(()) => (viewer, Ok(Turn::Ended)),
+            Err(fault) => (viewer, Err(fault)),
+        };
+    }
     let mut viewer = viewer;
     let mut answer = Ok(Turn::Skipped);
     for turn in 0..100 {
@@ -156,37 +154,19 @@ fn take_turns<V: Grow, R: Wait + Abort, L: Ledger>(
     (viewer, answer)
 }
 
-fn listed(alloc: Global, call: Option<u32>) -> Result<List<u32>, NoMemory> {
-    let mut calls = List::new(alloc);
-    if let Some(call) = call {
-        calls.add(call)?;
-    }
-    Ok(calls)
-}
-
 /// A session over the case's script.
 fn session_over(rt: &impl Abort, alloc: Global, case: &Case) -> Session<MemSource, MemSink>
     ensures { result.ended ≡ false }
 {
     let script = Vec::from_slice(alloc, case.script).expect(rt, "a script");
-    let reads = listed(alloc, case.failing_read).expect(rt, "reads");
-    let puts = listed(alloc, case.failing_put).expect(rt, "puts");
-    let source = MemSource::new(List::from_vec(script), 5, reads);
+    let reads = Vec::from_slice(alloc, case.failing_reads).expect(rt, "reads");
+    let puts = Vec::from_slice(alloc, case.failing_puts).expect(rt, "puts");
+    let source = MemSource::new(List::from_vec(script), 5, List::from_vec(reads));
+    let sink = MemSink::new(alloc, List::from_vec(puts));
     match LineCutter::new(alloc, source) {
-        Ok(cutter) => Session::new(alloc, cutter, MemSink::new(alloc, puts)),
+        Ok(cutter) => Session::new(alloc, cutter, sink),
         Err(_) => panic!(rt; "no cutter"),
     }
-}
-
-fn viewer_of<V: Grow>(
-    rt: &impl Abort,
-    viewers: &mut List<Viewer<V>>,
-    publisher: &Publisher<V>,
-) -> Viewer<V>
-    requires { All (λ v. v.shown ≡ publisher.now.published) viewers.old }
-    ensures { result.shown ≡ publisher.now.published }
-{
-    viewers.pop().expect(rt, "a viewer")
 }
 
 /// The case's turns over a pair of these views, and one turn more, which changes nothing.
@@ -205,8 +185,7 @@ fn check_in<V: Grow, R: Wait + Abort, L: Ledger>(
 {
     let mut steps = Steps::<L>::new(blank);
     let schema = first.schema().copy(alloc)?;
-    let (mut publisher, mut viewers) = open(rt, alloc, first, again, 1)?;
-    let viewer = viewer_of(rt, &mut viewers, &publisher);
+    let (mut publisher, viewer) = open_seen(rt, alloc, first, again)?;
     let (mut put, mut take) = open_mail(alloc, &publisher).expect(rt, "a mailbox");
     let mut session = session_over(rt, alloc, case);
     let (viewer, answer) = take_turns(
@@ -221,8 +200,10 @@ fn check_in<V: Grow, R: Wait + Abort, L: Ledger>(
         case,
         &mut steps,
     );
+    let shown = (viewer.told(), viewer.seen());
     let (_viewer, last) = session.turn(rt, alloc, viewer, &mut take, &mut steps);
     assert_eq!(rt; (answer, last), (case.end, Ok(Turn::Ended)));
+    assert!(rt; !case.runs || shown == (3, 3));
     assert_eq!(rt;
         (session.replies(), take.takes()),
         (case.replies, case.takes)
@@ -233,45 +214,6 @@ fn check_in<V: Grow, R: Wait + Abort, L: Ledger>(
     assert_eq!(rt; sink.bytes(), case.put.as_bytes());
     publisher.finish(rt);
     Ok(())
-}
-
-/// What a run over a pair of these views puts, in which the three points are published and told before it.
-fn check_run_in<V: Grow, R: Wait + Abort, L: Ledger>(
-    rt: &R,
-    alloc: Global,
-    first: V,
-    again: V,
-    case: &Case,
-    blank: Blank,
-) -> Result<(), NoMemory>
-    requires first { Counts (V.weight_at first) (V.seen first) [] }
-    requires again { Counts (V.weight_at again) (V.seen again) [] }
-    requires schema { V.schema again ≡ V.schema first }
-    requires blank { IsBlankOf L.name L.parts blank }
-{
-    let mut steps = Steps::<L>::new(blank);
-    let schema = first.schema().copy(alloc)?;
-    let (mut publisher, mut viewers) = open(rt, alloc, first, again, 1)?;
-    let viewer = viewer_of(rt, &mut viewers, &publisher);
-    let (mut put, mut take) = open_mail(alloc, &publisher).expect(rt, "a mailbox");
-    let mut session = session_over(rt, alloc, case);
-    grow_before(rt, &mut publisher, &schema, &mut put, case, case.grows);
-    let (viewer, end) = session.run(rt, alloc, viewer, &mut take, &mut steps);
-    assert_eq!(rt; (end, session.replies()), (Ok(()), case.replies));
-    assert_eq!(rt;
-        (viewer.told(), viewer.seen(), take.takes()),
-        (3, 3, case.takes)
-    );
-    let (_, sink) = session.into_parts();
-    assert_eq!(rt; sink.bytes(), case.put.as_bytes());
-    publisher.finish(rt);
-    Ok(())
-}
-
-fn check_run<R: Wait + Abort>(rt: &R, alloc: Global, case: &Case) -> Result<(), NoMemory> {
-    let first = PlainCube::new(alloc, schema_of_kinds(alloc)?);
-    let again = PlainCube::new(alloc, schema_of_kinds(alloc)?);
-    check_run_in::<PlainCube, R, Brand>(rt, alloc, first, again, case, Blank::new(1))
 }
 
 fn check_plain<R: Wait + Abort>(rt: &R, alloc: Global, case: &Case) -> Result<(), NoMemory> {
@@ -367,7 +309,7 @@ fn answers_each_kind_of_line_up_to_its_quit_or_a_fault(rt: HostRuntime) -> Resul
             "{\"at\":3,\"fault\":\"BadQuote\"}\n",
         ),
         Case {
-            failing_put: Some(2),
+            failing_puts: &[2],
             end: Err(SessionFault::Write),
             ..quiet_case(
                 b"told\ncount\ntold\n",
@@ -380,7 +322,7 @@ fn answers_each_kind_of_line_up_to_its_quit_or_a_fault(rt: HostRuntime) -> Resul
             )
         },
         Case {
-            failing_read: Some(2),
+            failing_reads: &[2],
             end: Err(SessionFault::Read),
             ..quiet_case(b"told\ncount\n", NEVER, 0, 1, &[], 1, told)
         },
@@ -427,35 +369,12 @@ fn prints_the_numbers_of_the_cube_that_is_shown(rt: HostRuntime) -> Result<(), F
 #[test]
 fn runs_a_script_to_its_quit(rt: HostRuntime) -> Result<(), Fail> {
     let put = "{\"told\":3}\n{\"rows\":[[3]],\"seen\":3}\n";
-    check_run(
-        &rt,
-        rt.alloc(),
-        &quiet_case(b"told\ncount\nquit\ntold", 0, 1, 2, &[3], 2, put),
-    )?;
+    let case = Case {
+        runs: true,
+        ..quiet_case(b"told\ncount\nquit\ntold", 0, 1, 2, &[3], 2, put)
+    };
+    check_plain(&rt, rt.alloc(), &case)?;
     Ok(())
-}
-
-/// A script without end: one `told`, and then a comment that does not end.
-#[derive(Drop)]
-struct Endless {
-    asked: bool,
-}
-
-impl Source for Endless {
-    ghost left = { λ _. None };
-
-    ghost faults = { λ _. 0 };
-
-    fn read(&mut self, buf: &mut [u8]) -> Result<usize, Failed> {
-        let line = b"told\n";
-        if self.asked || buf.len() < line.len() {
-            buf.fill(b'#');
-            return Ok(buf.len());
-        }
-        self.asked = true;
-        buf[..line.len()].copy_from_slice(line);
-        Ok(line.len())
-    }
 }
 
 /// How many puts it got.
@@ -490,8 +409,7 @@ fn run_in<I: Source, R: Wait + Abort, L: Ledger>(
     let mut steps = Steps::<L>::new(blank);
     let first = PlainCube::new(alloc, schema_of_kinds(alloc)?);
     let again = PlainCube::new(alloc, schema_of_kinds(alloc)?);
-    let (publisher, mut viewers) = open(rt, alloc, first, again, 1)?;
-    let viewer = viewer_of(rt, &mut viewers, &publisher);
+    let (publisher, viewer) = open_seen(rt, alloc, first, again)?;
     let (_put, mut take) = open_mail(alloc, &publisher).expect(rt, "a mailbox");
     let (_viewer, end) = session.run(rt, alloc, viewer, &mut take, &mut steps);
     publisher.finish(rt);
@@ -525,9 +443,11 @@ fn puts_each_reply_at_once(rt: HostRuntime) -> Result<(), Fail> {
     Ok(())
 }
 
+/// One `told`, and then a comment that does not end.
 #[test]
 fn answers_too_much_over_a_script_without_end(rt: HostRuntime) -> Result<(), Fail> {
-    let source = Endless { asked: false };
+    let told = Vec::from_slice(rt.alloc(), b"told\n")?;
+    let source = Endless::new(StillSource::new(List::from_vec(told), 5), b'#');
     check_puts(&rt, rt.alloc(), source, (Err(SessionFault::TooMuch), 1))?;
     Ok(())
 }

@@ -8,65 +8,63 @@ use Rattle.live_session.proofs.OneTurn.{fresh_length, of_ok, of_err}
 use Rattle.live_session.proofs.Says.{says_news, seen_news}
 use Rattle.live_session.proofs.session.Session.finish.Goals as goal
 
-pub returns-in-Ok-Skipped-clause-answered : goal.returns-in-Ok-Skipped-clause-answered
-returns-in-Ok-Skipped-clause-answered g c a b news is =
+pub returns-in-Ok-Skipped-clause-puts : goal.returns-in-Ok-Skipped-clause-puts
+returns-in-Ok-Skipped-clause-puts g c =
+    let viewer = c.args.viewer.now in
+    let p = c.args.parsed.now in
+    let shown = IsShown g.V.CubeView.weight_at g.V.CubeView.seen g.V.CubeView.schema g.V.CubeView.numbers viewer.schema viewer.shown.points in record {
+      answered = λ a b news is.
+          answered_skip g.O.Sink.held viewer.schema shown a.shown b.shown (length a.told) (length b.told) c.args.self.now c.args.self.now p c.in-Ok-Skipped.field-0 c.in-Ok-Skipped.field-0-is
+          (says_news viewer.schema shown viewer.shown viewer.learned p b c.in-Ok-Skipped.field-0 is
+          (of_ok (SaysOver viewer.schema shown viewer.shown.points (length viewer.learned.points) p) c.args.served c.in-Ok-Skipped.field-0 c.in-Ok-Skipped.is c.requires.served.says))
+          refl c.requires.open;
+      broken = λ a b news is e. cc;
+    }
+
+pub returns-in-Ok-Quit-clause-puts : goal.returns-in-Ok-Quit-clause-puts
+returns-in-Ok-Quit-clause-puts g c =
+    let viewer = c.args.viewer.now in
+    let p = c.args.parsed.now in
+    let shown = IsShown g.V.CubeView.weight_at g.V.CubeView.seen g.V.CubeView.schema g.V.CubeView.numbers viewer.schema viewer.shown.points in record {
+      answered = λ a b news is.
+          answered_quit g.O.Sink.held viewer.schema shown a.shown b.shown (length a.told) (length b.told) c.args.self.now _ p c.in-Ok-Quit.field-0 c.in-Ok-Quit.field-0-is
+          (says_news viewer.schema shown viewer.shown viewer.learned p b c.in-Ok-Quit.field-0 is
+          (of_ok (SaysOver viewer.schema shown viewer.shown.points (length viewer.learned.points) p) c.args.served c.in-Ok-Quit.field-0 c.in-Ok-Quit.is c.requires.served.says))
+          (ap (λ (s : SessionState _ _). s.sink) c.self.view_is) (ap (λ (s : SessionState _ _). s.replies) c.self.view_is) (ap (λ (s : SessionState _ _). s.seens) c.self.view_is) (ap (λ (s : SessionState _ _). s.lacked) c.self.view_is) refl;
+      broken = λ a b news is e. cc;
+    }
+
+pub returns-in-Ok-Reply-clause-puts : goal.returns-in-Ok-Reply-clause-puts
+returns-in-Ok-Reply-clause-puts g c =
     let viewer = c.args.viewer.now in
     let p = c.args.parsed.now in
     let shown = IsShown g.V.CubeView.weight_at g.V.CubeView.seen g.V.CubeView.schema g.V.CubeView.numbers viewer.schema viewer.shown.points in
-    answered_skip g.O.Sink.held viewer.schema shown a.shown b.shown (length a.told) (length b.told) c.args.self.now c.args.self.now p c.in-Ok-Skipped.field-0 c.in-Ok-Skipped.field-0-is
-    (says_news viewer.schema shown viewer.shown viewer.learned p b c.in-Ok-Skipped.field-0 is
-    (of_ok (SaysOver viewer.schema shown viewer.shown.points (length viewer.learned.points) p) c.args.served c.in-Ok-Skipped.field-0 c.in-Ok-Skipped.is c.requires.says))
-    refl c.requires.open
+    let said = of_ok (SaysOver viewer.schema shown viewer.shown.points (length viewer.learned.points) p) c.args.served c.in-Ok-Reply.field-0 c.in-Ok-Reply.is c.requires.served.says in record {
+      answered = λ a b news is.
+          answered_reply g.O.Sink.held viewer.schema shown a.shown b.shown (length a.told) (length b.told) c.args.self.now c.put.new.self p
+          news.goes_on.0 (prefix-longer a.told b.told news.goes_on.1) (fresh_length a.told b.told b.shown p news.goes_on.1 news.fresh)
+          c.put.result c.in-Ok-Reply.field-0 c.as_slice.result.now c.in-Ok-Reply.line c.seen_asked-seen.result c.in-Ok-Reply.field-0-is c.as_slice.ensures
+          (c.seen_asked-seen.ensures ∙ ap (λ n. seen_asked n p) c.seen.ensures ∙ seen_news viewer.shown viewer.learned p b is)
+          (says_news viewer.schema shown viewer.shown viewer.learned p b c.in-Ok-Reply.field-0 is said)
+          c.put.ensures.put;
+      broken = λ a b news is e.
+          broken_reply g.O.Sink.held viewer.schema shown a.shown b.shown (length a.told) (length b.told) c.args.self.now c.put.new.self p
+          news.goes_on.0 (prefix-longer a.told b.told news.goes_on.1) (fresh_length a.told b.told b.shown p news.goes_on.1 news.fresh)
+          c.in-Ok-Reply.field-0 c.as_slice.result.now c.in-Ok-Reply.line c.in-Ok-Reply.field-0-is c.as_slice.ensures
+          (says_news viewer.schema shown viewer.shown viewer.learned p b c.in-Ok-Reply.field-0 is said)
+          (c.put.ensures.write e).0 (c.put.ensures.write e).1;
+    }
 
-pub returns-in-Ok-Quit-clause-answered : goal.returns-in-Ok-Quit-clause-answered
-returns-in-Ok-Quit-clause-answered g c a b news is =
+pub returns-in-Err-clause-puts : goal.returns-in-Err-clause-puts
+returns-in-Err-clause-puts g c =
     let viewer = c.args.viewer.now in
     let p = c.args.parsed.now in
     let shown = IsShown g.V.CubeView.weight_at g.V.CubeView.seen g.V.CubeView.schema g.V.CubeView.numbers viewer.schema viewer.shown.points in
-    answered_quit g.O.Sink.held viewer.schema shown a.shown b.shown (length a.told) (length b.told) c.args.self.now _ p c.in-Ok-Quit.field-0 c.in-Ok-Quit.field-0-is
-    (says_news viewer.schema shown viewer.shown viewer.learned p b c.in-Ok-Quit.field-0 is
-    (of_ok (SaysOver viewer.schema shown viewer.shown.points (length viewer.learned.points) p) c.args.served c.in-Ok-Quit.field-0 c.in-Ok-Quit.is c.requires.says))
-    (ap (λ (s : SessionState _ _). s.sink) c.self.view_is) (ap (λ (s : SessionState _ _). s.replies) c.self.view_is) (ap (λ (s : SessionState _ _). s.seens) c.self.view_is) (ap (λ (s : SessionState _ _). s.lacked) c.self.view_is) refl
-
-pub returns-in-Ok-Reply-clause-broken : goal.returns-in-Ok-Reply-clause-broken
-returns-in-Ok-Reply-clause-broken g c a b news is e =
-    let viewer = c.args.viewer.now in
-    let p = c.args.parsed.now in
-    let shown = IsShown g.V.CubeView.weight_at g.V.CubeView.seen g.V.CubeView.schema g.V.CubeView.numbers viewer.schema viewer.shown.points in
-    let write = c.put.ensures.write e in
-    broken_reply g.O.Sink.held viewer.schema shown a.shown b.shown (length a.told) (length b.told) c.args.self.now c.put.new.self p
-    news.goes_on.0 (prefix-longer a.told b.told news.goes_on.1) (fresh_length a.told b.told b.shown p news.goes_on.1 news.fresh)
-    c.in-Ok-Reply.field-0 c.as_slice.result.now c.in-Ok-Reply.line c.in-Ok-Reply.field-0-is c.as_slice.ensures
-    (says_news viewer.schema shown viewer.shown viewer.learned p b c.in-Ok-Reply.field-0 is
-    (of_ok (SaysOver viewer.schema shown viewer.shown.points (length viewer.learned.points) p) c.args.served c.in-Ok-Reply.field-0 c.in-Ok-Reply.is c.requires.says))
-    write.0 write.1
-
-pub returns-in-Ok-Reply-clause-answered : goal.returns-in-Ok-Reply-clause-answered
-returns-in-Ok-Reply-clause-answered g c a b news is =
-    let viewer = c.args.viewer.now in
-    let p = c.args.parsed.now in
-    let shown = IsShown g.V.CubeView.weight_at g.V.CubeView.seen g.V.CubeView.schema g.V.CubeView.numbers viewer.schema viewer.shown.points in
-    answered_reply g.O.Sink.held viewer.schema shown a.shown b.shown (length a.told) (length b.told) c.args.self.now c.put.new.self p
-    news.goes_on.0 (prefix-longer a.told b.told news.goes_on.1) (fresh_length a.told b.told b.shown p news.goes_on.1 news.fresh)
-    c.put.result c.in-Ok-Reply.field-0 c.as_slice.result.now c.in-Ok-Reply.line c.seen_asked-seen.result c.in-Ok-Reply.field-0-is c.as_slice.ensures
-    (c.seen_asked-seen.ensures ∙ ap (λ n. seen_asked n p) c.seen.ensures ∙ seen_news viewer.shown viewer.learned p b is)
-    (says_news viewer.schema shown viewer.shown viewer.learned p b c.in-Ok-Reply.field-0 is
-    (of_ok (SaysOver viewer.schema shown viewer.shown.points (length viewer.learned.points) p) c.args.served c.in-Ok-Reply.field-0 c.in-Ok-Reply.is c.requires.says))
-    c.put.ensures.put
-
-pub returns-in-Err-clause-answered : goal.returns-in-Err-clause-answered
-returns-in-Err-clause-answered g c a b news is =
-    let viewer = c.args.viewer.now in
-    let shown = IsShown g.V.CubeView.weight_at g.V.CubeView.seen g.V.CubeView.schema g.V.CubeView.numbers viewer.schema viewer.shown.points in
-    subst (λ (s : SessionState _ _). IfOk c.put-in-Err.result (Answered g.O.Sink.held viewer.schema shown a.shown b.shown (length a.told) (length b.told) s c.put-in-Err.new.self c.args.parsed.now)) c.self-in-Err.view_is
-    (answered_lack g.O.Sink.held viewer.schema shown a.shown b.shown (length a.told) (length b.told) _ c.put-in-Err.new.self c.args.parsed.now c.put-in-Err.result c.as_bytes.result.now c.no_memory_line.result.now c.as_bytes.ensures.value c.no_memory_line.ensures
-    (of_err _ c.args.served c.in-Err.field-0 c.in-Err.is c.requires.no_memory) c.put-in-Err.ensures.put)
-
-pub returns-in-Err-clause-broken : goal.returns-in-Err-clause-broken
-returns-in-Err-clause-broken g c a b news is e =
-    let viewer = c.args.viewer.now in
-    let shown = IsShown g.V.CubeView.weight_at g.V.CubeView.seen g.V.CubeView.schema g.V.CubeView.numbers viewer.schema viewer.shown.points in
-    let write = c.put-in-Err.ensures.write e in
-    subst (λ (s : SessionState _ _). IsBroken g.O.Sink.held viewer.schema shown a.shown b.shown (length a.told) (length b.told) s c.put-in-Err.new.self c.args.parsed.now) c.self-in-Err.view_is
-    (broken_lack g.O.Sink.held viewer.schema shown a.shown b.shown (length a.told) (length b.told) _ c.put-in-Err.new.self c.args.parsed.now c.as_bytes.result.now c.no_memory_line.result.now c.as_bytes.ensures.value c.no_memory_line.ensures
-    (of_err _ c.args.served c.in-Err.field-0 c.in-Err.is c.requires.no_memory) write.0 write.1)
+    let asks = of_err _ c.args.served c.in-Err.field-0 c.in-Err.is c.requires.served.no_memory in record {
+      answered = λ a b news is.
+          subst (λ (s : SessionState _ _). IfOk c.put-in-Err.result (Answered g.O.Sink.held viewer.schema shown a.shown b.shown (length a.told) (length b.told) s c.put-in-Err.new.self p)) c.self-in-Err.view_is
+          (answered_lack g.O.Sink.held viewer.schema shown a.shown b.shown (length a.told) (length b.told) _ c.put-in-Err.new.self p c.put-in-Err.result c.as_bytes.result.now c.no_memory_line.result.now c.as_bytes.ensures.value c.no_memory_line.ensures asks c.put-in-Err.ensures.put);
+      broken = λ a b news is e.
+          subst (λ (s : SessionState _ _). IsBroken g.O.Sink.held viewer.schema shown a.shown b.shown (length a.told) (length b.told) s c.put-in-Err.new.self p) c.self-in-Err.view_is
+          (broken_lack g.O.Sink.held viewer.schema shown a.shown b.shown (length a.told) (length b.told) _ c.put-in-Err.new.self p c.as_bytes.result.now c.no_memory_line.result.now c.as_bytes.ensures.value c.no_memory_line.ensures asks (c.put-in-Err.ensures.write e).0 (c.put-in-Err.ensures.write e).1);
+    }

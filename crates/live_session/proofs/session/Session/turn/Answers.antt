@@ -7,49 +7,41 @@ use Rattle.live_session.specs.declared.turn.Turn.{Turn}
 use Rattle.live_session.proofs.OneTurn.{end_of, faults_after, has_news, if_some, known_some, of_fault, prefix-same, reads_of, same_fault, shown_numbers, whole_news}
 use Rattle.live_session.proofs.SoFarLaws.{done_turn, goes_final, goes_within}
 use Rattle.session_core.proofs.SoFar.{fault_is}
-use Rattle.live_session.proofs.Turning.{breaks_off, turned_answered, turned_end, turned_ended}
+use Rattle.live_session.proofs.Turning.{Keeps, breaks_off, turned_answered, turned_end, turned_ended}
 use Rattle.live_session.proofs.session.Session.turn.Goals as goal
 
 pub returns-then-self-clause-turned : goal.returns-then-self-clause-turned
-returns-then-self-clause-turned g c =
-    turned_ended g.I.Source.left g.I.Source.faults g.O.Sink.held c.args.viewer.schema _ _ _ c.args.self.now refl (ap (λ s. s.ended) (sym c.self.view_is) ∙ c.if-self.true)
+returns-then-self-clause-turned g c = record {
+  turned = turned_ended g.I.Source.left g.I.Source.faults g.O.Sink.held c.args.viewer.schema _ _ _ c.args.self.now refl (ap (λ s. s.ended) (sym c.self.view_is) ∙ c.if-self.true);
+  broken = λ e. cc;
+}
 
 pub returns-in-Ok-Some-clause-turned : goal.returns-in-Ok-Some-clause-turned
 returns-in-Ok-Some-clause-turned g c =
     let viewer = c.answer_line-viewer.result.0 in
-    let h = viewer.shown.points in
     let line = c.answer_line-viewer.ensures in
-    let news = has_news c.in-Ok-Some.parsed c.args.viewer.shown c.args.viewer.learned c.args.viewer.last c.args.mail.now viewer.shown viewer.learned c.answer_line-viewer.new.mail line.goes (λ e. (line.look e).0) line.unseen line.unasked line.mail.0 in
-    turned_answered g.I.Source.left g.I.Source.faults g.O.Sink.held c.args.viewer.schema (IsShown g.V.CubeView.weight_at g.V.CubeView.seen g.V.CubeView.schema g.V.CubeView.numbers c.args.viewer.schema h) (news_of c.args.viewer.shown c.args.viewer.learned c.args.mail.now) (news_of viewer.shown viewer.learned c.answer_line-viewer.new.mail)
-    c.finish-turn.result c.args.self.now c.read_next.new.self c.finish-turn.new.self c.in-Ok-Some.parsed
-    (reads_of g.I.Source.left g.I.Source.faults g.O.Sink.held c.args.viewer.schema c.schema.result.now c.args.self.now c.read_next.new.self c.in-Ok-Some.field-0 c.in-Ok-Some.parsed c.schema.ensures c.in-Ok-Some.field-0-is c.in-Ok-Some.ensures.asked)
-    (c.read_next.ensures.same.0, c.read_next.ensures.same.1, c.read_next.ensures.same.2, c.in-Ok-Some.ensures.lacked)
-    c.finish-turn.ensures.source
-    news
-    (subst (λ (z : Schema). IfOk c.finish-turn.result (Answered g.O.Sink.held z (IsShown g.V.CubeView.weight_at g.V.CubeView.seen g.V.CubeView.schema g.V.CubeView.numbers z h) c.args.viewer.shown.points h (length c.args.viewer.learned.points) (length viewer.learned.points) c.read_next.new.self c.finish-turn.new.self c.in-Ok-Some.parsed)) line.same.1
-    (c.finish-turn.ensures.answered (news_of c.args.viewer.shown c.args.viewer.learned c.args.mail.now) (news_of viewer.shown viewer.learned c.answer_line-viewer.new.mail) news (λ look. refl, refl)))
-
-pub returns-in-Ok-Some-clause-broken : goal.returns-in-Ok-Some-clause-broken
-returns-in-Ok-Some-clause-broken g c e =
-    let viewer = c.answer_line-viewer.result.0 in
-    let h = viewer.shown.points in
-    let line = c.answer_line-viewer.ensures in
-    let news = has_news c.in-Ok-Some.parsed c.args.viewer.shown c.args.viewer.learned c.args.viewer.last c.args.mail.now viewer.shown viewer.learned c.answer_line-viewer.new.mail line.goes (λ e. (line.look e).0) line.unseen line.unasked line.mail.0 in
-    let faulty = of_fault _ c.finish-turn.result _ c.finish-turn.ensures.faults.ended e in
-    breaks_off g.I.Source.left g.I.Source.faults g.O.Sink.held c.args.viewer.schema (IsShown g.V.CubeView.weight_at g.V.CubeView.seen g.V.CubeView.schema g.V.CubeView.numbers c.args.viewer.schema h) (news_of c.args.viewer.shown c.args.viewer.learned c.args.mail.now) (news_of viewer.shown viewer.learned c.answer_line-viewer.new.mail)
-    c.args.self.now c.read_next.new.self c.finish-turn.new.self c.in-Ok-Some.parsed
-    (reads_of g.I.Source.left g.I.Source.faults g.O.Sink.held c.args.viewer.schema c.schema.result.now c.args.self.now c.read_next.new.self c.in-Ok-Some.field-0 c.in-Ok-Some.parsed c.schema.ensures c.in-Ok-Some.field-0-is c.in-Ok-Some.ensures.asked)
-    (c.read_next.ensures.same.0, c.read_next.ensures.same.1, c.read_next.ensures.same.2, c.in-Ok-Some.ensures.lacked)
-    c.finish-turn.ensures.source
-    news
-    (faulty.1, faulty.2)
-    (subst (λ (z : Schema). IsBroken g.O.Sink.held z (IsShown g.V.CubeView.weight_at g.V.CubeView.seen g.V.CubeView.schema g.V.CubeView.numbers z h) c.args.viewer.shown.points h (length c.args.viewer.learned.points) (length viewer.learned.points) c.read_next.new.self c.finish-turn.new.self c.in-Ok-Some.parsed) line.same.1
-    (c.finish-turn.ensures.broken (news_of c.args.viewer.shown c.args.viewer.learned c.args.mail.now) (news_of viewer.shown viewer.learned c.answer_line-viewer.new.mail) news (λ look. refl, refl) e))
+    let read = c.in-Ok-Some.ensures.reads in
+    let A = IsShown g.V.CubeView.weight_at g.V.CubeView.seen g.V.CubeView.schema g.V.CubeView.numbers c.args.viewer.schema viewer.shown.points in
+    let a = news_of c.args.viewer.shown c.args.viewer.learned c.args.mail.now in
+    let b = news_of viewer.shown viewer.learned c.answer_line-viewer.new.mail in
+    let news = has_news c.in-Ok-Some.parsed c.args.viewer.shown c.args.viewer.learned c.args.viewer.last c.args.mail.now viewer.shown viewer.learned c.answer_line-viewer.new.mail line.goes in
+    let reads = reads_of g.I.Source.left g.I.Source.faults g.O.Sink.held c.args.viewer.schema c.schema.result.now c.args.self.now c.read_next.new.self c.in-Ok-Some.field-0 c.in-Ok-Some.parsed c.schema.ensures c.in-Ok-Some.field-0-is read.asked in
+    let keeps : Keeps c.args.self.now c.read_next.new.self = (c.read_next.ensures.same.0, c.read_next.ensures.same.1, c.read_next.ensures.same.2, read.lacked) in record {
+      turned =
+          turned_answered g.I.Source.left g.I.Source.faults g.O.Sink.held c.args.viewer.schema A a b c.finish-turn.result c.args.self.now c.read_next.new.self c.finish-turn.new.self c.in-Ok-Some.parsed reads keeps c.finish-turn.ensures.source news
+          (subst (λ (z : Schema). IfOk c.finish-turn.result (Answered g.O.Sink.held z (IsShown g.V.CubeView.weight_at g.V.CubeView.seen g.V.CubeView.schema g.V.CubeView.numbers z viewer.shown.points) a.shown b.shown (length a.told) (length b.told) c.read_next.new.self c.finish-turn.new.self c.in-Ok-Some.parsed)) line.same.1
+          (c.finish-turn.ensures.puts.answered a b news (λ look. refl, refl)));
+      broken = λ e.
+          let faulty = of_fault _ c.finish-turn.result _ c.finish-turn.ensures.faults.ended e in
+          breaks_off g.I.Source.left g.I.Source.faults g.O.Sink.held c.args.viewer.schema A a b c.args.self.now c.read_next.new.self c.finish-turn.new.self c.in-Ok-Some.parsed reads keeps c.finish-turn.ensures.source news (faulty.1, faulty.2)
+          (subst (λ (z : Schema). IsBroken g.O.Sink.held z (IsShown g.V.CubeView.weight_at g.V.CubeView.seen g.V.CubeView.schema g.V.CubeView.numbers z viewer.shown.points) a.shown b.shown (length a.told) (length b.told) c.read_next.new.self c.finish-turn.new.self c.in-Ok-Some.parsed) line.same.1
+          (c.finish-turn.ensures.puts.broken a b news (λ look. refl, refl) e));
+    }
 
 pub returns-in-Ok-Some-clause-faults : goal.returns-in-Ok-Some-clause-faults
 returns-in-Ok-Some-clause-faults g c = (
   faults_after g.I.Source.left g.I.Source.faults g.O.Sink.held g.O.Sink.faults c.args.self.now c.read_next.new.self c.finish-turn.new.self c.finish-turn.result
-      c.read_next.ensures.same.0 c.read_next.ensures.same.1 c.read_next.ensures.same.2 c.in-Ok-Some.ensures.lacked c.finish-turn.ensures.source
+      c.read_next.ensures.same.0 c.read_next.ensures.same.1 c.read_next.ensures.same.2 c.in-Ok-Some.ensures.reads.lacked c.finish-turn.ensures.source
       (c.in-Ok-Some.ensures.faults.read.quiet (λ e. cc)) c.finish-turn.ensures.others.0 c.finish-turn.ensures.others.1 c.finish-turn.ensures.faults,
   c.finish-turn.ensures.name ∙ ap g.O.Sink.name c.read_next.ensures.same.0,
 )
@@ -62,16 +54,24 @@ returns-in-Ok-Some-clause-so_far g c start taken s =
     (IsShown g.V.CubeView.weight_at g.V.CubeView.seen g.V.CubeView.schema g.V.CubeView.numbers c.args.viewer.schema viewer.shown.points)
     (shown_numbers g.V.CubeView.weight_at g.V.CubeView.seen g.V.CubeView.schema g.V.CubeView.numbers g.V.CubeView.is_stat c.args.viewer.schema viewer.shown.points g.met.V.CubeView.structure)
     (news_of c.args.viewer.shown c.args.viewer.learned c.args.mail.now) (news_of viewer.shown viewer.learned c.answer_line-viewer.new.mail) start c.args.self.now c.finish-turn.new.self {put_faults = g.O.Sink.faults}
-    (goes_within c.args.viewer.schema g.V.CubeView.is_stat (news_of c.args.viewer.shown c.args.viewer.learned c.args.mail.now) (news_of viewer.shown viewer.learned c.answer_line-viewer.new.mail) line.goes.seen line.goes.told)
-    c.finish-turn.result (ap (λ s. s.ended) (sym c.self.view_is) ∙ c.if-self.false) line.mail.1 s
-    (returns-in-Ok-Some-clause-turned g c) (returns-in-Ok-Some-clause-broken g c) (returns-in-Ok-Some-clause-faults g c).0
+    (goes_within c.args.viewer.schema g.V.CubeView.is_stat (news_of c.args.viewer.shown c.args.viewer.learned c.args.mail.now) (news_of viewer.shown viewer.learned c.answer_line-viewer.new.mail) line.goes.goes.seen line.goes.goes.told)
+    c.finish-turn.result (ap (λ s. s.ended) (sym c.self.view_is) ∙ c.if-self.false) line.goes.mail.1 s
+    (returns-in-Ok-Some-clause-turned g c).turned (returns-in-Ok-Some-clause-turned g c).broken (returns-in-Ok-Some-clause-faults g c).0
 
 pub returns-in-Ok-None-clause-turned : goal.returns-in-Ok-None-clause-turned
 returns-in-Ok-None-clause-turned g c =
-    let ends = c.in-Ok-None.ensures.end (ap (λ o. Ok o) c.in-Ok-None.field-0-is) in
-    turned_end g.I.Source.left g.I.Source.faults g.O.Sink.held c.args.viewer.schema _ _ _ c.args.self.now c.read_next.new.self refl
-    (end_of g.I.Source.left g.I.Source.faults g.O.Sink.held c.schema.result.now c.args.self.now c.read_next.new.self c.in-Ok-None.field-0 c.in-Ok-None.field-0-is c.in-Ok-None.ensures.asked)
-    ends.1 ends.0 c.read_next.ensures.same.0 c.read_next.ensures.same.1 c.read_next.ensures.same.2 c.in-Ok-None.ensures.lacked
+    let ends = c.in-Ok-None.ensures.reads.end (ap (λ o. Ok o) c.in-Ok-None.field-0-is) in record {
+      turned = turned_end g.I.Source.left g.I.Source.faults g.O.Sink.held c.args.viewer.schema _ _ _ c.args.self.now c.read_next.new.self refl
+          (end_of g.I.Source.left g.I.Source.faults g.O.Sink.held c.schema.result.now c.args.self.now c.read_next.new.self c.in-Ok-None.field-0 c.in-Ok-None.field-0-is c.in-Ok-None.ensures.reads.asked)
+          ends.1 ends.0 c.read_next.ensures.same.0 c.read_next.ensures.same.1 c.read_next.ensures.same.2 c.in-Ok-None.ensures.reads.lacked;
+      broken = λ e. cc;
+    }
+
+pub returns-in-Err-clause-turned : goal.returns-in-Err-clause-turned
+returns-in-Err-clause-turned g c = record {
+  turned = tt;
+  broken = λ e. absurd (c.in-Err.ensures.no_write (ap (λ f. Err f) (fault_is {T = Turn} c.in-Err.fault _ e)));
+}
 
 pub returns-in-Err-clause-so_far : goal.returns-in-Err-clause-so_far
 returns-in-Err-clause-so_far g c start taken s =
@@ -83,8 +83,8 @@ returns-in-Err-clause-so_far g c start taken s =
     (same_fault g.I.Source.left g.I.Source.faults g.O.Sink.held g.O.Sink.faults c.args.self.now c.read_next.new.self c.in-Err.fault c.in-Err.ensures.faults)
 
 pub returns-in-Ok-Some-clause-finals : goal.returns-in-Ok-Some-clause-finals
-returns-in-Ok-Some-clause-finals g c start taken =
-    if_some c.args.viewer.last (λ w last s.
+returns-in-Ok-Some-clause-finals g c =
+    if_some c.args.viewer.last (λ w last start taken s.
     let viewer = c.answer_line-viewer.result.0 in
     let z = c.args.viewer.schema in
     let p = c.in-Ok-Some.parsed in
@@ -92,28 +92,28 @@ returns-in-Ok-Some-clause-finals g c start taken =
     let A = IsShown g.V.CubeView.weight_at g.V.CubeView.seen g.V.CubeView.schema g.V.CubeView.numbers z viewer.shown.points in
     let a = news_of w w c.args.mail.now in
     let b = news_of w w c.answer_line-viewer.new.mail in
-    let news = whole_news p w c.args.mail.now c.answer_line-viewer.new.mail line.mail.0 in
-    let reads = reads_of g.I.Source.left g.I.Source.faults g.O.Sink.held z c.schema.result.now c.args.self.now c.read_next.new.self c.in-Ok-Some.field-0 p c.schema.ensures c.in-Ok-Some.field-0-is c.in-Ok-Some.ensures.asked in
-    let is : IsNewsOf viewer.shown viewer.learned p b = (λ look. known_some _ c.args.viewer.last w last (line.look look).1, (known_some _ viewer.last w (line.same.0 ∙ last) viewer.within).1) in
+    let news = whole_news p w c.args.mail.now c.answer_line-viewer.new.mail line.goes.mail.0 in
+    let reads = reads_of g.I.Source.left g.I.Source.faults g.O.Sink.held z c.schema.result.now c.args.self.now c.read_next.new.self c.in-Ok-Some.field-0 p c.schema.ensures c.in-Ok-Some.field-0-is c.in-Ok-Some.ensures.reads.asked in
+    let is : IsNewsOf viewer.shown viewer.learned p b = (λ look. known_some _ c.args.viewer.last w last (line.goes.look look).1, (known_some _ viewer.last w (line.same.0 ∙ last) viewer.within).1) in
     done_turn g.I.Source.left g.I.Source.faults g.O.Sink.held z g.V.CubeView.is_stat taken true A
     (shown_numbers g.V.CubeView.weight_at g.V.CubeView.seen g.V.CubeView.schema g.V.CubeView.numbers g.V.CubeView.is_stat z viewer.shown.points g.met.V.CubeView.structure)
     a b start c.args.self.now c.finish-turn.new.self {put_faults = g.O.Sink.faults} (goes_final z g.V.CubeView.is_stat w c.args.mail.now c.answer_line-viewer.new.mail)
-    c.finish-turn.result (ap (λ s. s.ended) (sym c.self.view_is) ∙ c.if-self.false) line.mail.1 s
+    c.finish-turn.result (ap (λ s. s.ended) (sym c.self.view_is) ∙ c.if-self.false) line.goes.mail.1 s
     (turned_answered g.I.Source.left g.I.Source.faults g.O.Sink.held z A a b c.finish-turn.result c.args.self.now c.read_next.new.self c.finish-turn.new.self p reads
-    (c.read_next.ensures.same.0, c.read_next.ensures.same.1, c.read_next.ensures.same.2, c.in-Ok-Some.ensures.lacked) c.finish-turn.ensures.source news
+    (c.read_next.ensures.same.0, c.read_next.ensures.same.1, c.read_next.ensures.same.2, c.in-Ok-Some.ensures.reads.lacked) c.finish-turn.ensures.source news
     (subst (λ (y : Schema). IfOk c.finish-turn.result (Answered g.O.Sink.held y (IsShown g.V.CubeView.weight_at g.V.CubeView.seen g.V.CubeView.schema g.V.CubeView.numbers y viewer.shown.points) a.shown b.shown (length a.told) (length b.told) c.read_next.new.self c.finish-turn.new.self p)) line.same.1
-    (c.finish-turn.ensures.answered a b news is)))
+    (c.finish-turn.ensures.puts.answered a b news is)))
     (λ e.
     let faulty = of_fault _ c.finish-turn.result _ c.finish-turn.ensures.faults.ended e in
     breaks_off g.I.Source.left g.I.Source.faults g.O.Sink.held z A a b c.args.self.now c.read_next.new.self c.finish-turn.new.self p reads
-    (c.read_next.ensures.same.0, c.read_next.ensures.same.1, c.read_next.ensures.same.2, c.in-Ok-Some.ensures.lacked) c.finish-turn.ensures.source news (faulty.1, faulty.2)
+    (c.read_next.ensures.same.0, c.read_next.ensures.same.1, c.read_next.ensures.same.2, c.in-Ok-Some.ensures.reads.lacked) c.finish-turn.ensures.source news (faulty.1, faulty.2)
     (subst (λ (y : Schema). IsBroken g.O.Sink.held y (IsShown g.V.CubeView.weight_at g.V.CubeView.seen g.V.CubeView.schema g.V.CubeView.numbers y viewer.shown.points) a.shown b.shown (length a.told) (length b.told) c.read_next.new.self c.finish-turn.new.self p) line.same.1
-    (c.finish-turn.ensures.broken a b news is e)))
+    (c.finish-turn.ensures.puts.broken a b news is e)))
     (returns-in-Ok-Some-clause-faults g c).0)
 
 pub returns-in-Err-clause-finals : goal.returns-in-Err-clause-finals
-returns-in-Err-clause-finals g c start taken =
-    if_some c.args.viewer.last (λ w last s.
+returns-in-Err-clause-finals g c =
+    if_some c.args.viewer.last (λ w last start taken s.
     let news = news_of w w c.args.mail.now in
     done_turn g.I.Source.left g.I.Source.faults g.O.Sink.held c.args.viewer.schema g.V.CubeView.is_stat taken true g.V.CubeView.is_stat (λ stat m. m) news news start c.args.self.now c.read_next.new.self {put_faults = g.O.Sink.faults}
     (goes_final c.args.viewer.schema g.V.CubeView.is_stat w c.args.mail.now c.args.mail.now)
