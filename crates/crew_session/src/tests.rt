@@ -1,48 +1,19 @@
 //! Scripts over a pair of plain cubes to which three points were published, on one thread.
-ghost use Rattle.std.specs.Prelude.{◌≡◌, All, IfOk};
+ghost use Rattle.std.specs.Prelude.{◌≡◌, IfOk};
 ghost use Rattle.crew_session.specs.Work.{HadNoTurn};
 
 use crate::{SessionDone, SessionWork};
-use cube_view::{Point, Schema, is_sound};
+use example_ends::{open_seen, publish_one};
 use example_schemas::{point, schema_of_kinds};
 use live_session::Session;
 use mailbox::open_mail;
 use outer_io::{LineCutter, List, MemSink, MemSource, NoMemory};
 use plain_cube::PlainCube;
-use published_pair::{Publisher, Viewer, open};
+use published_pair::{Publisher, Viewer};
 use std::alloc::Global;
 use std::process::Abort;
 use std::sync::Wait;
 use std::test::Fail;
-
-fn publish_one<R: Wait + Abort>(
-    rt: &R,
-    publisher: &mut Publisher<PlainCube>,
-    schema: &Schema,
-    point: Point,
-)
-    requires shown { publisher.old.published.points ≡ publisher.old.appended.items }
-    requires schema { publisher.old.schema ≡ schema.now }
-    ensures shown { publisher.new.published.points ≡ publisher.new.appended.items }
-    ensures same { (publisher.new.schema ≡ publisher.old.schema) × (publisher.new.published.book ≡ publisher.old.published.book) }
-{
-    assert!(rt; is_sound(schema, &point));
-    assert!(rt; publisher.len() < 1 << 35);
-    let done = publisher.append(point);
-    assert!(rt; done.is_ok());
-    publisher.publish(rt).expect(rt, "a publication");
-}
-
-fn viewer_of(
-    rt: &impl Abort,
-    viewers: &mut List<Viewer<PlainCube>>,
-    publisher: &Publisher<PlainCube>,
-) -> Viewer<PlainCube>
-    requires { All (λ v. v.shown ≡ publisher.now.published) viewers.old }
-    ensures { result.shown ≡ publisher.now.published }
-{
-    viewers.pop().expect(rt, "a viewer")
-}
 
 /// A publisher that has published three points, and its viewer.
 fn three_published<R: Wait + Abort>(
@@ -54,11 +25,10 @@ fn three_published<R: Wait + Abort>(
     let schema = schema_of_kinds(alloc)?;
     let first = PlainCube::new(alloc, schema_of_kinds(alloc)?);
     let again = PlainCube::new(alloc, schema_of_kinds(alloc)?);
-    let (mut publisher, mut viewers) = open(rt, alloc, first, again, 1)?;
-    let viewer = viewer_of(rt, &mut viewers, &publisher);
-    publish_one(rt, &mut publisher, &schema, point(0, 0, 0, 0));
-    publish_one(rt, &mut publisher, &schema, point(7, 7, 1, 1));
-    publish_one(rt, &mut publisher, &schema, point(0, 0, 0, 1));
+    let (mut publisher, viewer) = open_seen(rt, alloc, first, again)?;
+    assert!(rt; publish_one(rt, &mut publisher, &schema, point(0, 0, 0, 0)));
+    assert!(rt; publish_one(rt, &mut publisher, &schema, point(7, 7, 1, 1)));
+    assert!(rt; publish_one(rt, &mut publisher, &schema, point(0, 0, 0, 1)));
     Ok((publisher, viewer))
 }
 
