@@ -105,14 +105,7 @@ pub fn serve_unseen(alloc: Global, told: u64, parsed: &Parsed) -> Result<Served,
         Parsed::Ask(query) => match query.verb {
             Verb::Told => line_of(alloc, &Reply::Told(told)),
             Verb::Quit => Ok(Served::Quit),
-            Verb::Count
-            | Verb::Hist(_)
-            | Verb::Map(_)
-            | Verb::Series { .. }
-            | Verb::Window(_)
-            | Verb::Cross(_, _)
-            | Verb::Best { .. }
-            | Verb::Stat => unreachable!(),
+            _ => unreachable!(),
         },
         Parsed::Fault(fault, word) => line_of(alloc, &Reply::Fault(*fault, *word)),
     }
