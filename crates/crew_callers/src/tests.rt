@@ -13,14 +13,15 @@ use crew_builder::BuilderWork;
 use crew_feeder::{FeedDone, FeedJob, FeedWork, FirstRefusals};
 use crew_session::{SessionDone, SessionWork};
 use cube_view::Schema;
+use example_ends::{open_seen, open_two};
 use example_schemas::schema_of_kinds;
-use feed_queue::{DrawEnd, Ended, FeedEnd, open_lane};
+use feed_queue::{DrawEnd, Ended, FeedEnd};
 use feed_reader::read_header;
 use live_session::Session;
 use mailbox::{MailIn, MailOut, open_mail};
 use outer_io::{LineCutter, List, MemSink, MemSource, NoMemory};
 use plain_cube::PlainCube;
-use published_pair::{Last, Publisher, Rested, Viewer, open};
+use published_pair::{Last, Publisher, Rested, Viewer};
 use std::alloc::Global;
 use std::process::Abort;
 use std::sync::Wait;
@@ -237,17 +238,6 @@ fn end_works<R: Wait + Abort>(
     }
 }
 
-fn viewer_of(
-    rt: &impl Abort,
-    viewers: &mut List<Viewer<PlainCube>>,
-    publisher: &Publisher<PlainCube>,
-) -> Viewer<PlainCube>
-    requires { All (λ v. v.shown ≡ publisher.now.published) viewers.old }
-    ensures { result.shown ≡ publisher.now.published }
-{
-    viewers.pop().expect(rt, "a viewer")
-}
-
 /// The feeders run, then the builder, then the session. Where memory is ample what comes of them is the case's.
 fn run_in_turn<R: Wait + Abort>(
     rt: &R,
@@ -259,9 +249,7 @@ fn run_in_turn<R: Wait + Abort>(
     assert!(rt; 1 <= batch && batch <= 65536);
     let want = if ample { Some(case) } else { None };
     let schema = schema_of_kinds(alloc)?;
-    let (mut ends, draws) = open_lane(alloc, &schema, 64, 2)?;
-    let second = ends.pop().expect(rt, "a second end");
-    let first = ends.pop().expect(rt, "a first end");
+    let (first, second, draws) = open_two(alloc, &schema)?;
     let mut ended = List::new(alloc);
     let (one, two) = case.feeds;
     ended.add(feed(rt, alloc, &draws, &schema, first, 1, one, want)?)?;
@@ -269,8 +257,7 @@ fn run_in_turn<R: Wait + Abort>(
     let Ok(mails) = Vec::with_capacity(alloc, 1) else {
         return Err(NoMemory);
     };
-    let (publisher, mut viewers) = open_pair(rt, alloc, &schema)?;
-    let viewer = viewer_of(rt, &mut viewers, &publisher);
+    let (publisher, viewer) = open_pair(rt, alloc, &schema)?;
     let Ok(box_ends) = open_mail(alloc, &publisher) else {
         publisher.finish(rt);
         return Err(NoMemory);
@@ -288,19 +275,18 @@ fn run_in_turn<R: Wait + Abort>(
     Ok(())
 }
 
-/// A pair of plain cubes of the schema with one viewer.
+/// A pair of plain cubes of the schema, and its one viewer.
 fn open_pair<R: Wait>(
     rt: &R,
     alloc: Global,
     schema: &Schema,
-) -> Result<(Publisher<PlainCube>, List<Viewer<PlainCube>>), NoMemory>
+) -> Result<(Publisher<PlainCube>, Viewer<PlainCube>), NoMemory>
     ensures publisher { IfOk result (λ t. (t.0.published.points ≡ []) × (t.0.appended.items ≡ []) × (t.0.schema ≡ schema.now)) }
-    ensures viewers { IfOk result (λ t. All (λ v. v.shown ≡ t.0.published) t.1) }
+    ensures viewer { IfOk result (λ t. t.1.shown ≡ t.0.published) }
 {
     let first = PlainCube::new(alloc, schema.copy(alloc)?);
     let again = PlainCube::new(alloc, schema.copy(alloc)?);
-    let (publisher, viewers) = open(rt, alloc, first, again, 1)?;
-    Ok((publisher, viewers))
+    open_seen(rt, alloc, first, again)
 }
 
 /// Two feeds of three and of two records, published two at once.
