@@ -1,13 +1,14 @@
 //! Feeds in memory that are read into a cube.
-ghost use Rattle.std.specs.Prelude.{◌≡◌, All, IfOk, Some, None};
+ghost use Rattle.std.specs.Prelude.{◌≡◌, All, IfOk, Some};
 ghost use Rattle.cube_feeds.specs.Taking.{IsUnread};
 
 use crate::cube_of_feeds;
 use crew_feeder::Refusal;
 use cube_view::Schema;
 use example_schemas::schema_of_kinds;
+use feed_maker::Endless;
 use feed_reader::{Column, RowFault, read_header};
-use outer_io::{CutFault, Failed, LineCutter, List, MemSource, NoMemory, Source, StillSource};
+use outer_io::{CutFault, LineCutter, List, MemSource, NoMemory, Source, StillSource};
 use run_files::HeadedFeed;
 use run_report::FeedCounts;
 use std::alloc::{AllocError, Global};
@@ -29,27 +30,6 @@ struct Given<'a> {
     feeds: &'a [&'a [u8]],
     piece: usize,
     fails: &'a [u32],
-}
-
-/// Some bytes, and then the byte `x` without end.
-#[derive(Drop)]
-struct Endless {
-    first: StillSource,
-}
-
-impl Source for Endless {
-    ghost left = { λ _. None };
-
-    ghost faults = { λ _. 0 };
-
-    fn read(&mut self, buf: &mut [u8]) -> Result<usize, Failed> {
-        let n = self.first.read(buf)?;
-        if n > 0 {
-            return Ok(n);
-        }
-        buf.fill(b'x');
-        Ok(buf.len())
-    }
 }
 
 /// The feed of a source that met no fault, with the header that is its first line.
@@ -255,9 +235,7 @@ fn a_line_without_end_is_too_much(rt: HostRuntime) -> Result<(), Fail> {
     let alloc = rt.alloc();
     let schema = schema_of_kinds(alloc)?;
     let header = b"x,y,kind,time\n".to_vec(alloc)?;
-    let source = Endless {
-        first: StillSource::new(List::from_vec(header), 7),
-    };
+    let source = Endless::new(StillSource::new(List::from_vec(header), 7), b'x');
     let mut feeds = Vec::with_capacity(alloc, 1)?;
     feeds.push_reserved(headed(&rt, alloc, &schema, source));
     check(&rt, alloc, &schema, feeds, Err(CutFault::TooMuch));
