@@ -84,11 +84,8 @@ fn last_of<T>(rt: &impl Abort, items: &mut List<T>) -> T {
 
 fn none_left<T>(rt: &impl Abort, items: List<T>) {
     let items = items.into_vec();
-    if items.is_empty() {
-        items.destroy_empty();
-    } else {
-        panic!(rt; "an item is left")
-    }
+    assert!(rt; items.is_empty());
+    items.destroy_empty();
 }
 
 /// What the cutter gives next is that line under that number.
