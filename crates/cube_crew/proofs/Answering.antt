@@ -1,5 +1,5 @@
 -- What the sessions of a run leave.
-use Rattle.std.proofs.Common.{◌≡◌, ◌≢◌, ℕ, ◌≤◌, Bool, true, false, ◌||◌, List, [], ◌∷◌, ◌++◌, All, length, length-append, append-nil, map, Option, Some, Result, Ok, Err, IsErrOf, refl, sym, ap, ◌∙◌, subst, arith}
+use Rattle.std.proofs.Common.{◌≡◌, ◌≢◌, ℕ, ◌≤◌, Bool, true, false, ◌||◌, List, [], ◌∷◌, ◌++◌, All, length, length-append, append-nil, map, Option, Some, None, Result, Ok, Err, IsErrOf, refl, sym, ap, ◌∙◌, subst, arith}
 use Rattle.std.specs.List.{AllZip}
 use Rattle.std.proofs.lemmas.Bool.{false≢true}
 use Rattle.std.proofs.lemmas.List.Elements.{All-cons, All-head, All-nil, All-tail}
@@ -96,21 +96,20 @@ module _ {I O : Type 0} (left : I → Option (List ℕ)) (faults : I → ℕ) (h
     pub told : length work.learned.points ≤ length points
     pub found : starved ≡ false → has_starved work ≡ false
 
-  pub ask_leaves : StaysTranscript is_stat → (closed starved : Bool) (journal : List Point) (front : Known) (session : SessionState I O) (mail : OutEnd) (work : WorkState I O) (done : SessionDone I O) → mail.takes ≡ 0
-      → LeavesSession left faults held put_faults name is_stat (new_session_work schema front session mail) work → GivesAsk closed starved journal work done
-      → LeavesTranscript left faults held put_faults name is_stat schema false closed starved journal session done
-  ask_leaves stays closed starved journal front session mail work done none ran gives =
-      subst (LeavesTranscript left faults held put_faults name is_stat schema false closed starved journal session) (sym gives.gives)
-      (record {
-        after = work.session;
-        end = work.end;
+  -- what a session that ran leaves, where it answered over the points
+  ran_leaves : (final closed starved : Bool) (journal points : List Point) (session : SessionState I O) (shown learned : Known) (last : Option Known) (mail : OutEnd) (after : WorkState I O)
+      → LeavesSession left faults held put_faults name is_stat (record { session = session; schema = schema; shown = shown; learned = learned; last = last; mail = mail; end = Ok tt }) after
+      → (closed ≡ true → points ≡ journal) → HasDone left faults held schema is_stat final 0 (news_over points after.mail) session after.session after.end → (starved ≡ false → has_starved after ≡ false)
+      → LeavesTranscript left faults held put_faults name is_stat schema final closed starved journal session (done_of after)
+  ran_leaves final closed starved journal points session shown learned last mail after ran whole replied found =
+      record {
+        after = after.session;
+        end = after.end;
         parts = (refl, refl);
         numbers = (refl, refl, refl);
-        points = gives.points;
-        whole = gives.whole;
-        replied =
-            done_within stays 0 (news_of work.shown work.learned work.mail) (news_over gives.points work.mail) gives.shown gives.told (omega arith) session work.session work.end
-            (subst (λ (n : ℕ). HasDone left faults held schema is_stat false n (news_of work.shown work.learned work.mail) session work.session work.end) none ran.replied);
+        points = points;
+        whole = whole;
+        replied = replied;
         all = λ is_closed. ran.all;
         too_much = ran.too_much;
         taken = λ is_closed. ran.refused.0;
@@ -119,9 +118,19 @@ module _ {I O : Type 0} (left : I → Option (List ℕ)) (faults : I → ℕ) (h
         write = ran.write;
         named = ran.ended.1;
         found = λ enough.
-            let both = or_false work.session.lacked (is_starved_end work.end) (gives.found enough) in
-            (both.0, found_end work.end both.1);
-      })
+            let both = or_false after.session.lacked (is_starved_end after.end) (found enough) in
+            (both.0, found_end after.end both.1);
+      }
+
+  pub ask_leaves : StaysTranscript is_stat → (closed starved : Bool) (journal : List Point) (front : Known) (session : SessionState I O) (mail : OutEnd) (work : WorkState I O) (done : SessionDone I O) → mail.takes ≡ 0
+      → LeavesSession left faults held put_faults name is_stat (new_session_work schema front session mail) work → GivesAsk closed starved journal work done
+      → LeavesTranscript left faults held put_faults name is_stat schema false closed starved journal session done
+  ask_leaves stays closed starved journal front session mail work done none ran gives =
+      subst (LeavesTranscript left faults held put_faults name is_stat schema false closed starved journal session) (sym gives.gives)
+      (ran_leaves false closed starved journal gives.points session front front None mail work ran gives.whole
+      (done_within stays 0 (news_of work.shown work.learned work.mail) (news_over gives.points work.mail) gives.shown gives.told (omega arith) session work.session work.end
+      (subst (λ (n : ℕ). HasDone left faults held schema is_stat false n (news_of work.shown work.learned work.mail) session work.session work.end) none ran.replied))
+      gives.found)
 
   pub asks_leave : StaysTranscript is_stat → (closed starved : Bool) (journal : List Point) (front : Known) (sessions : List (SessionState I O)) (mails : List OutEnd) (works : List (WorkState I O)) (dones : List (SessionDone I O))
       → length mails ≡ length sessions → All (λ (mail : OutEnd). mail.takes ≡ 0) mails
@@ -190,25 +199,9 @@ module _ {I O : Type 0} (left : I → Option (List ℕ)) (faults : I → ℕ) (h
       let same : ends.taught ≡ taught = λ i. record { session = learned.same.0 i; schema = learned.shown.1 i; shown = learned.shown.0 i; learned = ends.taught.learned; last = learned.learned.1 i; mail = learned.same.1 i; end = learned.same.2 i } in
       let ran : LeavesSession left faults held put_faults name is_stat taught after = subst (λ (work : WorkState I O). LeavesSession left faults held put_faults name is_stat work after) same ends.ran in
       subst (LeavesTranscript left faults held put_faults name is_stat schema true true starved whole.points session) (sym ends.gives)
-      (record {
-        after = after.session;
-        end = after.end;
-        parts = (refl, refl);
-        numbers = (refl, refl, refl);
-        points = whole.points;
-        whole = λ is. refl;
-        replied = subst (λ (n : ℕ). HasDone left faults held schema is_stat true n (news_over whole.points after.mail) session after.session after.end) none ran.final;
-        all = λ is_closed. ran.all;
-        too_much = ran.too_much;
-        taken = λ is_closed. ran.refused.0;
-        refused = ran.refused.1;
-        read = ran.read;
-        write = ran.write;
-        named = ran.ended.1;
-        found = λ enough.
-            let both = or_false after.session.lacked (is_starved_end after.end) (ends.found enough) in
-            (both.0, found_end after.end both.1);
-      })
+      (ran_leaves true true starved whole.points whole.points session front ends.taught.learned (Some whole) mail after ran (λ is. refl)
+      (subst (λ (n : ℕ). HasDone left faults held schema is_stat true n (news_over whole.points after.mail) session after.session after.end) none ran.final)
+      ends.found)
 
   finals_closed : (starved : Bool) (whole front : Known) (sessions : List (SessionState I O)) (mails : List OutEnd) (dones : List (SessionDone I O)) → length mails ≡ length sessions → All (λ (mail : OutEnd). mail.takes ≡ 0) mails
       → AllZip (EndsFinal left faults held put_faults name is_stat whole starved) (session_works_of schema front sessions mails) dones

@@ -1,6 +1,7 @@
 -- Two lists whose items belong together, place by place.
 use Rattle.std.proofs.Common.{◌≡◌, ℕ, zero, suc, ◌<◌, ◌≤◌, ◌+◌, List, [], ◌∷◌, ◌++◌, All, length, length-append, map, take, drop, slice_index_or, Some, refl, sym, ap, ◌∙◌, arith}
 use Rattle.std.specs.List.{AllZip}
+use Rattle.std.proofs.Math.Seq.{take-append_seam}
 use Rattle.std.proofs.lemmas.List.Elements.{All-cons, All-head, All-nil, All-pop, All-push, All-same, All-tail}
 
 pub AllZip-each : {X : Type 0} (R : X → X → Type 0) (xs ys : List X) → length ys ≡ length xs → ((i : ℕ) (d : X) → i < length xs → R (slice_index_or xs i d) (slice_index_or ys i d)) → AllZip R xs ys
@@ -123,11 +124,6 @@ same-at n xs ys d e = sym (first-drop n xs d) ∙ ap (λ l. slice_index_or l 0 d
 pub length-init : {A B : Type 0} (all xs : List A) (x : A) (more ys : List B) (y : B) → all ≡ xs ++ x ∷ [] → more ≡ ys ++ y ∷ [] → length more ≡ length all → length ys ≡ length xs
 length-init all xs x more ys y is also same = omega (arith, ap length is, ap length also, length-append xs (x ∷ []), length-append ys (y ∷ []), same)
 
--- a list written back in place of one of the same length
-pub slice_back : {X : Type 0} (xs ys : List X) (n : ℕ) → n ≡ length ys → length xs ≡ length ys → take n (xs ++ drop (length xs) ys) ≡ xs
-slice_back [] [] zero len same = refl
-slice_back [] [] (suc n) len same = absurd (omega (arith, len))
-slice_back [] (y ∷ ys) n len same = absurd (omega (arith, same))
-slice_back (x ∷ xs) [] n len same = absurd (omega (arith, same))
-slice_back (x ∷ xs) (y ∷ ys) zero len same = absurd (omega (arith, len))
-slice_back (x ∷ xs) (y ∷ ys) (suc n) len same = ap (λ l. x ∷ l) (slice_back xs ys n (omega (arith, len)) (omega (arith, same)))
+-- so many items of a list before others as it has are the list
+pub front_back : {X : Type 0} (xs ys : List X) (n : ℕ) → n ≡ length xs → take n (xs ++ ys) ≡ xs
+front_back xs ys n len = ap (λ k. take k (xs ++ ys)) len ∙ take-append_seam xs ys

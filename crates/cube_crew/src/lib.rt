@@ -20,7 +20,6 @@
 //! ```
 #![tactic(auto)]
 
-mod both;
 mod ending;
 mod feeds;
 mod jobs;
@@ -31,6 +30,5 @@ mod sessions;
 mod starving;
 mod together;
 
-pub use both::run_both;
 pub use jobs::{Crewed, Jobs};
 pub use run::run_crew;

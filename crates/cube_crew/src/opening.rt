@@ -1,8 +1,7 @@
 //! What a run opens: a lane with an end for each feeder, a pair with a viewer for each session, and their mailboxes.
-ghost use Rattle.std.specs.Prelude.{◌≡◌, ◌≤◌, ◌+◌, [], None, All, IfOk, vec_len};
+ghost use Rattle.std.specs.Prelude.{◌≡◌, ◌≤◌, ◌+◌, [], All, IfOk, vec_len};
 ghost use Rattle.cube_crew.specs.Begins.{AreEmptyViews};
-ghost use Rattle.cube_crew.specs.Opened.{AreMails};
-ghost use Rattle.feed_queue.specs.Ends.{draw_state, new_feeds};
+ghost use Rattle.cube_crew.specs.Opened.{AreMails, IsNewLane, IsNewViewer, IsUntaken};
 
 use crate::rooms::first_refusals;
 use crew_feeder::FirstRefusals;
@@ -66,7 +65,7 @@ fn open_all_mails<V: Grow>(
     finals: usize,
 ) -> Result<Mails, NoMemory>
     ensures asks { IfOk result (λ m. AreMails publisher.now.published.book m.ins m.outs.items) }
-    ensures finals { IfOk result (λ m. All (λ out. (out.pair ≡ publisher.now.published.book) × (out.takes ≡ 0)) m.final_outs.items) }
+    ensures finals { IfOk result (λ m. All (IsUntaken publisher.now.published.book) m.final_outs.items) }
     ensures len { IfOk result (λ m. (vec_len m.outs ≡ asks) × (vec_len m.final_outs ≡ finals)) }
 {
     let (ins, outs) = open_mails(alloc, publisher, asks)?;
@@ -92,12 +91,11 @@ pub(crate) fn open_run<V: Grow, R: Wait>(
     requires views { AreEmptyViews V.weight_at V.seen V.schema first again }
     requires few { (1 ≤ feeds) × (feeds ≤ 8) × (asks ≤ 8) × (finals ≤ 8) }
     ensures schema { IfOk result (λ o. (o.schema ≡ V.schema first) × (o.publisher.schema ≡ V.schema first)) }
-    ensures firsts { IfOk result (λ o. (vec_len o.firsts ≡ feeds) × All (λ f. f ≡ []) o.firsts.items) }
-    ensures lane { IfOk result (λ o. (o.ends.items ≡ new_feeds o.draws.lane (V.schema first) feeds) × (o.draws ≡ draw_state o.draws.lane (V.schema first) feeds [])) }
+    ensures feeds { IfOk result (λ o. IsNewLane (V.schema first) feeds o.ends.items o.draws × (vec_len o.firsts ≡ feeds) × All (λ f. f ≡ []) o.firsts.items) }
     ensures publisher { IfOk result (λ o. (o.publisher.published.points ≡ []) × (o.publisher.appended.items ≡ []) × (o.publisher.viewers ≡ asks + finals)) }
-    ensures viewers { IfOk result (λ o. (vec_len o.viewers ≡ asks + finals) × All (λ v. (v.schema ≡ o.publisher.schema) × (v.shown ≡ o.publisher.published) × (v.learned ≡ o.publisher.published) × (v.last ≡ None)) o.viewers.items) }
+    ensures viewers { IfOk result (λ o. (vec_len o.viewers ≡ asks + finals) × All (λ v. IsNewViewer o.publisher.schema o.publisher.published v.schema v.shown v.learned v.last) o.viewers.items) }
     ensures asks { IfOk result (λ o. AreMails o.publisher.published.book o.mails.ins o.mails.outs.items × (vec_len o.mails.outs ≡ asks)) }
-    ensures finals { IfOk result (λ o. All (λ out. (out.pair ≡ o.publisher.published.book) × (out.takes ≡ 0)) o.mails.final_outs.items × (vec_len o.mails.final_outs ≡ finals)) }
+    ensures finals { IfOk result (λ o. All (IsUntaken o.publisher.published.book) o.mails.final_outs.items × (vec_len o.mails.final_outs ≡ finals)) }
 {
     let schema = first.schema().copy(alloc)?;
     let firsts = first_refusals(alloc, feeds)?;

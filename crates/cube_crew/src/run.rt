@@ -1,10 +1,9 @@
 //! A whole run.
-ghost use Rattle.std.specs.Prelude.{◌≡◌, ◌≤◌, ◌+◌, [], None, All, IfOk, IfErr, length, vec_len, vec_capacity};
+ghost use Rattle.std.specs.Prelude.{◌≡◌, ◌≤◌, ◌+◌, [], All, IfOk, IfErr, length, vec_len, vec_capacity};
 ghost use Rattle.cube_crew.specs.Begins.{AreEmptyViews, MayRun};
 ghost use Rattle.cube_crew.specs.Crewed.{IsCrewed};
 ghost use Rattle.cube_crew.specs.Ending.{EndsRun, IsRun};
-ghost use Rattle.cube_crew.specs.Opened.{AreMails};
-ghost use Rattle.feed_queue.specs.Ends.{draw_state, new_feeds};
+ghost use Rattle.cube_crew.specs.Opened.{AreMails, IsNewLane, IsNewViewer, IsUntaken};
 
 use crate::ending::{Answered, end_sessions};
 use crate::feeds::{end_feeds, seat_feeds};
@@ -65,11 +64,10 @@ fn run_opened<R: Threads + Wait + Sync, V: Grow + Send + Sync, I: Source + Send,
     jobs: Jobs<I, O>,
 ) -> Crewed<I, O>
     requires jobs { MayRun opened.schema jobs }
-    requires lane { (opened.ends.items ≡ new_feeds opened.draws.lane opened.schema (length jobs.feeds)) × (opened.draws ≡ draw_state opened.draws.lane opened.schema (length jobs.feeds) []) }
+    requires feeds { IsNewLane opened.schema (length jobs.feeds) opened.ends.items opened.draws × (vec_len opened.firsts ≡ length jobs.feeds) × All (λ f. f ≡ []) opened.firsts.items }
     requires publisher { (opened.publisher.published.points ≡ []) × (opened.publisher.appended.items ≡ []) × (opened.publisher.schema ≡ opened.schema) × (opened.publisher.viewers ≡ length jobs.asks + length jobs.finals) }
-    requires viewers { (vec_len opened.viewers ≡ length jobs.asks + length jobs.finals) × All (λ v. (v.schema ≡ opened.publisher.schema) × (v.shown ≡ opened.publisher.published) × (v.learned ≡ opened.publisher.published) × (v.last ≡ None)) opened.viewers.items }
-    requires mails { AreMails opened.publisher.published.book opened.mails.ins opened.mails.outs.items × (vec_len opened.mails.outs ≡ length jobs.asks) × All (λ out. (out.pair ≡ opened.publisher.published.book) × (out.takes ≡ 0)) opened.mails.final_outs.items × (vec_len opened.mails.final_outs ≡ length jobs.finals) }
-    requires firsts { (vec_len opened.firsts ≡ length jobs.feeds) × All (λ f. f ≡ []) opened.firsts.items }
+    requires viewers { (vec_len opened.viewers ≡ length jobs.asks + length jobs.finals) × All (λ v. IsNewViewer opened.publisher.schema opened.publisher.published v.schema v.shown v.learned v.last) opened.viewers.items }
+    requires mails { AreMails opened.publisher.published.book opened.mails.ins opened.mails.outs.items × (vec_len opened.mails.outs ≡ length jobs.asks) × All (IsUntaken opened.publisher.published.book) opened.mails.final_outs.items × (vec_len opened.mails.final_outs ≡ length jobs.finals) }
     requires fed { (length jobs.feeds ≤ vec_capacity rooms.works) × (length jobs.feeds ≤ vec_capacity rooms.dones) × (length jobs.feeds ≤ vec_capacity rooms.ended) }
     requires answered { (length jobs.asks ≤ vec_capacity rooms.asks) × (length jobs.asks ≤ vec_capacity rooms.answered) × (length jobs.finals ≤ vec_capacity rooms.finals) × (length jobs.finals ≤ vec_capacity rooms.final_answered) }
     ensures { IsCrewed I.left I.faults O.held O.faults O.name V.is_stat opened.schema jobs result }

@@ -1,8 +1,9 @@
 //! The sessions: they become works, the works run side by side, and become what is given back.
-ghost use Rattle.std.specs.Prelude.{◌≡◌, ◌≤◌, ◌+◌, [], None, map, length, vec_len, vec_capacity, All, IfSome, IsSome};
+ghost use Rattle.std.specs.Prelude.{◌≡◌, ◌≤◌, ◌+◌, [], map, length, vec_len, vec_capacity, All, IfSome, IsSome};
 ghost use Rattle.std.specs.List.{AllZip};
 ghost use Rattle.crew_session.specs.Leaves.{LeavesSession};
 ghost use Rattle.crew_session.specs.Work.{HadNoTurn, done_of};
+ghost use Rattle.cube_crew.specs.Opened.{IsNewViewer};
 ghost use Rattle.cube_crew.specs.Works.{HasLearned, session_works_of};
 ghost use Rattle.published_pair.specs.Pair.{Fresh};
 
@@ -24,14 +25,13 @@ pub(crate) fn seat_sessions<V: Grow, I: Source, O: Sink>(
     mut mails: Vec<MailOut>,
     room: Vec<SessionWork<V, I, O>>,
 ) -> Vec<SessionWork<V, I, O>>
-    requires len { (vec_len mails ≡ vec_len sessions) × (vec_len sessions ≤ vec_len viewers.old) }
-    requires no_turn { All HadNoTurn sessions.items }
-    requires new { All (λ v. (v.schema ≡ publisher.now.schema) × (v.shown ≡ publisher.now.published) × (v.learned ≡ publisher.now.published) × (v.last ≡ None)) viewers.old.items }
-    requires pair { All (λ m. m.pair ≡ publisher.now.published.book) mails.items }
+    requires sessions { (vec_len sessions ≤ vec_len viewers.old) × All HadNoTurn sessions.items }
+    requires mails { (vec_len mails ≡ vec_len sessions) × All (λ m. m.pair ≡ publisher.now.published.book) mails.items }
+    requires new { All (λ v. IsNewViewer publisher.now.schema publisher.now.published v.schema v.shown v.learned v.last) viewers.old.items }
     requires room { (room.items ≡ []) × (vec_len sessions ≤ vec_capacity room) }
     ensures works { result.items ≡ session_works_of publisher.now.schema publisher.now.published sessions.items mails.items }
     ensures len { (vec_len result ≡ vec_len sessions) × (vec_len viewers.new + vec_len sessions ≡ vec_len viewers.old) }
-    ensures left { All (λ v. (v.schema ≡ publisher.now.schema) × (v.shown ≡ publisher.now.published) × (v.learned ≡ publisher.now.published) × (v.last ≡ None)) viewers.new.items }
+    ensures left { All (λ v. IsNewViewer publisher.now.schema publisher.now.published v.schema v.shown v.learned v.last) viewers.new.items }
     ensures room { vec_capacity room ≤ vec_capacity result }
 {
     let Some(session) = sessions.pop() else {
@@ -101,8 +101,7 @@ pub(crate) fn close_sessions<V: Grow, I: Source, O: Sink, R: Wait>(
     requires room { (room.items ≡ []) × (vec_len works ≤ vec_capacity room) }
     ensures dones { result.items ≡ map done_of works.items }
     ensures within { All (λ w. IfSome w.last (λ l. Fresh w.shown.points w.learned.points l.points)) works.items }
-    ensures len { vec_len result ≡ vec_len works }
-    ensures room { vec_capacity room ≤ vec_capacity result }
+    ensures room { (vec_len result ≡ vec_len works) × (vec_capacity room ≤ vec_capacity result) }
 {
     let Some(work) = works.pop() else {
         works.destroy_empty();
@@ -122,8 +121,7 @@ pub(crate) fn leave_sessions<V: Grow, I: Source, O: Sink>(
 ) -> Vec<SessionDone<I, O>>
     requires room { (room.items ≡ []) × (vec_len works ≤ vec_capacity room) }
     ensures dones { result.items ≡ map done_of works.items }
-    ensures len { vec_len result ≡ vec_len works }
-    ensures room { vec_capacity room ≤ vec_capacity result }
+    ensures room { (vec_len result ≡ vec_len works) × (vec_capacity room ≤ vec_capacity result) }
 {
     let Some(work) = works.pop() else {
         works.destroy_empty();

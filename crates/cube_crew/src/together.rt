@@ -1,13 +1,13 @@
 //! The feeders, the builder and the asks side by side.
-ghost use Rattle.std.specs.Prelude.{◌≡◌, true, vec_len, All};
+ghost use Rattle.std.specs.Prelude.{true, All};
 ghost use Rattle.std.specs.List.{AllZip};
 ghost use Rattle.crew_builder.specs.Built.{IsNewWork, IsBuilt};
 ghost use Rattle.crew_feeder.specs.Leaving.{HasFed};
 ghost use Rattle.crew_feeder.specs.Taking.{IsReady};
 ghost use Rattle.crew_session.specs.Leaves.{LeavesSession};
 ghost use Rattle.crew_session.specs.Work.{HadNoTurn};
+ghost use Rattle.cube_crew.specs.Later.{AreUnrun, HaveRun};
 
-use crate::both::run_both;
 use crate::feeds::run_feeds;
 use crate::sessions::run_sessions;
 use crew_builder::BuilderWork;
@@ -15,6 +15,7 @@ use crew_feeder::FeedWork;
 use crew_session::SessionWork;
 use cube_view::{Grow, Schema};
 use outer_io::{Sink, Source};
+use side_by_side::run_both;
 use std::alloc::Global;
 use std::sync::Wait;
 use std::thread::Threads;
@@ -33,18 +34,14 @@ fn build_and_ask<R: Threads + Wait + Sync, V: Grow + Send + Sync, I: Source + Se
     building: &mut BuilderWork<V>,
     asks: &mut Vec<SessionWork<V, I, O>>,
 )
-    requires building { IsNewWork building.old }
-    requires asks { All (λ w. HadNoTurn w.session) asks.old.items }
-    ensures asks { AllZip (LeavesSession I.left I.faults O.held O.faults O.name V.is_stat) asks.old.items asks.new.items }
-    ensures len { vec_len asks.new ≡ vec_len asks.old }
-    ensures built { IsBuilt building.old building.new }
+    requires { AreUnrun building.old asks.old.items }
+    ensures { HaveRun I.left I.faults O.held O.faults O.name V.is_stat building.old asks.old.items building.new asks.new.items }
 {
     run_both(
         rt,
         &|_: usize, asks: &mut Vec<SessionWork<V, I, O>>|
             requires { All (λ w. HadNoTurn w.session) asks.old.items }
-            ensures each { AllZip (LeavesSession I.left I.faults O.held O.faults O.name V.is_stat) asks.old.items asks.new.items }
-            ensures len { vec_len asks.new ≡ vec_len asks.old }
+            ensures { AllZip (LeavesSession I.left I.faults O.held O.faults O.name V.is_stat) asks.old.items asks.new.items }
         { run_sessions(rt, alloc, asks.as_mut_slice()) },
         asks,
         &|_: usize, building: &mut BuilderWork<V>|
@@ -69,28 +66,21 @@ pub(crate) fn run_together<
     feeds: &mut Vec<FeedWork<I>>,
     later: &mut Later<BuilderWork<V>, SessionWork<V, I, O>>,
 )
-    requires feeds { All (λ w. IsReady schema.now w) feeds.old.items }
-    requires building { IsNewWork later.old.building }
-    requires asks { All (λ w. HadNoTurn w.session) later.old.asks.items }
+    requires feeds { All (IsReady schema.now) feeds.old.items }
+    requires later { AreUnrun later.old.building later.old.asks.items }
     ensures feeds { AllZip (HasFed I.left I.faults true) feeds.old.items feeds.new.items }
-    ensures feeds_len { vec_len feeds.new ≡ vec_len feeds.old }
-    ensures asks { AllZip (LeavesSession I.left I.faults O.held O.faults O.name V.is_stat) later.old.asks.items later.new.asks.items }
-    ensures asks_len { vec_len later.new.asks ≡ vec_len later.old.asks }
-    ensures built { IsBuilt later.old.building later.new.building }
+    ensures later { HaveRun I.left I.faults O.held O.faults O.name V.is_stat later.old.building later.old.asks.items later.new.building later.new.asks.items }
 {
     run_both(
         rt,
         &|_: usize, later: &mut Later<BuilderWork<V>, SessionWork<V, I, O>>|
-            requires { IsNewWork later.old.building × All (λ w. HadNoTurn w.session) later.old.asks.items }
-            ensures asks { AllZip (LeavesSession I.left I.faults O.held O.faults O.name V.is_stat) later.old.asks.items later.new.asks.items }
-            ensures asks_len { vec_len later.new.asks ≡ vec_len later.old.asks }
-            ensures built { IsBuilt later.old.building later.new.building }
+            requires { AreUnrun later.old.building later.old.asks.items }
+            ensures { HaveRun I.left I.faults O.held O.faults O.name V.is_stat later.old.building later.old.asks.items later.new.building later.new.asks.items }
         { build_and_ask(rt, alloc, &mut later.building, &mut later.asks) },
         later,
         &|_: usize, feeds: &mut Vec<FeedWork<I>>|
-            requires { All (λ w. IsReady schema.now w) feeds.old.items }
-            ensures feeds { AllZip (HasFed I.left I.faults true) feeds.old.items feeds.new.items }
-            ensures feeds_len { vec_len feeds.new ≡ vec_len feeds.old }
+            requires { All (IsReady schema.now) feeds.old.items }
+            ensures { AllZip (HasFed I.left I.faults true) feeds.old.items feeds.new.items }
         { run_feeds(rt, alloc, schema, feeds.as_mut_slice()) },
         feeds,
     );

@@ -1,8 +1,10 @@
-use Rattle.std.proofs.Common.{rules, ◌≡◌, ◌≤◌, ℕ, true, false, List, map, IfOk, refl, sym, ap, subst, ◌∙◌}
+use Rattle.std.proofs.Common.{rules, ◌≡◌, ◌≤◌, ℕ, Bool, true, false, List, All, map, IfOk, refl, sym, ap, subst, ◌∙◌}
 use Rattle.std.specs.List.{AllZip}
 use Rattle.std.proofs.lemmas.Bool.{false≢true}
 use Rattle.std.proofs.lemmas.List.Elements.{All-map, All-same}
-use Rattle.crew_builder.specs.Work.{BuilderWorkState as Building, work_state}
+use Rattle.crew_builder.specs.Work.{BuilderWorkState as Building}
+use Rattle.crew_session.specs.Work.{done_of}
+use Rattle.crew_session.specs.declared.done.SessionDone.{SessionDone}
 use Rattle.cube_crew.specs.Ending.{EndsAsk, EndsFinal, EndsRun, IsRun}
 use Rattle.cube_crew.specs.Starving.{FoundMemory, FoundRoom}
 use Rattle.cube_crew.specs.Works.{end_of}
@@ -10,9 +12,12 @@ use Rattle.cube_crew.specs.declared.jobs.Crewed.{Crewed}
 use Rattle.feed_queue.specs.Ends.{AreInTurn, FeedState, is_among, sent_lists}
 use Rattle.feed_queue.specs.Items.{has_end}
 use Rattle.feed_queue.proofs.InTurn.{ends_in_turn}
+use Rattle.published_pair.specs.Rules.{Known}
 use Rattle.world_core.specs.Interleaving.{IsInterleaving, entry_points, list_of}
 use Rattle.cube_crew.proofs.Answering.{or_false}
 use Rattle.cube_crew.proofs.Finishing.{ends_run, finals_starve}
+use Rattle.cube_crew.proofs.run.end_run.Given.{Over}
+use Rattle.cube_crew.proofs.run.end_run.Goals.{After-into_journal-journal}
 use Rattle.cube_crew.proofs.run.end_run.Goals as goal
 
 pub settle-drawn-requires-clause-lane : goal.settle-drawn-requires-clause-lane
@@ -46,55 +51,49 @@ end_sessions-answered-requires-clause-pair g c κs within =
     let to : c.args.later.building.builder.published.book ≡ c.in-Ok.pair.0.ended.book = sym (ap (λ (w : Building). w.builder.published.book) c.into_parts-draws.ensures) ∙ sym rested.1 in
     (λ k d below. c.requires.run.pair.0 k d below ∙ to, λ k d below. c.requires.run.pair.1 k d below ∙ to)
 
-pub returns-in-Ok : goal.returns-in-Ok
-returns-in-Ok g c =
+-- what is given back, by what the sessions leave
+abbrev given : (g : Over) (c : After-into_journal-journal g) (asks finals : List (SessionDone g.row.I.Denot g.row.O.Denot)) (starved closed : Bool) → Crewed g.row.I.Denot g.row.O.Denot
+given g c asks finals starved closed = record { feeds = c.from_vec-feeds.result; asks = asks; finals = finals; journal = c.into_journal-journal.result.0; drawn = c.settle-drawn.result; mails = c.into_parts-draws.result.2; starved = starved; closed = closed }
+
+-- the end of the run, by what the sessions leave
+ends_by : (g : Over) (c : After-into_journal-journal g) (asks finals : List (SessionDone g.row.I.Denot g.row.O.Denot)) (starved closed : Bool)
+    → (closed ≡ true → (whole : Known) × (whole.points ≡ entry_points c.into_journal-journal.result.0) × AllZip (EndsAsk whole) c.args.later.asks.items asks × AllZip (EndsFinal g.I.Source.left g.I.Source.faults g.O.Sink.held g.O.Sink.faults g.O.Sink.name g.V.CubeView.is_stat whole starved) c.args.finals.items finals)
+    → (closed ≡ false → (asks ≡ map done_of c.args.later.asks.items) × (finals ≡ map done_of c.args.finals.items))
+    → (starved ≡ false → (closed ≡ true) × (c.into_parts-draws.result.1.spent ≡ false)) → (starved ≡ false → All FoundRoom c.args.works.items × All FoundMemory c.args.later.asks.items)
+    → EndsRun g.I.Source.left g.I.Source.faults g.O.Sink.held g.O.Sink.faults g.O.Sink.name g.V.CubeView.is_stat c.args.works.items c.args.later.building c.args.later.asks.items c.args.finals.items (given g c asks finals starved closed)
+ends_by g c asks finals starved closed whole left enough found =
     let parts = c.into_parts-draws.result in
     let works = c.args.works.items in
-    let asks = c.args.later.asks.items in
-    let finals = c.args.finals.items in
-    let same = c.into_parts-draws.ensures in
-    let run : IsRun works (work_state parts.0 parts.1 parts.2 parts.3) asks finals = subst (λ (b : Building). IsRun works b asks finals) (sym same) c.requires.run in
+    let run = subst (λ (b : Building). IsRun works b c.args.later.asks.items c.args.finals.items) (sym c.into_parts-draws.ensures) c.requires.run in
     let ended : c.from_vec.result ≡ map end_of works = c.from_vec.ensures ∙ c.end_feeds-feeds.ensures.ended in
     let turn = subst (λ (l : List FeedState). AreInTurn l parts.0.feeders → IsInterleaving parts.0.feeders (list_of (sent_lists l)) c.settle-drawn.result) ended c.settle-drawn.ensures.in_turn in
-    let feeds = c.from_vec-feeds.ensures ∙ c.end_feeds-feeds.ensures.dones in
-    let builder = parts.1 in
+    subst (λ (b : Building). EndsRun g.I.Source.left g.I.Source.faults g.O.Sink.held g.O.Sink.faults g.O.Sink.name g.V.CubeView.is_stat works b c.args.later.asks.items c.args.finals.items (given g c asks finals starved closed)) c.into_parts-draws.ensures
+    (ends_run g.I.Source.left g.I.Source.faults g.O.Sink.held g.O.Sink.faults g.O.Sink.name g.V.CubeView.is_stat works parts.0 parts.1 parts.2 parts.3 c.args.later.asks.items c.args.finals.items (given g c asks finals starved closed)
+    run (c.from_vec-feeds.ensures ∙ c.end_feeds-feeds.ensures.dones) refl c.settle-drawn.ensures.drawn turn c.into_journal-journal.ensures.prefix c.into_journal-journal.ensures.whole whole left enough found)
+
+pub returns-in-Ok : goal.returns-in-Ok
+returns-in-Ok g c =
+    let builder = c.into_parts-draws.result.1 in
     let whole = c.in-Ok.pair.0.ended in
     let rested : (whole.points ≡ entry_points c.into_journal-journal.result.0) × (whole.book ≡ builder.published.book) × (c.in-Ok.pair.0.schema ≡ builder.schema) =
     subst (λ r. IfOk r (λ t. (t.0.ended.points ≡ entry_points c.into_journal-journal.result.0) × (t.0.ended.book ≡ builder.published.book) × (t.0.schema ≡ builder.schema))) c.in-Ok.is c.into_journal-journal.ensures.rested in
     let none = λ (enough : c.either.result ≡ false). or_false c.has_starved-starved.result c.end_sessions-answered.result.starved (sym c.either.ensures ∙ enough) in
-    let crewed : Crewed g.row.I.Denot g.row.O.Denot = record { feeds = c.from_vec-feeds.result; asks = c.from_vec-in-Ok.result; finals = c.from_vec-in-Ok-2.result; journal = c.into_journal-journal.result.0; drawn = c.settle-drawn.result; mails = parts.2; starved = c.either.result; closed = true } in
-    let over : EndsRun g.I.Source.left g.I.Source.faults g.O.Sink.held g.O.Sink.faults g.O.Sink.name g.V.CubeView.is_stat works (work_state parts.0 parts.1 parts.2 parts.3) asks finals crewed =
-    ends_run g.I.Source.left g.I.Source.faults g.O.Sink.held g.O.Sink.faults g.O.Sink.name g.V.CubeView.is_stat works parts.0 parts.1 parts.2 parts.3 asks finals crewed run feeds refl c.settle-drawn.ensures.drawn turn c.into_journal-journal.ensures.prefix c.into_journal-journal.ensures.whole
+    ends_by g (goal.at.returns-in-Ok g c).After-into_journal-journal c.from_vec-in-Ok.result c.from_vec-in-Ok-2.result c.either.result true
     (λ is. (
       whole,
       rested.0,
-      subst (AllZip (EndsAsk whole) asks) (sym c.from_vec-in-Ok.ensures) c.end_sessions-answered.ensures.asks,
-      subst (AllZip (EndsFinal g.I.Source.left g.I.Source.faults g.O.Sink.held g.O.Sink.faults g.O.Sink.name g.V.CubeView.is_stat whole c.either.result) finals) (sym c.from_vec-in-Ok-2.ensures)
-          (finals_starve g.I.Source.left g.I.Source.faults g.O.Sink.held g.O.Sink.faults g.O.Sink.name g.V.CubeView.is_stat whole c.either.result c.has_starved-starved.result c.end_sessions-answered.result.starved finals c.end_sessions-answered.result.finals.items c.either.ensures c.end_sessions-answered.ensures.finals),
+      subst (AllZip (EndsAsk whole) c.args.later.asks.items) (sym c.from_vec-in-Ok.ensures) c.end_sessions-answered.ensures.asks,
+      subst (AllZip (EndsFinal g.I.Source.left g.I.Source.faults g.O.Sink.held g.O.Sink.faults g.O.Sink.name g.V.CubeView.is_stat whole c.either.result) c.args.finals.items) (sym c.from_vec-in-Ok-2.ensures)
+          (finals_starve g.I.Source.left g.I.Source.faults g.O.Sink.held g.O.Sink.faults g.O.Sink.name g.V.CubeView.is_stat whole c.either.result c.has_starved-starved.result c.end_sessions-answered.result.starved c.args.finals.items c.end_sessions-answered.result.finals.items c.either.ensures c.end_sessions-answered.ensures.finals),
     ))
     (λ is. absurd (false≢true (sym is)))
     (λ enough. (refl, sym c.spent.ensures ∙ (c.has_starved-starved.ensures (none enough).0).2))
-    (λ enough. let found = c.has_starved-starved.ensures (none enough).0 in (All-same FoundRoom works _ (search rules) found.0, All-same FoundMemory asks _ (search rules) found.1))
-    in
-    subst (λ (b : Building). EndsRun g.I.Source.left g.I.Source.faults g.O.Sink.held g.O.Sink.faults g.O.Sink.name g.V.CubeView.is_stat works b asks finals crewed) same over
+    (λ enough. let found = c.has_starved-starved.ensures (none enough).0 in (All-same FoundRoom c.args.works.items _ (search rules) found.0, All-same FoundMemory c.args.later.asks.items _ (search rules) found.1))
 
 pub returns-in-Err : goal.returns-in-Err
 returns-in-Err g c =
-    let parts = c.into_parts-draws.result in
-    let works = c.args.works.items in
-    let asks = c.args.later.asks.items in
-    let finals = c.args.finals.items in
-    let same = c.into_parts-draws.ensures in
-    let run : IsRun works (work_state parts.0 parts.1 parts.2 parts.3) asks finals = subst (λ (b : Building). IsRun works b asks finals) (sym same) c.requires.run in
-    let ended : c.from_vec.result ≡ map end_of works = c.from_vec.ensures ∙ c.end_feeds-feeds.ensures.ended in
-    let turn = subst (λ (l : List FeedState). AreInTurn l parts.0.feeders → IsInterleaving parts.0.feeders (list_of (sent_lists l)) c.settle-drawn.result) ended c.settle-drawn.ensures.in_turn in
-    let feeds = c.from_vec-feeds.ensures ∙ c.end_feeds-feeds.ensures.dones in
-    let crewed : Crewed g.row.I.Denot g.row.O.Denot = record { feeds = c.from_vec-feeds.result; asks = c.from_vec-in-Err.result; finals = c.from_vec-in-Err-2.result; journal = c.into_journal-journal.result.0; drawn = c.settle-drawn.result; mails = parts.2; starved = true; closed = false } in
-    let over : EndsRun g.I.Source.left g.I.Source.faults g.O.Sink.held g.O.Sink.faults g.O.Sink.name g.V.CubeView.is_stat works (work_state parts.0 parts.1 parts.2 parts.3) asks finals crewed =
-    ends_run g.I.Source.left g.I.Source.faults g.O.Sink.held g.O.Sink.faults g.O.Sink.name g.V.CubeView.is_stat works parts.0 parts.1 parts.2 parts.3 asks finals crewed run feeds refl c.settle-drawn.ensures.drawn turn c.into_journal-journal.ensures.prefix c.into_journal-journal.ensures.whole
+    ends_by g (goal.at.returns-in-Err g c).After-into_journal-journal c.from_vec-in-Err.result c.from_vec-in-Err-2.result true false
     (λ is. absurd (false≢true is))
     (λ is. (c.from_vec-in-Err.ensures ∙ c.leave_sessions.ensures.dones, c.from_vec-in-Err-2.ensures ∙ c.leave_sessions-in-Err.ensures.dones))
     (λ enough. absurd (false≢true (sym enough)))
     (λ enough. absurd (false≢true (sym enough)))
-    in
-    subst (λ (b : Building). EndsRun g.I.Source.left g.I.Source.faults g.O.Sink.held g.O.Sink.faults g.O.Sink.name g.V.CubeView.is_stat works b asks finals crewed) same over
