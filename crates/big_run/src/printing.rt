@@ -1,7 +1,7 @@
 //! What a run prints.
-ghost use Rattle.std.specs.Prelude.{◌≡◌, ◌++◌, [], ◌∷◌, false, codes, string_bytes, length, IfOk, OnOk};
+ghost use Rattle.std.specs.Prelude.{◌≡◌, ◌++◌, [], ◌∷◌, false, codes, length, IfOk, OnOk};
 ghost use Rattle.big_run.specs.Printed.{CameBackWhole, printed};
-ghost use Rattle.run_report.specs.Lines.{blank_and_refused, counts_line};
+ghost use Rattle.run_report.specs.Lines.{counts_line};
 ghost use Rattle.run_stages.specs.Counted.{feed_counts};
 
 use crate::source::RunSource;
@@ -9,26 +9,8 @@ use crew_feeder::FeedDone;
 use crew_session::SessionDone;
 use cube_crew::Crewed;
 use outer_io::{List, NoMemory, StillSink};
-use run_report::FeedCounts;
+use run_report::{FeedCounts, push_counts};
 use std::alloc::{AllocError, Global};
-
-/// Appends the end of the line of a feed's counts.
-#[tactic(auto, unfolding(run_report::specs::Lines::blank_and_refused))]
-fn push_blank_and_refused(text: &mut String, blank: u64, refused: u64) -> Result<(), AllocError>
-    ensures { OnOk result (string_bytes text.new ≡ string_bytes text.old ++ blank_and_refused blank refused) }
-{
-    write!(text, "{blank} blank, {refused} refused\n")
-}
-
-/// Appends the line of a feed's counts.
-#[tactic(auto, unfolding(run_report::specs::Lines::counts_line))]
-fn push_counts(text: &mut String, name: &str, counts: &FeedCounts) -> Result<(), AllocError>
-    ensures { OnOk result (string_bytes text.new ≡ string_bytes text.old ++ counts_line name.now counts.now) }
-{
-    let accepted = counts.accepted;
-    write!(text, "feed {name}: {accepted} accepted, ")?;
-    push_blank_and_refused(text, counts.blank, counts.refused)
-}
 
 /// The lines of the two feeds, and then the replies.
 fn parts_text(

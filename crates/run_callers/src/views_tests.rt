@@ -57,9 +57,6 @@ pub(crate) fn cubes(rt: &impl Abort, alloc: Global) -> Begun<Cube>
 /// The list is at its end.
 pub(crate) fn none_left<T>(rt: &impl Abort, items: List<T>) {
     let items = items.into_vec();
-    if items.is_empty() {
-        items.destroy_empty();
-    } else {
-        panic!(rt; "an item is left")
-    }
+    assert!(rt; items.is_empty());
+    items.destroy_empty();
 }

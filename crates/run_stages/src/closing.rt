@@ -8,14 +8,14 @@ ghost use Rattle.run_stages.specs.Said.{SaysText};
 
 use crate::counts::{RunCounts, all_counts};
 use crate::done::RunDone;
-use crate::ends::{io_end, threads_end};
+use crate::ends::threads_end;
 use crate::returning::{give_back_fed, give_back_scripts};
 use crate::saying::put_report;
 use crew_feeder::FeedDone;
 use crew_session::SessionDone;
 use cube_schema::Plan;
 use outer_io::{IoFault, List, NoMemory, Place, Sink};
-use run_files::{Stop, give_back_sinks, joined_ends};
+use run_files::{Stop, give_back_sinks, joined_ends, write_end};
 use run_report::write_journal;
 use std::alloc::Global;
 
@@ -110,7 +110,7 @@ pub fn close_run<P: Place, O: Sink>(
     let count = entries.len() as u64;
     let (counts, given) = give_back_parts(alloc, place, feeds, asks, finals, room);
     let kept = give_back_journal(place, journal);
-    let (wrote, kept) = (io_end(wrote), io_end(kept));
+    let (wrote, kept) = (write_end(wrote), write_end(kept));
     let said = say_run(
         alloc,
         plan,

@@ -1,13 +1,12 @@
 //! Why a run ends, by the faults that ended its feeds and its sessions.
 ghost use Rattle.std.specs.Prelude.{◌≡◌};
-ghost use Rattle.run_files.specs.Stops.{write_end};
 ghost use Rattle.run_stages.specs.Closing.{threads_end};
 ghost use Rattle.run_stages.specs.Ends.{feed_end, feeds_end, session_end, sessions_end, starved_end};
 
 use crate::done::RunDone;
 use crew_feeder::FeedDone;
 use crew_session::SessionDone;
-use outer_io::{CutFault, IoFault, Source};
+use outer_io::{CutFault, Source};
 use run_files::{Stop, joined_ends, stop_of_cut, stop_of_session};
 use session_core::SessionFault;
 
@@ -67,15 +66,4 @@ pub(crate) fn threads_end<I: Source, O>(done: &RunDone<I, O>) -> Result<(), Stop
     let feeds = joined_ends(starved_end(done.starved), feeds_end(done.feeds.as_slice()));
     let asks = joined_ends(feeds, sessions_end(done.asks.as_slice()));
     joined_ends(asks, sessions_end(done.finals.as_slice()))
-}
-
-/// What writing a file or giving it back answered, as a step of a run answers it.
-pub(crate) fn io_end(written: Result<(), IoFault>) -> Result<(), Stop>
-    ensures { result ≡ write_end written }
-{
-    match written {
-        Ok(()) => Ok(()),
-        Err(IoFault::Failed) => Err(Stop::WriteFault),
-        Err(IoFault::NoMemory) => Err(Stop::NoMemory),
-    }
 }

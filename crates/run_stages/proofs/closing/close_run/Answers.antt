@@ -27,8 +27,8 @@ returns g c =
       report = c.say_run-said.ensures.said (run_text c.args.plan.now c.args.done)
           (text_of_counts c.args.plan.now c.give_back_parts-counts.result.0 (map (feed_counts {I = g.row.P-In.Denot}) c.args.done.feeds) (map (script_counts {I = g.row.P-In.Denot} {O = g.row.P-Out.Denot}) c.args.done.asks) (map (script_counts {I = g.row.P-In.Denot} {O = g.row.P-Out.Denot}) c.args.done.finals)
           c.args.done.closed c.len-count.result (length c.args.done.entries) c.len-count.ensures c.give_back_parts-counts.ensures.feeds c.give_back_parts-counts.ensures.asks c.give_back_parts-counts.ensures.finals);
-      unsaid = λ e. c.say_run-said.ensures.unsaid (joined_both c.joined_ends.result c.io_end-wrote.result (write_end wrote) c.io_end-kept.result (write_end kept) (Err NoMemory) c.joined_ends.ensures c.io_end-wrote.ensures c.io_end-kept.ensures e);
-      ends = ends_of_all c.threads_end-threads.result (threads_end c.args.done) c.io_end-wrote.result (write_end wrote) c.give_back_parts-counts.result.1 c.io_end-kept.result (write_end kept) c.say_run-said.result
+      unsaid = λ e. c.say_run-said.ensures.unsaid (joined_both c.joined_ends.result c.write_end-wrote.result (write_end wrote) c.write_end-kept.result (write_end kept) (Err NoMemory) c.joined_ends.ensures c.write_end-wrote.ensures c.write_end-kept.ensures e);
+      ends = ends_of_all c.threads_end-threads.result (threads_end c.args.done) c.write_end-wrote.result (write_end wrote) c.give_back_parts-counts.result.1 c.write_end-kept.result (write_end kept) c.say_run-said.result
           c.joined_ends-2.result c.joined_ends-parts.result c.joined_ends-3.result c.joined_ends-4.result
-          c.threads_end-threads.ensures c.io_end-wrote.ensures c.io_end-kept.ensures c.joined_ends-2.ensures c.joined_ends-parts.ensures c.joined_ends-3.ensures c.joined_ends-4.ensures;
+          c.threads_end-threads.ensures c.write_end-wrote.ensures c.write_end-kept.ensures c.joined_ends-2.ensures c.joined_ends-parts.ensures c.joined_ends-3.ensures c.joined_ends-4.ensures;
     }
