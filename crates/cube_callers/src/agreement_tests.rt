@@ -1,16 +1,16 @@
-//! Cubes and plain cubes of the same points: they have the same labels at each tile, and count alike in it by any values.
-ghost use Rattle.std.specs.Prelude.{◌≡◌, ◌^◌, ◌<◌, ◌≤◌};
+//! Cubes and plain cubes of the same points: they answer alike at every address.
+ghost use Rattle.std.specs.Prelude.{◌≡◌, ◌+◌, ◌^◌, ◌<◌, ◌≤◌, IfSome, length};
+ghost use Rattle.cube_view.specs.Places.{time_dim};
 ghost use Rattle.probe_core.specs.Blanks.{IsBlankOf};
 
 use cube_store::Cube;
 use cube_view::{CubeView, Grow, Point, Schema, Spot, Tile, is_sound};
-use example_cubes::{of_all_records, tile};
+use example_cubes::tile;
 use example_schemas::{point, schema_of_kinds, schema_of_two_categories};
 use outer_io::NoMemory;
 use plain_cube::PlainCube;
 use probe_core::Steps;
-use query_syntax::{Choice, Query, Span, ValueSet, Verb, is_valid_query};
-use query_walk::{region_cursor, total};
+use query_walk::region_cursor;
 use std::alloc::Global;
 use std::marker::Brand;
 use std::process::Abort;
@@ -29,57 +29,98 @@ fn tile_of(number: u32) -> Tile
     }
 }
 
-// All values for 0, else one of two values.
-fn choice_of(number: u32) -> Choice
-    requires { number < 3 }
+// What a view answers on a way: the next labels at the tile from three labels on, if it has quadrants and the view a spot
+// in it, and the totals before four ends, if the view has a table on the way.
+#[derive(Clone, Copy, PartialEq, Eq, Debug)]
+struct Answers {
+    labels: [Option<u8>; 3],
+    totals: Option<[u64; 4]>,
+}
+
+fn value(choice: u32) -> Option<u8>
+    requires { choice < 3 }
 {
-    if number == 0 {
-        Choice::All
+    if choice == 2 {
+        None
     } else {
-        Choice::Only(ValueSet::one((number - 1) as u8))
+        Some(choice as u8)
     }
 }
 
-// The count of the tile's records, of one of nine choices in two categories. The first three have all values of the
-// second.
-fn query_of(region: Tile, choice: u32) -> Query {
-    let mut query = of_all_records(Verb::Count, region);
-    query.sets[0] = choice_of(choice % 3);
-    query.sets[1] = choice_of(choice / 3 % 3);
-    query
+// The table on the way on from category k, by a value or none of each category that is left.
+fn table_from<V: CubeView, L: Ledger>(
+    view: &V,
+    cursor: V::Cursor,
+    k: usize,
+    values: &[Option<u8>; 4],
+    steps: &mut Steps<L>,
+) -> Option<V::Cursor>
+    requires stands { V.stands view.now cursor }
+    requires here { ((V.address view.now cursor).dim ≡ k + 2) × ((V.address view.now cursor).level ≡ 0) }
+    requires left { k ≤ length (V.schema view.now).categories }
+    ensures { IfSome result (λ c. V.stands view.now c × ((V.address view.now c).dim ≡ time_dim (V.schema view.now))) }
+{
+    if k == view.schema().categories.len() {
+        return Some(cursor);
+    }
+    let at_value = match values[k] {
+        Some(value) => view.down(cursor, value, steps)?,
+        None => cursor,
+    };
+    let next = view.across(at_value, steps)?;
+    table_from(view, next, k + 1, values, steps)
 }
 
-// The next labels at the tile from three labels on, if it has quadrants and the view a spot in it.
-fn labels_at<V: CubeView, L: Ledger>(view: &V, tile: &Tile, steps: &mut Steps<L>) -> [Option<u8>; 3]
+// The totals before four ends at the table of these values below the tile, if the view has it.
+fn totals_at<V: CubeView, L: Ledger>(
+    view: &V,
+    at_tile: V::Cursor,
+    values: &[Option<u8>; 4],
+    steps: &mut Steps<L>,
+) -> Option<[u64; 4]>
+    requires stands { V.stands view.now at_tile }
+    requires space { (V.address view.now at_tile).dim ≡ 1 }
+{
+    let at_category = view.across(at_tile, steps)?;
+    let at_table = table_from(view, at_category, 0, values, steps)?;
+    Some([
+        view.before(at_table, 1, steps),
+        view.before(at_table, 2, steps),
+        view.before(at_table, 3, steps),
+        view.before(at_table, 1 << 32, steps),
+    ])
+}
+
+fn answers_on<V: CubeView, L: Ledger>(
+    view: &V,
+    tile: &Tile,
+    values: &[Option<u8>; 4],
+    steps: &mut Steps<L>,
+) -> Answers
     requires { (tile.now.x < 2 ^ tile.now.z) × (tile.now.y < 2 ^ tile.now.z) }
 {
-    if tile.z >= view.schema().depth {
-        return [None; 3];
-    }
-    let Some(cursor) = region_cursor(view, tile, steps) else {
-        return [None; 3];
+    let mut answers = Answers {
+        labels: [None; 3],
+        totals: None,
     };
-    [
-        view.next_label(cursor, 0, steps),
-        view.next_label(cursor, 2, steps),
-        view.next_label(cursor, 3, steps),
-    ]
+    if tile.z > view.schema().depth {
+        return answers;
+    }
+    let Some(at_tile) = region_cursor(view, tile, steps) else {
+        return answers;
+    };
+    if tile.z < view.schema().depth {
+        answers.labels = [
+            view.next_label(at_tile, 0, steps),
+            view.next_label(at_tile, 2, steps),
+            view.next_label(at_tile, 3, steps),
+        ];
+    }
+    answers.totals = totals_at(view, at_tile, values, steps);
+    answers
 }
 
-// What the query counts in bins before the end.
-fn total_before<V: CubeView, L: Ledger>(
-    rt: &impl Abort,
-    view: &V,
-    query: &Query,
-    end: u64,
-    steps: &mut Steps<L>,
-) -> u64 {
-    let until = query.with_span(Span { from: 0, to: end });
-    assert!(rt; is_valid_query(view.schema(), &until));
-    total(view, &until, steps)
-}
-
-// How many tiles a schema's space has up to the third level, and the choices of a value or all in its categories.
+// How many tiles a schema's space has up to the third level, and the choices of a value or none in its categories.
 #[derive(Clone, Copy)]
 struct Extent {
     tiles: u32,
@@ -96,15 +137,12 @@ fn same_at_tile<V: CubeView, W: CubeView, L: Ledger>(
 )
     requires { (tile.now.x < 2 ^ tile.now.z) × (tile.now.y < 2 ^ tile.now.z) }
 {
-    assert_eq!(rt; labels_at(one, tile, steps), labels_at(other, tile, steps));
     for choice in 0..choices {
-        let query = query_of(*tile, choice);
-        for end in [1, 2, 3, 1 << 32] {
-            assert_eq!(rt;
-                total_before(rt, one, &query, end, steps),
-                total_before(rt, other, &query, end, steps)
-            );
-        }
+        let values = [value(choice % 3), value(choice / 3 % 3), None, None];
+        assert_eq!(rt;
+            answers_on(one, tile, &values, steps),
+            answers_on(other, tile, &values, steps)
+        );
     }
 }
 
