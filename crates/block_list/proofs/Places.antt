@@ -1,10 +1,8 @@
 -- Where the items of a list lie in its blocks: the item at q * 64 + r is the one at r of the block at q.
-use Rattle.std.proofs.Common.{◌≡◌, ℕ, zero, suc, ◌+◌, ◌-◌, ◌*◌, ◌/◌, ◌%◌, ◌<◌, ◌≤◌, List, [], ◌∷◌, ◌++◌, length, get_or, set, take, refl, ap, ◌∙◌, sym, arith, length-append, append_assoc, append-nil, length-set, add-zero, add-one}
-use Rattle.std.proofs.lemmas.List.{get_or_append_left, get_or-append_right, set-append_left, set-append_right, take-append-le, take_all, length-take-le, get_or-take}
-use Rattle.std.proofs.Math.Seq.{take-append-add}
+use Rattle.std.proofs.Common.{◌≡◌, ℕ, zero, suc, ◌+◌, ◌-◌, ◌*◌, ◌/◌, ◌%◌, ◌<◌, ◌≤◌, List, [], ◌∷◌, ◌++◌, length, get_or, set, take, refl, ap, ◌∙◌, sym, arith, length-append, append_assoc, append-nil, length-set}
+use Rattle.std.proofs.lemmas.List.{get_or_append_left, get_or-append_right, set-append_left, set-append_right}
 use Rattle.std.proofs.lemmas.List.Concat.{flat_map-append}
-use Rattle.std.specs.Prelude.{Bool, true, false, if◌then◌else◌, ◌≢◌, ◌^◌}
-use Rattle.block_list.specs.Blocks.{joined, AreFull, AreBlocks}
+use Rattle.block_list.specs.Blocks.{joined, AreFull}
 
 pub split : (i : ℕ) → i ≡ (i / 64) * 64 + i % 64
 split i = omega arith
@@ -70,6 +68,11 @@ module _ {T : Type 0} where
   some_items b [] full = omega (arith, length-append b [])
   some_items b (c ∷ bs) full = omega (arith, length-append b (joined (c ∷ bs)))
 
+  -- no items are in no blocks
+  pub none_left : (bs : List (List T)) → AreFull bs → joined bs ≡ [] → length bs ≡ 0
+  none_left [] full none = refl
+  none_left (b ∷ bs) full none = absurd (let some = some_items b bs full in let l = ap length none in omega arith)
+
   -- which block is the last
   pub last_place : (bs : List (List T)) (q r : ℕ) → length (joined bs) ≡ q * 64 + r → 0 < r → r ≤ 64 → AreFull bs → length bs ≡ q + 1
   last_place [] q r is some small full = omega arith
@@ -116,36 +119,6 @@ module _ {T : Type 0} where
   AreFull-take (b ∷ c ∷ bs) (suc zero) full = (omega arith, omega arith)
   AreFull-take (b ∷ c ∷ bs) (suc (suc q)) full = (full.0, AreFull-take (c ∷ bs) (suc q) full.1)
 
-  take_block : (b rest : List T) (q n i : ℕ) → length b ≡ 64 → i ≡ suc q * 64 + n → take i (b ++ rest) ≡ b ++ take (q * 64 + n) rest
-  take_block b rest q n i full is =
-      let e : i ≡ length b + (q * 64 + n) = omega arith in
-      rw e (take-append-add b rest (q * 64 + n))
-
-  pub joined-take : (bs : List (List T)) (q : ℕ) → AreFull bs → q * 64 ≤ length (joined bs) → take (q * 64) (joined bs) ≡ joined (take q bs)
-  joined-take [] zero full within = refl
-  joined-take [] (suc q) full within = grind arith
-  joined-take (b ∷ []) zero full within = refl
-  joined-take (b ∷ []) (suc zero) full within = take_all 64 (b ++ []) (omega (arith, length-append b []))
-  joined-take (b ∷ []) (suc (suc q)) full within = grind (arith, length-append b [])
-  joined-take (b ∷ c ∷ bs) zero full within = refl
-  joined-take (b ∷ c ∷ bs) (suc q) full within =
-      take_block b (joined (c ∷ bs)) q 0 (suc q * 64) full.0 (omega arith)
-      ∙ ap (λ rest. b ++ rest) (rw (add-zero (q * 64)) (joined-take (c ∷ bs) q full.1 (omega (arith, length-append b (joined (c ∷ bs))))))
-
-  pub joined-take_part : (bs : List (List T)) (q r i : ℕ) (e : List T) → i ≡ q * 64 + r → 0 < r → r < 64 → AreFull bs → i ≤ length (joined bs) → joined (set (take (suc q) bs) q (take r (get_or bs q e))) ≡ take i (joined bs)
-  joined-take_part [] q r i e is some small full within = grind arith
-  joined-take_part (b ∷ []) zero r i e is some small full within =
-      let short : r ≤ length b = omega (arith, length-append b []) in
-      let at : i ≡ r = omega arith in
-      rw (at, take-append-le r b [] short) (append-nil (take r b))
-  joined-take_part (b ∷ []) (suc q) r i e is some small full within = grind (arith, length-append b [])
-  joined-take_part (b ∷ c ∷ bs) zero r i e is some small full within =
-      let at : i ≡ r = omega arith in
-      rw (at, take-append-le r b (joined (c ∷ bs)) (omega arith)) (append-nil (take r b))
-  joined-take_part (b ∷ c ∷ bs) (suc q) r i e is some small full within =
-      ap (λ rest. b ++ rest) (joined-take_part (c ∷ bs) q r (q * 64 + r) e refl some small full.1 (omega (arith, length-append b (joined (c ∷ bs)))))
-      ∙ sym (take_block b (joined (c ∷ bs)) q r i full.0 is)
-
   -- the block and the place in it of the item at i
   pub record IsHeldAt (bs : List (List T)) (v : List T) (i : ℕ) : Type 0 where
     pub block : i / 64 < length bs
@@ -187,59 +160,6 @@ module _ {T : Type 0} where
         kept = λ e. (let h = held e in let s = small n in AreFull-set_last bs (n / 64) _ last (omega (arith, length-append (get_or bs (n / 64) e) (x ∷ []))) (omega (arith, length-append (get_or bs (n / 64) e) (x ∷ []))) full);
         pushed = λ e. joined-push_last bs (n / 64) e x last ∙ ap (λ xs. xs ++ x ∷ []) view;
       }
-
-  -- the first n items, which end within a block
-  pub record IsCut (bs bs' : List (List T)) (v : List T) (n : ℕ) : Type 0 where
-    pub block : n / 64 < length bs'
-    pub few : length bs' ≤ length bs
-    pub kept : (e : List T) → AreFull (set bs' (n / 64) (take (n % 64) (get_or bs' (n / 64) e)))
-    pub cut : (e : List T) → joined (set bs' (n / 64) (take (n % 64) (get_or bs' (n / 64) e))) ≡ take n v
-
-  cut_part : (bs : List (List T)) (q r i : ℕ) → i ≡ q * 64 + r → 0 < r → r < 64 → AreFull bs → i ≤ length (joined bs) → (q < length bs) × ((e : List T) → r ≤ length (get_or bs q e))
-  cut_part bs q r i is some small full within =
-      let before : i - 1 ≡ q * 64 + (r - 1) = omega arith in (
-        block_within bs q (r - 1) (i - 1) before full (omega arith),
-        λ e. (let h = place_within bs q (r - 1) (i - 1) e before (omega arith) full (omega arith) in omega arith),
-      )
-
-  pub cut_at : (bs bs' : List (List T)) (v : List T) (n : ℕ) → bs' ≡ take (n / 64 + 1) bs → joined bs ≡ v → AreFull bs → (n % 64 ≡ 0 → ⊥) → n ≤ length v → IsCut bs bs' v n
-  cut_at bs bs' v n is view full part within =
-      let in_bs : n ≤ length (joined bs) = rw view within in
-      let some : 0 < n % 64 = omega arith in
-      let p = cut_part bs (n / 64) (n % 64) n (split n) some (small n) full in_bs in
-      let front : bs' ≡ take (suc (n / 64)) bs = is ∙ ap (λ k. take k bs) (add-one (n / 64)) in
-      let long : length bs' ≡ n / 64 + 1 = rw is (length-take-le (n / 64 + 1) bs (let h = p.0 in omega arith)) in
-      let same : (e : List T) → get_or bs' (n / 64) e ≡ get_or bs (n / 64) e = λ e. rw is (get_or-take (n / 64 + 1) bs (n / 64) e (omega arith)) in
-      let fit : (e : List T) → length (take (n % 64) (get_or bs' (n / 64) e)) ≡ n % 64 = λ e. length-take-le (n % 64) (get_or bs' (n / 64) e) (rw (same e) (p.1 e)) in
-      record {
-        block = omega arith;
-        few = let h = p.0 in omega arith;
-        kept = λ e. (let h = fit e in let s = small n in AreFull-set_last bs' (n / 64) _ long (omega arith) (omega arith) (rw is (AreFull-take bs (n / 64 + 1) full)));
-        cut = λ e. rw (same e, front) (joined-take_part bs (n / 64) (n % 64) n e (split n) some (small n) full in_bs ∙ ap (λ xs. take n xs) view);
-      }
-
-  -- the first n items, which end with a block
-  pub cut_whole : (bs : List (List T)) (v : List T) (n : ℕ) → joined bs ≡ v → AreFull bs → n % 64 ≡ 0 → n ≤ length v → joined (take (n / 64) bs) ≡ take n v
-  cut_whole bs v n view full whole within =
-      let is : n ≡ (n / 64) * 64 = omega arith in
-      let in_bs : (n / 64) * 64 ≤ length (joined bs) = rw view (omega arith) in
-      sym (joined-take bs (n / 64) full in_bs) ∙ ap (λ k. take k (joined bs)) (sym is) ∙ ap (λ xs. take n xs) view
-
-  -- how many items there are, by the last block
-  pub length_by_last : (bs xs : List (List T)) (v last : List T) → xs ≡ bs → joined bs ≡ v → AreFull bs → 0 < length xs → last ≡ get_or xs (length xs - 1) last → (length bs - 1) * 64 + length last ≡ length v
-  length_by_last bs xs v last same view full some is =
-      let same_length : length xs ≡ length bs = ap length same in
-      let at : last ≡ get_or bs (length bs - 1) last = is ∙ ap (λ ys. get_or ys (length ys - 1) last) same in
-      let long : length (joined bs) ≡ (length bs - 1) * 64 + length (get_or bs (length bs - 1) last) = length-joined bs (length bs - 1) last (omega arith) full in
-      ap (λ l. (length bs - 1) * 64 + length l) at ∙ sym long ∙ ap length view
-
-  -- a new block, or none for want of memory
-  pub pushed_blocks : (bs bs' : List (List T)) (made : Bool) (b v : List T) (x : T) → bs' ≡ (if made then bs ++ b ∷ [] else bs) → b ≡ x ∷ [] → joined bs ≡ v → length v % 64 ≡ 0 → AreBlocks bs → length bs ≢ 2 ^ 57 → AreBlocks bs'
-  pushed_blocks bs bs' false b v x is one view whole full more = rw is full
-  pushed_blocks bs bs' true b v x is one view whole full more =
-      let same = ap length view in
-      let few = full.1 in
-      rw (is, one) (AreFull-push bs (length v / 64) x (omega arith) full.0, omega (arith, length-append bs ((x ∷ []) ∷ [])))
 
   -- how many items the blocks hold at most
   pub length_within : (bs : List (List T)) → AreFull bs → length (joined bs) ≤ length bs * 64

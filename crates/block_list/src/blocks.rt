@@ -2,32 +2,29 @@
 ghost use Rattle.std.specs.Prelude.{◌≡◌, ◌≢◌, ◌+◌, ◌%◌, ◌<◌, ◌≤◌, ◌↔◌, [], ◌∷◌, ◌++◌, length, take, slice_index_or, IfOk, IfErr, OnOk, OnErr, IsOk, IsTrue};
 ghost use Rattle.std.specs.Borrow.{sem};
 
-use crate::block::{BLOCK, Block};
+use crate::block::{item_at, pop_item, push_item};
+use crate::raw::{BLOCK, RawBlock};
 use probe_core::Steps;
 use std::alloc::Global;
 use std::marker::Model;
 use std::sync::ledger::Ledger;
 
-/// The most blocks that a list has: their items are counted in 64 bits.
-const MOST_BLOCKS: usize = 1 << 57;
-
 /// Items in order, each of which keeps its place in memory until it is dropped.
-#[derive(Drop)]
 pub struct BlockList<T> {
     alloc: Global,
-    blocks: Vec<Block<T>>,
+    blocks: Vec<RawBlock<T, Global>>,
     len: usize,
 }
 
 impl<T> Model for BlockList<T> {
     ghost use Rattle.std.specs.Prelude.{◌≡◌, List, length};
-    ghost use Rattle.block_list.specs.Blocks.{joined, AreBlocks};
+    ghost use Rattle.block_list.specs.Blocks.{held, joined, AreBlocks};
 
     ghost Value = { List T };
 
-    ghost view = { λ list. joined list.blocks.items };
+    ghost view = { λ list. joined (held list.blocks.items) };
 
-    ghost invariant = { λ list. AreBlocks list.blocks.items × (list.len ≡ length (joined list.blocks.items)) };
+    ghost invariant = { λ list. AreBlocks (held list.blocks.items) × (list.len ≡ length (joined (held list.blocks.items))) };
 }
 
 impl<T> BlockList<T> {
@@ -58,7 +55,7 @@ impl<T> BlockList<T> {
         self.len() == 0
     }
 
-    /// Appends an item, and gives its place. For want of memory the item comes back, and the list is as
+    /// Appends an item, and gives its place. Where memory is refused the item comes back, and the list is as
     /// before; memory is asked for only where every block is full.
     pub fn push(&mut self, item: T) -> Result<usize, T>
         ensures place { IfOk result (λ place. place ≡ length self.old) }
@@ -68,23 +65,9 @@ impl<T> BlockList<T> {
         ensures not_refused { length self.old % 64 ≢ 0 → IsOk result }
     {
         let place = self.len;
-        if place % BLOCK != 0 {
-            let last = &mut self.blocks[place / BLOCK];
-            last.push(item);
-            self.len = place + 1;
-            return Ok(place);
-        }
-        if self.blocks.len() == MOST_BLOCKS {
-            return Err(item);
-        }
-        let block = Block::with_first(self.alloc, item)?;
-        match self.blocks.push(block) {
-            Ok(()) => {
-                self.len = place + 1;
-                Ok(place)
-            }
-            Err(refused) => Err(refused.value.into_first()),
-        }
+        push_item(self.alloc, &mut self.blocks, place, item)?;
+        self.len = place + 1;
+        Ok(place)
     }
 
     /// The item at a place, in one step.
@@ -94,7 +77,7 @@ impl<T> BlockList<T> {
         ensures one_step { steps.new ≡ steps.old + 1 }
     {
         steps.tick();
-        self.blocks[i / BLOCK].item(i % BLOCK)
+        item_at(&self.blocks, i)
     }
 
     /// The item at a place, to be written.
@@ -105,6 +88,17 @@ impl<T> BlockList<T> {
     {
         self.blocks[i / BLOCK].item_mut(i % BLOCK)
     }
+
+    /// Takes the last item.
+    fn pop(&mut self) -> T
+        requires { 0 < length self.old }
+        ensures { self.old ≡ self.new ++ result ∷ [] }
+    {
+        let last = self.len - 1;
+        let item = pop_item(self.alloc, &mut self.blocks, last);
+        self.len = last;
+        item
+    }
 }
 
 impl<T: Drop> BlockList<T> {
@@ -113,14 +107,20 @@ impl<T: Drop> BlockList<T> {
         requires { n ≤ length self.old }
         ensures { self.new ≡ take n self.old }
     {
-        let whole = n / BLOCK;
-        self.len = n;
-        if n % BLOCK == 0 {
-            self.blocks.truncate(whole);
-        } else {
-            self.blocks.truncate(whole + 1);
-            let last = &mut self.blocks[whole];
-            last.cut(n % BLOCK);
+        while self.len > n {
+            let _dropped = self.pop();
         }
+    }
+}
+
+impl<T: Drop> Drop for BlockList<T> {
+    fn drop(mut self) {
+        self.cut(0);
+        let BlockList {
+            alloc: _,
+            blocks,
+            len: _,
+        } = self;
+        blocks.destroy_empty();
     }
 }
