@@ -1,8 +1,8 @@
 -- What the limits of a schema give.
-use Rattle.std.proofs.Common.{◌≡◌, ℕ, zero, suc, ◌<◌, ◌≤◌, Bool, true, false, List, [], ◌∷◌, length, get_or, refl, arith}
+use Rattle.std.proofs.Common.{◌≡◌, ℕ, zero, suc, ◌<◌, ◌≤◌, true, List, [], ◌∷◌, length, get_or, refl, arith}
 use Rattle.std.specs.Prelude.{nat_le, ◌&&◌, is_some, Option}
 use Rattle.std.specs.List.{list_all}
-use Rattle.std.proofs.lemmas.Bool.{false≢true, and_parts}
+use Rattle.std.proofs.lemmas.Bool.{and_parts}
 use Rattle.std.proofs.lemmas.Bool.Decides.{nat_tests}
 use Rattle.cube_view.specs.Limits.{category_in_range, categories_in_range, is_between, numbers_in_range, parts_in_range, texts_distinct, weight_in_range}
 use Rattle.cube_view.specs.declared.category.Category.{Category}

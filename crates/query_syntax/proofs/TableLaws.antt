@@ -15,7 +15,7 @@ use Rattle.cube_view.specs.declared.address.Tile.{Tile}
 use Rattle.cube_view.specs.declared.schema.Schema.{Schema}
 use Rattle.cube_view.specs.declared.spot.Spot.{Spot}
 use Rattle.query_syntax.specs.Boxes.{box, chosen, are_in_sets, inside, total}
-use Rattle.query_syntax.specs.Narrowing.{any_value, with_value, with_tile, with_bins}
+use Rattle.query_syntax.specs.Narrowing.{any_value, with_value, with_tile}
 use Rattle.query_syntax.specs.Tables.{area_row}
 use Rattle.query_syntax.specs.TileOrder.{tiles_inside}
 use Rattle.query_syntax.specs.declared.query.Choice.{Choice}

@@ -4,12 +4,12 @@ use Rattle.std.proofs.lemmas.Bool.Decides.{nat_tests}
 use Rattle.std.specs.Prelude.{◌&&◌, ◌||◌, ◌==◌, nat_le, nat_lt, not}
 use Rattle.cube_view.specs.Limits.{is_between}
 use Rattle.cube_view.specs.declared.schema.Schema.{Schema}
-use Rattle.query_syntax.specs.Queries.{ValidParts, is_valid_query, verb_in_range, is_too_deep, are_choices, is_span, filters_fit_verb, has_no_filters, is_all_bins, is_whole_space, rect_in_range}
+use Rattle.query_syntax.specs.Queries.{ValidParts, is_valid_query, verb_in_range, is_too_deep, are_choices, is_span, filters_fit_verb, has_no_filters, is_all_bins, is_whole_space}
 use Rattle.query_syntax.specs.Tiles.{is_tile}
-use Rattle.query_syntax.specs.Verbs.{bins, most_rows, most_best_rows, deepest_map, takes_filters, is_series, is_window}
+use Rattle.query_syntax.specs.Verbs.{bins, most_rows, takes_filters, is_series, is_window}
 use Rattle.query_syntax.specs.declared.query.Query.{Query}
 use Rattle.query_syntax.specs.declared.query.Verb.{Verb}
-use Rattle.query_syntax.specs.declared.query.Verb.TheVariants.{Hist, Map, Series, Window, Cross, Best}
+use Rattle.query_syntax.specs.declared.query.Verb.TheVariants.{Hist, Map, Series}
 use Rattle.query_syntax.proofs.SchemaLimits.{between_high}
 use Rattle.std.proofs.lemmas.Bool.{and_parts}
 

@@ -20,17 +20,11 @@ mod fault;
 mod filters;
 mod item;
 mod parsing;
-#[cfg(test)]
-mod print_tests;
 mod printing;
 mod query;
 mod rect;
 mod table;
-#[cfg(test)]
-mod table_tests;
 mod tables;
-#[cfg(test)]
-mod tests;
 mod tile_word;
 mod totals;
 mod valid_query;

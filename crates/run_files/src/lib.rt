@@ -23,8 +23,6 @@ mod giving_back;
 mod loading;
 mod scripts;
 mod stop;
-#[cfg(test)]
-mod tests;
 
 pub use feeds::{HeadedFeed, open_feeds};
 pub use giving_back::{give_back_cutters, give_back_feeds, give_back_sinks, give_back_sources};

@@ -1,5 +1,4 @@
-use Rattle.std.proofs.Common.{sym, ◌∙◌, arith, ⊎_elim}
-use Rattle.query_syntax.specs.declared.query.Verb.TheVariants.{Stat, Told, Quit}
+use Rattle.std.proofs.Common.{arith}
 use Rattle.query_syntax.proofs.TableRows.{rows_at}
 use Rattle.query_syntax.proofs.ValidParts.{region_above, region_within, hist_known, map_above, series_small}
 use Rattle.query_syntax.proofs.tables.rows_of.Goals as goal

@@ -1,4 +1,4 @@
-use Rattle.std.proofs.Common.{◌≡◌, ℕ, ◌+◌, ◌<◌, Bool, ◌&&◌, length, get_or, drop, ◌∙◌, ap, arith}
+use Rattle.std.proofs.Common.{ℕ, ◌+◌, ◌<◌, Bool, ◌&&◌, length, get_or, drop, ◌∙◌, ap, arith}
 use Rattle.query_syntax.specs.Queries.{are_choices, is_choice}
 use Rattle.query_syntax.proofs.ChoicesAt.{choices_more}
 use Rattle.query_syntax.proofs.valid_query.are_choices.Goals as goal

@@ -1,5 +1,5 @@
-use Rattle.std.proofs.Common.{ℕ, true, false, length, refl, sym, ◌∙◌, ap}
-use Rattle.query_syntax.specs.Queries.{are_choices, filters_fit_verb, is_span, is_too_deep, verb_in_range}
+use Rattle.std.proofs.Common.{ℕ, true, false, refl, sym, ◌∙◌, ap}
+use Rattle.query_syntax.specs.Queries.{filters_fit_verb, is_span, is_too_deep, verb_in_range}
 use Rattle.query_syntax.specs.Tiles.{is_tile}
 use Rattle.query_syntax.proofs.ChoicesAt.{valid_is, valid_sets}
 use Rattle.query_syntax.proofs.valid_query.is_valid_query.Goals as goal
