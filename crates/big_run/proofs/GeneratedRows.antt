@@ -1,21 +1,20 @@
 -- Each row of the generated feed is a point of the plan that is built in.
-use Rattle.std.proofs.Common.{◌≡◌, ℕ, zero, suc, ◌+◌, ◌-◌, ◌/◌, ◌%◌, ◌^◌, ◌<◌, ◌≤◌, ◌&&◌, ◌==◌, Bool, true, false, not, nat_le, nat_lt, List, [], ◌∷◌, ◌++◌, length, take, Option, Some, None, option_map, map, refl, ap, sym, ◌∙◌, subst, arith, append_assoc, length-append}
+use Rattle.std.proofs.Common.{◌≡◌, ℕ, zero, suc, ◌+◌, ◌-◌, ◌/◌, ◌%◌, ◌^◌, ◌<◌, ◌≤◌, ◌&&◌, ◌==◌, Bool, true, false, not, nat_le, nat_lt, List, [], ◌∷◌, ◌++◌, length, Option, Some, None, option_map, map, refl, ap, sym, ◌∙◌, subst, arith, append_assoc, length-append}
 use Rattle.std.specs.Char.{is_ascii_digit}
 use Rattle.std.specs.Fmt.{decimal}
-use Rattle.std.specs.List.{list_all, position}
+use Rattle.std.specs.List.{list_all}
 use Rattle.std.specs.Str.Parse.{digits_value}
 use Rattle.std.proofs.lemmas.Bool.{and_parts}
 use Rattle.std.proofs.lemmas.Bool.Decides.{nat_tests}
 use Rattle.std.proofs.lemmas.Fmt.{digits_decimal, digits_value-decimal}
 use Rattle.std.proofs.lemmas.List.{append-nil}
-use Rattle.std.proofs.Math.Seq.{take-length}
 use Rattle.csv.specs.Machine.{next_record}
 use Rattle.csv.specs.Reading.{default_config}
 use Rattle.csv.specs.declared.parser.State.TheVariants as st
 use Rattle.feed_maker.specs.GeneratedFeed.{generated_row, generated_rows, next_state}
-use Rattle.feed_reader.proofs.OneRecord.{begins_record, one_record}
-use Rattle.feed_reader.specs.Fronts.{ReadsRecord}
+use Rattle.feed_reader.proofs.LineRecords.{whole_record}
 use Rattle.feed_reader.specs.Records.{begins_with_mark, record_of}
+use Rattle.feed_reader.specs.Regular.{begins_record}
 use Rattle.feed_reader.specs.Rows.{fault_if, faults_of, first_fault, first_unknown, number, point_of, row_of, row_of_line, row_of_record, row_unless, unknown_value}
 use Rattle.feed_reader.specs.declared.column.Column.TheVariants as column
 use Rattle.feed_reader.specs.declared.row.Row.{Row}
@@ -129,11 +128,8 @@ four_record (b ∷ x) y letter time x_is y_is plain time_is =
     ∙ digits_to_comma y (letter ∷ 44 ∷ time) ((b ∷ x) ∷ []) y_is.some y_is.digits
     ∙ letter_to_comma letter time ((b ∷ x) ∷ y ∷ []) plain
     ∙ digits_to_end time ((b ∷ x) ∷ y ∷ (letter ∷ []) ∷ []) time_is.some time_is.digits in
-    let all : take (length line - 0) line ≡ line = let same : length line - 0 ≡ length line = omega arith in ap (λ n. take n line) same ∙ take-length line in
-    let reads : ReadsRecord (take (length line - 0) line) ((b ∷ x) ∷ y ∷ (letter ∷ []) ∷ time ∷ []) [] = (0, ap (next_record default_config st.StartField [] []) all ∙ read) in
-    let nonempty : nat_le 1 (length line) ≡ true = grind (arith, nat_tests) in
-    let begins_first : Some 0 ≡ position begins_record line = rw (first.return, first.feed, nonempty) refl in
-    rw (no_mark b (x ++ 44 ∷ (y ++ 44 ∷ letter ∷ 44 ∷ time)) first.mark) (one_record line 0 ((b ∷ x) ∷ y ∷ (letter ∷ []) ∷ time ∷ []) [] begins_first reads refl)
+    let begins_first : begins_record line ≡ true = rw (first.return, first.feed) refl in
+    rw (no_mark b (x ++ 44 ∷ (y ++ 44 ∷ letter ∷ 44 ∷ time)) first.mark) (whole_record line ((b ∷ x) ∷ y ∷ (letter ∷ []) ∷ time ∷ []) begins_first read)
 
 -- where no test fails, there is no fault
 none_first : (a b c e f g h i : Bool) (unknown : Option RowFault) → a ≡ false → b ≡ false → c ≡ false → e ≡ false → f ≡ false → unknown ≡ None → g ≡ false → h ≡ false → i ≡ false

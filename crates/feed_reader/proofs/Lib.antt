@@ -1,7 +1,7 @@
 pub mod Lists
 pub mod Splits
 pub mod FieldReads
-pub mod OneRecord
+pub mod LineRecords
 pub mod Columns
 pub mod Parts
 pub mod Values

@@ -1,7 +1,7 @@
 pub mod Columns
 pub mod Records
-pub mod Texts
-pub mod Fronts
+pub mod Held
+pub mod Regular
 pub mod Headings
 pub mod Headers
 pub mod Rows

@@ -1,33 +1,31 @@
 //! The fields of a line, where it is one record.
-ghost use Rattle.std.specs.Prelude.{◌≡◌, ◌<◌, ◌∷◌, ◌++◌, [], IfOk, get_or, length};
+ghost use Rattle.std.specs.Prelude.{◌≡◌, ◌<◌, [], IfOk, get_or, length};
 ghost use Rattle.feed_reader.specs.Headers.{count_named, place_in};
 ghost use Rattle.feed_reader.specs.Records.{begins_with_mark, record_of};
 ghost use Rattle.feed_reader.specs.Rows.{is_short};
-ghost use Rattle.feed_reader.specs.Texts.{bytes_of};
 
-use crate::fronts::one_record;
-use crate::text::FieldText;
+use crate::held::Held;
+use crate::line_parts::LineParts;
+use crate::record::{field_of, one_record};
+use crate::regular::regular_fields;
 use cube_view::is_same_text;
-use outer_io::{List, NoMemory};
+use outer_io::NoMemory;
 use std::alloc::Global;
 use std::marker::Model;
-
-// How many fields have room at first.
-const ROOM: usize = 16;
 
 /// The fields of a line, seen as the list of their bytes.
 #[derive(Drop)]
 pub(crate) struct Fields<'a> {
-    texts: List<FieldText<'a>>,
+    held: Held<'a>,
 }
 
 impl<'a> Model for Fields<'a> {
-    ghost use Rattle.std.specs.Prelude.{List, ℕ, map};
-    ghost use Rattle.feed_reader.specs.Texts.{bytes_of};
+    ghost use Rattle.std.specs.Prelude.{List, ℕ};
+    ghost use Rattle.feed_reader.specs.Held.{texts_of};
 
     ghost Value = { List (List ℕ) };
 
-    ghost view = { λ fields. map bytes_of fields.texts };
+    ghost view = { λ fields. texts_of fields.held };
 }
 
 // Whether the bytes begin with a byte order mark, which `csv` would pass over.
@@ -41,20 +39,13 @@ fn begins_with_mark(line: &[u8]) -> bool
 }
 
 impl<'a> Fields<'a> {
-    /// No fields yet, with room for those of most lines.
-    pub(crate) fn new(alloc: Global) -> Result<Fields<'a>, NoMemory>
-        ensures { IfOk result (λ fields. fields ≡ []) }
+    /// The fields that are these parts.
+    pub(crate) fn of_parts(parts: LineParts<'a>) -> Fields<'a>
+        ensures { result ≡ parts.entry }
     {
-        let mut texts = List::new(alloc);
-        texts.reserve(ROOM)?;
-        Ok(Fields { texts })
-    }
-
-    /// Adds a field at the end.
-    pub(crate) fn add(&mut self, text: FieldText<'a>) -> Result<(), NoMemory>
-        ensures { IfOk result (λ _. self.new ≡ self.old ++ bytes_of text.entry ∷ []) }
-    {
-        self.texts.add(text)
+        Fields {
+            held: Held::Parts(parts),
+        }
     }
 
     /// The fields of a line that has no mark at its start and is exactly one record.
@@ -64,7 +55,25 @@ impl<'a> Fields<'a> {
         if begins_with_mark(line) {
             return Ok(None);
         }
-        one_record(alloc, line)
+        match regular_fields(alloc, line)? {
+            Some(parts) => Ok(Some(Fields::of_parts(parts))),
+            None => Fields::read_record(alloc, line),
+        }
+    }
+
+    /// The same, always as a reader of `csv` reads the line.
+    pub(crate) fn read_record(alloc: Global, line: &[u8]) -> Result<Option<Fields<'a>>, NoMemory>
+        ensures { IfOk result (λ found. found ≡ record_of line.now) }
+    {
+        if begins_with_mark(line) {
+            return Ok(None);
+        }
+        match one_record(alloc, line)? {
+            Some(row) => Ok(Some(Fields {
+                held: Held::Record(row),
+            })),
+            None => Ok(None),
+        }
     }
 
     /// The field at a place, from 0.
@@ -72,14 +81,20 @@ impl<'a> Fields<'a> {
         requires { place < length self.now }
         ensures { result.now ≡ get_or self.now place [] }
     {
-        self.texts.get(place).bytes()
+        match &self.held {
+            Held::Parts(parts) => parts.part(place),
+            Held::Record(row) => field_of(row, place),
+        }
     }
 
     /// How many fields there are.
     fn len(&self) -> usize
         ensures { result ≡ length self.now }
     {
-        self.texts.len()
+        match &self.held {
+            Held::Parts(parts) => parts.len(),
+            Held::Record(row) => row.len(),
+        }
     }
 
     /// How many fields are the name.

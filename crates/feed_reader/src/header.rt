@@ -171,7 +171,7 @@ impl Header {
         ensures schema { IfOk result (λ header. header.schema ≡ schema.now) }
         ensures fault { IfErr result (λ fault. fault ≢ HeadFault.NoMemory → head_of schema.now line.now ≡ Err fault) }
     {
-        let Some(fields) = Fields::read(alloc, line)? else {
+        let Some(fields) = Fields::read_record(alloc, line)? else {
             return Err(HeadFault::BadRow);
         };
         let counts = counts(alloc, schema, &fields)?;

@@ -1,7 +1,7 @@
 //! The lines of a feed: a header, which says in which column each part of a record stands, and rows, which are points.
 //!
-//! A line is read by itself, field by field. What a field and a record are is `csv`'s own definition, which `record_of` of
-//! `specs/Records.antt` cites; no reader of `csv` is made. What the bytes mean is the definition `head_of` of
+//! A line is read by itself. What a field and a record are is `csv`'s own definition, which `record_of` of
+//! `specs/Records.antt` cites; a regular line is split in place, and every other line is read by `csv`. What the bytes mean is the definition `head_of` of
 //! `specs/Headers.antt` for a header and `row_of` of `specs/Rows.antt` for a row; [`Header::read`] and [`Header::row`]
 //! answer exactly that. [`read_header`] and [`next_row`] take the lines from a cutter. `accepted` of `specs/Feeds.antt`
 //! says which points a whole feed has, and [`accepted_laws`] what is known of them. The crate stands on `cube_view` for
@@ -19,11 +19,13 @@ mod column;
 mod decimal;
 mod feed;
 mod fields;
-mod fronts;
 mod header;
+mod held;
 mod laws;
+mod line_parts;
+mod record;
+mod regular;
 mod row;
-mod text;
 
 pub use column::Column;
 pub use feed::{NoHeader, next_row, read_header};

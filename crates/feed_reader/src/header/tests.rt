@@ -3,9 +3,9 @@ ghost use Rattle.std.specs.Prelude.{◌≡◌};
 
 use super::Header;
 use crate::fields::Fields;
+use crate::line_parts::LineParts;
 use crate::row::row_of_record;
 use crate::tests::schema;
-use crate::text::FieldText;
 use crate::{Row, RowFault};
 use csv::{ByteRecord, ReaderBuilder};
 use cube_view::Schema;
@@ -61,11 +61,11 @@ fn random_line(alloc: Global, random: &mut Random) -> Result<Vec<u8>, Fail> {
 }
 
 fn fields_of(alloc: Global, record: &ByteRecord) -> Result<Fields<'_>, NoMemory> {
-    let mut fields = Fields::new(alloc)?;
+    let mut parts = LineParts::new(alloc)?;
     for field in record {
-        fields.add(FieldText::InLine(field))?;
+        parts.add(field)?;
     }
-    Ok(fields)
+    Ok(Fields::of_parts(parts))
 }
 
 // What a line is whose one record `csv`'s reader reads.
