@@ -1,5 +1,5 @@
 -- Each change is there to be taken back, and the slots are then as before it.
-use Rattle.std.proofs.Common.{◌≡◌, ℕ, ◌+◌, ◌-◌, ◌<◌, ◌≤◌, Bool, true, false, cond, eqb, ltb, List, [], ◌∷◌, ◌++◌, Option, Some, None, All, map, set, length, refl, sym, ap, ◌∙◌, subst, arith, ap₂, eqb-true, eq-eqb, ne_eqb, unwrap_or, true≢false, IsSome, IsTrue, is_some}
+use Rattle.std.proofs.Common.{◌≡◌, ℕ, ◌+◌, ◌-◌, ◌<◌, ◌≤◌, Bool, true, false, cond, eqb, ltb, List, [], ◌∷◌, ◌++◌, Option, Some, None, set, length, refl, sym, ap, ◌∙◌, subst, arith, ap₂, eqb-true, eq-eqb, true≢false, IsSome, is_some}
 use Rattle.std.proofs.lemmas.List.{length_push, length-set, take_at, set-set, set-get_or, get_or-set_same}
 use Rattle.time_table.specs.Counts.{AllCounted, count_of, add_many}
 use Rattle.time_table.proofs.AddLaws.{count_of-add_many}

@@ -1,9 +1,9 @@
 //! An arena whose changes can be taken back.
 //!
 //! A [`Work`] holds an arena and a trail of the changes that were made on it. The memory for the trail
-//! is taken at the beginning, so neither [`Work::keep`] nor [`Work::undo`] can be refused. The crate
-//! stands on `node_arena`, whose calls it makes and notes. When to keep and when to undo it leaves to
-//! its callers.
+//! is taken before the changes, at the beginning or by [`Work::reserve`], so neither [`Work::keep`] nor
+//! [`Work::undo`] can be refused. The crate stands on `node_arena`, whose calls it makes and notes. When
+//! to keep and when to undo it leaves to its callers.
 //!
 //! ```text
 //! let mut work = Work::begin(alloc, arena, 7)?;

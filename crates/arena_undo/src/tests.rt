@@ -52,3 +52,16 @@ fn undoes_a_change_of_each_kind(rt: HostRuntime) -> Result<(), Fail> {
     assert_eq!(rt; arena.stat(), one_node);
     Ok(())
 }
+
+#[test]
+fn makes_room_for_what_comes(rt: HostRuntime) -> Result<(), Fail> {
+    let mut arena = Arena::new(rt.alloc());
+    arena.add_node()?;
+    let Ok(mut work) = Work::begin(rt.alloc(), arena, 0) else {
+        return Ok(());
+    };
+    work.reserve(1)?;
+    work.add_node()?;
+    assert_eq!(rt; work.undo().len(), 1);
+    Ok(())
+}

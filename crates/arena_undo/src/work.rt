@@ -61,6 +61,19 @@ impl Work {
         }
     }
 
+    /// Makes room for so many changes more. For want of memory nothing is changed.
+    pub fn reserve(&mut self, more: usize) -> Result<(), NoMemory>
+        ensures room { OnOk result (self.old.made + more ≤ self.new.room) }
+        ensures kept { (self.new.slots ≡ self.old.slots) × (self.new.start ≡ self.old.start) × (self.new.made ≡ self.old.made) }
+        ensures not_less { self.old.room ≤ self.new.room }
+    {
+        if self.changes.try_reserve(more).is_err() {
+            return Err(NoMemory);
+        }
+        self.room = self.changes.capacity();
+        Ok(())
+    }
+
     /// The arena as it is.
     pub fn keep(self) -> Arena
         ensures { result ≡ self.slots }

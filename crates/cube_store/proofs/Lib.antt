@@ -1,4 +1,5 @@
 pub mod Bagging
+pub mod Batches
 pub mod Costing
 pub mod Differing
 pub mod Empty

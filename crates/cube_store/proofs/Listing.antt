@@ -25,7 +25,7 @@ use Rattle.cube_store.specs.Counted.{paths_of, CountsPoints, HasPoints}
 use Rattle.cube_store.specs.Inserting.{IsInsertable, CanInsert, HasInserted, Inserts}
 
 -- a shape over a list is one over each list of the same points
-shape_same : (dims : ℕ) (slots : List Slot) (homes : List Walk) (h k : List Weighted) → ((q : SpotPath) → Contains (spots_in h) q → Contains (spots_in k) q) → ((q : SpotPath) → Contains (spots_in k) q → Contains (spots_in h) q) → ((a : Walk) (bin : ℕ) → amount_under h a bin ≡ amount_under k a bin) → HasShape dims slots homes h → HasShape dims slots homes k
+pub shape_same : (dims : ℕ) (slots : List Slot) (homes : List Walk) (h k : List Weighted) → ((q : SpotPath) → Contains (spots_in h) q → Contains (spots_in k) q) → ((q : SpotPath) → Contains (spots_in k) q → Contains (spots_in h) q) → ((a : Walk) (bin : ℕ) → amount_under h a bin ≡ amount_under k a bin) → HasShape dims slots homes h → HasShape dims slots homes k
 shape_same dims slots homes h k to back amounts S = record {
   shaped = record {
     has_homes = S.has_homes;
@@ -42,7 +42,7 @@ shape_same dims slots homes h k to back amounts S = record {
 }
 
 -- what one adds under an address in a bin
-abbrev adds_under : Walk → ℕ → Weighted → ℕ
+abbrev pub adds_under : Walk → ℕ → Weighted → ℕ
 adds_under a bin w = cond (under w.spot a && eqb w.spot.bin bin) w.amount 0
 
 -- the new point may stand at the end

@@ -1,5 +1,6 @@
 -- Which lists of points a cube counts.
-use Rattle.std.specs.Prelude.{◌≡◌, ℕ, IsTrue, List, All, length, map}
+use Rattle.std.specs.Prelude.{◌≡◌, ℕ, ◌+◌, IsTrue, List, All, length, map}
+use Rattle.cube_view.specs.Bag.{CountsMore}
 use Rattle.cube_view.specs.Places.{time_dim}
 use Rattle.cube_view.specs.Points.{Point, spot_of}
 use Rattle.cube_view.specs.Validity.{sound}
@@ -29,3 +30,7 @@ pub record CountsPoints (schema : Schema) (slots : List Slot) (root size : ℕ) 
 -- some list is counted
 abbrev pub HasPoints : Schema → List Slot → ℕ → ℕ → Type 0
 HasPoints schema slots root size = ∥ ((h : List Point) × CountsPoints schema slots root size h) ∥₁
+
+-- each list of so many points that the old slots count gives one with these points behind it, which the new slots count
+abbrev pub AddsPoints : Schema → ℕ → ℕ → List Point → List Slot → List Slot → Type 0
+AddsPoints schema root size points old new = CountsMore (CountsPoints schema old root size) (CountsPoints schema new root (size + length points)) points

@@ -1,6 +1,6 @@
 //! The cube, and how it takes a point.
-ghost use Rattle.std.specs.Prelude.{◌≡◌, ◌+◌, ◌*◌, ◌<◌, ◌≤◌, [], ◌∷◌, ◌++◌, List, length, IsTrue, IfOk, IfErr, OnOk, OnErr};
-ghost use Rattle.cube_view.specs.Bag.{most_points, IsBag};
+ghost use Rattle.std.specs.Prelude.{◌≡◌, ◌+◌, ◌*◌, ◌<◌, ◌≤◌, [], ◌∷◌, ◌++◌, List, length, All, IsTrue, IfOk, IfErr, OnOk, OnErr};
+ghost use Rattle.cube_view.specs.Bag.{most_points, CountsMore, IsBag};
 ghost use Rattle.cube_view.specs.Places.{time_dim};
 ghost use Rattle.cube_view.specs.Points.{Point as Counted};
 ghost use Rattle.cube_view.specs.Validity.{sound};
@@ -12,6 +12,7 @@ ghost use Rattle.cube_store.specs.Inserting.{CanInsert, Inserts};
 ghost use Rattle.cube_store.specs.Numbers.{cube_numbers, OwnsAllButRoot};
 ghost use Rattle.cube_store.specs.Reading.{spot_weight};
 
+use crate::batch::{in_order, insert_each};
 use arena_undo::Work;
 use cube_view::{CubeView, Point, Schema};
 use node_arena::{Arena, SlotId};
@@ -94,10 +95,43 @@ impl Cube {
             }
         }
     }
+
+    /// Adds sound points, all or none. After want of memory the arena, the root and the size are as before.
+    pub fn insert_all(&mut self, points: &[Point]) -> Result<(), NoMemory>
+        requires sound { All (λ p. IsTrue (sound self.old.schema p)) points.now }
+        requires room { self.old.size + length points.now ≤ most_points }
+        ensures counted { OnOk result (CountsMore (CubeCounts self.old) (CubeCounts self.new) points.now) }
+        ensures unchanged { OnErr result ((self.new.arena ≡ self.old.arena) × (self.new.root ≡ self.old.root) × (self.new.size ≡ self.old.size)) }
+        ensures schema { self.new.schema ≡ self.old.schema }
+    {
+        if let [point] = points {
+            return self.insert(*point);
+        }
+        let sorted = in_order(self.alloc, points)?;
+        let arena = replace(&mut self.arena, Arena::new(self.alloc));
+        match insert_each(
+            self.alloc,
+            arena,
+            &self.schema,
+            &sorted,
+            self.root,
+            self.size,
+        ) {
+            Ok(arena) => {
+                self.arena = arena;
+                self.size += points.len() as u64;
+                Ok(())
+            }
+            Err(arena) => {
+                self.arena = arena;
+                Err(NoMemory)
+            }
+        }
+    }
 }
 
 /// Contracts learn that a spot has four values. It does nothing when run.
-fn tell_length(values: &[u8; 4])
+pub(crate) fn tell_length(values: &[u8; 4])
     ensures { length values.now ≡ 4 }
 {}
 
@@ -123,7 +157,7 @@ fn insert_into(
 }
 
 /// Adds the point to the first dimension at the root, with an updated set of its own.
-fn add_at_root(
+pub(crate) fn add_at_root(
     alloc: Global,
     work: &mut Work,
     schema: &Schema,

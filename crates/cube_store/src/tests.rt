@@ -3,7 +3,7 @@ ghost use Rattle.std.specs.Prelude.{◌≡◌, codes, IfOk};
 ghost use Rattle.example_schemas.specs.Examples.{named_category};
 
 use crate::Cube;
-use cube_view::{Category, CubeView, Point, Schema, Spot, Stat, is_sound};
+use cube_view::{Category, CubeView, Point, Schema, Spot, Stat, are_sound, is_sound};
 use example_schemas::{point, schema_of_kinds, schema_of_two_categories};
 use outer_io::{List, NoMemory, Text};
 use std::alloc::Global;
@@ -164,5 +164,44 @@ fn a_refused_insertion_changes_nothing(rt: HostRuntime) -> Result<(), Fail> {
         cube.insert(last)?;
     }
     assert_eq!(&rt; cube.size, 4);
+    Ok(())
+}
+
+// The third point stands in the first one's tile, so it is inserted before the second, as if it had come before it.
+#[test]
+fn takes_a_batch_in_the_order_of_its_tiles(rt: HostRuntime) -> Result<(), Fail> {
+    let mut cube = Cube::new(rt.alloc(), schema_of_kinds(rt.alloc())?)?;
+    let batch = [point(0, 0, 0, 0), point(7, 7, 1, 0), point(0, 0, 0, 1)];
+    assert!(&rt; are_sound(&cube.schema, &batch));
+    assert!(&rt; cube.size + 3 <= 1 << 35);
+    cube.insert_all(&batch)?;
+    let want = Stat {
+        nodes: 13,
+        tables: 4,
+        proper: 16,
+        shared: 7,
+    };
+    assert_eq!(&rt; cube.stat(), want);
+    assert_eq!(&rt; cube.size, 3);
+    Ok(())
+}
+
+// As with one point: each allocation of the second batch is made to fail in turn by hand.
+#[test]
+fn a_refused_batch_changes_nothing(rt: HostRuntime) -> Result<(), Fail> {
+    let mut cube = Cube::new(rt.alloc(), schema_of_kinds(rt.alloc())?)?;
+    let known = [point(0, 0, 0, 0), point(7, 7, 1, 0), point(0, 0, 0, 1)];
+    assert!(&rt; are_sound(&cube.schema, &known));
+    assert!(&rt; cube.size + 3 <= 1 << 35);
+    cube.insert_all(&known)?;
+    let (before, batch) = (cube.stat(), [point(7, 0, 1, 2), point(3, 3, 0, 1)]);
+    assert!(&rt; are_sound(&cube.schema, &batch));
+    assert!(&rt; cube.size + 2 <= 1 << 35);
+    if cube.insert_all(&batch).is_err() {
+        assert_eq!(&rt; cube.stat(), before);
+        assert_eq!(&rt; cube.size, 3);
+        cube.insert_all(&batch)?;
+    }
+    assert_eq!(&rt; cube.size, 5);
     Ok(())
 }

@@ -101,4 +101,8 @@ impl Grow for Cube {
     fn insert(&mut self, point: Point) -> Result<(), NoMemory> {
         Cube::insert(self, point)
     }
+
+    fn insert_all(&mut self, points: &[Point]) -> Result<(), NoMemory> {
+        Cube::insert_all(self, points)
+    }
 }

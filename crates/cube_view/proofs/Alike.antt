@@ -3,7 +3,7 @@ use Rattle.std.proofs.Common.{◌≡◌, ℕ, ◌+◌, Bool, List, [], ◌∷◌
 use Rattle.cube_view.specs.declared.spot.Spot.{Spot}
 use Rattle.cube_view.specs.Points.{Point}
 use Rattle.cube_view.specs.Bag.{is_spot, gives, amount, bag_weight, Counts}
-use Rattle.cube_view.proofs.Amounts.{amount-push}
+use Rattle.cube_view.proofs.Amounts.{amount-append, amount-push}
 use Rattle.cube_view.proofs.Apart.{alike_within}
 
 -- lists that give each spot the same have the same amounts
@@ -19,4 +19,11 @@ pub Counts-push : (at more : Spot → ℕ) (n : ℕ) (h : List Point) (p : Point
 Counts-push at more n h p counts grown = record {
   weights = λ s. let g = grown s in let a = amount-push (is_spot s) h p in let b = counts.weights s in omega (arith, g, a, b);
   number = let l = length-append h (p ∷ []) in let m = counts.number in omega (arith, l, m);
+}
+
+-- a bag with some points more counts the list with them
+pub Counts-append : (at more : Spot → ℕ) (n : ℕ) (h points : List Point) → Counts at n h → ((s : Spot) → more s ≡ at s + bag_weight s points) → Counts more (n + length points) (h ++ points)
+Counts-append at more n h points counts grown = record {
+  weights = λ s. let g = grown s in let a = amount-append (is_spot s) h points in let b = counts.weights s in omega (arith, g, a, b);
+  number = let l = length-append h points in let m = counts.number in omega (arith, l, m);
 }

@@ -1,6 +1,6 @@
 -- Laws of amounts: what a list of points weighs at the spots that pass a test. They hold whatever points weigh.
 use Rattle.std.proofs.Common.{◌≡◌, ℕ, ◌+◌, ◌<◌, ◌≤◌, Bool, true, false, List, [], ◌∷◌, ◌++◌, length, take, get_or, refl, sym, ◌∙◌, ap, arith}
-use Rattle.std.proofs.lemmas.List.Sums.{sum_by-cons, sum_by_push, sum_by-take-le}
+use Rattle.std.proofs.lemmas.List.Sums.{sum_by-append, sum_by-cons, sum_by_push, sum_by-take-le}
 use Rattle.std.proofs.lemmas.Grind.{take_at_read}
 use Rattle.cube_view.specs.declared.spot.Spot.{Spot}
 use Rattle.cube_view.specs.Points.{Point, spot_of, weight_of_point}
@@ -21,6 +21,11 @@ amount-cons q p h = sum_by-cons (gives q) p h
 pub amount-push : (q : Spot → Bool) (h : List Point) (p : Point) → amount q (h ++ p ∷ []) ≡ amount q h + gives q p
 unfolding amount
 amount-push q h p = sum_by_push (gives q) h p
+
+-- a list behind a list
+pub amount-append : (q : Spot → Bool) (h k : List Point) → amount q (h ++ k) ≡ amount q h + amount q k
+unfolding amount
+amount-append q h k = sum_by-append (gives q) h k
 
 -- one point more of a list that is gone through
 pub amount-more : (q : Spot → Bool) (h : List Point) (i : ℕ) (d : Point) → i < length h → amount q (take (i + 1) h) ≡ amount q (take i h) + gives q (get_or h i d)

@@ -35,5 +35,5 @@ pub use spot::{Point, Spot};
 pub use stat::Stat;
 pub use texts::is_same_text;
 pub use tiles::{lies_in, quadrant, tile_label};
-pub use validity::{is_sound, is_valid};
+pub use validity::{are_sound, is_sound, is_valid};
 pub use view::{CubeView, Grow};

@@ -1,6 +1,6 @@
 //! A cube as its readers see it.
-ghost use Rattle.std.specs.Prelude.{◌≡◌, ℕ, ◌+◌, ◌<◌, ◌≤◌, ◌≢◌, [], ◌∷◌, ◌++◌, IsTrue, IfSome, OnOk, OnErr};
-ghost use Rattle.cube_view.specs.Bag.{amount, anywhere, most_points, Counts, EachCounted, IsBag};
+ghost use Rattle.std.specs.Prelude.{◌≡◌, ℕ, ◌+◌, ◌<◌, ◌≤◌, ◌≢◌, [], ◌∷◌, ◌++◌, length, All, IsTrue, IfSome, OnOk, OnErr};
+ghost use Rattle.cube_view.specs.Bag.{amount, anywhere, most_points, Counts, EachCounted, GrowsBy, IsBag};
 ghost use Rattle.cube_view.specs.Costs.{ViewCosts};
 ghost use Rattle.cube_view.specs.Found.{SomeIfAny, IsNextLabel};
 ghost use Rattle.cube_view.specs.Places.{time_dim, deepest, is_below, is_before, top_address, longer, next_dim};
@@ -115,6 +115,14 @@ pub trait Grow: CubeView {
         requires sound { IsTrue (sound (Self.schema self.old) point) }
         requires room { Self.seen self.old < most_points }
         ensures counted { EachCounted (Self.weight_at self.old) (Self.seen self.old) (λ h. OnOk result (Counts (Self.weight_at self.new) (Self.seen self.new) (h ++ point ∷ []))) }
+        ensures unchanged { EachCounted (Self.weight_at self.old) (Self.seen self.old) (λ h. OnErr result (Counts (Self.weight_at self.new) (Self.seen self.new) h)) }
+        ensures schema { Self.schema self.new ≡ Self.schema self.old };
+
+    /// Adds sound points, all or none, where a bag may have so many more. For want of memory the bag is as before.
+    fn insert_all(&mut self, points: &[Point]) -> Result<(), NoMemory>
+        requires sound { All (λ p. IsTrue (sound (Self.schema self.old) p)) points.now }
+        requires room { Self.seen self.old + length points.now ≤ most_points }
+        ensures counted { OnOk result (GrowsBy (Self.weight_at self.old) (Self.seen self.old) (Self.weight_at self.new) (Self.seen self.new) points.now) }
         ensures unchanged { EachCounted (Self.weight_at self.old) (Self.seen self.old) (λ h. OnErr result (Counts (Self.weight_at self.new) (Self.seen self.new) h)) }
         ensures schema { Self.schema self.new ≡ Self.schema self.old };
 }

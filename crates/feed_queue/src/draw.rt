@@ -9,8 +9,8 @@ ghost use Rattle.world_core.specs.Interleaving.{IsInterleaving, list_of};
 
 use crate::feed::Ended;
 use crate::item::Item;
-use crate::line::{LanePass, Line, Settling};
-use crate::steps::{pop, wait_pop};
+use crate::line::{Lane, LanePass, Line, Settling};
+use crate::steps::{count_draw, pop, wait_pop};
 use outer_io::List;
 use std::marker::Model;
 use std::sync::{Arc, Wait};
@@ -19,8 +19,10 @@ use std::sync::{Arc, Wait};
 /// and what was drawn.
 #[derive(Drop)]
 pub struct DrawEnd {
-    pub(crate) line: Arc<Line>,
+    pub(crate) lane: Arc<Lane>,
     pub(crate) pass: LanePass,
+    /// So many draws until feeders that sleep are woken.
+    pub(crate) draws_left: usize,
 }
 
 impl Model for DrawEnd {
@@ -34,7 +36,7 @@ impl Model for DrawEnd {
     ghost view = { λ e. draw_end_of e.pass };
 
     /// The pass is of this lane, and draws.
-    ghost invariant = { λ e. IsPassOf (arc_value e.line) e.pass × KnowsDraw e.pass (draw_end_of e.pass) };
+    ghost invariant = { λ e. IsPassOf (arc_value e.lane).line e.pass × KnowsDraw e.pass (draw_end_of e.pass) };
 }
 
 impl DrawEnd {
@@ -44,7 +46,9 @@ impl DrawEnd {
         ensures next { MatchOption result ⊤ (λ i. MayBeDrawn self.old i) }
         ensures all { MatchOption result ⊤ (λ _. IsDrawn self.new) }
     {
-        pop(rt, &self.line, &mut self.pass)
+        let drawn = pop(rt, &self.lane.line, &mut self.pass);
+        count_draw(&self.lane, &mut self.draws_left);
+        drawn
     }
 
     /// Draws the item at the front, and waits for one.
@@ -53,7 +57,9 @@ impl DrawEnd {
         ensures next { MayBeDrawn self.old result }
         ensures all { IsDrawn self.new }
     {
-        wait_pop(rt, &self.line, &mut self.pass)
+        let drawn = wait_pop(rt, &self.lane, &mut self.pass);
+        count_draw(&self.lane, &mut self.draws_left);
+        drawn
     }
 
     /// Takes the feeders' ends back, once every End was drawn. It takes no memory.
@@ -66,9 +72,13 @@ impl DrawEnd {
         ensures in_turn { AreInTurn ended self.feeders → IsInterleaving self.feeders (list_of (sent_lists ended)) result }
         ensures counts { All (TellsCount (sent_by ended)) self.drawn }
     {
-        let DrawEnd { line, mut pass } = self;
-        rejoin_all(&line, &mut pass, ended);
-        line.learn_as::<Settling>(&mut pass);
+        let DrawEnd {
+            lane,
+            mut pass,
+            draws_left: _,
+        } = self;
+        rejoin_all(&lane.line, &mut pass, ended);
+        lane.line.learn_as::<Settling>(&mut pass);
         Drawn { pass }
     }
 }

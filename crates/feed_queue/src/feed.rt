@@ -7,7 +7,7 @@ ghost use Rattle.feed_queue.specs.Steps.{ViewDraws, joined_with};
 ghost use Rattle.feed_queue.specs.declared.line.View.TheVariants.{Feeds};
 
 use crate::item::Item;
-use crate::line::{LanePass, Line, Returns};
+use crate::line::{Lane, LanePass, Line, Returns};
 use crate::steps::push;
 use std::marker::Model;
 use std::sync::{Arc, Wait};
@@ -16,7 +16,7 @@ use std::sync::{Arc, Wait};
 /// whether it has sent its End.
 #[derive(Drop)]
 pub struct FeedEnd {
-    pub(crate) line: Arc<Line>,
+    pub(crate) lane: Arc<Lane>,
     pub(crate) pass: LanePass,
     pub(crate) feeder: u8,
     pub(crate) sent: u32,
@@ -34,7 +34,7 @@ impl Model for FeedEnd {
     ghost view = { λ e. feed_end_of e.pass e.feeder };
 
     /// The pass is of this lane and this feeder, and the count is that of the points sent.
-    ghost invariant = { λ e. IsPassOf (arc_value e.line) e.pass × KnowsFeed e.pass (feed_end_of e.pass e.feeder) × (e.sent ≡ length (feed_end_of e.pass e.feeder).points) };
+    ghost invariant = { λ e. IsPassOf (arc_value e.lane).line e.pass × KnowsFeed e.pass (feed_end_of e.pass e.feeder) × (e.sent ≡ length (feed_end_of e.pass e.feeder).points) };
 }
 
 impl FeedEnd {
@@ -58,7 +58,7 @@ impl FeedEnd {
         requires next { MaySend self.old item }
         ensures { self.new ≡ having_sent self.old item }
     {
-        push(rt, &self.line, &mut self.pass, item);
+        push(rt, &self.lane, &mut self.pass, item);
         match item {
             Item::One(_) => self.sent += 1,
             Item::End(_, _) => {}

@@ -5,6 +5,7 @@ ghost use Rattle.feed_queue.specs.Steps.{opening_view, begun_view, after_slot, I
 ghost use Rattle.feed_queue.specs.declared.line.View.TheVariants.{Fresh, Spent};
 
 use crate::item::{Item, Slot};
+use change_signal::Signal;
 use crossbeam_queue::protocol::{Join, Lesson, Outcome, Protocol, Split};
 use crossbeam_queue::{Pass, RuledArrayQueue};
 use cube_view::{Point, Schema};
@@ -52,6 +53,16 @@ pub type Line = RuledArrayQueue<Slot, View, LaneRule>;
 
 /// A pass of a lane's queue.
 pub type LanePass = Pass<Slot, View>;
+
+/// A lane's queue, with what its ends sleep on.
+#[derive(Drop)]
+pub struct Lane {
+    pub line: Line,
+    /// Tells the drawing end that an item has come in.
+    pub filled: Signal,
+    /// Tells feeders that there is room again.
+    pub freed: Signal,
+}
 
 /// The schema goes in.
 pub struct Opens;

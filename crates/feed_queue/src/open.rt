@@ -8,8 +8,9 @@ ghost use Rattle.feed_queue.specs.Steps.{ViewDraws, split_left};
 
 use crate::draw::DrawEnd;
 use crate::feed::FeedEnd;
-use crate::line::{LanePass, Line, Parts};
+use crate::line::{Lane, LanePass, Parts};
 use crate::steps::open_line;
+use change_signal::Signal;
 use cube_view::Schema;
 use outer_io::{List, NoMemory};
 use std::alloc::Global;
@@ -29,33 +30,43 @@ pub fn open_lane(
     ensures draws { IfOk result (λ t. t.1 ≡ draw_state t.1.lane schema.now feeders []) }
 {
     let (line, mut pass) = open_line(alloc, schema, room)?;
-    let Ok(line) = Arc::new(alloc, line) else {
+    let lane = Lane {
+        line,
+        filled: Signal::new(),
+        freed: Signal::new(),
+    };
+    let Ok(lane) = Arc::new(alloc, lane) else {
         return Err(NoMemory);
     };
     let mut ends = List::new(alloc);
     for made in 0..feeders {
-        let end = add_feeder(&line, &mut pass, made)?;
+        let end = add_feeder(&lane, &mut pass, made)?;
         ends.add(end)?;
     }
-    Ok((ends, DrawEnd { line, pass }))
+    let draws = DrawEnd {
+        lane,
+        pass,
+        draws_left: 0,
+    };
+    Ok((ends, draws))
 }
 
 /// The end of the feeder after so many.
-fn add_feeder(line: &Arc<Line>, pass: &mut LanePass, made: u8) -> Result<FeedEnd, NoMemory>
-    requires queue { IsPassOf (arc_value line.now) pass.old }
+fn add_feeder(lane: &Arc<Lane>, pass: &mut LanePass, made: u8) -> Result<FeedEnd, NoMemory>
+    requires queue { IsPassOf (arc_value lane.now).line pass.old }
     requires few { made ≤ 7 }
     requires draws { ViewDraws (view pass.old) × (made_feeders (view pass.old) ≡ made) }
     ensures queue { IsSamePass pass.old pass.new }
     ensures draws { IfOk result (λ _. view pass.new ≡ split_left (view pass.old)) }
     ensures end { IfOk result (λ e. e ≡ feed_state pass.old.table_id (known_schema (view pass.old)) (made + 1) [] false) }
 {
-    let Ok(shared) = Arc::try_clone(line) else {
+    let Ok(shared) = Arc::try_clone(lane) else {
         return Err(NoMemory);
     };
     // The drawing end's pass has made one feeder more, whose pass has sent nothing.
-    let part = line.another::<Parts>(pass);
+    let part = lane.line.another::<Parts>(pass);
     Ok(FeedEnd {
-        line: shared,
+        lane: shared,
         pass: part,
         feeder: made + 1,
         sent: 0,

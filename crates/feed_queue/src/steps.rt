@@ -6,27 +6,30 @@ ghost use Rattle.feed_queue.specs.declared.item.Slot.TheVariants.{Carries};
 ghost use Rattle.feed_queue.specs.declared.line.View.TheVariants.{Draws};
 
 use crate::item::{Item, Slot};
-use crate::line::{Begins, LanePass, Line, Opens, Sends, Takes};
+use crate::line::{Begins, Lane, LanePass, Line, Opens, Sends, Takes};
+use change_signal::Waiting;
 use cube_view::Schema;
 use outer_io::NoMemory;
 use std::alloc::Global;
 use std::sync::Wait;
-use std::thread;
 
-/// Sends an item, and waits while the queue is full.
-pub(crate) fn push<R: Wait>(rt: &R, line: &Line, pass: &mut LanePass, item: Item)
-    requires queue { IsPassOf line.now pass.old }
+/// Sends an item, and waits while the queue is full. It wakes the drawing end where that sleeps.
+pub(crate) fn push<R: Wait>(rt: &R, lane: &Lane, pass: &mut LanePass, item: Item)
+    requires queue { IsPassOf lane.now.line pass.old }
     requires sends { ViewSends (view pass.old) item }
     ensures queue { IsSamePass pass.old pass.new }
     ensures sent { view pass.new ≡ after_item (view pass.old) item }
 {
+    let mut waiting = Waiting::new();
     for _ in rt.forever() {
         // The item is at the queue's back, and the pass has sent it; or the queue is full, and all is as before.
-        match line.push_as::<Sends, R>(rt, pass, Slot::Carries(item)) {
+        match lane.line.push_as::<Sends, R>(rt, pass, Slot::Carries(item)) {
             Ok(()) => break,
-            Err(_) => thread::yield_now(),
+            Err(_) => lane.freed.pause(rt, &mut waiting),
         }
     }
+    // No queue and no pass changes. Where the drawing end does not sleep, this reads one word.
+    lane.filled.notify();
 }
 
 /// Draws the item at the front, if there is one.
@@ -45,19 +48,33 @@ pub(crate) fn pop<R: Wait>(rt: &R, line: &Line, pass: &mut LanePass) -> Option<I
 }
 
 /// Draws the item at the front, and waits for one.
-pub(crate) fn wait_pop<R: Wait>(rt: &R, line: &Line, pass: &mut LanePass) -> Item
-    requires queue { IsPassOf line.now pass.old }
+pub(crate) fn wait_pop<R: Wait>(rt: &R, lane: &Lane, pass: &mut LanePass) -> Item
+    requires queue { IsPassOf lane.now.line pass.old }
     requires draws { ViewDraws (view pass.old) }
     ensures queue { IsSamePass pass.old pass.new }
     ensures drawn { IsDraw (view pass.old) (Carries result) (view pass.new) }
 {
+    let mut waiting = Waiting::new();
     for _ in rt.forever() {
-        if let Some(item) = pop(rt, line, pass) {
+        if let Some(item) = pop(rt, &lane.line, pass) {
             return item;
         }
-        thread::yield_now();
+        // The queue was empty, and all is as before. Feeders that sleep have all its room.
+        lane.freed.notify();
+        lane.filled.pause(rt, &mut waiting);
     }
     unreachable!()
+}
+
+/// Counts a draw down, and wakes feeders that sleep where it was the last of half the queue's room: a wake at each draw
+/// would be for one place only.
+pub(crate) fn count_draw(lane: &Lane, draws_left: &mut usize) {
+    if *draws_left == 0 {
+        *draws_left = lane.line.capacity() / 2;
+        lane.freed.notify();
+    } else {
+        *draws_left -= 1;
+    }
 }
 
 /// A queue whose one pass draws and knows the schema. The schema goes through the queue once, since what a pass knows

@@ -50,6 +50,21 @@ impl PlainCube {
             Err(_) => Err(NoMemory),
         }
     }
+
+    /// Adds points behind those that are there, all or none. After a want of memory the cube is as before.
+    pub fn insert_all(&mut self, points: &[Point]) -> Result<(), NoMemory>
+        requires sound { All (λ p. IsTrue (sound (schema_of self.old) p)) points.now }
+        requires room { length (points_of self.old) + length points.now ≤ most_points }
+        ensures inserted { OnOk result (points_of self.new ≡ points_of self.old ++ points.now) }
+        ensures unchanged { OnErr result (points_of self.new ≡ points_of self.old) }
+        ensures counted { Counts (⟦<PlainCube as CubeView>⟧.weight_at self.new) (⟦<PlainCube as CubeView>⟧.seen self.new) (points_of self.new) }
+        ensures schema { schema_of self.new ≡ schema_of self.old }
+    {
+        match self.points.extend_from_slice(points) {
+            Ok(()) => Ok(()),
+            Err(_) => Err(NoMemory),
+        }
+    }
 }
 
 impl CubeView for PlainCube {
@@ -132,5 +147,9 @@ impl CubeView for PlainCube {
 impl Grow for PlainCube {
     fn insert(&mut self, point: Point) -> Result<(), NoMemory> {
         PlainCube::insert(self, point)
+    }
+
+    fn insert_all(&mut self, points: &[Point]) -> Result<(), NoMemory> {
+        PlainCube::insert_all(self, points)
     }
 }

@@ -1,5 +1,6 @@
 pub mod Beginnings
 pub mod Histories
+pub mod Absorbing
 pub mod Adding
 pub mod Turning
 pub mod Lasting

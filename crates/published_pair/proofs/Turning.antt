@@ -1,5 +1,5 @@
 -- The steps of the pair keep its rule.
-use Rattle.std.proofs.Common.{◌≡◌, ◌≢◌, ℕ, Bool, true, if◌then◌else◌, List, [], ◌∷◌, ◌++◌, set, Option, Some, None, IfSome, refl, sym, ◌∙◌, ap, subst, ⊎_elim}
+use Rattle.std.proofs.Common.{◌≡◌, ◌≢◌, ℕ, List, [], ◌∷◌, ◌++◌, set, Option, Some, None, IfSome, refl, sym, ◌∙◌, ap, subst, ⊎_elim}
 use mathlib.Core.Option.{some}
 use lib.ListN.{get_elem?}
 use Rattle.atomic_table.proofs.Lists.{at_set, at_snoc}
@@ -9,9 +9,8 @@ use Rattle.logbook.specs.Pages.{Book}
 use Rattle.world_core.proofs.Worlds.{IsPrefix-then}
 use Rattle.world_core.specs.PairFact.{IsPrefix}
 use Rattle.published_pair.specs.declared.names.Names.{Names}
-use Rattle.published_pair.specs.declared.names.Standing.{Standing}
 use Rattle.published_pair.specs.Rules.{Known, first_word_of}
-use Rattle.published_pair.specs.Pair.{KeepsPair, Knows, Sees, names, standing, takes, with_point}
+use Rattle.published_pair.specs.Pair.{KeepsPair, Knows, Sees, names}
 use Rattle.published_pair.proofs.Beginnings.{prefix_self}
 
 abbrev KnowsIf : List Point → Known → Schema → Option Names → Type 0
@@ -65,6 +64,3 @@ sees_names b z s v h f y w is sees =
     let book : f.book ≡ b = ap (λ n. n.book) (sym k.0) in
     let schema : y ≡ z = sym k.1 in
     (book, schema, k.2, sees.told, sees.after ∙ (λ i. Some (names (book i) (schema i) (sees.told i))))
-
-pub taken : (s : Standing) (p : Point) → takes s p ≡ true → with_point s p ≡ standing (s.points ++ p ∷ []) s.front s.schema
-taken s p e = ap (λ (b : Bool). standing (if b then s.points ++ p ∷ [] else s.points) s.front s.schema) e

@@ -1,5 +1,6 @@
 -- What a pair keeps.
-use Rattle.std.specs.Prelude.{◌≡◌, ℕ, Bool, if◌then◌else◌, ◌&&◌, nat_lt, List, [], ◌∷◌, ◌++◌, length, fold, Option, Some, IfSome}
+use Rattle.std.specs.Prelude.{◌≡◌, ℕ, Bool, if◌then◌else◌, ◌+◌, ◌&&◌, nat_le, List, ◌++◌, length, fold, Option, Some, IfSome}
+use Rattle.std.specs.List.{list_all}
 use mathlib.Core.Option.{some}
 use lib.ListN.{get_elem?}
 use Rattle.cube_view.specs.Points.{Point}
@@ -18,17 +19,17 @@ use Rattle.published_pair.specs.declared.stand.Sent.TheVariants.{Added, Noted}
 abbrev pub standing : List Point → Known → Schema → Standing
 standing h f z = record { points = h; front = f; schema = z }
 
--- the copy has room for the point, and the schema takes it
-abbrev pub takes : Standing → Point → Bool
-takes s p = sound s.schema p && nat_lt (length s.points) most_points
+-- the copy has room for the points, and the schema takes each
+abbrev pub takes : Standing → List Point → Bool
+takes s points = nat_le (length s.points + length points) most_points && list_all (λ p. sound s.schema p) points
 
--- the copy with one point more; one that it does not take is passed over
-abbrev pub with_point : Standing → Point → Standing
-with_point s p = standing (if takes s p then s.points ++ p ∷ [] else s.points) s.front s.schema
+-- the copy with these points behind its own; where it does not take them all they are passed over
+abbrev pub with_points : Standing → List Point → Standing
+with_points s points = standing (if takes s points then s.points ++ points else s.points) s.front s.schema
 
 -- the copy once it has taken in what was sent
 abbrev pub absorbed : Standing → Sent → Standing
-absorbed s (Added p) = with_point s p
+absorbed s (Added points) = with_points s points
 absorbed s (Noted f) = standing s.points f s.schema
 
 -- an end of the pair of that book and schema, which saw that list last

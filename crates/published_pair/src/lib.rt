@@ -24,6 +24,7 @@
 
 mod book;
 mod laws;
+mod looks;
 mod names;
 mod note;
 mod opening;

@@ -6,6 +6,7 @@ ghost use Rattle.published_pair.specs.Rules.{first_word_of};
 ghost use Rattle.published_pair.specs.Pair.{names};
 
 use crate::book::{Front, open_book};
+use crate::looks::Looks;
 use crate::publisher::{PairWriter, Publisher, PublisherOf, show};
 use crate::rule::Handover;
 use crate::stand::Stand;
@@ -15,19 +16,23 @@ use ghost_values::GhostList;
 use left_right::writer::Writer;
 use outer_io::{List, NoMemory};
 use std::alloc::Global;
-use std::sync::Wait;
+use std::sync::{Arc, Wait};
 
 fn make_viewer<V: Grow>(
     alloc: Global,
     writer: &mut PairWriter<V>,
     schema: &Schema,
     front: &Front,
+    looks: &Arc<Looks>,
 ) -> Result<Viewer<V>, NoMemory>
     requires { view writer.old.desk.place ≡ Some (names front.now.book schema.now front.now.points) }
     ensures writer { (writer.new.desk.shown ≡ writer.old.desk.shown) × (writer.new.log ≡ writer.old.log) × (writer.new.behind ≡ writer.old.behind) × (view writer.new.desk.place ≡ view writer.old.desk.place) }
     ensures viewer { IfOk result (λ v. (v.schema ≡ schema.now) × (v.shown ≡ front.now) × (v.learned ≡ front.now) × (v.last ≡ None)) }
 {
     let schema = schema.copy(alloc)?;
+    let Ok(looks) = Arc::try_clone(looks) else {
+        return Err(NoMemory);
+    };
     let Ok(mut reader) = writer.factory().reader() else {
         return Err(NoMemory);
     };
@@ -38,6 +43,7 @@ fn make_viewer<V: Grow>(
         shown: front.again(),
         learned: front.again(),
         last: None,
+        looks,
     })
 }
 
@@ -46,6 +52,7 @@ fn make_viewers<V: Grow>(
     writer: &mut PairWriter<V>,
     schema: &Schema,
     front: &Front,
+    looks: &Arc<Looks>,
     viewers: u32,
 ) -> Result<List<Viewer<V>>, NoMemory>
     requires { view writer.old.desk.place ≡ Some (names front.now.book schema.now front.now.points) }
@@ -54,7 +61,7 @@ fn make_viewers<V: Grow>(
 {
     let mut all = List::new(alloc);
     for _ in 0..viewers {
-        let viewer = make_viewer(alloc, writer, schema, front)?;
+        let viewer = make_viewer(alloc, writer, schema, front, looks)?;
         all.add(viewer)?;
     }
     Ok(all)
@@ -86,6 +93,7 @@ pub fn open<V: Grow, R: Wait>(
     ensures publisher { IfOk result (λ t. (t.0.published.points ≡ []) × (t.0.appended.items ≡ []) × (t.0.schema ≡ V.schema first) × (t.0.viewers ≡ viewers)) }
     ensures viewers { IfOk result (λ t. (length t.1 ≡ viewers) × All (λ v. (v.schema ≡ V.schema first) × (v.shown ≡ t.0.published) × (v.learned ≡ t.0.published) × (v.last ≡ None)) t.1) }
 {
+    let looks = Looks::open(alloc)?;
     let schema = first.schema().copy(alloc)?;
     let (head, front) = open_book();
     let first = make_stand(first, &front);
@@ -98,7 +106,7 @@ pub fn open<V: Grow, R: Wait>(
         writer.take(rt);
         return Err(NoMemory);
     }
-    match make_viewers(alloc, &mut writer, &schema, &front, viewers) {
+    match make_viewers(alloc, &mut writer, &schema, &front, &looks, viewers) {
         Ok(all) => {
             let publisher = PublisherOf {
                 writer,
@@ -106,10 +114,11 @@ pub fn open<V: Grow, R: Wait>(
                 schema,
                 published: front.again(),
                 noted: front,
-                since: GhostList::new(),
-                size: 0,
+                since: List::new(alloc),
+                alloc,
                 appended: GhostList::new(),
                 viewers,
+                looks,
             };
             Ok((publisher, all))
         }

@@ -1,5 +1,5 @@
 //! The end that adds points.
-ghost use Rattle.std.specs.Prelude.{◌≡◌, ◌+◌, ◌<◌, ◌≤◌, ◌++◌, ◌∷◌, [], length, take, drop, fold, IsTrue, IsOk, Some, OnOk, OnErr, IfOk, MatchResult};
+ghost use Rattle.std.specs.Prelude.{◌≡◌, ◌+◌, ◌<◌, ◌≤◌, ◌++◌, ◌∷◌, [], length, take, drop, fold, All, IsTrue, IsOk, Some, OnOk, OnErr, IfOk, MatchResult};
 ghost use Rattle.cube_view.specs.Bag.{most_points};
 ghost use Rattle.cube_view.specs.Validity.{sound};
 ghost use Rattle.left_right.specs.Sides.{view};
@@ -8,6 +8,7 @@ ghost use Rattle.published_pair.specs.Rules.{first_word_of};
 ghost use Rattle.published_pair.specs.Pair.{HasSent, standing, absorbed, names};
 
 use crate::book::{Front, Head};
+use crate::looks::Looks;
 use crate::names::{Names, Standing};
 use crate::rule::{Look, PairRule};
 use crate::stand::{Sent, Stand};
@@ -18,9 +19,11 @@ use cube_view::{Grow, Point, Schema};
 use ghost_values::GhostList;
 use left_right::Absorb;
 use left_right::writer::Writer;
-use outer_io::NoMemory;
+use outer_io::{List, NoMemory};
+use std::alloc::Global;
 use std::marker::PhantomData;
-use std::sync::Wait;
+use std::mem::replace;
+use std::sync::{Arc, Wait};
 
 pub(crate) type PairWriter<V> = Writer<Stand<V>, Sent, Option<Names>, PairRule<V>>;
 
@@ -51,20 +54,22 @@ pub struct PublisherOf<K: Pairing> {
     pub(crate) published: Front,
     /// All that is noted in the book. It is ahead of what viewers are shown only after a publication that was refused.
     pub(crate) noted: Front,
-    /// What was appended since.
-    pub(crate) since: GhostList<Point>,
-    pub(crate) size: u64,
+    /// What was appended since, and is sent to the copies once it is noted.
+    pub(crate) since: List<Point>,
+    pub(crate) alloc: Global,
     /// All that was appended.
     pub(crate) appended: GhostList<Point>,
     pub(crate) viewers: u32,
+    /// What it sleeps on while looks are open.
+    pub(crate) looks: Arc<Looks>,
     ghost head_is: { head.word ≡ first_word_of published.book },
     ghost book: { noted.book ≡ published.book },
     ghost shown: { K.Stand.state writer.desk.shown.value ≡ standing published.points published schema },
-    ghost pends: { (fold K.Stand.applied (K.Stand.state writer.desk.shown.value) (drop writer.behind writer.log.items)).points ≡ appended.items },
+    ghost pends: { (fold K.Stand.applied (K.Stand.state writer.desk.shown.value) (drop writer.behind writer.log.items)).points ≡ noted.points },
     ghost goes_by: { (fold K.Stand.applied (K.Stand.state writer.desk.shown.value) (drop writer.behind writer.log.items)).schema ≡ schema },
     ghost named: { view writer.desk.place ≡ Some (names published.book schema published.points) },
-    ghost joined: { appended.items ≡ noted.points ++ since.items },
-    ghost sized: { size ≡ length since.items },
+    ghost joined: { appended.items ≡ noted.points ++ since },
+    ghost sound: { All (λ p. IsTrue (sound schema p)) since },
     ghost few: { length appended.items ≤ most_points },
     ghost within: { take (length published.points) noted.points ≡ published.points },
 }
@@ -103,19 +108,14 @@ impl<V: Grow> PublisherOf<Of<V>> {
         ensures published { self.new.published ≡ self.old.published }
         ensures pair { (self.new.schema ≡ self.old.schema) × (self.new.viewers ≡ self.old.viewers) }
     {
-        match self.writer.append(Sent::Added(point)) {
-            Ok(()) => {
-                self.since = self.since.and(&point);
-                self.size += 1;
-                self.appended = self.appended.and(&point);
-                Ok(())
-            }
-            Err(_) => Err(NoMemory),
-        }
+        self.since.add(point)?;
+        self.appended = self.appended.and(&point);
+        Ok(())
     }
 
     #[tactic(auto, using(crate::proofs::Beginnings::taken_prefix))]
-    // Notes all that was appended as published, and sends the copies the list that they then stand at.
+    // Sends the copies all that was appended since, as one operation, notes it as published, and sends them the list that
+    // they then stand at.
     pub(crate) fn note<R: Wait>(&mut self, rt: &R) -> Result<(), NoMemory>
         ensures sent { OnOk result (let x = self.new.writer.desk.shown.value in fold absorbed (standing x.history.items x.front (V.schema x.view)) (drop self.new.writer.behind self.new.writer.log.items) ≡ standing self.new.noted.points self.new.noted self.new.schema) }
         ensures noted { OnOk result (self.new.noted.points ≡ self.new.appended.items) }
@@ -123,9 +123,18 @@ impl<V: Grow> PublisherOf<Of<V>> {
         ensures book { self.new.noted.book ≡ self.new.published.book }
         ensures same { (self.new.published ≡ self.old.published) × (self.new.appended ≡ self.old.appended) × (self.new.schema ≡ self.old.schema) × (self.new.viewers ≡ self.old.viewers) }
     {
-        self.noted = self.noted.add(rt, &self.head, &self.since, self.size);
-        self.since = GhostList::new();
-        self.size = 0;
+        let size = self.since.len() as u64;
+        let batch = GhostList::new().with_all(self.since.as_slice());
+        let points = replace(&mut self.since, List::new(self.alloc));
+        match self.writer.append(Sent::Added(points)) {
+            Ok(()) => {}
+            Err(Sent::Added(points)) => {
+                self.since = points;
+                return Err(NoMemory);
+            }
+            Err(Sent::Noted(_)) => unreachable!(),
+        }
+        self.noted = self.noted.add(rt, &self.head, &batch, size);
         match self.writer.append(Sent::Noted(self.noted.again())) {
             Ok(()) => Ok(()),
             Err(_) => Err(NoMemory),
@@ -142,6 +151,7 @@ impl<V: Grow> PublisherOf<Of<V>> {
         ensures pair { (self.new.published.book ≡ self.old.published.book) × (self.new.schema ≡ self.old.schema) × (self.new.viewers ≡ self.old.viewers) }
     {
         self.note(rt)?;
+        self.looks.wait_for_earlier(rt);
         let (schema, published, noted) = (&self.schema, &self.published, &self.noted);
         let outcome = replace_with(
             &mut self.writer,
@@ -151,6 +161,7 @@ impl<V: Grow> PublisherOf<Of<V>> {
             { show(rt, writer, schema, published, noted) },
         );
         outcome?;
+        self.looks.count_publication();
         self.published = self.noted.again();
         Ok(self.published.len())
     }
@@ -189,10 +200,12 @@ impl<V: Grow> PublisherOf<Of<V>> {
             published: _published,
             noted: _noted,
             since: _since,
-            size: _,
+            alloc: _,
             appended: _appended,
             viewers: _,
+            looks,
         } = self;
+        looks.wait_for_all(rt);
         writer.take(rt);
     }
 }

@@ -6,6 +6,7 @@ ghost use Rattle.published_pair.specs.Rules.{first_word_of};
 ghost use Rattle.published_pair.specs.Pair.{standing, names};
 
 use crate::book::{Front, Whole, end_book};
+use crate::looks::Looks;
 use crate::names::Names;
 use crate::publisher::{Of, Pairing, Publisher, PublisherOf, show};
 use crate::stand::Sent;
@@ -14,13 +15,14 @@ use cube_view::{Grow, Schema};
 use left_right::writer::Writer;
 use outer_io::{List, NoMemory};
 use std::alloc::Global;
-use std::sync::Wait;
+use std::sync::{Arc, Wait};
 
 /// The copies of a pairing whose publisher has ended.
 pub struct RestedOf<K: Pairing> {
     writer: Writer<K::Stand, Sent, Option<Names>, K::Rule>,
     schema: Schema,
     ended: Whole,
+    looks: Arc<Looks>,
     ghost shown: { K.Stand.state writer.desk.shown.value ≡ standing ended.points ended schema },
     ghost pends: { drop writer.behind writer.log.items ≡ [] },
     ghost named: { view writer.desk.place ≡ Some (names ended.book schema ended.points) },
@@ -74,15 +76,19 @@ impl<V: Grow> PublisherOf<Of<V>> {
             published,
             noted,
             since: _since,
-            size: _,
+            alloc: _,
             appended: _appended,
             viewers,
+            looks,
         } = publisher;
+        looks.wait_for_earlier(rt);
         let (writer, outcome) = show(rt, writer, &schema, &published, &noted);
         if outcome.is_err() {
+            looks.wait_for_all(rt);
             writer.take(rt);
             return Err(NoMemory);
         }
+        looks.count_publication();
         let ended = end_book(rt, &writer, &head);
         match make_lasts(alloc, &writer.published().front, &ended, viewers) {
             Ok(lasts) => Ok((
@@ -90,10 +96,12 @@ impl<V: Grow> PublisherOf<Of<V>> {
                     writer,
                     schema,
                     ended,
+                    looks,
                 },
                 lasts,
             )),
             Err(NoMemory) => {
+                looks.wait_for_all(rt);
                 writer.take(rt);
                 Err(NoMemory)
             }
@@ -115,7 +123,9 @@ impl<V: Grow> RestedOf<Of<V>> {
             writer,
             schema: _schema,
             ended: _ended,
+            looks,
         } = self;
+        looks.wait_for_all(rt);
         writer.take(rt);
     }
 }

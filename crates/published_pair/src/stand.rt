@@ -4,6 +4,7 @@ ghost use Rattle.cube_view.specs.Bag.{Counts};
 use crate::book::Front;
 use cube_view::{Grow, Point};
 use ghost_values::GhostList;
+use outer_io::List;
 
 /// A view, the list of points that it counts, and the published list that it stands at once it is shown.
 #[derive(Drop)]
@@ -14,10 +15,11 @@ pub struct Stand<V: Grow> {
     ghost counts: { Counts (V.weight_at view) (V.seen view) history.items },
 }
 
-/// What the publisher sends to both copies: a point, or the list that is published with all points sent before.
+/// What the publisher sends to both copies: the points of a publication, or the list that is published with all points
+/// sent before.
 #[derive(Drop)]
 pub enum Sent {
-    Added(Point),
+    Added(List<Point>),
     Noted(Front),
 }
 

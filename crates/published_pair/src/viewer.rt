@@ -7,13 +7,15 @@ ghost use Rattle.world_core.specs.PairFact.{IsPrefix};
 ghost use Rattle.published_pair.specs.Pair.{names, Fresh};
 
 use crate::book::{Front, Whole};
+use crate::looks::Looks;
 use crate::names::Names;
 use crate::rule::{Look, PairRule};
 use crate::stand::Stand;
 use crate::told::{Closed, Last, Told};
+use change_signal::Waiting;
 use cube_view::{Grow, Schema};
 use left_right::reader::{Reader, Reading};
-use std::sync::Wait;
+use std::sync::{Arc, Wait};
 
 /// Contracts see its book, which names the pair, the schema, the list that it was shown last, the longest list that it learned, and the ended list once it has learned that.
 #[derive(Drop)]
@@ -23,6 +25,7 @@ pub struct Viewer<V: Grow> {
     pub(crate) shown: Front,
     pub(crate) learned: Front,
     pub(crate) last: Option<Whole>,
+    pub(crate) looks: Arc<Looks>,
     ghost book: { learned.book ≡ shown.book },
     ghost within: { IfSome last (λ w. (w.book ≡ shown.book) × (learned.points ≡ w.points)) } by { Prim.hlevel props },
     ghost named: { view reader.place ≡ Some (names shown.book schema shown.points) },
@@ -35,6 +38,9 @@ pub struct Shown<V: Grow> {
     shown: Front,
     learned: Front,
     last: Option<Whole>,
+    looks: Arc<Looks>,
+    /// What `Looks::begin` answered.
+    began: u64,
     ghost book: { learned.book ≡ shown.book },
     ghost within: { IfSome last (λ w. (w.book ≡ shown.book) × (shown.points ≡ w.points) × (learned.points ≡ w.points)) } by { Prim.hlevel props },
     ghost named: { view reading.place ≡ Some (names shown.book schema shown.points) },
@@ -66,16 +72,20 @@ impl<V: Grow> Viewer<V> {
             shown,
             learned,
             last,
+            looks,
         } = self;
+        let began = looks.begin();
         let reading = match reader.enter_as::<Look<V>>() {
             Ok(reading) => reading,
             Err(reader) => {
+                looks.end(began);
                 return Err(Viewer {
                     reader,
                     schema,
                     shown,
                     learned,
                     last,
+                    looks,
                 });
             }
         };
@@ -88,14 +98,19 @@ impl<V: Grow> Viewer<V> {
                 shown,
                 learned,
                 last,
+                looks,
+                began,
             });
         }
+        let reader = reading.leave();
+        looks.end(began);
         Err(Viewer {
-            reader: reading.leave(),
+            reader,
             schema,
             shown,
             learned,
             last,
+            looks,
         })
     }
 
@@ -106,10 +121,14 @@ impl<V: Grow> Viewer<V> {
         ensures same { (result.shown.book ≡ self.shown.book) × (result.learned ≡ self.learned) × (result.last ≡ self.last) × (result.schema ≡ self.schema) }
     {
         let mut viewer = self;
+        let mut waiting = Waiting::new();
         for _ in rt.forever() {
             match viewer.enter() {
                 Ok(shown) => return shown,
-                Err(back) => viewer = back,
+                Err(back) => {
+                    viewer = back;
+                    viewer.looks.pause(rt, &mut waiting);
+                }
             }
         }
         unreachable!()
@@ -194,13 +213,18 @@ impl<V: Grow> Shown<V> {
             shown,
             learned,
             last,
+            looks,
+            began,
         } = self;
+        let reader = reading.leave();
+        looks.end(began);
         Viewer {
-            reader: reading.leave(),
+            reader,
             schema,
             shown,
             learned,
             last,
+            looks,
         }
     }
 }

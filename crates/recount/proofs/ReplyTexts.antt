@@ -84,7 +84,7 @@ module _ (schema : Schema) (stat : Stat) (h : List Point) (told : ℕ) where
   verb_valid q verb.Quit reply is e = cc
 
   -- the reply to what was asked can be printed
-  asked_valid : (p : Parsed) (reply : Reply) → asked_reply stat schema h told p ≡ Some reply → IsTrue (is_valid_reply reply)
+  pub asked_valid : (p : Parsed) (reply : Reply) → asked_reply stat schema h told p ≡ Some reply → IsTrue (is_valid_reply reply)
   unfolding is_valid_reply
   asked_valid parsed.Skip reply e = cc
   asked_valid (parsed.Ask q) reply e = verb_valid q q.verb reply refl e

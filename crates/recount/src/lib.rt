@@ -26,5 +26,7 @@ mod testing;
 mod tests;
 mod verdict;
 
+pub use asked::asked_of;
 pub use checking::check;
+pub use replies::{NextReply, next_reply};
 pub use verdict::{Verdict, Why};

@@ -7,4 +7,4 @@ use Rattle.feed_queue.specs.declared.line.View.TheVariants.{Draws}
 use Rattle.feed_queue.proofs.open.open_lane.Given as goal
 
 abbrev pub invariant-loop-made : goal.invariant-loop-made
-invariant-loop-made l = IsPassOf (arc_value l.line) l.pass × (view l.pass ≡ Draws (drawing l.schema [] l.made [])) × (l.ends ≡ new_feeds l.pass.table_id l.schema l.made)
+invariant-loop-made l = IsPassOf (arc_value l.lane).line l.pass × (view l.pass ≡ Draws (drawing l.schema [] l.made [])) × (l.ends ≡ new_feeds l.pass.table_id l.schema l.made)

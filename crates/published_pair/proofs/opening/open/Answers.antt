@@ -10,7 +10,7 @@ invariant_of-publisher-clause-pends g c =
     let w = c.make_viewers.new.writer in
     let none : drop w.behind w.log.items ≡ [] = search rules in
     let empty : w.desk.shown.value.history.items ≡ [] = search rules in
-    rw none (empty ∙ sym c.new-in-Ok-make_viewers-2.ensures)
+    rw none (empty ∙ sym c.open_book-head.ensures.empty)
 
 pub invariant_of-publisher-clause-goes_by : goal.invariant_of-publisher-clause-goes_by
 invariant_of-publisher-clause-goes_by g c =

@@ -1,0 +1,68 @@
+-- Points that slots count, one behind the other, and in any order.
+use Rattle.std.proofs.Common.{◌≡◌, ℕ, ◌+◌, ◌<◌, IsTrue, List, [], ◌∷◌, ◌++◌, length, take, get_or, sym, subst, subst₂, arith, append-nil, append_assoc, add-zero}
+use Rattle.std.proofs.Math.Logic.{∥∥₁_map}
+use Rattle.std.proofs.lemmas.Grind.{take_at_read}
+use Rattle.std.proofs.lemmas.List.{length-take-le, length_push}
+use Rattle.std.proofs.lemmas.List.Sorted.{All-permutation, Contains-permutation, IsPermutation-append_right, IsPermutation-map, IsPermutation-sym, length_permutation, sum_by-IsPermutation}
+use Rattle.std.specs.List.Sorted.{IsPermutation}
+use Rattle.cube_view.specs.Bag.{most_points}
+use Rattle.cube_view.specs.Places.{time_dim}
+use Rattle.cube_view.specs.Points.{Point, spot_of}
+use Rattle.cube_view.specs.Validity.{sound}
+use Rattle.cube_view.specs.declared.schema.Schema.{Schema}
+use Rattle.node_arena.specs.Amounts.{Weighted, spots_in}
+use Rattle.node_arena.specs.Slots.{Slot}
+use Rattle.proper_path.specs.Paths.{point_path}
+use Rattle.cube_store.specs.Counted.{paths_of, AddsPoints, CountsPoints, HasPoints}
+use Rattle.cube_store.specs.Inserting.{Inserts}
+use Rattle.cube_store.proofs.Listing.{adds_under, counts_joined, shape_same}
+
+-- slots that count a list count it in each order
+pub counts_permuted : (z : Schema) (slots : List Slot) (root size : ℕ) (h k : List Point) → IsPermutation h k → CountsPoints z slots root size h → CountsPoints z slots root size k
+counts_permuted z slots root size h k P C =
+    let Q : IsPermutation (paths_of z h) (paths_of z k) = IsPermutation-map (λ (p : Point). point_path z p) h k P in
+    let S : IsPermutation (spots_in (paths_of z h)) (spots_in (paths_of z k)) = IsPermutation-map (λ (w : Weighted). w.spot) (paths_of z h) (paths_of z k) Q in
+    record {
+      homes = C.homes;
+      shape = shape_same (time_dim z) slots C.homes (paths_of z h) (paths_of z k)
+          (λ q c. Contains-permutation (spots_in (paths_of z h)) (spots_in (paths_of z k)) q S c)
+          (λ q c. Contains-permutation (spots_in (paths_of z k)) (spots_in (paths_of z h)) q (IsPermutation-sym _ _ S) c)
+          (λ a bin. sym (sum_by-IsPermutation (adds_under a bin) (paths_of z h) (paths_of z k) Q))
+          C.shape;
+      at_top = C.at_top;
+      all_sound = All-permutation (λ p. IsTrue (sound z p)) h k P C.all_sound;
+      all_four = All-permutation (λ p. length (spot_of p).values ≡ 4) h k P C.all_four;
+      number = let n = C.number in let l = length_permutation h k P in omega (arith, n, l);
+    }
+
+-- no points more
+pub adds_none : (z : Schema) (slots : List Slot) (root size : ℕ) → AddsPoints z root size [] slots slots
+adds_none z slots root size h C = subst₂ (λ n (k : List Point). CountsPoints z slots root n k) (sym (add-zero size)) (sym (append-nil h)) C
+
+-- one point more of a list that is gone through
+pub adds_more : (z : Schema) (a b c : List Slot) (root size : ℕ) (points : List Point) (i : ℕ) (d : Point) → i < length points → AddsPoints z root size (take i points) a b → AddsPoints z root (size + i) (get_or points i d ∷ []) b c → AddsPoints z root size (take (i + 1) points) a c
+adds_more z a b c root size points i d lt A B = subst (λ (l : List Point). AddsPoints z root size l a c) (sym (take_at_read points i d lt).1) pushed
+  where
+    long : length (take i points) ≡ i
+    long = length-take-le i points (omega (arith, lt))
+
+    pushed : AddsPoints z root size (take i points ++ get_or points i d ∷ []) a c
+    pushed h C =
+        let one : CountsPoints z b root (size + i) (h ++ take i points) = subst (λ n. CountsPoints z b root (size + n) (h ++ take i points)) long (A h C) in
+        let number : size + i + 1 ≡ size + length (take i points ++ get_or points i d ∷ []) = omega (arith, long, length_push (take i points) (get_or points i d)) in
+        subst₂ (λ n (k : List Point). CountsPoints z c root n k) number (append_assoc h (take i points) (get_or points i d ∷ [])) (B (h ++ take i points) one)
+
+-- slots that counted some list count one afterwards
+pub has_added : (z : Schema) (a b : List Slot) (root size : ℕ) (points : List Point) → AddsPoints z root size points a b → HasPoints z a root size → HasPoints z b root (size + length points)
+has_added z a b root size points A R = ∥∥₁_map R (λ C. (C.0 ++ points, A C.0 C.1))
+
+-- in whatever order the points came
+pub adds_permuted : (z : Schema) (a b : List Slot) (root size : ℕ) (points sorted : List Point) → IsPermutation points sorted → AddsPoints z root size sorted a b → AddsPoints z root size points a b
+adds_permuted z a b root size points sorted P A h C =
+    let Q : IsPermutation (h ++ sorted) (h ++ points) = IsPermutation-append_right h sorted points (IsPermutation-sym points sorted P) in
+    let l = length_permutation points sorted P in
+    subst (λ n. CountsPoints z b root (size + n) (h ++ points)) l (counts_permuted z b root (size + length sorted) (h ++ sorted) (h ++ points) Q (A h C))
+
+-- a point that is inserted
+pub adds_one : (z : Schema) (p : Point) (old new : List Slot) (root size : ℕ) → IsTrue (sound z p) → length (spot_of p).values ≡ 4 → size < most_points → Inserts (time_dim z) (point_path z p) old new → AddsPoints z root size (p ∷ []) old new
+adds_one z p old new root size is four few I h C = counts_joined z p old new root size h is four few I C
