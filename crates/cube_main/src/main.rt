@@ -1,30 +1,19 @@
-//! The program. [`nanocube::nanocube`] does what the words of the command line say over a place and a sink.
+//! The program. It calls [`top_call::nanocube`] over the real files and standard output.
 //!
-//! `main` makes both for the real files and standard output, and ends with the status that the call gives.
-//! It prints nothing by itself. The crate stands on all others that the program uses, and leaves to them what a feed,
-//! a script and a reply are; it decides which words are a form, what each form reads and writes, and why a status comes.
+//! `main` makes both, and ends with the status that the call gives. It prints nothing by itself.
 //!
 //! ```text
-//! let mut place = MemPlace::new(alloc);                        // or FilePlace::new(alloc, &rt)
-//! let status = nanocube(&rt, &words, &mut place, &mut out);    // words: run plan.json
+//! $ cube_main demo a.csv q.txt
+//! {"rows":[[3]],"seen":3}
 //! ```
 #![tactic(auto)]
 
-mod built_in;
-mod demo;
-mod line_words;
-mod nanocube;
-mod status;
-#[cfg(test)]
-mod tests;
-
-use crate::nanocube::nanocube;
-use crate::status::Status;
 use outer_io::{FilePlace, NoMemory, StdSink};
 use std::env;
 use std::io::ErrorKind;
 use std::process::ExitCode;
 use std::rt::Env;
+use top_call::{Status, nanocube};
 
 /// The words after the program's name. A word that is not UTF-8 leaves a line of no words, which is no form.
 fn words<R: Env + AllocGlobal>(rt: &R) -> Result<Vec<String>, NoMemory> {

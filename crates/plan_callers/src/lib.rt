@@ -1,8 +1,8 @@
-//! Runs of plans over files in memory, completed and interrupted.
+//! Runs of plans over sources that no file has: one that goes on without end, one that waits for the run's own replies.
 //!
-//! Each run is `plan_run`'s. A test puts the files that are there, says which reads, puts and givings back fail, which files
-//! the run is to leave and what it is to report, and compares the report and all files byte for byte, those that must not
-//! be there included. Where the order of threads may differ, the test judges that file by itself. All of it is tests.
+//! Each run is `plan_run`'s. A test puts the files that are there, says which reads fail, which files the run is to leave
+//! and what it is to report, and compares the report and all files byte for byte, those that must not be there included.
+//! All of it is tests. Runs over files alone are the cases of `worked_rows`.
 //!
 //! ```text
 //! let mut trial = Trial::new(&rt, ONE_FINAL);
@@ -10,7 +10,7 @@
 //! trial.given(&rt, "f.txt", "");
 //! trial.wanted(&rt, "f.txt.out", "");
 //! trial.wanted(&rt, "j.txt", "1 0 0 0 0 0\n1 1 7 7 1 1\n");
-//! trial.check(&rt, Err(Stop::ReadFault), "feed a.csv: 2 accepted, 0 blank, 0 refused\nfeed a.csv stopped: Read\n..");
+//! trial.check_tailed(&rt, "", Tail::Nothing, Err(Stop::ReadFault), "feed a.csv: 2 accepted, 0 blank, 0 refused\nfeed a.csv stopped: Read\n..");
 //! ```
 #![tactic(auto)]
 
@@ -21,16 +21,8 @@ mod beside_tests;
 #[cfg(test)]
 mod endless_tests;
 #[cfg(test)]
-mod names_tests;
-#[cfg(test)]
 mod read_tests;
-#[cfg(test)]
-mod schema_tests;
 #[cfg(test)]
 mod tailed;
 #[cfg(test)]
 mod trial;
-#[cfg(test)]
-mod two_feeds_tests;
-#[cfg(test)]
-mod write_tests;

@@ -8,10 +8,6 @@ use std::process::Abort;
 use std::sync::Wait;
 use std::thread::Threads;
 
-/// A plan of one feed and no scripts.
-pub(crate) const NO_SCRIPTS: &str =
-    r#"{"asks":[],"batch":1,"categories":[{"name":"kind","values":["a","b"]}],"depth":3,"feeds":["a.csv"],"finals":[],"journal":"j.txt","start":0,"version":1,"width":10}"#;
-
 /// A plan of one feed and one ask.
 pub(crate) const ONE_ASK: &str =
     r#"{"asks":["q.txt"],"batch":1,"categories":[{"name":"kind","values":["a","b"]}],"depth":3,"feeds":["a.csv"],"finals":[],"journal":"j.txt","start":0,"version":1,"width":10}"#;
@@ -20,17 +16,9 @@ pub(crate) const ONE_ASK: &str =
 pub(crate) const ONE_FINAL: &str =
     r#"{"asks":[],"batch":1,"categories":[{"name":"kind","values":["a","b"]}],"depth":3,"feeds":["a.csv"],"finals":["f.txt"],"journal":"j.txt","start":0,"version":1,"width":10}"#;
 
-/// A plan of one feed and two finals.
-pub(crate) const TWO_FINALS: &str =
-    r#"{"asks":[],"batch":1,"categories":[{"name":"kind","values":["a","b"]}],"depth":3,"feeds":["a.csv"],"finals":["f.txt","g.txt"],"journal":"j.txt","start":0,"version":1,"width":10}"#;
-
 /// A plan of two feeds and one final.
 pub(crate) const TWO_FEEDS: &str =
     r#"{"asks":[],"batch":1,"categories":[{"name":"kind","values":["a","b"]}],"depth":3,"feeds":["a.csv","b.csv"],"finals":["f.txt"],"journal":"j.txt","start":0,"version":1,"width":10}"#;
-
-/// A plan of two feeds, an ask and a final.
-pub(crate) const TWO_FEEDS_AND_ASK: &str =
-    r#"{"asks":["q.txt"],"batch":1,"categories":[{"name":"kind","values":["a","b"]}],"depth":3,"feeds":["a.csv","b.csv"],"finals":["f.txt"],"journal":"j.txt","start":0,"version":1,"width":10}"#;
 
 /// A feed of three records in 40 bytes. In pieces of 16 its third read gives the end of the third record.
 pub(crate) const FEED: &str = "x,y,kind,time\n0,0,a,5\n7,7,b,12\n0,0,a,15\n";
@@ -41,44 +29,16 @@ pub(crate) const ENTRIES: &str = "1 0 0 0 0 0\n1 1 7 7 1 1\n1 2 0 0 0 1\n";
 /// What a count of them replies.
 pub(crate) const REPLY: &str = "{\"rows\":[[3]],\"seen\":3}\n";
 
-/// The names of 64 characters that a test has.
-pub(crate) const LONG_FEED: &str =
-    "ABCDEFGHIJKLMNOPQRSTUVWXYZabcdefghijklmnopqrstuvwxyz0123456789._";
-
-pub(crate) const LONG_ASK: &str =
-    "ABCDEFGHIJKLMNOPQRSTUVWXYZabcdefghijklmnopqrstuvwxyz0123456789_-";
-
-pub(crate) const LONG_FINAL: &str =
-    "ABCDEFGHIJKLMNOPQRSTUVWXYZabcdefghijklmnopqrstuvwxyz0123456789-_";
-
-pub(crate) const LONG_JOURNAL: &str =
-    "ABCDEFGHIJKLMNOPQRSTUVWXYZabcdefghijklmnopqrstuvwxyz0123456789-.";
-
-pub(crate) const LONG_ASK_OUTPUT: &str =
-    "ABCDEFGHIJKLMNOPQRSTUVWXYZabcdefghijklmnopqrstuvwxyz0123456789_-.out";
-
-pub(crate) const LONG_FINAL_OUTPUT: &str =
-    "ABCDEFGHIJKLMNOPQRSTUVWXYZabcdefghijklmnopqrstuvwxyz0123456789-_.out";
-
 /// The names of all files of any test.
-const NAMES: [&str; 17] = [
+const NAMES: [&str; 8] = [
     "p.json",
     "a.csv",
     "b.csv",
-    "city.csv",
     "q.txt",
     "f.txt",
-    "g.txt",
     "q.txt.out",
     "f.txt.out",
-    "g.txt.out",
     "j.txt",
-    LONG_FEED,
-    LONG_ASK,
-    LONG_FINAL,
-    LONG_JOURNAL,
-    LONG_ASK_OUTPUT,
-    LONG_FINAL_OUTPUT,
 ];
 
 /// Files in memory and an output, and the files that a run over them is to leave.
@@ -168,30 +128,6 @@ impl Trial {
         put(rt, &mut self.wanted, name, text, 1, 0);
     }
 
-    /// The put of that number into the file of that name fails, from 1.
-    pub(crate) fn fail_put(&mut self, rt: &(impl Abort + AllocGlobal), name: &str, number: u32) {
-        let set = self.place.set_out_fails(name, only(rt, number));
-        assert!(rt; set.is_ok());
-    }
-
-    /// Giving back the file of that name fails.
-    pub(crate) fn fail_give_back(&mut self, rt: &impl Abort, name: &str) {
-        assert!(rt; self.place.fail_give_back(name).is_ok());
-    }
-
-    /// The first put of the report fails.
-    pub(crate) fn fail_report(&mut self, rt: &(impl Abort + AllocGlobal)) {
-        self.out = MemSink::new(rt.alloc(), only(rt, 1));
-    }
-
-    /// How the run of `p.json` ends.
-    pub(crate) fn run<R: AllocGlobal + Threads + Wait + Sync>(
-        &mut self,
-        rt: &R,
-    ) -> Result<(), Stop> {
-        run_over(rt, &mut self.place, &mut self.out)
-    }
-
     /// The text of the file of that name.
     pub(crate) fn text(&self, rt: &impl Abort, name: &str) -> &str {
         let bytes = self.place.file(name).expect(rt, "a file");
@@ -203,13 +139,6 @@ impl Trial {
         str::from_utf8(self.out.bytes()).expect(rt, "a text")
     }
 
-    /// The run is to leave a file of that name as it left it, since the test has judged it by itself.
-    pub(crate) fn wanted_as_left(&mut self, rt: &(impl Abort + AllocGlobal), name: &str) {
-        let bytes = self.place.file(name).expect(rt, "a file");
-        let text = str::from_utf8(bytes).expect(rt, "a text");
-        put(rt, &mut self.wanted, name, text, 1, 0);
-    }
-
     /// That report was put, and the run left all files as they are to be, and no others.
     pub(crate) fn check_left(&self, rt: &impl Abort, report: &str) {
         assert_eq!(rt; self.report(rt), report);
@@ -218,19 +147,8 @@ impl Trial {
         }
     }
 
-    /// The run of `p.json` ends so, with that report and with all files as they are to be, and no others.
-    pub(crate) fn check<R: Abort + AllocGlobal + Threads + Wait + Sync>(
-        &mut self,
-        rt: &R,
-        end: Result<(), Stop>,
-        report: &str,
-    ) {
-        let ended = self.run(rt);
-        assert_eq!(rt; ended, end);
-        self.check_left(rt, report);
-    }
-
-    /// The same, where the source of the file of that name has that tail. How many faults of reading there were.
+    /// The run of `p.json` ends so, with that report and with all files as they are to be, and no others, where the source of
+    /// the file of that name has that tail. How many faults of reading there were.
     pub(crate) fn check_tailed<R: Abort + AllocGlobal + Threads + Wait + Sync>(
         self,
         rt: &R,
