@@ -1,0 +1,6 @@
+pub mod AreaSums
+pub mod RowSums
+mod PathOrder
+mod MapSums
+pub mod TableSums
+pub mod ReplySums

@@ -1,0 +1,23 @@
+//! Why two replies have no sum.
+ghost use Rattle.std.specs.Prelude.{◌≡◌};
+
+use outer_io::NoMemory;
+
+/// Why two replies have no sum: they are not replies to what was asked that have rows of the same keys, a total or a
+/// number of points is 2^64 or more, or memory ran out.
+#[derive(Clone, Copy, PartialEq, Eq, Debug)]
+pub enum SumFault {
+    OtherRows,
+    TooMuch,
+    NoMemory,
+}
+
+impl From<NoMemory> for SumFault {
+    ghost use Rattle.reply_sums.specs.declared.fault.SumFault.TheVariants as fault;
+
+    ghost from_gives = { λ _ e. e ≡ fault.NoMemory };
+
+    fn from(_fault: NoMemory) -> SumFault {
+        SumFault::NoMemory
+    }
+}

@@ -1,0 +1,119 @@
+//! The sum of two replies to what was asked.
+ghost use Rattle.std.specs.Prelude.{◌≡◌, ◌↔◌, true, Err, Some, None, IfOk, IsTrue};
+ghost use Rattle.reply_json.specs.declared.reply.Reply.{Reply};
+ghost use Rattle.reply_sums.specs.AddingUp.{AddsUp};
+ghost use Rattle.reply_sums.specs.Additive.{adds_up};
+ghost use Rattle.reply_sums.specs.Sums.{AsksShallow, HaveNoSum, IsMapShallow, IsSum, sum_of_query, sum_of_rows, sum_tables};
+
+use crate::SumFault;
+use crate::areas::sum_areas;
+use crate::rows::sum_rows;
+use crate::totals::sum_totals;
+use outer_io::List;
+use query_syntax::{Parsed, Query, QueryFault, RowOut, Table, Verb};
+use reply_json::Reply;
+use std::alloc::Global;
+
+/// Whether the replies to what was asked add up. Those of `best` and `stat` do not.
+pub fn adds_up(asked: &Parsed) -> bool
+    ensures { result ≡ adds_up asked.now }
+{
+    match asked {
+        Parsed::Skip => false,
+        Parsed::Ask(query) => match query.verb {
+            Verb::Count | Verb::Hist(_) | Verb::Map(_) | Verb::Series { .. } => true,
+            Verb::Window(_) | Verb::Cross(..) | Verb::Told => true,
+            Verb::Best { .. } | Verb::Stat | Verb::Quit => false,
+        },
+        Parsed::Fault(..) => true,
+    }
+}
+
+/// The rows of two tables of the query, added.
+fn sum_of_rows(
+    alloc: Global,
+    query: &Query,
+    rows: &[RowOut],
+    others: &[RowOut],
+) -> Result<List<RowOut>, SumFault>
+    requires shallow { IsMapShallow query.now query.now.verb }
+    ensures sum { IfOk result (λ sums. sum_of_rows query.now query.now.verb rows.now others.now ≡ Some sums) }
+    ensures none { result ≡ Err SumFault.OtherRows → sum_of_rows query.now query.now.verb rows.now others.now ≡ None }
+{
+    match query.verb {
+        Verb::Count | Verb::Hist(_) | Verb::Series { .. } | Verb::Window(_) | Verb::Cross(..) => {
+            sum_rows(alloc, rows, others)
+        }
+        Verb::Map(down) => sum_areas(alloc, query.region, down, rows, others),
+        Verb::Best { .. } | Verb::Stat | Verb::Told | Verb::Quit => Err(SumFault::OtherRows),
+    }
+}
+
+/// The table of two tables of the query, added.
+fn sum_tables(alloc: Global, query: &Query, table: &Table, other: &Table) -> Result<Reply, SumFault>
+    requires shallow { IsMapShallow query.now query.now.verb }
+    ensures sum { IfOk result (λ sum. sum_tables query.now table.now other.now ≡ Some sum) }
+    ensures none { result ≡ Err SumFault.OtherRows → sum_tables query.now table.now other.now ≡ None }
+{
+    let rows = sum_of_rows(alloc, query, table.rows.as_slice(), other.rows.as_slice())?;
+    let seen = sum_totals(table.seen, other.seen)?;
+    Ok(Reply::Table(Table { rows, seen }))
+}
+
+/// The sum of two replies to the query.
+fn sum_of_query(
+    alloc: Global,
+    query: &Query,
+    reply: &Reply,
+    other: &Reply,
+) -> Result<Reply, SumFault>
+    requires shallow { IsMapShallow query.now query.now.verb }
+    ensures sum { IfOk result (λ sum. sum_of_query query.now reply.now other.now ≡ Some sum) }
+    ensures none { result ≡ Err SumFault.OtherRows → sum_of_query query.now reply.now other.now ≡ None }
+{
+    match (reply, other) {
+        (Reply::Table(table), Reply::Table(more)) => sum_tables(alloc, query, table, more),
+        (Reply::Told(told), Reply::Told(more)) => Ok(Reply::Told(sum_totals(*told, *more)?)),
+        _ => Err(SumFault::OtherRows),
+    }
+}
+
+/// Whether the reply is that fault, at that word.
+fn is_fault(reply: &Reply, fault: QueryFault, word: u32) -> bool
+    ensures { IsTrue result ↔ (reply.now ≡ Reply.Fault fault word) }
+{
+    match reply {
+        Reply::Fault(own, place) => *own == fault && *place == word,
+        Reply::Table(_) | Reply::Stat(..) | Reply::Told(_) | Reply::NoMemory => false,
+    }
+}
+
+/// The sum of two replies to what was asked, whose replies add up: the reply over the points of both.
+///
+/// Where they are the replies over two lists of points, it is the reply over the lists joined. They have no sum where
+/// one is no reply to what was asked, where their rows are not of the same values, starts or pairs, or where a row of a
+/// map is of no tile that was asked for, out of path order, or of total 0.
+pub fn add_replies(
+    alloc: Global,
+    asked: &Parsed,
+    reply: &Reply,
+    other: &Reply,
+) -> Result<Reply, SumFault>
+    requires adds { adds_up asked.now ≡ true }
+    requires shallow { AsksShallow asked.now }
+    ensures sum { IfOk result (IsSum asked.now reply.now other.now) }
+    ensures none { result ≡ Err SumFault.OtherRows → HaveNoSum asked.now reply.now other.now }
+    ensures law { AddsUp asked.now reply.now other.now result }
+{
+    match asked {
+        Parsed::Ask(query) => sum_of_query(alloc, query, reply, other),
+        Parsed::Fault(fault, word) => {
+            if is_fault(reply, *fault, *word) && is_fault(other, *fault, *word) {
+                Ok(Reply::Fault(*fault, *word))
+            } else {
+                Err(SumFault::OtherRows)
+            }
+        }
+        Parsed::Skip => Err(SumFault::OtherRows),
+    }
+}

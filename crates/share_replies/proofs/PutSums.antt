@@ -1,0 +1,62 @@
+-- The lines of sums, one after another.
+use Rattle.std.proofs.Common.{◌≡◌, ℕ, zero, suc, ◌+◌, ◌<◌, List, [], ◌∷◌, ◌++◌, length, take, get_or, Option, Some, None, Result, Ok, Err, OnOk, refl, sym, ◌∙◌, ap, subst, arith, append_assoc}
+use Rattle.std.proofs.lemmas.List.{append-nil}
+use Rattle.cube_view.specs.declared.schema.Schema.{Schema}
+use Rattle.outer_io.proofs.GainedLaws.{gains_none, gains_on}
+use Rattle.plain_cube.specs.Listed.{no_structure}
+use Rattle.query_syntax.specs.declared.query.Parsed.{Parsed}
+use Rattle.reply_json.specs.Types.{ReplyFits}
+use Rattle.reply_sums.specs.Additive.{adds_up}
+use Rattle.session_core.specs.Asked.{reply_line}
+use Rattle.session_core.proofs.Own.{reply_own}
+use Rattle.share_replies.specs.Shares.{AnyStat, Share}
+use Rattle.share_replies.specs.Sums.{IsSumOver, SumsOver}
+use Rattle.share_replies.specs.Texts.{IsLineOver, IsSummedText, PutsSumLine, PutsSums, not_additive_line}
+use Rattle.share_replies.specs.declared.summed.Summed.{Summed}
+
+-- what follows of a good end
+pub on_ok : {T E : Type 0} (r : Result T E) (P Q : Type 0) → (P → Q) → OnOk r P → OnOk r Q
+on_ok (Ok x) P Q f p = f p
+on_ok (Err e) P Q f p = tt
+
+module _ (schema : Schema) (s : Share) where
+  -- the line of a sum
+  pub line_of_sum : (p : Parsed) (sum : Summed) (line : List ℕ) → IsSumOver schema s p (Some sum) → line ≡ reply_line sum.reply → ReplyFits sum.reply → IsLineOver schema s (adds_up p) p line
+  line_of_sum p sum line is text fits =
+      subst (λ b. IsLineOver schema s b p line) (sym is.0) (sum.reply, reply_own schema AnyStat s.points s.told no_structure p sum.reply tt is.1 fits, text)
+
+  pub line_of_none : (p : Parsed) (line : List ℕ) → IsSumOver schema s p None → line ≡ not_additive_line → IsLineOver schema s (adds_up p) p line
+  line_of_none p line is text = subst (λ b. IsLineOver schema s b p line) (sym is) text
+
+  -- one line more
+  text_push : (ps : List Parsed) (text : List ℕ) (p : Parsed) (line : List ℕ) → IsSummedText schema s ps text → IsLineOver schema s (adds_up p) p line → IsSummedText schema s (ps ++ p ∷ []) (text ++ line)
+  text_push [] text p line none is = (line, [], is, refl, ap (λ t. t ++ line) none ∙ sym (append-nil line))
+  text_push (q ∷ ps) text p line (first, rest, here, later, split) is = (first, rest ++ line, here, text_push ps rest p line later is, ap (λ t. t ++ line) split ∙ append_assoc first rest line)
+
+  pub puts_none : (before : Option (List ℕ)) → PutsSums schema s [] before before
+  puts_none before = ([], refl, gains_none before)
+
+  pub puts_more : (ps : List Parsed) (p : Parsed) (a b c : Option (List ℕ)) → PutsSums schema s ps a b → PutsSumLine schema s p b c → PutsSums schema s (ps ++ p ∷ []) a c
+  puts_more ps p a b c (text, are, gained) (line, is, more) = (text ++ line, text_push ps text p line are is, gains_on a b c text line gained more)
+
+  -- What is asked at the place of a sum
+  pub record SumAt (ps : List Parsed) (i : ℕ) (sum : Option Summed) : Type 0 where
+    pub asked : Parsed
+    pub front : take (i + 1) ps ≡ take i ps ++ asked ∷ []
+    pub is : IsSumOver schema s asked sum
+
+  pub sum_at : (ps : List Parsed) (sums : List (Option Summed)) (i : ℕ) (d : Option Summed) → SumsOver schema s ps sums → i < length sums → SumAt ps i (get_or sums i d)
+  sum_at [] [] i d all lt = absurd (omega (arith, lt))
+  sum_at [] (sum ∷ sums) i d all lt = absurd all
+  sum_at (p ∷ ps) [] i d all lt = absurd all
+  sum_at (p ∷ ps) (sum ∷ sums) zero d all lt = record { asked = p; front = refl; is = all.0 }
+  sum_at (p ∷ ps) (sum ∷ sums) (suc i) d all lt =
+      let rest = sum_at ps sums i d all.1 (omega (arith, lt)) in
+      let on : suc i + 1 ≡ suc (i + 1) = omega arith in
+      record { asked = rest.asked; front = ap (λ n. take n (p ∷ ps)) on ∙ ap (λ qs. p ∷ qs) rest.front; is = rest.is }
+
+  pub sums_length : (ps : List Parsed) (sums : List (Option Summed)) → SumsOver schema s ps sums → length ps ≡ length sums
+  sums_length [] [] all = refl
+  sums_length [] (sum ∷ sums) all = absurd all
+  sums_length (p ∷ ps) [] all = absurd all
+  sums_length (p ∷ ps) (sum ∷ sums) all = ap (λ n. suc n) (sums_length ps sums all.1)

@@ -1,0 +1,29 @@
+use Rattle.std.proofs.Common.{◌≡◌, [], ◌∷◌, List, ℕ, Option, IfOk, None, map, ◌∙◌, ap, subst}
+use Rattle.std.specs.Prelude.{string_bytes}
+use Rattle.outer_io.specs.Files.{Files, file_or_empty}
+use Rattle.outer_io.specs.Lines.{lines}
+use Rattle.run_files.proofs.Stages.{same_files}
+use Rattle.run_files.specs.Outside.{file_of, seen_place}
+use Rattle.run_files.specs.Planned.{IsPlanOf}
+use Rattle.session_core.specs.Asked.{asked}
+use Rattle.share_replies.specs.Ends.{OutcomeOver}
+use Rattle.share_replies.specs.Shares.{together}
+use Rattle.share_replies.proofs.Outcomes.{some_plan, under_plan}
+use Rattle.share_replies.proofs.adding.add_shares.Goals as goal
+
+pub returns-clause-law : goal.returns-clause-law
+returns-clause-law g c files told =
+    let p = seen_place g.P.Place.files g.P.Place.read_faults g.P.Place.write_faults g.P.Place.opened g.P.Place.created in
+    let names = c.args.names.now in
+    let plan = c.in_ok-plan.plan in
+    let script = file_or_empty files names.script.now in
+    let ps = asked plan.schema (lines script) in
+    let texts = map (file_or_empty files) (map string_bytes names.replies.now) in
+    let after = g.O.Sink.held c.put_outcome.new.out in
+    let kept : g.P.Place.files c.load_plan.new.place ≡ g.P.Place.files c.args.place.now = same_files p c.args.place.now c.load_plan.new.place (names.plan.now ∷ []) None c.in_ok-plan.ensures.leaves in
+    let quiet = (c.in_ok-plan.ensures.plan.silent (λ e. cc)).held in
+    let is = subst (λ (f : Option (List ℕ)). IsPlanOf f plan) (ap (λ (fs : Option Files). file_of fs names.plan.now) told) c.in_ok-plan.ensures.plan.plan in
+    some_plan plan _ script texts (g.O.Sink.held c.args.out.now) after c.put_outcome.result
+    (under_plan plan _ ps texts (g.O.Sink.held c.args.out.now) after c.put_outcome.result is
+    (λ shares are. subst (λ (before : Option (List ℕ)). IfOk c.put_outcome.result (OutcomeOver plan.schema ps (together shares) before after)) quiet
+    (c.put_outcome.ensures.law plan.schema (together shares) ps (c.sums_of-sums.ensures.law files shares (kept ∙ told) are))))

@@ -1,0 +1,30 @@
+use Rattle.std.proofs.Common.{All, IsTrue, List, ℕ, Option, map, sym, ◌∙◌, ap, subst}
+use Rattle.std.specs.Prelude.{string_bytes}
+use Rattle.outer_io.specs.Files.{Files, file_or_empty}
+use Rattle.outer_io.specs.Lines.{lines}
+use Rattle.query_syntax.specs.Meaning.{asks_valid}
+use Rattle.query_syntax.specs.declared.query.Parsed.{Parsed}
+use Rattle.run_files.specs.Outside.{file_of}
+use Rattle.session_core.specs.Asked.{asked}
+use Rattle.share_replies.specs.Shares.{nothing}
+use Rattle.share_replies.specs.Sums.{SumsOver}
+use Rattle.share_replies.proofs.Asking.{all_shallow}
+use Rattle.share_replies.proofs.FileSums.{told_is}
+use Rattle.share_replies.proofs.Outcomes.{sums_asked}
+use Rattle.share_replies.proofs.adding.sums_of.Goals as goal
+
+pub add_files-requires-clause-shallow : goal.add_files-requires-clause-shallow
+add_files-requires-clause-shallow g c κs within =
+    all_shallow c.args.schema.now c.as_slice-3.result.now (subst (λ (qs : List Parsed). All (λ (p : Parsed). IsTrue (asks_valid c.args.schema.now p)) qs) (sym c.as_slice-3.ensures) c.in-Ok-asked_of.ensures.valid)
+
+pub returns-clause-law : goal.returns-clause-law
+returns-clause-law g c files shares told are =
+    let schema = c.args.schema.now in
+    let name = c.args.script.now in
+    let here = ap (λ (fs : Option Files). file_of fs name) told in
+    let script = c.as_slice.ensures ∙ told_is (file_of (g.P.Place.files c.args.place.now) name) c.in-Ok.script (file_or_empty files name) c.in-Ok.ensures.whole here in
+    let same = c.as_slice-3.ensures ∙ c.in-Ok-asked_of.ensures.asked ∙ ap (λ (t : List ℕ). asked schema (lines t)) script in
+    let first = subst (λ (qs : List Parsed). SumsOver schema nothing qs c.in-Ok-first_sums.first) (c.as_slice-2.ensures ∙ sym c.as_slice-3.ensures) c.in-Ok-first_sums.ensures.sums in
+    sums_asked schema c.as_slice-3.result.now (asked schema (lines (file_or_empty files name))) shares (map (file_or_empty files) (map string_bytes c.args.replies.now)) c.add_files.result same
+    (λ own. c.add_files.ensures.law schema files shares (c.in-Ok.ensures.files ∙ told) first own)
+    are

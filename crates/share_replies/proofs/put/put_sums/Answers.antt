@@ -1,0 +1,24 @@
+use Rattle.std.proofs.Common.{List, sym, ◌∙◌, subst, take, take_all, arith}
+use Rattle.query_syntax.specs.declared.query.Parsed.{Parsed}
+use Rattle.share_replies.specs.Sums.{IsSumOver}
+use Rattle.share_replies.specs.Texts.{PutsSums}
+use Rattle.share_replies.proofs.PutSums.{puts_more, sum_at, sums_length}
+use Rattle.share_replies.proofs.put.put_sums.Goals as goal
+
+pub loop-i-preserved : goal.loop-i-preserved
+loop-i-preserved g c = record {
+  law = λ schema s ps all.
+      let a = g.O.Sink.held c.args.out.now in
+      let b = g.O.Sink.held c.loop-i.out in
+      let d = g.O.Sink.held c.put_sum.new.out in
+      let at = sum_at schema s ps c.args.sums.now c.loop-i.i c.index-sums-i.result all (omega arith) in
+      let here = subst (IsSumOver schema s at.asked) (sym c.index-sums-i.is) at.is in
+      subst (λ (qs : List Parsed). PutsSums schema s qs a d) (sym at.front)
+      (puts_more schema s (take c.loop-i.i ps) at.asked a b d (c.loop-i.invariant.law schema s ps all) (c.in_ok-put_sum.ensures.law schema s at.asked here));
+  quiet = c.in_ok-put_sum.ensures.cause.quiet (λ e. cc) ∙ c.loop-i.invariant.quiet;
+}
+
+pub returns-clause-law : goal.returns-clause-law
+returns-clause-law g c schema s ps all =
+    let same = sums_length schema s ps c.args.sums.now all in
+    subst (λ (qs : List Parsed). PutsSums schema s qs (g.O.Sink.held c.args.out.now) (g.O.Sink.held c.loop-i.out)) (take_all c.loop-i.i ps (omega (arith, same))) (c.loop-i.invariant.law schema s ps all)

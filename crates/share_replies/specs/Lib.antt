@@ -1,0 +1,4 @@
+pub mod Shares
+pub mod Sums
+pub mod Texts
+pub mod Ends

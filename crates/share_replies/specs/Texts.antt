@@ -1,0 +1,44 @@
+-- What is written of the sums.
+use Rattle.std.specs.Prelude.{◌≡◌, ℕ, Bool, true, false, List, [], ◌∷◌, ◌++◌, Option, codes}
+use Rattle.cube_view.specs.declared.schema.Schema.{Schema}
+use Rattle.outer_io.specs.Bytes.{Gains}
+use Rattle.query_syntax.specs.declared.query.Parsed.{Parsed}
+use Rattle.reply_json.specs.declared.reply.Reply.{Reply}
+use Rattle.reply_sums.specs.Additive.{adds_up}
+use Rattle.session_core.specs.Asked.{reply_line}
+use Rattle.session_core.specs.Transcript.{IsReply}
+use Rattle.share_replies.specs.Shares.{AnyStat, Share}
+use Rattle.share_replies.specs.declared.fault.Why.{Why}
+use Rattle.share_replies.specs.declared.fault.Why.TheVariants as why
+
+-- the line that answers what was asked where its replies do not add up
+abbrev pub not_additive_line : List ℕ
+not_additive_line = codes "{\"fault\":\"NotAdditive\"}\n"
+
+-- under a schema, over the points of shares
+module _ (schema : Schema) (s : Share) where
+  -- the line is that of the final reply to what was asked, where replies add up, and else the one that says so
+  abbrev pub IsLineOver : Bool → Parsed → List ℕ → Type 0
+  IsLineOver true p line = (reply : Reply) × IsReply schema AnyStat true s.points s.told p reply × (line ≡ reply_line reply)
+  IsLineOver false p line = line ≡ not_additive_line
+
+  -- the text is such a line for each that was asked, in order: the final transcript over the points, but for those lines
+  abbrev pub IsSummedText : List Parsed → List ℕ → Type 0
+  IsSummedText [] text = text ≡ []
+  IsSummedText (p ∷ ps) text = (line : List ℕ) × (rest : List ℕ) × IsLineOver (adds_up p) p line × IsSummedText ps rest × (text ≡ line ++ rest)
+
+  -- a sink gained such a text
+  abbrev pub PutsSums : List Parsed → Option (List ℕ) → Option (List ℕ) → Type 0
+  PutsSums ps before after = (text : List ℕ) × IsSummedText ps text × Gains before after text
+
+  -- or one line of it
+  abbrev pub PutsSumLine : Parsed → Option (List ℕ) → Option (List ℕ) → Type 0
+  PutsSumLine p before after = (line : List ℕ) × IsLineOver (adds_up p) p line × Gains before after line
+
+-- the name of what is wrong with a reply
+abbrev pub share_why_text : Why → List ℕ
+share_why_text why.TooFew = codes "TooFew"
+share_why_text why.TooMany = codes "TooMany"
+share_why_text why.NotReply = codes "NotReply"
+share_why_text why.OtherRows = codes "OtherRows"
+share_why_text why.TooGreat = codes "TooGreat"

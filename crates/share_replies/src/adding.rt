@@ -1,0 +1,154 @@
+//! The replies of shares added, from files.
+ghost use Rattle.std.specs.Prelude.{◌≡◌, ℕ, ◌<◌, Err, List, IfOk, length, map, string_bytes};
+ghost use Rattle.outer_io.specs.Faults.{HasCause};
+ghost use Rattle.cube_view.specs.declared.schema.Schema.{Schema};
+ghost use Rattle.query_syntax.specs.declared.query.Parsed.{Parsed};
+ghost use Rattle.share_replies.specs.Ends.{AddsUpFiles, AreSumsOver, OutcomeOver, SumsOfFiles};
+ghost use Rattle.share_replies.specs.Shares.{Share};
+ghost use Rattle.share_replies.specs.Sums.{IsInnocentShares};
+ghost use Rattle.share_replies.specs.declared.fault.SharesFault.{SharesFault};
+ghost use Rattle.share_replies.specs.declared.fault.Why.{Why};
+ghost use Rattle.share_replies.specs.Texts.{share_why_text};
+
+use crate::fault::{SharesFault, Why};
+use crate::files::{add_files, read_text};
+use crate::first::first_sums;
+use crate::put::{put_bytes, put_sums};
+use crate::summed::Summed;
+use cube_view::Schema;
+use outer_io::{List, Place, Sink};
+use recount::asked_of;
+use run_files::{Stop, load_plan};
+use std::alloc::{AllocError, Global};
+
+/// The names of the plan, the script, and the replies of each share.
+#[derive(Clone, Copy)]
+pub struct ShareNames<'a> {
+    pub plan: &'a str,
+    pub script: &'a str,
+    pub replies: &'a [String],
+}
+
+/// Whether the replies of shares were added, or a line of a share was refused.
+#[derive(Clone, Copy, PartialEq, Eq, Debug)]
+pub enum Outcome {
+    Added,
+    Refused(Why),
+}
+
+fn why_name(why: Why) -> &'static str
+    ensures { result.now ≡ share_why_text why }
+{
+    match why {
+        Why::TooFew => "TooFew",
+        Why::TooMany => "TooMany",
+        Why::NotReply => "NotReply",
+        Why::OtherRows => "OtherRows",
+        Why::TooGreat => "TooGreat",
+    }
+}
+
+fn wrong_line(alloc: Global, name: &str, line: u64, why: Why) -> Result<String, AllocError> {
+    let why = why_name(why);
+    format!(in alloc; "share {name}: reply {line}: {why}\n")
+}
+
+// Says which reply of a share is wrong.
+fn refuse<O: Sink>(
+    alloc: Global,
+    name: &str,
+    line: u64,
+    why: Why,
+    out: &mut O,
+) -> Result<Outcome, Stop>
+    ensures outcome { IfOk result (λ outcome. outcome ≡ Outcome.Refused why) }
+    ensures cause { HasCause (O.faults out.old) (O.faults out.new) result Stop.WriteFault }
+{
+    let Ok(text) = wrong_line(alloc, name, line, why) else {
+        return Err(Stop::NoMemory);
+    };
+    put_bytes(text.as_str().as_bytes(), out)?;
+    Ok(Outcome::Refused(why))
+}
+
+// The sums of the replies of all shares to what the script asks.
+fn sums_of<P: Place>(
+    alloc: Global,
+    schema: &Schema,
+    script: &str,
+    replies: &[String],
+    place: &mut P,
+) -> Result<List<Option<Summed>>, SharesFault>
+    ensures law { SumsOfFiles schema.now (P.files place.old) script.now (map string_bytes replies.now) result }
+    ensures share { (k line : ℕ) (why : Why) → result ≡ Err (SharesFault.Wrong k line why) → k < length replies.now }
+    ensures files { P.files place.new ≡ P.files place.old }
+{
+    let script = match read_text(alloc, script, place) {
+        Ok(script) => script,
+        Err(stop) => return Err(SharesFault::Stopped(stop)),
+    };
+    let Ok(asked) = asked_of(alloc, schema, script.as_slice()) else {
+        return Err(SharesFault::Stopped(Stop::NoMemory));
+    };
+    let Ok(first) = first_sums(alloc, schema, asked.as_slice()) else {
+        return Err(SharesFault::Stopped(Stop::NoMemory));
+    };
+    add_files(alloc, asked.as_slice(), first, replies, place)
+}
+
+// Says what is wrong with a share, if a share is.
+fn say_fault<O: Sink>(
+    alloc: Global,
+    replies: &[String],
+    fault: SharesFault,
+    out: &mut O,
+) -> Result<Outcome, Stop>
+    requires share { (k line : ℕ) (why : Why) → fault ≡ SharesFault.Wrong k line why → k < length replies.now }
+    ensures law { (z : Schema) (s : Share) (ps : List Parsed) → IsInnocentShares fault → IfOk result (OutcomeOver z ps s (O.held out.old) (O.held out.new)) }
+{
+    match fault {
+        SharesFault::Stopped(stop) => Err(stop),
+        SharesFault::Wrong(share, line, why) => {
+            refuse(alloc, replies[share].as_str(), line, why, out)
+        }
+    }
+}
+
+// Puts the lines of the sums, or says what is wrong with a share.
+fn put_outcome<O: Sink>(
+    alloc: Global,
+    replies: &[String],
+    sums: Result<List<Option<Summed>>, SharesFault>,
+    out: &mut O,
+) -> Result<Outcome, Stop>
+    requires share { (k line : ℕ) (why : Why) → sums ≡ Err (SharesFault.Wrong k line why) → k < length replies.now }
+    ensures law { (z : Schema) (s : Share) (ps : List Parsed) → AreSumsOver z s ps sums → IfOk result (OutcomeOver z ps s (O.held out.old) (O.held out.new)) }
+{
+    let sums = match sums {
+        Ok(sums) => sums,
+        Err(fault) => return say_fault(alloc, replies, fault, out),
+    };
+    put_sums(alloc, sums.as_slice(), out)?;
+    Ok(Outcome::Added)
+}
+
+/// Adds the replies to one script of shares, and puts the replies over all of them.
+///
+/// The plan is read first, then the script, and then the replies of each share, whole, one file after another; nothing
+/// is put before all were added. Where each file of replies is the final transcript of the script over a list of points,
+/// what is put is the final transcript over the lists joined, with a line of its own for what does not add up. The first
+/// line of a share that is wrong is named on `out`, and nothing else is put. A script or replies of more than 2^30 bytes
+/// are refused as a feed is.
+pub fn add_shares<P: Place, O: Sink>(
+    alloc: Global,
+    names: &ShareNames<'_>,
+    place: &mut P,
+    out: &mut O,
+) -> Result<Outcome, Stop>
+    ensures law { let n = names.now in AddsUpFiles (P.files place.old) n.plan.now n.script.now (map string_bytes n.replies.now) (O.held out.old) (O.held out.new) result }
+    ensures files { P.files place.new ≡ P.files place.old }
+{
+    let plan = load_plan(alloc, names.plan, place, out)?;
+    let sums = sums_of(alloc, &plan.schema, names.script, names.replies, place);
+    put_outcome(alloc, names.replies, sums, out)
+}

@@ -1,0 +1,106 @@
+//! The replies of shares, from files.
+ghost use Rattle.std.specs.Prelude.{◌≡◌, ℕ, ◌<◌, ◌≤◌, All, IfOk, Err, length, map, string_bytes};
+ghost use Rattle.cube_view.specs.declared.schema.Schema.{Schema};
+ghost use Rattle.outer_io.specs.Faults.{HasCause};
+ghost use Rattle.outer_io.specs.Lines.{input_limit};
+ghost use Rattle.outer_io.specs.Told.{Told};
+ghost use Rattle.reply_sums.specs.Sums.{AsksShallow};
+ghost use Rattle.run_files.specs.Outside.{file_of};
+ghost use Rattle.share_replies.specs.Sums.{AddsFile, AddsFiles, IsInnocentFile, IsInnocentShares, IsInnocentText};
+ghost use Rattle.share_replies.specs.declared.fault.Why.{Why};
+
+use crate::fault::{FileFault, SharesFault, TextFault};
+use crate::summed::Summed;
+use crate::text::add_text;
+use outer_io::{List, Place};
+use query_syntax::Parsed;
+use run_files::{Stop, read_file};
+use std::alloc::Global;
+
+/// The most bytes of a script, and of the replies of a share.
+const LONGEST_TEXT: usize = 1 << 30;
+
+/// The bytes of the named file. More than 2^30 bytes are refused.
+pub(crate) fn read_text<P: Place>(
+    alloc: Global,
+    name: &str,
+    place: &mut P,
+) -> Result<List<u8>, Stop>
+    ensures whole { IfOk result (λ bytes. Told (file_of (P.files place.old) name.now) (λ all. bytes ≡ all)) }
+    ensures short { IfOk result (λ bytes. length bytes ≤ input_limit) }
+    ensures files { P.files place.new ≡ P.files place.old }
+    ensures cause { HasCause (P.read_faults place.old) (P.read_faults place.new) result Stop.ReadFault }
+{
+    let bytes = read_file(alloc, name, LONGEST_TEXT, place)?;
+    if bytes.len() > LONGEST_TEXT {
+        return Err(Stop::FeedRefused);
+    }
+    Ok(bytes)
+}
+
+fn fault_of_text(fault: TextFault) -> FileFault
+    ensures { IsInnocentText fault → IsInnocentFile result }
+{
+    match fault {
+        TextFault::NoMemory => FileFault::Stopped(Stop::NoMemory),
+        TextFault::At(line, why) => FileFault::Wrong(line, why),
+    }
+}
+
+fn fault_of_share(fault: FileFault, share: usize) -> SharesFault
+    ensures innocent { IsInnocentFile fault → IsInnocentShares result }
+    ensures share { (k line : ℕ) (why : Why) → result ≡ SharesFault.Wrong k line why → k ≡ share }
+{
+    match fault {
+        FileFault::Stopped(stop) => SharesFault::Stopped(stop),
+        FileFault::Wrong(line, why) => SharesFault::Wrong(share, line, why),
+    }
+}
+
+/// The sums with the replies of a share, from the named file.
+fn add_file<P: Place>(
+    alloc: Global,
+    asked: &[Parsed],
+    sums: &[Option<Summed>],
+    name: &str,
+    place: &mut P,
+) -> Result<List<Option<Summed>>, FileFault>
+    requires size { length sums.now ≡ length asked.now }
+    requires shallow { All AsksShallow asked.now }
+    ensures law { (schema : Schema) → AddsFile schema asked.now sums.now (file_of (P.files place.old) name.now) result }
+    ensures size { IfOk result (λ next. length next ≡ length asked.now) }
+    ensures files { P.files place.new ≡ P.files place.old }
+{
+    let bytes = match read_text(alloc, name, place) {
+        Ok(bytes) => bytes,
+        Err(stop) => return Err(FileFault::Stopped(stop)),
+    };
+    match add_text(alloc, asked, sums, bytes.as_slice()) {
+        Ok(next) => Ok(next),
+        Err(fault) => Err(fault_of_text(fault)),
+    }
+}
+
+/// The sums with the replies of all shares, from the named files, one after another.
+pub(crate) fn add_files<P: Place>(
+    alloc: Global,
+    asked: &[Parsed],
+    first: List<Option<Summed>>,
+    names: &[String],
+    place: &mut P,
+) -> Result<List<Option<Summed>>, SharesFault>
+    requires size { length first ≡ length asked.now }
+    requires shallow { All AsksShallow asked.now }
+    ensures law { (schema : Schema) → AddsFiles schema asked.now first (P.files place.old) (map string_bytes names.now) result }
+    ensures share { (k line : ℕ) (why : Why) → result ≡ Err (SharesFault.Wrong k line why) → k < length names.now }
+    ensures files { P.files place.new ≡ P.files place.old }
+{
+    let mut sums = first;
+    for i in 0..names.len() {
+        match add_file(alloc, asked, sums.as_slice(), names[i].as_str(), place) {
+            Ok(next) => sums = next,
+            Err(fault) => return Err(fault_of_share(fault, i)),
+        }
+    }
+    Ok(sums)
+}

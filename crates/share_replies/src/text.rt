@@ -1,0 +1,56 @@
+//! The replies of one share, added.
+ghost use Rattle.std.specs.Prelude.{◌≡◌, ◌<◌, ◌^◌, All, IfOk, length};
+ghost use Rattle.cube_view.specs.declared.schema.Schema.{Schema};
+ghost use Rattle.reply_sums.specs.Sums.{AsksShallow};
+ghost use Rattle.share_replies.specs.Sums.{AddsShare, IsInnocentLine, IsInnocentText};
+
+use crate::fault::{LineFault, TextFault, Why};
+use crate::line::{Added, add_next};
+use crate::summed::Summed;
+use outer_io::List;
+use query_syntax::Parsed;
+use std::alloc::Global;
+
+/// The fault of the line after so many.
+fn fault_after(fault: LineFault, lines: usize) -> TextFault
+    requires { lines < 2 ^ 63 }
+    ensures { IsInnocentLine fault → IsInnocentText result }
+{
+    match fault {
+        LineFault::NoMemory => TextFault::NoMemory,
+        LineFault::Wrong(why) => TextFault::At(lines as u64 + 1, why),
+    }
+}
+
+/// The sums with the replies of a text, one line for each that was asked.
+///
+/// Where the sums are over some points, and the text is the final transcript over others, the answer is the sums over
+/// both, and no line is refused, unless a sum is too great.
+pub fn add_text(
+    alloc: Global,
+    asked: &[Parsed],
+    sums: &[Option<Summed>],
+    text: &[u8],
+) -> Result<List<Option<Summed>>, TextFault>
+    requires size { length sums.now ≡ length asked.now }
+    requires shallow { All AsksShallow asked.now }
+    ensures law { (schema : Schema) → AddsShare schema asked.now sums.now text.now result }
+    ensures size { IfOk result (λ next. length next ≡ length asked.now) }
+{
+    let mut next = List::new(alloc);
+    let mut rest = text;
+    for i in 0..asked.len() {
+        match add_next(alloc, &asked[i], &sums[i], rest) {
+            Ok(Added { sum, rest: more }) => {
+                next.add(sum)?;
+                rest = more;
+            }
+            Err(fault) => return Err(fault_after(fault, i)),
+        }
+    }
+    if rest.is_empty() {
+        Ok(next)
+    } else {
+        Err(fault_after(LineFault::Wrong(Why::TooMany), asked.len()))
+    }
+}
