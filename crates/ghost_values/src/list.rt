@@ -38,4 +38,15 @@ impl<T> GhostList<T> {
             marker: PhantomData,
         }
     }
+
+    /// The list with the items of a slice at its end.
+    pub fn with_all(self, items: &[T]) -> GhostList<T>
+        ensures { result.items ≡ self.items ++ items.now }
+    {
+        let mut all = self;
+        for item in items {
+            all = all.and(item);
+        }
+        all
+    }
 }
