@@ -17,7 +17,7 @@ def run(program, folder, words, more):
 
 
 def is_front(part, whole):
-    """Whether the part is a front of the whole text, or of one in which some lines are that for want of memory."""
+    """Whether the part is a front of the whole text, or of one in which some lines are that for out of memory."""
     got, wanted = part.split(b"\n"), whole.split(b"\n")
     if any(line not in (want, LACKING[:-1]) for line, want in zip(got[:-1], wanted)):
         return False

@@ -90,7 +90,7 @@ def journal_of(lines):
 
 
 def judge_order(entries, given, whole):
-    """The entries are an interleaving of a front of each feed's accepted points, of those that it gave unless memory was wanted."""
+    """The entries are an interleaving of a front of each feed's accepted points, of those that it gave unless memory ran out."""
     for f, name in enumerate(FEEDS, 1):
         mine = [e for e in entries if e[0] == f]
         assert [e[1] for e in mine] == list(range(len(mine)))
@@ -146,7 +146,7 @@ OUTPUTS = ["q.txt.out", "f.txt.out", "j.txt"]
 
 def judge_silent(status, folder):
     """A run without a report ended before its threads, and left its outputs empty, as far as they were created, and from the front.
-    Or memory was wanted after them, and the journal's file begins the text of fronts of the feeds' records. What was seen."""
+    Or memory ran out after them, and the journal's file begins the text of fronts of the feeds' records. What was seen."""
     sizes = [os.path.getsize(os.path.join(folder, name)) for name in OUTPUTS if os.path.exists(os.path.join(folder, name))]
     assert all(os.path.exists(os.path.join(folder, name)) for name in OUTPUTS[:len(sizes)])
     if not any(sizes):

@@ -129,4 +129,5 @@ def main():
           f"{len(fronts)} different numbers of points seen")
 
 
-main()
+if __name__ == "__main__":
+    main()
