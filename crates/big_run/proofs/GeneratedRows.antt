@@ -1,5 +1,5 @@
 -- Each row of the generated feed is a point of the plan that is built in.
-use Rattle.std.proofs.Common.{◌≡◌, ℕ, zero, suc, ◌+◌, ◌-◌, ◌/◌, ◌%◌, ◌^◌, ◌<◌, ◌≤◌, ◌&&◌, ◌==◌, Bool, true, false, not, nat_le, nat_lt, List, [], ◌∷◌, ◌++◌, length, Option, Some, None, option_map, map, refl, ap, sym, ◌∙◌, subst, arith, append_assoc, length-append}
+use Rattle.std.proofs.Common.{rules, ◌≡◌, ℕ, zero, suc, ◌+◌, ◌-◌, ◌/◌, ◌%◌, ◌^◌, ◌<◌, ◌≤◌, ◌&&◌, ◌==◌, Bool, true, false, not, nat_le, nat_lt, List, [], ◌∷◌, ◌++◌, length, Option, Some, None, option_map, map, refl, ap, sym, ◌∙◌, subst, arith, append_assoc, length-append}
 use Rattle.std.specs.Char.{is_ascii_digit}
 use Rattle.std.specs.Fmt.{decimal}
 use Rattle.std.specs.List.{list_all}
@@ -24,12 +24,19 @@ use Rattle.feed_reader.specs.declared.row.RowFault.TheVariants as fault
 use Rattle.feed_maker.proofs.Feeds.{few_digits}
 use Rattle.crew_feeder.specs.RowCounts.{count_accepted, count_blank, count_refused}
 use Rattle.cube_view.specs.Points.{Point}
-use Rattle.outer_io.proofs.Numerals.{own}
+use Rattle.std.proofs.lemmas.Str.Parse.{IsDigitsTest, IsNumeralModel, numerals_by_value}
 use Rattle.outer_io.specs.Decimals.{is_decimal}
 use Rattle.outer_io.specs.Lines.{Bytes, line_of, lines_of, pieces, without_return}
 use Rattle.std.proofs.lemmas.Fmt.{decimal_is_IsNumeral}
 use Rattle.std.proofs.lemmas.List.Folds.{list_all-append}
 use Rattle.big_run.specs.BuiltIn.{big_schema, letter_kind}
+
+tells_digits : IsDigitsTest (λ ds. list_all is_ascii_digit ds ≡ true)
+tells_digits = search rules
+
+-- std's laws of decimals, for digits as a test tells them
+own : IsNumeralModel (λ ds. list_all is_ascii_digit ds ≡ true) (digits_value 10)
+own = numerals_by_value _ tells_digits
 
 -- the bytes are digits
 abbrev AreDigits : List ℕ → Type 0

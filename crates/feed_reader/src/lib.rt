@@ -16,7 +16,6 @@
 #![tactic(auto)]
 
 mod column;
-mod decimal;
 mod feed;
 mod fields;
 mod header;

@@ -8,10 +8,9 @@ ghost use Rattle.feed_reader.specs.Headers.{place_in};
 ghost use Rattle.feed_reader.specs.Rows.{AnswersUnless, fault_if, number, unknown_value, values_of, is_weight_unread, weight_in, MeansParts, is_short, text_at, texts_at, row_of_record, IsValidRow};
 
 use crate::Column;
-use crate::decimal::decimal;
 use crate::fields::Fields;
 use cube_view::{Category, Point, Schema, Spot, is_same_text};
-use outer_io::List;
+use outer_io::{List, decimal_of};
 
 /// Why a line is no point. A category goes by its number, from 0.
 #[derive(Clone, Copy, PartialEq, Eq, Debug)]
@@ -40,7 +39,7 @@ pub enum Row {
 fn number(field: &[u8], column: Column) -> Result<u64, RowFault>
     ensures { AnswersUnless (fault_if (not (is_decimal field.now)) (RowFault.BadNumber column)) (number field.now) result }
 {
-    match decimal(field) {
+    match decimal_of(field) {
         Some(number) => Ok(number),
         None => Err(RowFault::BadNumber(column)),
     }

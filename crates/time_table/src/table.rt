@@ -92,7 +92,7 @@ impl TimeTable {
         self.take_many(bin, 1);
     }
 
-    /// How many records fell into bins less than `bin_end`, by one binary search.
+    /// How many records fell into bins less than `bin_end`, by a search of the heads and one of a block.
     pub fn before<L: Ledger>(&self, bin_end: u64, steps: &mut Steps<L>) -> u64
         ensures sum { result ≡ count_before self.now bin_end }
         ensures cost { steps.new ≤ steps.old + (1 + bits (len self.now)) }

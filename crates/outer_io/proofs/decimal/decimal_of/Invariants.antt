@@ -2,11 +2,11 @@ use Rattle.std.proofs.Common.{◌≡◌, ◌<◌, ◌^◌, true, take}
 use Rattle.std.specs.Char.{is_ascii_digit}
 use Rattle.std.specs.List.{list_all}
 use Rattle.std.specs.Str.Parse.{digits_value}
-use Rattle.feed_reader.proofs.decimal.decimal.Given as goal
+use Rattle.outer_io.proofs.decimal.decimal_of.Given as goal
 
 abbrev pub invariant-loop-byte : goal.invariant-loop-byte
 invariant-loop-byte l = record {
-  digits : list_all is_ascii_digit (take l.byte-index l.field) ≡ true;
-  value : l.number ≡ digits_value 10 (take l.byte-index l.field);
+  digits : list_all is_ascii_digit (take l.byte-index l.word) ≡ true;
+  value : l.number ≡ digits_value 10 (take l.byte-index l.word);
   small : l.number < 2 ^ 64;
 }
