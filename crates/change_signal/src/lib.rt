@@ -25,6 +25,7 @@ mod tests;
 use crossbeam_utils::Backoff;
 use std::sync::Wait;
 use std::sync::atomic::{AtomicU64, Ordering};
+use std::thread::yield_now;
 use std::time::Duration;
 
 /// No sleep is longer, in milliseconds.
@@ -41,14 +42,22 @@ pub struct Signal {
 #[derive(Drop)]
 pub struct Waiting {
     backoff: Backoff,
+    /// How often it yields yet, after the first tries, before it sleeps.
+    yields: u32,
     said: u64,
 }
 
 impl Waiting {
     /// A wait that has not begun.
     pub fn new() -> Waiting {
+        Waiting::yielding(0)
+    }
+
+    /// The same, which yields so many times more before it sleeps. It is for what is mostly over sooner than a sleeper wakes.
+    pub fn yielding(yields: u32) -> Waiting {
         Waiting {
             backoff: Backoff::new(),
+            yields,
             said: 0,
         }
     }
@@ -62,11 +71,17 @@ impl Signal {
         }
     }
 
-    /// Waits a moment, after a try that failed. The first eleven times it spins or yields. Then it takes turns: at one call it
-    /// says that it is about to sleep, and at the next, if there was no notice since, it sleeps.
+    /// Waits a moment, after a try that failed. The first eleven times it spins or yields, and then it yields as often as the
+    /// wait was told. Then it takes turns: at one call it says that it is about to sleep, and at the next, if there was no
+    /// notice since, it sleeps.
     pub fn pause<R: Wait>(&self, rt: &R, waiting: &mut Waiting) {
         if !waiting.backoff.is_completed() {
             waiting.backoff.snooze();
+            return;
+        }
+        if waiting.yields > 0 {
+            waiting.yields -= 1;
+            yield_now();
             return;
         }
         let said = self.word.fetch_or(1, Ordering::SeqCst) | 1;

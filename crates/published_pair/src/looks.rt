@@ -7,6 +7,10 @@ use std::alloc::Global;
 use std::sync::atomic::{AtomicU64, Ordering};
 use std::sync::{Arc, Wait};
 
+/// How often the publisher yields while looks are open, before it sleeps. A look takes some microseconds, and to wake a sleeper
+/// takes longer: with eight sessions that never pause, most publications find one open.
+const YIELDS_FOR_LOOKS: u32 = 200;
+
 /// The looks of a pair that are open, counted apart by whether so many publications as were made when they began are an even number.
 #[derive(Drop)]
 pub struct Looks {
@@ -59,7 +63,7 @@ impl Looks {
         let next = self.publications.load(Ordering::SeqCst).wrapping_add(1);
         // The looks that began one publication ago are counted with those that will begin after the next one.
         let open = self.open_at(next);
-        let mut waiting = Waiting::new();
+        let mut waiting = Waiting::yielding(YIELDS_FOR_LOOKS);
         for _ in rt.forever() {
             if open.load(Ordering::SeqCst) == 0 {
                 break;
