@@ -45,9 +45,9 @@ values_past (c ∷ categories) zero l = absurd (omega (arith, l))
 values_past (c ∷ categories) (suc k) l = values_past categories k (omega (arith, l))
 
 -- a set is a part of so many values by three tests
-pub part_is : (count : ℕ) (set : List Bool) (some full past : Bool) → length set ≡ 256 → some ≡ list_any (λ b. b) set → full ≡ is_full count set → past ≡ list_any (λ b. b) (drop count set)
-    → (some && not full && not past) ≡ is_choice count (Only set)
-part_is count set some full past size a b c = λ i. ((sym size i == 256) && a i) && not (b i) && not (c i)
+pub part_is : (count : ℕ) (set : List Bool) (some full none : Bool) → length set ≡ 256 → some ≡ list_any (λ b. b) set → full ≡ is_full count set → none ≡ not (list_any (λ b. b) (drop count set))
+    → (some && not full && none) ≡ is_choice count (Only set)
+part_is count set some full none size a b c = λ i. ((sym size i == 256) && a i) && not (b i) && c i
 
 -- a query is valid by the tests of its parts
 pub valid_is : (schema : Schema) (q : Query) (verb tile deep sets span fits : Bool) → length q.sets ≡ 4 → verb ≡ verb_in_range schema.depth (length schema.categories) q.verb → tile ≡ is_tile schema.depth q.region

@@ -11,6 +11,7 @@ pub mod PrintedVerbs
 pub mod Quoting
 pub mod ReadBack
 pub mod SchemaLimits
+pub mod SetBits
 pub mod Sets
 pub mod TableLaws
 pub mod TableRows

@@ -1,6 +1,7 @@
 pub mod Words
 pub mod Reading
 pub mod Tiles
+pub mod SetBits
 pub mod Items
 pub mod Verbs
 pub mod Filters

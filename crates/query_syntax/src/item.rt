@@ -2,7 +2,7 @@
 ghost use Rattle.std.specs.Prelude.{◌≡◌, ◌≢◌, ◌⊎◌, ℕ, List, ◌≤◌, ◌<◌, ◌&&◌, ◌==◌, ◌%◌, false, not, length, position, count_by, filter, slice_set, slice_index_or, option_map, IfOk, IfSome, IsTrue};
 ghost use Rattle.std.specs.List.{list_all};
 ghost use Rattle.std.specs.Str.{bytes_eq};
-ghost use Rattle.query_syntax.specs.Items.{is_quote, is_equals_sign, item_parts, has_even_quotes, are_well_quoted, is_well_quoted, bare, in_quotes, no_values, value_number, set_of, is_full, choice_of, values_at, has_item, IsSetOf, item_at};
+ghost use Rattle.query_syntax.specs.Items.{is_quote, is_equals_sign, item_parts, has_even_quotes, are_well_quoted, is_well_quoted, bare, in_quotes, no_values, value_number, set_of, choice_of, values_at, has_item, IsSetOf, item_at};
 ghost use Rattle.query_syntax.specs.Queries.{is_choice};
 ghost use Rattle.query_syntax.specs.Words.{cut_pieces, bar};
 
@@ -121,14 +121,6 @@ fn parts_of(item: &[u8]) -> Option<(&[u8], &[u8])>
     Some((&item[..at], &item[at + 1..]))
 }
 
-/// Whether the set has all of so many values.
-pub(crate) fn has_all(set: &ValueSet, count: usize) -> bool
-    requires { count ≤ 256 }
-    ensures { result ≡ is_full count set.now }
-{
-    set.first_members(count).iter().all(|member| *member)
-}
-
 /// The set as a choice among so many values.
 #[tactic(auto, using(crate::proofs::Sets::choice_fits))]
 fn choice_among(set: ValueSet, count: usize) -> Choice
@@ -137,7 +129,7 @@ fn choice_among(set: ValueSet, count: usize) -> Choice
     ensures value { result ≡ choice_of count set }
     ensures valid { IsTrue (is_choice count result) }
 {
-    if has_all(&set, count) {
+    if set.has_all_under(count) {
         Choice::All
     } else {
         Choice::Only(set)

@@ -1,13 +1,13 @@
 //! Which queries a schema takes, and which verbs ask for a table.
 ghost use Rattle.std.specs.Prelude.{◌≡◌, ◌≤◌, ◌<◌, length, true, IsTrue};
-ghost use Rattle.std.specs.List.{list_all, list_any};
-ghost use Rattle.query_syntax.specs.Items.{is_full, values_at};
+ghost use Rattle.std.specs.List.{list_all};
+ghost use Rattle.query_syntax.specs.Items.{values_at};
 ghost use Rattle.query_syntax.specs.Queries.{are_choices, filters_fit_verb, has_no_filters, is_all, is_all_bins, is_choice, is_span, is_valid_query, is_whole_space, rect_in_range, verb_in_range};
 ghost use Rattle.query_syntax.specs.Tables.{has_table, is_drill};
 ghost use Rattle.query_syntax.specs.Tiles.{is_tile};
 
 use crate::filters::{has_own_bins, has_own_tiles, may_have_filters};
-use crate::item::{has_all, values_of};
+use crate::item::values_of;
 use crate::parsing::is_map_too_deep;
 use crate::verb_words::{BINS, DEEPEST_MAP, MOST_BEST_ROWS, MOST_ROWS};
 use crate::{Choice, Query, Rect, Span, ValueSet, Verb};
@@ -80,25 +80,18 @@ fn value_count(schema: &Schema, k: usize) -> usize
     }
 }
 
-/// Whether one of the members is in the set.
-fn has_some(members: &[bool]) -> bool
-    ensures { result ≡ list_any (λ b. b) members.now }
-{
-    members.iter().any(|member| *member)
-}
-
 /// Whether the set has some of so many values, but not all, and no other.
 fn is_part(count: usize, set: &ValueSet) -> bool
     requires { count ≤ 256 }
     ensures { result ≡ is_choice count (Choice.Only set.now) }
 {
-    if !has_some(set.members_from(0)) {
+    if set.has_none_from(0) {
         return false;
     }
-    if has_all(set, count) {
+    if set.has_all_under(count) {
         return false;
     }
-    !has_some(set.members_from(count))
+    set.has_none_from(count)
 }
 
 /// Whether the choice is one among so many values.

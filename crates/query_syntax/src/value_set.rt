@@ -1,22 +1,30 @@
 //! Sets of values of one category.
-ghost use Rattle.std.specs.Prelude.{length, ◌≡◌, ◌≤◌, true, false, take, drop, slice_set, slice_index_or, replicate};
+ghost use Rattle.std.specs.Prelude.{length, ◌≡◌, ◌≤◌, not, true, false, drop, slice_set, slice_index_or, replicate};
+ghost use Rattle.std.specs.List.{list_any};
+ghost use Rattle.query_syntax.specs.Items.{is_full};
+ghost use Rattle.query_syntax.specs.SetBits.{members_of};
 
 use std::marker::Model;
 
-/// A set of numbers under 256, seen as a list that says of each whether it is in the set.
+/// A set of numbers under 256, a bit for each, seen as a list that says of each whether it is in the set.
 #[derive(Clone, Copy, PartialEq, Eq, Debug)]
 pub struct ValueSet {
-    members: [bool; 256],
+    bits: [u64; 4],
 }
 
 impl Model for ValueSet {
     ghost use Rattle.std.specs.Prelude.{List, Bool};
+    ghost use Rattle.query_syntax.specs.SetBits.{members_of, words_of, AreWords, words_back};
 
     ghost Value = { List Bool };
 
-    ghost view = { λ s. s.members };
+    ghost view = { λ s. members_of s.bits };
 
-    ghost inverse = { λ members. record { members = members } };
+    ghost invariant = { λ s. AreWords s.bits };
+
+    ghost inverse = { λ members. record { bits = words_of 4 members } };
+
+    ghost inverse_ok = { λ s h i. record { bits = words_back s.bits h i } };
 }
 
 impl ValueSet {
@@ -24,9 +32,7 @@ impl ValueSet {
     pub fn none() -> ValueSet
         ensures { result ≡ replicate 256 false }
     {
-        ValueSet {
-            members: [false; 256],
-        }
+        ValueSet { bits: [0; 4] }
     }
 
     /// The set that has this value alone.
@@ -42,30 +48,63 @@ impl ValueSet {
     pub fn has(&self, value: u8) -> bool
         ensures { result ≡ slice_index_or self.now value false }
     {
-        self.members[usize::from(value)]
+        is_member(&self.bits, value)
     }
 
-    /// Of each number under the count, whether it is in the set.
-    pub fn first_members(&self, count: usize) -> &[bool]
+    /// Whether each number under the count is in the set.
+    pub fn has_all_under(&self, count: usize) -> bool
         requires { count ≤ 256 }
-        ensures { result.now ≡ take count self.now }
+        ensures { result ≡ is_full count self.now }
     {
-        &self.members[..count]
+        are_members_under(&self.bits, count)
     }
 
-    /// Of each number from the count on, whether it is in the set.
-    pub fn members_from(&self, count: usize) -> &[bool]
+    /// Whether no number from the count on is in the set.
+    pub fn has_none_from(&self, count: usize) -> bool
         requires { count ≤ 256 }
-        ensures members { result.now ≡ drop count self.now }
+        ensures none { result ≡ not (list_any (λ b. b) (drop count self.now)) }
         ensures size { length self.now ≡ 256 }
     {
-        &self.members[count..]
+        is_no_member_from(&self.bits, count)
     }
 
     /// Puts the value into the set.
     pub fn insert(&mut self, value: u8)
         ensures { self.new ≡ slice_set self.old value true }
     {
-        self.members[usize::from(value)] = true;
+        self.bits[usize::from(value / 64)] |= 1 << (value % 64);
     }
+}
+
+/// Whether the bit of the value is 1.
+fn is_member(bits: &[u64; 4], value: u8) -> bool
+    ensures { result ≡ slice_index_or (members_of bits.now) value false }
+{
+    bits[usize::from(value / 64)] >> (value % 64) & 1 == 1
+}
+
+/// Whether the bit of each number under the count is 1.
+fn are_members_under(bits: &[u64; 4], count: usize) -> bool
+    requires { count ≤ 256 }
+    ensures { result ≡ is_full count (members_of bits.now) }
+{
+    for value in 0..count {
+        if !is_member(bits, value as u8) {
+            return false;
+        }
+    }
+    true
+}
+
+/// Whether the bit of each number from the count on is 0.
+fn is_no_member_from(bits: &[u64; 4], count: usize) -> bool
+    requires { count ≤ 256 }
+    ensures { result ≡ not (list_any (λ b. b) (drop count (members_of bits.now))) }
+{
+    for value in count..256 {
+        if is_member(bits, value as u8) {
+            return false;
+        }
+    }
+    true
 }
