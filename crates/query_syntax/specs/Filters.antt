@@ -64,14 +64,26 @@ words_read schema verb wanted filters n (word ∷ later) = word_read schema verb
 unfoldable pub filters_at : Schema → Verb → ℕ → List (List ℕ) → Result Filters WordFault
 filters_at schema verb n line = words_read schema verb Name no_filters n line
 
--- what a line says, the first of whose words is word n, where that is wanted
-abbrev pub line_read : Wanted → Schema → Verb → Filters → ℕ → List ℕ → Result Filters WordFault
-line_read wanted schema verb filters n line = words_read schema verb wanted filters n (words line)
+-- what a line says to a verb, the first of whose words is word n, where that is wanted
+abbrev pub line_read : Wanted → Schema → Filters → ℕ → List ℕ → Verb → Result Filters WordFault
+line_read wanted schema filters n line verb = words_read schema verb wanted filters n (words line)
+
+-- what a line says to a verb where a filter's name is wanted
+abbrev pub names_read : Schema → Filters → ℕ → List ℕ → Verb → Result Filters WordFault
+names_read = line_read Name
+
+-- what a filter's name, which is word n, and the line after it say to a verb
+abbrev pub filter_at : Schema → Filters → ℕ → List ℕ → List ℕ → Verb → Result Filters WordFault
+filter_at schema filters n word line verb = words_read schema verb Name filters n (word ∷ words line)
 
 -- What is read in all is a fault that was returned, or what is read after the part that was returned
 abbrev pub ReadsOn : {X : Type 0} → Result Filters WordFault → Result X WordFault → (X → Result Filters WordFault) → Type 0
 ReadsOn whole (Ok x) after = whole ≡ after x
 ReadsOn whole (Err e) after = whole ≡ Err e
+
+-- The same for each verb
+abbrev pub AlwaysReadsOn : {X : Type 0} → (Verb → Result Filters WordFault) → Result X WordFault → (X → Verb → Result Filters WordFault) → Type 0
+AlwaysReadsOn whole result after = (verb : Verb) → ReadsOn (whole verb) result (λ x. after x verb)
 
 -- 1 where it holds
 abbrev pub one_if : Bool → ℕ

@@ -1,8 +1,9 @@
 //! Filters of a query.
-ghost use Rattle.std.specs.Prelude.{◌≡◌, ℕ, ◌+◌, ◌<◌, ◌≤◌, ◌^◌, ◌∷◌, None, true, false, length, IfOk};
-ghost use Rattle.query_syntax.specs.Filters.{no_filters, line_read, words_read, filters_at, ReadsOn, AddsFilter};
+ghost use Rattle.std.specs.Prelude.{◌≡◌, ℕ, ◌+◌, ◌<◌, ◌≤◌, ◌^◌, ◌∷◌, None, true, false, length, IfOk, OnOk};
+ghost use Rattle.query_syntax.specs.Filters.{no_filters, line_read, names_read, filter_at, filters_at, ReadsOn, AlwaysReadsOn, AddsFilter};
 ghost use Rattle.query_syntax.specs.Filters.Wanted.{Name, Region, Item, From};
 ghost use Rattle.query_syntax.specs.Meaning.{FiltersFit, KeepsFit};
+ghost use Rattle.query_syntax.specs.Reading.{GivesRead};
 ghost use Rattle.query_syntax.specs.Verbs.{takes_filters, is_series, is_window};
 ghost use Rattle.query_syntax.specs.Words.{words};
 ghost use Rattle.query_syntax.specs.declared.query.Verb.{Verb};
@@ -24,7 +25,7 @@ pub struct Filters {
 }
 
 /// No filter yet.
-fn no_filters_yet() -> Filters
+pub fn no_filters_yet() -> Filters
     ensures { result ≡ no_filters }
 {
     Filters {
@@ -58,61 +59,59 @@ pub(crate) fn has_own_tiles(verb: Verb) -> bool
 /// Reads the tile after `in`, which is word `number`.
 fn region_filter<'a>(
     schema: &Schema,
-    filters: &Filters,
+    filters: &mut Filters,
     number: u32,
     line: &'a [u8],
-) -> Result<(Filters, u32, &'a [u8]), WordFault>
+) -> Result<(u32, &'a [u8]), WordFault>
     requires small { number + 1 < 2 ^ 32 }
-    requires fresh { filters.now.region ≡ None }
-    ensures reads { (verb : Verb) → ReadsOn (line_read Region schema.now verb filters.now number line.now) result (λ x. line_read Name schema.now verb x.0 x.1 x.2.now) }
-    ensures next { IfOk result (λ x. x.1 ≡ number + 1) }
-    ensures adds { IfOk result (λ x. AddsFilter filters.now x.0) }
-    ensures fits { IfOk result (λ x. (verb : Verb) → takes_filters verb ≡ true → is_window verb ≡ false → KeepsFit schema.now filters.now x.0 verb) }
+    requires fresh { filters.old.region ≡ None }
+    ensures reads { AlwaysReadsOn (line_read Region schema.now filters.old number line.now) result (λ x. line_read Name schema.now filters.new x.0 x.1.now) }
+    ensures next { IfOk result (λ x. x.0 ≡ number + 1) }
+    ensures adds { OnOk result (AddsFilter filters.old filters.new) }
+    ensures fits { OnOk result ((verb : Verb) → takes_filters verb ≡ true → is_window verb ≡ false → KeepsFit schema.now filters.old filters.new verb) }
 {
     let Some((word, rest)) = next_word(line) else {
         return Err(WordFault::at(QueryFault::MissingWord, number));
     };
     let tile = tile_of(schema.depth, number, word)?;
-    let mut read = *filters;
-    read.region = Some(tile);
-    Ok((read, number + 1, rest))
+    filters.region = Some(tile);
+    Ok((number + 1, rest))
 }
 
 /// Reads the item after `with`, which is word `number`.
 fn category_filter<'a>(
     schema: &Schema,
-    filters: &Filters,
+    filters: &mut Filters,
     number: u32,
     line: &'a [u8],
-) -> Result<(Filters, u32, &'a [u8]), WordFault>
+) -> Result<(u32, &'a [u8]), WordFault>
     requires { number + 1 < 2 ^ 32 }
-    ensures reads { (verb : Verb) → ReadsOn (line_read Item schema.now verb filters.now number line.now) result (λ x. line_read Name schema.now verb x.0 x.1 x.2.now) }
-    ensures next { IfOk result (λ x. x.1 ≡ number + 1) }
-    ensures adds { IfOk result (λ x. AddsFilter filters.now x.0) }
-    ensures fits { IfOk result (λ x. (verb : Verb) → takes_filters verb ≡ true → KeepsFit schema.now filters.now x.0 verb) }
+    ensures reads { AlwaysReadsOn (line_read Item schema.now filters.old number line.now) result (λ x. line_read Name schema.now filters.new x.0 x.1.now) }
+    ensures next { IfOk result (λ x. x.0 ≡ number + 1) }
+    ensures adds { OnOk result (AddsFilter filters.old filters.new) }
+    ensures fits { OnOk result ((verb : Verb) → takes_filters verb ≡ true → KeepsFit schema.now filters.old filters.new verb) }
 {
     let Some((word, rest)) = next_word(line) else {
         return Err(WordFault::at(QueryFault::MissingWord, number));
     };
     let (k, choice) = item_of(schema, &filters.sets, number, word)?;
-    let mut read = *filters;
-    read.sets[k] = Some(choice);
-    Ok((read, number + 1, rest))
+    filters.sets[k] = Some(choice);
+    Ok((number + 1, rest))
 }
 
 /// Reads the two numbers after `time`, of which the first is word `number`.
 fn time_filter<'a>(
     schema: &Schema,
-    filters: &Filters,
+    filters: &mut Filters,
     number: u32,
     line: &'a [u8],
-) -> Result<(Filters, u32, &'a [u8]), WordFault>
+) -> Result<(u32, &'a [u8]), WordFault>
     requires small { number + 2 < 2 ^ 32 }
-    requires fresh { filters.now.time ≡ None }
-    ensures reads { (verb : Verb) → ReadsOn (line_read From schema.now verb filters.now number line.now) result (λ x. line_read Name schema.now verb x.0 x.1 x.2.now) }
-    ensures next { IfOk result (λ x. x.1 ≡ number + 2) }
-    ensures adds { IfOk result (λ x. AddsFilter filters.now x.0) }
-    ensures fits { IfOk result (λ x. (verb : Verb) → takes_filters verb ≡ true → is_series verb ≡ false → KeepsFit schema.now filters.now x.0 verb) }
+    requires fresh { filters.old.time ≡ None }
+    ensures reads { AlwaysReadsOn (line_read From schema.now filters.old number line.now) result (λ x. line_read Name schema.now filters.new x.0 x.1.now) }
+    ensures next { IfOk result (λ x. x.0 ≡ number + 2) }
+    ensures adds { OnOk result (AddsFilter filters.old filters.new) }
+    ensures fits { OnOk result ((verb : Verb) → takes_filters verb ≡ true → is_series verb ≡ false → KeepsFit schema.now filters.old filters.new verb) }
 {
     let Some((word, rest)) = next_word(line) else {
         return Err(WordFault::at(QueryFault::MissingWord, number));
@@ -125,26 +124,25 @@ fn time_filter<'a>(
     if to < from {
         return Err(WordFault::at(QueryFault::OutOfRange, number + 1));
     }
-    let mut read = *filters;
-    read.time = Some(Span { from, to });
-    Ok((read, number + 2, rest))
+    filters.time = Some(Span { from, to });
+    Ok((number + 2, rest))
 }
 
 /// Reads a filter whose name is the word of that number, in the line that comes after it.
 fn filter_of<'a>(
     schema: &Schema,
     verb: Verb,
-    filters: &Filters,
+    filters: &mut Filters,
     number: u32,
     word: &[u8],
     line: &'a [u8],
-) -> Result<(Filters, u32, &'a [u8]), WordFault>
+) -> Result<(u32, &'a [u8]), WordFault>
     requires small { number + 3 < 2 ^ 32 }
-    requires fits { FiltersFit schema.now verb filters.now }
-    ensures reads { ReadsOn (words_read schema.now verb Name filters.now number (word.now ∷ words line.now)) result (λ x. line_read Name schema.now verb x.0 x.1 x.2.now) }
-    ensures next { IfOk result (λ x. x.1 ≤ number + 3) }
-    ensures adds { IfOk result (λ x. AddsFilter filters.now x.0) }
-    ensures fits { IfOk result (λ x. FiltersFit schema.now verb x.0) }
+    requires fits { FiltersFit schema.now verb filters.old }
+    ensures reads { ReadsOn (filter_at schema.now filters.old number word.now line.now verb) result (λ x. names_read schema.now filters.new x.0 x.1.now verb) }
+    ensures next { IfOk result (λ x. x.0 ≤ number + 3) }
+    ensures adds { OnOk result (AddsFilter filters.old filters.new) }
+    ensures fits { OnOk result (FiltersFit schema.now verb filters.new) }
 {
     if !may_have_filters(verb) {
         Err(WordFault::at(QueryFault::UnknownFilter, number))
@@ -171,30 +169,26 @@ fn filter_of<'a>(
     }
 }
 
-/// Reads all filters of a line, the first of which has the word `first` as its name.
+/// Reads all filters of a line, the first of which has the word `first` as its name, where there was none before.
 #[tactic(auto, unfolding(crate::specs::Filters::filters_at))]
-pub fn filters_of(
+pub fn read_filters(
     schema: &Schema,
     verb: Verb,
     first: u32,
     line: &[u8],
-) -> Result<Filters, WordFault>
-    requires { first ≤ 6 }
-    ensures read { result ≡ filters_at schema.now verb first (words line.now) }
-    ensures fits { IfOk result (FiltersFit schema.now verb) }
+    filters: &mut Filters,
+) -> Result<(), WordFault>
+    requires first { first ≤ 6 }
+    requires none { filters.old ≡ no_filters }
+    ensures read { GivesRead (λ _. filters.new) result (filters_at schema.now verb first (words line.now)) }
+    ensures fits { OnOk result (FiltersFit schema.now verb filters.new) }
 {
-    let mut filters = no_filters_yet();
     let mut number = first;
     let mut rest = line;
     while let Some((word, after)) = next_word(rest) {
-        match filter_of(schema, verb, &filters, number, word, after) {
-            Ok((read, next, left)) => {
-                filters = read;
-                number = next;
-                rest = left;
-            }
-            Err(fault) => return Err(fault),
-        }
+        let (next, left) = filter_of(schema, verb, filters, number, word, after)?;
+        number = next;
+        rest = left;
     }
-    Ok(filters)
+    Ok(())
 }

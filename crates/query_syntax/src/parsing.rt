@@ -1,15 +1,16 @@
 //! Lines read as queries.
-ghost use Rattle.std.specs.Prelude.{◌≡◌, ◌+◌, true, length, unwrap_or, IfOk, IsOk, IsTrue};
+ghost use Rattle.std.specs.Prelude.{◌≡◌, ◌+◌, true, length, unwrap_or, IfOk, IsOk, IsTrue, OnOk};
 ghost use Rattle.std.specs.Str.{is_utf8};
 ghost use Rattle.query_syntax.specs.Meaning.{meaning, query_of, query_with, query_if_fits, query_after_verb, is_comment, asks_valid, FiltersFit};
-ghost use Rattle.query_syntax.specs.Queries.{is_too_deep, is_valid_query, verb_in_range};
-ghost use Rattle.query_syntax.specs.Filters.{filters_at};
+ghost use Rattle.query_syntax.specs.Queries.{is_too_deep, is_valid_query, verb_in_range, whole_space};
+ghost use Rattle.query_syntax.specs.Filters.{no_filters};
+ghost use Rattle.query_syntax.specs.Reading.{GivesRead};
 ghost use Rattle.query_syntax.specs.Verbs.{verb_words};
 ghost use Rattle.query_syntax.specs.Words.{words};
 ghost use Rattle.query_syntax.specs.declared.query.Choice.TheVariants.{All};
 
 use crate::fault::{QueryFault, WordFault};
-use crate::filters::{Filters, filters_of};
+use crate::filters::{Filters, no_filters_yet, read_filters};
 use crate::verb_words::{BINS, verb_of};
 use crate::words::next_word;
 use crate::{Choice, Parsed, Query, Span, Verb};
@@ -43,68 +44,81 @@ pub(crate) fn is_map_too_deep(depth: u8, z: u8, verb: Verb) -> bool
 }
 
 /// The choice of an item, or `All` where there was none.
-fn choice_or_all(choice: Option<Choice>) -> Choice
-    ensures { result ≡ unwrap_or choice All }
+fn choice_or_all(choice: &Option<Choice>) -> Choice
+    ensures { result ≡ unwrap_or choice.now All }
 {
-    choice.unwrap_or(Choice::All)
+    match choice {
+        Some(choice) => *choice,
+        None => Choice::All,
+    }
+}
+
+/// The region of filters.
+fn region_of(filters: &Filters) -> Tile
+    ensures { result ≡ unwrap_or filters.now.region whole_space }
+{
+    filters.region.unwrap_or(Tile { z: 0, x: 0, y: 0 })
 }
 
 /// The query of a verb and filters.
 fn query_from(verb: Verb, filters: &Filters) -> Query
     ensures { result ≡ query_with verb filters.now }
 {
-    let [a, b, c, d] = filters.sets;
+    let sets = &filters.sets;
     Query {
         verb,
-        region: filters.region.unwrap_or(Tile { z: 0, x: 0, y: 0 }),
+        region: region_of(filters),
         sets: [
-            choice_or_all(a),
-            choice_or_all(b),
-            choice_or_all(c),
-            choice_or_all(d),
+            choice_or_all(&sets[0]),
+            choice_or_all(&sets[1]),
+            choice_or_all(&sets[2]),
+            choice_or_all(&sets[3]),
         ],
         time: filters.time.unwrap_or(Span { from: 0, to: BINS }),
     }
 }
 
-/// The query of a verb and filters, if its tiles are not too deep.
-fn fitting_query(schema: &Schema, verb: Verb, filters: &Filters) -> Result<Query, WordFault>
+/// Tests that the tiles that a verb and filters ask for are not too deep.
+fn test_depth(schema: &Schema, verb: Verb, filters: &Filters) -> Result<(), WordFault>
     requires range { IsTrue (verb_in_range schema.now.depth (length schema.now.categories) verb) }
     requires fits { FiltersFit schema.now verb filters.now }
-    ensures read { result ≡ query_if_fits schema.now (query_with verb filters.now) }
-    ensures valid { IfOk result (λ q. IsTrue (is_valid_query schema.now q)) }
+    ensures read { GivesRead (λ _. query_with verb filters.now) result (query_if_fits schema.now (query_with verb filters.now)) }
+    ensures valid { OnOk result (IsTrue (is_valid_query schema.now (query_with verb filters.now))) }
 {
-    let query = query_from(verb, filters);
-    if is_map_too_deep(schema.depth, query.region.z, verb) {
+    if is_map_too_deep(schema.depth, region_of(filters).z, verb) {
         Err(WordFault::at(QueryFault::TooDeep, 2))
     } else {
-        Ok(query)
+        Ok(())
     }
 }
 
-/// What the line asks for after the words of the verb.
+/// Reads what the line asks for after the words of the verb, where there was no filter before.
 #[tactic(auto, unfolding(crate::specs::Meaning::query_after_verb))]
-fn query_after(schema: &Schema, verb: Verb, line: &[u8]) -> Result<Query, WordFault>
-    requires { IsTrue (verb_in_range schema.now.depth (length schema.now.categories) verb) }
-    ensures read { result ≡ query_after_verb schema.now verb (words line.now) }
-    ensures valid { IfOk result (λ q. IsTrue (is_valid_query schema.now q)) }
+fn read_after(
+    schema: &Schema,
+    verb: Verb,
+    line: &[u8],
+    filters: &mut Filters,
+) -> Result<(), WordFault>
+    requires range { IsTrue (verb_in_range schema.now.depth (length schema.now.categories) verb) }
+    requires none { filters.old ≡ no_filters }
+    ensures read { GivesRead (λ _. query_with verb filters.new) result (query_after_verb schema.now verb (words line.now)) }
+    ensures valid { OnOk result (IsTrue (is_valid_query schema.now (query_with verb filters.new))) }
 {
-    match filters_of(schema, verb, words_of_verb(verb) + 1, line) {
-        Ok(filters) => fitting_query(schema, verb, &filters),
-        Err(fault) => Err(fault),
-    }
+    read_filters(schema, verb, words_of_verb(verb) + 1, line, filters)?;
+    test_depth(schema, verb, filters)
 }
 
-/// What the words of the line ask for.
+/// Reads what the words of the line ask for: the verb, and the filters, where there was none before.
 #[tactic(auto, unfolding(crate::specs::Meaning::query_of))]
-fn query_in(schema: &Schema, line: &[u8]) -> Result<Query, WordFault>
-    ensures read { result ≡ query_of schema.now (words line.now) }
-    ensures valid { IfOk result (λ q. IsTrue (is_valid_query schema.now q)) }
+fn read_query(schema: &Schema, line: &[u8], filters: &mut Filters) -> Result<Verb, WordFault>
+    requires { filters.old ≡ no_filters }
+    ensures read { GivesRead (λ verb. query_with verb filters.new) result (query_of schema.now (words line.now)) }
+    ensures valid { IfOk result (λ verb. IsTrue (is_valid_query schema.now (query_with verb filters.new))) }
 {
-    match verb_of(schema, line) {
-        Ok((verb, rest)) => query_after(schema, verb, rest),
-        Err(fault) => Err(fault),
-    }
+    let (verb, rest) = verb_of(schema, line)?;
+    read_after(schema, verb, rest, filters)?;
+    Ok(verb)
 }
 
 /// Whether the line begins with `#`.
@@ -139,8 +153,9 @@ fn meaning_of(schema: &Schema, line: &[u8]) -> Parsed
     if next_word(line).is_none() {
         return Parsed::Skip;
     }
-    match query_in(schema, line) {
-        Ok(query) => Parsed::Ask(query),
+    let mut filters = no_filters_yet();
+    match read_query(schema, line, &mut filters) {
+        Ok(verb) => Parsed::Ask(query_from(verb, &filters)),
         Err(e) => Parsed::Fault(e.fault, e.word),
     }
 }

@@ -23,12 +23,12 @@ returns-else-is_some-2-clause-reads c =
 
 pub returns-else-is_some-clause-fits : goal.returns-else-is_some-clause-fits
 returns-else-is_some-clause-fits c =
-    IfOk-weaker c.region_filter.result _ _ (λ x h. h c.args.verb (sym c.may_have_filters.ensures ∙ c.if-not-may_have_filters.false) (sym c.has_own_tiles.ensures ∙ c.if-has_own_tiles.false) c.requires.fits) c.region_filter.ensures.fits
+    IfOk-weaker c.region_filter.result _ _ (λ _ h. h c.args.verb (sym c.may_have_filters.ensures ∙ c.if-not-may_have_filters.false) (sym c.has_own_tiles.ensures ∙ c.if-has_own_tiles.false) c.requires.fits) c.region_filter.ensures.fits
 
 pub returns-then-is_text-2-clause-fits : goal.returns-then-is_text-2-clause-fits
 returns-then-is_text-2-clause-fits c =
-    IfOk-weaker c.category_filter.result _ _ (λ x h. h c.args.verb (sym c.may_have_filters.ensures ∙ c.if-not-may_have_filters.false) c.requires.fits) c.category_filter.ensures.fits
+    IfOk-weaker c.category_filter.result _ _ (λ _ h. h c.args.verb (sym c.may_have_filters.ensures ∙ c.if-not-may_have_filters.false) c.requires.fits) c.category_filter.ensures.fits
 
 pub returns-else-is_some-2-clause-fits : goal.returns-else-is_some-2-clause-fits
 returns-else-is_some-2-clause-fits c =
-    IfOk-weaker c.time_filter.result _ _ (λ x h. h c.args.verb (sym c.may_have_filters.ensures ∙ c.if-not-may_have_filters.false) (sym c.has_own_bins.ensures ∙ c.if-has_own_bins.false) c.requires.fits) c.time_filter.ensures.fits
+    IfOk-weaker c.time_filter.result _ _ (λ _ h. h c.args.verb (sym c.may_have_filters.ensures ∙ c.if-not-may_have_filters.false) (sym c.has_own_bins.ensures ∙ c.if-has_own_bins.false) c.requires.fits) c.time_filter.ensures.fits

@@ -1,4 +1,4 @@
-use Rattle.std.proofs.Common.{Bool, true, false, List, sym, ◌∙◌, ap}
+use Rattle.std.proofs.Common.{true, false, sym, ◌∙◌}
 use Rattle.std.specs.List.{list_any}
 use Rattle.std.proofs.lemmas.Bool.{not-false}
 use Rattle.query_syntax.proofs.ChoicesAt.{part_is}

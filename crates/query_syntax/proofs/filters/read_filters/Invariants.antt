@@ -3,7 +3,7 @@ use Rattle.query_syntax.specs.Filters.{words_read, no_filters, filters_used}
 use Rattle.query_syntax.specs.Filters.Wanted.{Name}
 use Rattle.query_syntax.specs.Meaning.{FiltersFit}
 use Rattle.query_syntax.specs.Words.{words}
-use Rattle.query_syntax.proofs.filters.filters_of.Given as goal
+use Rattle.query_syntax.proofs.filters.read_filters.Given as goal
 
 abbrev pub invariant-loop-word : goal.invariant-loop-word
 invariant-loop-word l =
