@@ -53,6 +53,24 @@ tiles_more inside at n =
     ∙ (flat_map-append inside (map at (range_with_len 0 n)) (at n ∷ [])
     ∙ ap (λ last. flat_map inside (map at (range_with_len 0 n)) ++ last) (append-nil (inside (at n))))
 
+-- the tiles of one quadrant are a part of those of all
+pub tiles_part : (inside : Tile → List Tile) (at : ℕ → Tile) (n k : ℕ) → (vs : List Tile) × (flat_map inside (map at (range_with_len 0 (n + 1 + k))) ≡ flat_map inside (map at (range_with_len 0 n)) ++ (inside (at n) ++ vs))
+tiles_part inside at n zero =
+    let e : n + 1 + 0 ≡ n + 1 = omega arith in
+    ([], ap (λ m. flat_map inside (map at (range_with_len 0 m))) e ∙ (tiles_more inside at n ∙ ap (λ last. flat_map inside (map at (range_with_len 0 n)) ++ last) (sym (append-nil (inside (at n))))))
+tiles_part inside at n (suc k) =
+    let rest = tiles_part inside at n k in
+    let e : n + 1 + suc k ≡ n + 1 + k + 1 = omega arith in
+    let last = inside (at (n + 1 + k)) in
+    let so_far = flat_map inside (map at (range_with_len 0 n)) in (
+      rest.0 ++ last,
+      ap (λ m. flat_map inside (map at (range_with_len 0 m))) e
+          ∙ (tiles_more inside at (n + 1 + k)
+          ∙ (ap (λ f. f ++ last) rest.1
+          ∙ (append_assoc so_far (inside (at n) ++ rest.0) last
+          ∙ ap (λ f. so_far ++ f) (append_assoc (inside (at n)) rest.0 last)))),
+    )
+
 -- What has come of the rows along the tiles so far
 pub record HasAdded (ts : List Tile) (b r o b' r' o' : List RowOut) : Type 0 where
   pub sums : b' ≡ b ++ areas_of_both ts r o

@@ -4,3 +4,5 @@ mod PathOrder
 mod MapSums
 pub mod TableSums
 pub mod ReplySums
+pub mod Great
+pub mod ValidSums

@@ -1,5 +1,5 @@
 -- The sum of two replies to what was asked.
-use Rattle.std.specs.Prelude.{◌≡◌, ◌+◌, ◌^◌, ◌<◌, ◌≤◌, List, Option, Some, None, option_map, ⊤}
+use Rattle.std.specs.Prelude.{◌≡◌, true, ◌+◌, ◌^◌, ◌<◌, ◌≤◌, List, Option, Some, None, option_map, ⊤}
 use Rattle.query_syntax.specs.TileOrder.{tiles_below}
 use Rattle.query_syntax.specs.declared.query.Parsed.{Parsed}
 use Rattle.query_syntax.specs.declared.query.Parsed.TheVariants.{Skip, Ask, Fault}
@@ -10,6 +10,7 @@ use Rattle.query_syntax.specs.declared.table.RowOut.{RowOut}
 use Rattle.query_syntax.specs.declared.table.Table.{Table}
 use Rattle.reply_json.specs.declared.reply.Reply.{Reply}
 use Rattle.reply_sums.specs.Areas.{sum_areas}
+use Rattle.reply_sums.specs.Numbers.{is_reply_great}
 use Rattle.reply_sums.specs.Rows.{sum_rows}
 
 -- the sum of two lists of rows that a verb asks for: those of a map by their tiles, others row by row
@@ -44,6 +45,10 @@ IsSum (Fault fault word) reply other sum = (reply ≡ Reply.Fault fault word) ×
 -- the two replies have no sum
 abbrev pub HaveNoSum : Parsed → Reply → Reply → Type 0
 HaveNoSum p reply other = (sum : Reply) → ¬ IsSum p reply other sum
+
+-- they have one, in which a number is too great
+abbrev pub HaveGreatSum : Parsed → Reply → Reply → Type 0
+HaveGreatSum p reply other = (sum : Reply) × IsSum p reply other sum × (is_reply_great sum ≡ true)
 
 -- a map's tiles are of level 20 at most, and its region is one of its level
 abbrev pub IsMapShallow : Query → Verb → Type 0

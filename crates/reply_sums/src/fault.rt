@@ -1,10 +1,10 @@
 //! Why two replies have no sum.
-ghost use Rattle.std.specs.Prelude.{◌≡◌};
+ghost use Rattle.std.specs.Prelude.{◌≡◌, if◌then◌else◌};
 
 use outer_io::NoMemory;
 
-/// Why two replies have no sum: they are not replies to what was asked that have rows of the same keys, a total or a
-/// number of points is 2^64 or more, or memory ran out.
+/// Why two replies have no sum: they are not replies to what was asked that have rows of the same keys; a total or a
+/// number of points of their sum is 2^64 or more; or memory ran out.
 #[derive(Clone, Copy, PartialEq, Eq, Debug)]
 pub enum SumFault {
     OtherRows,
@@ -19,5 +19,16 @@ impl From<NoMemory> for SumFault {
 
     fn from(_fault: NoMemory) -> SumFault {
         SumFault::NoMemory
+    }
+}
+
+/// Why two replies have no sum in which a total is too great, by whether they have one at all.
+pub(crate) fn fault_of_great(have_sum: bool) -> SumFault
+    ensures { result ≡ (if have_sum then SumFault.TooMuch else SumFault.OtherRows) }
+{
+    if have_sum {
+        SumFault::TooMuch
+    } else {
+        SumFault::OtherRows
     }
 }

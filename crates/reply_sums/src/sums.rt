@@ -1,9 +1,11 @@
 //! The sum of two replies to what was asked.
-ghost use Rattle.std.specs.Prelude.{◌≡◌, ◌↔◌, true, Err, Some, None, IfOk, IsTrue};
+ghost use Rattle.std.specs.Prelude.{◌≡◌, ◌↔◌, true, false, Err, Some, None, IfOk, IsTrue};
+ghost use Rattle.reply_json.specs.Validity.{is_valid_reply};
 ghost use Rattle.reply_json.specs.declared.reply.Reply.{Reply};
 ghost use Rattle.reply_sums.specs.AddingUp.{AddsUp};
 ghost use Rattle.reply_sums.specs.Additive.{adds_up};
-ghost use Rattle.reply_sums.specs.Sums.{AsksShallow, HaveNoSum, IsMapShallow, IsSum, sum_of_query, sum_of_rows, sum_tables};
+ghost use Rattle.reply_sums.specs.Numbers.{AreGreat, IsGreat, are_rows_great, is_reply_great};
+ghost use Rattle.reply_sums.specs.Sums.{AsksShallow, HaveGreatSum, HaveNoSum, IsMapShallow, IsSum, sum_of_query, sum_of_rows, sum_tables};
 
 use crate::SumFault;
 use crate::areas::sum_areas;
@@ -38,7 +40,9 @@ fn sum_of_rows(
 ) -> Result<List<RowOut>, SumFault>
     requires shallow { IsMapShallow query.now query.now.verb }
     ensures sum { IfOk result (λ sums. sum_of_rows query.now query.now.verb rows.now others.now ≡ Some sums) }
+    ensures fits { IfOk result (λ sums. are_rows_great sums ≡ false) }
     ensures none { result ≡ Err SumFault.OtherRows → sum_of_rows query.now query.now.verb rows.now others.now ≡ None }
+    ensures great { result ≡ Err SumFault.TooMuch → AreGreat (sum_of_rows query.now query.now.verb rows.now others.now) }
 {
     match query.verb {
         Verb::Count | Verb::Hist(_) | Verb::Series { .. } | Verb::Window(_) | Verb::Cross(..) => {
@@ -53,7 +57,9 @@ fn sum_of_rows(
 fn sum_tables(alloc: Global, query: &Query, table: &Table, other: &Table) -> Result<Reply, SumFault>
     requires shallow { IsMapShallow query.now query.now.verb }
     ensures sum { IfOk result (λ sum. sum_tables query.now table.now other.now ≡ Some sum) }
+    ensures fits { IfOk result (λ sum. is_reply_great sum ≡ false) }
     ensures none { result ≡ Err SumFault.OtherRows → sum_tables query.now table.now other.now ≡ None }
+    ensures great { result ≡ Err SumFault.TooMuch → IsGreat (sum_tables query.now table.now other.now) }
 {
     let rows = sum_of_rows(alloc, query, table.rows.as_slice(), other.rows.as_slice())?;
     let seen = sum_totals(table.seen, other.seen)?;
@@ -69,7 +75,9 @@ fn sum_of_query(
 ) -> Result<Reply, SumFault>
     requires shallow { IsMapShallow query.now query.now.verb }
     ensures sum { IfOk result (λ sum. sum_of_query query.now reply.now other.now ≡ Some sum) }
+    ensures fits { IfOk result (λ sum. is_reply_great sum ≡ false) }
     ensures none { result ≡ Err SumFault.OtherRows → sum_of_query query.now reply.now other.now ≡ None }
+    ensures great { result ≡ Err SumFault.TooMuch → IsGreat (sum_of_query query.now reply.now other.now) }
 {
     match (reply, other) {
         (Reply::Table(table), Reply::Table(more)) => sum_tables(alloc, query, table, more),
@@ -92,7 +100,9 @@ fn is_fault(reply: &Reply, fault: QueryFault, word: u32) -> bool
 ///
 /// Where they are the replies over two lists of points, it is the reply over the lists joined. They have no sum where
 /// one is no reply to what was asked, where their rows are not of the same values, starts or pairs, or where a row of a
-/// map is of no tile that was asked for, out of path order, or of total 0.
+/// map is of no tile that was asked for, out of path order, or of total 0. Where they have one, but a total of it is 2^64
+/// or more, the answer is `TooMuch`.
+#[tactic(auto, unfolding(reply_json::specs::Validity::is_valid_reply))]
 pub fn add_replies(
     alloc: Global,
     asked: &Parsed,
@@ -102,7 +112,10 @@ pub fn add_replies(
     requires adds { adds_up asked.now ≡ true }
     requires shallow { AsksShallow asked.now }
     ensures sum { IfOk result (IsSum asked.now reply.now other.now) }
+    ensures fits { IfOk result (λ sum. is_reply_great sum ≡ false) }
     ensures none { result ≡ Err SumFault.OtherRows → HaveNoSum asked.now reply.now other.now }
+    ensures great { result ≡ Err SumFault.TooMuch → HaveGreatSum asked.now reply.now other.now }
+    ensures valid { IsTrue (is_valid_reply reply.now) → IfOk result (λ sum. IsTrue (is_valid_reply sum)) }
     ensures law { AddsUp asked.now reply.now other.now result }
 {
     match asked {

@@ -1,6 +1,9 @@
 use Rattle.std.proofs.Common.{◌≡◌, ◌+◌, sym, ◌∙◌, arith}
 use Rattle.reply_sums.specs.Areas.{head_total}
 use Rattle.reply_sums.proofs.AreaSums.{left-one, push_none, push_some}
+use Rattle.reply_sums.proofs.Great.{one_great}
+use Rattle.reply_sums.proofs.ReplySums.{fault_is}
+use Rattle.reply_sums.specs.declared.fault.SumFault.TheVariants as fault
 use Rattle.reply_sums.proofs.areas.push_sum.Goals as goal
 
 pub returns-then-total-eq0-clause-sums : goal.returns-then-total-eq0-clause-sums
@@ -22,3 +25,8 @@ returns-clause-rows c = c.take-first.ensures.rest ∙ sym (left-one c.args.tile 
 
 pub returns-clause-others : goal.returns-clause-others
 returns-clause-others c = c.take-second.ensures.rest ∙ sym (left-one c.args.tile c.args.others.now)
+
+pub returns-in_err-total-clause-great : goal.returns-in_err-total-clause-great
+returns-in_err-total-clause-great c e =
+    one_great c.args.tile c.args.rows.now c.args.others.now c.take-first.result c.take-second.result c.take-first.ensures.total c.take-second.ensures.total
+    (c.in_err-total.ensures.great (fault_is c.from_residual.result c.in_err-total.field-0.0 fault.TooMuch c.from_residual.ensures.1 e))

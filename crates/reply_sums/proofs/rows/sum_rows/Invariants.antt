@@ -1,7 +1,0 @@
-use Rattle.std.proofs.Common.{◌≡◌, drop}
-use Rattle.reply_sums.specs.Rows.{sum_rows}
-use Rattle.reply_sums.proofs.RowSums.{after_sums}
-use Rattle.reply_sums.proofs.rows.sum_rows.Given as goal
-
-abbrev pub invariant-loop-i : goal.invariant-loop-i
-invariant-loop-i l = after_sums l.sums (sum_rows (drop l.i l.rows) (drop l.i l.others)) ≡ sum_rows l.rows l.others
