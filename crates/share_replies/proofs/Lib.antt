@@ -2,6 +2,10 @@ pub mod FinalReplies
 pub mod LineSums
 pub mod TextSums
 pub mod PutSums
+pub mod LineFaults
+pub mod Refusing
 pub mod FileSums
+pub mod RightFiles
 pub mod Asking
 pub mod Outcomes
+pub mod Saying

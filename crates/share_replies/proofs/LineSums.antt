@@ -1,5 +1,5 @@
 -- The first line of a share's text is that of its first reply.
-use Rattle.std.proofs.Common.{◌≡◌, ℕ, length, arith, Bool, true, false, List, [], ◌∷◌, ◌++◌, Result, Ok, Err, IfOk, IfErr, inl, inr, refl, sym, ◌∙◌, subst}
+use Rattle.std.proofs.Common.{◌≡◌, ℕ, length, arith, Bool, true, false, List, [], ◌∷◌, ◌++◌, Result, Ok, Err, IfOk, IfErr, inl, inr, refl, sym, ◌∙◌, ap, subst}
 use Rattle.std.specs.Prelude.{◌==◌}
 use Rattle.std.specs.Result.{IsErrAnd}
 use Rattle.std.proofs.lemmas.Bool.{eqb-true, false≢true}
@@ -55,6 +55,10 @@ module _ (schema : Schema) (s : Share) (p : Parsed) (later : List Parsed) where
 pub no_items : (xs : List ℕ) (b : Bool) → b ≡ (length xs == 0) → b ≡ true → xs ≡ []
 no_items [] b is empty = refl
 no_items (x ∷ xs) b is empty = let none = eqb-true (length (x ∷ xs)) 0 (sym is ∙ empty) in absurd (omega (arith, none))
+
+-- and one with a length has some
+pub some_items : (xs : List ℕ) (b : Bool) → b ≡ (length xs == 0) → b ≡ false → xs ≡ [] → ⊥
+some_items xs b is not none = false≢true (sym not ∙ (is ∙ ap (λ ys. length ys == 0) none))
 
 -- a fault that was handed on is the one that came
 pub handed_on : (r : Result Added LineFault) (P : Added → Type 0) (fault : LineFault) → IsErrAnd r (λ f. f ≡ fault) → IsInnocentLine fault → IfOk r P × IfErr r IsInnocentLine

@@ -1,19 +1,26 @@
 -- How adding the replies of shares ends, from files.
-use Rattle.std.specs.Prelude.{◌≡◌, ℕ, List, map, Option, Some, Result, IfOk, IfErr}
+use Rattle.std.specs.Prelude.{◌≡◌, ℕ, List, [], map, get_or, string_bytes, Option, Some, Result, Ok, Err, IfOk, IfErr}
 use Rattle.cube_schema.specs.declared.plan.Plan.{Plan}
 use Rattle.cube_view.specs.declared.schema.Schema.{Schema}
 use Rattle.outer_io.specs.Files.{Files, file_or_empty}
 use Rattle.outer_io.specs.Lines.{lines}
+use Rattle.outer_io.specs.Told.{Told}
 use Rattle.query_syntax.specs.declared.query.Parsed.{Parsed}
+use Rattle.reply_json.specs.declared.reply.Reply.{Reply}
+use Rattle.run_files.specs.Outside.{file_of, Puts, SinkSeen}
 use Rattle.run_files.specs.Planned.{IsPlanOf}
 use Rattle.run_files.specs.declared.stop.Stop.{Stop}
 use Rattle.session_core.specs.Asked.{asked}
+use Rattle.share_replies.specs.Refusals.{AreRight, IsFirstWrong, asks_of, first_totals}
 use Rattle.share_replies.specs.Shares.{AreShares, Share, together}
 use Rattle.share_replies.specs.Sums.{IsInnocent, IsInnocentShares, SumsOver}
-use Rattle.share_replies.specs.Texts.{PutsSums}
+use Rattle.share_replies.specs.Texts.{PutsSums, wrong_line}
 use Rattle.share_replies.specs.declared.adding.Outcome.{Outcome}
 use Rattle.share_replies.specs.declared.adding.Outcome.TheVariants as outcome
+use Rattle.share_replies.specs.declared.adding.ShareNames.{ShareNames}
 use Rattle.share_replies.specs.declared.fault.SharesFault.{SharesFault}
+use Rattle.share_replies.specs.declared.fault.SharesFault.TheVariants as shares
+use Rattle.share_replies.specs.declared.fault.Why.{Why}
 use Rattle.share_replies.specs.declared.summed.Summed.{Summed}
 
 -- what an outcome says of what was asked and of shares whose replies are all final: the transcript over all of them was
@@ -42,3 +49,48 @@ AddsUpFiles told plan_name script_name names before after result =
     (plan : Plan) × IsPlanOf (Some (file_or_empty files plan_name)) plan
     × ((shares : List Share) → AreShares plan.schema (asked plan.schema (lines (file_or_empty files script_name))) shares (map (file_or_empty files) names)
     → OutcomeOver plan.schema (asked plan.schema (lines (file_or_empty files script_name))) (together shares) before after outcome))
+
+-- The names of the plan, the script, and the replies of each share
+pub record FileNames : Type 0 where
+  pub plan : List ℕ
+  pub script : List ℕ
+  pub replies : List (List ℕ)
+
+-- those that are given
+abbrev pub names_of : ShareNames → FileNames
+names_of names = record { plan = names.plan.now; script = names.script.now; replies = map string_bytes names.replies.now }
+
+-- What a refusal of a share says
+pub record RefusesShare {O : Type 0} (s : SinkSeen O) (out out' : O) (told : Option Files) (names : FileNames) (w : Why) : Type 0 where
+  -- under the plan
+  pub plan : Plan
+  pub is_plan : IsPlanOf (file_of told names.plan) plan
+  -- this share is the first that is wrong, and this line the first of it
+  pub share : ℕ
+  pub line : ℕ
+  pub wrong : Told told (λ files. IsFirstWrong (asks_of plan.schema files names.script) (first_totals plan.schema (asks_of plan.schema files names.script)) (map (file_or_empty files) names.replies) share line w)
+  -- which is said, and nothing else
+  pub puts : Puts s out out' (wrong_line (get_or names.replies share []) line w)
+
+-- What sums say of shares
+pub record TakesShares (told : Option Files) (names : FileNames) : Type 0 where
+  -- under the plan
+  pub plan : Plan
+  pub is_plan : IsPlanOf (file_of told names.plan) plan
+  -- no line of a share is wrong
+  pub right : Told told (λ files. (last : List (Option Reply)) × AreRight (asks_of plan.schema files names.script) (first_totals plan.schema (asks_of plan.schema files names.script)) (map (file_or_empty files) names.replies) last)
+
+-- what an outcome says of shares: all are right, or the first wrong line is refused
+abbrev pub SaysShares : {O : Type 0} → SinkSeen O → O → O → Option Files → FileNames → Outcome → Type 0
+SaysShares s out out' told names outcome.Added = TakesShares told names
+SaysShares s out out' told names (outcome.Refused w) = RefusesShare s out out' told names w
+
+-- what an outcome says of a fault: the line of the share that is wrong was put
+abbrev pub SaysFault : {O : Type 0} → SinkSeen O → O → O → List (List ℕ) → SharesFault → Outcome → Type 0
+SaysFault s out out' names (shares.Stopped stop) o = ⊥
+SaysFault s out out' names (shares.Wrong k line w) o = (o ≡ outcome.Refused w) × Puts s out out' (wrong_line (get_or names k []) line w)
+
+-- and of sums: that they were added
+abbrev pub SaysSums : {O : Type 0} → SinkSeen O → O → O → List (List ℕ) → Result (List (Option Summed)) SharesFault → Outcome → Type 0
+SaysSums s out out' names (Ok sums) o = o ≡ outcome.Added
+SaysSums s out out' names (Err fault) o = SaysFault s out out' names fault o

@@ -1,4 +1,5 @@
 pub mod Shares
 pub mod Sums
+pub mod Refusals
 pub mod Texts
 pub mod Ends

@@ -1,5 +1,6 @@
 -- What is written of the sums.
 use Rattle.std.specs.Prelude.{◌≡◌, ℕ, Bool, true, false, List, [], ◌∷◌, ◌++◌, Option, codes}
+use Rattle.std.specs.Fmt.{decimal}
 use Rattle.cube_view.specs.declared.schema.Schema.{Schema}
 use Rattle.outer_io.specs.Bytes.{Gains}
 use Rattle.query_syntax.specs.declared.query.Parsed.{Parsed}
@@ -42,3 +43,7 @@ share_why_text why.TooMany = codes "TooMany"
 share_why_text why.NotReply = codes "NotReply"
 share_why_text why.OtherRows = codes "OtherRows"
 share_why_text why.TooGreat = codes "TooGreat"
+
+-- `share NAME: reply L: WHY`
+unfoldable pub wrong_line : List ℕ → ℕ → Why → List ℕ
+wrong_line name line w = codes "share " ++ name ++ codes ": reply " ++ decimal line ++ codes ": " ++ share_why_text w ++ 10 ∷ []

@@ -1,14 +1,16 @@
 //! The replies of shares added, from files.
-ghost use Rattle.std.specs.Prelude.{◌≡◌, ℕ, ◌<◌, Err, List, IfOk, length, map, string_bytes};
+ghost use Rattle.std.specs.Prelude.{◌≡◌, ℕ, ◌<◌, ◌++◌, Err, List, IfOk, OnOk, length, map, string_bytes};
 ghost use Rattle.outer_io.specs.Faults.{HasCause};
 ghost use Rattle.cube_view.specs.declared.schema.Schema.{Schema};
 ghost use Rattle.query_syntax.specs.declared.query.Parsed.{Parsed};
-ghost use Rattle.share_replies.specs.Ends.{AddsUpFiles, AreSumsOver, OutcomeOver, SumsOfFiles};
+ghost use Rattle.run_files.specs.Outside.{Puts, seen_sink};
+ghost use Rattle.share_replies.specs.Ends.{AddsUpFiles, AreSumsOver, OutcomeOver, SaysFault, SaysShares, SaysSums, SumsOfFiles, names_of};
+ghost use Rattle.share_replies.specs.Refusals.{DecidesScript};
 ghost use Rattle.share_replies.specs.Shares.{Share};
 ghost use Rattle.share_replies.specs.Sums.{IsInnocentShares};
 ghost use Rattle.share_replies.specs.declared.fault.SharesFault.{SharesFault};
 ghost use Rattle.share_replies.specs.declared.fault.Why.{Why};
-ghost use Rattle.share_replies.specs.Texts.{share_why_text};
+ghost use Rattle.share_replies.specs.Texts.{share_why_text, wrong_line};
 
 use crate::fault::{SharesFault, Why};
 use crate::files::{add_files, read_text};
@@ -48,12 +50,24 @@ fn why_name(why: Why) -> &'static str
     }
 }
 
-fn wrong_line(alloc: Global, name: &str, line: u64, why: Why) -> Result<String, AllocError> {
+// Appends the line that says which reply of a share is wrong.
+#[tactic(auto, unfolding(crate::specs::Texts::wrong_line))]
+fn push_wrong(text: &mut String, name: &str, line: u64, why: Why) -> Result<(), AllocError>
+    ensures { OnOk result (string_bytes text.new ≡ string_bytes text.old ++ wrong_line name.now line why) }
+{
     let why = why_name(why);
-    format!(in alloc; "share {name}: reply {line}: {why}\n")
+    write!(text, "share {name}: reply {line}: {why}\n")
 }
 
-// Says which reply of a share is wrong.
+fn wrong_line(alloc: Global, name: &str, line: u64, why: Why) -> Result<String, AllocError>
+    ensures { IfOk result (λ text. string_bytes text ≡ wrong_line name.now line why) }
+{
+    let mut text = String::new(alloc);
+    push_wrong(&mut text, name, line, why)?;
+    Ok(text)
+}
+
+// Says so.
 fn refuse<O: Sink>(
     alloc: Global,
     name: &str,
@@ -62,6 +76,7 @@ fn refuse<O: Sink>(
     out: &mut O,
 ) -> Result<Outcome, Stop>
     ensures outcome { IfOk result (λ outcome. outcome ≡ Outcome.Refused why) }
+    ensures puts { IfOk result (λ outcome. Puts (seen_sink O.held O.faults O.name) out.old out.new (wrong_line name.now line why)) }
     ensures cause { HasCause (O.faults out.old) (O.faults out.new) result Stop.WriteFault }
 {
     let Ok(text) = wrong_line(alloc, name, line, why) else {
@@ -80,6 +95,7 @@ fn sums_of<P: Place>(
     place: &mut P,
 ) -> Result<List<Option<Summed>>, SharesFault>
     ensures law { SumsOfFiles schema.now (P.files place.old) script.now (map string_bytes replies.now) result }
+    ensures decides { DecidesScript schema.now (P.files place.old) script.now (map string_bytes replies.now) result }
     ensures share { (k line : ℕ) (why : Why) → result ≡ Err (SharesFault.Wrong k line why) → k < length replies.now }
     ensures files { P.files place.new ≡ P.files place.old }
 {
@@ -104,6 +120,7 @@ fn say_fault<O: Sink>(
     out: &mut O,
 ) -> Result<Outcome, Stop>
     requires share { (k line : ℕ) (why : Why) → fault ≡ SharesFault.Wrong k line why → k < length replies.now }
+    ensures says { IfOk result (SaysFault (seen_sink O.held O.faults O.name) out.old out.new (map string_bytes replies.now) fault) }
     ensures law { (z : Schema) (s : Share) (ps : List Parsed) → IsInnocentShares fault → IfOk result (OutcomeOver z ps s (O.held out.old) (O.held out.new)) }
 {
     match fault {
@@ -122,6 +139,7 @@ fn put_outcome<O: Sink>(
     out: &mut O,
 ) -> Result<Outcome, Stop>
     requires share { (k line : ℕ) (why : Why) → sums ≡ Err (SharesFault.Wrong k line why) → k < length replies.now }
+    ensures says { IfOk result (SaysSums (seen_sink O.held O.faults O.name) out.old out.new (map string_bytes replies.now) sums) }
     ensures law { (z : Schema) (s : Share) (ps : List Parsed) → AreSumsOver z s ps sums → IfOk result (OutcomeOver z ps s (O.held out.old) (O.held out.new)) }
 {
     let sums = match sums {
@@ -146,6 +164,7 @@ pub fn add_shares<P: Place, O: Sink>(
     out: &mut O,
 ) -> Result<Outcome, Stop>
     ensures law { let n = names.now in AddsUpFiles (P.files place.old) n.plan.now n.script.now (map string_bytes n.replies.now) (O.held out.old) (O.held out.new) result }
+    ensures shares { IfOk result (SaysShares (seen_sink O.held O.faults O.name) out.old out.new (P.files place.old) (names_of names.now)) }
     ensures files { P.files place.new ≡ P.files place.old }
 {
     let plan = load_plan(alloc, names.plan, place, out)?;

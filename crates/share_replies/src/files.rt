@@ -6,6 +6,7 @@ ghost use Rattle.outer_io.specs.Lines.{input_limit};
 ghost use Rattle.outer_io.specs.Told.{Told};
 ghost use Rattle.reply_sums.specs.Sums.{AsksShallow};
 ghost use Rattle.run_files.specs.Outside.{file_of};
+ghost use Rattle.share_replies.specs.Refusals.{DecidesFile, DecidesFiles, totals_of};
 ghost use Rattle.share_replies.specs.Sums.{AddsFile, AddsFiles, IsInnocentFile, IsInnocentShares, IsInnocentText};
 ghost use Rattle.share_replies.specs.declared.fault.Why.{Why};
 
@@ -39,7 +40,8 @@ pub(crate) fn read_text<P: Place>(
 }
 
 fn fault_of_text(fault: TextFault) -> FileFault
-    ensures { IsInnocentText fault → IsInnocentFile result }
+    ensures innocent { IsInnocentText fault → IsInnocentFile result }
+    ensures at { (line : ℕ) (w : Why) → result ≡ FileFault.Wrong line w → fault ≡ TextFault.At line w }
 {
     match fault {
         TextFault::NoMemory => FileFault::Stopped(Stop::NoMemory),
@@ -49,7 +51,7 @@ fn fault_of_text(fault: TextFault) -> FileFault
 
 fn fault_of_share(fault: FileFault, share: usize) -> SharesFault
     ensures innocent { IsInnocentFile fault → IsInnocentShares result }
-    ensures share { (k line : ℕ) (why : Why) → result ≡ SharesFault.Wrong k line why → k ≡ share }
+    ensures at { (k line : ℕ) (w : Why) → result ≡ SharesFault.Wrong k line w → (k ≡ share) × (fault ≡ FileFault.Wrong line w) }
 {
     match fault {
         FileFault::Stopped(stop) => SharesFault::Stopped(stop),
@@ -68,6 +70,7 @@ fn add_file<P: Place>(
     requires size { length sums.now ≡ length asked.now }
     requires shallow { All AsksShallow asked.now }
     ensures law { (schema : Schema) → AddsFile schema asked.now sums.now (file_of (P.files place.old) name.now) result }
+    ensures decides { DecidesFile (file_of (P.files place.old) name.now) asked.now sums.now result }
     ensures size { IfOk result (λ next. length next ≡ length asked.now) }
     ensures files { P.files place.new ≡ P.files place.old }
 {
@@ -93,6 +96,7 @@ pub(crate) fn add_files<P: Place>(
     requires shallow { All AsksShallow asked.now }
     ensures law { (schema : Schema) → AddsFiles schema asked.now first (P.files place.old) (map string_bytes names.now) result }
     ensures share { (k line : ℕ) (why : Why) → result ≡ Err (SharesFault.Wrong k line why) → k < length names.now }
+    ensures decides { DecidesFiles (P.files place.old) asked.now (totals_of first) (map string_bytes names.now) result }
     ensures files { P.files place.new ≡ P.files place.old }
 {
     let mut sums = first;

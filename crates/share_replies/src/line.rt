@@ -1,15 +1,18 @@
 //! One reply of a share, added.
-ghost use Rattle.std.specs.Prelude.{◌≡◌, true};
+ghost use Rattle.std.specs.Prelude.{◌≡◌, true, Err, Some, IfOk, IsTrue};
+ghost use Rattle.reply_json.specs.Validity.{is_valid_reply};
 ghost use Rattle.reply_sums.specs.Additive.{adds_up};
 ghost use Rattle.reply_sums.specs.Sums.{AsksShallow};
+ghost use Rattle.share_replies.specs.Refusals.{AddsBy, LineFails, PassesLine, ReplyFails, total_of};
 ghost use Rattle.share_replies.specs.Sums.{AddsLine, AddsOne, is_of_kind, kind_fits};
+ghost use Rattle.share_replies.specs.declared.fault.Why.{Why};
 
 use crate::fault::{LineFault, Why};
 use crate::summed::Summed;
 use outer_io::NoMemory;
 use query_syntax::{Parsed, Verb};
 use recount::next_reply;
-use reply_json::{Reply, is_valid_reply};
+use reply_json::Reply;
 use reply_sums::{SumFault, add_replies, adds_up};
 use std::alloc::Global;
 
@@ -51,19 +54,17 @@ fn sum_with(
 ) -> Result<Option<Summed>, LineFault>
     requires adds { adds_up asked.now ≡ true }
     requires shallow { AsksShallow asked.now }
+    requires valid { IsTrue (is_valid_reply sum.now) }
     ensures law { AddsOne asked.now sum.now reply.now result }
+    ensures right { IfOk result (λ next. AddsBy true asked.now (Some sum.now) reply.now (total_of next)) }
+    ensures wrong { (w : Why) → result ≡ Err (LineFault.Wrong w) → ReplyFails asked.now (Some sum.now) reply.now w }
 {
-    let total = match add_replies(alloc, asked, sum, reply) {
-        Ok(total) => total,
-        Err(SumFault::OtherRows) => return Err(LineFault::Wrong(Why::OtherRows)),
-        Err(SumFault::TooMuch) => return Err(LineFault::Wrong(Why::TooGreat)),
-        Err(SumFault::NoMemory) => return Err(LineFault::NoMemory),
-    };
-    // Rows of one kind stay so. The test is cheap beside the sum, and spares a proof of that.
-    if !is_valid_reply(&total) {
-        return Err(LineFault::Wrong(Why::OtherRows));
+    match add_replies(alloc, asked, sum, reply) {
+        Ok(total) => Ok(Some(Summed { reply: total })),
+        Err(SumFault::OtherRows) => Err(LineFault::Wrong(Why::OtherRows)),
+        Err(SumFault::TooMuch) => Err(LineFault::Wrong(Why::TooGreat)),
+        Err(SumFault::NoMemory) => Err(LineFault::NoMemory),
     }
-    Ok(Some(Summed { reply: total }))
 }
 
 /// The sum with the reply of the text's first line, and what follows that line.
@@ -75,6 +76,8 @@ pub(crate) fn add_next<'a>(
 ) -> Result<Added<'a>, LineFault>
     requires shallow { AsksShallow asked.now }
     ensures law { AddsLine asked.now sum.now text.now result }
+    ensures right { IfOk result (λ added. PassesLine asked.now (total_of sum.now) text.now added) }
+    ensures wrong { (w : Why) → result ≡ Err (LineFault.Wrong w) → LineFails asked.now (total_of sum.now) text.now w }
 {
     if text.is_empty() {
         return Err(LineFault::Wrong(Why::TooFew));

@@ -8,6 +8,7 @@ ghost use Rattle.reply_json.specs.Types.{ReplyFits};
 ghost use Rattle.reply_json.specs.Validity.{is_valid_reply};
 ghost use Rattle.reply_sums.specs.Additive.{adds_up};
 ghost use Rattle.session_core.specs.Asked.{reply_line};
+ghost use Rattle.run_files.specs.Outside.{Puts, seen_sink};
 ghost use Rattle.share_replies.specs.Shares.{Share};
 ghost use Rattle.share_replies.specs.Sums.{IsSumOver, SumsOver};
 ghost use Rattle.share_replies.specs.Texts.{IsLineOver, PutsSumLine, PutsSums, not_additive_line};
@@ -42,6 +43,7 @@ fn reply_line(alloc: Global, reply: &Reply) -> Result<List<u8>, NoMemory>
 /// Puts the bytes in one put.
 pub(crate) fn put_bytes<O: Sink>(bytes: &[u8], out: &mut O) -> Result<(), Stop>
     ensures put { OnOk result (Gains (O.held out.old) (O.held out.new) bytes.now) }
+    ensures all { OnOk result (Puts (seen_sink O.held O.faults O.name) out.old out.new bytes.now) }
     ensures cause { HasCause (O.faults out.old) (O.faults out.new) result Stop.WriteFault }
 {
     match out.put(bytes) {

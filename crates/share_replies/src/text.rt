@@ -1,8 +1,10 @@
 //! The replies of one share, added.
-ghost use Rattle.std.specs.Prelude.{◌≡◌, ◌<◌, ◌^◌, All, IfOk, length};
+ghost use Rattle.std.specs.Prelude.{◌≡◌, ◌+◌, ◌<◌, ◌^◌, ℕ, All, Err, IfOk, length};
 ghost use Rattle.cube_view.specs.declared.schema.Schema.{Schema};
 ghost use Rattle.reply_sums.specs.Sums.{AsksShallow};
+ghost use Rattle.share_replies.specs.Refusals.{IsRight, IsWrongAt, totals_of};
 ghost use Rattle.share_replies.specs.Sums.{AddsShare, IsInnocentLine, IsInnocentText};
+ghost use Rattle.share_replies.specs.declared.fault.Why.{Why};
 
 use crate::fault::{LineFault, TextFault, Why};
 use crate::line::{Added, add_next};
@@ -14,7 +16,8 @@ use std::alloc::Global;
 /// The fault of the line after so many.
 fn fault_after(fault: LineFault, lines: usize) -> TextFault
     requires { lines < 2 ^ 63 }
-    ensures { IsInnocentLine fault → IsInnocentText result }
+    ensures innocent { IsInnocentLine fault → IsInnocentText result }
+    ensures at { (line : ℕ) (w : Why) → result ≡ TextFault.At line w → (line ≡ lines + 1) × (fault ≡ LineFault.Wrong w) }
 {
     match fault {
         LineFault::NoMemory => TextFault::NoMemory,
@@ -25,7 +28,7 @@ fn fault_after(fault: LineFault, lines: usize) -> TextFault
 /// The sums with the replies of a text, one line for each that was asked.
 ///
 /// Where the sums are over some points, and the text is the final transcript over others, the answer is the sums over
-/// both, and no line is refused, unless a sum is too great.
+/// both, and no line is refused, unless a sum is too great. A refusal names the first line that is wrong.
 pub fn add_text(
     alloc: Global,
     asked: &[Parsed],
@@ -35,6 +38,8 @@ pub fn add_text(
     requires size { length sums.now ≡ length asked.now }
     requires shallow { All AsksShallow asked.now }
     ensures law { (schema : Schema) → AddsShare schema asked.now sums.now text.now result }
+    ensures right { IfOk result (λ next. IsRight asked.now (totals_of sums.now) text.now (totals_of next)) }
+    ensures wrong { (line : ℕ) (w : Why) → result ≡ Err (TextFault.At line w) → IsWrongAt asked.now (totals_of sums.now) text.now line w }
     ensures size { IfOk result (λ next. length next ≡ length asked.now) }
 {
     let mut next = List::new(alloc);

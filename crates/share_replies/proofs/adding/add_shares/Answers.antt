@@ -3,12 +3,13 @@ use Rattle.std.specs.Prelude.{string_bytes}
 use Rattle.outer_io.specs.Files.{Files, file_or_empty}
 use Rattle.outer_io.specs.Lines.{lines}
 use Rattle.run_files.proofs.Stages.{same_files}
-use Rattle.run_files.specs.Outside.{file_of, seen_place}
+use Rattle.run_files.specs.Outside.{file_of, seen_place, seen_sink}
 use Rattle.run_files.specs.Planned.{IsPlanOf}
 use Rattle.session_core.specs.Asked.{asked}
-use Rattle.share_replies.specs.Ends.{OutcomeOver}
+use Rattle.share_replies.specs.Ends.{OutcomeOver, names_of}
 use Rattle.share_replies.specs.Shares.{together}
 use Rattle.share_replies.proofs.Outcomes.{some_plan, under_plan}
+use Rattle.share_replies.proofs.Saying.{says_shares}
 use Rattle.share_replies.proofs.adding.add_shares.Goals as goal
 
 pub returns-clause-law : goal.returns-clause-law
@@ -27,3 +28,10 @@ returns-clause-law g c files told =
     (under_plan plan _ ps texts (g.O.Sink.held c.args.out.now) after c.put_outcome.result is
     (λ shares are. subst (λ (before : Option (List ℕ)). IfOk c.put_outcome.result (OutcomeOver plan.schema ps (together shares) before after)) quiet
     (c.put_outcome.ensures.law plan.schema (together shares) ps (c.sums_of-sums.ensures.law files shares (kept ∙ told) are))))
+
+pub returns-clause-shares : goal.returns-clause-shares
+returns-clause-shares g c =
+    let p = seen_place g.P.Place.files g.P.Place.read_faults g.P.Place.write_faults g.P.Place.opened g.P.Place.created in
+    let kept : g.P.Place.files c.load_plan.new.place ≡ g.P.Place.files c.args.place.now = same_files p c.args.place.now c.load_plan.new.place (c.args.names.now.plan.now ∷ []) None c.in_ok-plan.ensures.leaves in
+    says_shares (seen_sink g.O.Sink.held g.O.Sink.faults g.O.Sink.name) c.args.out.now c.load_plan.new.out c.put_outcome.new.out (g.P.Place.files c.args.place.now) (g.P.Place.files c.load_plan.new.place) (names_of c.args.names.now) c.in_ok-plan.plan
+    c.sums_of-sums.result c.put_outcome.result (c.in_ok-plan.ensures.plan.silent (λ e. cc)) kept c.in_ok-plan.ensures.plan.plan c.sums_of-sums.ensures.decides c.put_outcome.ensures.says

@@ -11,6 +11,7 @@ use Rattle.share_replies.specs.Sums.{SumsOver}
 use Rattle.share_replies.proofs.Asking.{all_shallow}
 use Rattle.share_replies.proofs.FileSums.{told_is}
 use Rattle.share_replies.proofs.Outcomes.{sums_asked}
+use Rattle.share_replies.proofs.Saying.{decides_script, stopped_decides}
 use Rattle.share_replies.proofs.adding.sums_of.Goals as goal
 
 pub add_files-requires-clause-shallow : goal.add_files-requires-clause-shallow
@@ -28,3 +29,11 @@ returns-clause-law g c files shares told are =
     sums_asked schema c.as_slice-3.result.now (asked schema (lines (file_or_empty files name))) shares (map (file_or_empty files) (map string_bytes c.args.replies.now)) c.add_files.result same
     (λ own. c.add_files.ensures.law schema files shares (c.in-Ok.ensures.files ∙ told) first own)
     are
+
+pub returns-clause-decides : goal.returns-clause-decides
+returns-clause-decides g c =
+    let schema = c.args.schema.now in
+    let asks = c.as_slice-3.ensures ∙ (c.in-Ok-asked_of.ensures.asked ∙ ap (λ (t : List ℕ). asked schema (lines t)) c.as_slice.ensures) in
+    let first = subst (λ (qs : List Parsed). SumsOver schema nothing qs c.in-Ok-first_sums.first) (c.as_slice-2.ensures ∙ sym c.as_slice-3.ensures) c.in-Ok-first_sums.ensures.sums in
+    decides_script schema (g.P.Place.files c.args.place.now) _ c.args.script.now (map string_bytes c.args.replies.now) c.as_slice-3.result.now c.in-Ok-first_sums.first c.in-Ok.script c.add_files.result
+    c.in-Ok.ensures.files c.in-Ok.ensures.whole asks first c.add_files.ensures.decides

@@ -1,17 +1,21 @@
-use Rattle.std.proofs.Common.{◌≡◌, List, Option, refl, sym, ◌∙◌, subst, arith, Some}
+use Rattle.std.proofs.Common.{◌≡◌, List, Option, Err, refl, sym, ◌∙◌, ap, subst, arith, Some}
 use Rattle.std.specs.Prelude.{string_bytes}
 use Rattle.outer_io.specs.Files.{file_or_empty}
 use Rattle.run_files.specs.Outside.{file_of}
+use Rattle.outer_io.specs.Told.{Told}
+use Rattle.share_replies.specs.Refusals.{IsRight, IsWrongAt, totals_of}
 use Rattle.share_replies.specs.Shares.{Share, together}
 use Rattle.share_replies.specs.Sums.{SumsOver}
 use Rattle.share_replies.specs.declared.summed.Summed.{Summed}
 use Rattle.share_replies.proofs.FileSums.{front_of, last_of, no_shares}
+use Rattle.share_replies.proofs.RightFiles.{at_share, first_wrong, right_all, right_more, same_share, told_none}
 use Rattle.share_replies.proofs.TextSums.{take_at_item}
 use Rattle.share_replies.proofs.files.add_files.Goals as goal
 
 pub loop-i-init : goal.loop-i-init
 loop-i-init g c = record {
   law = λ schema files shares told all are. subst (λ (s : Share). SumsOver schema s c.args.asked.now c.args.first) (sym (no_shares schema c.args.asked.now shares are)) all;
+  right = told_none (g.P.Place.files c.args.place.now) c.args.asked.now (totals_of c.args.first);
   size = c.requires.size;
   files = refl;
 }
@@ -44,6 +48,36 @@ loop-i-preserved g c = record {
       let before = subst (λ (sums : List (Option Summed)). SumsOver schema (together last.before) asked sums) (sym c.as_slice.ensures) so_far in
       let added = (c.in-Ok.ensures.law schema (together last.before) last.last (file_or_empty files (string_bytes n)) here before last.is).0 in
       subst (λ (s : Share). SumsOver schema s asked c.in-Ok.next) (sym last.all) added;
+  right =
+      let asked = c.args.asked.now in
+      let names = c.args.names.now in
+      let i = c.loop-i.i in
+      let n = c.index-names-i.result in
+      right_more asked (totals_of c.args.first) string_bytes names i n (g.P.Place.files c.args.place.now) (g.P.Place.files c.loop-i.place) c.as_str.result.now c.loop-i.sums c.loop-i.invariant.files c.as_str.ensures.value c.in-Ok.next
+      (take_at_item names i n c.index-names-i.is (omega arith)) c.loop-i.invariant.right
+      (subst (λ (sums : List (Option Summed)). Told (file_of (g.P.Place.files c.loop-i.place) c.as_str.result.now) (λ text. IsRight asked (totals_of sums) text (totals_of c.in-Ok.next))) c.as_slice.ensures c.in-Ok.ensures.decides.right);
   size = c.in-Ok.ensures.size;
   files = c.add_file.ensures.files ∙ c.loop-i.invariant.files;
+}
+
+pub returns-in-Err-clause-decides : goal.returns-in-Err-clause-decides
+returns-in-Err-clause-decides g c = record {
+  right = tt;
+  wrong = λ k line w e.
+      let asked = c.args.asked.now in
+      let names = c.args.names.now in
+      let i = c.loop-i.i in
+      let n = c.index-names-i.result in
+      let at = c.fault_of_share.ensures.at k line w (at_share c.fault_of_share.result k line w e) in
+      let here = c.in-Err.ensures.decides.wrong line w (ap (λ f. Err f) at.1) in
+      same_share asked (totals_of c.args.first) string_bytes names (g.P.Place.files c.args.place.now) k i line w at.0
+      (first_wrong asked (totals_of c.args.first) string_bytes names i n (g.P.Place.files c.args.place.now) (g.P.Place.files c.loop-i.place) c.as_str.result.now c.loop-i.sums c.loop-i.invariant.files c.as_str.ensures.value line w c.index-names-i.is (omega arith)
+      c.loop-i.invariant.right
+      (subst (λ (sums : List (Option Summed)). Told (file_of (g.P.Place.files c.loop-i.place) c.as_str.result.now) (λ text. IsWrongAt asked (totals_of sums) text line w)) c.as_slice.ensures here));
+}
+
+pub returns-clause-decides : goal.returns-clause-decides
+returns-clause-decides g c = record {
+  right = right_all c.args.asked.now (totals_of c.args.first) string_bytes c.args.names.now (g.P.Place.files c.args.place.now) c.loop-i.i c.loop-i.sums (omega arith) c.loop-i.invariant.right;
+  wrong = λ k line w e. cc;
 }
