@@ -12,8 +12,6 @@
 //! ```
 #![tactic(auto)]
 
-#[cfg(test)]
-mod against_plain_tests;
 mod built_in;
 mod feeds;
 mod jobs;
@@ -22,8 +20,6 @@ mod printing;
 mod run;
 mod sessions;
 mod source;
-#[cfg(test)]
-mod tests;
 
 pub use laws::big_run_laws;
 pub use run::run_big;

@@ -18,8 +18,6 @@
 
 mod done;
 mod laws;
-#[cfg(test)]
-mod tests;
 mod work;
 
 pub use done::SessionDone;

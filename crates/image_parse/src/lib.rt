@@ -18,8 +18,6 @@ mod laws;
 mod links;
 mod numbers;
 mod slots;
-#[cfg(test)]
-mod tests;
 
 pub use fault::ImageParseFault;
 pub use image::{ParsedImage, parse_image};

@@ -18,8 +18,6 @@ mod end;
 mod lines;
 mod load;
 mod taking;
-#[cfg(test)]
-mod tests;
 
 pub use answering::answer_file;
 pub use end::ImageEnd;

@@ -20,8 +20,6 @@ mod laws;
 mod link;
 mod packed;
 mod slot;
-#[cfg(test)]
-mod tests;
 
 pub use arena::Arena;
 pub use laws::shape_laws;

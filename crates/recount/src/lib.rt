@@ -22,8 +22,6 @@ mod journal;
 mod lines;
 mod replies;
 mod testing;
-#[cfg(test)]
-mod tests;
 mod verdict;
 
 pub use asked::asked_of;

@@ -16,8 +16,6 @@ mod audit;
 mod lines;
 mod recounting;
 mod saying;
-#[cfg(test)]
-mod tests;
 mod texts;
 
 pub use audit::Audit;

@@ -1,19 +1,15 @@
-//! Whole runs over texts in memory, with plain cubes and with cubes.
+//! A run whose parts are beside each other, with plain cubes and with cubes.
 //!
-//! Each run is `cube_crew`'s, by its clauses alone. Its feeders, builder and asks are on threads of their own, so a test
-//! looks at numbers that rise and stay under what there is, and at the rest byte for byte. All of it is tests.
+//! Each run is `cube_crew`'s, by its clauses alone. Its feed waits for what its ask prints, which waits for what the feed
+//! gives. All of it is tests; runs over texts are cases of `worked_rows`, and those without end are in `plan_callers`.
 //!
 //! ```text
-//! // feeds of three and of one record, the ask `count`, `told`, `count` and the final `count`
-//! run_case(rt, alloc, cubes(rt, alloc), &TWO_FEEDS);   // the final has put `{"rows":[[4]],"seen":4}`
+//! // the feed gives its second record once the ask has printed that it saw one record and was told of one
+//! run_beside(rt, alloc, cubes(rt, alloc));
 //! ```
 #![tactic(auto)]
 
 #[cfg(test)]
 mod beside_tests;
-#[cfg(test)]
-mod endless_tests;
-#[cfg(test)]
-mod tests;
 #[cfg(test)]
 mod views_tests;

@@ -19,8 +19,6 @@ mod opening;
 mod parts;
 mod rooms;
 mod seating;
-#[cfg(test)]
-mod tests;
 
 pub use opening::open_run;
 pub use parts::RunParts;

@@ -19,8 +19,6 @@ mod done;
 mod ends;
 mod returning;
 mod saying;
-#[cfg(test)]
-mod tests;
 
 pub use closing::close_run;
 pub use done::RunDone;

@@ -16,8 +16,6 @@
 mod reading;
 mod save;
 mod saying;
-#[cfg(test)]
-mod tests;
 mod writing;
 
 pub use save::save_files;
