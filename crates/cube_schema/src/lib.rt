@@ -30,6 +30,3 @@ pub use member::Member;
 pub use plan::Plan;
 pub use printing::print_plan;
 pub use reading::read_plan;
-
-#[cfg(test)]
-mod tests;
