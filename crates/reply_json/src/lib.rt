@@ -15,8 +15,6 @@ mod printing;
 mod reading;
 mod reply;
 mod rows;
-#[cfg(test)]
-mod tests;
 mod validity;
 
 pub use printing::{NO_MEMORY_LINE, no_memory_line, print_reply};

@@ -1,8 +1,8 @@
 //! Replies and their texts, by examples.
-use crate::{Reply, ReplyFault, is_valid_reply, no_memory_line, print_reply, read_reply};
 use cube_view::{Stat, Tile};
 use outer_io::{List, NoMemory, Text};
 use query_syntax::{QueryFault, RowOut, Table};
+use reply_json::{Reply, ReplyFault, is_valid_reply, no_memory_line, print_reply, read_reply};
 use std::alloc::Global;
 use std::process::Abort;
 use std::test::Fail;
