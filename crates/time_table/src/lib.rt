@@ -21,7 +21,5 @@ mod place;
 mod row;
 mod split;
 mod table;
-#[cfg(test)]
-mod tests;
 
 pub use table::TimeTable;

@@ -2,7 +2,7 @@ use Rattle.std.proofs.Common.{◌≡◌, ap, subst, ◌∙◌}
 use Rattle.std.specs.Prelude.{OnOk}
 use Rattle.time_table.specs.Counts.{add_many, total_count}
 use Rattle.time_table.proofs.AddLaws.{total_count-add_many}
-use Rattle.time_table.proofs.tests.add.Goals as goal
+use Rattle.time_table_tests.proofs.table_tests.add.Goals as goal
 
 pub returns : goal.returns
 returns g c =

@@ -2,7 +2,7 @@ use Rattle.std.proofs.Common.{◌≡◌, ◌≤◌, Some, sym, ap, ◌∙◌, ar
 use Rattle.std.specs.FinMap.{entries}
 use Rattle.time_table.specs.Counts.{count_of, total_count, take_many, first_from}
 use Rattle.time_table.proofs.CountLaws.{count_of-first_from, total_count-take_many}
-use Rattle.time_table.proofs.tests.take.Goals as goal
+use Rattle.time_table_tests.proofs.table_tests.take.Goals as goal
 
 pub take_many-requires-clause-there : goal.take_many-requires-clause-there
 take_many-requires-clause-there g c =

@@ -3,13 +3,13 @@ ghost use Rattle.std.specs.Prelude.{◌≡◌, ◌+◌, ◌<◌, ◌≤◌, ◌^
 ghost use Rattle.probe_core.specs.Blanks.{IsBlankOf};
 ghost use Rattle.time_table.specs.Counts.{total_count};
 
-use crate::TimeTable;
 use probe_core::Steps;
 use std::alloc::{AllocError, Global};
 use std::marker::Brand;
 use std::process::Abort;
 use std::sync::ledger::{Blank, Ledger};
 use std::test::Fail;
+use time_table::TimeTable;
 
 /// What is done to a table, or what it has to tell.
 #[derive(Clone, Copy)]
