@@ -4,9 +4,6 @@ ghost use Rattle.feed_reader.specs.Columns.{further_names, needed_names, needed_
 ghost use Rattle.feed_reader.specs.Headers.{column_fault, counts_named, head_of, place_in};
 ghost use Rattle.feed_reader.specs.Rows.{row_of, row_of_record, IsValidRow};
 
-#[cfg(test)]
-mod tests;
-
 use crate::fields::Fields;
 use crate::row::row_of_record;
 use crate::{Column, Row, RowFault};

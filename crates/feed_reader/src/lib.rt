@@ -31,6 +31,3 @@ pub use feed::{NoHeader, next_row, read_header};
 pub use header::{HeadFault, Header};
 pub use laws::accepted_laws;
 pub use row::{Row, RowFault};
-
-#[cfg(test)]
-mod tests;
