@@ -77,16 +77,6 @@ upto_all f (x ∷ xs) from none = go (cases_lt x.0 from) (λ n. upto_all f xs fr
         let r = rest (λ m le. sym (child_past x xs m (λ e. omega (arith, e, a, le))) ∙ none m le) in
         omega (arith, u, p, s, r)
 
--- the sum over some labels is at most that over all
-pub upto_le : (f : ℕ → ℕ) (children : Children) (from : ℕ) → sum_upto f from children ≤ sum_by (λ (k : ℕ × Link). f k.0) children
-upto_le f [] from = omega arith
-upto_le f (x ∷ xs) from =
-    let u = upto_cons f from x xs in
-    let s = sum_by-cons (λ (k : ℕ × Link). f k.0) x xs in
-    let r = upto_le f xs from in
-    let p : cond {A = ℕ} (nat_lt x.0 from) (f x.0) 0 ≤ f x.0 = grind arith in
-    omega (arith, u, s, r, p)
-
 module _ (slots : List Slot) (i : ℕ) (way : Way) (bin : ℕ) where
   -- what a child's content counts
   abbrev pub part_of : ℕ → ℕ
@@ -102,10 +92,3 @@ module _ (slots : List Slot) (i : ℕ) (way : Way) (bin : ℕ) where
   -- and where there is none further, all are added
   pub all_parts : (from total : ℕ) → NoneFrom slots i from → total ≡ sum_upto part_of from (children_of (slot_of slots i)) → total ≡ parts_count slots i way bin
   all_parts from total N sum = sum ∙ upto_all part_of (children_of (slot_of slots i)) from (λ m le. sym (link_down (slot_of slots i) m) ∙ N m le)
-
-  -- parts that are too many before the last
-  pub too_many : (from label : ℕ) (l : Link) (total part end : ℕ) → IsFirstLink slots i from (label, l) → total ≡ sum_upto part_of from (children_of (slot_of slots i)) → part ≡ count_below slots (target l) (across ∷ way) bin → end ≤ total + part → end ≤ parts_count slots i way bin
-  too_many from label l total part end F sum is le =
-      let a = add_part from label l total part F sum is in
-      let b = upto_le part_of (children_of (slot_of slots i)) (label + 1) in
-      omega (arith, a, b, le)

@@ -11,13 +11,17 @@ use Rattle.node_arena.specs.Slots.{proper, target, Slot, link_of}
 use Rattle.node_arena.proofs.Linked.{linked-lt}
 use Rattle.shape_test.specs.Homes.{step_of, walk_of, walks_of}
 use Rattle.shape_test.specs.declared.home.Move.{Move}
-use Rattle.shape_test.specs.Owners.{Owners, owner_of, owner_at, IsOwner, HasOwners, LeadsBack, OwnersWithin, HasLost, LeadHome, AreShortHomes, AreHomesIn, HasNoHomesIn, most_steps}
+use Rattle.shape_test.specs.Owners.{Owners, owner_of, owner_at, IsOwner, HasOwners, IsHomeOf, LeadsBack, OwnersWithin, HasLost, LeadHome, AreShortHomes, AreHomesIn, HasNoHomesIn, most_steps}
 use Rattle.shape_test.specs.declared.owner.Owner.{Owner}
 
 -- one step further back
 pub back_more : (owners : Owners) (j : ℕ) (moves : List Move) (i k : ℕ) (m : Move) → LeadsBack owners j moves i → owner_at owners i ≡ Some (owner_of k m) → LeadsBack owners j (moves ++ m ∷ []) k
 back_more owners j [] i k m b o = (k, ap (owner_at owners) b ∙ o, refl)
 back_more owners j (n ∷ moves) i k m b o = (b.0, b.1, back_more owners b.0 moves i k m b.2 o)
+
+-- the steps of an owner with one more
+pub home_more : (owners : Owners) (most j : ℕ) (o : Owner) (above : List Move) → owner_at owners j ≡ Some o → IsHomeOf owners most o.by.0 above → length above < most → IsHomeOf owners most j (o.step ∷ above)
+home_more owners most j o above e H l = record { back = (o.by.0, e, H.back); short = omega (arith, l) }
 
 -- a slot with an owner is one of the slots
 pub owner_in : (owners : Owners) (j : ℕ) (o : Owner) → owner_at owners j ≡ Some o → j < length owners

@@ -1,5 +1,6 @@
 -- Coarser addresses, step by step.
 use Rattle.std.proofs.Common.{◌≡◌, ◌↔◌, ◌&&◌, not, ap₂, ℕ, zero, suc, ◌≤◌, Bool, true, false, eqb, eqb-true, ◌-◌, ◌<◌, List, [], ◌∷◌, length, take, drop, get_or, slice_get, Some, refl, sym, ap, ◌∙◌, subst, arith, true≢false}
+use Rattle.std.proofs.lemmas.List.{length-map}
 use Rattle.cube_view.specs.Walks.{down, across, Walk, Finer, top, by_down, by_across, longer}
 use Rattle.shape_test.specs.declared.home.Move.{Move}
 use Rattle.shape_test.specs.declared.home.Move.TheVariants.{Down, Across}
@@ -74,6 +75,43 @@ was_may : (loose far : Bool) → (loose && not far) ≡ true → (loose ≡ true
 was_may true false e = (refl, refl)
 was_may true true e = absurd cc
 was_may false far e = absurd cc
+
+-- a finer address has as many steps at least
+pub finer_length : {loose : Bool} {a b : Walk} → Finer loose a b → length a ≤ length b
+finer_length top = omega arith
+finer_length (by_down f) = let r = finer_length f in omega (arith, r)
+finer_length (by_across f) = let r = finer_length f in omega (arith, r)
+finer_length (longer f) = let r = finer_length f in omega (arith, r)
+
+-- and with as many it is the same
+finer_same : {loose : Bool} {a b : Walk} → Finer loose a b → length a ≡ length b → a ≡ b
+finer_same top e = refl
+finer_same (by_down {l = l} f) e = ap (λ (w : Walk). down l ∷ w) (finer_same f (omega (arith, e)))
+finer_same (by_across f) e = ap (λ (w : Walk). across ∷ w) (finer_same f (omega (arith, e)))
+finer_same (longer f) e = let r = finer_length f in absurd (omega (arith, r, e))
+
+finer_self : (loose : Bool) (a : Walk) → Finer loose a a
+finer_self loose [] = top
+finer_self loose (down l ∷ a) = by_down (finer_self false a)
+finer_self loose (across ∷ a) = by_across (finer_self true a)
+
+same_moves : (a b : List Move) → walk_of a ≡ walk_of b → a ≡ b
+same_moves [] [] e = refl
+same_moves [] (y ∷ b) e = absurd cc
+same_moves (x ∷ a) [] e = absurd cc
+same_moves (x ∷ a) (y ∷ b) e =
+    let p : step_of x ≡ step_of y = cc in
+    let q : walk_of a ≡ walk_of b = cc in
+    ap₂ (λ (m : Move) (ms : List Move). m ∷ ms) (same_move x y p) (same_moves a b q)
+
+-- more steps are not coarser
+pub too_long : (loose : Bool) (a b : List Move) → length b < length a → (false ≡ true) ↔ Finer loose (walk_of a) (walk_of b)
+too_long loose a b l = (λ x. absurd cc, λ f. let r = finer_length f in let x = length-map a step_of in let y = length-map b step_of in absurd (omega (arith, l, r, x, y)))
+
+-- as many steps are coarser only where they are the same
+pub as_long : (loose : Bool) (a b : List Move) (r : Bool) → length a ≡ length b → (r ≡ true) ↔ (a ≡ b) → (r ≡ true) ↔ Finer loose (walk_of a) (walk_of b)
+as_long loose a b r l S =
+    (λ y. subst (λ (m : List Move). Finer loose (walk_of a) (walk_of m)) (S.0 y) (finer_self loose (walk_of a)), λ f. S.1 (same_moves a b (finer_same f (length-map a step_of ∙ (l ∙ sym (length-map b step_of))))))
 
 -- no step is left
 pub at_top : (loose r : Bool) (a b : List Move) → length b < 1 → r ≡ eqb (length a) 0 → (r ≡ true) ↔ Finer loose (walk_of a) (walk_of b)

@@ -1,5 +1,5 @@
 -- Slots with a size fit a schema exactly where the homes that owners lead to tell it.
-use Rattle.std.proofs.Common.{◌≡◌, ℕ, Bool, false, ◌↔◌, List, subst}
+use Rattle.std.proofs.Common.{◌≡◌, ℕ, Bool, false, ◌↔◌, List, Some, None, sym, ◌∙◌, subst, arith}
 use Rattle.std.specs.Prelude.{IsTrue}
 use Rattle.cube_view.specs.Walks.{Walk}
 use Rattle.cube_view.specs.declared.schema.Schema.{Schema}
@@ -10,7 +10,9 @@ use Rattle.image_shape.specs.Laws.{AllTablesCounted}
 use Rattle.shape_test.specs.Fits.{Fits, IsSchemaLocal, IsSizeOf, slots_bag}
 use Rattle.shape_test.specs.Owners.{HasNoHomesIn}
 use Rattle.shape_test.proofs.Deciding.{cube_is_local, local_is_cube}
+use Rattle.shape_test.specs.Places.{HasOutside}
 use Rattle.shape_test.proofs.OneHome.{one_home}
+use Rattle.shape_test.proofs.Spreading.{all_stand}
 use Rattle.shape_test.proofs.Stepping.{tells_short}
 
 module _ (schema : Schema) (slots : List Slot) (counted : AllTablesCounted slots) (rising : AllRising slots) where
@@ -31,6 +33,13 @@ module _ (schema : Schema) (slots : List Slot) (counted : AllTablesCounted slots
   -- slots whose homes do not meet the conditions fit with no size
   pub unfit_at : (homes : List Walk) (size : ℕ) (r : Bool) → HasProperLinks slots homes → IsTrue r ↔ IsSchemaLocal schema slots homes → r ≡ false → Fits schema slots size → ⊥
   unfit_at homes size r P t f F = let y = t.1 (fit_back homes size P F).0 in absurd cc
+
+  -- nor do those of which a home has no place
+  pub unplaced : (homes : List Walk) (size : ℕ) → HasProperLinks slots homes → HasOutside schema homes → Fits schema slots size → ⊥
+  unplaced homes size P O F =
+      let S = all_stand schema slots homes counted (fit_back homes size P F).0 O.slot (let s = P.size in let w = O.within in omega (arith, s, w)) in
+      let z : None ≡ Some S.place = sym O.none ∙ S.at in
+      absurd cc
 
   -- and those whose homes meet them fit with each size of their bag
   pub fit_at : (homes : List Walk) (size : ℕ) (r : Bool) → HasProperLinks slots homes → IsSchemaLocal schema slots homes → IsTrue r ↔ IsSizeOf schema (slots_bag schema slots homes) size → IsTrue r ↔ Fits schema slots size

@@ -24,4 +24,5 @@ pub mod Sizing
 pub mod Spotting
 pub mod Spreading
 pub mod Stepping
+pub mod Summing
 pub mod Whole

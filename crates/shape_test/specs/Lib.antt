@@ -1,4 +1,5 @@
 pub mod Agreeing
+pub mod Ends
 pub mod Filled
 pub mod Fits
 pub mod Homes

@@ -102,6 +102,10 @@ pub record HasLost (owners : Owners) (most : ℕ) : Type 0 where
   pub within : slot < length owners
   pub is : IsLost owners most slot
 
+-- the homes of the first slots are those to which owners lead back
+abbrev pub AreHomesOf : Owners → ℕ → List (List Move) → Type 0
+AreHomesOf owners most homes = (j : ℕ) → j < length homes → IsHomeOf owners most j (slice_index_or homes j [])
+
 -- the homes of all slots are those to which owners lead back
 pub record LeadHome (owners : Owners) (most : ℕ) (homes : List (List Move)) : Type 0 where
   pub size : length homes ≡ length owners

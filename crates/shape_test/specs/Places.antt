@@ -1,8 +1,9 @@
 -- Where an address stands among the dimensions of a schema.
-use Rattle.std.specs.Prelude.{◌≡◌, ◌+◌, ◌-◌, ◌≤◌, IsTrue, ◌&&◌, nat_lt, if◌then◌else◌, [], ◌∷◌, Option, Some, None}
+use Rattle.std.specs.Prelude.{◌≡◌, ℕ, ◌+◌, ◌-◌, ◌<◌, ◌≤◌, IsTrue, ◌&&◌, nat_lt, if◌then◌else◌, List, [], ◌∷◌, length, slice_index_or, Option, Some, None}
 use Rattle.cube_view.specs.Places.{deepest, time_dim}
 use Rattle.cube_view.specs.Walks.{Step, down, across, Walk, dimension}
 use Rattle.cube_view.specs.declared.schema.Schema.{Schema}
+use Rattle.node_arena.specs.Shape.{home_of}
 use Rattle.image_shape.specs.Levels.{Levels, left}
 use Rattle.image_shape.specs.Local.{HasLevels}
 use Rattle.shape_test.specs.Labels.{levels_from, schema_levels, label_fits, labels_fit}
@@ -42,3 +43,18 @@ pub record IsPlaceOf (schema : Schema) (a : Walk) (p : Place) : Type 0 where
 -- the address goes past the levels, or has a label that the schema has not
 abbrev pub IsOutside : Schema → Walk → Type 0
 IsOutside schema a = HasLevels (schema_levels schema) a → IsTrue (labels_fit schema a) → ⊥
+
+-- the places are those of the first homes
+abbrev pub AreFirstPlaces : Schema → List Walk → List Place → Type 0
+AreFirstPlaces schema homes places = (i : ℕ) (d : Place) → i < length places → place_at schema (home_of homes i) ≡ Some (slice_index_or places i d)
+
+-- the places are those of all homes
+pub record ArePlaces (schema : Schema) (homes : List Walk) (places : List Place) : Type 0 where
+  pub size : length places ≡ length homes
+  pub each : AreFirstPlaces schema homes places
+
+-- some home has no place
+pub record HasOutside (schema : Schema) (homes : List Walk) : Type 0 where
+  pub slot : ℕ
+  pub within : slot < length homes
+  pub none : place_at schema (home_of homes slot) ≡ None

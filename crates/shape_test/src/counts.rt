@@ -1,12 +1,10 @@
-//! What a slot counts along a way.
-ghost use Rattle.std.specs.Prelude.{◌≡◌, ◌↔◌, ◌<◌, ◌∷◌, length, IsTrue};
-ghost use Rattle.cube_view.specs.Walks.{across};
+//! What a slot counts.
+ghost use Rattle.std.specs.Prelude.{◌≡◌, ◌↔◌, ◌<◌, length, IsTrue};
 ghost use Rattle.time_table.specs.Counts.{count_of};
 ghost use Rattle.node_arena.specs.Slots.{IsTable, count, link_of, slot_of};
-ghost use Rattle.image_shape.specs.Sharing.{LeadsWithin};
-ghost use Rattle.image_shape.specs.Ways.{count_below as counted_below};
+ghost use Rattle.shape_test.specs.Ends.{end_count, IsEnd};
 ghost use Rattle.shape_test.specs.Filled.{HasRow, HasSmallBins};
-ghost use Rattle.shape_test.specs.Homes.{step_of, way_of};
+ghost use Rattle.shape_test.specs.Homes.{step_of};
 
 use crate::home::Move;
 use node_arena::{Arena, Link, SlotId};
@@ -14,12 +12,14 @@ use probe_core::Steps;
 use std::sync::ledger::Ledger;
 use time_table::TimeTable;
 
-/// How many records a table has in a bin.
+/// How many records a table has in a bin, by its first row from there on.
 fn count_at<L: Ledger>(table: &TimeTable, bin: u32, steps: &mut Steps<L>) -> u64
     ensures { result ≡ count_of table.now bin }
 {
-    let before = table.before(u64::from(bin), steps);
-    table.before(u64::from(bin) + 1, steps) - before
+    let Some((found, count)) = table.next_row(bin, steps) else {
+        return 0;
+    };
+    if found == bin { count } else { 0 }
 }
 
 /// Whether a table has a row.
@@ -51,27 +51,6 @@ pub fn link_along<L: Ledger>(
     }
 }
 
-/// How many records the table has in a bin that a way leads to from a slot; 0 where it leads to none.
-fn count_below<L: Ledger>(
-    arena: &Arena,
-    id: SlotId,
-    way: &[Move],
-    bin: u32,
-    steps: &mut Steps<L>,
-) -> u64
-    requires in_range { id.0 < length arena.now }
-    requires within { LeadsWithin arena.now }
-    ensures { result ≡ counted_below arena.now id.0 (way_of way.now) bin }
-{
-    let [step, rest @ ..] = way else {
-        return slot_count(arena, id, bin, steps);
-    };
-    match link_along(arena, id, *step, steps) {
-        Some(link) => count_below(arena, link.to, rest, bin, steps),
-        None => 0,
-    }
-}
-
 /// How many records a slot has in a bin.
 pub fn slot_count<L: Ledger>(arena: &Arena, id: SlotId, bin: u32, steps: &mut Steps<L>) -> u64
     requires { id.0 < length arena.now }
@@ -84,20 +63,18 @@ pub fn slot_count<L: Ledger>(arena: &Arena, id: SlotId, bin: u32, steps: &mut St
     }
 }
 
-/// How many records the content of a slot counts in a bin along a way.
-pub fn content_count<L: Ledger>(
+/// How many records a slot has in a bin, if there is one.
+pub fn count_at_end<L: Ledger>(
     arena: &Arena,
-    id: SlotId,
-    way: &[Move],
+    end: Option<SlotId>,
     bin: u32,
     steps: &mut Steps<L>,
 ) -> u64
-    requires in_range { id.0 < length arena.now }
-    requires within { LeadsWithin arena.now }
-    ensures { result ≡ counted_below arena.now id.0 (across ∷ way_of way.now) bin }
+    requires { IsEnd arena.now end }
+    ensures { result ≡ end_count arena.now end bin }
 {
-    match link_along(arena, id, Move::Across, steps) {
-        Some(link) => count_below(arena, link.to, way, bin, steps),
+    match end {
+        Some(id) => slot_count(arena, id, bin, steps),
         None => 0,
     }
 }

@@ -1,5 +1,5 @@
 //! The home of a slot: the steps that lead to it along proper links.
-ghost use Rattle.std.specs.Prelude.{◌≡◌, ◌↔◌, ◌&&◌, ◌∷◌, not, IsTrue, Some, slice_get};
+ghost use Rattle.std.specs.Prelude.{◌≡◌, ◌↔◌, ◌&&◌, ◌∷◌, not, length, IsTrue, Some, slice_get};
 ghost use Rattle.cube_view.specs.Walks.{Finer, IsCoarser};
 ghost use Rattle.shape_test.specs.Homes.{is_across, step_of, walk_of};
 
@@ -48,11 +48,30 @@ fn may_go_down(loose: bool, step: Move) -> bool
     loose && !leads_across(step)
 }
 
+/// Whether as many steps are the same.
+fn are_same(a: &[Move], b: &[Move]) -> bool
+    requires { length a.now ≡ length b.now }
+    ensures { IsTrue result ↔ (a.now ≡ b.now) }
+{
+    for i in 0..a.len() {
+        if !is_same(a[i], b[i]) {
+            return false;
+        }
+    }
+    true
+}
+
 /// Whether an address is another one's or coarser, the last step of each standing first. A loose address may have
-/// fewer labels in its last dimension.
+/// fewer labels in its last dimension. A coarser address has no more steps, and with as many it is the same.
 fn is_coarser(loose: bool, a: &[Move], b: &[Move]) -> bool
     ensures { IsTrue result ↔ Finer loose (walk_of a.now) (walk_of b.now) }
 {
+    if a.len() > b.len() {
+        return false;
+    }
+    if a.len() == b.len() {
+        return are_same(a, b);
+    }
     let [last, owner @ ..] = b else {
         return a.is_empty();
     };

@@ -1,7 +1,7 @@
 //! The homes of all slots, found from their owners.
-ghost use Rattle.std.specs.Prelude.{◌≡◌, ◌<◌, ◌^◌, length, IfOk, OnOk, MatchOption};
+ghost use Rattle.std.specs.Prelude.{◌≡◌, ◌<◌, ◌≤◌, ◌^◌, ◌∷◌, length, IfOk, IfSome, OnOk, MatchOption};
 ghost use Rattle.shape_test.specs.Links.{HasSmallLabels};
-ghost use Rattle.shape_test.specs.Owners.{AreHomesIn, HasLost, HasNoHomesIn, IsHomeOf, IsLost, LeadHome, OwnersWithin, TellsShort, most_steps};
+ghost use Rattle.shape_test.specs.Owners.{AreHomesIn, AreHomesOf, HasLost, HasNoHomesIn, HasOwners, IsHomeOf, IsLost, LeadHome, OwnersWithin, TellsShort, most_steps};
 
 use crate::home::Move;
 use crate::owner::{Owner, owners_of};
@@ -38,6 +38,71 @@ fn home_back(
     Ok(Some(home))
 }
 
+/// The steps with one more before them.
+fn step_more(alloc: Global, step: Move, above: &[Move]) -> Result<List<Move>, NoMemory>
+    requires { length above.now < 2 ^ 62 }
+    ensures { IfOk result (λ home. home ≡ step ∷ above.now) }
+{
+    let Ok(mut home) = Vec::with_capacity(alloc, above.len() + 1) else {
+        return Err(NoMemory);
+    };
+    let Ok(()) = home.push(step) else {
+        return Err(NoMemory);
+    };
+    let Ok(()) = home.extend_from_slice(above) else {
+        return Err(NoMemory);
+    };
+    Ok(List::from_vec(home))
+}
+
+/// The steps back from a slot by those of its owner. None comes where they are not known, or have no room for one more.
+fn home_after(
+    alloc: Global,
+    owners: &[Option<Owner>],
+    homes: &List<List<Move>>,
+    slot: usize,
+    most: usize,
+) -> Result<Option<List<Move>>, NoMemory>
+    requires in_range { slot < length owners.now }
+    requires within { OwnersWithin owners.now }
+    requires known { AreHomesOf owners.now most homes.now }
+    requires few { most < 2 ^ 62 }
+    ensures { IfOk result (λ o. IfSome o (IsHomeOf owners.now most slot)) }
+{
+    let Some(owner) = owners[slot] else {
+        return Ok(None);
+    };
+    let by = owner.by.0 as usize;
+    if by >= homes.len() {
+        return Ok(None);
+    }
+    let above = homes.get(by).as_slice();
+    if above.len() >= most {
+        return Ok(None);
+    }
+    Ok(Some(step_more(alloc, owner.step, above)?))
+}
+
+/// The steps from a slot back to the root, by its owner's where these are known.
+fn next_home(
+    alloc: Global,
+    owners: &[Option<Owner>],
+    homes: &List<List<Move>>,
+    slot: usize,
+    most: usize,
+) -> Result<Option<List<Move>>, NoMemory>
+    requires in_range { slot < length owners.now }
+    requires within { OwnersWithin owners.now }
+    requires known { AreHomesOf owners.now most homes.now }
+    requires few { most < 2 ^ 62 }
+    ensures { IfOk result (λ o. MatchOption o (IsLost owners.now most slot) (IsHomeOf owners.now most slot)) }
+{
+    match home_after(alloc, owners, homes, slot, most)? {
+        Some(home) => Ok(Some(home)),
+        None => home_back(alloc, owners, slot, most),
+    }
+}
+
 /// The homes of all slots by their owners. None comes where a slot has none.
 fn homes_back(
     alloc: Global,
@@ -45,12 +110,13 @@ fn homes_back(
     most: usize,
 ) -> Result<Option<List<List<Move>>>, NoMemory>
     requires within { OwnersWithin owners.now }
+    requires few { most < 2 ^ 62 }
     ensures { IfOk result (λ o. MatchOption o (HasLost owners.now most) (LeadHome owners.now most)) }
 {
     let mut homes = List::new(alloc);
     homes.reserve(owners.len())?;
     for slot in 0..owners.len() {
-        let Some(home) = home_back(alloc, owners, slot, most)? else {
+        let Some(home) = next_home(alloc, owners, &homes, slot, most)? else {
             return Ok(None);
         };
         homes.add(home)?;
@@ -59,10 +125,18 @@ fn homes_back(
 }
 
 /// The most steps to an address of a schema.
-fn most_steps_of(schema: &Schema) -> usize
-    ensures { result ≡ most_steps schema.now }
+pub fn most_steps_of(schema: &Schema) -> usize
+    ensures most { result ≡ most_steps schema.now }
+    ensures few { result ≤ 29 }
 {
     usize::from(schema.depth) + 2 * schema.categories.len() + 1
+}
+
+/// The homes of all slots, and the owners from which they were found.
+#[derive(Drop)]
+pub struct Homed {
+    pub homes: List<List<Move>>,
+    pub owners: Vec<Option<Owner>>,
 }
 
 /// The homes of all slots: each but the root has one owner, and owners lead back to the root. None comes exactly where
@@ -72,9 +146,10 @@ pub fn homes_of<L: Ledger>(
     schema: &Schema,
     arena: &Arena,
     steps: &mut Steps<L>,
-) -> Result<Option<List<List<Move>>>, NoMemory>
+) -> Result<Option<Homed>, NoMemory>
     requires labels { HasSmallLabels arena.now }
-    ensures homes { IfOk result (λ o. MatchOption o (HasNoHomesIn schema.now arena.now) (AreHomesIn schema.now arena.now)) }
+    ensures homes { IfOk result (λ o. MatchOption o (HasNoHomesIn schema.now arena.now) (λ found. AreHomesIn schema.now arena.now found.homes)) }
+    ensures owners { IfOk result (λ o. IfSome o (λ found. HasOwners arena.now found.owners.items)) }
     ensures few { OnOk result (length arena.now < 2 ^ 32) }
 {
     let Some(owners) = owners_of(alloc, arena, steps)? else {
@@ -83,7 +158,10 @@ pub fn homes_of<L: Ledger>(
     if arena.is_empty() {
         return Ok(None);
     }
-    homes_back(alloc, owners.as_slice(), most_steps_of(schema))
+    match homes_back(alloc, owners.as_slice(), most_steps_of(schema))? {
+        Some(homes) => Ok(Some(Homed { homes, owners })),
+        None => Ok(None),
+    }
 }
 
 /// What the homes of a schema's cubes are, as a law of the definitions: no longer than those that are looked for. It does

@@ -9,7 +9,8 @@ ghost use Rattle.shape_test.specs.Places.{IsSchemaPlace};
 ghost use Rattle.shape_test.specs.Testable.{AreReadable};
 
 use crate::children::first_child;
-use crate::counts::{content_count, link_along, slot_count};
+use crate::counts::{count_at_end, link_along};
+use crate::ends::content_end;
 use crate::home::Move;
 use crate::place::{Place, deepest, time_dim};
 use crate::rows::{first_row, rows_merge};
@@ -48,10 +49,11 @@ fn is_covered<L: Ledger>(
     requires bins { HasSmallBins arena.now }
     ensures { IsTrue result ↔ Covers arena.now id.0 (way_of way.now) table.0 }
 {
+    let whole = content_end(arena, id, way, steps);
     let rows = arena.table(table, steps);
     let mut from = 0;
-    while let Some((bin, _)) = first_row(rows, from, steps) {
-        if slot_count(arena, table, bin, steps) > content_count(arena, id, way, bin, steps) {
+    while let Some((bin, count)) = first_row(rows, from, steps) {
+        if count > count_at_end(arena, whole, bin, steps) {
             return false;
         }
         from = u64::from(bin) + 1;
@@ -61,24 +63,25 @@ fn is_covered<L: Ledger>(
 
 /// Whether what a slot counts at the end of a way agrees. It says no only where it doesn't in some bin.
 fn slot_agrees<L: Ledger>(
+    alloc: Global,
     arena: &Arena,
     side: Side,
     at: SlotId,
     way: &[Move],
     steps: &mut Steps<L>,
-) -> bool
+) -> Result<bool, NoMemory>
     requires in_range { (side.node.0 < length arena.now) × (at.0 < length arena.now) }
     requires is_node { IsNode (slot_of arena.now side.node.0) }
     requires readable { AreReadable arena.now }
-    ensures told { IsTrue result → RowsAgree arena.now side (way_of way.now) at.0 }
-    ensures all { BinsAgree arena.now side (way_of way.now) at.0 → IsTrue result }
+    ensures told { IfOk result (λ r. IsTrue r → RowsAgree arena.now side (way_of way.now) at.0) }
+    ensures all { BinsAgree arena.now side (way_of way.now) at.0 → IfOk result (λ r. IsTrue r) }
 {
     if !arena.is_table(at) {
-        return true;
+        return Ok(true);
     }
     match side.role {
-        Role::Whole => rows_merge(arena, side.node, at, way, steps),
-        Role::Part => is_covered(arena, side.node, at, way, steps),
+        Role::Whole => rows_merge(alloc, arena, side.node, at, way, steps),
+        Role::Part => Ok(is_covered(arena, side.node, at, way, steps)),
     }
 }
 
@@ -101,6 +104,7 @@ fn drop_value(way: &mut List<Move>)
 /// Whether all tables agree that ways lead to from the content of a slot, through the categories that are left. The slot
 /// stands at the end of a way. It says no only where some table doesn't agree.
 fn content_agrees<L: Ledger>(
+    alloc: Global,
     arena: &Arena,
     side: Side,
     of: SlotId,
@@ -119,7 +123,7 @@ fn content_agrees<L: Ledger>(
         return Ok(true);
     };
     if left == 0 {
-        return Ok(slot_agrees(arena, side, content.to, way.as_slice(), steps));
+        return slot_agrees(alloc, arena, side, content.to, way.as_slice(), steps);
     }
     if arena.is_table(content.to) {
         return Ok(true);
@@ -127,7 +131,7 @@ fn content_agrees<L: Ledger>(
     let mut from = 0;
     while let Some((label, child)) = first_child(arena, content.to, from, steps) {
         add_value(way, label)?;
-        let agrees = content_agrees(arena, side, child.to, left - 1, way, steps)?;
+        let agrees = content_agrees(alloc, arena, side, child.to, left - 1, way, steps)?;
         drop_value(way);
         if !agrees {
             return Ok(false);
@@ -139,6 +143,7 @@ fn content_agrees<L: Ledger>(
 
 /// Whether the contents of a node's children count, through the categories that are left, at most what its own counts.
 fn parts_agree<L: Ledger>(
+    alloc: Global,
     arena: &Arena,
     id: SlotId,
     left: u8,
@@ -157,7 +162,7 @@ fn parts_agree<L: Ledger>(
     };
     let mut from = 0;
     while let Some((label, child)) = first_child(arena, id, from, steps) {
-        if !content_agrees(arena, side, child.to, left, way, steps)? {
+        if !content_agrees(alloc, arena, side, child.to, left, way, steps)? {
             return Ok(false);
         }
         from = u16::from(label) + 1;
@@ -187,10 +192,10 @@ fn contents_merge<L: Ledger>(
         role: Role::Whole,
     };
     let mut way = List::new(alloc);
-    if !content_agrees(arena, whole, id, left, &mut way, steps)? {
+    if !content_agrees(alloc, arena, whole, id, left, &mut way, steps)? {
         return Ok(false);
     }
-    parts_agree(arena, id, left, &mut way, steps)
+    parts_agree(alloc, arena, id, left, &mut way, steps)
 }
 
 /// Whether along each finest way from a node at a place its content counts what the contents of its children count

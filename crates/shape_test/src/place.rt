@@ -50,7 +50,7 @@ fn is_label(schema: &Schema, dim: u8, label: u8) -> bool
 }
 
 /// The place after a step, if the schema has one there.
-fn next_place(schema: &Schema, place: Place, step: Move) -> Option<Place>
+pub fn next_place(schema: &Schema, place: Place, step: Move) -> Option<Place>
     requires { IsSchemaPlace schema.now place }
     ensures { result ≡ place_after schema.now place (step_of step) }
 {

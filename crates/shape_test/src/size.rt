@@ -1,19 +1,21 @@
 //! Whether a size is one that some list of points with the slots' bag has.
-ghost use Rattle.std.specs.Prelude.{◌≡◌, ℕ, ◌↔◌, ◌+◌, ◌<◌, ◌^◌, List, None, length, IsTrue};
+ghost use Rattle.std.specs.Prelude.{◌≡◌, ℕ, ◌↔◌, ◌+◌, ◌<◌, ◌^◌, List, None, Some, length, IsTrue};
 ghost use Rattle.time_table.specs.Counts.{count_of};
 ghost use Rattle.node_arena.specs.Amounts.{Weighted};
 ghost use Rattle.node_arena.specs.Slots.{slot_of};
 ghost use Rattle.node_arena.specs.Stats.{capped};
-ghost use Rattle.image_shape.specs.Levels.{left};
+ghost use Rattle.image_shape.specs.Levels.{left, no_levels};
 ghost use Rattle.image_shape.specs.Wholes.{is_deepest as is_deepest_left, is_whole as is_whole_address, rows_at};
 ghost use Rattle.shape_test.specs.Filled.{HasSmallBins};
 ghost use Rattle.shape_test.specs.Fits.{IsSizeOf, least_points, slots_bag};
 ghost use Rattle.shape_test.specs.Homes.{walk_of, walks_of};
 ghost use Rattle.shape_test.specs.Labels.{labels_fit, schema_levels};
+ghost use Rattle.shape_test.specs.Places.{ArePlaces, place_at};
 ghost use Rattle.shape_test.specs.Sizes.{HasLabels, TellsLight, TellsPoints, size_of, table_size};
 
 use crate::home::Move;
-use crate::place::{deepest, place_of};
+use crate::homes::most_steps_of;
+use crate::place::{Place, deepest, place_of, time_dim};
 use crate::rows::first_row;
 use cube_view::Schema;
 use node_arena::{Arena, SlotId};
@@ -74,6 +76,14 @@ fn rows_size<L: Ledger>(table: &TimeTable, steps: &mut Steps<L>) -> BagSize
     size
 }
 
+/// Whether an address that stands at time goes to the deepest level of each dimension: it has the most steps then.
+fn is_whole_at_time(schema: &Schema, home: &[Move]) -> bool
+    requires { left (schema_levels schema.now) (walk_of home.now) ≡ Some no_levels }
+    ensures { result ≡ is_whole_address (schema_levels schema.now) (walk_of home.now) }
+{
+    home.len() == most_steps_of(schema)
+}
+
 /// Whether an address is at its dimension's deepest level. One past the levels is not.
 fn is_deepest(schema: &Schema, home: &[Move]) -> bool
     requires { IsTrue (labels_fit schema.now (walk_of home.now)) }
@@ -102,20 +112,35 @@ fn is_whole(schema: &Schema, home: &[Move]) -> bool
     }
 }
 
+/// Whether an address goes to the deepest level of each dimension that it has left behind, its place being given.
+fn is_whole_at(schema: &Schema, home: &[Move], place: Place) -> bool
+    requires place { place_at schema.now (walk_of home.now) ≡ Some place }
+    requires labels { IsTrue (labels_fit schema.now (walk_of home.now)) }
+    ensures { result ≡ is_whole_address (schema_levels schema.now) (walk_of home.now) }
+{
+    if place.dim == time_dim(schema) {
+        is_whole_at_time(schema, home)
+    } else {
+        is_whole(schema, home)
+    }
+}
+
 /// The size of what a slot adds to the bag: its rows, if its home is whole.
 fn slot_size<L: Ledger>(
     schema: &Schema,
     arena: &Arena,
     home: &[Move],
+    place: Place,
     id: SlotId,
     steps: &mut Steps<L>,
 ) -> BagSize
     requires in_range { id.0 < length arena.now }
+    requires place { place_at schema.now (walk_of home.now) ≡ Some place }
     requires labels { IsTrue (labels_fit schema.now (walk_of home.now)) }
     requires bins { HasSmallBins arena.now }
     ensures { result ≡ size_of (rows_at (schema_levels schema.now) (walk_of home.now) (slot_of arena.now id.0)) }
 {
-    if !arena.is_table(id) || !is_whole(schema, home) {
+    if !arena.is_table(id) || !is_whole_at(schema, home, place) {
         return NOTHING;
     }
     rows_size(arena.table(id, steps), steps)
@@ -126,23 +151,21 @@ fn bag_size<L: Ledger>(
     schema: &Schema,
     arena: &Arena,
     homes: &List<List<Move>>,
+    places: &List<Place>,
     steps: &mut Steps<L>,
 ) -> BagSize
     requires few { length arena.now < 2 ^ 32 }
     requires homes { length homes.now ≡ length arena.now }
+    requires places { ArePlaces schema.now (walks_of homes.now) places.now }
     requires labels { HasLabels schema.now arena.now (walks_of homes.now) }
     requires bins { HasSmallBins arena.now }
     ensures { result ≡ size_of (slots_bag schema.now arena.now (walks_of homes.now)) }
 {
     let mut size = NOTHING;
     for i in 0..arena.len() {
-        let own = slot_size(
-            schema,
-            arena,
-            homes.get(i).as_slice(),
-            SlotId(i as u32),
-            steps,
-        );
+        let home = homes.get(i).as_slice();
+        let place = *places.get(i);
+        let own = slot_size(schema, arena, home, place, SlotId(i as u32), steps);
         size = both(size, own);
     }
     size
@@ -170,16 +193,18 @@ pub fn size_fits<L: Ledger>(
     schema: &Schema,
     arena: &Arena,
     homes: &List<List<Move>>,
+    places: &List<Place>,
     size: u64,
     steps: &mut Steps<L>,
 ) -> bool
     requires few { length arena.now < 2 ^ 32 }
     requires homes { length homes.now ≡ length arena.now }
+    requires places { ArePlaces schema.now (walks_of homes.now) places.now }
     requires labels { HasLabels schema.now arena.now (walks_of homes.now) }
     requires bins { HasSmallBins arena.now }
     ensures { IsTrue result ↔ IsSizeOf schema.now (slots_bag schema.now arena.now (walks_of homes.now)) size }
 {
-    is_size(schema, bag_size(schema, arena, homes, steps), size)
+    is_size(schema, bag_size(schema, arena, homes, places, steps), size)
 }
 
 /// What a size tells, as laws of the definitions: slots that fit with it are a cube of so many points, and no table of them

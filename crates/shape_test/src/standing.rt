@@ -1,15 +1,14 @@
 //! Whether all slots meet the conditions on single slots.
-ghost use Rattle.std.specs.Prelude.{◌≡◌, ◌↔◌, ◌<◌, ◌^◌, length, IsTrue, IfOk};
-ghost use Rattle.node_arena.specs.Shape.{HasProperLinks};
+ghost use Rattle.std.specs.Prelude.{◌≡◌, ◌↔◌, ◌<◌, ◌^◌, length, Some, IsTrue, IfOk};
+ghost use Rattle.node_arena.specs.Shape.{HasProperLinks, home_of};
 ghost use Rattle.node_arena.specs.Slots.{IsNode, IsTable, slot_of};
 ghost use Rattle.node_arena.specs.Stats.{AllRising};
 ghost use Rattle.image_shape.specs.Laws.{AllTablesCounted};
-ghost use Rattle.image_shape.specs.Sharing.{SharesAt};
 ghost use Rattle.shape_test.specs.Filled.{HasSmallBins};
 ghost use Rattle.shape_test.specs.Fits.{IsSchemaLocal};
-ghost use Rattle.shape_test.specs.Homes.{walk_of, walks_of};
-ghost use Rattle.shape_test.specs.Standing.{TableStands, NodeStands, SuitsPlace, SlotStands, AllStand, MergesAt, AllMerge};
-ghost use Rattle.shape_test.specs.Places.{place_at};
+ghost use Rattle.shape_test.specs.Homes.{walks_of};
+ghost use Rattle.shape_test.specs.Standing.{TableStands, NodeStands, SuitsPlace, SlotStands, AllStand, AllMerge};
+ghost use Rattle.shape_test.specs.Places.{ArePlaces, place_at};
 ghost use Rattle.shape_test.specs.Testable.{AreLinked, AreReadable};
 
 use crate::counts::has_row;
@@ -17,7 +16,7 @@ use crate::filled::is_filled;
 use crate::home::Move;
 use crate::links::links_fit;
 use crate::merging::node_merges;
-use crate::place::{Place, deepest, place_of, time_dim};
+use crate::place::{Place, deepest, time_dim};
 use cube_view::Schema;
 use image_shape::shares_only;
 use node_arena::{Arena, SlotId};
@@ -93,16 +92,15 @@ fn slot_stands<L: Ledger>(
     arena: &Arena,
     homes: &List<List<Move>>,
     id: SlotId,
+    place: Place,
     steps: &mut Steps<L>,
 ) -> bool
     requires in_range { id.0 < length arena.now }
     requires homes { length homes.now ≡ length arena.now }
+    requires place { place_at schema.now (home_of (walks_of homes.now) id.0) ≡ Some place }
     requires readable { AreReadable arena.now }
     ensures { IsTrue result ↔ SlotStands schema.now arena.now (walks_of homes.now) id.0 }
 {
-    let Some(place) = place_of(schema, homes.get(id.0 as usize).as_slice()) else {
-        return false;
-    };
     if !suits_place(schema, arena, id, place, steps) {
         return false;
     }
@@ -114,39 +112,22 @@ fn all_stand<L: Ledger>(
     schema: &Schema,
     arena: &Arena,
     homes: &List<List<Move>>,
+    places: &List<Place>,
     steps: &mut Steps<L>,
 ) -> bool
     requires few { length arena.now < 2 ^ 32 }
     requires homes { length homes.now ≡ length arena.now }
+    requires places { ArePlaces schema.now (walks_of homes.now) places.now }
     requires readable { AreReadable arena.now }
     ensures { IsTrue result ↔ AllStand schema.now arena.now (walks_of homes.now) }
 {
     for i in 0..arena.len() {
-        if !slot_stands(schema, arena, homes, SlotId(i as u32), steps) {
+        let place = *places.get(i);
+        if !slot_stands(schema, arena, homes, SlotId(i as u32), place, steps) {
             return false;
         }
     }
     true
-}
-
-/// Whether what a slot counts merges, its home being given.
-fn slot_merges<L: Ledger>(
-    alloc: Global,
-    schema: &Schema,
-    arena: &Arena,
-    home: &[Move],
-    id: SlotId,
-    steps: &mut Steps<L>,
-) -> Result<bool, NoMemory>
-    requires in_range { id.0 < length arena.now }
-    requires shares { SharesAt arena.now id.0 }
-    requires readable { AreReadable arena.now }
-    ensures { IfOk result (λ r. IsTrue r ↔ MergesAt schema.now arena.now id.0 (place_at schema.now (walk_of home.now))) }
-{
-    match place_of(schema, home) {
-        Some(place) => node_merges(alloc, schema, arena, id, place, steps),
-        None => Ok(false),
-    }
 }
 
 /// Whether what all slots count merges.
@@ -155,41 +136,45 @@ fn all_merge<L: Ledger>(
     schema: &Schema,
     arena: &Arena,
     homes: &List<List<Move>>,
+    places: &List<Place>,
     steps: &mut Steps<L>,
 ) -> Result<bool, NoMemory>
     requires few { length arena.now < 2 ^ 32 }
     requires homes { length homes.now ≡ length arena.now }
+    requires places { ArePlaces schema.now (walks_of homes.now) places.now }
     requires stand { AllStand schema.now arena.now (walks_of homes.now) }
     requires readable { AreReadable arena.now }
     ensures { IfOk result (λ r. IsTrue r ↔ AllMerge schema.now arena.now (walks_of homes.now)) }
 {
     for i in 0..arena.len() {
-        let home = homes.get(i).as_slice();
-        if !slot_merges(alloc, schema, arena, home, SlotId(i as u32), steps)? {
+        let place = *places.get(i);
+        if !node_merges(alloc, schema, arena, SlotId(i as u32), place, steps)? {
             return Ok(false);
         }
     }
     Ok(true)
 }
 
-/// Whether all slots meet the conditions on single slots, their homes being given. What slots count is looked at only
+/// Whether all slots meet the conditions on single slots, their homes and the places of these being given. What slots count is looked at only
 /// once all of them stand where they may, since few ways then lead to each.
 pub fn slots_fit<L: Ledger>(
     alloc: Global,
     schema: &Schema,
     arena: &Arena,
     homes: &List<List<Move>>,
+    places: &List<Place>,
     steps: &mut Steps<L>,
 ) -> Result<bool, NoMemory>
     requires few { length arena.now < 2 ^ 32 }
     requires homes { HasProperLinks arena.now (walks_of homes.now) }
+    requires places { ArePlaces schema.now (walks_of homes.now) places.now }
     requires rising { AllRising arena.now }
     requires counted { AllTablesCounted arena.now }
     requires readable { AreReadable arena.now }
     ensures { IfOk result (λ r. IsTrue r ↔ IsSchemaLocal schema.now arena.now (walks_of homes.now)) }
 {
-    if !all_stand(schema, arena, homes, steps) {
+    if !all_stand(schema, arena, homes, places, steps) {
         return Ok(false);
     }
-    all_merge(alloc, schema, arena, homes, steps)
+    all_merge(alloc, schema, arena, homes, places, steps)
 }

@@ -1,18 +1,12 @@
-use Rattle.std.proofs.Common.{ℕ, ◌+◌, arith, ap, ◌∙◌}
-use Rattle.time_table.specs.Counts.{count_before}
-use Rattle.shape_test.proofs.Counting.{before_suc}
+use Rattle.std.proofs.Common.{sym}
+use Rattle.shape_test.proofs.Rowwise.{none_here, row_here}
 use Rattle.shape_test.proofs.counts.count_at.Goals as goal
 
-pub overflow_sub-result : goal.overflow_sub-result
-overflow_sub-result g c =
-    let a = c.before-before.ensures.sum ∙ ap (count_before c.args.table.now) c.from.ensures in
-    let b = c.before-2.ensures.sum ∙ ap (λ (n : ℕ). count_before c.args.table.now (n + 1)) c.from-2.ensures in
-    let s = before_suc c.args.table.now c.args.bin in
-    omega (arith, a, b, s)
+pub returns-in_default : goal.returns-in_default
+returns-in_default g c = sym (none_here c.args.table.now c.args.bin c.in_default.ensures.next)
 
-pub returns : goal.returns
-returns g c =
-    let a = c.before-before.ensures.sum ∙ ap (count_before c.args.table.now) c.from.ensures in
-    let b = c.before-2.ensures.sum ∙ ap (λ (n : ℕ). count_before c.args.table.now (n + 1)) c.from-2.ensures in
-    let s = before_suc c.args.table.now c.args.bin in
-    omega (arith, a, b, s)
+pub returns-then-found-bin : goal.returns-then-found-bin
+returns-then-found-bin g c = sym ((row_here c.args.table.now c.args.bin (c.in-Some.found, c.in-Some.count) c.in-Some.ensures.next).0 c.if-found-bin.true)
+
+pub returns-else-found-bin : goal.returns-else-found-bin
+returns-else-found-bin g c = sym ((row_here c.args.table.now c.args.bin (c.in-Some.found, c.in-Some.count) c.in-Some.ensures.next).1 c.if-found-bin.false)

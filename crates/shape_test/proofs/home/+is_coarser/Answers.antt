@@ -1,6 +1,12 @@
-use Rattle.shape_test.proofs.Coarser.{at_top, begun_with, first_is, by_longer, not_begun, begun_on}
+use Rattle.shape_test.proofs.Coarser.{too_long, as_long, at_top, begun_with, first_is, by_longer, not_begun, begun_on}
 use Rattle.shape_test.proofs.home.+is_coarser.Goals as goal
 use Rattle.shape_test.proofs.home.+is_coarser.Goals.{else-may_go_down-via-then-may_go_down+else-is_coarser, else-may_go_down-via-else-may_go_down}
+
+pub returns-then-a-b : goal.returns-then-a-b
+returns-then-a-b t c = too_long c.args.loose c.args.a.now c.args.b.now c.if-a-b.true
+
+pub returns-then-a-b-2 : goal.returns-then-a-b-2
+returns-then-a-b-2 t c = as_long c.args.loose c.args.a.now c.args.b.now c.are_same.result c.if-a-b-2.true c.are_same.ensures
 
 pub returns-in_default : goal.returns-in_default
 returns-in_default t c = at_top c.args.loose c.is_empty.result c.args.a.now c.args.b.now c.in_default.len_below c.is_empty.ensures

@@ -1,4 +1,5 @@
-use Rattle.std.proofs.Common.{◌≡◌, ℕ, ◌-◌, List, [], ◌∷◌, ◌++◌, length, take, sym, ap, ◌∙◌, subst, arith}
+use Rattle.std.proofs.Common.{◌≡◌, Bool, true, ℕ, ◌-◌, List, [], ◌∷◌, ◌++◌, length, take, sym, ap, ◌∙◌, subst, arith}
+use Rattle.std.proofs.lemmas.Result.{IfOk-weaker}
 use Rattle.cube_view.specs.Walks.{down, across}
 use Rattle.node_arena.specs.declared.link.Link.{Link}
 use Rattle.node_arena.specs.Slots.{target}
@@ -16,9 +17,10 @@ pub returns-in_default-clause-told : goal.returns-in_default-clause-told
 returns-in_default-clause-told g t c = λ y. none_counted c.args.arena.now c.args.side (way_of c.args.way.now) c.args.of.0 c.args.left (sym c.link_along.ensures ∙ c.in_default.is)
 
 pub returns-then-left-eq0-clause-told : goal.returns-then-left-eq0-clause-told
-returns-then-left-eq0-clause-told g t c = λ y.
-    let here = subst (λ (w : List Move). RowsAgree c.args.arena.now c.args.side (way_of w) (target c.in-Some.content)) c.as_slice.ensures (c.slot_agrees.ensures.told y) in
-    subst (CountedAgree c.args.arena.now c.args.side (way_of c.args.way.now) c.args.of.0) (sym c.if-left-eq0.true) (at_end c.args.arena.now c.args.side (way_of c.args.way.now) c.args.of.0 c.in-Some.content (sym c.link_along.ensures ∙ c.in-Some.is) here)
+returns-then-left-eq0-clause-told g t c =
+    IfOk-weaker c.slot_agrees.result (λ (r : Bool). r ≡ true → RowsAgree c.args.arena.now c.args.side (way_of c.as_slice.result.now) (target c.in-Some.content)) (λ (r : Bool). r ≡ true → CountedAgree c.args.arena.now c.args.side (way_of c.args.way.now) c.args.of.0 c.args.left) (λ r told y.
+    let here = subst (λ (w : List Move). RowsAgree c.args.arena.now c.args.side (way_of w) (target c.in-Some.content)) c.as_slice.ensures (told y) in
+    subst (CountedAgree c.args.arena.now c.args.side (way_of c.args.way.now) c.args.of.0) (sym c.if-left-eq0.true) (at_end c.args.arena.now c.args.side (way_of c.args.way.now) c.args.of.0 c.in-Some.content (sym c.link_along.ensures ∙ c.in-Some.is) here)) c.slot_agrees.ensures.told
 
 pub returns-then-left-eq0-clause-all : goal.returns-then-left-eq0-clause-all
 returns-then-left-eq0-clause-all g t c = λ agree.

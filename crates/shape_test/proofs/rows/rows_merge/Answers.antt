@@ -1,19 +1,10 @@
-use Rattle.std.proofs.Common.{arith}
-use Rattle.shape_test.specs.Homes.{way_of}
-use Rattle.shape_test.proofs.Rowwise.{row_more, row_all}
+use Rattle.std.proofs.Common.{List, sym, ap, ◌∙◌}
+use Rattle.node_arena.specs.declared.link.SlotId.{SlotId}
+use Rattle.shape_test.specs.Ends.{ends_count}
 use Rattle.shape_test.proofs.rows.rows_merge.Goals as goal
 
-pub loop-bin-init : goal.loop-bin-init
-loop-bin-init g c = record {
-  last = omega arith;
-  merge = λ bin lt x. absurd (omega (arith, lt));
-}
-
-pub loop-bin-preserved : goal.loop-bin-preserved
-loop-bin-preserved g c = record {
-  last = let s = c.in-Some.ensures.small in let f = c.from-from.ensures in omega (arith, s, f);
-  merge = λ bin lt x. row_more c.args.arena.now c.args.id.0 c.args.table.0 (way_of c.args.way.now) c.table-rows.result.now c.table-rows.ensures.counts c.loop-bin.from c.loop-bin.invariant.merge c.in-Some.bin c.in-Some.field-0-1 c.in-Some.ensures (c.merges_at.ensures.0 c.if-not-merges_at.false) bin (let f = c.from-from.ensures in omega (arith, f, lt)) x;
-}
-
 pub returns-clause-told : goal.returns-clause-told
-returns-clause-told g c = λ y. row_all c.args.arena.now c.args.id.0 c.args.table.0 (way_of c.args.way.now) c.table-rows.result.now c.table-rows.ensures.counts c.loop-bin.from c.loop-bin.invariant.merge c.in_default.ensures
+returns-clause-told g c = λ y bin some. sym (c.content_end-whole.ensures.counted bin) ∙ (c.rows_total.ensures.told y bin some ∙ (ap (λ (es : List SlotId). ends_count c.args.arena.now es bin) c.as_slice.ensures ∙ c.in_ok-parts.ensures.counted bin))
+
+pub returns-clause-all : goal.returns-clause-all
+returns-clause-all g c = λ all. c.rows_total.ensures.all (λ bin. c.content_end-whole.ensures.counted bin ∙ (all bin ∙ sym (ap (λ (es : List SlotId). ends_count c.args.arena.now es bin) c.as_slice.ensures ∙ c.in_ok-parts.ensures.counted bin)))

@@ -1,26 +1,33 @@
-use Rattle.std.proofs.Common.{◌≡◌, ℕ, below_more, ap, ◌∙◌, sym, subst, arith}
-use Rattle.cube_view.specs.Walks.{Walk}
+use Rattle.std.proofs.Common.{◌≡◌, ℕ, Some, below_more, sym, subst, arith}
+use Rattle.std.proofs.lemmas.List.{length-map}
+use Rattle.std.proofs.lemmas.Option.{MatchOption-at_some}
 use Rattle.node_arena.specs.Shape.{home_of}
 use Rattle.shape_test.specs.Homes.{walk_of, walks_of}
 use Rattle.shape_test.specs.Places.{place_at}
 use Rattle.shape_test.specs.Standing.{MergesAt}
-use Rattle.shape_test.proofs.Kept.{kept_home, stands_shares}
+use Rattle.shape_test.proofs.Kept.{kept_place, stands_shares}
+use Rattle.shape_test.proofs.Placing.{place_told}
 use Rattle.shape_test.proofs.standing.all_merge.Goals as goal
 
-pub slot_merges-requires-clause-shares : goal.slot_merges-requires-clause-shares
-slot_merges-requires-clause-shares g c = stands_shares c.args.schema.now c.args.arena.now (walks_of c.args.homes.now) c.loop-i.i (c.requires.stand c.loop-i.i (omega arith))
+pub node_merges-requires-clause-placed : goal.node_merges-requires-clause-placed
+node_merges-requires-clause-placed g c =
+    let at = kept_place c.args.schema.now (walks_of c.args.homes.now) c.args.places.now c.loop-i.i c.get-place.result.now c.requires.places (let h = length-map c.args.homes.now walk_of in let s = c.requires.homes in omega (arith, h, s)) c.get-place.ensures in
+    (MatchOption-at_some _ _ c.get-place.result.now at (place_told c.args.schema.now (home_of (walks_of c.args.homes.now) c.loop-i.i))).placed
+
+pub node_merges-requires-clause-shares : goal.node_merges-requires-clause-shares
+node_merges-requires-clause-shares g c = stands_shares c.args.schema.now c.args.arena.now (walks_of c.args.homes.now) c.loop-i.i (c.requires.stand c.loop-i.i (omega arith))
 
 pub returns-then-not-branch : goal.returns-then-not-branch
 returns-then-not-branch g c =
-    let home : walk_of c.as_slice-home.result.now ≡ home_of (walks_of c.args.homes.now) c.loop-i.i = ap walk_of c.as_slice-home.ensures ∙ kept_home c.args.homes.now c.loop-i.i c.get.result.now (let h = c.requires.homes in omega (arith, h)) c.get.ensures in (
+    let at : place_at c.args.schema.now (home_of (walks_of c.args.homes.now) c.loop-i.i) ≡ Some c.get-place.result.now = kept_place c.args.schema.now (walks_of c.args.homes.now) c.args.places.now c.loop-i.i c.get-place.result.now c.requires.places (let h = length-map c.args.homes.now walk_of in let s = c.requires.homes in omega (arith, h, s)) c.get-place.ensures in (
       λ y. absurd cc,
       λ all.
-          let yes = c.in_ok-slot_merges.ensures.1 (subst (λ (a : Walk). MergesAt c.args.schema.now c.args.arena.now c.loop-i.i (place_at c.args.schema.now a)) (sym home) (all c.loop-i.i (omega arith))) in
+          let yes = c.in_ok-node_merges.ensures.1 (subst (MergesAt c.args.schema.now c.args.arena.now c.loop-i.i) at (all c.loop-i.i (omega arith))) in
           let no = c.if-not-branch.true in
           absurd cc,
     )
 
 pub loop-i-preserved : goal.loop-i-preserved
 loop-i-preserved g c =
-    let home : walk_of c.as_slice-home.result.now ≡ home_of (walks_of c.args.homes.now) c.loop-i.i = ap walk_of c.as_slice-home.ensures ∙ kept_home c.args.homes.now c.loop-i.i c.get.result.now (let h = c.requires.homes in omega (arith, h)) c.get.ensures in
-    below_more (λ (k : ℕ). MergesAt c.args.schema.now c.args.arena.now k (place_at c.args.schema.now (home_of (walks_of c.args.homes.now) k))) c.loop-i.i c.loop-i.invariant (subst (λ (a : Walk). MergesAt c.args.schema.now c.args.arena.now c.loop-i.i (place_at c.args.schema.now a)) home (c.in_ok-slot_merges.ensures.0 c.if-not-branch.false))
+    let at : place_at c.args.schema.now (home_of (walks_of c.args.homes.now) c.loop-i.i) ≡ Some c.get-place.result.now = kept_place c.args.schema.now (walks_of c.args.homes.now) c.args.places.now c.loop-i.i c.get-place.result.now c.requires.places (let h = length-map c.args.homes.now walk_of in let s = c.requires.homes in omega (arith, h, s)) c.get-place.ensures in
+    below_more (λ (k : ℕ). MergesAt c.args.schema.now c.args.arena.now k (place_at c.args.schema.now (home_of (walks_of c.args.homes.now) k))) c.loop-i.i c.loop-i.invariant (subst (MergesAt c.args.schema.now c.args.arena.now c.loop-i.i) (sym at) (c.in_ok-node_merges.ensures.0 c.if-not-branch.false))

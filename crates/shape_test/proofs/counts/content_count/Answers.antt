@@ -1,8 +1,0 @@
-use Rattle.std.proofs.Common.{◌∙◌, sym}
-use Rattle.cube_view.specs.Walks.{across}
-use Rattle.image_shape.proofs.Core.{no_step}
-use Rattle.shape_test.specs.Homes.{way_of}
-use Rattle.shape_test.proofs.counts.content_count.Goals as goal
-
-pub returns-in-None : goal.returns-in-None
-returns-in-None g c = sym (no_step c.args.arena.now c.args.id.0 across (way_of c.args.way.now) c.args.bin (sym c.link_along.ensures ∙ c.in-None.is))

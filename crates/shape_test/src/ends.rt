@@ -1,0 +1,91 @@
+//! The slots to which a way leads from the contents of a node and of its children.
+ghost use Rattle.std.specs.Prelude.{◌≡◌, ℕ, ◌<◌, ◌∷◌, ◌++◌, length, option_to_list, IfOk, OnOk};
+ghost use Rattle.cube_view.specs.Walks.{across};
+ghost use Rattle.node_arena.specs.Slots.{IsNode, slot_of};
+ghost use Rattle.image_shape.specs.Sharing.{LeadsWithin};
+ghost use Rattle.image_shape.specs.Ways.{count_below};
+ghost use Rattle.shape_test.specs.Ends.{end_count, ends_count, IsEnd, AreEnds};
+ghost use Rattle.shape_test.specs.Homes.{way_of};
+ghost use Rattle.shape_test.specs.Merging.{parts_count};
+ghost use Rattle.shape_test.specs.Testable.{AreLinked};
+
+use crate::children::first_child;
+use crate::counts::link_along;
+use crate::home::Move;
+use node_arena::{Arena, SlotId};
+use outer_io::{List, NoMemory};
+use probe_core::Steps;
+use std::alloc::Global;
+use std::sync::ledger::Ledger;
+
+/// The slot at the end of a way from a slot, if it leads to one.
+fn end_of<L: Ledger>(
+    arena: &Arena,
+    id: SlotId,
+    way: &[Move],
+    steps: &mut Steps<L>,
+) -> Option<SlotId>
+    requires in_range { id.0 < length arena.now }
+    requires within { LeadsWithin arena.now }
+    ensures counted { (bin : ℕ) → end_count arena.now result bin ≡ count_below arena.now id.0 (way_of way.now) bin }
+    ensures in_range { IsEnd arena.now result }
+{
+    let [step, rest @ ..] = way else {
+        return Some(id);
+    };
+    match link_along(arena, id, *step, steps) {
+        Some(link) => end_of(arena, link.to, rest, steps),
+        None => None,
+    }
+}
+
+/// The slot at the end of a way from the content of a slot, if it leads to one.
+pub fn content_end<L: Ledger>(
+    arena: &Arena,
+    id: SlotId,
+    way: &[Move],
+    steps: &mut Steps<L>,
+) -> Option<SlotId>
+    requires in_range { id.0 < length arena.now }
+    requires within { LeadsWithin arena.now }
+    ensures counted { (bin : ℕ) → end_count arena.now result bin ≡ count_below arena.now id.0 (across ∷ way_of way.now) bin }
+    ensures in_range { IsEnd arena.now result }
+{
+    match link_along(arena, id, Move::Across, steps) {
+        Some(link) => end_of(arena, link.to, way, steps),
+        None => None,
+    }
+}
+
+/// Adds a slot at the end, if there is one.
+fn add_end(ends: &mut List<SlotId>, end: Option<SlotId>) -> Result<(), NoMemory>
+    ensures { OnOk result (ends.new ≡ ends.old ++ option_to_list end) }
+{
+    match end {
+        Some(end) => ends.add(end),
+        None => Ok(()),
+    }
+}
+
+/// The slots at the ends of a way from the contents of a node's children.
+pub fn part_ends<L: Ledger>(
+    alloc: Global,
+    arena: &Arena,
+    id: SlotId,
+    way: &[Move],
+    steps: &mut Steps<L>,
+) -> Result<List<SlotId>, NoMemory>
+    requires in_range { id.0 < length arena.now }
+    requires is_node { IsNode (slot_of arena.now id.0) }
+    requires linked { AreLinked arena.now }
+    ensures counted { IfOk result (λ ends. (bin : ℕ) → ends_count arena.now ends bin ≡ parts_count arena.now id.0 (way_of way.now) bin) }
+    ensures in_range { IfOk result (λ ends. AreEnds arena.now ends) }
+{
+    let mut ends = List::new(alloc);
+    let mut from = 0;
+    while let Some((label, link)) = first_child(arena, id, from, steps) {
+        add_end(&mut ends, content_end(arena, link.to, way, steps))?;
+        from = u16::from(label) + 1;
+    }
+    Ok(ends)
+}
