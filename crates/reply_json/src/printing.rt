@@ -1,18 +1,21 @@
-//! A reply as text.
+//! A reply as text, written token by token into one buffer.
 ghost use Rattle.std.specs.Prelude.{◌≡◌, ◌∷◌, [], ◌++◌, decimal, IfOk, OnOk, IsTrue};
 ghost use Rattle.std.specs.List.{All};
-ghost use Rattle.serde_json.specs.View.{view};
-ghost use Rattle.serde_json.specs.Written.{compact_text};
+ghost use Rattle.json.specs.Token.{end_array, key, number};
+ghost use Rattle.json.specs.Tree.{items_tokens};
+ghost use Rattle.serde_json.specs.View.{items_of};
+ghost use Rattle.serde_json.specs.Written.{items_outline};
 ghost use Rattle.reply_json.specs.declared.reply.Reply.{Reply};
-ghost use Rattle.reply_json.specs.Printed.{fault_name, row_value, rows_value, reply_value, reply_text};
+ghost use Rattle.reply_json.specs.Printed.{fault_name, row_items, row_value, rows_value, reply_value, reply_text};
+ghost use Rattle.reply_json.specs.Tokens.{Adds, value_tokens};
 ghost use Rattle.reply_json.specs.Validity.{is_valid_reply};
-ghost use Rattle.reply_json.specs.Types.{RowFits, ReplyFits};
+ghost use Rattle.reply_json.specs.Types.{IsCount, RowFits, ReplyFits};
 
 use crate::Reply;
 use cube_view::Stat;
+use json::Writer;
 use outer_io::{List, NoMemory};
 use query_syntax::{QueryFault, RowOut, Table};
-use serde_json::{Value, json};
 use std::alloc::{AllocError, Global};
 
 /// The line of the reply that memory ran out, with its line feed.
@@ -49,119 +52,167 @@ pub(crate) fn fault_name(fault: QueryFault) -> &'static str
     }
 }
 
-fn row_value(alloc: Global, row: &RowOut) -> Result<Value, AllocError>
-    ensures value { IfOk result (λ value. view value ≡ row_value row.now) }
+// Writes a row's total and its closing bracket.
+fn put_total(out: &mut Writer, total: u64) -> Result<(), AllocError>
+    ensures text { OnOk result (Adds out.old out.new (number (decimal total) ∷ end_array ∷ [])) }
+    ensures fits { IsCount total }
+{
+    out.u64(total)?;
+    out.end_array()
+}
+
+// Writes what stands in a row, and its closing bracket.
+fn put_items(out: &mut Writer, row: &RowOut) -> Result<(), AllocError>
+    ensures text { OnOk result (Adds out.old out.new (items_tokens (items_outline (items_of (row_items row.now))))) }
     ensures fits { OnOk result (RowFits row.now) }
 {
     match row {
-        RowOut::One(total) => json!(in alloc; [*total]),
-        RowOut::Value(text, total) => json!(in alloc; [text.as_str(), *total]),
-        RowOut::Area(tile, total) => json!(in alloc; [tile.z, tile.x, tile.y, *total]),
-        RowOut::Bin(start, total) => json!(in alloc; [*start, *total]),
+        RowOut::One(total) => put_total(out, *total),
+        RowOut::Value(text, total) => {
+            out.string(text.as_str())?;
+            put_total(out, *total)
+        }
+        RowOut::Area(tile, total) => {
+            out.u64(u64::from(tile.z))?;
+            out.u64(u64::from(tile.x))?;
+            out.u64(u64::from(tile.y))?;
+            put_total(out, *total)
+        }
+        RowOut::Bin(start, total) => {
+            out.u64(*start)?;
+            put_total(out, *total)
+        }
         RowOut::Pair(first, second, total) => {
-            json!(in alloc; [first.as_str(), second.as_str(), *total])
+            out.string(first.as_str())?;
+            out.string(second.as_str())?;
+            put_total(out, *total)
         }
     }
 }
 
-// Writes the text of a row after what is there.
-fn push_row(alloc: Global, out: &mut Vec<u8>, row: &RowOut) -> Result<(), AllocError>
-    ensures text { OnOk result (out.new.items ≡ out.old.items ++ compact_text (row_value row.now)) }
+// Writes a row after what is there.
+fn put_row(out: &mut Writer, row: &RowOut) -> Result<(), AllocError>
+    ensures text { OnOk result (Adds out.old out.new (value_tokens (row_value row.now))) }
     ensures fits { OnOk result (RowFits row.now) }
 {
-    let value = row_value(alloc, row)?;
-    let text = value.to_vec(alloc)?;
-    out.extend_from_slice(text.as_slice())
+    out.begin_array()?;
+    put_items(out, row)
 }
 
-// Writes the text of the rows after what is there, one row at a time: a map has up to a million.
-fn push_rows(alloc: Global, out: &mut Vec<u8>, rows: &[RowOut]) -> Result<(), AllocError>
-    ensures text { OnOk result (out.new.items ≡ out.old.items ++ compact_text (rows_value rows.now)) }
+// Writes the rows after what is there. The buffer grows as they come, by doubling: it is kept from reply to reply, and
+// a bound of bytes a row would take far more of it than most rows need.
+fn put_rows(out: &mut Writer, rows: &[RowOut]) -> Result<(), AllocError>
+    ensures text { OnOk result (Adds out.old out.new (value_tokens (rows_value rows.now))) }
     ensures fits { OnOk result (All RowFits rows.now) }
 {
-    out.push(b'[')?;
-    let mut is_later = false;
+    out.begin_array()?;
     for row in rows {
-        if is_later {
-            out.push(b',')?;
-        }
-        push_row(alloc, out, row)?;
-        is_later = true;
+        put_row(out, row)?;
     }
-    out.push(b']')?;
+    out.end_array()?;
     Ok(())
 }
 
-fn number_text(alloc: Global, number: u64) -> Result<Vec<u8>, AllocError>
-    ensures { IfOk result (λ bytes. bytes.items ≡ decimal number) }
+// Writes a member that is a number.
+fn put_count(out: &mut Writer, name: &str, count: u64) -> Result<(), AllocError>
+    ensures text { OnOk result (Adds out.old out.new (key name.now ∷ number (decimal count) ∷ [])) }
+    ensures fits { IsCount count }
 {
-    let value = json!(in alloc; number)?;
-    value.to_vec(alloc)
+    out.key(name)?;
+    out.u64(count)?;
+    Ok(())
 }
 
-#[tactic(auto, using(crate::proofs::RowTexts::table_parts), unfolding(crate::specs::Types::ReplyFits))]
-fn table_text(alloc: Global, table: &Table) -> Result<Vec<u8>, AllocError>
-    ensures text { IfOk result (λ bytes. bytes.items ≡ reply_text (Reply.Table table.now)) }
+#[tactic(auto, unfolding(crate::specs::Printed::reply_value, crate::specs::Types::ReplyFits))]
+fn put_table(out: &mut Writer, table: &Table) -> Result<(), AllocError>
+    ensures text { OnOk result (Adds out.old out.new (value_tokens (reply_value (Reply.Table table.now)))) }
     ensures fits { OnOk result (ReplyFits (Reply.Table table.now)) }
 {
-    let seen = number_text(alloc, table.seen)?;
-    let mut out = Vec::new(alloc);
-    out.extend_from_slice(b"{\"rows\":")?;
-    push_rows(alloc, &mut out, table.rows.as_slice())?;
-    out.extend_from_slice(b",\"seen\":")?;
-    out.extend_from_slice(seen.as_slice())?;
-    out.push(b'}')?;
-    Ok(out)
+    out.begin_object()?;
+    out.key("rows")?;
+    put_rows(out, table.rows.as_slice())?;
+    put_count(out, "seen", table.seen)?;
+    out.end_object()?;
+    Ok(())
 }
 
 #[tactic(auto, unfolding(crate::specs::Printed::reply_value, crate::specs::Types::ReplyFits))]
-fn stat_value(alloc: Global, stat: &Stat, seen: u64) -> Result<Value, AllocError>
-    ensures value { IfOk result (λ value. view value ≡ reply_value (Reply.Stat stat.now seen)) }
+fn put_stat(out: &mut Writer, stat: &Stat, seen: u64) -> Result<(), AllocError>
+    ensures text { OnOk result (Adds out.old out.new (value_tokens (reply_value (Reply.Stat stat.now seen)))) }
     ensures fits { OnOk result (ReplyFits (Reply.Stat stat.now seen)) }
 {
-    json!(in alloc; {
-        "nodes": stat.nodes,
-        "proper": stat.proper,
-        "seen": seen,
-        "shared": stat.shared,
-        "tables": stat.tables
-    })
+    out.begin_object()?;
+    put_count(out, "nodes", stat.nodes)?;
+    put_count(out, "proper", stat.proper)?;
+    put_count(out, "seen", seen)?;
+    put_count(out, "shared", stat.shared)?;
+    put_count(out, "tables", stat.tables)?;
+    out.end_object()?;
+    Ok(())
 }
 
 #[tactic(auto, unfolding(crate::specs::Printed::reply_value, crate::specs::Types::ReplyFits))]
-fn told_value(alloc: Global, told: u64) -> Result<Value, AllocError>
-    ensures value { IfOk result (λ value. view value ≡ reply_value (Reply.Told told)) }
+fn put_told(out: &mut Writer, told: u64) -> Result<(), AllocError>
+    ensures text { OnOk result (Adds out.old out.new (value_tokens (reply_value (Reply.Told told)))) }
     ensures fits { OnOk result (ReplyFits (Reply.Told told)) }
 {
-    json!(in alloc; {"told": told})
+    out.begin_object()?;
+    put_count(out, "told", told)?;
+    out.end_object()?;
+    Ok(())
 }
 
 #[tactic(auto, unfolding(crate::specs::Printed::reply_value, crate::specs::Types::ReplyFits))]
-fn fault_value(alloc: Global, fault: QueryFault, word: u32) -> Result<Value, AllocError>
-    ensures value { IfOk result (λ value. view value ≡ reply_value (Reply.Fault fault word)) }
+fn put_fault(out: &mut Writer, fault: QueryFault, word: u32) -> Result<(), AllocError>
+    ensures text { OnOk result (Adds out.old out.new (value_tokens (reply_value (Reply.Fault fault word)))) }
     ensures fits { OnOk result (ReplyFits (Reply.Fault fault word)) }
 {
-    json!(in alloc; {"at": word, "fault": fault_name(fault)})
+    out.begin_object()?;
+    put_count(out, "at", u64::from(word))?;
+    out.key("fault")?;
+    out.string(fault_name(fault))?;
+    out.end_object()?;
+    Ok(())
 }
 
 #[tactic(auto, unfolding(crate::specs::Printed::reply_value))]
-fn no_memory_value(alloc: Global) -> Result<Value, AllocError>
-    ensures value { IfOk result (λ value. view value ≡ reply_value Reply.NoMemory) }
+fn put_no_memory(out: &mut Writer) -> Result<(), AllocError>
+    ensures { OnOk result (Adds out.old out.new (value_tokens (reply_value Reply.NoMemory))) }
 {
-    json!(in alloc; {"fault": "NoMemory"})
+    out.begin_object()?;
+    out.key("fault")?;
+    out.string("NoMemory")?;
+    out.end_object()?;
+    Ok(())
 }
 
-#[tactic(auto, unfolding(crate::specs::Printed::reply_value, crate::specs::Printed::reply_text, crate::specs::Types::ReplyFits))]
-fn reply_text(alloc: Global, reply: &Reply) -> Result<Vec<u8>, AllocError>
-    ensures text { IfOk result (λ bytes. bytes.items ≡ reply_text reply.now) }
+#[tactic(auto, unfolding(crate::specs::Types::ReplyFits))]
+fn put_reply(out: &mut Writer, reply: &Reply) -> Result<(), AllocError>
+    ensures text { OnOk result (Adds out.old out.new (value_tokens (reply_value reply.now))) }
     ensures fits { OnOk result (ReplyFits reply.now) }
 {
     match reply {
-        Reply::Table(table) => table_text(alloc, table),
-        Reply::Stat(stat, seen) => stat_value(alloc, stat, *seen)?.to_vec(alloc),
-        Reply::Told(told) => told_value(alloc, *told)?.to_vec(alloc),
-        Reply::Fault(fault, word) => fault_value(alloc, *fault, *word)?.to_vec(alloc),
-        Reply::NoMemory => no_memory_value(alloc)?.to_vec(alloc),
+        Reply::Table(table) => put_table(out, table),
+        Reply::Stat(stat, seen) => put_stat(out, stat, *seen),
+        Reply::Told(told) => put_told(out, *told),
+        Reply::Fault(fault, word) => put_fault(out, *fault, *word),
+        Reply::NoMemory => put_no_memory(out),
+    }
+}
+
+/// The text of a valid reply, without a line feed, in the memory of `room`, whose bytes are let go. A reply that fits
+/// there takes none.
+pub fn print_reply_in(room: List<u8>, reply: &Reply) -> Result<List<u8>, NoMemory>
+    requires { IsTrue (is_valid_reply reply.now) }
+    ensures text { IfOk result (λ bytes. bytes ≡ reply_text reply.now) }
+    ensures fits { OnOk result (ReplyFits reply.now) }
+{
+    let mut bytes = room.into_vec();
+    bytes.clear();
+    let mut out = Writer::new(bytes);
+    match put_reply(&mut out, reply) {
+        Ok(()) => Ok(List::from_vec(out.into_inner())),
+        Err(_) => Err(NoMemory),
     }
 }
 
@@ -171,8 +222,5 @@ pub fn print_reply(alloc: Global, reply: &Reply) -> Result<List<u8>, NoMemory>
     ensures text { IfOk result (λ bytes. bytes ≡ reply_text reply.now) }
     ensures fits { OnOk result (ReplyFits reply.now) }
 {
-    match reply_text(alloc, reply) {
-        Ok(bytes) => Ok(List::from_vec(bytes)),
-        Err(_) => Err(NoMemory),
-    }
+    print_reply_in(List::new(alloc), reply)
 }
