@@ -20,7 +20,7 @@ use Rattle.query_syntax.specs.Parts.{with_one_value}
 use Rattle.query_syntax.specs.declared.query.Choice.{Choice}
 use Rattle.query_syntax.specs.declared.query.Query.{Query}
 use Rattle.query_walk.specs.Walks.{HasBox}
-use Rattle.tile_drill.proofs.Boxes.{value_has_box, chosen_at}
+use Rattle.query_walk.proofs.OneValue.{chosen_at}
 
 -- Tests in another order
 
@@ -97,12 +97,8 @@ pub value_wide : (b : Box) (k v : ℕ) → length b.sets ≡ 4 → length (with_
 value_wide b k v wide = length-set b.sets k _ ∙ wide
 
 -- a value's number is one of a set
-value_small : (z : Schema) (k v : ℕ) → IsValue z k v → v < 256
+pub value_small : (z : Schema) (k v : ℕ) → IsValue z k v → v < 256
 value_small z k v known = let few = few_values z k known.0 in let lt = known.1 in omega (arith, few, lt)
-
--- a query with one value alone can be walked too
-pub alone_has_box : (z : Schema) (q : Query) (k v : ℕ) → HasBox z q → IsValue z k v → HasBox z (with_one_value q k v)
-alone_has_box z q k v has known = value_has_box z q k v has known.0 (value_small z k v known)
 
 module _ (z : Schema) (q : Query) (h : List Point) (k l v w : ℕ) (has : HasBox z q) (first : IsValue z k v) (second : IsValue z l w) where
   -- the points with the second value

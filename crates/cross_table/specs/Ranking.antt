@@ -1,7 +1,5 @@
 -- Rows in the order of their totals.
 use Rattle.std.specs.Prelude.{◌≡◌, ℕ, zero, suc, ◌≤◌, ◌==◌, All, List, [], ◌++◌, filter, take}
-use Rattle.query_syntax.specs.declared.query.Query.{Query}
-use Rattle.query_syntax.specs.declared.query.Verb.TheVariants.{Map}
 use Rattle.query_syntax.specs.declared.table.RowOut.{RowOut}
 use Rattle.query_syntax.specs.declared.table.RowOut.TheVariants.{One, Value, Area, Bin, Pair}
 
@@ -25,7 +23,3 @@ AreWithin most rows = All (λ row. (1 ≤ total_of_row row) × (total_of_row row
 -- the second list has the first so many of the rows in the order of their totals, if none of these is 0
 abbrev pub IsFirstByTotal : List RowOut → ℕ → List RowOut → Type 0
 IsFirstByTotal rows count first = (most : ℕ) → AreWithin most rows → first ≡ take count (rows_by_total rows most)
-
--- the map of the query so many levels down
-abbrev pub as_map : Query → ℕ → Query
-as_map q levels = record q { verb = Map levels }

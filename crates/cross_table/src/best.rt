@@ -2,7 +2,7 @@
 ghost use Rattle.std.specs.Prelude.{◌≡◌, ℕ, ◌+◌, ◌≤◌, IsTrue, IfOk, take};
 ghost use Rattle.cube_view.specs.Bag.{EachCounted};
 ghost use Rattle.cross_table.specs.Costs.{best_cost};
-ghost use Rattle.cross_table.specs.Ranking.{as_map, total_of_row, IsFirstByTotal};
+ghost use Rattle.cross_table.specs.Ranking.{total_of_row, IsFirstByTotal};
 ghost use Rattle.cross_table.specs.Verbs.{is_best};
 ghost use Rattle.query_syntax.specs.Queries.{is_valid_query};
 ghost use Rattle.query_syntax.specs.Tables.{table};
@@ -11,19 +11,10 @@ use cube_view::CubeView;
 use outer_io::{List, NoMemory};
 use probe_core::Steps;
 use query_syntax::{Query, RowOut, Table, Verb};
+use query_walk::area_rows;
 use std::alloc::Global;
 use std::cmp::Reverse;
 use std::sync::ledger::Ledger;
-use tile_drill::answer;
-
-/// The map of the query so many levels down.
-fn map_of(query: &Query, levels: u8) -> Query
-    ensures { result ≡ as_map query.now levels }
-{
-    let mut map = *query;
-    map.verb = Verb::Map(levels);
-    map
-}
 
 /// The total of a row.
 fn row_weight(row: &RowOut) -> u64
@@ -68,8 +59,10 @@ pub fn best_answer<V: CubeView, L: Ledger>(
     let Verb::Best { depth, rows } = query.verb else {
         unreachable!()
     };
-    let map = map_of(query, depth);
-    let Table { rows: found, seen } = answer(alloc, view, &map, steps)?;
+    let found = area_rows(alloc, view, query, depth, steps)?;
     let first = first_by_total(found, rows as usize)?;
-    Ok(Table { rows: first, seen })
+    Ok(Table {
+        rows: first,
+        seen: view.seen(),
+    })
 }

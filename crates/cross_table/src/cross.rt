@@ -12,16 +12,16 @@ ghost use Rattle.query_syntax.specs.Parts.{with_one_value};
 ghost use Rattle.query_syntax.specs.Narrowing.{with_value};
 ghost use Rattle.query_syntax.specs.Queries.{is_valid_query};
 ghost use Rattle.query_syntax.specs.Tables.{table};
-ghost use Rattle.query_walk.specs.Costs.{search_cost};
-ghost use Rattle.query_walk.specs.Walks.{HasBox};
+ghost use Rattle.query_walk.specs.Costs.{from_region_cost, region_cost};
+ghost use Rattle.query_walk.specs.Walks.{HasBox, HasWalked};
 
 use cube_view::{CubeView, Schema};
 use outer_io::{List, NoMemory, Text};
 use probe_core::Steps;
 use query_syntax::{Query, RowOut, Table, Verb};
+use query_walk::{region_cursor, value_total};
 use std::alloc::Global;
 use std::sync::ledger::Ledger;
-use tile_drill::value_total;
 
 /// A value of a category, each by its number from 0.
 #[derive(Clone, Copy)]
@@ -48,15 +48,17 @@ fn text_of(alloc: Global, schema: &Schema, of: CategoryValue) -> Result<Text, No
     Text::copy_of(alloc, texts[usize::from(of.value)].as_str())
 }
 
-/// How much the bag has in the query's box that has both values.
+/// How much the bag has in the query's box that has both values, where the walk to the region has ended with that cursor,
+/// or with none.
 fn total_of_pair<V: CubeView, L: Ledger>(
     view: &V,
     query: &Query,
     first: CategoryValue,
     second: CategoryValue,
+    region: Option<V::Cursor>,
     steps: &mut Steps<L>,
 ) -> u64
-    requires has_box { HasBox (V.schema view.now) query.now }
+    requires walk { HasWalked (V.weight_at view.now) (V.seen view.now) (V.schema view.now) query.now (V.stands view.now) (V.address view.now) region }
     requires first { IsValue (V.schema view.now) first.category first.value }
     requires second { IsValue (V.schema view.now) second.category second.value }
     ensures total { EachCounted (V.weight_at view.now) (V.seen view.now) (λ h. result ≡ pair_total (V.schema view.now) query.now h first.category second.category first.value second.value) }
@@ -66,7 +68,7 @@ fn total_of_pair<V: CubeView, L: Ledger>(
         return 0;
     }
     let alone = query.with_one_value(first.category, first.value);
-    value_total(view, &alone, second.category, second.value, steps)
+    value_total(view, &alone, second.category, second.value, region, steps)
 }
 
 /// The row of both values.
@@ -76,15 +78,16 @@ fn row_of_pair<V: CubeView, L: Ledger>(
     query: &Query,
     first: CategoryValue,
     second: CategoryValue,
+    region: Option<V::Cursor>,
     steps: &mut Steps<L>,
 ) -> Result<RowOut, NoMemory>
-    requires has_box { HasBox (V.schema view.now) query.now }
+    requires walk { HasWalked (V.weight_at view.now) (V.seen view.now) (V.schema view.now) query.now (V.stands view.now) (V.address view.now) region }
     requires first { IsValue (V.schema view.now) first.category first.value }
     requires second { IsValue (V.schema view.now) second.category second.value }
     ensures row { IfOk result (λ row. EachCounted (V.weight_at view.now) (V.seen view.now) (λ h. row ≡ pair_row (V.schema view.now) query.now h first.category second.category first.value second.value)) }
     ensures cost { EachCounted (V.weight_at view.now) (V.seen view.now) (λ h. steps.new ≤ steps.old + pair_cost (V.costs view.now) (V.schema view.now) h query.now first.category second.category first.value second.value) }
 {
-    let total = total_of_pair(view, query, first, second, steps);
+    let total = total_of_pair(view, query, first, second, region, steps);
     let first = text_of(alloc, view.schema(), first)?;
     let second = text_of(alloc, view.schema(), second)?;
     Ok(RowOut::Pair(first, second, total))
@@ -97,10 +100,11 @@ fn push_rows_within<V: CubeView, L: Ledger>(
     query: &Query,
     first: CategoryValue,
     second: usize,
+    region: Option<V::Cursor>,
     rows: &mut List<RowOut>,
     steps: &mut Steps<L>,
 ) -> Result<(), NoMemory>
-    requires has_box { HasBox (V.schema view.now) query.now }
+    requires walk { HasWalked (V.weight_at view.now) (V.seen view.now) (V.schema view.now) query.now (V.stands view.now) (V.address view.now) region }
     requires first { IsValue (V.schema view.now) first.category first.value }
     requires second { second < length (V.schema view.now).categories }
     ensures rows { OnOk result (EachCounted (V.weight_at view.now) (V.seen view.now) (λ h. rows.new ≡ rows.old ++ rows_within (V.schema view.now) query.now h first.category second first.value)) }
@@ -111,7 +115,7 @@ fn push_rows_within<V: CubeView, L: Ledger>(
             category: second,
             value: value as u8,
         };
-        let row = row_of_pair(alloc, view, query, first, other, steps)?;
+        let row = row_of_pair(alloc, view, query, first, other, region, steps)?;
         rows.add(row)?;
     }
     Ok(())
@@ -133,12 +137,13 @@ fn cross_rows<V: CubeView, L: Ledger>(
     ensures cost { EachCounted (V.weight_at view.now) (V.seen view.now) (λ h. steps.new ≤ steps.old + pairs_cost (V.costs view.now) (V.schema view.now) h query.now first second) }
 {
     let mut rows = List::new(alloc);
+    let region = region_cursor(view, &query.region, steps);
     for value in 0..value_texts(view.schema(), first).len() {
         let one = CategoryValue {
             category: first,
             value: value as u8,
         };
-        push_rows_within(alloc, view, query, one, second, &mut rows, steps)?;
+        push_rows_within(alloc, view, query, one, second, region, &mut rows, steps)?;
     }
     Ok(rows)
 }

@@ -1,10 +1,10 @@
 //! Tables by two categories, and the tiles with the greatest totals, over any cube view.
 //!
-//! [`cross_answer`] gives a row for each value of one category and, within it, each value of another. Each row is a
-//! walk of `query_walk` with these two values alone, so the table costs as much as so many counts: `specs/Costs.antt`.
-//! [`best_answer`] gives the first rows of a map in the order of their totals, the greatest first and equal ones in
-//! path order: it asks `tile_drill` for the map and sorts its rows. [`cross_sum`] says that the rows of a cross table
-//! add up, and [`top_order`] which tiles are the best ones. How a line asks for either table is left to `query_syntax`.
+//! [`cross_answer`] gives a row for each value of one category and, within it, each value of another. It walks to the
+//! region once, and from there on for each row with these two values alone: `specs/Costs.antt`. [`best_answer`] gives the
+//! first rows of a map in the order of their totals, the greatest first and equal ones in path order: it has the map's
+//! rows from `query_walk` and sorts them. [`cross_sum`] says that the rows of a cross table add up, and [`top_order`]
+//! which tiles are the best ones. How a line asks for either table is left to `query_syntax`.
 //!
 //! ```text
 //! cross_answer(alloc, &view, &query, &mut steps)?     // of `cross k m`: a row for each value of k and of m

@@ -1,7 +1,7 @@
 -- The one walk costs no more than the walks to its addresses, one by one.
 use Rattle.std.proofs.Common.{◌≡◌, ℕ, zero, suc, ◌+◌, ◌<◌, ◌≤◌, Bool, true, false, cond, ltb, List, [], ◌∷◌, map, take, length, get_or, Option, Some, None, refl, sym, ◌∙◌, ap, subst, arith, add-zero}
 use Rattle.std.specs.List.{list_any, sum_by, flat_map}
-use Rattle.std.proofs.lemmas.Bool.{and_parts, lt-ltb}
+use Rattle.std.proofs.lemmas.Bool.{and_parts}
 use Rattle.std.proofs.lemmas.List.Sums.{sum_by-cons, sum_by-append, sum_by-le-sum_by}
 use Rattle.cube_view.specs.Costs.{ViewCosts, has_spot, is_found, cost_if, space_cost, categories_cost, after_space_cost, address_cost}
 use Rattle.cube_view.specs.Bag.{amount, anywhere}
@@ -14,7 +14,7 @@ use Rattle.query_syntax.specs.Addresses.{members_below, asked_values, asked_list
 use Rattle.query_syntax.specs.declared.query.Choice.{Choice}
 use Rattle.query_syntax.specs.declared.query.Choice.TheVariants.{All, Only}
 use Rattle.query_syntax.specs.declared.query.Query.{Query}
-use Rattle.query_walk.specs.Costs.{sum_upto, sum_over, rest_cost, value_cost, choices_from, search_cost}
+use Rattle.query_walk.specs.Costs.{sum_upto, sum_over, rest_cost, value_cost, choices_from, search_cost, region_cost, from_region_cost}
 use Rattle.query_walk.specs.Walks.{is_walkable, are_walkable, HasBox}
 
 abbrev pub Values : Type 0
@@ -203,23 +203,6 @@ module _ (costs : ViewCosts) (z : Schema) (h : List Point) (q : Query) (has : Ha
       let le = sum_by-le-sum_by (each_cost costs z h (c + 1) a) (λ vs. c + (1 + categories_cost costs z h vs a)) (asked_lists cut) (λ vs. omega arith) in
       omega (arith, rest, le)
 
-  walk_within : walk_cost (is_found z h q.region) (ltb 0 (amount anywhere h)) ≤ search_cost costs z h q
+  -- the walk to the region and from there on is within the walks to all addresses
+  pub walk_within : region_cost costs z h q + from_region_cost costs z h q ≤ search_cost costs z h q
   walk_within = let b = bound (is_found z h q.region) (ltb 0 (amount anywhere h)) in let e = search_is in omega (arith, b, e)
-
-  -- a walk that ends in space
-  pub space_within : space_cost costs z h q.region q.region.z ≤ search_cost costs z h q
-  space_within = let w = walk_within in omega (arith, w)
-
-  -- a walk that ends at the step across from the region
-  pub across_within : is_found z h q.region ≡ true → space_cost costs z h q.region q.region.z + 1 ≤ search_cost costs z h q
-  across_within found =
-      let w = walk_within in
-      let e = ap (λ (b : Bool). walk_cost b (ltb 0 (amount anywhere h))) found in
-      omega (arith, w, e)
-
-  -- a walk to its end
-  pub whole_within : is_found z h q.region ≡ true → 0 < amount anywhere h → space_cost costs z h q.region q.region.z + (1 + rest_cost costs z h (choices_from z q 0) (next_dim (region_address q.region))) ≤ search_cost costs z h q
-  whole_within found any =
-      let w = walk_within in
-      let e = ap (λ (b : Bool). walk_cost b (ltb 0 (amount anywhere h))) found ∙ ap (λ (b : Bool). walk_cost true b) (lt-ltb 0 (amount anywhere h) any) in
-      omega (arith, w, e)

@@ -1,19 +1,20 @@
 -- The cost of the one walk, category by category.
-use Rattle.std.proofs.Common.{◌≡◌, ℕ, suc, ◌+◌, ◌<◌, true, List, [], ◌∷◌, take, drop, length, get_or, sym, ◌∙◌, ap, arith, add-one, drop-cons}
+use Rattle.std.proofs.Common.{◌≡◌, ℕ, suc, ◌+◌, ◌<◌, true, ltb, List, [], ◌∷◌, take, drop, length, get_or, sym, ◌∙◌, ap, arith, add-one, drop-cons}
 use Rattle.std.proofs.lemmas.Bool.{lt-ltb}
 use Rattle.std.proofs.lemmas.List.{get_or-take, length-take, drop_all}
 use Rattle.cube_view.proofs.Amounts.{amount-same}
 use Rattle.cube_view.proofs.Costing.{cost_if-true}
-use Rattle.cube_view.specs.Bag.{amount}
+use Rattle.cube_view.specs.Bag.{amount, anywhere}
 use Rattle.cube_view.specs.Costs.{ViewCosts, has_spot}
-use Rattle.cube_view.specs.Places.{is_below, is_under, longer, next_dim}
+use Rattle.cube_view.specs.Places.{is_below, is_under, longer, next_dim, region_address}
 use Rattle.cube_view.specs.Points.{Point}
 use Rattle.cube_view.specs.declared.address.Address.{Address}
+use Rattle.cube_view.specs.declared.address.Tile.{Tile}
 use Rattle.cube_view.specs.declared.schema.Schema.{Schema}
 use Rattle.query_syntax.specs.declared.query.Choice.{Choice}
 use Rattle.query_syntax.specs.declared.query.Choice.TheVariants.{All}
 use Rattle.query_syntax.specs.declared.query.Query.{Query}
-use Rattle.query_walk.specs.Costs.{choices_from, rest_cost, value_cost}
+use Rattle.query_walk.specs.Costs.{choices_from, onward_cost, rest_cost, value_cost}
 use Rattle.query_walk.specs.Walks.{IsAtCategory}
 use Rattle.query_walk.proofs.Sets.{below_is_longer}
 
@@ -37,3 +38,7 @@ module _ (costs : ViewCosts) (z : Schema) (h : List Point) where
       let same = amount-same (is_under z (longer a v)) (is_below z a v) (λ s. below_is_longer z a k v s lt free) h in
       let has : has_spot z h (longer a v) ≡ true = lt-ltb 0 _ (omega (arith, same, some)) in
       ap (λ (n : ℕ). costs.down_cost a + n) (cost_if-true (has_spot z h (longer a v)) (1 + rest_cost costs z h cs (next_dim (longer a v))) has)
+
+  -- the walk from a tile on, where the step across finds something
+  pub onward_is : (q : Query) (t : Tile) → 0 < amount anywhere h → onward_cost costs z h q t ≡ 1 + rest_cost costs z h (choices_from z q 0) (next_dim (region_address t))
+  onward_is q t some = ap (λ (n : ℕ). 1 + n) (cost_if-true (ltb 0 (amount anywhere h)) (rest_cost costs z h (choices_from z q 0) (next_dim (region_address t))) (lt-ltb 0 _ some))

@@ -2,7 +2,11 @@ pub mod Addresses
 pub mod Boxed
 pub mod Costing
 pub mod Descends
+pub mod Drilling
+pub mod MapCosts
 pub mod Numbers
+pub mod OneValue
+pub mod Regions
 pub mod Sets
 pub mod Spans
 pub mod Sums

@@ -1,10 +1,13 @@
--- How many steps a search takes at most, by the costs that a view gives its addresses and the list that it counts.
-use Rattle.std.specs.Prelude.{ℕ, zero, suc, ◌+◌, ◌*◌, Bool, false, if◌then◌else◌, List, [], ◌∷◌, take, drop, length, slice_index_or}
+-- How many steps a search and a map take at most, by the costs that a view gives its addresses and the list that it
+-- counts.
+use Rattle.std.specs.Prelude.{ℕ, zero, suc, ◌+◌, ◌*◌, nat_lt, Bool, false, if◌then◌else◌, List, [], ◌∷◌, take, drop, length, slice_index_or}
 use Rattle.std.specs.List.{sum_by}
-use Rattle.cube_view.specs.Costs.{ViewCosts, has_spot, cost_if, address_cost}
-use Rattle.cube_view.specs.Places.{longer, next_dim}
+use Rattle.cube_view.specs.Bag.{amount, anywhere}
+use Rattle.cube_view.specs.Costs.{ViewCosts, has_spot, is_found, cost_if, space_cost, address_cost}
+use Rattle.cube_view.specs.Places.{longer, longer_tile, next_dim, region_address}
 use Rattle.cube_view.specs.Points.{Point}
 use Rattle.cube_view.specs.declared.address.Address.{Address}
+use Rattle.cube_view.specs.declared.address.Tile.{Tile}
 use Rattle.cube_view.specs.declared.schema.Schema.{Schema}
 use Rattle.query_syntax.specs.Addresses.{addresses}
 use Rattle.query_syntax.specs.declared.query.Choice.{Choice}
@@ -43,3 +46,29 @@ module _ (costs : ViewCosts) (schema : Schema) (h : List Point) where
   -- the cost of each of a query's addresses, together
   abbrev pub search_cost : Query → ℕ
   search_cost q = sum_by (address_cost costs schema h) (addresses schema q)
+
+  -- the walk of a query from a tile on: the step across, and what follows by its choices if the list weighs anything
+  abbrev pub onward_cost : Query → Tile → ℕ
+  onward_cost q t = 1 + cost_if (nat_lt 0 (amount anywhere h)) (rest_cost (choices_from schema q 0) (next_dim (region_address t)))
+
+  -- the walk to a query's region
+  abbrev pub region_cost : Query → ℕ
+  region_cost q = space_cost costs schema h q.region q.region.z
+
+  -- the walk from there on, if the region is found
+  abbrev pub from_region_cost : Query → ℕ
+  from_region_cost q = cost_if (is_found schema h q.region) (onward_cost q q.region)
+
+  -- The tiles so many levels below a tile, come to from it: four downs at each tile with a spot above that level, and
+  -- the walk from each tile with a spot on it
+  abbrev pub areas_cost : Query → ℕ → Tile → ℕ
+  areas_cost q zero t = onward_cost q t
+  areas_cost q (suc levels) t = 4 * costs.down_cost (region_address t) + sum_upto (λ label. cost_if (has_spot schema h (region_address (longer_tile 1 t label))) (areas_cost q levels (longer_tile 1 t label))) 4
+
+  -- the tiles so many levels below a quadrant, if it has a spot
+  abbrev pub quadrant_cost : Query → ℕ → Tile → ℕ → ℕ
+  quadrant_cost q levels t label = cost_if (has_spot schema h (region_address (longer_tile 1 t label))) (areas_cost q levels (longer_tile 1 t label))
+
+  -- a map: the walk to the region, and if that is found the tiles from there; nothing in a view of no points
+  abbrev pub map_cost : Query → ℕ → ℕ
+  map_cost q levels = cost_if (nat_lt 0 (length h)) (region_cost q + cost_if (is_found schema h q.region) (areas_cost q levels q.region))

@@ -1,8 +1,9 @@
 -- Where a walk stands, and which spots it has still to count.
-use Rattle.std.specs.Prelude.{◌≡◌, ℕ, ◌+◌, ◌<◌, ◌≤◌, Bool, true, false, ◌&&◌, ◌==◌, nat_le, nat_lt, IsTrue, List, [], ◌∷◌, length, map, drop, None, slice_index, slice_index_or}
+use Rattle.std.specs.Prelude.{◌≡◌, ℕ, ◌+◌, ◌<◌, ◌≤◌, Bool, true, false, ◌&&◌, ◌==◌, nat_le, nat_lt, IsTrue, List, [], ◌∷◌, length, map, drop, Option, None, IfNone, IfSome, slice_index, slice_index_or}
 use Rattle.std.specs.List.{list_any}
-use Rattle.cube_view.specs.Bag.{amount}
-use Rattle.cube_view.specs.Places.{is_under}
+use Rattle.cube_view.specs.Bag.{amount, EachCounted}
+use Rattle.cube_view.specs.Costs.{is_found}
+use Rattle.cube_view.specs.Places.{is_under, region_address}
 use Rattle.cube_view.specs.Points.{Point}
 use Rattle.cube_view.specs.declared.address.Address.{Address}
 use Rattle.cube_view.specs.declared.category.Category.{Category}
@@ -81,3 +82,15 @@ pub record AsksAtCategory (schema : Schema) (q : Query) (address : Address) (k :
   pub here : IsAtCategory address k
   -- the schema takes what the query asks from there on
   pub choices : HasChoicesFrom schema q k
+
+-- The walk to the query's region has ended, in a view that gives spots `weight_at` and is of `seen` points: with a
+-- cursor at the region, or with none.
+pub record HasWalked {C : Type 0} (weight_at : Spot → ℕ) (seen : ℕ) (schema : Schema) (q : Query) (stands : C → Type 0) (address : C → Address) (end : Option C) : Type 0 where
+  -- the query's box can be walked
+  pub has_box : HasBox schema q
+  -- a cursor stands at the region
+  pub place : IfSome end (λ c. stands c × (address c ≡ region_address q.region))
+  -- then each list that the view counts has a spot in the region, or this is all of space
+  pub found : IfSome end (λ _. EachCounted weight_at seen (λ h. IsTrue (is_found schema h q.region)))
+  -- and else it has none there
+  pub none : IfNone end (EachCounted weight_at seen (HasNone schema (region_address q.region)))

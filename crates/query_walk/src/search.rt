@@ -6,8 +6,8 @@ ghost use Rattle.query_syntax.specs.Queries.{is_valid_query};
 ghost use Rattle.query_walk.specs.Costs.{search_cost};
 ghost use Rattle.query_walk.specs.Walks.{HasBox};
 
-use crate::categories::total_from;
 use crate::region::region_cursor;
+use crate::tile::total_in_region;
 use cube_view::CubeView;
 use probe_core::Steps;
 use query_syntax::Query;
@@ -29,11 +29,6 @@ pub fn total_in_box<V: CubeView, L: Ledger>(view: &V, query: &Query, steps: &mut
     ensures total { EachCounted (V.weight_at view.now) (V.seen view.now) (λ h. result ≡ total_of (V.schema view.now) (box query.now) h) }
     ensures cost { EachCounted (V.weight_at view.now) (V.seen view.now) (λ h. steps.new ≤ steps.old + search_cost (V.costs view.now) (V.schema view.now) h query.now) }
 {
-    let Some(region) = region_cursor(view, &query.region, steps) else {
-        return 0;
-    };
-    match view.across(region, steps) {
-        Some(next) => total_from(view, query, next, 0, steps),
-        None => 0,
-    }
+    let region = region_cursor(view, &query.region, steps);
+    total_in_region(view, query, region, steps)
 }

@@ -6,14 +6,13 @@ ghost use Rattle.query_syntax.specs.Tables.{is_drill, table, rows_of_verb};
 ghost use Rattle.query_walk.specs.Costs.{search_cost};
 ghost use Rattle.tile_drill.specs.Costs.{table_cost};
 
-use crate::areas::area_rows;
 use crate::bins::bins_rows;
 use crate::values::value_rows;
 use cube_view::CubeView;
 use outer_io::{List, NoMemory};
 use probe_core::Steps;
 use query_syntax::{Query, RowOut, Table, Verb};
-use query_walk::total;
+use query_walk::{area_rows, total};
 use std::alloc::Global;
 use std::sync::ledger::Ledger;
 

@@ -2,10 +2,9 @@
 ghost use Rattle.std.specs.Prelude.{◌≡◌, ℕ, ◌<◌, ◌≤◌, IfOk, length, ◌+◌};
 ghost use Rattle.cube_view.specs.Bag.{EachCounted};
 ghost use Rattle.query_syntax.specs.Boxes.{box, total as total_of};
-ghost use Rattle.query_syntax.specs.Parts.{with_one_value};
 ghost use Rattle.query_syntax.specs.Narrowing.{with_value};
 ghost use Rattle.query_syntax.specs.Tables.{value_row, rows_of_verb};
-ghost use Rattle.query_walk.specs.Costs.{search_cost};
+ghost use Rattle.query_walk.specs.Costs.{from_region_cost, region_cost};
 ghost use Rattle.query_walk.specs.Walks.{HasBox};
 ghost use Rattle.tile_drill.specs.Costs.{values_cost};
 
@@ -13,28 +12,9 @@ use cube_view::CubeView;
 use outer_io::{List, NoMemory, Text};
 use probe_core::Steps;
 use query_syntax::{Query, RowOut, Verb};
-use query_walk::total_in_box;
+use query_walk::{region_cursor, value_total};
 use std::alloc::Global;
 use std::sync::ledger::Ledger;
-
-/// How much the bag has in the query's box, of its set of the category this value alone. It takes no memory.
-pub fn value_total<V: CubeView, L: Ledger>(
-    view: &V,
-    query: &Query,
-    category: usize,
-    value: u8,
-    steps: &mut Steps<L>,
-) -> u64
-    requires has_box { HasBox (V.schema view.now) query.now }
-    requires category { category < length (V.schema view.now).categories }
-    ensures total { EachCounted (V.weight_at view.now) (V.seen view.now) (λ h. result ≡ total_of (V.schema view.now) (with_value (box query.now) category value) h) }
-    ensures cost { EachCounted (V.weight_at view.now) (V.seen view.now) (λ h. steps.new ≤ steps.old + search_cost (V.costs view.now) (V.schema view.now) h (with_one_value query.now category value)) }
-{
-    if !query.sets[category].has(value) {
-        return 0;
-    }
-    total_in_box(view, &query.with_one_value(category, value), steps)
-}
 
 /// The rows of a histogram: one for each value of the category.
 pub fn value_rows<V: CubeView, L: Ledger>(
@@ -52,9 +32,10 @@ pub fn value_rows<V: CubeView, L: Ledger>(
     let mut rows = List::new(alloc);
     let place = usize::from(category);
     let values = &view.schema().categories.get(place).values;
+    let region = region_cursor(view, &query.region, steps);
     for value in 0..values.len() {
         let text = Text::copy_of(alloc, values.get(value).as_str())?;
-        let total = value_total(view, query, place, value as u8, steps);
+        let total = value_total(view, query, place, value as u8, region, steps);
         rows.add(RowOut::Value(text, total))?;
     }
     Ok(rows)

@@ -13,13 +13,16 @@ use Rattle.cube_view.specs.declared.address.Address.{Address}
 use Rattle.cube_view.specs.declared.address.Tile.{Tile}
 use Rattle.cube_view.specs.declared.schema.Schema.{Schema}
 use Rattle.query_syntax.specs.Addresses.{addresses, address_at, asked_lists}
+use Rattle.query_syntax.specs.Boxes.{box, total}
+use Rattle.query_syntax.specs.Narrowing.{with_tile}
 use Rattle.query_syntax.specs.Parts.{with_region}
 use Rattle.query_syntax.specs.Tiles.{is_tile}
 use Rattle.query_syntax.specs.declared.query.Choice.{Choice}
 use Rattle.query_syntax.specs.declared.query.Choice.TheVariants.{All, Only}
 use Rattle.query_syntax.specs.declared.query.Query.{Query}
-use Rattle.query_walk.proofs.Addresses.{across_within, sum_by-map, whole_within}
-use Rattle.query_walk.specs.Costs.{choices_from, rest_cost, search_cost, sum_over}
+use Rattle.query_walk.proofs.Addresses.{sum_by-map, walk_within}
+use Rattle.query_walk.proofs.Sets.{box_is}
+use Rattle.query_walk.specs.Costs.{choices_from, onward_cost, rest_cost, search_cost, sum_over}
 use Rattle.query_walk.specs.Walks.{is_left, HasBox}
 use Rattle.window_cover.specs.Costs.{from_tile_cost, tile_cost}
 use Rattle.window_cover.specs.Ways.{is_asked_in}
@@ -30,10 +33,10 @@ opened : (t a : Bool) → (t && true) && a ≡ t && a
 opened true a = refl
 opened false a = refl
 
--- what is left to count across from a tile is what the query asks for in it
-pub left_is_asked : (z : Schema) (q : Query) (t : Tile) (a b : Address) (h : List Point) → b ≡ region_address t → a ≡ next_dim b → amount (is_left z q a 0) h ≡ amount (is_asked_in z.depth q t) h
-left_is_asked z q t a b h at next =
-    ap (λ (x : Address). amount (is_left z q x 0) h) (next ∙ ap next_dim at)
+-- what a query counts with a tile as its region is what it asks for in the tile
+pub asked_total : (z : Schema) (q : Query) (t : Tile) (h : List Point) → total z (with_tile (box q) t) h ≡ amount (is_asked_in z.depth q t) h
+asked_total z q t h =
+    sym (box_is z (with_region q t) h (next_dim (region_address t)) (region_address t) refl refl)
     ∙ amount-same (is_left z q (next_dim (region_address t)) 0) (is_asked_in z.depth q t) (λ s. opened (in_tile z.depth t s) _) h
 
 -- The costs of a view, where downs in space are free
@@ -93,18 +96,14 @@ module _ (costs : ViewCosts) (z : Schema) (h : List Point) where
       has_here : HasBox z (with_region q t)
       has_here = record { region = tile; wide = has.wide; choices = has.choices; order = has.order }
 
-      -- a walk that ends at the step across from the tile
-      pub across_paid : (old new : ℕ) → new ≤ old + 1 → new ≤ old + tile_cost costs z h q t
-      across_paid old new step =
-          let w = across_within free z h (with_region q t) has_here found in
-          let e = search_free in
-          omega (arith, w, e, step)
+      onward_same : onward_cost free z h (with_region q t) t ≡ onward_cost costs z h q t
+      onward_same = ap (λ n. 1 + cost_if (ltb 0 (amount anywhere h)) n) (same_rest (choices_from z q 0) (next_dim (region_address t)) (omega arith))
 
-      -- a walk to its end
-      pub walk_paid : (a b : Address) (old mid new : ℕ) → b ≡ region_address t → a ≡ next_dim b → 0 < amount anywhere h → mid ≤ old + 1 → new ≤ mid + rest_cost costs z h (choices_from z q 0) a → new ≤ old + tile_cost costs z h q t
-      walk_paid a b old mid new at next some step rest =
-          let w = whole_within free z h (with_region q t) has_here found some in
+      -- the walk from the tile on is within the walks from it to its addresses
+      pub onward_within : onward_cost costs z h q t ≤ tile_cost costs z h q t
+      onward_within =
+          let w = walk_within free z h (with_region q t) has_here in
+          let here = cost_if-true (is_found z h t) (onward_cost free z h (with_region q t) t) found in
           let e = search_free in
-          let s = same_rest (choices_from z q 0) (next_dim (region_address t)) (omega arith) in
-          let here = ap (λ (x : Address). rest_cost costs z h (choices_from z q 0) x) (next ∙ ap next_dim at) in
-          omega (arith, w, e, s, here, step, rest)
+          let same = onward_same in
+          omega (arith, w, here, e, same)

@@ -9,8 +9,8 @@ ghost use Rattle.query_syntax.specs.Tiles.{is_tile};
 ghost use Rattle.query_syntax.specs.Verbs.{is_window};
 ghost use Rattle.query_syntax.specs.Windows.{window_total as window_total_of};
 ghost use Rattle.query_walk.specs.Walks.{HasBox};
-ghost use Rattle.window_cover.specs.Costs.{tile_cost, window_cost};
-ghost use Rattle.window_cover.specs.Ways.{HasComeTo, inside_cost, is_asked_in, is_window_in};
+ghost use Rattle.window_cover.specs.Costs.{window_cost};
+ghost use Rattle.window_cover.specs.Ways.{HasComeTo, inside_cost, is_window_in};
 ghost use Rattle.window_cover.specs.Windows.{rect_of_verb};
 
 use crate::rect::{crosses, has_tile};
@@ -18,28 +18,9 @@ use cube_view::{CubeView, Tile, quadrant};
 use outer_io::{List, NoMemory};
 use probe_core::Steps;
 use query_syntax::{Query, Rect, RowOut, Table, Verb};
-use query_walk::total_from;
+use query_walk::total_in_tile;
 use std::alloc::Global;
 use std::sync::ledger::Ledger;
-
-/// How much the bag has in the tile at which the cursor stands, of what the query asks for.
-fn total_in_tile<V: CubeView, L: Ledger>(
-    view: &V,
-    query: &Query,
-    tile: &Tile,
-    cursor: V::Cursor,
-    steps: &mut Steps<L>,
-) -> u64
-    requires stands { V.stands view.now cursor }
-    requires walk { HasComeTo (V.weight_at view.now) (V.seen view.now) (V.schema view.now) query.now (V.address view.now cursor) tile.now }
-    ensures total { EachCounted (V.weight_at view.now) (V.seen view.now) (λ h. result ≡ amount (is_asked_in (V.schema view.now).depth query.now tile.now) h) }
-    ensures cost { EachCounted (V.weight_at view.now) (V.seen view.now) (λ h. steps.new ≤ steps.old + tile_cost (V.costs view.now) (V.schema view.now) h query.now tile.now) }
-{
-    match view.across(cursor, steps) {
-        Some(next) => total_from(view, query, next, 0, steps),
-        None => 0,
-    }
-}
 
 /// How much the bag has of the window in the tile at which the cursor stands.
 fn total_inside<V: CubeView, L: Ledger>(

@@ -4,6 +4,7 @@ use Rattle.std.proofs.Math.Logic.{∥∥₁_elim}
 use Rattle.cube_view.proofs.Weighing.{IsBag-small}
 use Rattle.cube_view.specs.declared.address.Tile.{Tile}
 use Rattle.query_walk.proofs.Sets.{sum_fits}
+use Rattle.window_cover.proofs.FromTile.{asked_total, onward_within}
 use Rattle.window_cover.proofs.Sharing as sharing
 use Rattle.window_cover.proofs.Sharing.{is_window_under, deep_in, tells_crossed, tells_inside}
 use Rattle.window_cover.specs.Ways.{inside_cost}
@@ -13,12 +14,16 @@ use Rattle.window_cover.proofs.window.+total_inside.Goals as goal
 pub returns-then-has_tile-clause-total : goal.returns-then-has_tile-clause-total
 returns-then-has_tile-clause-total g t c h counts =
     let z = g.V.CubeView.schema c.args.view.now in
-    c.total_in_tile.ensures.total h counts ∙ sharing.asked_inside z c.args.query.now c.args.rect.now c.args.tile.now h (tells_inside z _ c.args.rect.now c.args.tile.now _ _ c.schema.ensures c.has_tile.ensures c.if-has_tile.true)
+    c.total_in_tile.ensures.total h counts ∙ (asked_total z c.args.query.now c.args.tile.now h ∙ sharing.asked_inside z c.args.query.now c.args.rect.now c.args.tile.now h (tells_inside z _ c.args.rect.now c.args.tile.now _ _ c.schema.ensures c.has_tile.ensures c.if-has_tile.true))
 
 pub returns-then-has_tile-clause-cost : goal.returns-then-has_tile-clause-cost
 returns-then-has_tile-clause-cost g t c h counts =
     let z = g.V.CubeView.schema c.args.view.now in
-    sharing.inside_paid (g.V.CubeView.costs c.args.view.now) z h c.args.query.now c.args.rect.now c.args.tile.now c.args.steps.now c.total_in_tile.new.steps (tells_inside z _ c.args.rect.now c.args.tile.now _ _ c.schema.ensures c.has_tile.ensures c.if-has_tile.true) (c.total_in_tile.ensures.cost h counts)
+    let costs = g.V.CubeView.costs c.args.view.now in
+    let walk = c.requires.walk in
+    let within = onward_within costs z h c.args.query.now c.args.tile.now (walk.found h counts) walk.has_box walk.tile in
+    let step = c.total_in_tile.ensures.cost h counts in
+    sharing.inside_paid costs z h c.args.query.now c.args.rect.now c.args.tile.now c.args.steps.now c.total_in_tile.new.steps (tells_inside z _ c.args.rect.now c.args.tile.now _ _ c.schema.ensures c.has_tile.ensures c.if-has_tile.true) (omega (arith, within, step))
 
 pub returns-then-not-crosses-clause-total : goal.returns-then-not-crosses-clause-total
 returns-then-not-crosses-clause-total g t c h counts =

@@ -1,13 +1,11 @@
 use Rattle.std.proofs.Common.{◌++◌, List, sym, ◌∙◌, ap, arith}
-use Rattle.std.specs.List.{filter_map}
 use Rattle.cube_view.specs.Places.{is_under, region_address}
-use Rattle.query_syntax.specs.Tables.{area_row}
-use Rattle.query_syntax.specs.TileOrder.{tiles_inside}
 use Rattle.query_syntax.specs.declared.table.RowOut.{RowOut}
-use Rattle.tile_drill.proofs.Drilling.{no_rows_under, no_points, rows_of_way}
-use Rattle.tile_drill.proofs.Paying.{map_way, map_found}
-use Rattle.tile_drill.proofs.areas.area_rows.Goals as goal
-use Rattle.tile_drill.proofs.areas.area_rows.Goals.{in-Some+in_ok-drill, in_default}
+use Rattle.query_walk.specs.Areas.{areas_inside}
+use Rattle.query_walk.proofs.Drilling.{no_rows_under, no_points, rows_of_way}
+use Rattle.query_walk.proofs.MapCosts.{map_way, map_found}
+use Rattle.query_walk.proofs.areas.area_rows.Goals as goal
+use Rattle.query_walk.proofs.areas.area_rows.Goals.{in-Some+in_ok-drill, in_default}
 
 pub returns-then-seen-eq0-clause-rows : goal.returns-then-seen-eq0-clause-rows
 returns-then-seen-eq0-clause-rows g c h counts =
@@ -18,7 +16,7 @@ returns-then-seen-eq0-clause-rows g c h counts =
 pub returns-clause-rows : goal.returns-clause-rows
 returns-clause-rows g c h counts =
     let z = g.V.CubeView.schema c.args.view.now in
-    let all = filter_map (area_row z c.args.query.now h) (tiles_inside c.args.levels c.args.query.now.region) in
+    let all = areas_inside z c.args.query.now h c.args.levels c.args.query.now.region in
     let way = rows_of_way z c.args.query.now h c.requires.has_box c.args.levels in
     elim c.match-region_cursor.branch [
       | in-Some+in_ok-drill w ↦ (let inner = w.in_ok-drill.ensures {u = tt} in w.rows-is ∙ (inner.rows h counts ∙ (ap (λ (rows : List RowOut). rows ++ all) c.new-rows.ensures ∙ way)))
