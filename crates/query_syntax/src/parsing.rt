@@ -1,5 +1,5 @@
 //! Lines read as queries.
-ghost use Rattle.std.specs.Prelude.{◌≡◌, ◌+◌, true, length, unwrap_or, IfOk, IsOk, IsTrue, OnOk};
+ghost use Rattle.std.specs.Prelude.{◌≡◌, ◌∷◌, ◌+◌, true, length, unwrap_or, IfOk, IsOk, IsTrue, OnOk};
 ghost use Rattle.std.specs.Str.{is_utf8};
 ghost use Rattle.query_syntax.specs.Meaning.{meaning, query_of, query_with, query_if_fits, query_after_verb, is_comment, asks_valid, FiltersFit};
 ghost use Rattle.query_syntax.specs.Queries.{is_too_deep, is_valid_query, verb_in_range, whole_space};
@@ -109,14 +109,19 @@ fn read_after(
     test_depth(schema, verb, filters)
 }
 
-/// Reads what the words of the line ask for: the verb, and the filters, where there was none before.
+/// Reads what a first word and the line after it ask for: the verb, and the filters, where there was none before.
 #[tactic(auto, unfolding(crate::specs::Meaning::query_of))]
-fn read_query(schema: &Schema, line: &[u8], filters: &mut Filters) -> Result<Verb, WordFault>
+fn read_query(
+    schema: &Schema,
+    word: &[u8],
+    line: &[u8],
+    filters: &mut Filters,
+) -> Result<Verb, WordFault>
     requires { filters.old ≡ no_filters }
-    ensures read { GivesRead (λ verb. query_with verb filters.new) result (query_of schema.now (words line.now)) }
+    ensures read { GivesRead (λ verb. query_with verb filters.new) result (query_of schema.now (word.now ∷ words line.now)) }
     ensures valid { IfOk result (λ verb. IsTrue (is_valid_query schema.now (query_with verb filters.new))) }
 {
-    let (verb, rest) = verb_of(schema, line)?;
+    let (verb, rest) = verb_of(schema, word, line)?;
     read_after(schema, verb, rest, filters)?;
     Ok(verb)
 }
@@ -150,11 +155,11 @@ fn meaning_of(schema: &Schema, line: &[u8]) -> Parsed
     if begins_comment(line) {
         return Parsed::Skip;
     }
-    if next_word(line).is_none() {
+    let Some((word, rest)) = next_word(line) else {
         return Parsed::Skip;
-    }
+    };
     let mut filters = no_filters_yet();
-    match read_query(schema, line, &mut filters) {
+    match read_query(schema, word, rest, &mut filters) {
         Ok(verb) => Parsed::Ask(query_from(verb, &filters)),
         Err(e) => Parsed::Fault(e.fault, e.word),
     }

@@ -1,5 +1,5 @@
 //! Verbs in words.
-ghost use Rattle.std.specs.Prelude.{◌≡◌, ◌≤◌, ◌<◌, ◌-◌, length, IfSome, IfOk, IsTrue, ℕ};
+ghost use Rattle.std.specs.Prelude.{◌≡◌, ◌∷◌, ◌≤◌, ◌<◌, ◌-◌, length, IfSome, IfOk, IsTrue, ℕ};
 ghost use Rattle.std.specs.Str.{bytes_eq};
 ghost use Rattle.query_syntax.specs.Items.{category_number};
 ghost use Rattle.query_syntax.specs.Reading.{GivesRead, number_at, number_of};
@@ -171,33 +171,36 @@ fn best_of(line: &[u8]) -> Result<(Verb, &[u8]), WordFault>
     ))
 }
 
-/// The verb that the line begins with, and what comes after its words.
+/// The verb that the first word names, with its further words at the front of the line, and what comes after them.
 #[tactic(auto, unfolding(crate::specs::Verbs::verb_at))]
-pub fn verb_of<'a>(schema: &Schema, line: &'a [u8]) -> Result<(Verb, &'a [u8]), WordFault>
+pub fn verb_of<'a>(
+    schema: &Schema,
+    word: &[u8],
+    line: &'a [u8],
+) -> Result<(Verb, &'a [u8]), WordFault>
     ensures valid { IfOk result (λ x. IsTrue (verb_in_range schema.now.depth (length schema.now.categories) x.0)) }
-    ensures read { GivesRead (λ x. (x.0, words x.1.now)) result (verb_at schema.now.depth schema.now.categories (words line.now)) }
+    ensures read { GivesRead (λ x. (x.0, words x.1.now)) result (verb_at schema.now.depth schema.now.categories (word.now ∷ words line.now)) }
 {
-    let (word, rest) = word_of(line, 1)?;
     if is_text(word, "count") {
-        Ok((Verb::Count, rest))
+        Ok((Verb::Count, line))
     } else if is_text(word, "hist") {
-        hist_of(schema, rest)
+        hist_of(schema, line)
     } else if is_text(word, "map") {
-        map_of(rest)
+        map_of(line)
     } else if is_text(word, "series") {
-        series_of(rest)
+        series_of(line)
     } else if is_text(word, "window") {
-        window_of(schema.depth, rest)
+        window_of(schema.depth, line)
     } else if is_text(word, "cross") {
-        cross_of(schema, rest)
+        cross_of(schema, line)
     } else if is_text(word, "best") {
-        best_of(rest)
+        best_of(line)
     } else if is_text(word, "stat") {
-        Ok((Verb::Stat, rest))
+        Ok((Verb::Stat, line))
     } else if is_text(word, "told") {
-        Ok((Verb::Told, rest))
+        Ok((Verb::Told, line))
     } else if is_text(word, "quit") {
-        Ok((Verb::Quit, rest))
+        Ok((Verb::Quit, line))
     } else {
         Err(WordFault::at(QueryFault::UnknownVerb, 1))
     }
