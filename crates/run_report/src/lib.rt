@@ -19,8 +19,6 @@ mod faults;
 mod journal;
 mod lines;
 mod reporting;
-#[cfg(test)]
-mod tests;
 mod texts;
 
 pub use counts::{FeedCounts, ScriptCounts};
