@@ -11,7 +11,7 @@ ghost use Rattle.world_core.specs.PairFact.{IsPrefix};
 use crate::asking::{asks_look, asks_news};
 use cube_view::Grow;
 use mailbox::MailOut;
-use outer_io::NoMemory;
+use outer_io::{List, NoMemory};
 use probe_core::Steps;
 use published_pair::Viewer;
 use query_syntax::Parsed;
@@ -49,6 +49,7 @@ fn look_once<V: Grow, R: Wait, L: Ledger>(
     viewer: Viewer<V>,
     parsed: &Parsed,
     steps: &mut Steps<L>,
+    room: &mut List<u8>,
 ) -> (Viewer<V>, Result<Served, NoMemory>)
     requires valid { IsTrue (asks_valid viewer.schema parsed.now) }
     requires look { asks_look parsed.now ≡ true }
@@ -60,7 +61,7 @@ fn look_once<V: Grow, R: Wait, L: Ledger>(
 {
     let told = viewer.told();
     let shown = viewer.look(rt);
-    let served = serve(alloc, shown.view(), told, parsed, steps);
+    let served = serve(alloc, shown.view(), told, parsed, steps, room);
     (shown.leave(), served)
 }
 
@@ -73,6 +74,7 @@ pub(crate) fn answer_line<V: Grow, R: Wait, L: Ledger>(
     mail: &mut MailOut,
     parsed: &Parsed,
     steps: &mut Steps<L>,
+    room: &mut List<u8>,
 ) -> (Viewer<V>, Result<Served, NoMemory>)
     requires pair { viewer.shown.book ≡ mail.old.pair }
     requires valid { IsTrue (asks_valid viewer.schema parsed.now) }
@@ -82,8 +84,8 @@ pub(crate) fn answer_line<V: Grow, R: Wait, L: Ledger>(
 {
     let viewer = catch_up(rt, viewer, mail, parsed);
     if asks_look(parsed) {
-        return look_once(rt, alloc, viewer, parsed, steps);
+        return look_once(rt, alloc, viewer, parsed, steps, room);
     }
-    let served = serve_unseen(alloc, viewer.told(), parsed);
+    let served = serve_unseen(alloc, viewer.told(), parsed, room);
     (viewer, served)
 }

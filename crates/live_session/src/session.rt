@@ -20,7 +20,7 @@ use crate::asking::seen_asked;
 use crate::turn::Turn;
 use cube_view::{Grow, Schema};
 use mailbox::MailOut;
-use outer_io::{IoFault, LineCutter, NoMemory, Sink, Source};
+use outer_io::{IoFault, LineCutter, List, NoMemory, Sink, Source};
 use probe_core::Steps;
 use published_pair::Viewer;
 use query_syntax::Parsed;
@@ -193,12 +193,13 @@ impl<I: Source, O: Sink> Session<I, O> {
     }
 
     /// Puts what is answered to a line by a viewer that was shown and told what the reply prints. A reply that found no
-    /// memory is the line that says so.
+    /// memory is the line that says so. The memory of a reply's line goes back to `room`.
     fn finish<V: Grow>(
         &mut self,
         viewer: &Viewer<V>,
         parsed: &Parsed,
         served: Result<Served, NoMemory>,
+        room: &mut List<u8>,
     ) -> Result<Turn, SessionFault>
         requires open { self.old.ended ≡ false }
         requires room { (self.old.replies < self.old.source.given) × (self.old.source.given ≤ input_limit) }
@@ -213,7 +214,9 @@ impl<I: Source, O: Sink> Session<I, O> {
             Ok(Served::Skipped) => Ok(Turn::Skipped),
             Ok(Served::Reply(line)) => {
                 let seen = seen_asked(viewer.seen(), parsed);
-                self.put(line.as_slice(), seen)
+                let turn = self.put(line.as_slice(), seen);
+                *room = line;
+                turn
             }
             Ok(Served::Quit) => {
                 self.ended = true;
@@ -229,7 +232,8 @@ impl<I: Source, O: Sink> Session<I, O> {
     /// Reads one line of the script, learns what the mailbox holds and looks once where the line asks for it, and puts its
     /// reply, if it asks for one. The viewer comes back with every answer. `Ended` comes at `quit`, at the script's end and
     /// on an ended session; a fault is answered once, and from then on the session has ended. `NoMemory` comes where the
-    /// line, its meaning, the list of seen numbers or the sink found none.
+    /// line, its meaning, the list of seen numbers or the sink found none. The memory of `room` is used from reply to
+    /// reply.
     pub fn turn<V: Grow, R: Wait, L: Ledger>(
         &mut self,
         rt: &R,
@@ -237,6 +241,7 @@ impl<I: Source, O: Sink> Session<I, O> {
         viewer: Viewer<V>,
         mail: &mut MailOut,
         steps: &mut Steps<L>,
+        room: &mut List<u8>,
     ) -> (Viewer<V>, Result<Turn, SessionFault>)
         requires { viewer.shown.book ≡ mail.old.pair }
         ensures turned { HasTurned I.left I.faults O.held V.weight_at V.seen V.schema V.numbers viewer.schema (news_of viewer.shown viewer.learned mail.old) (news_of result.0.shown result.0.learned mail.new) self.old self.new result.1 }
@@ -252,8 +257,8 @@ impl<I: Source, O: Sink> Session<I, O> {
         }
         match self.read_next(alloc, viewer.schema()) {
             Ok(Some(parsed)) => {
-                let (viewer, served) = answer_line(rt, alloc, viewer, mail, &parsed, steps);
-                let turn = self.finish(&viewer, &parsed, served);
+                let (viewer, served) = answer_line(rt, alloc, viewer, mail, &parsed, steps, room);
+                let turn = self.finish(&viewer, &parsed, served, room);
                 (viewer, turn)
             }
             Ok(None) => (viewer, Ok(Turn::Ended)),
@@ -283,8 +288,9 @@ impl<I: Source, O: Sink> Session<I, O> {
         ensures names { (O.name self.new.sink ≡ O.name self.old.sink) × (mail.new.mailbox ≡ mail.old.mailbox) × (mail.new.pair ≡ mail.old.pair) }
     {
         let mut viewer = viewer;
+        let mut room = List::new(alloc);
         'turns: loop {
-            let (after, turn) = self.turn(rt, alloc, viewer, mail, steps);
+            let (after, turn) = self.turn(rt, alloc, viewer, mail, steps, &mut room);
             viewer = after;
             match turn {
                 Ok(Turn::Ended) => return (viewer, Ok(())),

@@ -141,10 +141,11 @@ fn take_turns<V: Grow, R: Wait + Abort, L: Ledger>(
         };
     }
     let mut viewer = viewer;
+    let mut room = List::new(alloc);
     let mut answer = Ok(Turn::Skipped);
     for turn in 0..100 {
         grow_before(rt, publisher, schema, put, case, turn);
-        let (after, next) = session.turn(rt, alloc, viewer, take, steps);
+        let (after, next) = session.turn(rt, alloc, viewer, take, steps, &mut room);
         viewer = after;
         answer = next;
         if is_last(answer) {
@@ -201,7 +202,14 @@ fn check_in<V: Grow, R: Wait + Abort, L: Ledger>(
         &mut steps,
     );
     let shown = (viewer.told(), viewer.seen());
-    let (_viewer, last) = session.turn(rt, alloc, viewer, &mut take, &mut steps);
+    let (_viewer, last) = session.turn(
+        rt,
+        alloc,
+        viewer,
+        &mut take,
+        &mut steps,
+        &mut List::new(alloc),
+    );
     assert_eq!(rt; (answer, last), (case.end, Ok(Turn::Ended)));
     assert!(rt; !case.runs || shown == (3, 3));
     assert_eq!(rt;

@@ -16,7 +16,7 @@ ghost use Rattle.session_core.specs.Transcript.{seen_in};
 
 use crate::replies::NextReply;
 use cube_view::{CubeView, Point, Stat};
-use outer_io::NoMemory;
+use outer_io::{List, NoMemory};
 use plain_cube::PlainCube;
 use probe_core::Steps;
 use query_syntax::{Parsed, QueryFault, Verb};
@@ -98,7 +98,7 @@ fn is_served<L: Ledger>(
     ensures { (reply : Reply) → ReplyFits reply → line.now ≡ reply_line reply → IfOk result (λ same. IsTrue same ↔ IsReplyOver cube.now parsed.now reply) }
 {
     let mut steps = Steps::<L>::new(blank);
-    match serve(alloc, cube, 0, parsed, &mut steps)? {
+    match serve(alloc, cube, 0, parsed, &mut steps, &mut List::new(alloc))? {
         Served::Reply(answer) => Ok(same_bytes(answer.as_slice(), line)),
         Served::Skipped | Served::Quit => Ok(false),
     }

@@ -20,7 +20,7 @@ use crate::SessionFault;
 use crate::asking::next_asked;
 use crate::serving::{Served, serve};
 use cube_view::CubeView;
-use outer_io::{IoFault, LineCutter, NoMemory, Sink, Source};
+use outer_io::{IoFault, LineCutter, List, NoMemory, Sink, Source};
 use probe_core::Steps;
 use query_syntax::Parsed;
 use reply_json::no_memory_line;
@@ -43,6 +43,7 @@ fn serve_in<V: CubeView, L: Ledger>(
     told: u64,
     parsed: &Parsed,
     blank: Blank,
+    room: &mut List<u8>,
 ) -> Result<Served, NoMemory>
     requires blank { IsBlankOf L.name L.parts blank }
     requires valid { IsTrue (asks_valid (V.schema view.now) parsed.now) }
@@ -50,7 +51,7 @@ fn serve_in<V: CubeView, L: Ledger>(
     ensures no_memory { OnErr result (asks_reply parsed.now ≡ true) }
 {
     let mut steps = Steps::<L>::new(blank);
-    serve(alloc, view, told, parsed, &mut steps)
+    serve(alloc, view, told, parsed, &mut steps, room)
 }
 
 // Puts a line.
@@ -70,13 +71,14 @@ fn put_line<O: Sink>(line: &[u8], out: &mut O) -> Result<(), SessionFault>
 }
 
 /// Puts the answer to what a line means, in one put, and says whether the script goes on. A reply that finds no memory
-/// is the line that says so.
+/// is the line that says so. The memory of `room` is used from reply to reply.
 fn put_answer<V: CubeView, O: Sink>(
     alloc: Global,
     view: &V,
     told: u64,
     parsed: &Parsed,
     lacked: &mut bool,
+    room: &mut List<u8>,
     out: &mut O,
 ) -> Result<bool, SessionFault>
     requires { IsTrue (asks_valid (V.schema view.now) parsed.now) × (told ≤ V.seen view.now) }
@@ -88,11 +90,12 @@ fn put_answer<V: CubeView, O: Sink>(
     ensures others { (result ≢ Err SessionFault.Read) × (result ≢ Err SessionFault.TooMuch) }
     ensures stays { (O.name out.new ≡ O.name out.old) × (lacked.old ≡ true → lacked.new ≡ true) }
 {
-    match serve_in::<V, Brand>(alloc, view, told, parsed, Blank::new(1)) {
+    match serve_in::<V, Brand>(alloc, view, told, parsed, Blank::new(1), room) {
         Ok(Served::Skipped) => Ok(true),
         Ok(Served::Quit) => Ok(false),
         Ok(Served::Reply(line)) => {
             put_line(line.as_slice(), out)?;
+            *room = line;
             Ok(true)
         }
         Err(NoMemory) => {
@@ -110,6 +113,7 @@ fn answer_next<V: CubeView, S: Source, O: Sink>(
     told: u64,
     cutter: &mut LineCutter<S>,
     lacked: &mut bool,
+    room: &mut List<u8>,
     out: &mut O,
 ) -> Result<bool, SessionFault>
     requires { IsGoing cutter.old × (told ≤ V.seen view.now) }
@@ -122,7 +126,7 @@ fn answer_next<V: CubeView, S: Source, O: Sink>(
     ensures stays { (O.name out.new ≡ O.name out.old) × (lacked.old ≡ true → lacked.new ≡ true) }
 {
     match next_asked(alloc, view.schema(), cutter) {
-        Ok(Some(parsed)) => put_answer(alloc, view, told, &parsed, lacked, out),
+        Ok(Some(parsed)) => put_answer(alloc, view, told, &parsed, lacked, room, out),
         Ok(None) => Ok(false),
         Err(fault) => Err(fault),
     }
@@ -150,8 +154,9 @@ pub fn answer_lines<V: CubeView, S: Source, O: Sink>(
     ensures name { O.name out.new ≡ O.name out.old }
 {
     let mut lacked = false;
+    let mut room = List::new(alloc);
     'turns: loop {
-        match answer_next(alloc, view, told, cutter, &mut lacked, out) {
+        match answer_next(alloc, view, told, cutter, &mut lacked, &mut room, out) {
             Ok(true) => {}
             Ok(false) => {
                 return ScriptEnd {

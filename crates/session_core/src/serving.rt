@@ -17,8 +17,9 @@ use cube_view::CubeView;
 use outer_io::{List, NoMemory};
 use probe_core::Steps;
 use query_syntax::{Parsed, Query, Table, Verb};
-use reply_json::{Reply, print_reply};
+use reply_json::{Reply, print_reply_in};
 use std::alloc::Global;
+use std::mem::replace;
 use std::sync::ledger::Ledger;
 use tile_drill::answer;
 use window_cover::window_answer;
@@ -31,14 +32,14 @@ pub enum Served {
     Quit,
 }
 
-// The line of a reply, with its line feed.
+// The line of a reply, with its line feed, in the memory of `room`, which is taken.
 #[tactic(auto, unfolding(crate::specs::Asked::reply_line))]
-fn line_of(alloc: Global, reply: &Reply) -> Result<Served, NoMemory>
+fn line_of(alloc: Global, reply: &Reply, room: &mut List<u8>) -> Result<Served, NoMemory>
     requires { IsTrue (is_valid_reply reply.now) }
     ensures line { IfOk result (λ served. served ≡ Served.Reply (reply_line reply.now)) }
     ensures fits { OnOk result (ReplyFits reply.now) }
 {
-    let mut line = print_reply(alloc, reply)?;
+    let mut line = print_reply_in(replace(room, List::new(alloc)), reply)?;
     line.add(b'\n')?;
     Ok(Served::Reply(line))
 }
@@ -73,6 +74,7 @@ fn serve_table<V: CubeView, L: Ledger>(
     told: u64,
     query: &Query,
     steps: &mut Steps<L>,
+    room: &mut List<u8>,
 ) -> Result<Served, NoMemory>
     requires valid { IsTrue (is_valid_query (V.schema view.now) query.now) }
     requires verb { IsTrue (has_table query.now.verb) }
@@ -80,22 +82,27 @@ fn serve_table<V: CubeView, L: Ledger>(
     ensures cost { EachCounted (V.weight_at view.now) (V.seen view.now) (λ h. steps.new ≤ steps.old + answer_cost (V.costs view.now) (V.schema view.now) (Parsed.Ask query.now) h) }
 {
     let table = table_in(alloc, view, query, steps)?;
-    line_of(alloc, &Reply::Table(table))
+    line_of(alloc, &Reply::Table(table), room)
 }
 
 // The line of the structure's numbers.
 #[tactic(auto, unfolding(reply_json::specs::Validity::is_valid_reply))]
-fn serve_stat<V: CubeView>(alloc: Global, view: &V) -> Result<Served, NoMemory>
+fn serve_stat<V: CubeView>(alloc: Global, view: &V, room: &mut List<u8>) -> Result<Served, NoMemory>
     ensures line { IfOk result (λ served. served ≡ Served.Reply (reply_line (Reply.Stat (V.numbers view.now) (V.seen view.now)))) }
     ensures fits { OnOk result (ReplyFits (Reply.Stat (V.numbers view.now) (V.seen view.now))) }
 {
-    line_of(alloc, &Reply::Stat(view.stat(), view.seen()))
+    line_of(alloc, &Reply::Stat(view.stat(), view.seen()), room)
 }
 
 /// The answer to a line that asks for no look at a view, which is the same over any list of points; `told` is the told
-/// length. `NoMemory` only where the line asks for a reply.
+/// length, and `room` is as for [`serve`]. `NoMemory` only where the line asks for a reply.
 #[tactic(auto, unfolding(reply_json::specs::Validity::is_valid_reply))]
-pub fn serve_unseen(alloc: Global, told: u64, parsed: &Parsed) -> Result<Served, NoMemory>
+pub fn serve_unseen(
+    alloc: Global,
+    told: u64,
+    parsed: &Parsed,
+    room: &mut List<u8>,
+) -> Result<Served, NoMemory>
     requires { asks_look parsed.now ≡ false }
     ensures served { (stat : Stat) (schema : Schema) (h : List Point) → IfOk result (Serves stat schema h told parsed.now) }
     ensures no_memory { OnErr result (asks_reply parsed.now ≡ true) }
@@ -103,11 +110,11 @@ pub fn serve_unseen(alloc: Global, told: u64, parsed: &Parsed) -> Result<Served,
     match parsed {
         Parsed::Skip => Ok(Served::Skipped),
         Parsed::Ask(query) => match query.verb {
-            Verb::Told => line_of(alloc, &Reply::Told(told)),
+            Verb::Told => line_of(alloc, &Reply::Told(told), room),
             Verb::Quit => Ok(Served::Quit),
             _ => unreachable!(),
         },
-        Parsed::Fault(fault, word) => line_of(alloc, &Reply::Fault(*fault, *word)),
+        Parsed::Fault(fault, word) => line_of(alloc, &Reply::Fault(*fault, *word), room),
     }
 }
 
@@ -119,6 +126,7 @@ fn serve_query<V: CubeView, L: Ledger>(
     told: u64,
     query: &Query,
     steps: &mut Steps<L>,
+    room: &mut List<u8>,
 ) -> Result<Served, NoMemory>
     requires { IsTrue (is_valid_query (V.schema view.now) query.now) }
     ensures served { EachCounted (V.weight_at view.now) (V.seen view.now) (λ h. IfOk result (Serves (V.numbers view.now) (V.schema view.now) h told (Parsed.Ask query.now))) }
@@ -132,14 +140,17 @@ fn serve_query<V: CubeView, L: Ledger>(
         | Verb::Series { .. }
         | Verb::Window(_)
         | Verb::Cross(_, _)
-        | Verb::Best { .. } => serve_table(alloc, view, told, query, steps),
-        Verb::Stat => serve_stat(alloc, view),
-        Verb::Told | Verb::Quit => serve_unseen(alloc, told, &Parsed::Ask(*query)),
+        | Verb::Best { .. } => serve_table(alloc, view, told, query, steps, room),
+        Verb::Stat => serve_stat(alloc, view, room),
+        Verb::Told | Verb::Quit => serve_unseen(alloc, told, &Parsed::Ask(*query), room),
     }
 }
 
 /// The answer to what a line means, over any list of points that the view counts; `told` is the told length. A table
 /// takes at most the steps of its bound, every other line none. `NoMemory` only where the line asks for a reply.
+///
+/// A reply takes the memory of `room` for its line. The caller gives the line back there once it is put, so that the
+/// next reply takes no further memory where it fits. What `room` holds is not looked at.
 #[tactic(auto, unfolding(reply_json::specs::Validity::is_valid_reply))]
 pub fn serve<V: CubeView, L: Ledger>(
     alloc: Global,
@@ -147,6 +158,7 @@ pub fn serve<V: CubeView, L: Ledger>(
     told: u64,
     parsed: &Parsed,
     steps: &mut Steps<L>,
+    room: &mut List<u8>,
 ) -> Result<Served, NoMemory>
     requires valid { IsTrue (asks_valid (V.schema view.now) parsed.now) }
     ensures served { EachCounted (V.weight_at view.now) (V.seen view.now) (λ h. IfOk result (Serves (V.numbers view.now) (V.schema view.now) h told parsed.now)) }
@@ -154,7 +166,7 @@ pub fn serve<V: CubeView, L: Ledger>(
     ensures no_memory { OnErr result (asks_reply parsed.now ≡ true) }
 {
     match parsed {
-        Parsed::Ask(query) => serve_query(alloc, view, told, query, steps),
-        Parsed::Skip | Parsed::Fault(..) => serve_unseen(alloc, told, parsed),
+        Parsed::Ask(query) => serve_query(alloc, view, told, query, steps, room),
+        Parsed::Skip | Parsed::Fault(..) => serve_unseen(alloc, told, parsed, room),
     }
 }

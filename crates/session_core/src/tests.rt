@@ -27,7 +27,7 @@ fn serve_line<V: CubeView, L: Ledger>(
     steps: &mut Steps<L>,
 ) -> Result<Served, NoMemory> {
     match parse(alloc, view.schema(), line.as_bytes()) {
-        Ok(parsed) => serve(alloc, view, TOLD, &parsed, steps),
+        Ok(parsed) => serve(alloc, view, TOLD, &parsed, steps, &mut List::new(alloc)),
         Err(NoMemory) => Err(NoMemory),
     }
 }
@@ -233,7 +233,7 @@ fn maps_no_points<L: Ledger>(alloc: Global, steps: &mut Steps<L>) -> Result<Serv
 {
     let cube = PlainCube::new(alloc, schema_of_kinds(alloc)?);
     let map = first_map();
-    serve(alloc, &cube, TOLD, &map, steps)
+    serve(alloc, &cube, TOLD, &map, steps, &mut List::new(alloc))
 }
 
 fn no_steps<L: Ledger>(rt: &impl Abort, alloc: Global, blank: Blank) -> Result<(), NoMemory>

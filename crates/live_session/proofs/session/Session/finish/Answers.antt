@@ -41,18 +41,18 @@ returns-in-Ok-Reply-clause-puts g c =
     let shown = IsShown g.V.CubeView.weight_at g.V.CubeView.seen g.V.CubeView.schema g.V.CubeView.numbers viewer.schema viewer.shown.points in
     let said = of_ok (SaysOver viewer.schema shown viewer.shown.points (length viewer.learned.points) p) c.args.served c.in-Ok-Reply.field-0 c.in-Ok-Reply.is c.requires.served.says in record {
       answered = λ a b news is.
-          answered_reply g.O.Sink.held viewer.schema shown a.shown b.shown (length a.told) (length b.told) c.args.self.now c.put.new.self p
+          answered_reply g.O.Sink.held viewer.schema shown a.shown b.shown (length a.told) (length b.told) c.args.self.now c.put-turn.new.self p
           news.goes_on.0 (prefix-longer a.told b.told news.goes_on.1) (fresh_length a.told b.told b.shown p news.goes_on.1 news.fresh)
-          c.put.result c.in-Ok-Reply.field-0 c.as_slice.result.now c.in-Ok-Reply.line c.seen_asked-seen.result c.in-Ok-Reply.field-0-is c.as_slice.ensures
+          c.put-turn.result c.in-Ok-Reply.field-0 c.as_slice.result.now c.in-Ok-Reply.line c.seen_asked-seen.result c.in-Ok-Reply.field-0-is c.as_slice.ensures
           (c.seen_asked-seen.ensures ∙ ap (λ n. seen_asked n p) c.seen.ensures ∙ seen_news viewer.shown viewer.learned p b is)
           (says_news viewer.schema shown viewer.shown viewer.learned p b c.in-Ok-Reply.field-0 is said)
-          c.put.ensures.put;
+          c.put-turn.ensures.put;
       broken = λ a b news is e.
-          broken_reply g.O.Sink.held viewer.schema shown a.shown b.shown (length a.told) (length b.told) c.args.self.now c.put.new.self p
+          broken_reply g.O.Sink.held viewer.schema shown a.shown b.shown (length a.told) (length b.told) c.args.self.now c.put-turn.new.self p
           news.goes_on.0 (prefix-longer a.told b.told news.goes_on.1) (fresh_length a.told b.told b.shown p news.goes_on.1 news.fresh)
           c.in-Ok-Reply.field-0 c.as_slice.result.now c.in-Ok-Reply.line c.in-Ok-Reply.field-0-is c.as_slice.ensures
           (says_news viewer.schema shown viewer.shown viewer.learned p b c.in-Ok-Reply.field-0 is said)
-          (c.put.ensures.write e).0 (c.put.ensures.write e).1;
+          (c.put-turn.ensures.write e).0 (c.put-turn.ensures.write e).1;
     }
 
 pub returns-in-Err-clause-puts : goal.returns-in-Err-clause-puts
@@ -62,9 +62,9 @@ returns-in-Err-clause-puts g c =
     let shown = IsShown g.V.CubeView.weight_at g.V.CubeView.seen g.V.CubeView.schema g.V.CubeView.numbers viewer.schema viewer.shown.points in
     let asks = of_err _ c.args.served c.in-Err.field-0 c.in-Err.is c.requires.served.no_memory in record {
       answered = λ a b news is.
-          subst (λ (s : SessionState _ _). IfOk c.put-in-Err.result (Answered g.O.Sink.held viewer.schema shown a.shown b.shown (length a.told) (length b.told) s c.put-in-Err.new.self p)) c.self-in-Err.view_is
-          (answered_lack g.O.Sink.held viewer.schema shown a.shown b.shown (length a.told) (length b.told) _ c.put-in-Err.new.self p c.put-in-Err.result c.as_bytes.result.now c.no_memory_line.result.now c.as_bytes.ensures.value c.no_memory_line.ensures asks c.put-in-Err.ensures.put);
+          subst (λ (s : SessionState _ _). IfOk c.put.result (Answered g.O.Sink.held viewer.schema shown a.shown b.shown (length a.told) (length b.told) s c.put.new.self p)) c.self-in-Err.view_is
+          (answered_lack g.O.Sink.held viewer.schema shown a.shown b.shown (length a.told) (length b.told) _ c.put.new.self p c.put.result c.as_bytes.result.now c.no_memory_line.result.now c.as_bytes.ensures.value c.no_memory_line.ensures asks c.put.ensures.put);
       broken = λ a b news is e.
-          subst (λ (s : SessionState _ _). IsBroken g.O.Sink.held viewer.schema shown a.shown b.shown (length a.told) (length b.told) s c.put-in-Err.new.self p) c.self-in-Err.view_is
-          (broken_lack g.O.Sink.held viewer.schema shown a.shown b.shown (length a.told) (length b.told) _ c.put-in-Err.new.self p c.as_bytes.result.now c.no_memory_line.result.now c.as_bytes.ensures.value c.no_memory_line.ensures asks (c.put-in-Err.ensures.write e).0 (c.put-in-Err.ensures.write e).1);
+          subst (λ (s : SessionState _ _). IsBroken g.O.Sink.held viewer.schema shown a.shown b.shown (length a.told) (length b.told) s c.put.new.self p) c.self-in-Err.view_is
+          (broken_lack g.O.Sink.held viewer.schema shown a.shown b.shown (length a.told) (length b.told) _ c.put.new.self p c.as_bytes.result.now c.no_memory_line.result.now c.as_bytes.ensures.value c.no_memory_line.ensures asks (c.put.ensures.write e).0 (c.put.ensures.write e).1);
     }
