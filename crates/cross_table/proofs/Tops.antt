@@ -1,5 +1,5 @@
 -- The rows of a map in the order of their totals are those of the best tiles.
-use Rattle.std.proofs.Common.{◌≡◌, ℕ, zero, suc, ◌+◌, ◌*◌, ◌≤◌, Bool, true, false, not, ◌==◌, eqb, ltb, leb, List, [], ◌∷◌, ◌++◌, length, cond, map, take, filter, refl, sym, ◌∙◌, ap, subst, arith}
+use Rattle.std.proofs.Common.{◌≡◌, ℕ, zero, suc, ◌+◌, ◌≤◌, Bool, true, false, not, ◌==◌, eqb, List, [], ◌∷◌, ◌++◌, cond, map, take, filter, refl, sym, ◌∙◌, ap, subst, arith}
 use Rattle.std.specs.List.{AllByRecursion, cons_option, filter_map}
 use Rattle.std.specs.Prelude.{if◌then◌else◌, nat_lt, None, Some}
 use Rattle.std.proofs.lemmas.Bool.Decides.{nat_tests}

@@ -28,16 +28,29 @@ abbrev pub choices_from : Schema → Query → ℕ → List Choice
 choices_from schema q k = drop k (take (length schema.categories) q.sets)
 
 module _ (costs : ViewCosts) (schema : Schema) (h : List Point) where
-  -- The one walk through all addresses that go on from this one by these choices, to time: a step across for all values
-  -- of a category, or a down for each value of its set, and where that is found a step across
+  -- The one walk through all addresses that go on from this one by these choices, to time, where its end takes so many
+  -- steps: a step across for all values of a category, or a down for each value of its set, and where that is found a
+  -- step across
+  abbrev pub walk_cost : (Address → ℕ) → List Choice → Address → ℕ
+  walk_cost end [] a = end a
+  walk_cost end (All ∷ choices) a = 1 + walk_cost end choices (next_dim a)
+  walk_cost end (Only set ∷ choices) a = sum_over set (λ v. costs.down_cost a + cost_if (has_spot schema h (longer a v)) (1 + walk_cost end choices (next_dim (longer a v))))
+
+  -- the same by one value, with these choices after it
+  abbrev pub value_walk_cost : (Address → ℕ) → List Choice → Address → ℕ → ℕ
+  value_walk_cost end choices a v = costs.down_cost a + cost_if (has_spot schema h (longer a v)) (1 + walk_cost end choices (next_dim (longer a v)))
+
+  -- two running totals
+  abbrev pub two_totals : Address → ℕ
+  two_totals a = 2 * costs.before_cost a
+
+  -- the walk of a total: it ends with two running totals
   abbrev pub rest_cost : List Choice → Address → ℕ
-  rest_cost [] a = 2 * costs.before_cost a
-  rest_cost (All ∷ choices) a = 1 + rest_cost choices (next_dim a)
-  rest_cost (Only set ∷ choices) a = sum_over set (λ v. costs.down_cost a + cost_if (has_spot schema h (longer a v)) (1 + rest_cost choices (next_dim (longer a v))))
+  rest_cost choices a = walk_cost two_totals choices a
 
   -- the same by one value, with these choices after it
   abbrev pub value_cost : List Choice → Address → ℕ → ℕ
-  value_cost choices a v = costs.down_cost a + cost_if (has_spot schema h (longer a v)) (1 + rest_cost choices (next_dim (longer a v)))
+  value_cost choices a v = value_walk_cost two_totals choices a v
 
   -- the same by each value of a set
   abbrev pub set_cost : List Choice → Address → List Bool → ℕ

@@ -1,3 +1,5 @@
+pub mod Gaining
 pub mod Growing
-pub mod Paying
 pub mod Numbers
+pub mod Paying
+pub mod Rows

@@ -1,15 +1,17 @@
 -- What the rows of a table cost, one after the other.
-use Rattle.std.proofs.Common.{◌≡◌, ℕ, ◌+◌, ◌-◌, ◌*◌, ◌≤◌, List, length, ap, arith}
-use Rattle.std.proofs.Math.Nat.{add-mul}
-use Rattle.cube_view.specs.Costs.{ViewCosts}
+use Rattle.std.proofs.Common.{◌≡◌, ℕ, ◌+◌, ◌-◌, ◌<◌, ◌≤◌, Bool, true, ltb, List, length, ◌∙◌, ap, arith}
+use Rattle.std.proofs.lemmas.Bool.{lt-ltb}
+use Rattle.cube_view.specs.Bag.{amount, anywhere}
+use Rattle.cube_view.specs.Costs.{ViewCosts, cost_if, is_found}
+use Rattle.cube_view.specs.Places.{next_dim, region_address}
 use Rattle.cube_view.specs.Points.{Point}
 use Rattle.cube_view.specs.declared.schema.Schema.{Schema}
 use Rattle.query_syntax.specs.Items.{values_at}
 use Rattle.query_syntax.specs.Parts.{with_one_value}
 use Rattle.query_syntax.specs.declared.query.Query.{Query}
-use Rattle.query_walk.specs.Costs.{from_region_cost, region_cost, sum_upto}
+use Rattle.query_walk.specs.Costs.{choices_from, from_region_cost, region_cost, sum_upto, walk_cost}
 use Rattle.query_walk.proofs.Sums.{sum_upto-more, sum_upto-rises}
-use Rattle.tile_drill.specs.Costs.{values_cost}
+use Rattle.tile_drill.specs.Costs.{bins_cost, ends_cost, values_cost}
 
 -- What the values of a category cost
 
@@ -35,6 +37,19 @@ module _ (costs : ViewCosts) (z : Schema) (h : List Point) (q : Query) (k : ℕ)
       let e = ap (sum_upto value_cost) all in
       omega (arith, r, e, space, so_far)
 
--- one row more of a series, of which each costs as much
-pub row_paid : (i each start old new : ℕ) → old ≤ start + i * each → new ≤ old + each → new ≤ start + (i + 1) * each
-row_paid i each start old new so_far step = let a = add-mul i 1 each in omega (arith, a, so_far, step)
+-- What a series costs
+
+module _ (costs : ViewCosts) (z : Schema) (h : List Point) (q : Query) (rows : ℕ) where
+  abbrev series_way : Bool → Bool → ℕ
+  series_way found any = region_cost costs z h q + cost_if found (1 + cost_if any (walk_cost costs z h (ends_cost costs (rows + 1)) (choices_from z q 0) (next_dim (region_address q.region))))
+
+  module _ (found : is_found z h q.region ≡ true) where
+    -- a walk that ends at the step across from the region
+    pub series_found : region_cost costs z h q + 1 ≤ bins_cost costs z h q rows
+    series_found = let e = ap (λ (b : Bool). series_way b (ltb 0 (amount anywhere h))) found in omega (arith, e)
+
+    -- a walk to its ends
+    pub series_across : 0 < amount anywhere h → region_cost costs z h q + (1 + walk_cost costs z h (ends_cost costs (rows + 1)) (choices_from z q 0) (next_dim (region_address q.region))) ≤ bins_cost costs z h q rows
+    series_across any =
+        let e = ap (λ (b : Bool). series_way b (ltb 0 (amount anywhere h))) found ∙ ap (λ (b : Bool). series_way true b) (lt-ltb 0 (amount anywhere h) any) in
+        omega (arith, e)

@@ -1,1 +1,3 @@
 pub mod Costs
+pub mod Ends
+pub mod Series

@@ -1,34 +1,74 @@
 //! The rows of a series.
-ghost use Rattle.std.specs.Prelude.{◌≡◌, ℕ, ◌+◌, ◌*◌, ◌<◌, ◌≤◌, ◌^◌, IfOk};
+ghost use Rattle.std.specs.Prelude.{◌≡◌, ℕ, ◌+◌, ◌*◌, ◌<◌, ◌≤◌, ◌^◌, IfOk, length, replicate};
 ghost use Rattle.cube_view.specs.Bag.{EachCounted};
-ghost use Rattle.query_syntax.specs.Boxes.{box, total as total_of};
-ghost use Rattle.query_syntax.specs.Narrowing.{with_bins};
 ghost use Rattle.query_syntax.specs.Tables.{rows_of_verb};
 ghost use Rattle.query_syntax.specs.Verbs.{bins, most_rows};
-ghost use Rattle.query_walk.specs.Costs.{search_cost};
 ghost use Rattle.query_walk.specs.Walks.{HasBox};
+ghost use Rattle.tile_drill.specs.Costs.{bins_cost};
+ghost use Rattle.tile_drill.specs.Series.{AreRowTotals, HasRoom};
 
+use crate::sums::{Series, add_from};
 use cube_view::CubeView;
 use outer_io::{List, NoMemory};
 use probe_core::Steps;
-use query_syntax::{Query, RowOut, Span, Verb};
-use query_walk::total_in_box;
+use query_syntax::{Query, RowOut, Verb};
+use query_walk::region_cursor;
 use std::alloc::Global;
 use std::sync::ledger::Ledger;
 
-/// How much the bag has in the query's region and sets, in the bins of the span.
-fn bins_total<V: CubeView, L: Ledger>(
-    view: &V,
-    query: &Query,
-    span: Span,
-    steps: &mut Steps<L>,
-) -> u64
-    requires has_box { HasBox (V.schema view.now) query.now }
-    requires order { span.from ≤ span.to }
-    ensures total { EachCounted (V.weight_at view.now) (V.seen view.now) (λ h. result ≡ total_of (V.schema view.now) (with_bins (box query.now) span.from span.to) h) }
-    ensures cost { EachCounted (V.weight_at view.now) (V.seen view.now) (λ h. steps.new ≤ steps.old + search_cost (V.costs view.now) (V.schema view.now) h query.now) }
+/// So many zeros.
+fn zeros(alloc: Global, count: usize) -> Result<Vec<u64>, NoMemory>
+    ensures { IfOk result (λ numbers. numbers.items ≡ replicate count 0) }
 {
-    total_in_box(view, &query.with_span(span), steps)
+    match vec![in alloc; 0; count] {
+        Ok(numbers) => Ok(numbers),
+        Err(_) => Err(NoMemory),
+    }
+}
+
+/// Puts each row's total in the place of its zero. It takes no memory.
+fn add_all<V: CubeView, L: Ledger>(
+    view: &V,
+    series: &Series,
+    ends: &mut [u64],
+    sums: &mut [u64],
+    steps: &mut Steps<L>,
+)
+    requires has_box { HasBox (V.schema view.now) series.now.query }
+    requires room { HasRoom series.now ends.old sums.old }
+    requires zeros { sums.old ≡ replicate series.now.rows 0 }
+    ensures totals { EachCounted (V.weight_at view.now) (V.seen view.now) (AreRowTotals (V.schema view.now) series.now sums.new) }
+    ensures cost { EachCounted (V.weight_at view.now) (V.seen view.now) (λ h. steps.new ≤ steps.old + bins_cost (V.costs view.now) (V.schema view.now) h series.now.query series.now.rows) }
+{
+    let Some(region) = region_cursor(view, &series.query.region, steps) else {
+        return;
+    };
+    match view.across(region, steps) {
+        Some(next) => add_from(view, series, next, 0, ends, sums, steps),
+        None => {}
+    }
+}
+
+/// The total of each row. `NoMemory` where there is no room for as many numbers twice.
+fn row_totals<V: CubeView, L: Ledger>(
+    alloc: Global,
+    view: &V,
+    series: &Series,
+    steps: &mut Steps<L>,
+) -> Result<List<u64>, NoMemory>
+    requires has_box { HasBox (V.schema view.now) series.now.query }
+    requires few { series.now.rows ≤ most_rows }
+    requires small { series.now.first + series.now.wide * (series.now.rows + 1) < 2 ^ 64 }
+    ensures totals { IfOk result (λ totals. EachCounted (V.weight_at view.now) (V.seen view.now) (AreRowTotals (V.schema view.now) series.now totals)) }
+    ensures long { IfOk result (λ totals. length totals ≡ series.now.rows) }
+    ensures cost { EachCounted (V.weight_at view.now) (V.seen view.now) (λ h. steps.new ≤ steps.old + bins_cost (V.costs view.now) (V.schema view.now) h series.now.query series.now.rows) }
+{
+    let mut ends = zeros(alloc, series.rows + 1)?;
+    let mut sums = zeros(alloc, series.rows)?;
+    let places = ends.as_mut_slice();
+    let totals = sums.as_mut_slice();
+    add_all(view, series, places, totals, steps);
+    Ok(List::from_vec(sums))
 }
 
 /// The rows of a series: from a first bin on, each of so many bins.
@@ -46,15 +86,21 @@ pub fn bins_rows<V: CubeView, L: Ledger>(
     requires wide { wide ≤ bins }
     requires count { count ≤ most_rows }
     ensures rows { IfOk result (λ rows. EachCounted (V.weight_at view.now) (V.seen view.now) (λ h. rows ≡ rows_of_verb (V.schema view.now) query.now h (Verb.Series first wide count))) }
-    ensures cost { EachCounted (V.weight_at view.now) (V.seen view.now) (λ h. steps.new ≤ steps.old + count * search_cost (V.costs view.now) (V.schema view.now) h query.now) }
+    ensures cost { EachCounted (V.weight_at view.now) (V.seen view.now) (λ h. steps.new ≤ steps.old + bins_cost (V.costs view.now) (V.schema view.now) h query.now count) }
 {
+    let series = Series {
+        query: *query,
+        first,
+        wide,
+        rows: count as usize,
+    };
+    let found = row_totals(alloc, view, &series, steps)?;
+    let totals = found.as_slice();
     let mut rows = List::new(alloc);
     for i in 0..count {
         let place = u64::from(i);
-        let from = first + place * wide;
-        let to = first + (place + 1) * wide;
-        let total = bins_total(view, query, Span { from, to }, steps);
-        rows.add(RowOut::Bin(from, total))?;
+        let total = totals[i as usize];
+        rows.add(RowOut::Bin(first + place * wide, total))?;
     }
     Ok(rows)
 }

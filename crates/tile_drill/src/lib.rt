@@ -11,6 +11,8 @@
 #![tactic(auto)]
 
 mod bins;
+mod ends;
+mod sums;
 mod table;
 #[cfg(test)]
 mod tests;

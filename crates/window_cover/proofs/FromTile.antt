@@ -43,7 +43,7 @@ asked_total z q t h =
 
 module _ (costs : ViewCosts) (z : Schema) (h : List Point) where
   abbrev free : ViewCosts
-  free = record { down_cost = λ a. cond (eqb a.dim 1) 0 (costs.down_cost a); before_cost = costs.before_cost }
+  free = record costs { down_cost = λ a. cond (eqb a.dim 1) 0 (costs.down_cost a) }
 
   free_down : (t : Tile) (level : ℕ) → down_in_space free z h t level ≡ 0
   free_down t level = elim (is_found z h (tile_at t level)) as (λ b. cost_if b 0 ≡ 0) [ true ↦ refl | false ↦ refl ]

@@ -2,8 +2,7 @@ use Rattle.std.proofs.Common.{◌∙◌}
 use Rattle.cross_table.proofs.Tables.{table_is}
 use Rattle.cross_table.proofs.Tops.{best_above, first_are_top}
 use Rattle.cross_table.specs.Ranking.{IsFirstByTotal}
-use Rattle.std.proofs.Common.{List, ap, arith, subst}
-use Rattle.cross_table.specs.Costs.{best_cost}
+use Rattle.std.proofs.Common.{List, subst}
 use Rattle.query_syntax.specs.declared.table.RowOut.{RowOut}
 use Rattle.query_walk.proofs.Boxed.{valid_has_box}
 use Rattle.cross_table.proofs.best.best_answer.Goals as goal

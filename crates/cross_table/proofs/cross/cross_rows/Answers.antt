@@ -1,4 +1,4 @@
-use Rattle.std.proofs.Common.{◌≡◌, ℕ, ◌+◌, ◌∙◌, ap, arith}
+use Rattle.std.proofs.Common.{◌≡◌, ℕ, ◌∙◌, ap, arith}
 use Rattle.std.specs.List.{flat_map}
 use Rattle.cross_table.proofs.Paying.{number_of_values, rows_more, paid_more, paid_in_all, paid_to_value, texts_counted, values_under}
 use Rattle.cross_table.specs.Costs.{within_cost}

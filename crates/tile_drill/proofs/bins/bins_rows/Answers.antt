@@ -1,14 +1,25 @@
+use Rattle.std.proofs.Common.{ℕ, ◌+◌, ◌*◌, List, get_or, sym, ◌∙◌, ap, arith}
+use Rattle.std.proofs.Math.Nat.{mul-le-mul_right}
+use Rattle.query_syntax.specs.Boxes.{box, total}
+use Rattle.query_syntax.specs.Narrowing.{with_bins}
 use Rattle.query_syntax.specs.Tables.{bins_row}
-use Rattle.query_walk.specs.Costs.{search_cost}
-use Rattle.tile_drill.proofs.Paying.{row_paid}
 use Rattle.tile_drill.proofs.Growing.{one_row_more, bins_row_is}
 use Rattle.tile_drill.proofs.bins.bins_rows.Goals as goal
+
+pub row_totals-requires-clause-small : goal.row_totals-requires-clause-small
+row_totals-requires-clause-small g c κs within =
+    let m = mul-le-mul_right (c.args.count + 1) c.requires.wide in
+    omega (arith, m, c.requires.first, c.requires.count)
 
 pub loop-i-preserved : goal.loop-i-preserved
 loop-i-preserved g c =
     let z = g.V.CubeView.schema c.args.view.now in
+    let q = c.args.query.now in
     record {
-      rows = λ h counts. one_row_more (bins_row z c.args.query.now h c.args.first c.args.wide) c.loop-i.i c.loop-i.rows c.add.new.self _ c.in_ok-add.ensures.added (c.loop-i.invariant.rows h counts)
-          (bins_row_is z c.args.query.now h c.args.first c.args.wide c.loop-i.i c.from-place.result c.bins_total-total.result c.from-place.ensures (c.bins_total-total.ensures.total h counts));
-      cost = λ h counts. row_paid c.loop-i.i (search_cost (g.V.CubeView.costs c.args.view.now) z h c.args.query.now) _ _ _ (c.loop-i.invariant.cost h counts) (c.bins_total-total.ensures.cost h counts);
+      rows = λ h counts.
+          let all = c.in_ok-found.ensures.totals h counts in
+          let here = ap (λ (xs : List ℕ). get_or xs c.loop-i.i 0) c.as_slice-totals.ensures ∙ all.each c.loop-i.i c.loop-i-test.true in
+          let at_place = ap (λ (j : ℕ). total z (with_bins (box q) (c.args.first + j * c.args.wide) (c.args.first + (j + 1) * c.args.wide)) h) c.from-place.ensures in
+          one_row_more (bins_row z q h c.args.first c.args.wide) c.loop-i.i c.loop-i.rows c.add.new.self _ c.in_ok-add.ensures.added (c.loop-i.invariant.rows h counts)
+          (bins_row_is z q h c.args.first c.args.wide c.loop-i.i c.from-place.result _ c.from-place.ensures (here ∙ sym at_place));
     }
