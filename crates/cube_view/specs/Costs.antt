@@ -14,6 +14,8 @@ pub record ViewCosts : Type 0 where
   pub down_cost : Address → ℕ
   -- `before`
   pub before_cost : Address → ℕ
+  -- `before_each`, for so many ends
+  pub before_each_cost : Address → ℕ → ℕ
 
 -- the list has a spot under the address
 abbrev pub has_spot : Schema → List Point → Address → Bool

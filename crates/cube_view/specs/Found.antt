@@ -1,7 +1,8 @@
 -- What the calls of a view find.
-use Rattle.std.specs.Prelude.{◌≡◌, ℕ, ◌<◌, ◌≤◌, List, Option, MatchOption}
+use Rattle.std.specs.Prelude.{◌≡◌, ℕ, ◌+◌, ◌*◌, ◌<◌, ◌≤◌, List, map, Option, MatchOption}
+use Rattle.std.specs.List.{range_with_len}
 use Rattle.cube_view.specs.Bag.{amount}
-use Rattle.cube_view.specs.Places.{is_below, is_below_from}
+use Rattle.cube_view.specs.Places.{is_below, is_below_from, is_before}
 use Rattle.cube_view.specs.Points.{Point}
 use Rattle.cube_view.specs.declared.address.Address.{Address}
 use Rattle.cube_view.specs.declared.schema.Schema.{Schema}
@@ -14,3 +15,11 @@ SomeIfAny answer n = MatchOption answer (n ≡ 0) (λ _. 0 < n)
 abbrev pub IsNextLabel : Schema → Address → ℕ → Option ℕ → List Point → Type 0
 IsNextLabel schema address first answer h = MatchOption answer (amount (is_below_from schema address first) h ≡ 0)
     (λ l. (first ≤ l) × (0 < amount (is_below schema address l) h) × ((k : ℕ) → first ≤ k → k < l → amount (is_below schema address k) h ≡ 0))
+
+-- how much the list has under the address in bins less than each of n ends: `from`, `from + wide` and so on
+abbrev pub totals_before : Schema → Address → ℕ → ℕ → ℕ → List Point → List ℕ
+totals_before schema address from wide n h = map (λ k. amount (is_before schema address (from + k * wide)) h) (range_with_len 0 n)
+
+-- the totals are those of the list
+abbrev pub AreTotals : Schema → Address → ℕ → ℕ → ℕ → List ℕ → List Point → Type 0
+AreTotals schema address from wide n totals h = totals ≡ totals_before schema address from wide n h

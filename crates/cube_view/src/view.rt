@@ -1,8 +1,8 @@
 //! A cube as its readers see it.
-ghost use Rattle.std.specs.Prelude.{◌≡◌, ℕ, ◌+◌, ◌<◌, ◌≤◌, ◌≢◌, [], ◌∷◌, ◌++◌, length, All, IsTrue, IfSome, OnOk, OnErr};
+ghost use Rattle.std.specs.Prelude.{◌≡◌, ℕ, ◌+◌, ◌*◌, ◌^◌, ◌<◌, ◌≤◌, ◌≢◌, [], ◌∷◌, ◌++◌, length, All, IsTrue, IfSome, OnOk, OnErr};
 ghost use Rattle.cube_view.specs.Bag.{amount, anywhere, most_points, Counts, EachCounted, GrowsBy, IsBag};
 ghost use Rattle.cube_view.specs.Costs.{ViewCosts};
-ghost use Rattle.cube_view.specs.Found.{SomeIfAny, IsNextLabel};
+ghost use Rattle.cube_view.specs.Found.{SomeIfAny, AreTotals, IsNextLabel};
 ghost use Rattle.cube_view.specs.Places.{time_dim, deepest, is_below, is_before, top_address, longer, next_dim};
 ghost use Rattle.cube_view.specs.Validity.{sound};
 ghost use Rattle.cube_view.specs.declared.address.Address.{Address};
@@ -100,6 +100,21 @@ pub trait CubeView: Drop {
         requires time { (address self.now cursor).dim ≡ time_dim (schema self.now) }
         ensures total { EachCounted (weight_at self.now) (seen self.now) (λ h. result ≡ amount (is_before (schema self.now) (address self.now cursor) bin_end) h) }
         ensures cost { steps.new ≤ steps.old + (costs self.now).before_cost (address self.now cursor) };
+
+    /// How much the bag has under the address in bins less than each of the ends `from`, `from + wide` and so on.
+    fn before_each<L: Ledger>(
+        &self,
+        cursor: Self::Cursor,
+        from: u64,
+        wide: u64,
+        totals: &mut [u64],
+        steps: &mut Steps<L>,
+    )
+        requires stands { stands self.now cursor }
+        requires time { (address self.now cursor).dim ≡ time_dim (schema self.now) }
+        requires small { from + wide * length totals.old < 2 ^ 64 }
+        ensures totals { EachCounted (weight_at self.now) (seen self.now) (AreTotals (schema self.now) (address self.now cursor) from wide (length totals.old) totals.new) }
+        ensures cost { steps.new ≤ steps.old + (costs self.now).before_each_cost (address self.now cursor) (length totals.old) };
 
     /// The bag counts some list, it is of few points, and each weighs something and not much.
     ghost bag: { (v : Self) → IsBag (weight_at v) (seen v) };

@@ -4,7 +4,7 @@ ghost use Rattle.cube_view.specs.Bag.{most_points};
 ghost use Rattle.cube_view.specs.Places.{IsAddress};
 ghost use Rattle.cube_view.specs.Validity.{sound};
 
-use crate::scans::{any_below, count_before, least_below};
+use crate::scans::{any_below, count_before, count_before_each, least_below};
 use cube_view::{Address, CubeView, Grow, Point, Schema, Stat};
 use outer_io::NoMemory;
 use probe_core::Steps;
@@ -141,6 +141,25 @@ impl CubeView for PlainCube {
             bin_end,
             steps,
         )
+    }
+
+    fn before_each<L: Ledger>(
+        &self,
+        cursor: Address,
+        from: u64,
+        wide: u64,
+        totals: &mut [u64],
+        steps: &mut Steps<L>,
+    ) {
+        count_before_each(
+            &self.schema,
+            self.points.as_slice(),
+            &cursor,
+            from,
+            wide,
+            totals,
+            steps,
+        );
     }
 }
 
