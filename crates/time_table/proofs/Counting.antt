@@ -1,11 +1,15 @@
 -- How many records blocks have before an end, and in how many steps that is found.
-use Rattle.std.proofs.Common.{◌≡◌, ℕ, zero, suc, ◌+◌, ◌*◌, ◌/◌, ◌<◌, ◌≤◌, List, [], ◌∷◌, ◌++◌, length, take, drop, map, get_or, All, refl, sym, ap, subst, ◌∙◌, arith, sum_by}
-use Rattle.std.proofs.lemmas.Bool.{lt-ltb, le-ltb}
+use Rattle.std.proofs.Common.{◌≡◌, ℕ, zero, suc, ◌+◌, ◌-◌, ◌*◌, ◌/◌, ◌^◌, ◌<◌, ◌≤◌, List, [], ◌∷◌, ◌++◌, length, take, drop, map, get_or, All, refl, sym, ap, subst, inl, inr, ◌∙◌, arith, sum_by}
+use Rattle.std.proofs.Math.Nat.{pow-le-pow_right}
+use Rattle.std.proofs.lemmas.Bool.{lt-ltb, le-ltb, cases_lt}
+use Rattle.std.proofs.lemmas.Grind.{pow_more}
+use Rattle.std.proofs.lemmas.Nat.{leading_length}
+use lib.Count.{count_leading_zeros}
 use Rattle.std.proofs.lemmas.List.{length-append, length-map, take_all}
 use Rattle.std.proofs.lemmas.List.Elements.{All-head, All-tail, All-weaker}
 use Rattle.std.proofs.lemmas.List.Sums.{sum_by-cons}
 use Rattle.probe_core.specs.Bits.{bits}
-use Rattle.probe_core.proofs.BitLaws.{bits-mono, bits-half, bits-least}
+use Rattle.probe_core.proofs.BitLaws.{below_pow-bits, bits-mono, bits-half, bits-least}
 use Rattle.time_table.specs.declared.row.Row.{Row}
 use Rattle.time_table.specs.Counts.{count_before}
 use Rattle.time_table.specs.Totals.{counts, counts_from, last_total, raised}
@@ -96,11 +100,32 @@ bits_blocks n some =
     let same : 2 * (2 * (2 * (2 * (2 * n)))) ≡ 32 * n = omega arith in
     omega (arith, ap bits same)
 
+-- a search of a block
+pub steps_in_block : (size : ℕ) → size ≤ 63 → bits size ≤ 6
+steps_in_block size most = bits-least size 6 (omega arith)
+
+-- and one of the heads before it
+pub search_in_blocks : (heads n : ℕ) → 0 < heads → 32 * heads ≤ n → bits heads + 6 ≤ 1 + bits n
+search_in_blocks heads n some le = omega (arith, bits_blocks heads some, bits-mono (32 * heads) n le)
+
 -- the two searches together
 pub steps_in_blocks : (heads size n : ℕ) → 0 < heads → size ≤ 63 → 32 * heads ≤ n → bits heads + bits size ≤ 1 + bits n
-steps_in_blocks heads size n some most le =
-    let block : bits size ≤ 6 = bits-least size 6 (omega arith) in
-    omega (arith, bits_blocks heads some, bits-mono (32 * heads) n le)
+steps_in_blocks heads size n some most le = omega (arith, steps_in_block size most, search_in_blocks heads n some le)
 
-pub steps_in_heads : (heads n : ℕ) → 32 * heads ≤ n → bits heads ≤ 1 + bits n
-steps_in_heads heads n le = omega (arith, bits-mono heads n (omega arith))
+-- the digits of a number of 64 bits are those below its leading zeros
+pub digits_are : (n : ℕ) → n < 2 ^ 64 → 64 - count_leading_zeros 64 n ≡ bits n
+digits_are n fits =
+    let top = leading_length 64 n fits in
+    let zeros = top.1 in
+    let under : n < 2 ^ top.0 = top.2 in
+    let over : 2 ^ top.0 ≤ 2 * n + 1 = top.3 in
+    let most : bits n ≤ top.0 = bits-least n top.0 under in
+    let held : n < 2 ^ bits n = below_pow-bits n in
+    let least : top.0 ≤ bits n = elim (cases_lt (bits n) top.0) [
+      | inl more ↦ absurd (
+          let up : 2 ^ (bits n + 1) ≤ 2 ^ top.0 = pow-le-pow_right (omega arith) (omega (arith, more)) in
+          let twice : 2 ^ (bits n + 1) ≡ 2 ^ bits n * 2 = pow_more 2 (bits n) in
+          omega (arith, up, twice, held, over))
+      | inr few ↦ few
+    ] in
+    omega (arith, zeros, most, least)

@@ -8,6 +8,7 @@ use Rattle.std.specs.Ordering.{eq_by_cmp, nat_cmp}
 use Rattle.std.specs.Cmp.{nat_cmp_total}
 use Rattle.std.specs.FinMap.{entries, len, insert, remove, find, put, get-entries, get-remove, entries-insert, same_entries_map, same_map, nat_cmp-IsAntisymmetric}
 use Rattle.std.proofs.lemmas.Bool.{cases_eq, eq-eqb, ne_eqb}
+use Rattle.probe_core.specs.Bits.{bits}
 use Rattle.time_table.specs.Counts.{AllCounted, count_of, add_many, take_many, total_count}
 use Rattle.time_table.proofs.Counted.{entries-counts, total_count-counts, AllCounted-counts, len-counts}
 use Rattle.time_table.proofs.Lessened.{find-del}
@@ -17,12 +18,14 @@ use Rattle.time_table.specs.declared.form.Form.TheVariants.{Single, Split}
 use Rattle.time_table.specs.Totals.{Rise, counts, counts_from, last_total}
 use Rattle.time_table.specs.Places.{added, taken, count_at, more, less, del}
 use Rattle.time_table.specs.Blocks.{Block, flat, parts, Held, IsHead}
-use Rattle.time_table.specs.Forms.{IsSingle, IsForm, rows_of, form_entries, total_of}
+use Rattle.time_table.specs.Forms.{IsSingle, IsForm, rows_of, form_entries, search_cost, total_of}
 use Rattle.time_table.specs.Blocks.{IsSplit}
 use Rattle.time_table.proofs.Adding.{Rise-added, All-added, length-added}
 use Rattle.time_table.proofs.Taking.{Rise-taken, All-taken, length-taken}
 use Rattle.time_table.proofs.Joined.{length-le-total}
-use Rattle.time_table.proofs.Blocked.{counts_from-flat, Rise-flat, last_total-flat}
+use Rattle.time_table.proofs.Blocked.{counts_from-flat, Rise-flat, last_total-flat, held_len}
+use Rattle.time_table.proofs.Counting.{length-flat, search_in_blocks}
+use Rattle.time_table.proofs.Told.{rows_few}
 
 pub one_block : (rows heads : List Row) (blocks : List Block) (b : Block) (h : Row) → IsSingle rows → 63 ≤ length rows → last_total 0 rows ≤ 2 ^ 63 → heads ≡ h ∷ [] → blocks ≡ b ∷ [] → b.items ≡ rows → 64 ≤ length b.items + b.spare → h.bin ≡ 4294967295 → h.total ≡ last_total 0 rows → IsSplit heads blocks
 one_block rows heads blocks b h single many fits is is' items room bin total =
@@ -136,3 +139,21 @@ taken-form f f' bin n is is' new =
           ∙ sym (entries-insert nat_cmp_total (counts (rows_of f)) bin (count_of (counts (rows_of f)) bin - n))) in
           rw (ne_eqb (count_of (counts (rows_of f)) bin) n some) left
     ]
+
+some_heads : (hs : List Row) (bs : List Block) → Held 0 0 hs bs → 0 < length hs
+some_heads [] [] held = absurd (omega arith)
+some_heads [] (b ∷ bs) held = absurd held
+some_heads (h ∷ hs) bs held = omega arith
+
+-- a search looks at no more rows than the number of rows has binary digits, and one
+pub search_cost-le : (f : Form) → IsForm f → search_cost f ≤ 1 + bits (length (rows_of f))
+search_cost-le (Single rows) form = omega arith
+search_cost-le (Split split) form =
+    let same = held_len 0 0 split.value.heads.items split.value.blocks.items form.held in
+    let many = length-flat 0 split.value.blocks.items form.sized in
+    search_in_blocks (length split.value.heads.items) (length (flat 0 split.value.blocks.items)) (some_heads split.value.heads.items split.value.blocks.items form.held) (omega (arith, same, many))
+
+-- no table has more rows than there are bins
+pub rows-few : (f : Form) → IsForm f → length (rows_of f) ≤ 2 ^ 32
+rows-few (Single rows) form = let few = form.few in omega (arith, few)
+rows-few (Split split) form = rows_few split.value.heads.items split.value.blocks.items form.held

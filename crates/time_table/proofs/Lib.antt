@@ -17,3 +17,4 @@ pub mod Passing
 pub mod Rising
 pub mod Summed
 pub mod Taking
+pub mod Told

@@ -1,5 +1,6 @@
 -- The two forms of a table: one list of rows, or blocks under heads.
-use Rattle.std.specs.Prelude.{ℕ, ◌≤◌, List, length, All}
+use Rattle.std.specs.Prelude.{ℕ, ◌+◌, ◌≤◌, List, length, All}
+use Rattle.probe_core.specs.Bits.{bits}
 use Rattle.time_table.specs.declared.row.Row.{Row}
 use Rattle.time_table.specs.declared.form.Form.{Form}
 use Rattle.time_table.specs.declared.form.Form.TheVariants.{Single, Split}
@@ -20,6 +21,11 @@ form_entries (Split split) = parts split.value.blocks.items
 abbrev pub total_of : Form → ℕ
 total_of (Single rows) = last_total 0 rows.items
 total_of (Split split) = last_total 0 split.value.heads.items
+
+-- at most how many rows a search looks at: a search of the heads is followed by one of a block
+abbrev pub search_cost : Form → ℕ
+search_cost (Single rows) = bits (length rows.items)
+search_cost (Split split) = bits (length split.value.heads.items) + 6
 
 -- rows without blocks
 pub record IsSingle (rows : List Row) : Type 0 where

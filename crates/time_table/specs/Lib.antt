@@ -2,4 +2,5 @@ pub mod Blocks
 pub mod Counts
 pub mod Forms
 pub mod Places
+pub mod Series
 pub mod Totals

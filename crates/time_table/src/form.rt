@@ -1,17 +1,19 @@
 //! The two forms of a table.
-ghost use Rattle.std.specs.Prelude.{◌≡◌, ◌+◌, ◌<◌, ◌≤◌, ◌^◌, [], ◌∷◌, length, OnOk, OnErr, IfOk};
+ghost use Rattle.std.specs.Prelude.{◌≡◌, ◌+◌, ◌*◌, ◌<◌, ◌≤◌, ◌^◌, [], ◌∷◌, length, OnOk, OnErr, IfOk, MatchBool};
 ghost use Rattle.probe_core.specs.Bits.{bits};
 ghost use Rattle.probe_core.specs.Blanks.{IsBlankOf};
 ghost use Rattle.time_table.specs.Counts.{count_before, first_from};
 ghost use Rattle.time_table.specs.Totals.{Rise, counts, last_total};
 ghost use Rattle.time_table.specs.Places.{count_at, more, less};
 ghost use Rattle.time_table.specs.Blocks.{parts};
-ghost use Rattle.time_table.specs.Forms.{IsForm, HasRoom, rows_of, form_entries, total_of};
+ghost use Rattle.time_table.specs.Forms.{IsForm, HasRoom, rows_of, form_entries, search_cost, total_of};
+ghost use Rattle.time_table.specs.Series.{each_before, each_cost};
 
 use crate::change::{add_record, take_record};
 use crate::pair::put_row;
 use crate::place::{next_in, place_of};
 use crate::row::Row;
+use crate::series::{are_few, digits, pass_blocks, pass_single};
 use crate::split::{
     add_in, before_in, copy_blocks, next_row_in, put_block, reserve_block, take_in,
 };
@@ -40,11 +42,88 @@ impl Form {
     pub fn before<L: Ledger>(&self, bin_end: u64, steps: &mut Steps<L>) -> u64
         requires { IsForm self.now }
         ensures sum { result ≡ count_before (counts (rows_of self.now)) bin_end }
-        ensures cost { steps.new ≤ steps.old + (1 + bits (length (rows_of self.now))) }
+        ensures cost { steps.new ≤ steps.old + search_cost self.now }
     {
         match self {
             Form::Single(rows) => place_of(rows, bin_end, steps).below,
             Form::Split(split) => before_in(&split.heads, &split.blocks, bin_end, steps),
+        }
+    }
+
+    /// How many records fell into bins less than each of the ends `from`, `from + wide` and so on.
+    pub fn before_each<L: Ledger>(
+        &self,
+        from: u64,
+        wide: u64,
+        totals: &mut [u64],
+        steps: &mut Steps<L>,
+    )
+        requires form { IsForm self.now }
+        requires small { from + wide * length totals.old < 2 ^ 64 }
+        ensures sums { totals.new ≡ each_before (counts (rows_of self.now)) from wide (length totals.old) }
+        ensures cost { steps.new ≤ steps.old + each_cost (length totals.old) (length (rows_of self.now)) }
+    {
+        if self.is_short(totals.len()) {
+            self.pass(from, wide, totals, steps);
+        } else {
+            self.search_each(from, wide, totals, steps);
+        }
+    }
+
+    /// At most how many rows a search looks at.
+    fn search_cost(&self) -> usize
+        ensures cost { result ≡ search_cost self.now }
+        ensures few { result ≤ 70 }
+    {
+        match self {
+            Form::Single(rows) => digits(rows.len()),
+            // A block has at most 63 rows.
+            Form::Split(split) => digits(split.heads.len()) + 6,
+        }
+    }
+
+    /// Whether a pass over the rows looks at no more of them than a search for each of so many ends.
+    fn is_short(&self, ends: usize) -> bool
+        requires { IsForm self.now }
+        ensures { let pass = search_cost self.now + length (rows_of self.now) in MatchBool result (pass ≤ ends * search_cost self.now) (ends * search_cost self.now ≤ pass) }
+    {
+        if ends == 0 {
+            return false;
+        }
+        // A pass of blocks begins with a search too.
+        let most = (ends - 1).saturating_mul(self.search_cost());
+        match self {
+            Form::Single(rows) => rows.len() <= most,
+            Form::Split(split) => are_few(&split.blocks, most),
+        }
+    }
+
+    /// The totals before the ends, by one pass over the rows.
+    fn pass<L: Ledger>(&self, from: u64, wide: u64, totals: &mut [u64], steps: &mut Steps<L>)
+        requires form { IsForm self.now }
+        requires small { from + wide * length totals.old < 2 ^ 64 }
+        ensures sums { totals.new ≡ each_before (counts (rows_of self.now)) from wide (length totals.old) }
+        ensures cost { steps.new ≤ steps.old + (search_cost self.now + length (rows_of self.now)) }
+    {
+        match self {
+            Form::Single(rows) => pass_single(rows, from, wide, totals, steps),
+            Form::Split(split) => {
+                pass_blocks(&split.heads, &split.blocks, from, wide, totals, steps);
+            }
+        }
+    }
+
+    /// The totals before the ends, by a search for each.
+    fn search_each<L: Ledger>(&self, from: u64, wide: u64, totals: &mut [u64], steps: &mut Steps<L>)
+        requires form { IsForm self.now }
+        requires small { from + wide * length totals.old < 2 ^ 64 }
+        ensures sums { totals.new ≡ each_before (counts (rows_of self.now)) from wide (length totals.old) }
+        ensures cost { steps.new ≤ steps.old + length totals.old * search_cost self.now }
+    {
+        let mut end = from;
+        for total in totals.iter_mut() {
+            *total = self.before(end, steps);
+            end += wide;
         }
     }
 

@@ -25,7 +25,7 @@ pub fn before_in<L: Ledger>(
 ) -> u64
     requires { IsSplit heads.now.items blocks.now.items }
     ensures sum { result ≡ count_before (counts (flat 0 blocks.now.items)) bin_end }
-    ensures cost { steps.new ≤ steps.old + (1 + bits (length (flat 0 blocks.now.items))) }
+    ensures cost { steps.new ≤ steps.old + (bits (length heads.now.items) + 6) }
 {
     let place = place_of(heads, bin_end, steps);
     if place.index == heads.len() {

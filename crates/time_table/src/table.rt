@@ -1,9 +1,10 @@
 //! The table of one place in space and the categories.
-ghost use Rattle.std.specs.Prelude.{◌≡◌, ◌+◌, ◌<◌, ◌≤◌, ◌^◌, IfOk, OnOk, OnErr, IsTrue, length};
+ghost use Rattle.std.specs.Prelude.{◌≡◌, ◌+◌, ◌*◌, ◌<◌, ◌≤◌, ◌^◌, IfOk, OnOk, OnErr, IsTrue, length};
 ghost use Rattle.std.specs.FinMap.{empty, contains_key, entries, len};
 ghost use Rattle.probe_core.specs.Bits.{bits};
 ghost use Rattle.probe_core.specs.Blanks.{IsBlankOf};
 ghost use Rattle.time_table.specs.Counts.{AllCounted, count_of, add_many, take_many, add_one, take_one, total_count, count_before, first_from};
+ghost use Rattle.time_table.specs.Series.{each_before, each_cost};
 
 use crate::form::Form;
 use outer_io::NoMemory;
@@ -99,6 +100,23 @@ impl TimeTable {
         ensures counted { AllCounted self.now }
     {
         self.form.before(bin_end, steps)
+    }
+
+    /// How many records fell into bins less than each of the ends `from`, `from + wide` and so on, by a search for each
+    /// or by one pass over the bins.
+    pub fn before_each<L: Ledger>(
+        &self,
+        from: u64,
+        wide: u64,
+        totals: &mut [u64],
+        steps: &mut Steps<L>,
+    )
+        requires small { from + wide * length totals.old < 2 ^ 64 }
+        ensures sums { totals.new ≡ each_before self.now from wide (length totals.old) }
+        ensures cost { steps.new ≤ steps.old + each_cost (length totals.old) (len self.now) }
+        ensures counted { AllCounted self.now }
+    {
+        self.form.before_each(from, wide, totals, steps);
     }
 
     /// The least bin at or above `from` with its count. None comes exactly where there is no such bin.

@@ -1,10 +1,8 @@
-use Rattle.std.proofs.Common.{◌≡◌, ◌+◌, ◌*◌, ◌<◌, ◌≤◌, ◌^◌, length, take, arith, ◌∙◌}
-use Rattle.probe_core.specs.Bits.{bits}
+use Rattle.std.proofs.Common.{◌≡◌, ◌+◌, ◌<◌, ◌≤◌, ◌^◌, length, take, arith, ◌∙◌}
 use Rattle.time_table.specs.Totals.{last_total}
-use Rattle.time_table.specs.Blocks.{flat}
 use Rattle.time_table.proofs.Adding.{last_total-take-le}
 use Rattle.time_table.proofs.Blocked.{held_len, Rise-heads, Rise-at, total_at}
-use Rattle.time_table.proofs.Counting.{count_before-blocks, count_before-all, length-flat, steps_in_heads, steps_in_blocks}
+use Rattle.time_table.proofs.Counting.{count_before-blocks, count_before-all, steps_in_block}
 use Rattle.time_table.proofs.Merged.{sized_at}
 use Rattle.time_table.proofs.split.before_in.Goals as goal
 
@@ -15,13 +13,6 @@ pub returns-then-place-len-clause-sum : goal.returns-then-place-len-clause-sum
 returns-then-place-len-clause-sum g c =
     let place = c.place_of-place.ensures.place in
     c.place_of-place.ensures.total ∙ count_before-all c.args.bin_end c.place_of-place.result.index c.args.heads.now.items c.args.blocks.now.items c.requires.held place.lesser (omega arith)
-
-pub returns-then-place-len-clause-cost : goal.returns-then-place-len-clause-cost
-returns-then-place-len-clause-cost g c =
-    let same : length c.args.heads.now.items ≡ length c.args.blocks.now.items = held_len 0 0 c.args.heads.now.items c.args.blocks.now.items c.requires.held in
-    let many : 32 * length c.args.blocks.now.items ≤ length (flat 0 c.args.blocks.now.items) = length-flat 0 c.args.blocks.now.items c.requires.sized in
-    let cost : c.place_of-place.new.steps ≤ c.args.steps.now + bits (length c.args.heads.now.items) = c.place_of-place.ensures.cost in
-    omega (arith, steps_in_heads (length c.args.heads.now.items) (length (flat 0 c.args.blocks.now.items)) (omega arith))
 
 pub index-block-requires : goal.index-block-requires
 index-block-requires g c =
@@ -58,8 +49,5 @@ pub returns-clause-cost : goal.returns-clause-cost
 returns-clause-cost g c =
     let same : length c.args.heads.now.items ≡ length c.args.blocks.now.items = held_len 0 0 c.args.heads.now.items c.args.blocks.now.items c.requires.held in
     let within : c.place_of-place.result.index ≤ length c.args.heads.now.items = c.place_of-place.ensures.place.within in
-    let many : 32 * length c.args.blocks.now.items ≤ length (flat 0 c.args.blocks.now.items) = length-flat 0 c.args.blocks.now.items c.requires.sized in
     let sized = sized_at c.place_of-place.result.index c.args.blocks.now.items c.index-block.result.now c.requires.sized (omega arith) c.index-block.ensures in
-    let cost : c.place_of-place.new.steps ≤ c.args.steps.now + bits (length c.args.heads.now.items) = c.place_of-place.ensures.cost in
-    let cost' : c.place_of-further.new.steps ≤ c.place_of-place.new.steps + bits (length c.index-block.result.now.items) = c.place_of-further.ensures.cost in
-    omega (arith, steps_in_blocks (length c.args.heads.now.items) (length c.index-block.result.now.items) (length (flat 0 c.args.blocks.now.items)) (omega arith) sized.most (omega arith))
+    omega (arith, c.place_of-place.ensures.cost, c.place_of-further.ensures.cost, steps_in_block (length c.index-block.result.now.items) sized.most)
