@@ -13,6 +13,7 @@ use Rattle.cube_view.specs.declared.address.Address.{Address}
 use Rattle.cube_view.specs.declared.schema.Schema.{Schema}
 use Rattle.cube_view.specs.declared.spot.Spot.{Spot}
 use Rattle.time_table.specs.Counts.{count_of}
+use Rattle.time_table.specs.Series.{each_cost}
 use Rattle.time_table.proofs.AddLaws.{count_of-empty}
 use Rattle.node_arena.specs.Slots.{Slot, child, child_label, children_of, slot_of}
 use Rattle.node_arena.specs.declared.link.Link.{Link}
@@ -77,6 +78,7 @@ pub tells_costs : TellsCosts
 tells_costs cube h counts = record {
   down = λ a W above. ∥∥₁_elim cube.counted (ℕ_set _ _) (λ C. ap (λ n. 1 + bits n) (labels_same cube.schema cube.arena cube.root.0 cube.size C.0 C.1 h counts a W above));
   before = λ a W time. ∥∥₁_elim cube.counted (ℕ_set _ _) (λ C. ap (λ n. 2 + bits n) (bins_same cube.schema cube.arena cube.root.0 cube.size C.0 C.1 h counts a W time));
+  before_each = λ a W time n. ∥∥₁_elim cube.counted (ℕ_set _ _) (λ C. ap (λ k. 1 + each_cost n k) (bins_same cube.schema cube.arena cube.root.0 cube.size C.0 C.1 h counts a W time));
 }
 
 pub bounds_bag_costs : BoundsBagCosts

@@ -127,5 +127,6 @@ bin_count-all m counted =
     ap (λ (es : List (ℕ × ℕ)). distinct_count eqb (map (λ (e : ℕ × ℕ). e.0) es)) (some_each (entries m) counted)
     ∙ (distinct-rising 0 (entries m) (rises_from_test (entries m) (from_T _ (entries_sorted m))) ∙ sym (len-entries m))
 
-pub before_cost-here : (z : Schema) (slots : List Slot) (slot : ℕ) (a : Address) → StandsAt z slots slot a → (m : BinCounts) → m ≡ counts_of (slot_of slots slot) → AllCounted m → bits (len m) ≡ bits (bin_count (counts_in slots (slot_under slots a)))
-before_cost-here z slots slot a S m is counted = ap bits (sym (bin_count-all m counted) ∙ (ap bin_count is ∙ ap (λ (o : Option ℕ). bin_count (counts_in slots o)) (sym S.reached)))
+-- the rows of the table are as many as the bins that it counts in
+pub bins-here : (z : Schema) (slots : List Slot) (slot : ℕ) (a : Address) → StandsAt z slots slot a → (m : BinCounts) → m ≡ counts_of (slot_of slots slot) → AllCounted m → len m ≡ bin_count (counts_in slots (slot_under slots a))
+bins-here z slots slot a S m is counted = sym (bin_count-all m counted) ∙ (ap bin_count is ∙ ap (λ (o : Option ℕ). bin_count (counts_in slots o)) (sym S.reached))

@@ -11,6 +11,7 @@ use Rattle.cube_view.specs.declared.address.Address.{Address}
 use Rattle.cube_view.specs.declared.schema.Schema.{Schema}
 use Rattle.cube_view.specs.declared.spot.Spot.{Spot}
 use Rattle.time_table.specs.Counts.{BinCounts}
+use Rattle.time_table.specs.Series.{each_cost}
 use Rattle.node_arena.specs.Reach.{weight_at}
 use Rattle.node_arena.specs.Slots.{Children, Slot, child_label, children_of, counts_of, slot_of, walk_end}
 
@@ -60,9 +61,10 @@ abbrev pub bin_count : BinCounts → ℕ
 bin_count counts = distinct_count eqb (map (λ e. e.0) (filter (λ e. nat_lt 0 e.1) (entries counts)))
 
 -- At most how many steps the calls take: `down` and `next_label` find the node and search its children, `before` finds
--- the table and searches its rows.
+-- the table and searches its rows, `before_each` finds it and does so for each end, or looks at each row.
 abbrev pub cube_costs : List Slot → ViewCosts
 cube_costs slots = record {
   down_cost = λ a. 1 + bits (label_count (children_in slots (slot_under slots a)));
   before_cost = λ a. 2 + bits (bin_count (counts_in slots (slot_under slots a)));
+  before_each_cost = λ a n. 1 + each_cost n (bin_count (counts_in slots (slot_under slots a)));
 }

@@ -95,6 +95,18 @@ impl CubeView for Cube {
         let table = self.arena.table(cursor.slot, steps);
         table.before(bin_end, steps)
     }
+
+    fn before_each<L: Ledger>(
+        &self,
+        cursor: CubeCursor,
+        from: u64,
+        wide: u64,
+        totals: &mut [u64],
+        steps: &mut Steps<L>,
+    ) {
+        let table = self.arena.table(cursor.slot, steps);
+        table.before_each(from, wide, totals, steps);
+    }
 }
 
 impl Grow for Cube {

@@ -1,5 +1,6 @@
-use Rattle.std.proofs.Common.{◌∙◌, arith}
-use Rattle.cube_store.proofs.Standing.{slot_in_range, slot_at_time, finds_total, before_cost-here}
+use Rattle.std.proofs.Common.{◌∙◌, ap, arith}
+use Rattle.probe_core.specs.Bits.{bits}
+use Rattle.cube_store.proofs.Standing.{slot_in_range, slot_at_time, finds_total, bins-here}
 use Rattle.cube_store.proofs.view.CubeCubeView.before.Goals as goal
 
 pub table-table-requires-clause-in_range : goal.table-table-requires-clause-in_range
@@ -17,5 +18,5 @@ returns-clause-cost g c = omega (
   arith,
   c.before-2.ensures.cost,
   c.table-table.ensures.cost,
-  before_cost-here _ _ _ _ c.requires.stands c.table-table.result.now c.table-table.ensures.counts c.before-2.ensures.counted,
+  ap bits (bins-here _ _ _ _ c.requires.stands c.table-table.result.now c.table-table.ensures.counts c.before-2.ensures.counted),
 )
