@@ -8,6 +8,7 @@ use Rattle.node_arena.specs.Slots.{proper, shared, target, Slot, link_of, slot_o
 use Rattle.node_arena.specs.Shape.{home_of, HasHomes, IsLinked, IsOwned, HoldsSpots}
 use Rattle.proper_path.specs.Midway.{IsContentHome, HasUpdated, IsGrowing, IsMidway, IsNext, Joins, joined, stays}
 use Rattle.proper_path.specs.Changes.{IsRelinked, IsCounted}
+use Rattle.proper_path.proofs.Homes.{IsFree}
 use Rattle.proper_path.proofs.Links.{same_place, proper≢shared}
 use Rattle.proper_path.proofs.Shares.{MayShare}
 use Rattle.node_arena.specs.Amounts.{Weighted, spots_in, amount_under}
@@ -69,7 +70,7 @@ visit_ends dims slots homes h p done next updated after i M lt is_node R N J = r
 }
 
 -- an arena with the same links keeps its homes and holds its spots
-homes_same : (old new : List Slot) (homes : List Walk) → length new ≡ length old → ((j : ℕ) (f : Step) → link_of new j f ≡ link_of old j f) → HasHomes old homes → HasHomes new homes
+pub homes_same : (old new : List Slot) (homes : List Walk) → length new ≡ length old → ((j : ℕ) (f : Step) → link_of new j f ≡ link_of old j f) → HasHomes old homes → HasHomes new homes
 homes_same old new homes size links H = record {
   owned = record {
     size = H.size ∙ sym size;
@@ -82,7 +83,7 @@ homes_same old new homes size links H = record {
   finer = λ i j e h. let r = H.finer i j e (sym (links i e) ∙ h) in (omega (arith, size), r.1);
 }
 
-holds_same : (old new : List Slot) (homes : List Walk) (sure all : List SpotPath) → length new ≡ length old → ((j : ℕ) (f : Step) → link_of new j f ≡ link_of old j f) → HoldsSpots old homes sure all → HoldsSpots new homes sure all
+pub holds_same : (old new : List Slot) (homes : List Walk) (sure all : List SpotPath) → length new ≡ length old → ((j : ℕ) (f : Step) → link_of new j f ≡ link_of old j f) → HoldsSpots old homes sure all → HoldsSpots new homes sure all
 holds_same old new homes sure all size links S = record {
   needed = λ i e l w. let r = S.needed i e (omega (arith, size)) w in record { link = r.link; is = links i e ∙ r.is };
   wanted = λ i e l h. S.wanted i e l (sym (links i e) ∙ h);
@@ -139,26 +140,64 @@ table_ends dims old new homes h p done next updated after i M C u fresh last N J
 abbrev pub Place : ℕ → Step → ℕ → Step → Type 0
 Place i e j f = ((j ≡ i) × (f ≡ e)) ⊎ (j ≡ i → f ≡ e → ⊥)
 
+-- the link that was set is the shared one
+at_set : (old new : List Slot) (i u : ℕ) (e : Step) → IsRelinked old new i e (shared u) → (j : ℕ) (f : Step) (l : Link) → link_of new j f ≡ Some l → (j ≡ i) × (f ≡ e) → l ≡ shared u
+at_set old new i u e R j f l x (a, b) = let k : link_of new j f ≡ Some (shared u) = ap₂ (link_of new) a b ∙ R.set_link in cc
+
+-- a link that is no proper one is set to a finer home: homes stand ..
+pub homes_relinked : (old new : List Slot) (homes : List Walk) (i u : ℕ) (e : Step) → HasHomes old homes → IsRelinked old new i e (shared u) → IsFree old i e → u < length old → IsCoarser (e ∷ home_of homes i) (home_of homes u) → HasHomes new homes
+homes_relinked old new homes i u e H R free there coarser = record {
+  owned = record {
+    size = H.size ∙ sym R.size;
+    some = subst (λ z. 0 < z) (sym R.size) H.some;
+    root = H.root;
+    distinct = λ j k lj lk eq. H.distinct j k (omega (arith, R.size)) (omega (arith, R.size)) eq;
+    owner = λ j q l. owner j (H.owner j q (omega (arith, R.size)));
+    at_home = λ j k f x. at_home j k f x (same_place j i f e);
+  };
+  finer = λ j k f x. finer j k f x (same_place j i f e);
+}
+  where
+    owner : (j : ℕ) → IsOwned old j → IsOwned new j
+    owner j o = record { by = o.by; step = o.step; owns = R.old_link o.by o.step (λ x y. free j (subst₂ (λ a b. link_of old a b ≡ Some (proper j)) x y o.owns)) ∙ o.owns }
+
+    at_home : (j k : ℕ) (f : Step) → link_of new j f ≡ Some (proper k) → Place i e j f → (k < length new) × (home_of homes k ≡ f ∷ home_of homes j)
+    at_home j k f x (inl y) = absurd (proper≢shared k u (at_set old new i u e R j f (proper k) x y))
+    at_home j k f x (inr n) = let r = H.at_home j k f (sym (R.old_link j f n) ∙ x) in (omega (arith, R.size), r.1)
+
+    finer : (j k : ℕ) (f : Step) → link_of new j f ≡ Some (shared k) → Place i e j f → (k < length new) × IsCoarser (f ∷ home_of homes j) (home_of homes k)
+    finer j k f x (inl y) =
+        let z : shared k ≡ shared u = at_set old new i u e R j f (shared k) x y in let w : u ≡ k = sym (ap target z) in
+        (subst₂ ◌<◌ w (sym R.size) there, subst₂ (λ a b. IsCoarser a (home_of homes b)) (ap₂ ◌∷◌ (sym y.1) (ap (home_of homes) (sym y.0))) w coarser)
+    finer j k f x (inr n) = let r = H.finer j k f (sym (R.old_link j f n) ∙ x) in (omega (arith, R.size), r.1)
+
+-- .. and where it holds the spots under its address, links do
+pub holds_relinked : (old new : List Slot) (homes : List Walk) (sure all : List SpotPath) (i u : ℕ) (e : Step) → HoldsSpots old homes sure all → IsRelinked old new i e (shared u) → HasSpot all (e ∷ home_of homes i) → ((q : SpotPath) → Contains sure q → Under q (e ∷ home_of homes i) → Under q (home_of homes u)) → HoldsSpots new homes sure all
+holds_relinked old new homes sure all i u e S R some right = record {
+  needed = λ j f l w. needed j f (S.needed j f (omega (arith, R.size)) w) (same_place j i f e);
+  wanted = λ j f l x. wanted j f l x (same_place j i f e);
+  agrees = λ j f l x. agrees j f l x (same_place j i f e);
+}
+  where
+    needed : (j : ℕ) (f : Step) → IsLinked old j f → Place i e j f → IsLinked new j f
+    needed j f r (inl y) = record { link = shared u; is = ap₂ (link_of new) y.0 y.1 ∙ R.set_link }
+    needed j f r (inr n) = record { link = r.link; is = R.old_link j f n ∙ r.is }
+
+    wanted : (j : ℕ) (f : Step) (l : Link) → link_of new j f ≡ Some l → Place i e j f → HasSpot all (f ∷ home_of homes j)
+    wanted j f l x (inl y) = subst (λ a. HasSpot all a) (ap₂ ◌∷◌ (sym y.1) (ap (home_of homes) (sym y.0))) some
+    wanted j f l x (inr n) = S.wanted j f l (sym (R.old_link j f n) ∙ x)
+
+    agrees : (j : ℕ) (f : Step) (l : Link) → link_of new j f ≡ Some l → Place i e j f → (q : SpotPath) → Contains sure q → Under q (f ∷ home_of homes j) → Under q (home_of homes (target l))
+    agrees j f l x (inl y) q c v =
+        subst (λ z. Under q (home_of homes (target z))) (sym (at_set old new i u e R j f l x y)) (right q c (subst (λ a. Under q a) (ap₂ ◌∷◌ y.1 (ap (home_of homes) y.0)) v))
+    agrees j f l x (inr n) q c v = S.agrees j f l (sym (R.old_link j f n) ∙ x) q c v
+
 pub relinked : (dims : ℕ) (old new : List Slot) (homes : List Walk) (h : List Weighted) (p : Weighted) (done : Walk → Type 0) (updated : List ℕ) (i u : ℕ) (e : Step) → IsMidway dims old homes h p done updated → IsRelinked old new i e (shared u) → MayShare old homes h p done i u e → IsMidway dims new homes h p done updated
 relinked dims old new homes h p done updated i u e M R may = record {
   growing = record {
-    has_homes = record {
-      owned = record {
-        size = M.has_homes.size ∙ sym R.size;
-        some = subst (λ z. 0 < z) (sym R.size) M.has_homes.some;
-        root = M.has_homes.root;
-        distinct = λ j k lj lk eq. M.has_homes.distinct j k (omega (arith, R.size)) (omega (arith, R.size)) eq;
-        owner = λ j q l. owner j (M.has_homes.owner j q (omega (arith, R.size)));
-        at_home = λ j k f x. at_home j k f x (same_place j i f e);
-      };
-      finer = λ j k f x. finer j k f x (same_place j i f e);
-    };
+    has_homes = homes_relinked old new homes i u e M.has_homes R may.free may.in_range may.coarser;
     has_tables = record { tables = λ j l. subst (λ x. (x ≡ true) ↔ (dimension (home_of homes j) ≡ dims)) (sym (R.old_kind j)) (M.has_tables.tables j (omega (arith, R.size))) };
-    holds = record {
-      needed = λ j f l w. needed j f (M.holds.needed j f (omega (arith, R.size)) w) (same_place j i f e);
-      wanted = λ j f l x. wanted j f l x (same_place j i f e);
-      agrees = λ j f l x. agrees j f l x (same_place j i f e);
-    };
+    holds = holds_relinked old new homes (spots_in h) (spots_in (p ∷ h)) i u e M.holds R may.wanted may.agrees;
     visited = record { holds = M.visited.holds; links = λ j f l d v. links j f d (M.visited.links j f (omega (arith, R.size)) d v) (same_place j i f e) };
     counted = record {
       still = λ j bin l t d. R.old_count j bin ∙ M.counted.still j bin (omega (arith, R.size)) (sym (R.old_kind j) ∙ t) d;
@@ -171,35 +210,6 @@ relinked dims old new homes h p done updated i u e M R may = record {
   };
 }
   where
-    owner : (j : ℕ) → IsOwned old j → IsOwned new j
-    owner j o = record { by = o.by; step = o.step; owns = R.old_link o.by o.step (λ x y. may.free j (subst₂ (λ a b. link_of old a b ≡ Some (proper j)) x y o.owns)) ∙ o.owns }
-
-    at_set : (j : ℕ) (f : Step) (l : Link) → link_of new j f ≡ Some l → (j ≡ i) × (f ≡ e) → l ≡ shared u
-    at_set j f l x (a, b) = let k : link_of new j f ≡ Some (shared u) = ap₂ (link_of new) a b ∙ R.set_link in cc
-
-    at_home : (j k : ℕ) (f : Step) → link_of new j f ≡ Some (proper k) → Place i e j f → (k < length new) × (home_of homes k ≡ f ∷ home_of homes j)
-    at_home j k f x (inl y) = absurd (proper≢shared k u (at_set j f (proper k) x y))
-    at_home j k f x (inr n) = let r = M.has_homes.at_home j k f (sym (R.old_link j f n) ∙ x) in (omega (arith, R.size), r.1)
-
-    finer : (j k : ℕ) (f : Step) → link_of new j f ≡ Some (shared k) → Place i e j f → (k < length new) × IsCoarser (f ∷ home_of homes j) (home_of homes k)
-    finer j k f x (inl y) =
-        let z : shared k ≡ shared u = at_set j f (shared k) x y in let w : u ≡ k = sym (ap target z) in
-        (subst₂ ◌<◌ w (sym R.size) may.in_range, subst₂ (λ a b. IsCoarser a (home_of homes b)) (ap₂ ◌∷◌ (sym y.1) (ap (home_of homes) (sym y.0))) w may.coarser)
-    finer j k f x (inr n) = let r = M.has_homes.finer j k f (sym (R.old_link j f n) ∙ x) in (omega (arith, R.size), r.1)
-
-    needed : (j : ℕ) (f : Step) → IsLinked old j f → Place i e j f → IsLinked new j f
-    needed j f r (inl y) = record { link = shared u; is = ap₂ (link_of new) y.0 y.1 ∙ R.set_link }
-    needed j f r (inr n) = record { link = r.link; is = R.old_link j f n ∙ r.is }
-
-    wanted : (j : ℕ) (f : Step) (l : Link) → link_of new j f ≡ Some l → Place i e j f → HasSpot (spots_in (p ∷ h)) (f ∷ home_of homes j)
-    wanted j f l x (inl y) = subst (λ a. HasSpot (spots_in (p ∷ h)) a) (ap₂ ◌∷◌ (sym y.1) (ap (home_of homes) (sym y.0))) may.wanted
-    wanted j f l x (inr n) = M.holds.wanted j f l (sym (R.old_link j f n) ∙ x)
-
-    agrees : (j : ℕ) (f : Step) (l : Link) → link_of new j f ≡ Some l → Place i e j f → (q : SpotPath) → Contains (spots_in h) q → Under q (f ∷ home_of homes j) → Under q (home_of homes (target l))
-    agrees j f l x (inl y) q c v =
-        subst (λ z. Under q (home_of homes (target z))) (sym (at_set j f l x y)) (may.agrees q c (subst (λ a. Under q a) (ap₂ ◌∷◌ y.1 (ap (home_of homes) y.0)) v))
-    agrees j f l x (inr n) q c v = M.holds.agrees j f l (sym (R.old_link j f n) ∙ x) q c v
-
     links : (j : ℕ) (f : Step) → done (home_of homes j) → (l : Link) × (link_of old j f ≡ Some l) × Under p.spot (home_of homes (target l)) → Place i e j f → (l : Link) × (link_of new j f ≡ Some l) × Under p.spot (home_of homes (target l))
     links j f d r (inl y) = absurd (may.open_node (subst (λ z. done (home_of homes z)) y.0 d))
     links j f d r (inr n) = (r.0, R.old_link j f n ∙ r.1, r.2)
