@@ -78,7 +78,7 @@ next_label q p e a l u v = go c.0.rest refl
         none (n ∷ s) x y = absurd cc
     go (m ∷ r) w = (m, ap (λ (o : Option Cursor). is_some (then_step o (down m))) c.1 ∙ (ap (λ (x : List ℕ). is_some (after_down m x c.0.later)) w ∙ ap (λ (x : Bool). is_some {T = Cursor} (cond x (Some (record { rest = r; later = c.0.later })) None)) (eq-eqb m m refl)))
 
-within_down : {a b : Walk} {l : ℕ} → Finer false (down l ∷ a) b → Finer true a b
+pub within_down : {a b : Walk} {l : ℕ} → Finer false (down l ∷ a) b → Finer true a b
 within_down (by_down f) = longer (loosen f)
 
 -- what goes across from an address goes across from each that lies within it

@@ -1,0 +1,11 @@
+pub mod Earlier
+pub mod Ending
+pub mod Grown
+pub mod Keeping
+pub mod OneChild
+pub mod Putting
+pub mod Relinked
+pub mod Sharing
+pub mod Standing
+pub mod StartEnd
+pub mod Turned

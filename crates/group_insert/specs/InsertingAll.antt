@@ -1,0 +1,32 @@
+-- What the insertion of a group does to the slots of a cube.
+use Rattle.std.specs.Prelude.{ℕ, ◌<◌, ◌^◌, List, ◌++◌, Contains}
+use Rattle.cube_view.specs.Walks.{Walk}
+use Rattle.node_arena.specs.Amounts.{Weighted, spots_in}
+use Rattle.node_arena.specs.Shape.{HasShape}
+use Rattle.node_arena.specs.Slots.{Slot}
+use Rattle.point_insert.specs.Known.{total_weight}
+use Rattle.proper_path.specs.Making.{IsSpotOf, AllOfShape}
+
+-- the slots have a cube's shape over the points h, and those of g may join them
+pub record IsInsertableAll (dims : ℕ) (g : List Weighted) (slots : List Slot) (homes : List Walk) (h : List Weighted) : Type 0 where
+  pub shape : HasShape dims slots homes h
+  -- all have as many labels in each dimension, and there is one dimension for each path
+  pub alike : (w : Weighted) → Contains g w → AllOfShape (spots_in (g ++ h)) w.spot
+  pub spots : (w : Weighted) → Contains g w → IsSpotOf dims w.spot
+  -- all together weigh little
+  pub light : total_weight (g ++ h) < 2 ^ 63
+
+-- homes and points are known for which it is so
+pub record CanInsertAll (dims : ℕ) (g : List Weighted) (slots : List Slot) : Type 0 where
+  pub homes : List Walk
+  pub points : List Weighted
+  pub known : IsInsertableAll dims g slots homes points
+
+-- homes are known with which the slots have the shape over these points
+pub record HasAll (dims : ℕ) (h : List Weighted) (slots : List Slot) : Type 0 where
+  pub homes : List Walk
+  pub shape : HasShape dims slots homes h
+
+-- the new slots have the shape with the group, for all homes and points that fitted
+abbrev pub InsertsAll : ℕ → List Weighted → List Slot → List Slot → Type 0
+InsertsAll dims g old new = (homes : List Walk) (h : List Weighted) → IsInsertableAll dims g old homes h → HasAll dims (g ++ h) new

@@ -1,0 +1,4 @@
+pub mod Halfway
+pub mod InsertingAll
+pub mod Later
+pub mod Turns
