@@ -25,7 +25,8 @@ use Rattle.cube_store.specs.Counted.{paths_of, CountsPoints}
 use Rattle.cube_store.specs.Reading.{IsWalkAddress, StandsAt, spot_weight}
 use Rattle.cube_store.proofs.Bagging.{points_of_schema, Counts-points}
 use Rattle.node_arena.proofs.Labelled.{link_down, IsFirstFrom, child_from-none}
-use Rattle.cube_store.proofs.Leaving.{level_of, under-down, under-across, under-top}
+use Rattle.group_insert.specs.Parts.{level_of}
+use Rattle.group_insert.proofs.Leaving.{under-down, under-across, under-top}
 use Rattle.cube_store.proofs.Listed.{amount-contained, amount-failing, point_of_path, path_of_point, All-contained}
 use Rattle.cube_store.proofs.Placing.{dimension-steps_of, level-steps_of}
 use Rattle.cube_store.proofs.Telling.{IsOfSchema}

@@ -6,7 +6,6 @@ pub mod Empty
 pub mod Finding
 pub mod Growing
 pub mod Inserted
-pub mod Leaving
 pub mod Listed
 pub mod Listing
 pub mod Numbering

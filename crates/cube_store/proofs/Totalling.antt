@@ -20,7 +20,7 @@ use Rattle.proper_path.specs.Paths.{point_path}
 use Rattle.cube_store.specs.Counted.{paths_of}
 use Rattle.cube_store.specs.Reading.{IsWalkAddress}
 use Rattle.cube_store.proofs.Finding.{under-steps}
-use Rattle.cube_store.proofs.Leaving.{turned}
+use Rattle.group_insert.proofs.Leaving.{turned}
 use Rattle.cube_store.proofs.Telling.{IsOfSchema}
 
 -- the spot lies under the address in the bin

@@ -1,5 +1,5 @@
 -- The visit of a node ends.
-use Rattle.std.proofs.Common.{◌≡◌, ℕ, ◌<◌, true, false, ◌⊎◌, inl, inr, List, ◌∷◌, ◌++◌, Contains, length, get_or, sym, ap, ◌∙◌, subst, arith, true≢false}
+use Rattle.std.proofs.Common.{◌≡◌, ℕ, ◌<◌, ◌≤◌, true, false, ◌⊎◌, inl, inr, List, ◌∷◌, ◌++◌, Contains, length, get_or, sym, ap, ◌∙◌, subst, arith, true≢false}
 use Rattle.std.proofs.lemmas.Bool.{cases_eq}
 use Rattle.std.proofs.lemmas.List.Elements.{Contains-get_or}
 use Rattle.cube_view.specs.Walks.{Step, down, across, Walk, SpotPath, Under, HasSpot}
@@ -13,7 +13,7 @@ use Rattle.proper_path.proofs.Above.{under_above}
 use Rattle.proper_path.proofs.Order.{above_cases, above-step, above-length}
 use Rattle.group_insert.specs.Halfway.{LeadsRight, WillHaveTwo, IsHalfway}
 use Rattle.group_insert.specs.Later.{PutOff, address_of, IsPut}
-use Rattle.group_insert.specs.Turns.{IsEarlier, EndedAfter, IsOpenAbove}
+use Rattle.group_insert.specs.Turns.{IsEarlier, EndedBefore, EndedAfter, IsOpenAbove}
 use Rattle.group_insert.proofs.Earlier.{earlier_below, earlier_across, EarlierDown, outside, in_content, in_lesser, earlier_down, content_earlier, lesser_earlier, open_step}
 
 -- The visit of slot i ends: of the homes that there are it alone is done besides, and it alone was open besides.
@@ -94,10 +94,10 @@ closes {a = a} b o = go (above_cases (open_step o))
     go (inl x) = inr x
     go (inr r) = inl (above-step r.1, λ x. let l = above-length r.1 in let s = ap length x in omega (arith, l, s))
 
--- after the greatest label that points of the group go down
-pub last_label : (slots : List Slot) (homes : List Walk) (g : List Weighted) (i l : ℕ) → HasHomes slots homes → i < length slots → HasSpot (spots_in g) (home_of homes i) → ((n : ℕ) (q : SpotPath) → l < n → Contains (spots_in g) q → Under q (down n ∷ home_of homes i) → ⊥) → IsLast slots homes g (EndedAfter g (down l ∷ home_of homes i)) (IsOpenAbove (down l ∷ home_of homes i)) (EndedAfter g (home_of homes i)) (IsOpenAbove (home_of homes i)) i
-last_label slots homes g i l H lt w greatest = record {
-  to = λ b d. (d.0, to b d.1);
+-- after all labels that points of the group go down
+pub last_label : (slots : List Slot) (homes : List Walk) (g : List Weighted) (i m : ℕ) → HasHomes slots homes → i < length slots → HasSpot (spots_in g) (home_of homes i) → ((n : ℕ) (q : SpotPath) → m ≤ n → Contains (spots_in g) q → Under q (down n ∷ home_of homes i) → ⊥) → IsLast slots homes g (EndedBefore g (down m ∷ home_of homes i)) (IsOpenAbove (down m ∷ home_of homes i)) (EndedAfter g (home_of homes i)) (IsOpenAbove (home_of homes i)) i
+last_label slots homes g i m H lt w none = record {
+  to = λ b d. (d.0, to b (earlier_down d.1));
   holds = λ b d. d.0;
   here = (w, inr itself);
   only = λ j k d. only j k d.0 d.1;
@@ -107,54 +107,41 @@ last_label slots homes g i l H lt w greatest = record {
     a : Walk
     a = home_of homes i
 
-    to : (b : Walk) → IsEarlier b (down l ∷ a) ⊎ IsAbove (down l ∷ a) b → IsEarlier b a ⊎ IsAbove a b
-    to b (inl r) = go (earlier_down r)
-      where
-        go : EarlierDown l a b → IsEarlier b a ⊎ IsAbove a b
-        go (outside x) = inl x
-        go (in_content f) = inr (above-step f)
-        go (in_lesser n x f) = inr (above-step f)
-    to b (inr f) = inr (above-step f)
+    to : (b : Walk) → EarlierDown m a b → IsEarlier b a ⊎ IsAbove a b
+    to b (outside x) = inl x
+    to b (in_content f) = inr (above-step f)
+    to b (in_lesser n x f) = inr (above-step f)
 
-    split : (n : ℕ) → (n < l) ⊎ ((n ≡ l) ⊎ (l < n))
+    split : (n : ℕ) → (n < m) ⊎ (m ≤ n)
     split n = grind arith
 
-    below : (j : ℕ) → j < length slots → HasSpot (spots_in g) (home_of homes j) → (a ≡ home_of homes j) ⊎ ((e : Step) × IsAbove (e ∷ a) (home_of homes j)) → EndedAfter g (down l ∷ a) (home_of homes j) ⊎ (j ≡ i)
+    below : (j : ℕ) → j < length slots → HasSpot (spots_in g) (home_of homes j) → (a ≡ home_of homes j) ⊎ ((e : Step) × IsAbove (e ∷ a) (home_of homes j)) → EndedBefore g (down m ∷ a) (home_of homes j) ⊎ (j ≡ i)
     below j k v (inl e) = inr (H.distinct j i k lt (sym e))
-    below j k v (inr (across, f)) = inl (v, inl (content_earlier f))
+    below j k v (inr (across, f)) = inl (v, content_earlier f)
     below j k v (inr (down n, f)) = go (split n)
       where
-        go : (n < l) ⊎ ((n ≡ l) ⊎ (l < n)) → EndedAfter g (down l ∷ a) (home_of homes j) ⊎ (j ≡ i)
-        go (inl x) = inl (v, inl (lesser_earlier x f))
-        go (inr (inl x)) = inl (v, inr (subst (λ z. IsAbove (down z ∷ a) (home_of homes j)) x f))
-        go (inr (inr x)) = absurd (greatest n v.spot x v.is_in (under_above f v.spot v.lies))
+        go : (n < m) ⊎ (m ≤ n) → EndedBefore g (down m ∷ a) (home_of homes j) ⊎ (j ≡ i)
+        go (inl x) = inl (v, lesser_earlier x f)
+        go (inr x) = absurd (none n v.spot x v.is_in (under_above f v.spot v.lies))
 
-    only : (j : ℕ) → j < length slots → HasSpot (spots_in g) (home_of homes j) → IsEarlier (home_of homes j) a ⊎ IsAbove a (home_of homes j) → EndedAfter g (down l ∷ a) (home_of homes j) ⊎ (j ≡ i)
-    only j k v (inl r) = inl (v, inl (earlier_below r (further itself)))
+    only : (j : ℕ) → j < length slots → HasSpot (spots_in g) (home_of homes j) → IsEarlier (home_of homes j) a ⊎ IsAbove a (home_of homes j) → EndedBefore g (down m ∷ a) (home_of homes j) ⊎ (j ≡ i)
+    only j k v (inl r) = inl (v, earlier_below r (further itself))
     only j k v (inr f) = below j k v (above_cases f)
 
--- and after the content, where points of the group go down no label
-pub last_content : (slots : List Slot) (homes : List Walk) (g : List Weighted) (i : ℕ) → HasHomes slots homes → i < length slots → HasSpot (spots_in g) (home_of homes i) → ((n : ℕ) (q : SpotPath) → Contains (spots_in g) q → Under q (down n ∷ home_of homes i) → ⊥) → IsLast slots homes g (EndedAfter g (across ∷ home_of homes i)) (IsOpenAbove (across ∷ home_of homes i)) (EndedAfter g (home_of homes i)) (IsOpenAbove (home_of homes i)) i
-last_content slots homes g i H lt w none = record {
-  to = λ b d. (d.0, to b d.1);
+-- a table has no step, so its visit is that of its home alone
+pub last_table : (slots : List Slot) (homes : List Walk) (g : List Weighted) (i : ℕ) → HasHomes slots homes → i < length slots → HasSpot (spots_in g) (home_of homes i) → ((e : Step) (q : SpotPath) → Contains (spots_in g) q → Under q (e ∷ home_of homes i) → ⊥) → IsLast slots homes g (EndedBefore g (home_of homes i)) (IsOpenAbove (home_of homes i)) (EndedAfter g (home_of homes i)) (IsOpenAbove (home_of homes i)) i
+last_table slots homes g i H lt w none = record {
+  to = λ b d. (d.0, inl d.1);
   holds = λ b d. d.0;
   here = (w, inr itself);
   only = λ j k d. only j k d.0 d.1;
-  closed = λ b o. closes b o;
+  closed = λ b o. inl o;
 }
   where
-    a : Walk
-    a = home_of homes i
-
-    to : (b : Walk) → IsEarlier b (across ∷ a) ⊎ IsAbove (across ∷ a) b → IsEarlier b a ⊎ IsAbove a b
-    to b (inl r) = inl (earlier_across r)
-    to b (inr f) = inr (above-step f)
-
-    below : (j : ℕ) → j < length slots → HasSpot (spots_in g) (home_of homes j) → (a ≡ home_of homes j) ⊎ ((e : Step) × IsAbove (e ∷ a) (home_of homes j)) → EndedAfter g (across ∷ a) (home_of homes j) ⊎ (j ≡ i)
+    below : (j : ℕ) → j < length slots → HasSpot (spots_in g) (home_of homes j) → (home_of homes i ≡ home_of homes j) ⊎ ((e : Step) × IsAbove (e ∷ home_of homes i) (home_of homes j)) → EndedBefore g (home_of homes i) (home_of homes j) ⊎ (j ≡ i)
     below j k v (inl e) = inr (H.distinct j i k lt (sym e))
-    below j k v (inr (across, f)) = inl (v, inr f)
-    below j k v (inr (down n, f)) = absurd (none n v.spot v.is_in (under_above f v.spot v.lies))
+    below j k v (inr r) = absurd (none r.0 v.spot v.is_in (under_above r.1 v.spot v.lies))
 
-    only : (j : ℕ) → j < length slots → HasSpot (spots_in g) (home_of homes j) → IsEarlier (home_of homes j) a ⊎ IsAbove a (home_of homes j) → EndedAfter g (across ∷ a) (home_of homes j) ⊎ (j ≡ i)
-    only j k v (inl r) = inl (v, inl (earlier_below r (further itself)))
+    only : (j : ℕ) → j < length slots → HasSpot (spots_in g) (home_of homes j) → IsEarlier (home_of homes j) (home_of homes i) ⊎ IsAbove (home_of homes i) (home_of homes j) → EndedBefore g (home_of homes i) (home_of homes j) ⊎ (j ≡ i)
+    only j k v (inl r) = inl (v, r)
     only j k v (inr f) = below j k v (above_cases f)

@@ -14,14 +14,11 @@ use Rattle.proper_path.proofs.Homes.{IsFree, home_free}
 use Rattle.proper_path.proofs.Links.{proper≢shared}
 use Rattle.group_insert.specs.Halfway.{LeadsRight, WillHaveTwo, IsHalfway}
 use Rattle.group_insert.specs.Later.{PutOff, IsPut}
+use Rattle.group_insert.specs.Visits.{AreOfShape}
 use Rattle.group_insert.proofs.Relinked.{MayLead}
 use Rattle.group_insert.proofs.Sharing.{one_not_two}
 use Rattle.group_insert.proofs.Standing.{shared_free}
 use Rattle.group_insert.proofs.StartEnd.{old_spot}
-
--- All spots have as many labels in each dimension, and where one goes down from an address the others do.
-abbrev pub AreOfShape : List Weighted → SpotPath → Type 0
-AreOfShape all p = (q : SpotPath) → Contains (spots_in all) q → shape_of q ≡ shape_of p
 
 -- a node that has no other child than at the label of the group's points has no content of its own
 pub one_child_free : (dims : ℕ) (slots : List Slot) (homes : List Walk) (h g : List Weighted) (done open' : Walk → Type 0) (i label : ℕ) (p : SpotPath) → IsHalfway dims slots homes h g done open' [] → AreOfShape (g ++ h) p → Under p (down label ∷ home_of homes i) → (done (home_of homes i) → ⊥) → (open' (home_of homes i) → ⊥) → ((m : ℕ) (k : Link) → link_of slots i (down m) ≡ Some k → m ≡ label) → IsFree slots i across

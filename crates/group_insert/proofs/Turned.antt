@@ -1,5 +1,5 @@
 -- From one visit of a group to the next.
-use Rattle.std.proofs.Common.{◌≡◌, ℕ, ◌<◌, ◌⊎◌, inl, inr, List, ◌∷◌, Contains, length, ap, subst, arith}
+use Rattle.std.proofs.Common.{◌≡◌, ℕ, ◌+◌, ◌<◌, ◌≤◌, ◌⊎◌, inl, inr, List, ◌∷◌, Contains, length, refl, ap, subst, arith}
 use Rattle.cube_view.specs.Walks.{Step, down, across, Walk, SpotPath, Under, HasSpot}
 use Rattle.node_arena.specs.Amounts.{Weighted, spots_in}
 use Rattle.node_arena.specs.Shape.{home_of, HasHomes}
@@ -12,10 +12,6 @@ use Rattle.proper_path.proofs.Steps.{none_below}
 use Rattle.group_insert.specs.Turns.{IsEarlier, EndedBefore, EndedAfter, IsOpenAbove}
 use Rattle.group_insert.proofs.Earlier.{earlier_below, earlier_across, EarlierDown, outside, in_content, in_lesser, earlier_down, content_earlier, lesser_earlier, open_step}
 use Rattle.group_insert.proofs.Keeping.{IsSameTurn}
-
--- below a label that no point of the group goes down there is nothing of it
-none_there : (g : List Weighted) (k : ℕ) (a b : Walk) → ((q : SpotPath) → Contains (spots_in g) q → Under q (down k ∷ a) → ⊥) → HasSpot (spots_in g) b → IsAbove (down k ∷ a) b → ⊥
-none_there g k a b none w f = none w.spot w.is_in (under_above f w.spot w.lies)
 
 below_longer : {e : Step} {a b : Walk} → IsAbove b a → b ≡ e ∷ a → ⊥
 below_longer f x = let l = above-length f in let s = ap length x in omega (arith, l, s)
@@ -36,65 +32,90 @@ begins_content slots homes g a = record {
   wider = λ b o. open_more b o;
 }
 
--- .. or, where nothing stands there and nothing will, with the least label of the group
-pub begins_label : (slots : List Slot) (homes : List Walk) (g : List Weighted) (i m : ℕ) → HasHomes slots homes → i < length slots → IsFree slots i across → ((k : ℕ) (q : SpotPath) → k < m → Contains (spots_in g) q → Under q (down k ∷ home_of homes i) → ⊥) → IsSameTurn slots homes g (EndedBefore g (home_of homes i)) (IsOpenAbove (home_of homes i)) (EndedBefore g (down m ∷ home_of homes i)) (IsOpenAbove (down m ∷ home_of homes i))
-begins_label slots homes g i m H lt free least = record {
+-- .. or, where nothing stands there and nothing will, with the labels
+pub begins_labels : (slots : List Slot) (homes : List Walk) (g : List Weighted) (i : ℕ) → HasHomes slots homes → i < length slots → IsFree slots i across → IsSameTurn slots homes g (EndedBefore g (home_of homes i)) (IsOpenAbove (home_of homes i)) (EndedBefore g (down 0 ∷ home_of homes i)) (IsOpenAbove (down 0 ∷ home_of homes i))
+begins_labels slots homes g i H lt free = record {
   to = λ b d. (d.0, earlier_below d.1 (further itself));
-  back = λ j l d. (d.0, go j l d.0 (earlier_down d.1));
+  back = λ j l d. (d.0, go j l (earlier_down d.1));
   holds = λ b d. d.0;
   wider = λ b o. open_more b o;
 }
   where
-    go : (j : ℕ) → j < length slots → HasSpot (spots_in g) (home_of homes j) → EarlierDown m (home_of homes i) (home_of homes j) → IsEarlier (home_of homes j) (home_of homes i)
-    go j l w (outside r) = r
-    go j l w (in_content f) = absurd (none_below slots homes H i across lt free j l f)
-    go j l w (in_lesser k x f) = absurd (none_there g k (home_of homes i) (home_of homes j) (λ q c u. least k q x c u) w f)
+    go : (j : ℕ) → j < length slots → EarlierDown 0 (home_of homes i) (home_of homes j) → IsEarlier (home_of homes j) (home_of homes i)
+    go j l (outside r) = r
+    go j l (in_content f) = absurd (none_below slots homes H i across lt free j l f)
+    go j l (in_lesser k x f) = absurd (omega (arith, x))
 
--- from the content to the least label
-pub content_to_label : (slots : List Slot) (homes : List Walk) (g : List Weighted) (a : Walk) (m : ℕ) → ((k : ℕ) (q : SpotPath) → k < m → Contains (spots_in g) q → Under q (down k ∷ a) → ⊥) → IsSameTurn slots homes g (EndedAfter g (across ∷ a)) (IsOpenAbove (across ∷ a)) (EndedBefore g (down m ∷ a)) (IsOpenAbove (down m ∷ a))
-content_to_label slots homes g a m least = record {
+-- from the content to the labels
+pub content_to_labels : (slots : List Slot) (homes : List Walk) (g : List Weighted) (a : Walk) → IsSameTurn slots homes g (EndedAfter g (across ∷ a)) (IsOpenAbove (across ∷ a)) (EndedBefore g (down 0 ∷ a)) (IsOpenAbove (down 0 ∷ a))
+content_to_labels slots homes g a = record {
   to = λ b d. (d.0, to b d.1);
-  back = λ j l d. (d.0, back (home_of homes j) d.0 (earlier_down d.1));
+  back = λ j l d. (d.0, back (home_of homes j) (earlier_down d.1));
   holds = λ b d. d.0;
   wider = λ b o. open_other b o;
 }
   where
-    to : (b : Walk) → IsEarlier b (across ∷ a) ⊎ IsAbove (across ∷ a) b → IsEarlier b (down m ∷ a)
+    to : (b : Walk) → IsEarlier b (across ∷ a) ⊎ IsAbove (across ∷ a) b → IsEarlier b (down 0 ∷ a)
     to b (inl r) = earlier_below (earlier_across r) (further itself)
     to b (inr f) = content_earlier f
 
-    back : (b : Walk) → HasSpot (spots_in g) b → EarlierDown m a b → IsEarlier b (across ∷ a) ⊎ IsAbove (across ∷ a) b
-    back b w (outside r) = inl (earlier_below r (further itself))
-    back b w (in_content f) = inr f
-    back b w (in_lesser k x f) = absurd (none_there g k a b (λ q c u. least k q x c u) w f)
+    back : (b : Walk) → EarlierDown 0 a b → IsEarlier b (across ∷ a) ⊎ IsAbove (across ∷ a) b
+    back b (outside r) = inl (earlier_below r (further itself))
+    back b (in_content f) = inr f
+    back b (in_lesser k x f) = absurd (omega (arith, x))
 
--- from a label to the next one
-pub label_to_label : (slots : List Slot) (homes : List Walk) (g : List Weighted) (a : Walk) (k m : ℕ) → k < m → ((n : ℕ) (q : SpotPath) → k < n → n < m → Contains (spots_in g) q → Under q (down n ∷ a) → ⊥) → IsSameTurn slots homes g (EndedAfter g (down k ∷ a)) (IsOpenAbove (down k ∷ a)) (EndedBefore g (down m ∷ a)) (IsOpenAbove (down m ∷ a))
-label_to_label slots homes g a k m lt between = record {
-  to = λ b d. (d.0, to b d.1);
+-- over labels that no point of the group goes down
+pub over_labels : (slots : List Slot) (homes : List Walk) (g : List Weighted) (a : Walk) (k m : ℕ) → k ≤ m → ((n : ℕ) (q : SpotPath) → k ≤ n → n < m → Contains (spots_in g) q → Under q (down n ∷ a) → ⊥) → IsSameTurn slots homes g (EndedBefore g (down k ∷ a)) (IsOpenAbove (down k ∷ a)) (EndedBefore g (down m ∷ a)) (IsOpenAbove (down m ∷ a))
+over_labels slots homes g a k m le none = record {
+  to = λ b d. (d.0, to b (earlier_down d.1));
   back = λ j l d. (d.0, back (home_of homes j) d.0 (earlier_down d.1));
   holds = λ b d. d.0;
   wider = λ b o. open_other b o;
 }
   where
-    to : (b : Walk) → IsEarlier b (down k ∷ a) ⊎ IsAbove (down k ∷ a) b → IsEarlier b (down m ∷ a)
-    to b (inl r) = go (earlier_down r)
-      where
-        go : EarlierDown k a b → IsEarlier b (down m ∷ a)
-        go (outside x) = earlier_below x (further itself)
-        go (in_content f) = content_earlier f
-        go (in_lesser n x f) = lesser_earlier (omega (arith, x, lt)) f
-    to b (inr f) = lesser_earlier lt f
+    to : (b : Walk) → EarlierDown k a b → IsEarlier b (down m ∷ a)
+    to b (outside x) = earlier_below x (further itself)
+    to b (in_content f) = content_earlier f
+    to b (in_lesser n x f) = lesser_earlier (omega (arith, x, le)) f
 
-    split : (n : ℕ) → (n < k) ⊎ ((n ≡ k) ⊎ (k < n))
+    split : (n : ℕ) → (n < k) ⊎ (k ≤ n)
     split n = grind arith
 
-    back : (b : Walk) → HasSpot (spots_in g) b → EarlierDown m a b → IsEarlier b (down k ∷ a) ⊎ IsAbove (down k ∷ a) b
-    back b w (outside r) = inl (earlier_below r (further itself))
-    back b w (in_content f) = inl (content_earlier f)
+    back : (b : Walk) → HasSpot (spots_in g) b → EarlierDown m a b → IsEarlier b (down k ∷ a)
+    back b w (outside r) = earlier_below r (further itself)
+    back b w (in_content f) = content_earlier f
     back b w (in_lesser n x f) = go (split n)
       where
-        go : (n < k) ⊎ ((n ≡ k) ⊎ (k < n)) → IsEarlier b (down k ∷ a) ⊎ IsAbove (down k ∷ a) b
+        go : (n < k) ⊎ (k ≤ n) → IsEarlier b (down k ∷ a)
+        go (inl y) = lesser_earlier y f
+        go (inr y) = absurd (none n w.spot y x w.is_in (under_above f w.spot w.lies))
+
+-- after a label
+pub past_label : (slots : List Slot) (homes : List Walk) (g : List Weighted) (a : Walk) (k : ℕ) → IsSameTurn slots homes g (EndedAfter g (down k ∷ a)) (IsOpenAbove (down k ∷ a)) (EndedBefore g (down (k + 1) ∷ a)) (IsOpenAbove (down (k + 1) ∷ a))
+past_label slots homes g a k = record {
+  to = λ b d. (d.0, to b d.1);
+  back = λ j l d. (d.0, back (home_of homes j) (earlier_down d.1));
+  holds = λ b d. d.0;
+  wider = λ b o. open_other b o;
+}
+  where
+    to : (b : Walk) → IsEarlier b (down k ∷ a) ⊎ IsAbove (down k ∷ a) b → IsEarlier b (down (k + 1) ∷ a)
+    to b (inl r) = go (earlier_down r)
+      where
+        go : EarlierDown k a b → IsEarlier b (down (k + 1) ∷ a)
+        go (outside x) = earlier_below x (further itself)
+        go (in_content f) = content_earlier f
+        go (in_lesser n x f) = lesser_earlier (omega (arith, x)) f
+    to b (inr f) = lesser_earlier (omega arith) f
+
+    split : (n : ℕ) → n < k + 1 → (n < k) ⊎ (n ≡ k)
+    split n l = grind arith
+
+    back : (b : Walk) → EarlierDown (k + 1) a b → IsEarlier b (down k ∷ a) ⊎ IsAbove (down k ∷ a) b
+    back b (outside r) = inl (earlier_below r (further itself))
+    back b (in_content f) = inl (content_earlier f)
+    back b (in_lesser n x f) = go (split n x)
+      where
+        go : (n < k) ⊎ (n ≡ k) → IsEarlier b (down k ∷ a) ⊎ IsAbove (down k ∷ a) b
         go (inl y) = inl (lesser_earlier y f)
-        go (inr (inl y)) = inr (subst (λ z. IsAbove (down z ∷ a) b) y f)
-        go (inr (inr y)) = absurd (none_there g n a b (λ q c u. between n q y x c u) w f)
+        go (inr y) = inr (subst (λ z. IsAbove (down z ∷ a) b) y f)

@@ -1,4 +1,9 @@
+pub mod Added
 pub mod Halfway
 pub mod InsertingAll
+pub mod Labels
 pub mod Later
+pub mod Parts
 pub mod Turns
+pub mod Visiting
+pub mod Visits

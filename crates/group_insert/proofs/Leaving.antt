@@ -7,13 +7,8 @@ use Rattle.cube_view.specs.Walks.{down, across, Walk, Cursor, after_down, after_
 use Rattle.cube_view.specs.declared.schema.Schema.{Schema}
 use Rattle.cube_view.specs.declared.spot.Spot.{Spot}
 use Rattle.cube_view.proofs.Walking.{begun, under-some, iff_same}
+use Rattle.group_insert.specs.Parts.{level_of}
 use Rattle.proper_path.proofs.Labels.{length-path_of, get_or-path_of}
-
--- how many labels a walk has gone down in its dimension
-abbrev pub level_of : Walk → ℕ
-level_of [] = 0
-level_of (down l ∷ w) = suc (level_of w)
-level_of (across ∷ w) = 0
 
 -- what is left of the spot
 pub record IsLeft (z : Schema) (s : Spot) (w : Walk) (c : Cursor) : Type 0 where
@@ -22,7 +17,7 @@ pub record IsLeft (z : Schema) (s : Spot) (w : Walk) (c : Cursor) : Type 0 where
   pub rest : c.rest ≡ drop (level_of w) (path_of z s (dimension w))
   pub later : c.later ≡ paths_from z s (dimension w + 1) (time_dim z - dimension w)
 
-went_down : (l : ℕ) (rest : List ℕ) (later : List (List ℕ)) (c : Cursor) → after_down l rest later ≡ Some c → (rest ≡ l ∷ c.rest) × (later ≡ c.later)
+pub went_down : (l : ℕ) (rest : List ℕ) (later : List (List ℕ)) (c : Cursor) → after_down l rest later ≡ Some c → (rest ≡ l ∷ c.rest) × (later ≡ c.later)
 went_down l [] later c h = absurd cc
 went_down l (x ∷ rest) later c h = go (eqb l x) (eqb-true l x) h
   where

@@ -1,0 +1,231 @@
+-- The visit of a node for a group: its content, its labels one after the other, and its end.
+use Rattle.std.proofs.Common.{◌≡◌, ℕ, ◌+◌, ◌<◌, ◌≤◌, true, false, ◌⊎◌, inl, inr, List, [], ◌∷◌, ◌++◌, Option, Some, None, Contains, length, refl, sym, ap, ◌∙◌, subst, subst₂, arith, true≢false}
+use Rattle.std.proofs.lemmas.Bool.{cases_eq}
+use Rattle.cube_view.specs.Walks.{Step, down, across, Walk, SpotPath, Under, HasSpot}
+use Rattle.cube_view.proofs.Walking.{under_before}
+use Rattle.node_arena.specs.Amounts.{Weighted, spots_in}
+use Rattle.node_arena.specs.Shape.{home_of, IsLinked, HasOneChild, SharesContent}
+use Rattle.node_arena.specs.Slots.{proper, shared, target, Slot, link_of, slot_of, is_table}
+use Rattle.node_arena.specs.declared.link.Link.{Link}
+use Rattle.node_arena.proofs.Labelled.{same_down}
+use Rattle.point_insert.proofs.Cases.{next_label}
+use Rattle.proper_path.specs.Changes.{IsRelinked}
+use Rattle.proper_path.specs.Making.{State, home, Makes, Keeps}
+use Rattle.proper_path.specs.Order.{IsAbove, itself, further}
+use Rattle.proper_path.specs.Rooted.{state}
+use Rattle.proper_path.proofs.Homes.{IsFree}
+use Rattle.proper_path.proofs.Links.{proper≢shared}
+use Rattle.proper_path.proofs.Order.{above-length}
+use Rattle.proper_path.proofs.Steps.{keeps-refl, keeps-trans, keeps_less, LeadsProperly, IsPlaced, makes_placed}
+use Rattle.group_insert.specs.Halfway.{LeadsRight, WillHaveTwo, IsHalfway, IsHalfwayBefore, IsHalfwayAfter}
+use Rattle.group_insert.specs.Later.{IsPut}
+use Rattle.group_insert.specs.Turns.{EndedBefore, EndedAfter, IsOpenAbove}
+use Rattle.group_insert.specs.Visits.{ArePoints, HasVisitedAll, IsLabelOf, HasTwoLabels, HasOneLabel, HasNoLabel, TellsLabels, HasContentFor, IsAmong}
+use Rattle.group_insert.proofs.Earlier.{earlier-irreflexive}
+use Rattle.group_insert.proofs.Ending.{IsFinished, node_ends, last_label}
+use Rattle.group_insert.proofs.Grown.{halfway_made}
+use Rattle.group_insert.proofs.Keeping.{halfway_same}
+use Rattle.group_insert.proofs.OneChild.{one_child_free}
+use Rattle.group_insert.proofs.StartEnd.{group_spot}
+use Rattle.group_insert.proofs.Turned.{begins_content, begins_labels, content_to_labels, over_labels, past_label}
+
+before_step : (g : List Weighted) (e : Step) (a : Walk) → HasSpot (spots_in g) (e ∷ a) → HasSpot (spots_in g) a
+before_step g e a w = record { spot = w.spot; is_in = w.is_in; lies = under_before w.spot e a w.lies }
+
+-- a node does not stand at or below one of its own steps
+not_within : (homes homes' : List Walk) (i j : ℕ) (e : Step) → home_of homes' i ≡ home_of homes i → home_of homes' j ≡ e ∷ home_of homes i → IsAbove (home_of homes' j) (home_of homes' i) → ⊥
+not_within homes homes' i j e at to f = let l = above-length f in let x = ap length at in let y = ap length to in omega (arith, l, x, y)
+
+-- a node of one label begins with its labels
+pub among_one : (dims : ℕ) (h g : List Weighted) (slots : List Slot) (homes : List Walk) (i l : ℕ) → ArePoints dims h g → i < length slots → HasSpot (spots_in g) (home_of homes i) → HasOneLabel slots homes g i l → IsHalfwayBefore dims slots homes h g [] (home_of homes i) → IsAmong dims h g slots homes i (Some l) 0 slots
+among_one dims h g slots homes i l P lt w O M = record {
+  homes' = homes;
+  halfway = halfway_same dims slots homes h g (EndedBefore g (home_of homes i)) (IsOpenAbove (home_of homes i)) (EndedBefore g (down 0 ∷ home_of homes i)) (IsOpenAbove (down 0 ∷ home_of homes i)) [] (begins_labels slots homes g i M.has_homes lt free) M;
+  keeps = keeps-refl (state slots homes []) (home_of homes i);
+  gone = λ n x u. absurd (omega (arith, x));
+  kids = λ n x. x;
+  labels = λ n x. inl x;
+  content = free;
+}
+  where
+    free : IsFree slots i across
+    free = one_child_free dims slots homes h g (EndedBefore g (home_of homes i)) (IsOpenAbove (home_of homes i)) i l w.spot M (P.alike w.spot w.is_in) (O.all w.spot w.is_in w.lies) (λ d. earlier-irreflexive d.1) (λ o. o.1 refl) O.alone
+
+-- before the content that was made is visited ..
+pub content_at : (dims : ℕ) (h g : List Weighted) (old mid : List Slot) (homes homes' : List Walk) (i j : ℕ) → i < length old → HasSpot (spots_in g) (across ∷ home_of homes i) → IsHalfwayBefore dims old homes h g [] (home_of homes i) → Makes dims (state old homes []) i across j (state mid homes' []) → IsHalfwayBefore dims mid homes' h g [] (home_of homes' j)
+content_at dims h g old mid homes homes' i j lt w M mk =
+    let N = halfway_same dims old homes h g (EndedBefore g (home_of homes i)) (IsOpenAbove (home_of homes i)) (EndedBefore g (across ∷ home_of homes i)) (IsOpenAbove (across ∷ home_of homes i)) [] (begins_content old homes g (home_of homes i)) M in
+    let m = makes_placed dims (state old homes []) (state mid homes' []) i j across M.has_homes M.has_tables mk in
+    subst (λ z. IsHalfwayBefore dims mid homes' h g [] z) (sym m.at_home) (halfway_made dims h g [] (state old homes []) (state mid homes' []) i j across N lt w mk)
+
+-- .. and afterwards, before the labels
+pub among_content : (dims : ℕ) (h g : List Weighted) (old mid new : List Slot) (homes homes' : List Walk) (i j : ℕ) → i < length old → IsHalfwayBefore dims old homes h g [] (home_of homes i) → Makes dims (state old homes []) i across j (state mid homes' []) → HasVisitedAll dims h g mid homes' j new → IsAmong dims h g old homes i None 0 new
+among_content dims h g old mid new homes homes' i j lt M mk V = record {
+  homes' = V.homes';
+  halfway = halfway_same dims new V.homes' h g (EndedAfter g (across ∷ home_of homes i)) (IsOpenAbove (across ∷ home_of homes i)) (EndedBefore g (down 0 ∷ home_of homes i)) (IsOpenAbove (down 0 ∷ home_of homes i)) [] (content_to_labels new V.homes' g (home_of homes i))
+      (subst (λ z. IsHalfwayAfter dims new V.homes' h g [] z) m.at_home V.halfway);
+  keeps = keeps-trans m.keeps (keeps_less (subst (λ z. IsAbove (home_of homes i) z) (sym m.at_home) (further itself)) V.keeps);
+  gone = λ n x u. absurd (omega (arith, x));
+  kids = λ n x. record { link = x.link; is = same n ∙ x.is };
+  labels = λ n x. inl (record { link = x.link; is = sym (same n) ∙ x.is });
+  content = (j, V.keeps.links i across lt_mid outside ∙ m.link);
+}
+  where
+    m : IsPlaced dims (state old homes []) i across j (state mid homes' [])
+    m = makes_placed dims (state old homes []) (state mid homes' []) i j across M.has_homes M.has_tables mk
+
+    lt_mid : i < length mid
+    lt_mid = omega (arith, lt, m.keeps.size)
+
+    outside : IsAbove (home_of homes' j) (home_of homes' i) → ⊥
+    outside f = not_within homes homes' i j across (m.keeps.homes i lt) m.at_home f
+
+    same : (n : ℕ) → link_of new i (down n) ≡ link_of old i (down n)
+    same n = V.keeps.links i (down n) lt_mid outside ∙ m.others (down n) (λ x. let z : ⊥ = cc in z)
+
+-- before the child of the next label that was made is visited ..
+pub label_at_child : (dims : ℕ) (h g : List Weighted) (old mid next : List Slot) (homes homes' : List Walk) (i j m : ℕ) (only : Option ℕ) (from : ℕ) → i < length old → (A : IsAmong dims h g old homes i only from mid) → from ≤ m → ((n : ℕ) (q : SpotPath) → from ≤ n → n < m → Contains (spots_in g) q → Under q (down n ∷ home_of homes i) → ⊥) → HasSpot (spots_in g) (down m ∷ home_of homes i) → Makes dims (state mid A.homes' []) i (down m) j (state next homes' []) → IsHalfwayBefore dims next homes' h g [] (home_of homes' j)
+label_at_child dims h g old mid next homes homes' i j m only from lt A le none w mk =
+    subst (λ z. IsHalfwayBefore dims next homes' h g [] z) (sym p.at_home)
+    (halfway_made dims h g [] (state mid A.homes' []) (state next homes' []) i j (down m) (subst (λ z. IsHalfwayBefore dims mid A.homes' h g [] (down m ∷ z)) (sym at) N) (omega (arith, lt, A.keeps.size)) (subst (λ z. HasSpot (spots_in g) (down m ∷ z)) (sym at) w) mk)
+  where
+    at : home_of A.homes' i ≡ home_of homes i
+    at = A.keeps.homes i lt
+
+    N : IsHalfwayBefore dims mid A.homes' h g [] (down m ∷ home_of homes i)
+    N = halfway_same dims mid A.homes' h g (EndedBefore g (down from ∷ home_of homes i)) (IsOpenAbove (down from ∷ home_of homes i)) (EndedBefore g (down m ∷ home_of homes i)) (IsOpenAbove (down m ∷ home_of homes i)) [] (over_labels mid A.homes' g (home_of homes i) from m le none) A.halfway
+
+    p : IsPlaced dims (state mid A.homes' []) i (down m) j (state next homes' [])
+    p = makes_placed dims (state mid A.homes' []) (state next homes' []) i j (down m) A.halfway.has_homes A.halfway.has_tables mk
+
+-- .. and afterwards
+pub among_next : (dims : ℕ) (h g : List Weighted) (old mid next new : List Slot) (homes homes' : List Walk) (i j m : ℕ) (only : Option ℕ) (from : ℕ) → i < length old → (A : IsAmong dims h g old homes i only from mid) → from ≤ m → ((n : ℕ) (q : SpotPath) → from ≤ n → n < m → Contains (spots_in g) q → Under q (down n ∷ home_of homes i) → ⊥) → HasSpot (spots_in g) (down m ∷ home_of homes i) → Makes dims (state mid A.homes' []) i (down m) j (state next homes' []) → HasVisitedAll dims h g next homes' j new → IsAmong dims h g old homes i only (m + 1) new
+among_next dims h g old mid next new homes homes' i j m only from lt A le none w mk V = record {
+  homes' = V.homes';
+  halfway = halfway_same dims new V.homes' h g (EndedAfter g (down m ∷ home_of homes i)) (IsOpenAbove (down m ∷ home_of homes i)) (EndedBefore g (down (m + 1) ∷ home_of homes i)) (IsOpenAbove (down (m + 1) ∷ home_of homes i)) [] (past_label new V.homes' g (home_of homes i) m)
+      (subst (λ z. IsHalfwayAfter dims new V.homes' h g [] z) at_child V.halfway);
+  keeps = keeps-trans A.keeps (keeps-trans (subst (λ z. Keeps (state mid A.homes' []) (state next homes' []) z) at p.keeps) (keeps_less (subst (λ z. IsAbove (home_of homes i) z) (sym at_child) (further itself)) V.keeps));
+  gone = λ n x u. gone n x u (cases_eq n m);
+  kids = λ n x. kids n (A.kids n x) (cases_eq n m);
+  labels = λ n x. labels n x (cases_eq n m);
+  content = content only A.content;
+}
+  where
+    at : home_of A.homes' i ≡ home_of homes i
+    at = A.keeps.homes i lt
+
+    lt_mid : i < length mid
+    lt_mid = omega (arith, lt, A.keeps.size)
+
+    p : IsPlaced dims (state mid A.homes' []) i (down m) j (state next homes' [])
+    p = makes_placed dims (state mid A.homes' []) (state next homes' []) i j (down m) A.halfway.has_homes A.halfway.has_tables mk
+
+    at_child : home_of homes' j ≡ down m ∷ home_of homes i
+    at_child = p.at_home ∙ ap (λ z. down m ∷ z) at
+
+    lt_next : i < length next
+    lt_next = omega (arith, lt_mid, p.keeps.size)
+
+    outside : IsAbove (home_of homes' j) (home_of homes' i) → ⊥
+    outside f = not_within A.homes' homes' i j (down m) (p.keeps.homes i lt_mid) p.at_home f
+
+    same : (f : Step) → (f ≡ down m → ⊥) → link_of new i f ≡ link_of mid i f
+    same f n = V.keeps.links i f lt_next outside ∙ p.others f n
+
+    label_of : Step → ℕ
+    label_of (down n) = n
+    label_of across = 0
+
+    other : (n : ℕ) → (n ≡ m → ⊥) → link_of new i (down n) ≡ link_of mid i (down n)
+    other n x = same (down n) (λ e. x (ap label_of e))
+
+    here : link_of new i (down m) ≡ Some (proper j)
+    here = V.keeps.links i (down m) lt_next outside ∙ p.link
+
+    split : (n : ℕ) → n < m + 1 → (n ≡ m → ⊥) → n < m
+    split n l x = grind arith
+
+    gone : (n : ℕ) → n < m + 1 → HasSpot (spots_in g) (down n ∷ home_of homes i) → (n ≡ m) ⊎ (n ≡ m → ⊥) → (k : ℕ) × (link_of new i (down n) ≡ Some (proper k))
+    gone n x u (inl e) = (j, ap (λ z. link_of new i (down z)) e ∙ here)
+    gone n x u (inr d) = go (first n)
+      where
+        first : (n : ℕ) → (n < from) ⊎ (from ≤ n)
+        first n = grind arith
+
+        go : (n < from) ⊎ (from ≤ n) → (k : ℕ) × (link_of new i (down n) ≡ Some (proper k))
+        go (inl y) = let r = A.gone n y u in (r.0, other n d ∙ r.1)
+        go (inr y) = absurd (none n u.spot y (split n x d) u.is_in u.lies)
+
+    kids : (n : ℕ) → IsLinked mid i (down n) → (n ≡ m) ⊎ (n ≡ m → ⊥) → IsLinked new i (down n)
+    kids n x (inl e) = record { link = proper j; is = ap (λ z. link_of new i (down z)) e ∙ here }
+    kids n x (inr d) = record { link = x.link; is = other n d ∙ x.is }
+
+    labels : (n : ℕ) → IsLinked new i (down n) → (n ≡ m) ⊎ (n ≡ m → ⊥) → IsLabelOf old homes g i n
+    labels n x (inl e) = inr (subst (λ z. HasSpot (spots_in g) (down z ∷ home_of homes i)) (sym e) w)
+    labels n x (inr d) = A.labels n (record { link = x.link; is = sym (other n d) ∙ x.is })
+
+    across_same : link_of new i across ≡ link_of mid i across
+    across_same = same across (λ x. let z : ⊥ = cc in z)
+
+    content : (o : Option ℕ) → HasContentFor mid i o → HasContentFor new i o
+    content None c = (c.0, across_same ∙ c.1)
+    content (Some l) c = λ k x. c k (sym across_same ∙ x)
+
+-- the visit of a node that does not have one label ends after its last label
+pub among_ends : (dims : ℕ) (h g : List Weighted) (old new : List Slot) (homes : List Walk) (i from : ℕ) → ArePoints dims h g → i < length old → is_table (slot_of old i) ≡ false → HasSpot (spots_in g) (home_of homes i) → TellsLabels old homes g i None → IsAmong dims h g old homes i None from new → ((n : ℕ) (q : SpotPath) → from ≤ n → Contains (spots_in g) q → Under q (down n ∷ home_of homes i) → ⊥) → HasVisitedAll dims h g old homes i new
+among_ends dims h g old new homes i from P lt nd w T A none = record {
+  homes' = A.homes';
+  halfway = subst (λ z. IsHalfwayAfter dims new A.homes' h g [] z) at
+      (node_ends dims new A.homes' h g (EndedBefore g (down from ∷ x)) (IsOpenAbove (down from ∷ x)) (EndedAfter g x) (IsOpenAbove x) [] i lt_new
+      (last_label new A.homes' g i from M.has_homes lt_new (subst (HasSpot (spots_in g)) (sym at) w) (λ n q l c u. none n q l c (subst (λ z. Under q (down n ∷ z)) at u))) F M);
+  keeps = A.keeps;
+}
+  where
+    at : home_of A.homes' i ≡ home_of homes i
+    at = A.keeps.homes i lt
+
+    x : Walk
+    x = home_of A.homes' i
+
+    M : IsHalfwayBefore dims new A.homes' h g [] (down from ∷ home_of A.homes' i)
+    M = subst (λ z. IsHalfwayBefore dims new A.homes' h g [] (down from ∷ z)) (sym at) A.halfway
+
+    lt_new : i < length new
+    lt_new = omega (arith, lt, A.keeps.size)
+
+    first : (n : ℕ) → (n < from) ⊎ (from ≤ n)
+    first n = grind arith
+
+    own : (n : ℕ) → HasSpot (spots_in g) (down n ∷ home_of homes i) → (j : ℕ) × (link_of new i (down n) ≡ Some (proper j))
+    own n u = go (first n)
+      where
+        go : (n < from) ⊎ (from ≤ n) → (j : ℕ) × (link_of new i (down n) ≡ Some (proper j))
+        go (inl y) = A.gone n y u
+        go (inr y) = absurd (none n u.spot y u.is_in u.lies)
+
+    right : (e : Step) (q : SpotPath) → Under q (e ∷ home_of A.homes' i) → (j : ℕ) × (link_of new i e ≡ Some (proper j)) → LeadsRight new A.homes' i e q
+    right e q u r = record { link = proper r.0; is = r.1; lies = subst (Under q) (sym (M.has_homes.at_home i r.0 e r.1).1) u }
+
+    links : (e : Step) (q : SpotPath) → Contains (spots_in g) q → Under q (e ∷ home_of A.homes' i) → LeadsRight new A.homes' i e q ⊎ IsPut [] i e
+    links (down n) q c u = inl (right (down n) q u (own n (record { spot = q; is_in = c; lies = subst (λ z. Under q (down n ∷ z)) at u })))
+    links across q c u = inl (right across q u A.content)
+
+    linked : (n : ℕ) → IsLabelOf old homes g i n → IsLinked new i (down n)
+    linked n (inl y) = A.kids n y
+    linked n (inr u) = let r = own n u in record { link = proper r.0; is = r.1 }
+
+    two : (label : ℕ) (l : Link) → link_of new i (down label) ≡ Some l → HasTwoLabels old homes g i ⊎ HasNoLabel homes g i → WillHaveTwo new [] i
+    two label l is (inl t) = record { one = t.one; other = t.other; differ = t.differ; at_one = inl (linked t.one t.at_one); at_other = inl (linked t.other t.at_other) }
+    two label l is (inr n) =
+        let v = M.holds.wanted i (down label) l is in
+        let r = next_label w.spot v.spot (sym (P.alike w.spot w.is_in v.spot v.is_in)) (home_of homes i) label w.lies (subst (λ z. Under v.spot (down label ∷ z)) at v.lies) in
+        absurd (n r.0 w.spot w.is_in r.1)
+
+    F : IsFinished new A.homes' g [] i
+    F = record {
+      is_node = A.keeps.kinds i lt ∙ nd;
+      links = links;
+      shares = λ label l O. inr (two label l O.is T);
+      own_child = λ label l O. inr (two label l O.is T);
+      wide = λ k c e. let y = c.1 in absurd (omega (arith, y));
+    }

@@ -1,0 +1,179 @@
+-- From a node's visit to those of its content and its children, and back.
+use Rattle.std.proofs.Common.{◌≡◌, ℕ, suc, ◌+◌, ◌<◌, ◌≤◌, Bool, true, false, cond, eqb, ◌⊎◌, inl, inr, List, [], ◌∷◌, ◌++◌, Option, Some, None, All, Contains, filter, length, map, refl, sym, ap, ◌∙◌, subst, subst₂, arith, true≢false, eq-eqb}
+use Rattle.std.proofs.lemmas.List.{length-map}
+use Rattle.cube_view.specs.Paths.{spot_path}
+use Rattle.cube_view.specs.Places.{time_dim, deepest}
+use Rattle.cube_view.specs.Points.{Point, spot_of}
+use Rattle.cube_view.specs.Walks.{Step, down, across, Walk, SpotPath, under, Under, HasSpot, dimension}
+use Rattle.cube_view.specs.declared.schema.Schema.{Schema}
+use Rattle.cube_view.proofs.Walking.{Contains-head, Contains-cons, Contains-cases}
+use Rattle.node_arena.specs.Amounts.{Weighted, spots_in}
+use Rattle.node_arena.specs.Calls.{copied}
+use Rattle.node_arena.specs.Shape.{home_of, HasHomes, HasTables}
+use Rattle.node_arena.specs.Slots.{Slot, empty_node, link_of, slot_of, is_table}
+use Rattle.point_insert.specs.Visited.{IsFilled}
+use Rattle.point_insert.specs.Visited as visited
+use Rattle.proper_path.specs.Making.{IsSpotOf, State, Makes, has, copies, adds}
+use Rattle.proper_path.specs.Order.{shape_of}
+use Rattle.proper_path.specs.Paths.{point_path}
+use Rattle.proper_path.specs.Rooted.{state}
+use Rattle.proper_path.specs.Stepped.{IsStepped}
+use Rattle.proper_path.specs.Stepped as stepped
+use Rattle.proper_path.proofs.Dims.{goes_across}
+use Rattle.proper_path.proofs.Grow.{node_empty}
+use Rattle.proper_path.proofs.Steps.{IsPlaced, makes_placed}
+use Rattle.proper_path.proofs.Trailing.{node_before}
+use Rattle.group_insert.specs.Halfway.{IsHalfwayBefore, IsHalfwayAfter}
+use Rattle.group_insert.specs.InsertingAll.{IsInsertableAll, InsertsAll}
+use Rattle.group_insert.specs.Labels.{HasLabel, IsNextLabel, points_at, label_at}
+use Rattle.group_insert.specs.Parts.{level_of, paths_of, part_of}
+use Rattle.group_insert.specs.Visiting.{IsVisitablePart, VisitsPart, Passes}
+use Rattle.group_insert.specs.Visits.{ArePoints, HasVisitedAll, HasOneLabel, TellsLabels, IsAmong}
+use Rattle.group_insert.proofs.Among.{among_one, content_at, among_content, label_at_child, among_next, among_ends}
+use Rattle.group_insert.proofs.Leaving.{under-top}
+use Rattle.group_insert.proofs.Parting.{part_down, part_across, spot_is_of, spot_of_point}
+use Rattle.group_insert.proofs.StartEnd.{halfway_starts, shape_with}
+use Rattle.group_insert.proofs.Visiting.{spot_in_part, spot_at_label, none_between, none_from, none_at_leaf}
+
+-- what the calls leave is one of the changes that the invariant knows
+pub record IsMadeBy (dims : ℕ) (old new : List Slot) (homes : List Walk) (i : ℕ) (e : Step) (j : ℕ) : Type 0 where
+  pub homes' : List Walk
+  pub makes : Makes dims (state old homes []) i e j (state new homes' [])
+
+pub stepped_makes : (dims : ℕ) (old new : List Slot) (homes : List Walk) (i l j : ℕ) → (dimension (home_of homes i) ≡ dims → ⊥) → IsStepped old i (down l) j new → IsMadeBy dims old new homes i (down l) j
+stepped_makes dims old new homes i l j n (stepped.had is same) = record { homes' = homes; makes = has is (ap (λ z. state z homes []) same) }
+stepped_makes dims old new homes i l j n (stepped.copies t is ji G) = record {
+  homes' = homes ++ (down l ∷ home_of homes i) ∷ [];
+  makes = copies t is (λ x c. let w : ⊥ = cc in w) (record { is = ji; grown = G; homes = refl; updated = refl });
+}
+stepped_makes dims old new homes i l j n (stepped.adds is ji G) = record {
+  homes' = homes ++ (down l ∷ home_of homes i) ∷ [];
+  makes = adds empty_node is node_empty.no_link node_empty.no_count (λ x. absurd (true≢false (sym x)), λ d. absurd (n d)) (record { is = ji; grown = G; homes = refl; updated = refl });
+}
+
+none_in : (t : ℕ) → Contains [] t → ⊥
+none_in t c = let l = c.1 in absurd (omega (arith, l))
+
+pub filled_makes : (dims dim : ℕ) (old new : List Slot) (homes : List Walk) (i j : ℕ) → dimension (home_of homes i) ≡ dim → IsFilled dims (dim + 1) [] old i new (Some j) → IsMadeBy dims old new homes i across j
+filled_makes dims dim old new homes i j d (visited.had is same) = record { homes' = homes; makes = has is (ap (λ z. state z homes []) same) }
+filled_makes dims dim old new homes i j d (visited.copies t is n ji G) = record {
+  homes' = homes ++ (across ∷ home_of homes i) ∷ [];
+  makes = copies t is (λ x c. n c) (record { is = ji; grown = G; homes = refl; updated = refl });
+}
+filled_makes dims dim old new homes i j d (visited.adds s is nl nc kind ji G) = record {
+  homes' = homes ++ (across ∷ home_of homes i) ∷ [];
+  makes = adds s is nl nc (λ x. let e = kind.0 x in omega (arith, d, e), λ x. kind.1 (omega (arith, d, x))) (record { is = ji; grown = G; homes = refl; updated = refl });
+}
+
+-- a node before time is no table, and its links lead inside
+pub part_node : (z : Schema) (group : List Point) (slots : List Slot) (dim level i : ℕ) (part : List Point) (homes : List Walk) (h : List Weighted) → dim < time_dim z → IsVisitablePart z group slots dim level i part homes h → is_table (slot_of slots i) ≡ false
+part_node z group slots dim level i part homes h lt K = node_before (time_dim z) slots homes i K.halfway.has_tables K.in_range (λ d. let e = K.in_dim in omega (arith, d, e, lt))
+
+pub part_spot : (z : Schema) (group : List Point) (slots : List Slot) (dim level i : ℕ) (part : List Point) (homes : List Walk) (h : List Weighted) → IsVisitablePart z group slots dim level i part homes h → HasSpot (spots_in (paths_of z group)) (home_of homes i)
+part_spot z group slots dim level i part homes h K = spot_in_part z group (home_of homes i) (subst (λ x. 0 < length x) K.part_is K.some)
+
+-- the content that was made can be visited with the same part
+pub content_visitable : (z : Schema) (group : List Point) (old mid : List Slot) (dim level i j : ℕ) (part : List Point) (homes : List Walk) (h : List Weighted) → dim < time_dim z → (K : IsVisitablePart z group old dim level i part homes h) → (m : IsMadeBy (time_dim z) old mid homes i across j) → IsVisitablePart z group mid (dim + 1) 0 j part m.homes' h
+content_visitable z group old mid dim level i j part homes h lt K m = record {
+  in_range = p.in_range;
+  in_dim = let d = ap dimension p.at_home in let e = K.in_dim in omega (arith, d, e);
+  at_level = ap level_of p.at_home;
+  halfway = content_at (time_dim z) h (paths_of z group) old mid homes m.homes' i j K.in_range goes K.halfway m.makes;
+  part_is = K.part_is ∙ (part_across z group (home_of homes i) before ∙ ap (part_of z group) (sym p.at_home));
+  some = K.some;
+  points = K.points;
+  light = K.light;
+}
+  where
+    before : dimension (home_of homes i) < time_dim z
+    before = let e = K.in_dim in omega (arith, e, lt)
+
+    p : IsPlaced (time_dim z) (state old homes []) i across j (state mid m.homes' [])
+    p = makes_placed (time_dim z) (state old homes []) (state mid m.homes' []) i j across K.halfway.has_homes K.halfway.has_tables m.makes
+
+    w : HasSpot (spots_in (paths_of z group)) (home_of homes i)
+    w = part_spot z group old dim level i part homes h K
+
+    goes : HasSpot (spots_in (paths_of z group)) (across ∷ home_of homes i)
+    goes = record { spot = w.spot; is_in = w.is_in; lies = goes_across (time_dim z) w.spot (K.points.spots w.spot w.is_in) (home_of homes i) w.lies (λ d. omega (arith, d, before)) }
+
+-- and afterwards the labels begin
+pub content_passed : (z : Schema) (old mid new : List Slot) (dim level i j : ℕ) (part : List Point) → dim < time_dim z → IsFilled (time_dim z) (dim + 1) [] old i mid (Some j) → VisitsPart z mid new (dim + 1) 0 j part → (group : List Point) (homes : List Walk) (h : List Weighted) → IsVisitablePart z group old dim level i part homes h → IsAmong (time_dim z) h (paths_of z group) old homes i None 0 new
+content_passed z old mid new dim level i j part lt F V group homes h K =
+    let m = filled_makes (time_dim z) dim old mid homes i j K.in_dim F in
+    among_content (time_dim z) h (paths_of z group) old mid new homes m.homes' i j K.in_range K.halfway m.makes (V group m.homes' h (content_visitable z group old mid dim level i j part homes h lt K m))
+
+some_kept : (z : Schema) (dim level l : ℕ) (part : List Point) → HasLabel z dim level l part → 0 < length (points_at z dim level l part)
+some_kept z dim level l [] L = let x = L.is_in.1 in absurd (omega (arith, x))
+some_kept z dim level l (x ∷ part) L = go (λ r. some_kept z dim level l part r) (eqb (label_at z dim level x) l) refl (Contains-cases part x L.point L.is_in)
+  where
+    go : (HasLabel z dim level l part → 0 < length (points_at z dim level l part)) → (b : Bool) → eqb (label_at z dim level x) l ≡ b → (x ≡ L.point) ⊎ Contains part L.point → 0 < length (cond b (x ∷ points_at z dim level l part) (points_at z dim level l part))
+    go rest true e c = omega arith
+    go rest false e (inl y) = absurd (true≢false (sym (eq-eqb (label_at z dim level x) l (ap (label_at z dim level) y ∙ L.at)) ∙ e))
+    go rest false e (inr c) = rest (record { point = L.point; is_in = c; at = L.at })
+
+-- the child that was made can be visited with the points of its label
+pub child_visitable : (z : Schema) (group : List Point) (old mid next : List Slot) (dim level i j from l : ℕ) (part : List Point) (homes : List Walk) (h : List Weighted) (only : Option ℕ) → level < deepest z dim → (K : IsVisitablePart z group old dim level i part homes h) → (A : IsAmong (time_dim z) h (paths_of z group) old homes i only from mid) → IsNextLabel z dim (level + 1) from l part → (m : IsMadeBy (time_dim z) mid next A.homes' i (down l) j) → IsVisitablePart z group next dim (level + 1) j (points_at z dim (level + 1) l part) m.homes' h
+child_visitable z group old mid next dim level i j from l part homes h only lt K A N m = record {
+  in_range = p.in_range;
+  in_dim = ap dimension at_home ∙ K.in_dim;
+  at_level = ap level_of at_home ∙ (let e = K.at_level in omega (arith, e));
+  halfway = label_at_child (time_dim z) h (paths_of z group) old mid next homes m.homes' i j l only from K.in_range A N'.reaches (none_between z group (home_of homes i) from l lt' N') goes m.makes;
+  part_is = ap (points_at z dim (level + 1) l) K.part_is ∙ (subst₂ (λ x y. points_at z x (y + 1) l (part_of z group (home_of homes i)) ≡ part_of z group (down l ∷ home_of homes i)) K.in_dim K.at_level (part_down z group (home_of homes i) l lt') ∙ ap (part_of z group) (sym at_home));
+  some = some_kept z dim (level + 1) l part N.there;
+  points = K.points;
+  light = K.light;
+}
+  where
+    lt' : level_of (home_of homes i) < deepest z (dimension (home_of homes i))
+    lt' = subst₂ (λ x y. y < deepest z x) (sym K.in_dim) (sym K.at_level) lt
+
+    N' : IsNextLabel z (dimension (home_of homes i)) (level_of (home_of homes i) + 1) from l (part_of z group (home_of homes i))
+    N' = subst (λ x. IsNextLabel z (dimension (home_of homes i)) (level_of (home_of homes i) + 1) from l x) K.part_is (subst₂ (λ x y. IsNextLabel z x (y + 1) from l part) (sym K.in_dim) (sym K.at_level) N)
+
+    goes : HasSpot (spots_in (paths_of z group)) (down l ∷ home_of homes i)
+    goes = spot_at_label z group (home_of homes i) l lt' N'.there
+
+    p : IsPlaced (time_dim z) (state mid A.homes' []) i (down l) j (state next m.homes' [])
+    p = makes_placed (time_dim z) (state mid A.homes' []) (state next m.homes' []) i j (down l) A.halfway.has_homes A.halfway.has_tables m.makes
+
+    at_home : home_of m.homes' j ≡ down l ∷ home_of homes i
+    at_home = p.at_home ∙ ap (λ x. down l ∷ x) (A.keeps.homes i K.in_range)
+
+-- before the visit of the root, all points are its part
+all_kept : (z : Schema) (group : List Point) → group ≡ part_of z group []
+all_kept z [] = refl
+all_kept z (x ∷ group) = ap (λ y. x ∷ y) (all_kept z group) ∙ ap (λ (b : Bool). cond b (x ∷ part_of z group []) (part_of z group [])) (sym (under-top z (spot_of x)))
+
+path_of_point : (z : Schema) (group : List Point) (p : Point) → Contains group p → Contains (paths_of z group) (point_path z p)
+path_of_point z [] p c = let l = c.1 in absurd (omega (arith, l))
+path_of_point z (x ∷ group) p c = go (λ d. path_of_point z group p d) (Contains-cases group x p c)
+  where
+    go : (Contains group p → Contains (paths_of z group) (point_path z p)) → (x ≡ p) ⊎ Contains group p → Contains (paths_of z (x ∷ group)) (point_path z p)
+    go rest (inl e) = subst (λ (t : Point). Contains (paths_of z (x ∷ group)) (point_path z t)) e (Contains-head (paths_of z group) (point_path z x))
+    go rest (inr d) = Contains-cons (paths_of z group) (point_path z x) (point_path z p) (rest d)
+
+are_points : (z : Schema) (group : List Point) (slots : List Slot) (homes : List Walk) (h : List Weighted) → IsInsertableAll (time_dim z) (paths_of z group) slots homes h → ArePoints (time_dim z) h (paths_of z group)
+are_points z group slots homes h K = record {
+  alike = λ p c. let r = spot_is_of z group p c in subst (λ y. (q : SpotPath) → Contains (spots_in (paths_of z group ++ h)) q → shape_of q ≡ shape_of y) r.2 (K.alike (point_path z r.0) (path_of_point z group r.0 r.1));
+  spots = λ p c. let r = spot_is_of z group p c in subst (λ y. IsSpotOf (time_dim z) y) r.2 (K.spots (point_path z r.0) (path_of_point z group r.0 r.1));
+}
+
+pub root_visitable : (z : Schema) (group : List Point) (slots : List Slot) (homes : List Walk) (h : List Weighted) → 0 < length group → IsInsertableAll (time_dim z) (paths_of z group) slots homes h → IsVisitablePart z group slots 1 0 0 group homes h
+root_visitable z group slots homes h some K = record {
+  in_range = K.shape.has_homes.some;
+  in_dim = ap dimension K.shape.has_homes.root;
+  at_level = ap level_of K.shape.has_homes.root;
+  halfway = subst (λ x. IsHalfwayBefore (time_dim z) slots homes h (paths_of z group) [] x) (sym K.shape.has_homes.root) (halfway_starts (time_dim z) slots homes h (paths_of z group) K.shape);
+  part_is = all_kept z group ∙ ap (part_of z group) (sym K.shape.has_homes.root);
+  some = some;
+  points = are_points z group slots homes h K;
+  light = K.light;
+}
+
+-- after it the slots have the shape with the group
+pub inserts_all : (z : Schema) (group : List Point) (old new : List Slot) → 0 < length group → VisitsPart z old new 1 0 0 group → InsertsAll (time_dim z) (paths_of z group) old new
+inserts_all z group old new some V homes h K =
+    let v = V group homes h (root_visitable z group old homes h some K) in
+    shape_with (time_dim z) old new homes v.homes' h (paths_of z group) (subst (λ n. 0 < n) (sym (length-map group (λ p. point_path z p))) some) K
+    (subst (λ x. IsHalfwayAfter (time_dim z) new v.homes' h (paths_of z group) [] x) K.shape.has_homes.root v.halfway)
