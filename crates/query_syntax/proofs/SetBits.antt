@@ -7,7 +7,7 @@ use Rattle.std.proofs.lemmas.List.{length-append, length-set, get_or_append_left
 use Rattle.std.proofs.lemmas.List.Elements.{All-get_or, All-set}
 use Rattle.std.proofs.lemmas.Nat.{or_lt, mod_below, pow_pos}
 use Rattle.std.proofs.lemmas.Nat.Bits.{bit_at_lowest, bit_at-suc, bit_at-zero, bit_at_set_same, bit_at_set_other}
-use Rattle.query_syntax.specs.SetBits.{bits_of, members_of, AreWords}
+use Rattle.query_syntax.specs.SetBits.{bits_of, members_in_words, AreWords}
 
 -- the value's bit is 1: bit v % 64 of word v / 64
 abbrev pub has_bit : List ℕ → ℕ → Bool
@@ -25,30 +25,30 @@ bits_of-at (suc n) w zero l = ap (λ b. eqb b 1) (sym (bit_at_lowest w))
 bits_of-at (suc n) w (suc i) l = bits_of-at n (w / 2) i (omega (arith, l)) ∙ ap (λ b. eqb b 1) (sym (bit_at-suc w i))
 
 -- whether a value is in a set is its bit
-pub member_at : (words : List ℕ) (v : ℕ) → get_or (members_of words) v false ≡ has_bit words v
-unfolding members_of
+pub member_at : (words : List ℕ) (v : ℕ) → get_or (members_in_words words) v false ≡ has_bit words v
+unfolding members_in_words
 member_at [] v = ap (λ b. eqb b 1) (sym (bit_at-zero (v % 64)))
 member_at (w ∷ words) v = ⊎_elim
     (λ (l : v < 64).
     let first : v / 64 ≡ 0 = omega (arith, l) in
     let rest : v % 64 ≡ v = omega (arith, l) in
-    get_or_append_left (bits_of 64 w) (members_of words) false v (omega (arith, l, length-bits_of 64 w)) ∙ bits_of-at 64 w v l
+    get_or_append_left (bits_of 64 w) (members_in_words words) false v (omega (arith, l, length-bits_of 64 w)) ∙ bits_of-at 64 w v l
     ∙ (λ i. eqb (bit_at (get_or (w ∷ words) (sym first i) 0) (sym rest i)) 1))
     (λ (l : 64 ≤ v).
     let next : suc ((v - 64) / 64) ≡ v / 64 = omega (arith, l) in
     let rest : (v - 64) % 64 ≡ v % 64 = omega (arith, l) in
-    get_or-append_right (bits_of 64 w) (members_of words) 64 v false (length-bits_of 64 w) l ∙ member_at words (v - 64)
+    get_or-append_right (bits_of 64 w) (members_in_words words) 64 v false (length-bits_of 64 w) l ∙ member_at words (v - 64)
     ∙ (λ i. eqb (bit_at (get_or (w ∷ words) (next i) 0) (rest i)) 1))
     (cases_lt v 64)
 
-length-members_of : (words : List ℕ) → length (members_of words) ≡ 64 * length words
-unfolding members_of
-length-members_of [] = refl
-length-members_of (w ∷ words) = omega (arith, length-append (bits_of 64 w) (members_of words), length-bits_of 64 w, length-members_of words)
+length-members_in_words : (words : List ℕ) → length (members_in_words words) ≡ 64 * length words
+unfolding members_in_words
+length-members_in_words [] = refl
+length-members_in_words (w ∷ words) = omega (arith, length-append (bits_of 64 w) (members_in_words words), length-bits_of 64 w, length-members_in_words words)
 
 -- four words are 256 members
-pub length_four : (words : List ℕ) → length words ≡ 4 → length (members_of words) ≡ 256
-length_four words four = omega (arith, four, length-members_of words)
+pub length_four : (words : List ℕ) → length words ≡ 4 → length (members_in_words words) ≡ 256
+length_four words four = omega (arith, four, length-members_in_words words)
 
 -- a value put into a set
 
@@ -79,17 +79,17 @@ bit_kept words v i within other = ⊎_elim
     (λ (ne : i / 64 ≡ v / 64 → ⊥). ap (λ w. eqb (bit_at w (i % 64)) 1) (get_or-set_other words (v / 64) (i / 64) (with_bit (get_or words (v / 64) 0) (v % 64)) 0 ne))
     (cases_eq (i / 64) (v / 64))
 
-pub members_of-set : (words : List ℕ) (v : ℕ) → v < 256 → length words ≡ 4 → members_of (words_with words v) ≡ set (members_of words) v true
-members_of-set words v below four =
+pub members_in_words-set : (words : List ℕ) (v : ℕ) → v < 256 → length words ≡ 4 → members_in_words (words_with words v) ≡ set (members_in_words words) v true
+members_in_words-set words v below four =
     let within : v / 64 < length words = omega (arith, below, four) in
-    let size : length (members_of words) ≡ 256 = length_four words four in
-    let new_size : length (members_of (words_with words v)) ≡ 256 = length_four (words_with words v) (length-set words (v / 64) (with_bit (get_or words (v / 64) 0) (v % 64)) ∙ four) in
-    ext_get_or false (members_of (words_with words v)) (set (members_of words) v true) (new_size ∙ sym (length-set (members_of words) v true ∙ size)) (λ i l.
+    let size : length (members_in_words words) ≡ 256 = length_four words four in
+    let new_size : length (members_in_words (words_with words v)) ≡ 256 = length_four (words_with words v) (length-set words (v / 64) (with_bit (get_or words (v / 64) 0) (v % 64)) ∙ four) in
+    ext_get_or false (members_in_words (words_with words v)) (set (members_in_words words) v true) (new_size ∙ sym (length-set (members_in_words words) v true ∙ size)) (λ i l.
     member_at (words_with words v) i ∙ ⊎_elim
     (λ (e : i ≡ v).
     ap (has_bit (words_with words v)) e ∙ bit_put words v within
-    ∙ sym (ap (λ j. get_or (set (members_of words) v true) j false) e ∙ get_or-set_same (members_of words) v true false (omega (arith, below, size))))
-    (λ (ne : i ≡ v → ⊥). bit_kept words v i within ne ∙ sym (get_or-set_other (members_of words) v i true false ne ∙ member_at words i))
+    ∙ sym (ap (λ j. get_or (set (members_in_words words) v true) j false) e ∙ get_or-set_same (members_in_words words) v true false (omega (arith, below, size))))
+    (λ (ne : i ≡ v → ⊥). bit_kept words v i within ne ∙ sym (get_or-set_other (members_in_words words) v i true false ne ∙ member_at words i))
     (cases_eq i v))
 
 pub words-set : (words : List ℕ) (v : ℕ) → v < 256 → AreWords words → AreWords (words_with words v)

@@ -13,8 +13,8 @@ bits_of zero w = []
 bits_of (suc n) w = (w % 2 == 1) ∷ bits_of n (w / 2)
 
 -- of each value, whether its bit in the words is 1
-unfoldable pub members_of : List ℕ → List Bool
-members_of words = flat_map (bits_of 64) words
+unfoldable pub members_in_words : List ℕ → List Bool
+members_in_words words = flat_map (bits_of 64) words
 
 -- four words of 64 bits
 pub record AreWords (words : List ℕ) : Type 0 where
@@ -54,14 +54,14 @@ unfolding bits_of
 drop-bits_of zero w rest = refl
 drop-bits_of (suc n) w rest = drop-bits_of n (w / 2) rest
 
-words_of-members_of : (words : List ℕ) → All (λ w. w < 2 ^ 64) words → words_of (length words) (members_of words) ≡ words
-unfolding words_of members_of
-words_of-members_of [] small = refl
-words_of-members_of (w ∷ words) small =
+words_of-members_in_words : (words : List ℕ) → All (λ w. w < 2 ^ 64) words → words_of (length words) (members_in_words words) ≡ words
+unfolding words_of members_in_words
+words_of-members_in_words [] small = refl
+words_of-members_in_words (w ∷ words) small =
     let later = flat_map (bits_of 64) words in
     ap (λ v. v ∷ words_of (length words) (drop 64 (bits_of 64 w ++ later))) (number_of_bits-bits_of 64 w later ∙ mod-eq_of_lt (All-head (λ w. w < 2 ^ 64) w words small))
     ∙ ap (λ set. w ∷ words_of (length words) set) (drop-bits_of 64 w later)
-    ∙ ap (λ ws. w ∷ ws) (words_of-members_of words (All-tail (λ w. w < 2 ^ 64) w words small))
+    ∙ ap (λ ws. w ∷ ws) (words_of-members_in_words words (All-tail (λ w. w < 2 ^ 64) w words small))
 
-pub words_back : (words : List ℕ) → AreWords words → words_of 4 (members_of words) ≡ words
-words_back words are = ap (λ k. words_of k (members_of words)) (sym are.four) ∙ words_of-members_of words are.small
+pub words_back : (words : List ℕ) → AreWords words → words_of 4 (members_in_words words) ≡ words
+words_back words are = ap (λ k. words_of k (members_in_words words)) (sym are.four) ∙ words_of-members_in_words words are.small

@@ -2,7 +2,7 @@
 ghost use Rattle.std.specs.Prelude.{length, ◌≡◌, ◌≤◌, not, true, false, drop, slice_set, slice_index_or, replicate};
 ghost use Rattle.std.specs.List.{list_any};
 ghost use Rattle.query_syntax.specs.Items.{is_full};
-ghost use Rattle.query_syntax.specs.SetBits.{members_of};
+ghost use Rattle.query_syntax.specs.SetBits.{members_in_words};
 
 use std::marker::Model;
 
@@ -14,11 +14,11 @@ pub struct ValueSet {
 
 impl Model for ValueSet {
     ghost use Rattle.std.specs.Prelude.{List, Bool};
-    ghost use Rattle.query_syntax.specs.SetBits.{members_of, words_of, AreWords, words_back};
+    ghost use Rattle.query_syntax.specs.SetBits.{members_in_words, words_of, AreWords, words_back};
 
     ghost Value = { List Bool };
 
-    ghost view = { λ s. members_of s.bits };
+    ghost view = { λ s. members_in_words s.bits };
 
     ghost invariant = { λ s. AreWords s.bits };
 
@@ -78,7 +78,7 @@ impl ValueSet {
 
 /// Whether the bit of the value is 1.
 fn is_member(bits: &[u64; 4], value: u8) -> bool
-    ensures { result ≡ slice_index_or (members_of bits.now) value false }
+    ensures { result ≡ slice_index_or (members_in_words bits.now) value false }
 {
     bits[usize::from(value / 64)] >> (value % 64) & 1 == 1
 }
@@ -86,7 +86,7 @@ fn is_member(bits: &[u64; 4], value: u8) -> bool
 /// Whether the bit of each number under the count is 1.
 fn are_members_under(bits: &[u64; 4], count: usize) -> bool
     requires { count ≤ 256 }
-    ensures { result ≡ is_full count (members_of bits.now) }
+    ensures { result ≡ is_full count (members_in_words bits.now) }
 {
     for value in 0..count {
         if !is_member(bits, value as u8) {
@@ -99,7 +99,7 @@ fn are_members_under(bits: &[u64; 4], count: usize) -> bool
 /// Whether the bit of each number from the count on is 0.
 fn is_no_member_from(bits: &[u64; 4], count: usize) -> bool
     requires { count ≤ 256 }
-    ensures { result ≡ not (list_any (λ b. b) (drop count (members_of bits.now))) }
+    ensures { result ≡ not (list_any (λ b. b) (drop count (members_in_words bits.now))) }
 {
     for value in count..256 {
         if is_member(bits, value as u8) {

@@ -2,8 +2,8 @@
 use Rattle.std.proofs.Common.{List, ◌++◌, ap, ◌∙◌, append_assoc}
 use Rattle.json.specs.Token.{Token}
 use Rattle.json.specs.Written.{Written}
-use Rattle.reply_json.specs.Tokens.{Adds}
+use Rattle.reply_json.specs.Tokens.{Appends}
 
 -- what is added after another is added to both
-pub adds_more : (old mid new : Written) (ts us : List Token) → Adds old mid ts → Adds mid new us → Adds old new (ts ++ us)
+pub adds_more : (old mid new : Written) (ts us : List Token) → Appends old mid ts → Appends mid new us → Appends old new (ts ++ us)
 adds_more old mid new ts us (same, text) (same_more, more) = (same_more ∙ same, more ∙ ap (λ (l : List Token). l ++ us) text ∙ append_assoc old.tokens ts us)

@@ -14,7 +14,7 @@ use Rattle.serde_json.proofs.Texts.{print-outline}
 use Rattle.query_syntax.specs.declared.table.RowOut.{RowOut}
 use Rattle.reply_json.specs.declared.reply.Reply.{Reply}
 use Rattle.reply_json.specs.Printed.{row_value, rows_value, reply_value, reply_text}
-use Rattle.reply_json.specs.Tokens.{Adds, value_tokens}
+use Rattle.reply_json.specs.Tokens.{Appends, value_tokens}
 use Rattle.reply_json.specs.Types.{RowFits}
 
 -- the tokens of the rows that are left, with the closing bracket
@@ -52,7 +52,7 @@ pub none_fit : All RowFits []
 none_fit k d within = absurd (omega (arith, within))
 
 -- the bytes of a writer that began with none and has the tokens of a reply
-pub reply_of_tokens : (start : List ℕ) (old new : Written) (reply : Reply) (bytes : List ℕ) → start ≡ [] → old.before ≡ start → old.tokens ≡ [] → Adds old new (value_tokens (reply_value reply))
+pub reply_of_tokens : (start : List ℕ) (old new : Written) (reply : Reply) (bytes : List ℕ) → start ≡ [] → old.before ≡ start → old.tokens ≡ [] → Appends old new (value_tokens (reply_value reply))
     → bytes ≡ new.before ++ print new.tokens → bytes ≡ reply_text reply
 unfolding reply_text
 reply_of_tokens start old new reply bytes none before tokens (same, adds) is =

@@ -11,5 +11,5 @@ abbrev pub value_tokens : Data → List Token
 value_tokens d = json_tokens (outline d)
 
 -- the writer has these tokens more, after what stood before
-abbrev pub Adds : Written → Written → List Token → Type 0
-Adds old new ts = (new.before ≡ old.before) × (new.tokens ≡ old.tokens ++ ts)
+abbrev pub Appends : Written → Written → List Token → Type 0
+Appends old new ts = (new.before ≡ old.before) × (new.tokens ≡ old.tokens ++ ts)

@@ -7,7 +7,7 @@ ghost use Rattle.serde_json.specs.View.{items_of};
 ghost use Rattle.serde_json.specs.Written.{items_outline};
 ghost use Rattle.reply_json.specs.declared.reply.Reply.{Reply};
 ghost use Rattle.reply_json.specs.Printed.{fault_name, row_items, row_value, rows_value, reply_value, reply_text};
-ghost use Rattle.reply_json.specs.Tokens.{Adds, value_tokens};
+ghost use Rattle.reply_json.specs.Tokens.{Appends, value_tokens};
 ghost use Rattle.reply_json.specs.Validity.{is_valid_reply};
 ghost use Rattle.reply_json.specs.Types.{IsCount, RowFits, ReplyFits};
 
@@ -54,7 +54,7 @@ pub(crate) fn fault_name(fault: QueryFault) -> &'static str
 
 // Writes a row's total and its closing bracket.
 fn put_total(out: &mut Writer, total: u64) -> Result<(), AllocError>
-    ensures text { OnOk result (Adds out.old out.new (number (decimal total) ∷ end_array ∷ [])) }
+    ensures text { OnOk result (Appends out.old out.new (number (decimal total) ∷ end_array ∷ [])) }
     ensures fits { IsCount total }
 {
     out.u64(total)?;
@@ -63,7 +63,7 @@ fn put_total(out: &mut Writer, total: u64) -> Result<(), AllocError>
 
 // Writes what stands in a row, and its closing bracket.
 fn put_items(out: &mut Writer, row: &RowOut) -> Result<(), AllocError>
-    ensures text { OnOk result (Adds out.old out.new (items_tokens (items_outline (items_of (row_items row.now))))) }
+    ensures text { OnOk result (Appends out.old out.new (items_tokens (items_outline (items_of (row_items row.now))))) }
     ensures fits { OnOk result (RowFits row.now) }
 {
     match row {
@@ -92,7 +92,7 @@ fn put_items(out: &mut Writer, row: &RowOut) -> Result<(), AllocError>
 
 // Writes a row after what is there.
 fn put_row(out: &mut Writer, row: &RowOut) -> Result<(), AllocError>
-    ensures text { OnOk result (Adds out.old out.new (value_tokens (row_value row.now))) }
+    ensures text { OnOk result (Appends out.old out.new (value_tokens (row_value row.now))) }
     ensures fits { OnOk result (RowFits row.now) }
 {
     out.begin_array()?;
@@ -102,7 +102,7 @@ fn put_row(out: &mut Writer, row: &RowOut) -> Result<(), AllocError>
 // Writes the rows after what is there. The buffer grows as they come, by doubling: it is kept from reply to reply, and
 // a bound of bytes a row would take far more of it than most rows need.
 fn put_rows(out: &mut Writer, rows: &[RowOut]) -> Result<(), AllocError>
-    ensures text { OnOk result (Adds out.old out.new (value_tokens (rows_value rows.now))) }
+    ensures text { OnOk result (Appends out.old out.new (value_tokens (rows_value rows.now))) }
     ensures fits { OnOk result (All RowFits rows.now) }
 {
     out.begin_array()?;
@@ -115,7 +115,7 @@ fn put_rows(out: &mut Writer, rows: &[RowOut]) -> Result<(), AllocError>
 
 // Writes a member that is a number.
 fn put_count(out: &mut Writer, name: &str, count: u64) -> Result<(), AllocError>
-    ensures text { OnOk result (Adds out.old out.new (key name.now ∷ number (decimal count) ∷ [])) }
+    ensures text { OnOk result (Appends out.old out.new (key name.now ∷ number (decimal count) ∷ [])) }
     ensures fits { IsCount count }
 {
     out.key(name)?;
@@ -125,7 +125,7 @@ fn put_count(out: &mut Writer, name: &str, count: u64) -> Result<(), AllocError>
 
 #[tactic(auto, unfolding(crate::specs::Printed::reply_value, crate::specs::Types::ReplyFits))]
 fn put_table(out: &mut Writer, table: &Table) -> Result<(), AllocError>
-    ensures text { OnOk result (Adds out.old out.new (value_tokens (reply_value (Reply.Table table.now)))) }
+    ensures text { OnOk result (Appends out.old out.new (value_tokens (reply_value (Reply.Table table.now)))) }
     ensures fits { OnOk result (ReplyFits (Reply.Table table.now)) }
 {
     out.begin_object()?;
@@ -138,7 +138,7 @@ fn put_table(out: &mut Writer, table: &Table) -> Result<(), AllocError>
 
 #[tactic(auto, unfolding(crate::specs::Printed::reply_value, crate::specs::Types::ReplyFits))]
 fn put_stat(out: &mut Writer, stat: &Stat, seen: u64) -> Result<(), AllocError>
-    ensures text { OnOk result (Adds out.old out.new (value_tokens (reply_value (Reply.Stat stat.now seen)))) }
+    ensures text { OnOk result (Appends out.old out.new (value_tokens (reply_value (Reply.Stat stat.now seen)))) }
     ensures fits { OnOk result (ReplyFits (Reply.Stat stat.now seen)) }
 {
     out.begin_object()?;
@@ -153,7 +153,7 @@ fn put_stat(out: &mut Writer, stat: &Stat, seen: u64) -> Result<(), AllocError>
 
 #[tactic(auto, unfolding(crate::specs::Printed::reply_value, crate::specs::Types::ReplyFits))]
 fn put_told(out: &mut Writer, told: u64) -> Result<(), AllocError>
-    ensures text { OnOk result (Adds out.old out.new (value_tokens (reply_value (Reply.Told told)))) }
+    ensures text { OnOk result (Appends out.old out.new (value_tokens (reply_value (Reply.Told told)))) }
     ensures fits { OnOk result (ReplyFits (Reply.Told told)) }
 {
     out.begin_object()?;
@@ -164,7 +164,7 @@ fn put_told(out: &mut Writer, told: u64) -> Result<(), AllocError>
 
 #[tactic(auto, unfolding(crate::specs::Printed::reply_value, crate::specs::Types::ReplyFits))]
 fn put_fault(out: &mut Writer, fault: QueryFault, word: u32) -> Result<(), AllocError>
-    ensures text { OnOk result (Adds out.old out.new (value_tokens (reply_value (Reply.Fault fault word)))) }
+    ensures text { OnOk result (Appends out.old out.new (value_tokens (reply_value (Reply.Fault fault word)))) }
     ensures fits { OnOk result (ReplyFits (Reply.Fault fault word)) }
 {
     out.begin_object()?;
@@ -177,7 +177,7 @@ fn put_fault(out: &mut Writer, fault: QueryFault, word: u32) -> Result<(), Alloc
 
 #[tactic(auto, unfolding(crate::specs::Printed::reply_value))]
 fn put_no_memory(out: &mut Writer) -> Result<(), AllocError>
-    ensures { OnOk result (Adds out.old out.new (value_tokens (reply_value Reply.NoMemory))) }
+    ensures { OnOk result (Appends out.old out.new (value_tokens (reply_value Reply.NoMemory))) }
 {
     out.begin_object()?;
     out.key("fault")?;
@@ -188,7 +188,7 @@ fn put_no_memory(out: &mut Writer) -> Result<(), AllocError>
 
 #[tactic(auto, unfolding(crate::specs::Types::ReplyFits))]
 fn put_reply(out: &mut Writer, reply: &Reply) -> Result<(), AllocError>
-    ensures text { OnOk result (Adds out.old out.new (value_tokens (reply_value reply.now))) }
+    ensures text { OnOk result (Appends out.old out.new (value_tokens (reply_value reply.now))) }
     ensures fits { OnOk result (ReplyFits reply.now) }
 {
     match reply {

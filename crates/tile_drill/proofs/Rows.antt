@@ -17,7 +17,7 @@ use Rattle.query_walk.proofs.Sets.{any_value, below_all, below_no, below_none, b
 use Rattle.query_walk.proofs.Spans.{before_end}
 use Rattle.query_walk.specs.Walks.{is_left_in_set, meets_from, IsAtCategory, HasChoicesFrom}
 use Rattle.tile_drill.specs.Ends.{totals_before}
-use Rattle.tile_drill.specs.Series.{row_at, row_left, row_span, row_under, AreRowTotals, FitsEach, GainsEach}
+use Rattle.tile_drill.specs.Series.{row_at_value, row_left, row_span, row_under, AreRowTotals, FitsEach, GainsEach}
 use Rattle.tile_drill.specs.declared.sums.Series.{Series}
 
 -- the bins of a row are in order
@@ -69,11 +69,11 @@ module _ (z : Schema) (s : Series) (h : List Point) (a : Address) (k : ℕ) wher
 
     module _ (v : ℕ) (few : k < 4) (free : IsAtCategory a k) (is_in : get_or set v false ≡ true) where
       -- and where it is
-      pub row_yes : (i : ℕ) → amount (row_below z s a k set (v + 1) i) h ≡ amount (row_below z s a k set v i) h + amount (row_at z s a k v i) h
+      pub row_yes : (i : ℕ) → amount (row_below z s a k set (v + 1) i) h ≡ amount (row_below z s a k set v i) h + amount (row_at_value z s a k v i) h
       row_yes i = below_yes z (row i) a k h set v few free is_in
 
       -- which is within the whole set
-      pub row_within : (i : ℕ) → amount (row_below z s a k set v i) h + amount (row_at z s a k v i) h ≤ amount (row_left z s a k i) h
+      pub row_within : (i : ℕ) → amount (row_below z s a k set v i) h + amount (row_at_value z s a k v i) h ≤ amount (row_left z s a k i) h
       row_within i =
           let e = row_yes i in
           let all = set_left z (row i) a k h set lt is in

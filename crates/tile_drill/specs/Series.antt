@@ -29,8 +29,8 @@ abbrev pub row_left : Schema → Series → Address → ℕ → ℕ → Spot →
 row_left schema s address k i = is_left schema (with_span s.query (row_span s i)) address k
 
 -- the same, of the spots with that value of category k
-abbrev pub row_at : Schema → Series → Address → ℕ → ℕ → ℕ → Spot → Bool
-row_at schema s address k v = row_left schema s (next_dim (longer address v)) (k + 1)
+abbrev pub row_at_value : Schema → Series → Address → ℕ → ℕ → ℕ → Spot → Bool
+row_at_value schema s address k v = row_left schema s (next_dim (longer address v)) (k + 1)
 
 -- each sum has gained what the list has at the spots that pass its test
 pub record GainsEach (test : ℕ → Spot → Bool) (old new : List ℕ) (h : List Point) : Type 0 where
@@ -47,7 +47,7 @@ pub record AreRowTotals (schema : Schema) (s : Series) (totals : List ℕ) (h : 
   pub each : (i : ℕ) → i < s.rows → slice_index totals i ≡ total schema (with_bins (box s.query) (row_span s i).from (row_span s i).to) h
 
 -- There is a sum for each row, and a place for the running total at each end of one: the first bin, and each row's end.
-pub record HasRoom (s : Series) (ends sums : List ℕ) : Type 0 where
+pub record HasSeriesRoom (s : Series) (ends sums : List ℕ) : Type 0 where
   pub ended : length ends ≡ s.rows + 1
   pub summed : length sums ≡ s.rows
   pub small : s.first + s.wide * (s.rows + 1) < 2 ^ 64

@@ -5,7 +5,7 @@ ghost use Rattle.query_syntax.specs.Tables.{rows_of_verb};
 ghost use Rattle.query_syntax.specs.Verbs.{bins, most_rows};
 ghost use Rattle.query_walk.specs.Walks.{HasBox};
 ghost use Rattle.tile_drill.specs.Costs.{bins_cost};
-ghost use Rattle.tile_drill.specs.Series.{AreRowTotals, HasRoom};
+ghost use Rattle.tile_drill.specs.Series.{AreRowTotals, HasSeriesRoom};
 
 use crate::sums::{Series, add_from};
 use cube_view::CubeView;
@@ -35,7 +35,7 @@ fn add_all<V: CubeView, L: Ledger>(
     steps: &mut Steps<L>,
 )
     requires has_box { HasBox (V.schema view.now) series.now.query }
-    requires room { HasRoom series.now ends.old sums.old }
+    requires room { HasSeriesRoom series.now ends.old sums.old }
     requires zeros { sums.old ≡ replicate series.now.rows 0 }
     ensures totals { EachCounted (V.weight_at view.now) (V.seen view.now) (AreRowTotals (V.schema view.now) series.now sums.new) }
     ensures cost { EachCounted (V.weight_at view.now) (V.seen view.now) (λ h. steps.new ≤ steps.old + bins_cost (V.costs view.now) (V.schema view.now) h series.now.query series.now.rows) }

@@ -5,7 +5,7 @@ ghost use Rattle.cube_view.specs.Places.{time_dim};
 ghost use Rattle.query_syntax.specs.declared.query.Choice.TheVariants as choice;
 ghost use Rattle.query_walk.specs.Walks.{IsAtCategory, HasChoicesFrom, AsksAtCategory};
 ghost use Rattle.tile_drill.specs.Costs.{ends_cost};
-ghost use Rattle.tile_drill.specs.Series.{row_at, row_left, row_under, FitsEach, GainsEach, HasRoom, Pays, PaysAt};
+ghost use Rattle.tile_drill.specs.Series.{row_at_value, row_left, row_under, FitsEach, GainsEach, HasSeriesRoom, Pays, PaysAt};
 
 use crate::ends::before_each;
 use cube_view::CubeView;
@@ -35,7 +35,7 @@ fn add_rows<V: CubeView, L: Ledger>(
 )
     requires stands { V.stands view.now cursor }
     requires time { (V.address view.now cursor).dim ≡ time_dim (V.schema view.now) }
-    requires room { HasRoom series.now ends.old sums.old }
+    requires room { HasSeriesRoom series.now ends.old sums.old }
     requires fits { EachCounted (V.weight_at view.now) (V.seen view.now) (FitsEach (row_under (V.schema view.now) series.now (V.address view.now cursor)) sums.old) }
     ensures sums { EachCounted (V.weight_at view.now) (V.seen view.now) (GainsEach (row_under (V.schema view.now) series.now (V.address view.now cursor)) sums.old sums.new) }
     ensures cost { steps.new ≤ steps.old + ends_cost (V.costs view.now) (series.now.rows + 1) (V.address view.now cursor) }
@@ -61,7 +61,7 @@ pub(crate) fn add_from<V: CubeView, L: Ledger>(
     requires stands { V.stands view.now cursor }
     requires here { IsAtCategory (V.address view.now cursor) k }
     requires choices { HasChoicesFrom (V.schema view.now) series.now.query k }
-    requires room { HasRoom series.now ends.old sums.old }
+    requires room { HasSeriesRoom series.now ends.old sums.old }
     requires fits { EachCounted (V.weight_at view.now) (V.seen view.now) (FitsEach (row_left (V.schema view.now) series.now (V.address view.now cursor) k) sums.old) }
     ensures sums { EachCounted (V.weight_at view.now) (V.seen view.now) (GainsEach (row_left (V.schema view.now) series.now (V.address view.now cursor) k) sums.old sums.new) }
     ensures cost { EachCounted (V.weight_at view.now) (V.seen view.now) (Pays (V.costs view.now) (V.schema view.now) series.now (V.address view.now cursor) k steps.old steps.new) }
@@ -94,7 +94,7 @@ fn add_in_set<V: CubeView, L: Ledger>(
     requires walk { AsksAtCategory (V.schema view.now) series.now.query (V.address view.now cursor) k }
     requires set { slice_index_or series.now.query.sets k choice.All ≡ choice.Only set.now }
     requires wide { length set.now ≡ 256 }
-    requires room { HasRoom series.now ends.old sums.old }
+    requires room { HasSeriesRoom series.now ends.old sums.old }
     requires fits { EachCounted (V.weight_at view.now) (V.seen view.now) (FitsEach (row_left (V.schema view.now) series.now (V.address view.now cursor) k) sums.old) }
     ensures sums { EachCounted (V.weight_at view.now) (V.seen view.now) (GainsEach (row_left (V.schema view.now) series.now (V.address view.now cursor) k) sums.old sums.new) }
     ensures cost { EachCounted (V.weight_at view.now) (V.seen view.now) (Pays (V.costs view.now) (V.schema view.now) series.now (V.address view.now cursor) k steps.old steps.new) }
@@ -120,9 +120,9 @@ fn add_at_value<V: CubeView, L: Ledger>(
 )
     requires stands { V.stands view.now cursor }
     requires walk { AsksAtCategory (V.schema view.now) series.now.query (V.address view.now cursor) k }
-    requires room { HasRoom series.now ends.old sums.old }
-    requires fits { EachCounted (V.weight_at view.now) (V.seen view.now) (FitsEach (row_at (V.schema view.now) series.now (V.address view.now cursor) k value) sums.old) }
-    ensures sums { EachCounted (V.weight_at view.now) (V.seen view.now) (GainsEach (row_at (V.schema view.now) series.now (V.address view.now cursor) k value) sums.old sums.new) }
+    requires room { HasSeriesRoom series.now ends.old sums.old }
+    requires fits { EachCounted (V.weight_at view.now) (V.seen view.now) (FitsEach (row_at_value (V.schema view.now) series.now (V.address view.now cursor) k value) sums.old) }
+    ensures sums { EachCounted (V.weight_at view.now) (V.seen view.now) (GainsEach (row_at_value (V.schema view.now) series.now (V.address view.now cursor) k value) sums.old sums.new) }
     ensures cost { PaysAt (V.weight_at view.now) (V.seen view.now) (V.costs view.now) (V.schema view.now) series.now (V.address view.now cursor) k value steps.old steps.new }
 {
     let Some(deeper) = view.down(cursor, value, steps) else {

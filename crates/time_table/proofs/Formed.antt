@@ -18,7 +18,7 @@ use Rattle.time_table.specs.declared.form.Form.TheVariants.{Single, Split}
 use Rattle.time_table.specs.Totals.{Rise, counts, counts_from, last_total}
 use Rattle.time_table.specs.Places.{added, taken, count_at, more, less, del}
 use Rattle.time_table.specs.Blocks.{Block, flat, parts, Held, IsHead}
-use Rattle.time_table.specs.Forms.{IsSingle, IsForm, rows_of, form_entries, search_cost, total_of}
+use Rattle.time_table.specs.Forms.{IsSingle, IsForm, rows_of, form_entries, find_cost, total_of}
 use Rattle.time_table.specs.Blocks.{IsSplit}
 use Rattle.time_table.proofs.Adding.{Rise-added, All-added, length-added}
 use Rattle.time_table.proofs.Taking.{Rise-taken, All-taken, length-taken}
@@ -146,9 +146,9 @@ some_heads [] (b ∷ bs) held = absurd held
 some_heads (h ∷ hs) bs held = omega arith
 
 -- a search looks at no more rows than the number of rows has binary digits, and one
-pub search_cost-le : (f : Form) → IsForm f → search_cost f ≤ 1 + bits (length (rows_of f))
-search_cost-le (Single rows) form = omega arith
-search_cost-le (Split split) form =
+pub find_cost-le : (f : Form) → IsForm f → find_cost f ≤ 1 + bits (length (rows_of f))
+find_cost-le (Single rows) form = omega arith
+find_cost-le (Split split) form =
     let same = held_len 0 0 split.value.heads.items split.value.blocks.items form.held in
     let many = length-flat 0 split.value.blocks.items form.sized in
     search_in_blocks (length split.value.heads.items) (length (flat 0 split.value.blocks.items)) (some_heads split.value.heads.items split.value.blocks.items form.held) (omega (arith, same, many))

@@ -23,9 +23,9 @@ total_of (Single rows) = last_total 0 rows.items
 total_of (Split split) = last_total 0 split.value.heads.items
 
 -- at most how many rows a search looks at: a search of the heads is followed by one of a block
-abbrev pub search_cost : Form → ℕ
-search_cost (Single rows) = bits (length rows.items)
-search_cost (Split split) = bits (length split.value.heads.items) + 6
+abbrev pub find_cost : Form → ℕ
+find_cost (Single rows) = bits (length rows.items)
+find_cost (Split split) = bits (length split.value.heads.items) + 6
 
 -- rows without blocks
 pub record IsSingle (rows : List Row) : Type 0 where

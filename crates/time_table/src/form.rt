@@ -6,7 +6,7 @@ ghost use Rattle.time_table.specs.Counts.{count_before, first_from};
 ghost use Rattle.time_table.specs.Totals.{Rise, counts, last_total};
 ghost use Rattle.time_table.specs.Places.{count_at, more, less};
 ghost use Rattle.time_table.specs.Blocks.{parts};
-ghost use Rattle.time_table.specs.Forms.{IsForm, HasRoom, rows_of, form_entries, search_cost, total_of};
+ghost use Rattle.time_table.specs.Forms.{IsForm, HasRoom, rows_of, form_entries, find_cost, total_of};
 ghost use Rattle.time_table.specs.Series.{each_before, each_cost};
 
 use crate::change::{add_record, take_record};
@@ -42,7 +42,7 @@ impl Form {
     pub fn before<L: Ledger>(&self, bin_end: u64, steps: &mut Steps<L>) -> u64
         requires { IsForm self.now }
         ensures sum { result ≡ count_before (counts (rows_of self.now)) bin_end }
-        ensures cost { steps.new ≤ steps.old + search_cost self.now }
+        ensures cost { steps.new ≤ steps.old + find_cost self.now }
     {
         match self {
             Form::Single(rows) => place_of(rows, bin_end, steps).below,
@@ -71,8 +71,8 @@ impl Form {
     }
 
     /// At most how many rows a search looks at.
-    fn search_cost(&self) -> usize
-        ensures cost { result ≡ search_cost self.now }
+    fn find_cost(&self) -> usize
+        ensures cost { result ≡ find_cost self.now }
         ensures few { result ≤ 70 }
     {
         match self {
@@ -85,13 +85,13 @@ impl Form {
     /// Whether a pass over the rows looks at no more of them than a search for each of so many ends.
     fn is_short(&self, ends: usize) -> bool
         requires { IsForm self.now }
-        ensures { let pass = search_cost self.now + length (rows_of self.now) in MatchBool result (pass ≤ ends * search_cost self.now) (ends * search_cost self.now ≤ pass) }
+        ensures { let pass = find_cost self.now + length (rows_of self.now) in MatchBool result (pass ≤ ends * find_cost self.now) (ends * find_cost self.now ≤ pass) }
     {
         if ends == 0 {
             return false;
         }
         // A pass of blocks begins with a search too.
-        let most = (ends - 1).saturating_mul(self.search_cost());
+        let most = (ends - 1).saturating_mul(self.find_cost());
         match self {
             Form::Single(rows) => rows.len() <= most,
             Form::Split(split) => are_few(&split.blocks, most),
@@ -103,7 +103,7 @@ impl Form {
         requires form { IsForm self.now }
         requires small { from + wide * length totals.old < 2 ^ 64 }
         ensures sums { totals.new ≡ each_before (counts (rows_of self.now)) from wide (length totals.old) }
-        ensures cost { steps.new ≤ steps.old + (search_cost self.now + length (rows_of self.now)) }
+        ensures cost { steps.new ≤ steps.old + (find_cost self.now + length (rows_of self.now)) }
     {
         match self {
             Form::Single(rows) => pass_single(rows, from, wide, totals, steps),
@@ -118,7 +118,7 @@ impl Form {
         requires form { IsForm self.now }
         requires small { from + wide * length totals.old < 2 ^ 64 }
         ensures sums { totals.new ≡ each_before (counts (rows_of self.now)) from wide (length totals.old) }
-        ensures cost { steps.new ≤ steps.old + length totals.old * search_cost self.now }
+        ensures cost { steps.new ≤ steps.old + length totals.old * find_cost self.now }
     {
         let mut end = from;
         for total in totals.iter_mut() {

@@ -14,7 +14,7 @@ use Rattle.query_walk.proofs.Sets.{none_at}
 use Rattle.query_walk.proofs.Sums.{sum_upto-more, sum_upto-same}
 use Rattle.query_walk.proofs.Valid.{at_category, below_four, choices_next}
 use Rattle.tile_drill.specs.Costs.{ends_cost}
-use Rattle.tile_drill.specs.Series.{row_at, row_left, row_span, row_under, GainsEach}
+use Rattle.tile_drill.specs.Series.{row_at_value, row_left, row_span, row_under, GainsEach}
 use Rattle.tile_drill.proofs.Gaining.{fits_after, fits_same, gains_more, gains_nothing, gains_same}
 use Rattle.tile_drill.proofs.Rows.{any_row, row_all, row_below, row_no, row_none, row_within, row_yes, time_row}
 use Rattle.tile_drill.proofs.sums.+walk.Goals.{add_in_set-then-has, add_in_set-else-has}
@@ -132,7 +132,7 @@ add_in_set-add_at_value-requires-clause-fits g t c κs within h counts =
     let v = c.loop-value.value in
     let wide = c.requires.walk.choices.wide in
     let few = below_four z k c.requires.walk.category in
-    fits_after h (row_below z s a k c.args.set.now v) (row_at z s a k v) (row_left z s a k) c.args.sums.now c.loop-value.sums (c.loop-value.invariant.sums h counts)
+    fits_after h (row_below z s a k c.args.set.now v) (row_at_value z s a k v) (row_left z s a k) c.args.sums.now c.loop-value.sums (c.loop-value.invariant.sums h counts)
     (row_within z s h a k c.args.set.now (omega (arith, wide, few)) c.requires.set v few c.requires.walk.here (sym c.has.ensures ∙ c.if-has.true)) (c.requires.fits h counts)
 
 pub add_in_set-loop-value-preserved : goal.add_in_set-loop-value-preserved
@@ -150,7 +150,7 @@ add_in_set-loop-value-preserved g t c =
           let so_far = c.loop-value.invariant.sums h counts in
           elim c.if-has.branch [
             | add_in_set-then-has w ↦ subst (λ (now : List ℕ). GainsEach (row_below z s a k c.args.set.now (v + 1)) c.args.sums.now now h) (sym w.sums-is)
-                (gains_more h (row_below z s a k c.args.set.now v) (row_at z s a k v) (row_below z s a k c.args.set.now (v + 1)) c.args.sums.now c.loop-value.sums so_far
+                (gains_more h (row_below z s a k c.args.set.now v) (row_at_value z s a k v) (row_below z s a k c.args.set.now (v + 1)) c.args.sums.now c.loop-value.sums so_far
                 (row_yes z s h a k c.args.set.now (omega (arith, wide, few)) c.requires.set v few c.requires.walk.here (sym c.has.ensures ∙ w.if-has.true)) _ (w.add_at_value.ensures.sums h counts))
             | add_in_set-else-has w ↦ subst (λ (now : List ℕ). GainsEach (row_below z s a k c.args.set.now (v + 1)) c.args.sums.now now h) (sym w.sums-is)
                 (gains_same h (row_below z s a k c.args.set.now v) (row_below z s a k c.args.set.now (v + 1)) (row_no z s h a k c.args.set.now (omega (arith, wide, few)) c.requires.set v (sym c.has.ensures ∙ w.if-has.false)) _ _ so_far)
@@ -199,7 +199,7 @@ add_at_value-returns-in_default-clause-sums g t c h counts =
     let z = g.V.CubeView.schema c.args.view.now in
     let a = g.V.CubeView.address c.args.view.now c.args.cursor in
     let s = c.args.series.now in
-    gains_nothing h (row_at z s a c.args.k c.args.value) (λ i. none_at z (with_span s.query (row_span s i)) a c.args.k h c.args.value (below_four z c.args.k c.requires.walk.category) c.requires.walk.here (c.in_default.ensures.found h counts)) c.args.sums.now
+    gains_nothing h (row_at_value z s a c.args.k c.args.value) (λ i. none_at z (with_span s.query (row_span s i)) a c.args.k h c.args.value (below_four z c.args.k c.requires.walk.category) c.requires.walk.here (c.in_default.ensures.found h counts)) c.args.sums.now
 
 pub add_at_value-add_from-requires-clause-choices : goal.add_at_value-add_from-requires-clause-choices
 add_at_value-add_from-requires-clause-choices g t c κs within = choices_next (g.V.CubeView.schema c.args.view.now) c.args.series.now.query c.args.k c.requires.walk.choices c.requires.walk.category
@@ -210,7 +210,7 @@ add_at_value-add_from-requires-clause-fits g t c κs within h counts =
     let a = g.V.CubeView.address c.args.view.now c.args.cursor in
     let s = c.args.series.now in
     let b = g.V.CubeView.address c.args.view.now c.in-Some-across.next in
-    fits_same h (row_left z s b (c.args.k + 1)) (row_at z s a c.args.k c.args.value) (λ i. ap (λ (x : Address). amount (row_left z s x (c.args.k + 1) i) h) (c.in-Some-across.ensures.place.1 ∙ ap next_dim c.in-Some.ensures.place.1)) c.args.sums.now (c.requires.fits h counts)
+    fits_same h (row_left z s b (c.args.k + 1)) (row_at_value z s a c.args.k c.args.value) (λ i. ap (λ (x : Address). amount (row_left z s x (c.args.k + 1) i) h) (c.in-Some-across.ensures.place.1 ∙ ap next_dim c.in-Some.ensures.place.1)) c.args.sums.now (c.requires.fits h counts)
 
 pub add_at_value-returns-in-Some-across-clause-sums : goal.add_at_value-returns-in-Some-across-clause-sums
 add_at_value-returns-in-Some-across-clause-sums g t c h counts =
@@ -218,7 +218,7 @@ add_at_value-returns-in-Some-across-clause-sums g t c h counts =
     let a = g.V.CubeView.address c.args.view.now c.args.cursor in
     let s = c.args.series.now in
     let b = g.V.CubeView.address c.args.view.now c.in-Some-across.next in
-    gains_same h (row_left z s b (c.args.k + 1)) (row_at z s a c.args.k c.args.value) (λ i. ap (λ (x : Address). amount (row_left z s x (c.args.k + 1) i) h) (c.in-Some-across.ensures.place.1 ∙ ap next_dim c.in-Some.ensures.place.1)) _ _ (c.add_from.ensures.sums h counts)
+    gains_same h (row_left z s b (c.args.k + 1)) (row_at_value z s a c.args.k c.args.value) (λ i. ap (λ (x : Address). amount (row_left z s x (c.args.k + 1) i) h) (c.in-Some-across.ensures.place.1 ∙ ap next_dim c.in-Some.ensures.place.1)) _ _ (c.add_from.ensures.sums h counts)
 
 pub add_at_value-returns-in-Some-across-clause-cost : goal.add_at_value-returns-in-Some-across-clause-cost
 add_at_value-returns-in-Some-across-clause-cost g t c h counts =
@@ -235,7 +235,7 @@ add_at_value-returns-in-Some-across-clause-cost g t c h counts =
 
 pub add_at_value-returns-in-None-clause-sums : goal.add_at_value-returns-in-None-clause-sums
 add_at_value-returns-in-None-clause-sums g t c h counts =
-    gains_nothing h (row_at (g.V.CubeView.schema c.args.view.now) c.args.series.now (g.V.CubeView.address c.args.view.now c.args.cursor) c.args.k c.args.value) (λ i. none-anywhere _ h (c.in-None.ensures.found h counts)) c.args.sums.now
+    gains_nothing h (row_at_value (g.V.CubeView.schema c.args.view.now) c.args.series.now (g.V.CubeView.address c.args.view.now c.args.cursor) c.args.k c.args.value) (λ i. none-anywhere _ h (c.in-None.ensures.found h counts)) c.args.sums.now
 
 pub add_at_value-returns-in-None-clause-cost : goal.add_at_value-returns-in-None-clause-cost
 add_at_value-returns-in-None-clause-cost g t c h counts =
