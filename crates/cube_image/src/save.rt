@@ -19,7 +19,7 @@ use std::marker::Brand;
 use std::sync::ledger::{Blank, Ledger};
 
 /// The image of the slots of a cube with a size. `TooLong` comes exactly where it has more than 2^30 bytes, unless
-/// memory was wanted before.
+/// memory was wanted before. Contracts learn too that the labels of each node rise.
 pub fn write_image(
     alloc: Global,
     arena: &Arena,
@@ -30,6 +30,7 @@ pub fn write_image(
     requires homes { ∥ HasSomeHomes arena.now ∥₁ }
     ensures written { IfOk result (IsWritten arena.now size) }
     ensures too_long { result ≡ Err SaveFault.TooLong → HasLongImage arena.now size }
+    ensures rising { AllRising arena.now }
 {
     write_in::<Brand>(alloc, arena, root, size, Blank::new(1))
 }
@@ -47,6 +48,7 @@ fn write_in<L: Ledger>(
     requires homes { ∥ HasSomeHomes arena.now ∥₁ }
     ensures written { IfOk result (IsWritten arena.now size) }
     ensures too_long { result ≡ Err SaveFault.TooLong → HasLongImage arena.now size }
+    ensures rising { AllRising arena.now }
 {
     let mut steps = Steps::<L>::new(blank);
     tell_order(arena);

@@ -3,7 +3,6 @@ ghost use Rattle.std.specs.Prelude.{◌≡◌, ◌<◌, ◌≤◌, ◌^◌, List
 ghost use Rattle.cube_view.specs.Points.{Point};
 ghost use Rattle.time_table.specs.Counts.{AllCounted};
 ghost use Rattle.node_arena.specs.Slots.{counts_of, slot_of};
-ghost use Rattle.node_arena.specs.Stats.{AllRising};
 ghost use Rattle.probe_core.specs.Blanks.{IsBlankOf};
 ghost use Rattle.cube_image.specs.Image.{IsWritten};
 ghost use Rattle.cube_store.specs.Holding.{CubeCounts};
@@ -27,16 +26,8 @@ pub fn save_cube(alloc: Global, cube: &Cube) -> Result<List<u8>, SaveFault>
     ensures too_long { result ≡ Err SaveFault.TooLong → (h : List Point) → CubeCounts cube.now h → HasLongCubeImage cube.now.schema h }
 {
     image_laws();
-    tell_order(&cube.arena);
     tell_tables::<Brand>(&cube.arena, Blank::new(1));
     write_image(alloc, &cube.arena, cube.root, cube.size)
-}
-
-/// Contracts learn that the labels of each node rise.
-fn tell_order(arena: &Arena)
-    ensures { AllRising arena.now }
-{
-    let _ = arena.stat();
 }
 
 /// Contracts learn that no table has a row without a record, unless there are more slots than 32 bits name.
