@@ -82,9 +82,9 @@ module _ (z : Schema) (s : Series) (h : List Point) (a : Address) (k : ℕ) wher
 
 -- Zeros, and what they have become
 
-module _ (z : Schema) (s : Series) (h : List Point) (sums : List ℕ) (zeros : sums ≡ replicate s.rows 0) where
+module _ (z : Schema) (s : Series) (h : List Point) (sums : List ℕ) (zeros : sums ≡ replicate (s.rows) 0) where
   zeros_long : length sums ≡ s.rows
-  zeros_long = ap length zeros ∙ length-replicate s.rows 0
+  zeros_long = ap length zeros ∙ length-replicate (s.rows) 0
 
   zero_at : (i : ℕ) → i < s.rows → get_or sums i 0 ≡ 0
   zero_at i lt = ap (λ (xs : List ℕ). get_or xs i 0) zeros ∙ get_or-replicate s.rows i 0 0 lt

@@ -36,7 +36,7 @@ fn add_all<V: CubeView, L: Ledger>(
 )
     requires has_box { HasBox (V.schema view.now) series.now.query }
     requires room { HasSeriesRoom series.now ends.old sums.old }
-    requires zeros { sums.old ≡ replicate series.now.rows 0 }
+    requires zeros { sums.old ≡ replicate (series.now.rows) 0 }
     ensures totals { EachCounted (V.weight_at view.now) (V.seen view.now) (AreRowTotals (V.schema view.now) series.now sums.new) }
     ensures cost { EachCounted (V.weight_at view.now) (V.seen view.now) (λ h. steps.new ≤ steps.old + bins_cost (V.costs view.now) (V.schema view.now) h series.now.query series.now.rows) }
 {
