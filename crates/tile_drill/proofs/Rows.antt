@@ -16,7 +16,7 @@ use Rattle.query_syntax.specs.declared.query.Query.{Query}
 use Rattle.query_walk.proofs.Sets.{any_value, below_all, below_no, below_none, below_yes, box_is, is_left_below, none_in_bag, none_in_region, set_left, time_left}
 use Rattle.query_walk.proofs.Spans.{before_end}
 use Rattle.query_walk.specs.Walks.{is_left_in_set, meets_from, IsAtCategory, HasChoicesFrom}
-use Rattle.tile_drill.specs.Ends.{totals_before}
+use Rattle.cube_view.specs.Found.{totals_before}
 use Rattle.tile_drill.specs.Series.{row_at_value, row_left, row_span, row_under, AreRowTotals, FitsEach, GainsEach}
 use Rattle.tile_drill.specs.declared.sums.Series.{Series}
 

@@ -15,7 +15,7 @@ use Rattle.query_walk.specs.Costs.{choices_from, from_region_cost, map_cost, reg
 
 -- the running totals at so many ends, at an address of time
 abbrev pub ends_cost : ViewCosts → ℕ → Address → ℕ
-ends_cost costs n a = n * costs.before_cost a
+ends_cost costs n a = costs.before_each_cost a n
 
 module _ (costs : ViewCosts) (schema : Schema) (h : List Point) (q : Query) where
   -- a histogram: one walk to the region, and for each value of the category the walk from there on with this value alone

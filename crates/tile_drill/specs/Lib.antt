@@ -1,3 +1,2 @@
 pub mod Costs
-pub mod Ends
 pub mod Series

@@ -11,7 +11,6 @@
 #![tactic(auto)]
 
 mod bins;
-mod ends;
 mod sums;
 mod table;
 #[cfg(test)]

@@ -7,7 +7,6 @@ ghost use Rattle.query_walk.specs.Walks.{IsAtCategory, HasChoicesFrom, AsksAtCat
 ghost use Rattle.tile_drill.specs.Costs.{ends_cost};
 ghost use Rattle.tile_drill.specs.Series.{row_at_value, row_left, row_under, FitsEach, GainsEach, HasSeriesRoom, Pays, PaysAt};
 
-use crate::ends::before_each;
 use cube_view::CubeView;
 use probe_core::Steps;
 use query_syntax::{Choice, Query, ValueSet};
@@ -40,7 +39,7 @@ fn add_rows<V: CubeView, L: Ledger>(
     ensures sums { EachCounted (V.weight_at view.now) (V.seen view.now) (GainsEach (row_under (V.schema view.now) series.now (V.address view.now cursor)) sums.old sums.new) }
     ensures cost { steps.new ≤ steps.old + ends_cost (V.costs view.now) (series.now.rows + 1) (V.address view.now cursor) }
 {
-    before_each(view, cursor, series.first, series.wide, ends, steps);
+    view.before_each(cursor, series.first, series.wide, ends, steps);
     for i in 0..sums.len() {
         sums[i] += ends[i + 1] - ends[i];
     }
