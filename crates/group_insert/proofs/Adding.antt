@@ -1,8 +1,8 @@
 -- A loop that counts the points of a part.
-use Rattle.std.proofs.Common.{◌≡◌, ℕ, zero, ◌+◌, ◌<◌, ◌≤◌, ◌^◌, Bool, true, cond, eqb, List, [], ◌∷◌, ◌++◌, length, take, drop, get_or, refl, sym, ap, ◌∙◌, subst, arith}
+use Rattle.std.proofs.Common.{◌≡◌, ℕ, ◌+◌, ◌<◌, ◌≤◌, ◌^◌, true, cond, eqb, List, [], length, take, get_or, refl, sym, ap, ◌∙◌, subst, arith}
 use Rattle.std.proofs.lemmas.List.Sums.{sum_by_more, sum_by-take-le}
 use Rattle.cube_view.specs.Points.{Point, spot_of, weight_of_point}
-use Rattle.time_table.specs.Counts.{total_count, add_many}
+use Rattle.time_table.specs.Counts.{total_count}
 use Rattle.time_table.proofs.AddLaws.{total_count-add_many}
 use Rattle.node_arena.specs.Slots.{Slot, table, node, slot_of, counts_of, count, is_table}
 use Rattle.node_arena.specs.Calls.{table_add_many, with_many}

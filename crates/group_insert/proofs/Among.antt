@@ -1,23 +1,20 @@
 -- The visit of a node for a group: its content, its labels one after the other, and its end.
-use Rattle.std.proofs.Common.{◌≡◌, ℕ, ◌+◌, ◌<◌, ◌≤◌, true, false, ◌⊎◌, inl, inr, List, [], ◌∷◌, ◌++◌, Option, Some, None, Contains, length, refl, sym, ap, ◌∙◌, subst, subst₂, arith, true≢false}
+use Rattle.std.proofs.Common.{◌≡◌, ℕ, ◌+◌, ◌<◌, ◌≤◌, false, ◌⊎◌, inl, inr, List, [], ◌∷◌, Option, Some, None, Contains, length, refl, sym, ap, ◌∙◌, subst, arith}
 use Rattle.std.proofs.lemmas.Bool.{cases_eq}
 use Rattle.cube_view.specs.Walks.{Step, down, across, Walk, SpotPath, Under, HasSpot}
 use Rattle.cube_view.proofs.Walking.{under_before}
 use Rattle.node_arena.specs.Amounts.{Weighted, spots_in}
-use Rattle.node_arena.specs.Shape.{home_of, IsLinked, HasOneChild, SharesContent}
-use Rattle.node_arena.specs.Slots.{proper, shared, target, Slot, link_of, slot_of, is_table}
+use Rattle.node_arena.specs.Shape.{home_of, IsLinked}
+use Rattle.node_arena.specs.Slots.{proper, Slot, link_of, slot_of, is_table}
 use Rattle.node_arena.specs.declared.link.Link.{Link}
-use Rattle.node_arena.proofs.Labelled.{same_down}
 use Rattle.point_insert.proofs.Cases.{next_label}
-use Rattle.proper_path.specs.Changes.{IsRelinked}
-use Rattle.proper_path.specs.Making.{State, home, Makes, Keeps}
+use Rattle.proper_path.specs.Making.{Makes, Keeps}
 use Rattle.proper_path.specs.Order.{IsAbove, itself, further}
 use Rattle.proper_path.specs.Rooted.{state}
 use Rattle.proper_path.proofs.Homes.{IsFree}
-use Rattle.proper_path.proofs.Links.{proper≢shared}
 use Rattle.proper_path.proofs.Order.{above-length}
-use Rattle.proper_path.proofs.Steps.{keeps-refl, keeps-trans, keeps_less, LeadsProperly, IsPlaced, makes_placed}
-use Rattle.group_insert.specs.Halfway.{LeadsRight, WillHaveTwo, IsHalfway, IsHalfwayBefore, IsHalfwayAfter}
+use Rattle.proper_path.proofs.Steps.{keeps-refl, keeps-trans, keeps_less, IsPlaced, makes_placed}
+use Rattle.group_insert.specs.Halfway.{LeadsRight, WillHaveTwo, IsHalfwayBefore, IsHalfwayAfter}
 use Rattle.group_insert.specs.Later.{IsPut}
 use Rattle.group_insert.specs.Turns.{EndedBefore, EndedAfter, IsOpenAbove}
 use Rattle.group_insert.specs.Visits.{ArePoints, HasVisitedAll, IsLabelOf, HasTwoLabels, HasOneLabel, HasNoLabel, TellsLabels, HasContentFor, IsAmong}
@@ -26,7 +23,6 @@ use Rattle.group_insert.proofs.Ending.{IsFinished, node_ends, last_label}
 use Rattle.group_insert.proofs.Grown.{halfway_made}
 use Rattle.group_insert.proofs.Keeping.{halfway_same}
 use Rattle.group_insert.proofs.OneChild.{one_child_free}
-use Rattle.group_insert.proofs.StartEnd.{group_spot}
 use Rattle.group_insert.proofs.Turned.{begins_content, begins_labels, content_to_labels, over_labels, past_label}
 
 before_step : (g : List Weighted) (e : Step) (a : Walk) → HasSpot (spots_in g) (e ∷ a) → HasSpot (spots_in g) a

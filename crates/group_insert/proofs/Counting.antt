@@ -1,5 +1,5 @@
 -- A time table takes the amounts of a group that lie under its home.
-use Rattle.std.proofs.Common.{◌≡◌, ℕ, ◌+◌, ◌<◌, Bool, true, false, cond, eqb, ◌&&◌, ◌⊎◌, inl, inr, ◌↔◌, List, [], ◌∷◌, ◌++◌, Some, None, Contains, length, refl, sym, ap, ◌∙◌, subst, arith}
+use Rattle.std.proofs.Common.{◌≡◌, ℕ, ◌<◌, true, ◌⊎◌, inl, inr, ◌↔◌, List, [], ◌∷◌, ◌++◌, Some, Contains, length, refl, sym, ◌∙◌, subst, arith}
 use Rattle.std.proofs.lemmas.Bool.{cases_eq}
 use Rattle.cube_view.specs.Walks.{Step, down, across, Walk, SpotPath, Under, HasSpot, dimension}
 use Rattle.node_arena.specs.Amounts.{Weighted, spots_in, amount_under}
@@ -8,12 +8,10 @@ use Rattle.node_arena.specs.Slots.{proper, target, Slot, link_of, slot_of, count
 use Rattle.node_arena.specs.declared.link.Link.{Link}
 use Rattle.node_arena.proofs.Linked.{linked-lt}
 use Rattle.point_insert.proofs.Visits.{homes_same, holds_same}
-use Rattle.proper_path.specs.Changes.{IsCounted}
-use Rattle.proper_path.specs.Rooted.{state}
 use Rattle.proper_path.proofs.Dims.{stops_at_time}
 use Rattle.proper_path.proofs.Links.{table_link}
 use Rattle.group_insert.specs.Added.{IsAdded}
-use Rattle.group_insert.specs.Halfway.{LeadsRight, WillHaveTwo, IsHalfway, IsHalfwayBefore}
+use Rattle.group_insert.specs.Halfway.{LeadsRight, WillHaveTwo, IsHalfwayBefore}
 use Rattle.group_insert.specs.Later.{IsPut}
 use Rattle.group_insert.specs.Turns.{EndedBefore, EndedAfter, IsOpenAbove}
 use Rattle.group_insert.specs.Visits.{ArePoints, HasVisitedAll}

@@ -14,7 +14,7 @@ use Rattle.proper_path.proofs.Order.{above_cases, above-step, above-length}
 use Rattle.group_insert.specs.Halfway.{LeadsRight, WillHaveTwo, IsHalfway}
 use Rattle.group_insert.specs.Later.{PutOff, address_of, IsPut}
 use Rattle.group_insert.specs.Turns.{IsEarlier, EndedBefore, EndedAfter, IsOpenAbove}
-use Rattle.group_insert.proofs.Earlier.{earlier_below, earlier_across, EarlierDown, outside, in_content, in_lesser, earlier_down, content_earlier, lesser_earlier, open_step}
+use Rattle.group_insert.proofs.Earlier.{earlier_below, EarlierDown, outside, in_content, in_lesser, earlier_down, content_earlier, lesser_earlier, open_step}
 
 -- The visit of slot i ends: of the homes that there are it alone is done besides, and it alone was open besides.
 pub record IsLast (slots : List Slot) (homes : List Walk) (g : List Weighted) (done open' next open'' : Walk → Type 0) (i : ℕ) : Type 0 where

@@ -1,18 +1,15 @@
 -- The visit of a node of one label ends: it shares its child's content.
-use Rattle.std.proofs.Common.{◌≡◌, ℕ, suc, ◌+◌, ◌<◌, ◌≤◌, Bool, true, false, ◌⊎◌, inl, inr, List, [], ◌∷◌, ◌++◌, Option, Some, None, Contains, length, refl, sym, ap, ◌∙◌, subst, subst₂, arith, true≢false}
+use Rattle.std.proofs.Common.{◌≡◌, ℕ, ◌<◌, ◌≤◌, Bool, true, false, ◌⊎◌, inl, inr, List, [], ◌∷◌, Some, Contains, length, refl, sym, ap, ◌∙◌, subst, arith, true≢false}
 use Rattle.cube_view.specs.Walks.{Step, down, across, Walk, SpotPath, Under, HasSpot, dimension}
 use Rattle.cube_view.proofs.Walking.{under_before}
 use Rattle.node_arena.specs.Amounts.{Weighted, spots_in}
-use Rattle.node_arena.specs.Shape.{home_of, IsLinked, HasOneChild, SharesContent}
+use Rattle.node_arena.specs.Shape.{home_of, HasOneChild, SharesContent}
 use Rattle.node_arena.specs.Slots.{proper, shared, target, Slot, link_of, slot_of, is_table}
 use Rattle.node_arena.specs.declared.link.Link.{Link}
 use Rattle.node_arena.proofs.Labelled.{same_down}
 use Rattle.proper_path.specs.Changes.{IsRelinked}
-use Rattle.proper_path.specs.Making.{Keeps}
-use Rattle.proper_path.specs.Order.{IsAbove, itself, further}
-use Rattle.proper_path.specs.Rooted.{state}
+use Rattle.proper_path.specs.Order.{IsAbove, itself}
 use Rattle.proper_path.proofs.Dims.{goes_across}
-use Rattle.proper_path.proofs.Order.{above-length}
 use Rattle.proper_path.proofs.Steps.{keeps-trans}
 use Rattle.group_insert.specs.Halfway.{LeadsRight, WillHaveTwo, IsHalfwayBefore, IsHalfwayAfter}
 use Rattle.group_insert.specs.Later.{IsPut}
@@ -60,7 +57,7 @@ module _ (dims : ℕ) (h g : List Weighted) (old mid : List Slot) (homes : List 
   pub child : (j : ℕ) × (link_of mid i (down l) ≡ Some (proper j))
   child = A.gone l passed (record { spot = w.spot; is_in = w.is_in; lies = goes })
 
-  alone : (n : ℕ) (k : Link) → link_of mid i (down n) ≡ Some k → n ≡ l
+  pub alone : (n : ℕ) (k : Link) → link_of mid i (down n) ≡ Some k → n ≡ l
   alone n k is = go (A.labels n (record { link = k; is = is }))
     where
       go : IsLabelOf old homes g i n → n ≡ l
@@ -70,7 +67,7 @@ module _ (dims : ℕ) (h g : List Weighted) (old mid : List Slot) (homes : List 
   child_home : home_of A.homes' child.0 ≡ down l ∷ home_of A.homes' i
   child_home = (M.has_homes.at_home i child.0 (down l) child.1).1
 
-  child_in : child.0 < length mid
+  pub child_in : child.0 < length mid
   child_in = (M.has_homes.at_home i child.0 (down l) child.1).0
 
   child_done : EndedBefore g (down from ∷ home_of A.homes' i) (home_of A.homes' child.0)

@@ -1,10 +1,12 @@
 pub mod Adding
 pub mod Among
+pub mod Composing
 pub mod Counting
 pub mod Earlier
 pub mod Ending
 pub mod Grown
 pub mod Keeping
+pub mod Kids
 pub mod Labelling
 pub mod LastChild
 pub mod Leaving

@@ -9,7 +9,6 @@ use Rattle.node_arena.specs.declared.link.Link.{Link}
 use Rattle.node_arena.proofs.Linked.{linked-lt, link_cases}
 use Rattle.node_arena.proofs.Reaching.{target-lt, link_coarser}
 use Rattle.point_insert.proofs.Cases.{next_label, within_down, across_within}
-use Rattle.proper_path.specs.Order.{shape_of}
 use Rattle.proper_path.proofs.Homes.{IsFree, home_free}
 use Rattle.proper_path.proofs.Links.{proper≢shared}
 use Rattle.group_insert.specs.Halfway.{LeadsRight, WillHaveTwo, IsHalfway}

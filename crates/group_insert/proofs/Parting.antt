@@ -1,13 +1,12 @@
 -- The points of a group that an address holds, and those that its next steps hold.
-use Rattle.std.proofs.Common.{◌≡◌, ℕ, zero, suc, ◌+◌, ◌<◌, ◌≤◌, Bool, true, false, cond, eqb, ◌⊎◌, inl, inr, List, [], ◌∷◌, Option, Some, None, All, Contains, filter, length, map, refl, sym, ap, ◌∙◌, subst, arith, eq-eqb, eqb-true, true≢false}
+use Rattle.std.proofs.Common.{◌≡◌, ℕ, ◌+◌, ◌<◌, Bool, true, false, cond, eqb, ◌⊎◌, inl, inr, List, [], ◌∷◌, Contains, filter, refl, sym, ap, ◌∙◌, subst, arith, true≢false}
 use Rattle.cube_view.specs.Paths.{spot_path}
 use Rattle.cube_view.specs.Places.{time_dim, deepest}
 use Rattle.cube_view.specs.Points.{Point, spot_of}
-use Rattle.cube_view.specs.Walks.{Step, down, across, Walk, SpotPath, under, Under, HasSpot, dimension}
+use Rattle.cube_view.specs.Walks.{Step, down, across, Walk, SpotPath, under, Under, dimension}
 use Rattle.cube_view.specs.declared.schema.Schema.{Schema}
 use Rattle.cube_view.proofs.Walking.{under_before, Contains-head, Contains-cons, Contains-cases}
-use Rattle.node_arena.specs.Amounts.{Weighted, spots_in}
-use Rattle.proper_path.specs.Paths.{point_path}
+use Rattle.node_arena.specs.Amounts.{spots_in}
 use Rattle.group_insert.specs.Labels.{label_at, points_at}
 use Rattle.group_insert.specs.Parts.{level_of, paths_of, part_of}
 use Rattle.group_insert.proofs.Leaving.{under-down, under-across}

@@ -1,19 +1,17 @@
 -- From a node's visit to those of its content and its children, and back.
-use Rattle.std.proofs.Common.{◌≡◌, ℕ, suc, ◌+◌, ◌<◌, ◌≤◌, Bool, true, false, cond, eqb, ◌⊎◌, inl, inr, List, [], ◌∷◌, ◌++◌, Option, Some, None, All, Contains, filter, length, map, refl, sym, ap, ◌∙◌, subst, subst₂, arith, true≢false, eq-eqb}
+use Rattle.std.proofs.Common.{◌≡◌, ℕ, ◌+◌, ◌<◌, Bool, true, false, cond, eqb, ◌⊎◌, inl, inr, List, [], ◌∷◌, ◌++◌, Option, Some, None, Contains, length, refl, sym, ap, ◌∙◌, subst, subst₂, arith, true≢false, eq-eqb}
 use Rattle.std.proofs.lemmas.List.{length-map}
-use Rattle.cube_view.specs.Paths.{spot_path}
 use Rattle.cube_view.specs.Places.{time_dim, deepest}
 use Rattle.cube_view.specs.Points.{Point, spot_of}
-use Rattle.cube_view.specs.Walks.{Step, down, across, Walk, SpotPath, under, Under, HasSpot, dimension}
+use Rattle.cube_view.specs.Walks.{Step, down, across, Walk, SpotPath, HasSpot, dimension}
 use Rattle.cube_view.specs.declared.schema.Schema.{Schema}
 use Rattle.cube_view.proofs.Walking.{Contains-head, Contains-cons, Contains-cases}
 use Rattle.node_arena.specs.Amounts.{Weighted, spots_in}
-use Rattle.node_arena.specs.Calls.{copied}
-use Rattle.node_arena.specs.Shape.{home_of, HasHomes, HasTables}
-use Rattle.node_arena.specs.Slots.{Slot, empty_node, link_of, slot_of, is_table}
+use Rattle.node_arena.specs.Shape.{home_of}
+use Rattle.node_arena.specs.Slots.{Slot, empty_node, slot_of, is_table}
 use Rattle.point_insert.specs.Visited.{IsFilled}
 use Rattle.point_insert.specs.Visited as visited
-use Rattle.proper_path.specs.Making.{IsSpotOf, State, Makes, has, copies, adds}
+use Rattle.proper_path.specs.Making.{IsSpotOf, Makes, has, copies, adds}
 use Rattle.proper_path.specs.Order.{shape_of}
 use Rattle.proper_path.specs.Paths.{point_path}
 use Rattle.proper_path.specs.Rooted.{state}
@@ -27,13 +25,13 @@ use Rattle.group_insert.specs.Halfway.{IsHalfwayBefore, IsHalfwayAfter}
 use Rattle.group_insert.specs.InsertingAll.{IsInsertableAll, InsertsAll}
 use Rattle.group_insert.specs.Labels.{HasLabel, IsNextLabel, points_at, label_at}
 use Rattle.group_insert.specs.Parts.{level_of, paths_of, part_of}
-use Rattle.group_insert.specs.Visiting.{IsVisitablePart, VisitsPart, Passes}
-use Rattle.group_insert.specs.Visits.{ArePoints, HasVisitedAll, HasOneLabel, TellsLabels, IsAmong}
-use Rattle.group_insert.proofs.Among.{among_one, content_at, among_content, label_at_child, among_next, among_ends}
+use Rattle.group_insert.specs.Visiting.{IsVisitablePart, VisitsPart}
+use Rattle.group_insert.specs.Visits.{ArePoints, IsAmong}
+use Rattle.group_insert.proofs.Among.{content_at, among_content, label_at_child}
 use Rattle.group_insert.proofs.Leaving.{under-top}
-use Rattle.group_insert.proofs.Parting.{part_down, part_across, spot_is_of, spot_of_point}
+use Rattle.group_insert.proofs.Parting.{part_down, part_across, spot_is_of}
 use Rattle.group_insert.proofs.StartEnd.{halfway_starts, shape_with}
-use Rattle.group_insert.proofs.Visiting.{spot_in_part, spot_at_label, none_between, none_from, none_at_leaf}
+use Rattle.group_insert.proofs.Visiting.{spot_in_part, spot_at_label, none_between}
 
 -- what the calls leave is one of the changes that the invariant knows
 pub record IsMadeBy (dims : ℕ) (old new : List Slot) (homes : List Walk) (i : ℕ) (e : Step) (j : ℕ) : Type 0 where

@@ -1,11 +1,11 @@
 -- What the points of a part say of a visit.
-use Rattle.std.proofs.Common.{◌≡◌, ℕ, zero, suc, ◌+◌, ◌-◌, ◌<◌, ◌≤◌, ◌^◌, Bool, true, false, cond, eqb, ◌&&◌, ◌⊎◌, inl, inr, List, [], ◌∷◌, ◌++◌, Option, Some, None, All, Contains, filter, length, drop, map, refl, sym, ap, ◌∙◌, subst, subst₂, arith, true≢false, eq-eqb, eqb-true, length-drop, sum_by}
+use Rattle.std.proofs.Common.{◌≡◌, ℕ, ◌+◌, ◌<◌, ◌≤◌, ◌^◌, Bool, true, false, cond, eqb, ◌&&◌, ◌⊎◌, inl, inr, List, [], ◌∷◌, Some, None, All, Contains, length, drop, refl, sym, ap, ◌∙◌, subst, arith, eq-eqb, eqb-true, length-drop}
 use Rattle.std.proofs.lemmas.List.Elements.{All-contains}
 use Rattle.std.proofs.lemmas.List.Sums.{sum_by-cons, sum_by-append}
 use Rattle.cube_view.specs.Paths.{spot_path, path_of}
-use Rattle.cube_view.specs.Places.{time_dim, deepest, label_of}
+use Rattle.cube_view.specs.Places.{time_dim, deepest}
 use Rattle.cube_view.specs.Points.{Point, spot_of, weight_of_point}
-use Rattle.cube_view.specs.Walks.{Step, down, across, Walk, SpotPath, Cursor, cursor, under, Under, HasSpot, dimension}
+use Rattle.cube_view.specs.Walks.{down, Walk, SpotPath, cursor, under, Under, HasSpot, dimension}
 use Rattle.cube_view.specs.declared.schema.Schema.{Schema}
 use Rattle.cube_view.proofs.Walking.{under_before, under-some, begun, Contains-head}
 use Rattle.node_arena.specs.Amounts.{Weighted, spots_in, amount_under}
@@ -15,22 +15,17 @@ use Rattle.node_arena.specs.declared.link.Link.{Link}
 use Rattle.time_table.specs.Counts.{total_count}
 use Rattle.point_insert.specs.Known.{total_weight}
 use Rattle.point_insert.proofs.Light.{table_light}
-use Rattle.proper_path.specs.Making.{State, Makes}
 use Rattle.proper_path.specs.Paths.{point_path}
-use Rattle.proper_path.specs.Rooted.{state}
 use Rattle.proper_path.proofs.Labels.{length-path_of}
-use Rattle.proper_path.proofs.Steps.{IsPlaced, makes_placed}
-use Rattle.proper_path.proofs.Trailing.{node_before}
 use Rattle.group_insert.specs.Added.{IsAdded, amount_in, weight_in}
-use Rattle.group_insert.specs.Labels.{label_at, points_at, HasLabel, IsNextLabel, TellsOneLabel}
+use Rattle.group_insert.specs.Labels.{label_at, HasLabel, IsNextLabel, TellsOneLabel}
 use Rattle.group_insert.specs.Parts.{level_of, paths_of, part_of}
 use Rattle.group_insert.specs.Visiting.{IsVisitablePart, VisitsPart}
-use Rattle.group_insert.specs.Visits.{HasVisitedAll, HasTwoLabels, HasOneLabel, HasNoLabel, IsAmong}
-use Rattle.group_insert.proofs.Among.{content_at}
+use Rattle.group_insert.specs.Visits.{HasTwoLabels, HasOneLabel}
 use Rattle.group_insert.proofs.Counting.{table_visited}
 use Rattle.group_insert.proofs.Earlier.{earlier-irreflexive}
-use Rattle.group_insert.proofs.Leaving.{IsLeft, left, under-down, under-across, went_down}
-use Rattle.group_insert.proofs.Parting.{part_down, part_across, of_part, in_part, spot_is_of, spot_of_point}
+use Rattle.group_insert.proofs.Leaving.{left, under-down, went_down}
+use Rattle.group_insert.proofs.Parting.{of_part, in_part, spot_is_of, spot_of_point}
 
 -- a spot of the group that goes down a label is that of a point of the part with that label ..
 pub record IsPointAt (z : Schema) (group : List Point) (a : Walk) (n : ℕ) (q : SpotPath) : Type 0 where

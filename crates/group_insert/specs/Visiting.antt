@@ -1,16 +1,20 @@
 -- What holds where a group visits a slot with the points that its home holds, and afterwards.
-use Rattle.std.specs.Prelude.{◌≡◌, ℕ, ◌<◌, ◌^◌, List, [], ◌++◌, Option, length}
+use Rattle.std.specs.Prelude.{◌≡◌, ℕ, ◌+◌, ◌<◌, ◌≤◌, ◌^◌, IsTrue, List, [], ◌∷◌, ◌++◌, Option, Some, None, All, Contains, length}
 use Rattle.cube_view.specs.Places.{time_dim}
 use Rattle.cube_view.specs.Points.{Point}
-use Rattle.cube_view.specs.Walks.{Walk, dimension}
+use Rattle.cube_view.specs.Validity.{sound}
+use Rattle.cube_view.specs.Walks.{down, Walk, SpotPath, Under, dimension}
 use Rattle.cube_view.specs.declared.schema.Schema.{Schema}
-use Rattle.node_arena.specs.Amounts.{Weighted}
-use Rattle.node_arena.specs.Shape.{home_of}
+use Rattle.node_arena.specs.Amounts.{Weighted, spots_in}
+use Rattle.node_arena.specs.Shape.{home_of, HasOneChild}
 use Rattle.node_arena.specs.Slots.{Slot}
+use Rattle.node_arena.specs.declared.link.Link.{Link}
 use Rattle.point_insert.specs.Known.{total_weight}
+use Rattle.point_insert.specs.Visited.{SharesOf}
 use Rattle.group_insert.specs.Halfway.{IsHalfwayBefore}
+use Rattle.group_insert.specs.Labels.{label_at}
 use Rattle.group_insert.specs.Parts.{level_of, paths_of, part_of}
-use Rattle.group_insert.specs.Visits.{ArePoints, HasVisitedAll, IsAmong}
+use Rattle.group_insert.specs.Visits.{ArePoints, HasVisitedAll, HasOneLabel, IsAmong}
 
 -- before the visit of slot i, with the points of the group that its home holds
 pub record IsVisitablePart (schema : Schema) (group : List Point) (slots : List Slot) (dim level i : ℕ) (part : List Point) (homes : List Walk) (h : List Weighted) : Type 0 where
@@ -47,3 +51,34 @@ pub record CanPass (schema : Schema) (slots : List Slot) (dim level i : ℕ) (pa
 -- then those below `to` have been, for all of them that fitted
 abbrev pub Passes : Schema → List Slot → List Slot → ℕ → ℕ → ℕ → List Point → ℕ → ℕ → Type 0
 Passes schema before after dim level i part from to = (old : List Slot) (group : List Point) (homes : List Walk) (h : List Weighted) (only : Option ℕ) → IsVisitablePart schema group old dim level i part homes h → IsAmong (time_dim schema) h (paths_of schema group) old homes i only from before → IsAmong (time_dim schema) h (paths_of schema group) old homes i only to after
+
+-- the content has been visited, for all of them that fitted
+abbrev pub PassesContent : Schema → List Slot → List Slot → ℕ → ℕ → ℕ → List Point → Type 0
+PassesContent schema old new dim level i part = (group : List Point) (homes : List Walk) (h : List Weighted) → IsVisitablePart schema group old dim level i part homes h → IsAmong (time_dim schema) h (paths_of schema group) old homes i None 0 new
+
+-- all labels have been visited, for all of them that fitted
+abbrev pub PassesAll : Schema → List Slot → List Slot → ℕ → ℕ → ℕ → List Point → Type 0
+PassesAll schema before after dim level i part = (from : ℕ) × Passes schema before after dim level i part 0 from × All (λ p. label_at schema dim (level + 1) p < from) part
+
+-- all labels of a node have been visited that has one label
+pub record CanShare (schema : Schema) (slots : List Slot) (dim level i : ℕ) (part : List Point) : Type 0 where
+  pub old : List Slot
+  pub group : List Point
+  pub homes : List Walk
+  pub counted : List Weighted
+  pub label : ℕ
+  pub from : ℕ
+  pub known : IsVisitablePart schema group old dim level i part homes counted
+  pub has_one : HasOneLabel old homes (paths_of schema group) i label
+  pub among : IsAmong (time_dim schema) counted (paths_of schema group) old homes i (Some label) from slots
+  pub none : (n : ℕ) (q : SpotPath) → from ≤ n → Contains (spots_in (paths_of schema group)) q → Under q (down n ∷ home_of homes i) → ⊥
+
+-- a node that has one child shares its content
+abbrev pub SharesOnly : List Slot → List Slot → ℕ → Type 0
+SharesOnly old new i = (label : ℕ) (k : Link) → HasOneChild old i label k → SharesOf old new i k
+
+-- a part stands in the pile, whose points are sound
+pub record HasPart (schema : Schema) (pile : List Point) (at end : ℕ) : Type 0 where
+  pub ordered : at ≤ end
+  pub within : end ≤ length pile
+  pub all_sound : All (λ p. IsTrue (sound schema p)) pile

@@ -1,6 +1,6 @@
 -- What holds of a node before its visit for a group, between two of its labels, and afterwards.
 use Rattle.std.specs.Prelude.{◌≡◌, ℕ, ◌<◌, ◌⊎◌, List, [], ◌∷◌, ◌++◌, Option, Some, None, Contains}
-use Rattle.cube_view.specs.Walks.{Step, down, across, Walk, SpotPath, Under, HasSpot}
+use Rattle.cube_view.specs.Walks.{down, across, Walk, SpotPath, Under, HasSpot}
 use Rattle.node_arena.specs.Amounts.{Weighted, spots_in}
 use Rattle.node_arena.specs.Shape.{home_of, IsLinked}
 use Rattle.node_arena.specs.Slots.{proper, Slot, link_of}

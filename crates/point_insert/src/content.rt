@@ -48,7 +48,12 @@ pub fn share_content<L: Ledger>(work: &mut Work, at: SlotId, child: Link, steps:
 
 /// The second case: a node that has no content gets an empty one of its own, which is a time table in the last
 /// dimension.
-fn make_content(work: &mut Work, schema: &Schema, dim: u8, at: SlotId) -> Result<SlotId, NoMemory>
+pub fn make_content(
+    work: &mut Work,
+    schema: &Schema,
+    dim: u8,
+    at: SlotId,
+) -> Result<SlotId, NoMemory>
     requires dim { (1 ≤ dim) × (dim < time_dim schema.now) }
     requires room { work.old.made + 2 ≤ work.old.room }
     requires in_range { at.0 < length work.old.slots }
@@ -69,7 +74,7 @@ fn make_content(work: &mut Work, schema: &Schema, dim: u8, at: SlotId) -> Result
 }
 
 /// The third case: a shared content to which the point was not added is replaced by a copy of the node's own.
-fn copy_content(work: &mut Work, at: SlotId, from: SlotId) -> Result<SlotId, NoMemory>
+pub fn copy_content(work: &mut Work, at: SlotId, from: SlotId) -> Result<SlotId, NoMemory>
     requires room { work.old.made + 2 ≤ work.old.room }
     requires in_range { at.0 < length work.old.slots }
     requires is_node { IsNode (slot_of work.old.slots at.0) }

@@ -18,5 +18,6 @@ mod room;
 mod updated;
 
 pub use adding::add;
+pub use content::{copy_content, is_time, make_content, only_child, share_content};
 pub use room::insert_room;
 pub use updated::Updated;

@@ -15,3 +15,4 @@ mod path;
 mod step;
 
 pub use path::trail;
+pub use step::step_down;

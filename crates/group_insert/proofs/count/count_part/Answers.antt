@@ -1,6 +1,4 @@
-use Rattle.std.proofs.Common.{◌∙◌, subst, take}
-use Rattle.std.proofs.lemmas.List.{take_all}
-use Rattle.group_insert.specs.Added.{IsAdded, amount_in}
+use Rattle.std.proofs.Common.{◌∙◌}
 use Rattle.group_insert.proofs.Adding.{count_steps, total_steps, still_fits}
 use Rattle.group_insert.proofs.count.count_part.Goals as goal
 
