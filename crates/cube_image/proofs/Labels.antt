@@ -16,8 +16,9 @@ use Rattle.node_arena.specs.declared.link.Link.{Link}
 use Rattle.node_arena.specs.Amounts.{spots_in}
 use Rattle.node_arena.specs.Shape.{home_of}
 use Rattle.node_arena.specs.Slots.{Slot, link_of}
-use Rattle.cube_store.specs.Counted.{CountsPoints, paths_of}
+use Rattle.cube_store.specs.Counted.{CountsPoints}
 use Rattle.cube_view.proofs.Weighing.{sound-fits}
+use Rattle.proper_path.specs.Paths.{paths_of}
 
 -- all labels are bytes
 abbrev Small : List ℕ → Type 0

@@ -20,8 +20,8 @@ use Rattle.node_arena.specs.Reach.{weight_at}
 use Rattle.node_arena.specs.Slots.{Slot}
 use Rattle.node_arena.proofs.Reaching.{weight_counts}
 use Rattle.proper_path.proofs.Labels.{spot_of_schema, shape-point_path}
-use Rattle.proper_path.specs.Paths.{point_path}
-use Rattle.cube_store.specs.Counted.{paths_of, CountsPoints, HasPoints}
+use Rattle.proper_path.specs.Paths.{point_path, paths_of}
+use Rattle.cube_store.specs.Counted.{CountsPoints, HasPoints}
 use Rattle.cube_store.specs.Reading.{is_countable, spot_weight}
 use Rattle.cube_store.proofs.Telling.{IsOfSchema, of_schema, of_test, same_spot}
 use Rattle.cube_store.proofs.Whole.{same_paths, under_whole}

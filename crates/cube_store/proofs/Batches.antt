@@ -12,8 +12,8 @@ use Rattle.cube_view.specs.Validity.{sound}
 use Rattle.cube_view.specs.declared.schema.Schema.{Schema}
 use Rattle.node_arena.specs.Amounts.{Weighted, spots_in}
 use Rattle.node_arena.specs.Slots.{Slot}
-use Rattle.proper_path.specs.Paths.{point_path}
-use Rattle.cube_store.specs.Counted.{paths_of, AddsPoints, CountsPoints, HasPoints}
+use Rattle.proper_path.specs.Paths.{point_path, paths_of}
+use Rattle.cube_store.specs.Counted.{AddsPoints, CountsPoints, HasPoints}
 use Rattle.cube_store.specs.Inserting.{Inserts}
 use Rattle.cube_store.proofs.Listing.{adds_under, counts_joined, shape_same}
 

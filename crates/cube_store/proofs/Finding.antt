@@ -21,15 +21,15 @@ use Rattle.node_arena.specs.Slots.{Slot, children_of, count, is_table, link_of, 
 use Rattle.node_arena.specs.Calls.{child_from}
 use Rattle.node_arena.specs.declared.link.Link.{Link}
 use Rattle.node_arena.proofs.Reaching.{walk_coarser, walk-lt, walk_counts, walk_reaches, walk_only}
-use Rattle.cube_store.specs.Counted.{paths_of, CountsPoints}
+use Rattle.cube_store.specs.Counted.{CountsPoints}
 use Rattle.cube_store.specs.Reading.{IsWalkAddress, StandsAt, spot_weight}
 use Rattle.cube_store.proofs.Bagging.{points_of_schema, Counts-points}
 use Rattle.node_arena.proofs.Labelled.{link_down, IsFirstFrom, child_from-none}
-use Rattle.group_insert.specs.Parts.{level_of}
-use Rattle.group_insert.proofs.Leaving.{under-down, under-across, under-top}
+use Rattle.proper_path.proofs.Leaving.{under-down, under-across, under-top}
 use Rattle.cube_store.proofs.Listed.{amount-contained, amount-failing, point_of_path, path_of_point, All-contained}
 use Rattle.cube_store.proofs.Placing.{dimension-steps_of, level-steps_of}
 use Rattle.cube_store.proofs.Telling.{IsOfSchema}
+use Rattle.proper_path.specs.Paths.{level_of, paths_of}
 
 -- a step from an address that is reached
 pub step_on : (slots : List Slot) (w : Walk) (i : ℕ) (e : Step) (o : Option Link) → walk_end slots 0 w ≡ Some i → link_of slots i e ≡ o → walk_end slots 0 (e ∷ w) ≡ reached o

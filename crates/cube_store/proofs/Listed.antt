@@ -10,8 +10,7 @@ use Rattle.cube_view.proofs.Amounts.{amount-nil, amount-cons, gives-no}
 use Rattle.cube_view.proofs.Walking.{Contains-cases, Contains-cons, Contains-head}
 use Rattle.cube_view.proofs.Weighing.{amount-some}
 use Rattle.node_arena.specs.Amounts.{spots_in}
-use Rattle.proper_path.specs.Paths.{point_path}
-use Rattle.cube_store.specs.Counted.{paths_of}
+use Rattle.proper_path.specs.Paths.{point_path, paths_of}
 
 -- a point of the list that passes and weighs something
 pub amount-contained : (q : Spot → Bool) (h : List Point) (p : Point) → Contains h p → 0 < weight_of_point p → q (spot_of p) ≡ true → 0 < amount q h

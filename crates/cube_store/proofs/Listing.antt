@@ -18,10 +18,10 @@ use Rattle.node_arena.specs.Shape.{home_of, HasShape}
 use Rattle.node_arena.specs.Slots.{Slot}
 use Rattle.proper_path.specs.Making.{AllOfShape}
 use Rattle.proper_path.specs.Order.{shape_of}
-use Rattle.proper_path.specs.Paths.{point_path}
+use Rattle.proper_path.specs.Paths.{point_path, paths_of}
 use Rattle.proper_path.proofs.Labels.{spot_of_schema, shape-point_path}
 use Rattle.point_insert.specs.Known.{total_weight}
-use Rattle.cube_store.specs.Counted.{paths_of, CountsPoints, HasPoints}
+use Rattle.cube_store.specs.Counted.{CountsPoints, HasPoints}
 use Rattle.cube_store.specs.Inserting.{IsInsertable, CanInsert, HasInserted, Inserts}
 
 -- a shape over a list is one over each list of the same points

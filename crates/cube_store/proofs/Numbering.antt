@@ -11,9 +11,10 @@ use Rattle.cube_view.specs.declared.schema.Schema.{Schema}
 use Rattle.node_arena.specs.Slots.{Slot, children_of}
 use Rattle.node_arena.specs.Stats.{stat_of, AllRising}
 use Rattle.node_arena.proofs.Counting.{total_tells}
-use Rattle.cube_store.specs.Counted.{paths_of, HasPoints}
+use Rattle.cube_store.specs.Counted.{HasPoints}
 use Rattle.cube_store.specs.Numbers.{is_in_memory, lone_root, cube_numbers, OwnsAllButRoot}
 use Rattle.cube_store.proofs.Rising.{rises_from_test, test_from_rises, list_all-from, list_all-to}
+use Rattle.proper_path.specs.Paths.{paths_of}
 
 abbrev in_order : Slot → Bool
 in_order s = is_sorted nat_cmp (children_of s)

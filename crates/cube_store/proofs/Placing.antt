@@ -11,7 +11,7 @@ use Rattle.cube_view.specs.declared.schema.Schema.{Schema}
 use Rattle.cube_view.proofs.SchemaBounds.{few_categories}
 use Rattle.cube_view.proofs.Shifting.{shifted_up, by_one}
 use Rattle.cube_store.specs.Reading.{IsWalkAddress}
-use Rattle.group_insert.specs.Parts.{level_of}
+use Rattle.proper_path.specs.Paths.{level_of}
 
 -- The way to a quadrant goes by the tile's labels and then by the quadrant's
 

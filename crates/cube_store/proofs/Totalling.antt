@@ -16,11 +16,10 @@ use Rattle.time_table.proofs.AddLaws.{count_before-add_many, count_before-empty}
 use Rattle.time_table.proofs.CountLaws.{same_counts}
 use Rattle.time_table.proofs.Summed.{gathered, count_of-gathered, AllCounted-gathered}
 use Rattle.node_arena.specs.Amounts.{Weighted, amount_under}
-use Rattle.proper_path.specs.Paths.{point_path}
-use Rattle.cube_store.specs.Counted.{paths_of}
+use Rattle.proper_path.specs.Paths.{point_path, paths_of}
 use Rattle.cube_store.specs.Reading.{IsWalkAddress}
 use Rattle.cube_store.proofs.Finding.{under-steps}
-use Rattle.group_insert.proofs.Leaving.{turned}
+use Rattle.proper_path.proofs.Leaving.{turned}
 use Rattle.cube_store.proofs.Telling.{IsOfSchema}
 
 -- the spot lies under the address in the bin

@@ -1,19 +1,14 @@
 -- Which lists of points a cube counts.
-use Rattle.std.specs.Prelude.{◌≡◌, ℕ, ◌+◌, IsTrue, List, All, length, map}
+use Rattle.std.specs.Prelude.{◌≡◌, ℕ, ◌+◌, IsTrue, List, All, length}
 use Rattle.cube_view.specs.Bag.{CountsMore}
 use Rattle.cube_view.specs.Places.{time_dim}
 use Rattle.cube_view.specs.Points.{Point, spot_of}
 use Rattle.cube_view.specs.Validity.{sound}
 use Rattle.cube_view.specs.Walks.{Walk}
 use Rattle.cube_view.specs.declared.schema.Schema.{Schema}
-use Rattle.node_arena.specs.Amounts.{Weighted}
 use Rattle.node_arena.specs.Shape.{HasShape}
 use Rattle.node_arena.specs.Slots.{Slot}
-use Rattle.proper_path.specs.Paths.{point_path}
-
--- the points of a list, as walks see them
-abbrev pub paths_of : Schema → List Point → List Weighted
-paths_of schema h = map (λ p. point_path schema p) h
+use Rattle.proper_path.specs.Paths.{paths_of}
 
 -- The slots count the points of a list h.
 pub record CountsPoints (schema : Schema) (slots : List Slot) (root size : ℕ) (h : List Point) : Type 0 where

@@ -22,13 +22,14 @@ use Rattle.proper_path.proofs.Calls.{relink_content}
 use Rattle.group_insert.specs.Added.{IsAdded, amount_in, weight_in}
 use Rattle.group_insert.specs.Halfway.{LeadsRight}
 use Rattle.group_insert.specs.Labels.{IsNextLabel, points_at, label_at, TellsOneLabel, TellsOnlyLabel}
-use Rattle.group_insert.specs.Parts.{level_of, paths_of, part_of}
+use Rattle.group_insert.specs.Parts.{part_of}
 use Rattle.group_insert.specs.Visiting.{IsVisitablePart, CanVisitPart, VisitsPart, CanPass, Passes, PassesContent, PassesAll, CanShare, SharesOnly, HasPart}
 use Rattle.group_insert.specs.Visits.{HasTwoLabels, HasOneLabel, IsAmong}
 use Rattle.group_insert.proofs.Among.{among_one, among_next, among_ends}
 use Rattle.group_insert.proofs.LastChild.{child, alone, child_content, among_shares}
 use Rattle.group_insert.proofs.Passing.{IsMadeBy, stepped_makes, filled_makes, part_node, part_spot, content_visitable, content_passed, child_visitable}
 use Rattle.group_insert.proofs.Visiting.{none_from, none_between, none_at_leaf, two_in_part, one_and_other, one_alone, spot_at_label, table_has_room, table_part}
+use Rattle.proper_path.specs.Paths.{level_of, paths_of}
 
 module _ (z : Schema) (dim level i : ℕ) (part : List Point) (early : dim < time_dim z) where
   -- the node at its deepest level ends with its content

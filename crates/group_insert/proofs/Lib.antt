@@ -9,7 +9,6 @@ pub mod Keeping
 pub mod Kids
 pub mod Labelling
 pub mod LastChild
-pub mod Leaving
 pub mod OneChild
 pub mod Parting
 pub mod Passing

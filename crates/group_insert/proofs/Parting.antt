@@ -8,8 +8,9 @@ use Rattle.cube_view.specs.declared.schema.Schema.{Schema}
 use Rattle.cube_view.proofs.Walking.{under_before, Contains-head, Contains-cons, Contains-cases}
 use Rattle.node_arena.specs.Amounts.{spots_in}
 use Rattle.group_insert.specs.Labels.{label_at, points_at}
-use Rattle.group_insert.specs.Parts.{level_of, paths_of, part_of}
-use Rattle.group_insert.proofs.Leaving.{under-down, under-across}
+use Rattle.group_insert.specs.Parts.{part_of}
+use Rattle.proper_path.proofs.Leaving.{under-down, under-across}
+use Rattle.proper_path.specs.Paths.{level_of, paths_of}
 
 -- a filter of a filter, where the finer test says so
 filter_twice : {X : Type 0} (p r s : X → Bool) (xs : List X) → ((x : X) → r x ≡ true → s x ≡ p x) → ((x : X) → r x ≡ false → p x ≡ false) → filter s (filter r xs) ≡ filter p xs

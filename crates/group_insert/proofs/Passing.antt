@@ -13,7 +13,7 @@ use Rattle.point_insert.specs.Visited.{IsFilled}
 use Rattle.point_insert.specs.Visited as visited
 use Rattle.proper_path.specs.Making.{IsSpotOf, Makes, has, copies, adds}
 use Rattle.proper_path.specs.Order.{shape_of}
-use Rattle.proper_path.specs.Paths.{point_path}
+use Rattle.proper_path.specs.Paths.{point_path, level_of, paths_of}
 use Rattle.proper_path.specs.Rooted.{state}
 use Rattle.proper_path.specs.Stepped.{IsStepped}
 use Rattle.proper_path.specs.Stepped as stepped
@@ -24,11 +24,11 @@ use Rattle.proper_path.proofs.Trailing.{node_before}
 use Rattle.group_insert.specs.Halfway.{IsHalfwayBefore, IsHalfwayAfter}
 use Rattle.group_insert.specs.InsertingAll.{IsInsertableAll, InsertsAll}
 use Rattle.group_insert.specs.Labels.{HasLabel, IsNextLabel, points_at, label_at}
-use Rattle.group_insert.specs.Parts.{level_of, paths_of, part_of}
+use Rattle.group_insert.specs.Parts.{part_of}
 use Rattle.group_insert.specs.Visiting.{IsVisitablePart, VisitsPart}
 use Rattle.group_insert.specs.Visits.{ArePoints, IsAmong}
 use Rattle.group_insert.proofs.Among.{content_at, among_content, label_at_child}
-use Rattle.group_insert.proofs.Leaving.{under-top}
+use Rattle.proper_path.proofs.Leaving.{under-top}
 use Rattle.group_insert.proofs.Parting.{part_down, part_across, spot_is_of}
 use Rattle.group_insert.proofs.StartEnd.{halfway_starts, shape_with}
 use Rattle.group_insert.proofs.Visiting.{spot_in_part, spot_at_label, none_between}

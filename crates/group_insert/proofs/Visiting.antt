@@ -15,16 +15,16 @@ use Rattle.node_arena.specs.declared.link.Link.{Link}
 use Rattle.time_table.specs.Counts.{total_count}
 use Rattle.point_insert.specs.Known.{total_weight}
 use Rattle.point_insert.proofs.Light.{table_light}
-use Rattle.proper_path.specs.Paths.{point_path}
+use Rattle.proper_path.specs.Paths.{point_path, level_of, paths_of}
 use Rattle.proper_path.proofs.Labels.{length-path_of}
 use Rattle.group_insert.specs.Added.{IsAdded, amount_in, weight_in}
 use Rattle.group_insert.specs.Labels.{label_at, HasLabel, IsNextLabel, TellsOneLabel}
-use Rattle.group_insert.specs.Parts.{level_of, paths_of, part_of}
+use Rattle.group_insert.specs.Parts.{part_of}
 use Rattle.group_insert.specs.Visiting.{IsVisitablePart, VisitsPart}
 use Rattle.group_insert.specs.Visits.{HasTwoLabels, HasOneLabel}
 use Rattle.group_insert.proofs.Counting.{table_visited}
 use Rattle.group_insert.proofs.Earlier.{earlier-irreflexive}
-use Rattle.group_insert.proofs.Leaving.{left, under-down, went_down}
+use Rattle.proper_path.proofs.Leaving.{left, under-down, went_down}
 use Rattle.group_insert.proofs.Parting.{of_part, in_part, spot_is_of, spot_of_point}
 
 -- a spot of the group that goes down a label is that of a point of the part with that label ..

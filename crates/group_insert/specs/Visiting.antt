@@ -13,8 +13,9 @@ use Rattle.point_insert.specs.Known.{total_weight}
 use Rattle.point_insert.specs.Visited.{SharesOf}
 use Rattle.group_insert.specs.Halfway.{IsHalfwayBefore}
 use Rattle.group_insert.specs.Labels.{label_at}
-use Rattle.group_insert.specs.Parts.{level_of, paths_of, part_of}
+use Rattle.group_insert.specs.Parts.{part_of}
 use Rattle.group_insert.specs.Visits.{ArePoints, HasVisitedAll, HasOneLabel, IsAmong}
+use Rattle.proper_path.specs.Paths.{level_of, paths_of}
 
 -- before the visit of slot i, with the points of the group that its home holds
 pub record IsVisitablePart (schema : Schema) (group : List Point) (slots : List Slot) (dim level i : ℕ) (part : List Point) (homes : List Walk) (h : List Weighted) : Type 0 where

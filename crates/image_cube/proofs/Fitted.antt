@@ -18,8 +18,8 @@ use Rattle.node_arena.specs.Amounts.{Weighted, spots_in, amount_under}
 use Rattle.node_arena.specs.Shape.{home_of}
 use Rattle.node_arena.specs.Slots.{Slot, node, table, empty_node, is_table, slot_of, counts_of, count}
 use Rattle.node_arena.specs.Stats.{AllRising}
-use Rattle.proper_path.specs.Paths.{point_path}
-use Rattle.cube_store.specs.Counted.{paths_of, CountsPoints}
+use Rattle.proper_path.specs.Paths.{point_path, paths_of}
+use Rattle.cube_store.specs.Counted.{CountsPoints}
 use Rattle.image_shape.specs.Laws.{AllTablesCounted}
 use Rattle.image_shape.specs.Levels.{label_counts}
 use Rattle.image_shape.specs.Local.{IsLocal}

@@ -10,7 +10,7 @@ use Rattle.time_table.specs.Counts.{AllCounted}
 use Rattle.node_arena.specs.declared.link.Link.{Link}
 use Rattle.node_arena.specs.Slots.{proper, Children, Slot, node, table, empty_node, IsRising, children_of, counts_of, slot_of}
 use Rattle.node_arena.specs.Stats.{AllRising, stat_of}
-use Rattle.cube_store.specs.Counted.{paths_of, CountsPoints}
+use Rattle.cube_store.specs.Counted.{CountsPoints}
 use Rattle.cube_image.specs.Bytes.{head_bytes, slot_bytes}
 use Rattle.cube_image.specs.Conditions.{HasSomeHomes}
 use Rattle.cube_image.specs.Image.{IsWritten, HasLongImage}
@@ -30,6 +30,7 @@ use Rattle.image_cube.proofs.Fitted.{counted-fits}
 use Rattle.image_cube.proofs.Imaged.{slots-fit}
 use Rattle.image_cube.proofs.Renumbered.{moved_homes, in-places, each-low, each-one, old-lt, shape-again}
 use Rattle.image_cube.proofs.Summed.{stat-again}
+use Rattle.proper_path.specs.Paths.{paths_of}
 
 -- a slot has its labels and its counts, moved or not
 

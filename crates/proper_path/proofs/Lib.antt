@@ -12,3 +12,4 @@ pub mod Steps
 pub mod Stacks
 pub mod Trailing
 pub mod Labels
+pub mod Leaving

@@ -7,8 +7,8 @@ use Rattle.cube_view.specs.Walks.{down, across, Walk, Cursor, after_down, after_
 use Rattle.cube_view.specs.declared.schema.Schema.{Schema}
 use Rattle.cube_view.specs.declared.spot.Spot.{Spot}
 use Rattle.cube_view.proofs.Walking.{begun, under-some, iff_same}
-use Rattle.group_insert.specs.Parts.{level_of}
 use Rattle.proper_path.proofs.Labels.{length-path_of, get_or-path_of}
+use Rattle.proper_path.specs.Paths.{level_of}
 
 -- what is left of the spot
 pub record IsLeft (z : Schema) (s : Spot) (w : Walk) (c : Cursor) : Type 0 where
