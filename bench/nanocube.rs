@@ -1,5 +1,6 @@
 //! The same structure in plain Rust: nodes with shared links and time tables of running totals, filled point by point.
 use std::collections::HashSet;
+use std::fmt::Write;
 use std::time::Instant;
 
 const DEPTH: usize = 10;
@@ -213,6 +214,15 @@ impl Cube {
         self.before(table, to) - self.before(table, from)
     }
 
+    fn total_of_pair(&self, node: u32, kind: u8, side: u8, from: u64, to: u64) -> u64 {
+        let way = || {
+            let of_kind = self.child(self.content(node).0, kind)?.to;
+            Some(self.child(self.content(of_kind).0, side)?.to)
+        };
+        let at = |end: u32| self.content(end).0;
+        way().map_or(0, |end| self.before(at(end), to) - self.before(at(end), from))
+    }
+
     fn map(&self, node: u32, left: u8, z: u8, x: u32, y: u32, rows: &mut Vec<(u8, u32, u32, u64)>) {
         if left == 0 {
             rows.push((z, x, y, self.total_at(node, None, 0, 1 << 32)));
@@ -258,58 +268,131 @@ fn filled(name: &str, records: u32, made: fn(u64) -> Point) -> Cube {
     cube
 }
 
+/// What a line asks for, and of which records.
+enum Verb {
+    Count,
+    Hist,
+    Map(u8),
+    Series(u64, u64, u64),
+    Cross,
+}
+
+struct Query {
+    verb: Verb,
+    tile: (u8, u32, u32),
+    kind: Option<u8>,
+    from: u64,
+    to: u64,
+}
+
+fn value(text: &str) -> Option<u8> {
+    ["a", "b", "c", "d"].iter().position(|name| *name == text).map(|k| k as u8)
+}
+
+/// The query of a line of words, with the filters that the lines here have.
+fn read(line: &str) -> Option<Query> {
+    let mut words = line.split_ascii_whitespace();
+    let verb = match words.next()? {
+        "count" => Verb::Count,
+        "hist" => words.next().filter(|name| *name == "kind").map(|_| Verb::Hist)?,
+        "map" => Verb::Map(words.next()?.parse().ok()?),
+        "series" => Verb::Series(words.next()?.parse().ok()?, words.next()?.parse().ok()?, words.next()?.parse().ok()?),
+        "cross" => words.nth(1).map(|_| Verb::Cross)?,
+        _ => return None,
+    };
+    let mut query = Query { verb, tile: (0, 0, 0), kind: None, from: 0, to: 1 << 32 };
+    while let Some(word) = words.next() {
+        match word {
+            "in" => {
+                let mut parts = words.next()?.split('/');
+                query.tile = (parts.next()?.parse().ok()?, parts.next()?.parse().ok()?, parts.next()?.parse().ok()?);
+            }
+            "with" => query.kind = Some(value(words.next()?.strip_prefix("kind=")?)?),
+            "time" => (query.from, query.to) = (words.next()?.parse().ok()?, words.next()?.parse().ok()?),
+            _ => return None,
+        }
+    }
+    Some(query)
+}
+
+/// Answers a query into the text, which it empties first.
+fn answer(cube: &Cube, records: u32, query: &Query, text: &mut String) {
+    let (z, x, y) = query.tile;
+    let node = cube.tile(z, x, y);
+    let total = |kind, from, to| node.map_or(0, |node| cube.total_at(node, kind, from, to));
+    text.clear();
+    text.push_str("{\"rows\":[");
+    let mut first = true;
+    let mut row = |text: &mut String, row: std::fmt::Arguments| {
+        text.push_str(if std::mem::take(&mut first) { "" } else { "," });
+        text.write_fmt(row).unwrap();
+    };
+    match query.verb {
+        Verb::Count => row(text, format_args!("[{}]", total(query.kind, query.from, query.to))),
+        Verb::Hist => (0..4u8).for_each(|kind| row(text, format_args!("[\"{}\",{}]", (b'a' + kind) as char, total(Some(kind), query.from, query.to)))),
+        Verb::Map(down) => {
+            let mut rows = Vec::new();
+            node.into_iter().for_each(|node| cube.map(node, down, z, x, y, &mut rows));
+            rows.iter().for_each(|(z, x, y, n)| row(text, format_args!("[{z},{x},{y},{n}]")));
+        }
+        Verb::Series(from, wide, rows) => (0..rows).for_each(|k| {
+            let start = from + k * wide;
+            row(text, format_args!("[{start},{}]", total(query.kind, start, start + wide)));
+        }),
+        Verb::Cross => {
+            for kind in 0..4u8 {
+                for side in 0..2u8 {
+                    let n = node.map_or(0, |node| cube.total_of_pair(node, kind, side, query.from, query.to));
+                    row(text, format_args!("[\"{}\",\"{}\",{n}]", (b'a' + kind) as char, ["l", "r"][usize::from(side)]));
+                }
+            }
+        }
+    }
+    write!(text, "],\"seen\":{records}}}\n").unwrap();
+}
+
+/// Reads, answers and prints the lines.
+fn serve(name: &str, cube: &Cube, records: u32, lines: &[String]) {
+    let (mut text, mut bytes) = (String::new(), 0);
+    let start = Instant::now();
+    for line in lines {
+        answer(cube, records, &read(line).unwrap(), &mut text);
+        bytes += text.len();
+    }
+    println!("{name}: {:.2} us each ({bytes})", start.elapsed().as_secs_f64() * 1e6 / lines.len() as f64);
+}
+
+fn count_lines() -> Vec<String> {
+    let mut s = 77u64;
+    let line = |_| {
+        s = step(s);
+        let (x, y, kind, from) = ((s >> 54) % 16, (s >> 44) % 16, ["a", "b", "c", "d"][((s >> 42) % 4) as usize], (s >> 32) % 512);
+        format!("count in 4/{x}/{y} with kind={kind} time {from} {}", from + 400)
+    };
+    (0..20_000).map(line).collect()
+}
+
 fn answers(cube: &Cube, records: u32) {
+    let lines = count_lines();
+    let queries: Vec<Query> = lines.iter().map(|line| read(line).unwrap()).collect();
     let start = Instant::now();
-    let (mut sum, mut s) = (0, 77u64);
-    for _ in 0..20_000 {
-        s = step(s);
-        let from = (s >> 32) % 512;
-        let node = cube.tile(4, (s >> 54) as u32 % 16, (s >> 44) as u32 % 16);
-        sum += node.map_or(0, |node| cube.total_at(node, Some(((s >> 42) % 4) as u8), from, from + 400));
+    let mut sum = 0;
+    for query in &queries {
+        let (z, x, y) = query.tile;
+        sum += cube.tile(z, x, y).map_or(0, |node| cube.total_at(node, query.kind, query.from, query.to));
     }
-    println!("count without its text: {:.0} ns each ({sum})", start.elapsed().as_secs_f64() * 1e9 / 20_000.0);
-    let start = Instant::now();
-    let (mut sum, mut s) = (0, 77u64);
-    const COUNTS: u32 = 20_000;
-    for _ in 0..COUNTS {
-        s = step(s);
-        let (z, x, y) = (4u8, (s >> 54) as u32 % 16, (s >> 44) as u32 % 16);
-        let kind = ((s >> 42) % 4) as u8;
-        let from = (s >> 32) % 512;
-        let total = cube.tile(z, x, y).map_or(0, |node| cube.total_at(node, Some(kind), from, from + 400));
-        sum += format!("{{\"rows\":[[{total}]],\"seen\":{records}}}\n").len();
-    }
-    println!("count: {:.0} ns each ({sum})", start.elapsed().as_secs_f64() * 1e9 / f64::from(COUNTS));
-    let start = Instant::now();
-    let mut bytes = 0;
-    for _ in 0..20 {
-        let mut rows = Vec::new();
-        cube.map(0, 6, 0, 0, 0, &mut rows);
-        let text: Vec<String> = rows.iter().map(|(z, x, y, n)| format!("[{z},{x},{y},{n}]")).collect();
-        bytes += format!("{{\"rows\":[{}],\"seen\":{records}}}\n", text.join(",")).len();
-    }
-    println!("map 6: {:.2} ms each ({bytes})", start.elapsed().as_secs_f64() * 1e3 / 20.0);
-    let start = Instant::now();
-    bytes = 0;
-    for _ in 0..20 {
-        let text: Vec<String> = (0..1000u64).map(|bin| format!("[{bin},{}]", cube.total_at(0, None, bin, bin + 1))).collect();
-        bytes += format!("{{\"rows\":[{}],\"seen\":{records}}}\n", text.join(",")).len();
-    }
-    println!("series 0 1 1000: {:.2} ms each ({bytes})", start.elapsed().as_secs_f64() * 1e3 / 20.0);
-    let start = Instant::now();
-    bytes = 0;
-    for _ in 0..1000 {
-        let text: Vec<String> = (0..4u8).map(|kind| format!("[\"{}\",{}]", (b'a' + kind) as char, cube.total_at(0, Some(kind), 0, 1 << 32))).collect();
-        bytes += format!("{{\"rows\":[{}],\"seen\":{records}}}\n", text.join(",")).len();
-    }
-    println!("hist kind: {:.2} us each ({bytes})", start.elapsed().as_secs_f64() * 1e6 / 1000.0);
+    println!("count without line and text: {:.0} ns each ({sum})", start.elapsed().as_secs_f64() * 1e9 / queries.len() as f64);
+    serve("count", cube, records, &lines);
+    serve("map 6", cube, records, &vec!["map 6".to_string(); 20]);
+    serve("series 0 1 1000", cube, records, &vec!["series 0 1 1000".to_string(); 20]);
+    serve("hist kind", cube, records, &vec!["hist kind".to_string(); 1000]);
 }
 
 /// With a number of records as its argument only those are taken.
 fn main() {
     let only: Option<u32> = std::env::args().nth(1).and_then(|n| n.parse().ok());
     for records in only.map_or(vec![20_000, 200_000], |n| vec![n]) {
-        drop(filled("city", records, city));
+        serve("cross kind side", &filled("city", records, city), records, &vec!["cross kind side".to_string(); 1000]);
         let cube = filled("generated", records, generated);
         answers(&cube, records);
     }
