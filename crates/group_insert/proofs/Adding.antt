@@ -9,7 +9,7 @@ use Rattle.node_arena.specs.Calls.{table_add_many, with_many}
 use Rattle.proper_path.specs.Changes.{IsCounted}
 use Rattle.proper_path.proofs.Calls.{counts_more}
 use Rattle.proper_path.proofs.Links.{slot-set_same}
-use Rattle.group_insert.specs.Added.{IsAdded, amount_in, weight_in}
+use Rattle.group_insert.specs.Added.{IsAdded, amount_in, part_weight}
 
 -- before the first point
 pub added_none : (slots : List Slot) (i : ℕ) → i < length slots → is_table (slot_of slots i) ≡ true → IsAdded slots slots i (λ bin. amount_in [] bin)
@@ -47,14 +47,14 @@ count_steps old mid new i points n d lt A e =
     added_more old mid new i (spot_of (get_or points n d)).bin (weight_of_point (get_or points n d)) (λ bin. amount_in (take n points) bin) (λ bin. amount_in (take (n + 1) points) bin) A e
     (λ b. sum_by_more (λ (p : Point). cond (eqb (spot_of p).bin b) (weight_of_point p) 0) points n d lt)
 
-pub total_steps : (old mid new : List Slot) (i total : ℕ) (points : List Point) (n : ℕ) (d : Point) → n < length points → IsAdded old mid i (λ bin. amount_in (take n points) bin) → total_count (counts_of (slot_of mid i)) ≡ total + weight_in (take n points) → new ≡ table_add_many mid i (spot_of (get_or points n d)).bin (weight_of_point (get_or points n d)) → total_count (counts_of (slot_of new i)) ≡ total + weight_in (take (n + 1) points)
+pub total_steps : (old mid new : List Slot) (i total : ℕ) (points : List Point) (n : ℕ) (d : Point) → n < length points → IsAdded old mid i (λ bin. amount_in (take n points) bin) → total_count (counts_of (slot_of mid i)) ≡ total + part_weight (take n points) → new ≡ table_add_many mid i (spot_of (get_or points n d)).bin (weight_of_point (get_or points n d)) → total_count (counts_of (slot_of new i)) ≡ total + part_weight (take (n + 1) points)
 total_steps old mid new i total points n d lt A is e =
     let t = total_more mid i (spot_of (get_or points n d)).bin (weight_of_point (get_or points n d)) (let a = A.place in let s = A.size in omega (arith, a, s)) (A.old_kind i ∙ A.kind) in
     let m = sum_by_more (λ (p : Point). weight_of_point p) points n d lt in
     let s = ap (λ z. total_count (counts_of (slot_of z i))) e in
     omega (arith, t, m, s, is)
 
-pub still_fits : (now total : ℕ) (points : List Point) (n : ℕ) (d : Point) → n < length points → now ≡ total + weight_in (take n points) → total + weight_in points ≤ 2 ^ 63 → now + weight_of_point (get_or points n d) ≤ 2 ^ 63
+pub still_fits : (now total : ℕ) (points : List Point) (n : ℕ) (d : Point) → n < length points → now ≡ total + part_weight (take n points) → total + part_weight points ≤ 2 ^ 63 → now + weight_of_point (get_or points n d) ≤ 2 ^ 63
 still_fits now total points n d lt is fits =
     let more = sum_by_more (λ (p : Point). weight_of_point p) points n d lt in
     let less = sum_by-take-le (λ (p : Point). weight_of_point p) points (n + 1) in

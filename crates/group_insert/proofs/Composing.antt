@@ -19,11 +19,11 @@ use Rattle.point_insert.specs.Visited.{IsFilled}
 use Rattle.proper_path.specs.Changes.{IsRelinked}
 use Rattle.proper_path.specs.Stepped.{IsStepped, LeadsInside}
 use Rattle.proper_path.proofs.Calls.{relink_content}
-use Rattle.group_insert.specs.Added.{IsAdded, amount_in, weight_in}
+use Rattle.group_insert.specs.Added.{IsAdded, amount_in, part_weight}
 use Rattle.group_insert.specs.Halfway.{LeadsRight}
-use Rattle.group_insert.specs.Labels.{IsNextLabel, points_at, label_at, TellsOneLabel, TellsOnlyLabel}
+use Rattle.group_insert.specs.Labels.{IsLeastFrom, points_at, label_at, TellsOneLabel, TellsOnlyLabel}
 use Rattle.group_insert.specs.Parts.{part_of}
-use Rattle.group_insert.specs.Visiting.{IsVisitablePart, CanVisitPart, VisitsPart, CanPass, Passes, PassesContent, PassesAll, CanShare, SharesOnly, HasPart}
+use Rattle.group_insert.specs.Visiting.{IsVisitablePart, CanVisitPart, VisitsPart, CanPass, PassesLabels, PassesContent, PassesAll, CanShare, SharesOnly, HasPart}
 use Rattle.group_insert.specs.Visits.{HasTwoLabels, HasOneLabel, IsAmong}
 use Rattle.group_insert.proofs.Among.{among_one, among_next, among_ends}
 use Rattle.group_insert.proofs.LastChild.{child, alone, child_content, among_shares}
@@ -114,7 +114,7 @@ module _ (z : Schema) (dim level i : ℕ) (part : List Point) (early : dim < tim
     one_can_pass old l T R = ∥∥₁_map R (λ C. record { old = old; group = C.group; homes = C.homes; counted = C.counted; only = Some l; known = C.known; among = begins C.group old C.homes C.counted l C.known T })
 
     -- a child that was made can be visited ..
-    pub can_visit_child : (mid next : List Slot) (from l j : ℕ) → IsNextLabel z dim (level + 1) from l part → IsStepped mid i (down l) j next → ∥ CanPass z mid dim level i part from ∥₁ → ∥ CanVisitPart z next dim (level + 1) j (points_at z dim (level + 1) l part) ∥₁
+    pub can_visit_child : (mid next : List Slot) (from l j : ℕ) → IsLeastFrom z dim (level + 1) from l part → IsStepped mid i (down l) j next → ∥ CanPass z mid dim level i part from ∥₁ → ∥ CanVisitPart z next dim (level + 1) j (points_at z dim (level + 1) l part) ∥₁
     can_visit_child mid next from l j N S R = ∥∥₁_map R (λ C.
         let m = made C.group C.old mid next C.homes C.counted C.only from l j C.known C.among S in
         record { group = C.group; homes = m.homes'; counted = C.counted; known = child_visitable z C.group C.old mid next dim level i j from l part C.homes C.counted C.only less C.known C.among N m })
@@ -123,7 +123,7 @@ module _ (z : Schema) (dim level i : ℕ) (part : List Point) (early : dim < tim
         made group old mid next homes h only from l j K A S = stepped_makes (time_dim z) mid next A.homes' i l j (λ d. let a = ap dimension (A.keeps.homes i K.in_range) in let b = K.in_dim in omega (arith, d, a, b, early)) S
 
     -- .. and then the next label's turn comes
-    pub passes_label : (mid next new : List Slot) (from l j : ℕ) → IsNextLabel z dim (level + 1) from l part → IsStepped mid i (down l) j next → VisitsPart z next new dim (level + 1) j (points_at z dim (level + 1) l part) → Passes z mid new dim level i part from (l + 1)
+    pub passes_label : (mid next new : List Slot) (from l j : ℕ) → IsLeastFrom z dim (level + 1) from l part → IsStepped mid i (down l) j next → VisitsPart z next new dim (level + 1) j (points_at z dim (level + 1) l part) → PassesLabels z mid new dim level i part from (l + 1)
     passes_label mid next new from l j N S V old group homes h only K A =
         among_next (time_dim z) h (paths_of z group) old mid next new homes m.homes' i j l only from K.in_range A N.reaches (none_between z group (home_of homes i) from l (less_at group old homes h K) N') (spot_at_label z group (home_of homes i) l (less_at group old homes h K) N'.there) m.makes
         (V group m.homes' h (child_visitable z group old mid next dim level i j from l part homes h only less K A N m))
@@ -131,8 +131,8 @@ module _ (z : Schema) (dim level i : ℕ) (part : List Point) (early : dim < tim
         m : IsMadeBy (time_dim z) mid next A.homes' i (down l) j
         m = stepped_makes (time_dim z) mid next A.homes' i l j (λ d. let a = ap dimension (A.keeps.homes i K.in_range) in let b = K.in_dim in omega (arith, d, a, b, early)) S
 
-        N' : IsNextLabel z (dimension (home_of homes i)) (level_of (home_of homes i) + 1) from l (part_of z group (home_of homes i))
-        N' = subst (λ x. IsNextLabel z (dimension (home_of homes i)) (level_of (home_of homes i) + 1) from l x) K.part_is (subst₂ (λ x y. IsNextLabel z x (y + 1) from l part) (sym K.in_dim) (sym K.at_level) N)
+        N' : IsLeastFrom z (dimension (home_of homes i)) (level_of (home_of homes i) + 1) from l (part_of z group (home_of homes i))
+        N' = subst (λ x. IsLeastFrom z (dimension (home_of homes i)) (level_of (home_of homes i) + 1) from l x) K.part_is (subst₂ (λ x y. IsLeastFrom z x (y + 1) from l part) (sym K.in_dim) (sym K.at_level) N)
 
   -- the content that was made can be visited
   pub can_visit_content : (old mid : List Slot) (j : ℕ) → IsFilled (time_dim z) (dim + 1) [] old i mid (Some j) → ∥ CanVisitPart z old dim level i part ∥₁ → ∥ CanVisitPart z mid (dim + 1) 0 j part ∥₁
@@ -166,13 +166,13 @@ module _ (z : Schema) (dim level i : ℕ) (part : List Point) (early : dim < tim
   pass_inside slots from e R t is = ∥∥₁_elim R le_prop (λ C. (C.among.halfway.has_homes.finer i t e is).0)
 
   -- the loop over the labels
-  pub passes_none : (slots : List Slot) (from : ℕ) → Passes z slots slots dim level i part from from
+  pub passes_none : (slots : List Slot) (from : ℕ) → PassesLabels z slots slots dim level i part from from
   passes_none slots from old group homes h only K A = A
 
-  pub passes_more : (a b c : List Slot) (from to next : ℕ) → Passes z a b dim level i part from to → Passes z b c dim level i part to next → Passes z a c dim level i part from next
+  pub passes_more : (a b c : List Slot) (from to next : ℕ) → PassesLabels z a b dim level i part from to → PassesLabels z b c dim level i part to next → PassesLabels z a c dim level i part from next
   passes_more a b c from to next P Q old group homes h only K A = Q old group homes h only K (P old group homes h only K A)
 
-  pub can_pass_on : (a b : List Slot) (from to : ℕ) → Passes z a b dim level i part from to → ∥ CanPass z a dim level i part from ∥₁ → ∥ CanPass z b dim level i part to ∥₁
+  pub can_pass_on : (a b : List Slot) (from to : ℕ) → PassesLabels z a b dim level i part from to → ∥ CanPass z a dim level i part from ∥₁ → ∥ CanPass z b dim level i part to ∥₁
   can_pass_on a b from to P R = ∥∥₁_map R (λ C. record { old = C.old; group = C.group; homes = C.homes; counted = C.counted; only = C.only; known = C.known; among = P C.old C.group C.homes C.counted C.only C.known C.among })
 
 -- how many levels are left, by which the recursion ends
@@ -197,7 +197,7 @@ pub part_sound : (z : Schema) (pile : List Point) (at end : ℕ) → HasPart z p
 part_sound z pile at end H = All-take (λ p. IsTrue (sound z p)) (end - at) (drop at pile) (All-drop (λ p. IsTrue (sound z p)) at pile H.all_sound)
 
 -- a table that can be visited has room for the part
-pub table_there : (z : Schema) (slots : List Slot) (dim level i : ℕ) (part : List Point) → dim ≡ time_dim z → ∥ CanVisitPart z slots dim level i part ∥₁ → (i < length slots) × (is_table (slot_of slots i) ≡ true) × (total_count (counts_of (slot_of slots i)) + weight_in part ≤ 2 ^ 63)
+pub table_there : (z : Schema) (slots : List Slot) (dim level i : ℕ) (part : List Point) → dim ≡ time_dim z → ∥ CanVisitPart z slots dim level i part ∥₁ → (i < length slots) × (is_table (slot_of slots i) ≡ true) × (total_count (counts_of (slot_of slots i)) + part_weight part ≤ 2 ^ 63)
 table_there z slots dim level i part e R = (
   ∥∥₁_elim R le_prop (λ C. C.known.in_range),
   ∥∥₁_elim R (Bool-set _ _) (λ C. kind C),

@@ -12,7 +12,7 @@ use Rattle.proper_path.specs.Order.{IsAbove, itself, further}
 use Rattle.proper_path.proofs.Above.{under_above}
 use Rattle.proper_path.proofs.Order.{above_cases, above-step, above-length}
 use Rattle.group_insert.specs.Halfway.{LeadsRight, WillHaveTwo, IsHalfway}
-use Rattle.group_insert.specs.Later.{PutOff, address_of, IsPut}
+use Rattle.group_insert.specs.Later.{PutOff, link_address, IsPut}
 use Rattle.group_insert.specs.Turns.{IsEarlier, EndedBefore, EndedAfter, IsOpenAbove}
 use Rattle.group_insert.proofs.Earlier.{earlier_below, EarlierDown, outside, in_content, in_lesser, earlier_down, content_earlier, lesser_earlier, open_step}
 
@@ -52,7 +52,7 @@ node_ends dims slots homes h g done open' next open'' put i lt N F M = record {
   };
   later = record {
     put_off = M.later.put_off;
-    ended = λ n k l. N.to (address_of homes (get_or put n k)) (M.later.ended n k l);
+    ended = λ n k l. N.to (link_address homes (get_or put n k)) (M.later.ended n k l);
     wide = λ n k l d. wide n k l (N.only (get_or put n k).node (M.later.put_off n k l).in_range.0 d);
     in_order = M.later.in_order;
   };

@@ -12,10 +12,13 @@ pub mod LastChild
 pub mod OneChild
 pub mod Parting
 pub mod Passing
+pub mod Pile
 pub mod Putting
 pub mod Relinked
+pub mod Sharer
 pub mod Sharing
 pub mod Standing
 pub mod StartEnd
 pub mod Turned
 pub mod Visiting
+pub mod Whole

@@ -23,7 +23,7 @@ use Rattle.proper_path.proofs.Steps.{IsPlaced, makes_placed}
 use Rattle.proper_path.proofs.Trailing.{node_before}
 use Rattle.group_insert.specs.Halfway.{IsHalfwayBefore, IsHalfwayAfter}
 use Rattle.group_insert.specs.InsertingAll.{IsInsertableAll, InsertsAll}
-use Rattle.group_insert.specs.Labels.{HasLabel, IsNextLabel, points_at, label_at}
+use Rattle.group_insert.specs.Labels.{HasLabel, IsLeastFrom, points_at, label_at}
 use Rattle.group_insert.specs.Parts.{part_of}
 use Rattle.group_insert.specs.Visiting.{IsVisitablePart, VisitsPart}
 use Rattle.group_insert.specs.Visits.{ArePoints, IsAmong}
@@ -111,7 +111,7 @@ some_kept z dim level l (x ∷ part) L = go (λ r. some_kept z dim level l part 
     go rest false e (inr c) = rest (record { point = L.point; is_in = c; at = L.at })
 
 -- the child that was made can be visited with the points of its label
-pub child_visitable : (z : Schema) (group : List Point) (old mid next : List Slot) (dim level i j from l : ℕ) (part : List Point) (homes : List Walk) (h : List Weighted) (only : Option ℕ) → level < deepest z dim → (K : IsVisitablePart z group old dim level i part homes h) → (A : IsAmong (time_dim z) h (paths_of z group) old homes i only from mid) → IsNextLabel z dim (level + 1) from l part → (m : IsMadeBy (time_dim z) mid next A.homes' i (down l) j) → IsVisitablePart z group next dim (level + 1) j (points_at z dim (level + 1) l part) m.homes' h
+pub child_visitable : (z : Schema) (group : List Point) (old mid next : List Slot) (dim level i j from l : ℕ) (part : List Point) (homes : List Walk) (h : List Weighted) (only : Option ℕ) → level < deepest z dim → (K : IsVisitablePart z group old dim level i part homes h) → (A : IsAmong (time_dim z) h (paths_of z group) old homes i only from mid) → IsLeastFrom z dim (level + 1) from l part → (m : IsMadeBy (time_dim z) mid next A.homes' i (down l) j) → IsVisitablePart z group next dim (level + 1) j (points_at z dim (level + 1) l part) m.homes' h
 child_visitable z group old mid next dim level i j from l part homes h only lt K A N m = record {
   in_range = p.in_range;
   in_dim = ap dimension at_home ∙ K.in_dim;
@@ -126,8 +126,8 @@ child_visitable z group old mid next dim level i j from l part homes h only lt K
     lt' : level_of (home_of homes i) < deepest z (dimension (home_of homes i))
     lt' = subst₂ (λ x y. y < deepest z x) (sym K.in_dim) (sym K.at_level) lt
 
-    N' : IsNextLabel z (dimension (home_of homes i)) (level_of (home_of homes i) + 1) from l (part_of z group (home_of homes i))
-    N' = subst (λ x. IsNextLabel z (dimension (home_of homes i)) (level_of (home_of homes i) + 1) from l x) K.part_is (subst₂ (λ x y. IsNextLabel z x (y + 1) from l part) (sym K.in_dim) (sym K.at_level) N)
+    N' : IsLeastFrom z (dimension (home_of homes i)) (level_of (home_of homes i) + 1) from l (part_of z group (home_of homes i))
+    N' = subst (λ x. IsLeastFrom z (dimension (home_of homes i)) (level_of (home_of homes i) + 1) from l x) K.part_is (subst₂ (λ x y. IsLeastFrom z x (y + 1) from l part) (sym K.in_dim) (sym K.at_level) N)
 
     goes : HasSpot (spots_in (paths_of z group)) (down l ∷ home_of homes i)
     goes = spot_at_label z group (home_of homes i) l lt' N'.there

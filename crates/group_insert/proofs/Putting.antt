@@ -9,7 +9,7 @@ use Rattle.proper_path.specs.Order.{IsBefore}
 use Rattle.proper_path.proofs.Homes.{grown_homes, KeepsHomes, keeps_homes}
 use Rattle.proper_path.proofs.Links.{same_place, proper≢shared}
 use Rattle.group_insert.specs.Halfway.{PutsOff}
-use Rattle.group_insert.specs.Later.{PutOff, address_of, IsPutOff}
+use Rattle.group_insert.specs.Later.{PutOff, link_address, IsPutOff}
 use Rattle.group_insert.proofs.Sharing.{two_grown, two_relinked}
 
 -- where no link is put off
@@ -32,10 +32,10 @@ puts_grown old new homes h g done put i e s G H fresh P = record {
     K : KeepsHomes old homes i e
     K = keeps_homes old homes i e H
 
-    address : (k : PutOff) → IsPutOff old homes h g k → address_of (grown_homes homes i e) k ≡ address_of homes k
+    address : (k : PutOff) → IsPutOff old homes h g k → link_address (grown_homes homes i e) k ≡ link_address homes k
     address k o = ap (λ z. down k.label ∷ z) (K.was k.node o.in_range.0)
 
-    put_off : (k : PutOff) → IsPutOff old homes h g k → done (address_of homes k) → IsPutOff new (grown_homes homes i e) h g k
+    put_off : (k : PutOff) → IsPutOff old homes h g k → done (link_address homes k) → IsPutOff new (grown_homes homes i e) h g k
     put_off k o d = record {
       in_range = (omega (arith, G.size, o.in_range.0), omega (arith, G.size, o.in_range.1));
       leads = K.was k.node o.in_range.0 ∙ (o.leads ∙ ap (λ z. k.way ++ across ∷ z) (sym (K.was k.base o.in_range.1)));
@@ -48,7 +48,7 @@ puts_grown old new homes h g done put i e s G H fresh P = record {
         free j x (inl y) = fresh (subst₂ (λ a b. done (a ∷ home_of homes b)) y.1 y.0 d)
         free j x (inr n) = o.free j (sym (G.old_link k.node (down k.label) o.in_range.0 n) ∙ x)
 
-    in_order : (m n : ℕ) (d : PutOff) → m < n → n < length put → IsBefore (address_of (grown_homes homes i e) (get_or put m d)) (address_of (grown_homes homes i e) (get_or put n d)) → ⊥
+    in_order : (m n : ℕ) (d : PutOff) → m < n → n < length put → IsBefore (link_address (grown_homes homes i e) (get_or put m d)) (link_address (grown_homes homes i e) (get_or put n d)) → ⊥
     in_order m n d l lt r =
         let x = address (get_or put m d) (P.put_off m d (omega (arith, l, lt))) in
         let y = address (get_or put n d) (P.put_off n d lt) in

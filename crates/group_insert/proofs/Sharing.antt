@@ -18,7 +18,7 @@ use Rattle.proper_path.proofs.Links.{same_place, proper≢shared, link-copied, s
 use Rattle.proper_path.proofs.Order.{above-step, above-length, before_down, before_below}
 use Rattle.proper_path.proofs.Steps.{not_above_before}
 use Rattle.group_insert.specs.Halfway.{WillHaveTwo, SharesWithin}
-use Rattle.group_insert.specs.Later.{PutOff, address_of, IsPut}
+use Rattle.group_insert.specs.Later.{PutOff, link_address, IsPut}
 use Rattle.group_insert.specs.Turns.{IsEarlier, crosses, EndedBefore, EndedAfter, IsOpenAbove}
 use Rattle.group_insert.proofs.Earlier.{earlier_not_above, earlier-irreflexive, earlier_not_before}
 
@@ -191,7 +191,7 @@ one_not_two slots put t label k O none w = w.differ (is w.one w.at_one ∙ sym (
     is m (inr x) = absurd (none m x)
 
 -- the shallow copy of a shared link's target shares its only child's content as the target does
-pub copy_shares : (slots : List Slot) (homes : List Walk) (done open' : Walk → Type 0) (put : List PutOff) (i t : ℕ) (e : Step) → HasHomes slots homes → link_of slots i e ≡ Some (shared t) → IsBefore (home_of homes t) (e ∷ home_of homes i) → IsFresh done open' (e ∷ home_of homes i) → All (λ k. done (address_of homes k)) put → SharesWithin slots homes done open' put → StandsShared slots i e (copied (slot_of slots t))
+pub copy_shares : (slots : List Slot) (homes : List Walk) (done open' : Walk → Type 0) (put : List PutOff) (i t : ℕ) (e : Step) → HasHomes slots homes → link_of slots i e ≡ Some (shared t) → IsBefore (home_of homes t) (e ∷ home_of homes i) → IsFresh done open' (e ∷ home_of homes i) → All (λ k. done (link_address homes k)) put → SharesWithin slots homes done open' put → StandsShared slots i e (copied (slot_of slots t))
 copy_shares slots homes done open' put i t e H is before F ended S label l at only = pick (S.shares t label k.0 (F.not_open (home_of homes t) (inr before)) O)
   where
     k : (k : Link) × (link_of slots t (down label) ≡ Some k) × (l ≡ shared (target k))
@@ -202,7 +202,7 @@ copy_shares slots homes done open' put i t e H is before F ended S label l at on
 
     none : (m : ℕ) → IsPut put t (down m) → ⊥
     none m (n, x, lt, at', p) =
-        let d : done (address_of homes x) = subst (λ z. done (address_of homes z)) at' (ended n x lt) in
+        let d : done (link_address homes x) = subst (λ z. done (link_address homes z)) at' (ended n x lt) in
         let d' : done (down m ∷ home_of homes t) = subst₂ (λ a b. done (a ∷ home_of homes b)) p.1 p.0 d in
         F.not_done (down m ∷ home_of homes t) (inr (before_below before (further itself))) d'
 

@@ -17,8 +17,8 @@ use Rattle.point_insert.specs.Known.{total_weight}
 use Rattle.point_insert.proofs.Light.{table_light}
 use Rattle.proper_path.specs.Paths.{point_path, level_of, paths_of}
 use Rattle.proper_path.proofs.Labels.{length-path_of}
-use Rattle.group_insert.specs.Added.{IsAdded, amount_in, weight_in}
-use Rattle.group_insert.specs.Labels.{label_at, HasLabel, IsNextLabel, TellsOneLabel}
+use Rattle.group_insert.specs.Added.{IsAdded, amount_in, part_weight}
+use Rattle.group_insert.specs.Labels.{label_at, HasLabel, IsLeastFrom, TellsOneLabel}
 use Rattle.group_insert.specs.Parts.{part_of}
 use Rattle.group_insert.specs.Visiting.{IsVisitablePart, VisitsPart}
 use Rattle.group_insert.specs.Visits.{HasTwoLabels, HasOneLabel}
@@ -64,7 +64,7 @@ none_from z group a from lt A n q le c u =
     let l = r.label in
     absurd (omega (arith, x, l, le))
 
-pub none_between : (z : Schema) (group : List Point) (a : Walk) (from m : ℕ) → level_of a < deepest z (dimension a) → IsNextLabel z (dimension a) (level_of a + 1) from m (part_of z group a) → (n : ℕ) (q : SpotPath) → from ≤ n → n < m → Contains (spots_in (paths_of z group)) q → Under q (down n ∷ a) → ⊥
+pub none_between : (z : Schema) (group : List Point) (a : Walk) (from m : ℕ) → level_of a < deepest z (dimension a) → IsLeastFrom z (dimension a) (level_of a + 1) from m (part_of z group a) → (n : ℕ) (q : SpotPath) → from ≤ n → n < m → Contains (spots_in (paths_of z group)) q → Under q (down n ∷ a) → ⊥
 none_between z group a from m lt N n q le less c u = go (All-contains (λ p. (label_at z (dimension a) (level_of a + 1) p < from) ⊎ (m ≤ label_at z (dimension a) (level_of a + 1) p)) (part_of z group a) r.point N.least r.is_in)
   where
     r : IsPointAt z group a n q
@@ -146,20 +146,20 @@ amount_in_part z (x ∷ group) a bin = go (under (spot_path z (spot_of x)) a) re
         zero_more : (n : ℕ) → n ≡ 0 + n
         zero_more n = omega arith
 
-pub weight_in_part : (z : Schema) (group : List Point) (a : Walk) → weight_in (part_of z group a) ≤ total_weight (paths_of z group)
+pub weight_in_part : (z : Schema) (group : List Point) (a : Walk) → part_weight (part_of z group a) ≤ total_weight (paths_of z group)
 weight_in_part z [] a = omega arith
 weight_in_part z (x ∷ group) a = go (under (spot_path z (spot_of x)) a) (weight_in_part z group a)
   where
-    go : (b : Bool) → weight_in (part_of z group a) ≤ total_weight (paths_of z group) → weight_in (cond b (x ∷ part_of z group a) (part_of z group a)) ≤ total_weight (paths_of z (x ∷ group))
+    go : (b : Bool) → part_weight (part_of z group a) ≤ total_weight (paths_of z group) → part_weight (cond b (x ∷ part_of z group a) (part_of z group a)) ≤ total_weight (paths_of z (x ∷ group))
     go true r = let s = sum_by-cons (λ (p : Point). weight_of_point p) x (part_of z group a) in let t = sum_by-cons (λ (w : Weighted). w.amount) (point_path z x) (paths_of z group) in omega (arith, r, s, t)
     go false r = let t = sum_by-cons (λ (w : Weighted). w.amount) (point_path z x) (paths_of z group) in omega (arith, r, t)
 
 -- a table is visited by counting its part, for which it has room
-pub table_has_room : (z : Schema) (group : List Point) (slots : List Slot) (dim level i : ℕ) (part : List Point) (homes : List Walk) (h : List Weighted) → is_table (slot_of slots i) ≡ true → IsVisitablePart z group slots dim level i part homes h → total_count (counts_of (slot_of slots i)) + weight_in part ≤ 2 ^ 63
+pub table_has_room : (z : Schema) (group : List Point) (slots : List Slot) (dim level i : ℕ) (part : List Point) (homes : List Walk) (h : List Weighted) → is_table (slot_of slots i) ≡ true → IsVisitablePart z group slots dim level i part homes h → total_count (counts_of (slot_of slots i)) + part_weight part ≤ 2 ^ 63
 table_has_room z group slots dim level i part homes h t K =
     let l = table_light slots i (home_of homes i) h (λ bin. K.halfway.counted.still i bin K.in_range t (λ d. earlier-irreflexive d.1)) in
     let w = weight_in_part z group (home_of homes i) in
-    let e = ap weight_in K.part_is in
+    let e = ap part_weight K.part_is in
     let s = sum_by-append (λ (w : Weighted). w.amount) (paths_of z group) h in
     let k = K.light in
     omega (arith, l, w, e, s, k)

@@ -8,8 +8,8 @@ use Rattle.node_arena.specs.Slots.{Slot, link_of, slot_of, count, is_table}
 abbrev pub amount_in : List Point → ℕ → ℕ
 amount_in points bin = sum_by (λ p. if (spot_of p).bin == bin then weight_of_point p else 0) points
 
-abbrev pub weight_in : List Point → ℕ
-weight_in points = sum_by (λ p. weight_of_point p) points
+abbrev pub part_weight : List Point → ℕ
+part_weight points = sum_by (λ p. weight_of_point p) points
 
 -- the table i counts so much more in each bin, and nothing else has changed
 pub record IsAdded (old new : List Slot) (i : ℕ) (more : ℕ → ℕ) : Type 0 where

@@ -6,7 +6,7 @@ use Rattle.node_arena.specs.Amounts.{Weighted, spots_in, amount_under}
 use Rattle.node_arena.specs.Shape.{home_of, HasHomes, HoldsSpots, HasTables, IsLinked, HasOneChild, SharesContent}
 use Rattle.node_arena.specs.Slots.{proper, target, Slot, link_of, slot_of, count, is_table}
 use Rattle.node_arena.specs.declared.link.Link.{Link}
-use Rattle.group_insert.specs.Later.{PutOff, address_of, IsPutOff, IsPut, AreInOrder}
+use Rattle.group_insert.specs.Later.{PutOff, link_address, IsPutOff, IsPut, AreInOrder}
 use Rattle.group_insert.specs.Turns.{EndedBefore, EndedAfter, IsOpenAbove}
 
 -- a link is there and leads to what holds the spot
@@ -45,7 +45,7 @@ pub record SharesWithin (slots : List Slot) (homes : List Walk) (done open' : Wa
 pub record PutsOff (slots : List Slot) (homes : List Walk) (h g : List Weighted) (done : Walk → Type 0) (put : List PutOff) : Type 0 where
   -- each may be, and its turn was when what is done was visited
   pub put_off : All (IsPutOff slots homes h g) put
-  pub ended : All (λ k. done (address_of homes k)) put
+  pub ended : All (λ k. done (link_address homes k)) put
   -- a node that is done and has such links will have two children
   pub wide : All (λ k. done (home_of homes k.node) → WillHaveTwo slots put k.node) put
   -- and a later one's walk meets no earlier one

@@ -18,8 +18,8 @@ pub record PutOff : Type 0 where
   pub way : Walk
 
 -- the address of the link, by the node's home
-abbrev pub address_of : List Walk → PutOff → Walk
-address_of homes k = down k.label ∷ home_of homes k.node
+abbrev pub link_address : List Walk → PutOff → Walk
+link_address homes k = down k.label ∷ home_of homes k.node
 
 -- what holds of a link while it is put off
 pub record IsPutOff (slots : List Slot) (homes : List Walk) (h g : List Weighted) (k : PutOff) : Type 0 where
@@ -29,9 +29,9 @@ pub record IsPutOff (slots : List Slot) (homes : List Walk) (h g : List Weighted
   -- there is no proper link, so nothing has its home at or below it
   pub free : (j : ℕ) → link_of slots k.node (down k.label) ≡ Some (proper j) → ⊥
   -- a point of the group lies under it
-  pub wanted : HasSpot (spots_in g) (address_of homes k)
+  pub wanted : HasSpot (spots_in g) (link_address homes k)
   -- and whatever lies under it, old and new, lies under the turn
-  pub turns : (q : SpotPath) → Contains (spots_in (g ++ h)) q → Under q (address_of homes k) → Under q (down k.turn ∷ home_of homes k.base)
+  pub turns : (q : SpotPath) → Contains (spots_in (g ++ h)) q → Under q (link_address homes k) → Under q (down k.turn ∷ home_of homes k.base)
 
 -- the link of a step is among them
 abbrev pub IsPut : List PutOff → ℕ → Step → Type 0
@@ -39,4 +39,4 @@ IsPut put i e = Any (λ k. (k.node ≡ i) × (down k.label ≡ e)) put
 
 -- in the order in which they were put off, by the addresses of the links
 abbrev pub AreInOrder : List Walk → List PutOff → Type 0
-AreInOrder homes put = AllPairs (λ j k. IsBefore (address_of homes j) (address_of homes k) → ⊥) put
+AreInOrder homes put = AllPairs (λ j k. IsBefore (link_address homes j) (link_address homes k) → ⊥) put

@@ -50,8 +50,8 @@ pub record CanPass (schema : Schema) (slots : List Slot) (dim level i : ℕ) (pa
   pub among : IsAmong (time_dim schema) counted (paths_of schema group) old homes i only from slots
 
 -- then those below `to` have been, for all of them that fitted
-abbrev pub Passes : Schema → List Slot → List Slot → ℕ → ℕ → ℕ → List Point → ℕ → ℕ → Type 0
-Passes schema before after dim level i part from to = (old : List Slot) (group : List Point) (homes : List Walk) (h : List Weighted) (only : Option ℕ) → IsVisitablePart schema group old dim level i part homes h → IsAmong (time_dim schema) h (paths_of schema group) old homes i only from before → IsAmong (time_dim schema) h (paths_of schema group) old homes i only to after
+abbrev pub PassesLabels : Schema → List Slot → List Slot → ℕ → ℕ → ℕ → List Point → ℕ → ℕ → Type 0
+PassesLabels schema before after dim level i part from to = (old : List Slot) (group : List Point) (homes : List Walk) (h : List Weighted) (only : Option ℕ) → IsVisitablePart schema group old dim level i part homes h → IsAmong (time_dim schema) h (paths_of schema group) old homes i only from before → IsAmong (time_dim schema) h (paths_of schema group) old homes i only to after
 
 -- the content has been visited, for all of them that fitted
 abbrev pub PassesContent : Schema → List Slot → List Slot → ℕ → ℕ → ℕ → List Point → Type 0
@@ -59,7 +59,7 @@ PassesContent schema old new dim level i part = (group : List Point) (homes : Li
 
 -- all labels have been visited, for all of them that fitted
 abbrev pub PassesAll : Schema → List Slot → List Slot → ℕ → ℕ → ℕ → List Point → Type 0
-PassesAll schema before after dim level i part = (from : ℕ) × Passes schema before after dim level i part 0 from × All (λ p. label_at schema dim (level + 1) p < from) part
+PassesAll schema before after dim level i part = (from : ℕ) × PassesLabels schema before after dim level i part 0 from × All (λ p. label_at schema dim (level + 1) p < from) part
 
 -- all labels of a node have been visited that has one label
 pub record CanShare (schema : Schema) (slots : List Slot) (dim level i : ℕ) (part : List Point) : Type 0 where

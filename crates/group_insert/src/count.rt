@@ -5,7 +5,7 @@ ghost use Rattle.cube_view.specs.Validity.{sound};
 ghost use Rattle.node_arena.specs.Calls.{table_add_many};
 ghost use Rattle.time_table.specs.Counts.{total_count};
 ghost use Rattle.node_arena.specs.Slots.{IsTable, slot_of, counts_of};
-ghost use Rattle.group_insert.specs.Added.{IsAdded, amount_in, weight_in};
+ghost use Rattle.group_insert.specs.Added.{IsAdded, amount_in, part_weight};
 
 use arena_undo::Work;
 use cube_view::{Point, Schema};
@@ -40,7 +40,7 @@ pub fn count_part(
     requires sound { All (λ p. IsTrue (sound schema.now p)) part.now }
     requires in_range { table.0 < length work.old.slots }
     requires is_table { IsTable (slot_of work.old.slots table.0) }
-    requires fits { total_count (counts_of (slot_of work.old.slots table.0)) + weight_in part.now ≤ 2 ^ 63 }
+    requires fits { total_count (counts_of (slot_of work.old.slots table.0)) + part_weight part.now ≤ 2 ^ 63 }
     ensures added { OnOk result (IsAdded work.old.slots work.new.slots table.0 (λ bin. amount_in part.now bin)) }
     ensures start { work.new.start ≡ work.old.start }
 {

@@ -1,0 +1,64 @@
+//! The insertion of a group of points.
+ghost use Rattle.std.specs.Prelude.{◌≡◌, ◌<◌, length, All, IsTrue, OnOk};
+ghost use Rattle.cube_view.specs.Places.{time_dim};
+ghost use Rattle.cube_view.specs.Validity.{sound};
+ghost use Rattle.probe_core.specs.Blanks.{IsBlankOf};
+ghost use Rattle.proper_path.specs.Paths.{paths_of};
+ghost use Rattle.group_insert.specs.InsertingAll.{CanInsertAll, InsertsAll};
+
+use crate::visits::{Part, visit};
+use arena_undo::Work;
+use cube_view::{Point, Schema};
+use node_arena::SlotId;
+use outer_io::NoMemory;
+use probe_core::Steps;
+use std::alloc::Global;
+use std::marker::Brand;
+use std::sync::ledger::{Blank, Ledger};
+
+/// Adds sound points to a cube's arena, each address that holds some of them visited once. For want of memory the arena
+/// holds the changes that were recorded.
+pub fn add_group(
+    alloc: Global,
+    work: &mut Work,
+    schema: &Schema,
+    points: &[Point],
+    root: SlotId,
+) -> Result<(), NoMemory>
+    requires sound { All (λ p. IsTrue (sound schema.now p)) points.now }
+    requires some { 0 < length points.now }
+    requires root { root.0 ≡ 0 }
+    requires known { ∥ CanInsertAll (time_dim schema.now) (paths_of schema.now points.now) work.old.slots ∥₁ }
+    ensures inserted { OnOk result (InsertsAll (time_dim schema.now) (paths_of schema.now points.now) work.old.slots work.new.slots) }
+    ensures start { work.new.start ≡ work.old.start }
+{
+    add_counted::<Brand>(alloc, work, schema, points, root, Blank::new(1))
+}
+
+/// The same, read in a ledger of its own. The points are copied, and the parts of the visits stand behind them.
+fn add_counted<L: Ledger>(
+    alloc: Global,
+    work: &mut Work,
+    schema: &Schema,
+    points: &[Point],
+    root: SlotId,
+    blank: Blank,
+) -> Result<(), NoMemory>
+    requires blank { IsBlankOf L.name L.parts blank }
+    requires sound { All (λ p. IsTrue (sound schema.now p)) points.now }
+    requires some { 0 < length points.now }
+    requires root { root.0 ≡ 0 }
+    requires known { ∥ CanInsertAll (time_dim schema.now) (paths_of schema.now points.now) work.old.slots ∥₁ }
+    ensures inserted { OnOk result (InsertsAll (time_dim schema.now) (paths_of schema.now points.now) work.old.slots work.new.slots) }
+    ensures start { work.new.start ≡ work.old.start }
+{
+    let Ok(mut pile) = Vec::from_slice(alloc, points) else {
+        return Err(NoMemory);
+    };
+    let whole = Part {
+        at: 0,
+        end: points.len(),
+    };
+    let mut steps = Steps::<L>::new(blank);
+    visit(work, schema, &mut pile, 1, 0, root, whole, &mut steps)
+}
