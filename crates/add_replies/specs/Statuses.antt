@@ -1,9 +1,10 @@
 -- The statuses of the program.
-use Rattle.std.specs.Prelude.{◌≡◌, ℕ, ◌<◌, List, [], ◌∷◌, length, Option, Result, Ok, Err, ⊤}
+use Rattle.std.specs.Prelude.{◌≡◌, ℕ, ◌<◌, List, [], ◌∷◌, length, Option, Result, Ok, Err, IfOk, ⊤}
 use Rattle.outer_io.specs.Files.{Files}
 use Rattle.run_files.specs.declared.stop.Stop.{Stop}
 use Rattle.run_files.specs.declared.stop.Stop.TheVariants as stop
-use Rattle.share_replies.specs.Ends.{AddsUpFiles}
+use Rattle.run_files.specs.Outside.{SinkSeen}
+use Rattle.share_replies.specs.Ends.{AddsUpFiles, SaysShares}
 use Rattle.share_replies.specs.declared.adding.Outcome.{Outcome}
 use Rattle.share_replies.specs.declared.adding.Outcome.TheVariants as outcome
 use Rattle.add_replies.specs.declared.status.Status.{Status}
@@ -33,6 +34,11 @@ exit_code_of Refused = 9
 -- the status is that of an end which obeys the law of sums over these files
 abbrev pub EndsByLaw : Option Files → List ℕ → List ℕ → List (List ℕ) → Option (List ℕ) → Option (List ℕ) → Status → Type 0
 EndsByLaw files plan script replies before after status = (end : Result Outcome Stop) × AddsUpFiles files plan script replies before after end × (status ≡ status_of end)
+
+-- the status is that of an end which says of the shares that all are right, or which is the first that is wrong
+abbrev pub Says : {O : Type 0} → SinkSeen O → O → O → Option Files → List ℕ → List ℕ → List (List ℕ) → Status → Type 0
+Says s out out' files plan script replies status =
+    (end : Result Outcome Stop) × IfOk end (SaysShares s out out' files (record { plan = plan; script = script; replies = replies })) × (status ≡ status_of end)
 
 -- the most shares
 abbrev pub most_shares : ℕ

@@ -1,6 +1,7 @@
 //! The top call.
 ghost use Rattle.std.specs.Prelude.{◌≡◌, map, string_bytes};
-ghost use Rattle.add_replies.specs.Statuses.{EndsByLaw, IfForm};
+ghost use Rattle.run_files.specs.Outside.{seen_sink};
+ghost use Rattle.add_replies.specs.Statuses.{EndsByLaw, Says, IfForm};
 
 use crate::status::Status;
 use outer_io::{Place, Sink};
@@ -20,6 +21,7 @@ fn add_named<P: Place, O: Sink>(
     out: &mut O,
 ) -> Status
     ensures law { EndsByLaw (P.files place.old) plan.now script.now (map string_bytes replies.now) (O.held out.old) (O.held out.new) result }
+    ensures says { Says (seen_sink O.held O.faults O.name) out.old out.new (P.files place.old) plan.now script.now (map string_bytes replies.now) result }
     ensures files { P.files place.new ≡ P.files place.old }
 {
     let names = ShareNames {
@@ -39,6 +41,7 @@ pub fn add_replies<P: Place, O: Sink>(
     out: &mut O,
 ) -> Status
     ensures law { IfForm (map string_bytes words.now) (λ p s rs. EndsByLaw (P.files place.old) p s rs (O.held out.old) (O.held out.new) result) }
+    ensures says { IfForm (map string_bytes words.now) (λ p s r. Says (seen_sink O.held O.faults O.name) out.old out.new (P.files place.old) p s r result) }
     ensures usage { result ≡ Status.Usage → (place.new ≡ place.old) × (out.new ≡ out.old) }
     ensures files { P.files place.new ≡ P.files place.old }
 {
