@@ -6,6 +6,7 @@ pub mod LineFaults
 pub mod Refusing
 pub mod FileSums
 pub mod RightFiles
+pub mod OneRefusal
 pub mod Asking
 pub mod Outcomes
 pub mod Saying

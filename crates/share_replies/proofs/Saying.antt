@@ -14,7 +14,8 @@ use Rattle.run_files.specs.Outside.{file_of, Puts, Silent, SinkSeen}
 use Rattle.run_files.specs.Planned.{IsPlanOf}
 use Rattle.run_files.specs.declared.stop.Stop.{Stop}
 use Rattle.session_core.specs.Asked.{asked, asked_reply}
-use Rattle.share_replies.specs.Ends.{FileNames, SaysShares, SaysSums}
+use Rattle.share_replies.specs.Ends.{FileNames, IsWrongShare, SaysShares, SaysSums}
+use Rattle.share_replies.proofs.OneRefusal.{first_one, right_none}
 use Rattle.share_replies.specs.Refusals.{AreRight, DecidesFiles, DecidesScript, asks_of, first_totals, totals_of}
 use Rattle.share_replies.specs.Shares.{nothing}
 use Rattle.share_replies.specs.Sums.{SumsOver}
@@ -22,6 +23,7 @@ use Rattle.share_replies.specs.declared.adding.Outcome.{Outcome}
 use Rattle.share_replies.specs.declared.adding.Outcome.TheVariants as outcome
 use Rattle.share_replies.specs.declared.fault.SharesFault.{SharesFault}
 use Rattle.share_replies.specs.declared.fault.SharesFault.TheVariants as shares
+use Rattle.share_replies.specs.declared.fault.Why.{Why}
 use Rattle.share_replies.specs.declared.summed.Summed.{Summed}
 
 -- the totals of no replies
@@ -51,6 +53,12 @@ decides_script schema told now name names ps first bytes r same whole asks none 
 pub stopped_decides : (schema : Schema) (told : Option Files) (name : List ℕ) (names : List (List ℕ)) (stop : Stop) → DecidesScript schema told name names (Err (shares.Stopped stop))
 stopped_decides schema told name names stop = record { right = tt; wrong = λ k line w e. cc }
 
+-- where a share is the first that is wrong, no other is
+only_one : (told : Option Files) (schema : Schema) (names : FileNames) (share line : ℕ) (w : Why) → Told told (λ files. IsWrongShare schema names files share line w)
+    → Told told (λ files. (k l : ℕ) (v : Why) → IsWrongShare schema names files k l v → (k ≡ share) × (l ≡ line) × (v ≡ w))
+only_one None schema names share line w wrong = tt
+only_one (Some files) schema names share line w wrong = λ k l v other. first_one (asks_of schema files names.script) (map (file_or_empty files) names.replies) _ k share l line v w other wrong
+
 -- two claims of one outcome
 pub both_of : {T E : Type 0} (r : Result T E) (P Q : T → Type 0) → IfOk r P → IfOk r Q → IfOk r (λ x. P x × Q x)
 both_of (Ok x) P Q p q = (p, q)
@@ -71,12 +79,17 @@ module _ {O : Type 0} (s : SinkSeen O) (a b d : O) where
   says_shares told now names plan (Err (shares.Stopped stop)) (Ok o) silent same is decides says = absurd says
   says_shares told now names plan (Err (shares.Wrong k line w)) (Ok o) silent same is decides says =
       let here = subst (λ (f : Option Files). DecidesScript plan.schema f names.script names.replies (Err (shares.Wrong k line w))) same decides in
-      subst (SaysShares s a d told names) (sym says.0) (record { plan = plan; is_plan = is; share = k; line = line; wrong = here.wrong k line w refl; puts = puts_after _ silent says.1 })
+      subst (SaysShares s a d told names) (sym says.0) (record { plan = plan; is_plan = is; share = k; line = line; wrong = here.wrong k line w refl; only = only_one told plan.schema names k line w (here.wrong k line w refl); puts = puts_after _ silent says.1 })
   says_shares told now names plan (Ok last) (Ok o) silent same is decides says =
       let here = subst (λ (f : Option Files). DecidesScript plan.schema f names.script names.replies (Ok last)) same decides in
-      subst (SaysShares s a d told names) (sym says) (record { plan = plan; is_plan = is; right = some told here.right })
+      subst (SaysShares s a d told names) (sym says) (record { plan = plan; is_plan = is; right = some told here.right; none = none_wrong told here.right })
     where
       some : (told : Option Files) → Told told (λ files. AreRight (asks_of plan.schema files names.script) (first_totals plan.schema (asks_of plan.schema files names.script)) (map (file_or_empty files) names.replies) (totals_of last))
           → Told told (λ files. (all : List (Option Reply)) × AreRight (asks_of plan.schema files names.script) (first_totals plan.schema (asks_of plan.schema files names.script)) (map (file_or_empty files) names.replies) all)
       some None right = tt
       some (Some files) right = (totals_of last, right)
+
+      none_wrong : (told : Option Files) → Told told (λ files. AreRight (asks_of plan.schema files names.script) (first_totals plan.schema (asks_of plan.schema files names.script)) (map (file_or_empty files) names.replies) (totals_of last))
+          → Told told (λ files. (k l : ℕ) (v : Why) → ¬ IsWrongShare plan.schema names files k l v)
+      none_wrong None right = tt
+      none_wrong (Some files) right = λ k l v. right_none (asks_of plan.schema files names.script) (map (file_or_empty files) names.replies) _ (totals_of last) k l v right

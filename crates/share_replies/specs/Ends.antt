@@ -60,6 +60,10 @@ pub record FileNames : Type 0 where
 abbrev pub names_of : ShareNames → FileNames
 names_of names = record { plan = names.plan.now; script = names.script.now; replies = map string_bytes names.replies.now }
 
+-- under a schema, in these files, the share of that place is the first that is wrong, this line is its first, and so it is
+abbrev pub IsWrongShare : Schema → FileNames → Files → ℕ → ℕ → Why → Type 0
+IsWrongShare schema names files = IsFirstWrong (asks_of schema files names.script) (first_totals schema (asks_of schema files names.script)) (map (file_or_empty files) names.replies)
+
 -- What a refusal of a share says
 pub record RefusesShare {O : Type 0} (s : SinkSeen O) (out out' : O) (told : Option Files) (names : FileNames) (w : Why) : Type 0 where
   -- under the plan
@@ -68,7 +72,9 @@ pub record RefusesShare {O : Type 0} (s : SinkSeen O) (out out' : O) (told : Opt
   -- this share is the first that is wrong, and this line the first of it
   pub share : ℕ
   pub line : ℕ
-  pub wrong : Told told (λ files. IsFirstWrong (asks_of plan.schema files names.script) (first_totals plan.schema (asks_of plan.schema files names.script)) (map (file_or_empty files) names.replies) share line w)
+  pub wrong : Told told (λ files. IsWrongShare plan.schema names files share line w)
+  -- and no other is
+  pub only : Told told (λ files. (k l : ℕ) (v : Why) → IsWrongShare plan.schema names files k l v → (k ≡ share) × (l ≡ line) × (v ≡ w))
   -- which is said, and nothing else
   pub puts : Puts s out out' (wrong_line (get_or names.replies share []) line w)
 
@@ -79,6 +85,8 @@ pub record TakesShares (told : Option Files) (names : FileNames) : Type 0 where
   pub is_plan : IsPlanOf (file_of told names.plan) plan
   -- no line of a share is wrong
   pub right : Told told (λ files. (last : List (Option Reply)) × AreRight (asks_of plan.schema files names.script) (first_totals plan.schema (asks_of plan.schema files names.script)) (map (file_or_empty files) names.replies) last)
+  -- so none is the first that is
+  pub none : Told told (λ files. (k l : ℕ) (v : Why) → ¬ IsWrongShare plan.schema names files k l v)
 
 -- what an outcome says of shares: all are right, or the first wrong line is refused
 abbrev pub SaysShares : {O : Type 0} → SinkSeen O → O → O → Option Files → FileNames → Outcome → Type 0
