@@ -3,7 +3,8 @@ use Rattle.std.specs.Prelude.{◌≡◌, ℕ, ◌<◌, List, [], ◌∷◌, leng
 use Rattle.outer_io.specs.Files.{Files}
 use Rattle.run_files.specs.declared.stop.Stop.{Stop}
 use Rattle.run_files.specs.declared.stop.Stop.TheVariants as stop
-use Rattle.run_files.specs.Outside.{SinkSeen}
+use Rattle.run_files.specs.Outside.{PlaceSeen, SinkSeen}
+use Rattle.share_replies.specs.Causes.{SharesEnd}
 use Rattle.share_replies.specs.Ends.{AddsUpFiles, SaysShares}
 use Rattle.share_replies.specs.declared.adding.Outcome.{Outcome}
 use Rattle.share_replies.specs.declared.adding.Outcome.TheVariants as outcome
@@ -39,6 +40,11 @@ EndsByLaw files plan script replies before after status = (end : Result Outcome 
 abbrev pub Says : {O : Type 0} → SinkSeen O → O → O → Option Files → List ℕ → List ℕ → List (List ℕ) → Status → Type 0
 Says s out out' files plan script replies status =
     (end : Result Outcome Stop) × IfOk end (SaysShares s out out' files (record { plan = plan; script = script; replies = replies })) × (status ≡ status_of end)
+
+-- the status is that of an end which has its cause
+abbrev pub EndsWithCause : {P O : Type 0} → PlaceSeen P → SinkSeen O → P → P → O → O → List ℕ → List ℕ → List (List ℕ) → Status → Type 0
+EndsWithCause p s place place' out out' plan script replies status =
+    (end : Result Outcome Stop) × SharesEnd p s place place' out out' (record { plan = plan; script = script; replies = replies }) end × (status ≡ status_of end)
 
 -- the most shares
 abbrev pub most_shares : ℕ

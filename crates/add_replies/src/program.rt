@@ -1,7 +1,7 @@
 //! The top call.
 ghost use Rattle.std.specs.Prelude.{◌≡◌, map, string_bytes};
-ghost use Rattle.run_files.specs.Outside.{seen_sink};
-ghost use Rattle.add_replies.specs.Statuses.{EndsByLaw, Says, IfForm};
+ghost use Rattle.run_files.specs.Outside.{seen_place, seen_sink};
+ghost use Rattle.add_replies.specs.Statuses.{EndsByLaw, EndsWithCause, Says, IfForm};
 
 use crate::status::Status;
 use outer_io::{Place, Sink};
@@ -22,6 +22,7 @@ fn add_named<P: Place, O: Sink>(
 ) -> Status
     ensures law { EndsByLaw (P.files place.old) plan.now script.now (map string_bytes replies.now) (O.held out.old) (O.held out.new) result }
     ensures says { Says (seen_sink O.held O.faults O.name) out.old out.new (P.files place.old) plan.now script.now (map string_bytes replies.now) result }
+    ensures ends { let r = map string_bytes replies.now in EndsWithCause (seen_place P.files P.read_faults P.write_faults P.opened P.created) (seen_sink O.held O.faults O.name) place.old place.new out.old out.new plan.now script.now r result }
     ensures files { P.files place.new ≡ P.files place.old }
 {
     let names = ShareNames {
@@ -42,6 +43,7 @@ pub fn add_replies<P: Place, O: Sink>(
 ) -> Status
     ensures law { IfForm (map string_bytes words.now) (λ p s rs. EndsByLaw (P.files place.old) p s rs (O.held out.old) (O.held out.new) result) }
     ensures says { IfForm (map string_bytes words.now) (λ p s r. Says (seen_sink O.held O.faults O.name) out.old out.new (P.files place.old) p s r result) }
+    ensures ends { IfForm (map string_bytes words.now) (λ p s r. EndsWithCause (seen_place P.files P.read_faults P.write_faults P.opened P.created) (seen_sink O.held O.faults O.name) place.old place.new out.old out.new p s r result) }
     ensures usage { result ≡ Status.Usage → (place.new ≡ place.old) × (out.new ≡ out.old) }
     ensures files { P.files place.new ≡ P.files place.old }
 {

@@ -10,3 +10,4 @@ pub mod OneRefusal
 pub mod Asking
 pub mod Outcomes
 pub mod Saying
+pub mod Ending

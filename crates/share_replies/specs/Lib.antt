@@ -3,3 +3,4 @@ pub mod Sums
 pub mod Refusals
 pub mod Texts
 pub mod Ends
+pub mod Causes

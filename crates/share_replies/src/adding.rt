@@ -1,9 +1,10 @@
 //! The replies of shares added, from files.
-ghost use Rattle.std.specs.Prelude.{◌≡◌, ℕ, ◌<◌, ◌++◌, Err, List, IfOk, OnOk, length, map, string_bytes};
+ghost use Rattle.std.specs.Prelude.{◌≡◌, ℕ, ◌<◌, ◌++◌, ◌∷◌, Err, List, IfErr, IfOk, OnOk, length, map, string_bytes};
 ghost use Rattle.outer_io.specs.Faults.{HasCause};
 ghost use Rattle.cube_view.specs.declared.schema.Schema.{Schema};
 ghost use Rattle.query_syntax.specs.declared.query.Parsed.{Parsed};
-ghost use Rattle.run_files.specs.Outside.{Puts, seen_sink};
+ghost use Rattle.run_files.specs.Outside.{Puts, seen_place, seen_sink};
+ghost use Rattle.share_replies.specs.Causes.{IsPutEnd, PutsAfter, ReadsFront, SharesEnd, stop_in_shares, stop_of_shares};
 ghost use Rattle.share_replies.specs.Ends.{AddsUpFiles, AreSumsOver, OutcomeOver, SaysFault, SaysShares, SaysSums, SumsOfFiles, names_of};
 ghost use Rattle.share_replies.specs.Refusals.{DecidesScript};
 ghost use Rattle.share_replies.specs.Shares.{Share};
@@ -78,6 +79,7 @@ fn refuse<O: Sink>(
     ensures outcome { IfOk result (λ outcome. outcome ≡ Outcome.Refused why) }
     ensures puts { IfOk result (λ outcome. Puts (seen_sink O.held O.faults O.name) out.old out.new (wrong_line name.now line why)) }
     ensures cause { HasCause (O.faults out.old) (O.faults out.new) result Stop.WriteFault }
+    ensures ends { IfErr result IsPutEnd }
 {
     let Ok(text) = wrong_line(alloc, name, line, why) else {
         return Err(Stop::NoMemory);
@@ -97,6 +99,7 @@ fn sums_of<P: Place>(
     ensures law { SumsOfFiles schema.now (P.files place.old) script.now (map string_bytes replies.now) result }
     ensures decides { DecidesScript schema.now (P.files place.old) script.now (map string_bytes replies.now) result }
     ensures share { (k line : ℕ) (why : Why) → result ≡ Err (SharesFault.Wrong k line why) → k < length replies.now }
+    ensures stage { ReadsFront (seen_place P.files P.read_faults P.write_faults P.opened P.created) place.old place.new (script.now ∷ map string_bytes replies.now) (stop_in_shares result) }
     ensures files { P.files place.new ≡ P.files place.old }
 {
     let script = match read_text(alloc, script, place) {
@@ -121,6 +124,7 @@ fn say_fault<O: Sink>(
 ) -> Result<Outcome, Stop>
     requires share { (k line : ℕ) (why : Why) → fault ≡ SharesFault.Wrong k line why → k < length replies.now }
     ensures says { IfOk result (SaysFault (seen_sink O.held O.faults O.name) out.old out.new (map string_bytes replies.now) fault) }
+    ensures puts { PutsAfter (seen_sink O.held O.faults O.name) out.old out.new (stop_of_shares fault) result }
     ensures law { (z : Schema) (s : Share) (ps : List Parsed) → IsInnocentShares fault → IfOk result (OutcomeOver z ps s (O.held out.old) (O.held out.new)) }
 {
     match fault {
@@ -140,6 +144,7 @@ fn put_outcome<O: Sink>(
 ) -> Result<Outcome, Stop>
     requires share { (k line : ℕ) (why : Why) → sums ≡ Err (SharesFault.Wrong k line why) → k < length replies.now }
     ensures says { IfOk result (SaysSums (seen_sink O.held O.faults O.name) out.old out.new (map string_bytes replies.now) sums) }
+    ensures puts { PutsAfter (seen_sink O.held O.faults O.name) out.old out.new (stop_in_shares sums) result }
     ensures law { (z : Schema) (s : Share) (ps : List Parsed) → AreSumsOver z s ps sums → IfOk result (OutcomeOver z ps s (O.held out.old) (O.held out.new)) }
 {
     let sums = match sums {
@@ -165,6 +170,7 @@ pub fn add_shares<P: Place, O: Sink>(
 ) -> Result<Outcome, Stop>
     ensures law { let n = names.now in AddsUpFiles (P.files place.old) n.plan.now n.script.now (map string_bytes n.replies.now) (O.held out.old) (O.held out.new) result }
     ensures shares { IfOk result (SaysShares (seen_sink O.held O.faults O.name) out.old out.new (P.files place.old) (names_of names.now)) }
+    ensures ends { let n = names_of names.now in SharesEnd (seen_place P.files P.read_faults P.write_faults P.opened P.created) (seen_sink O.held O.faults O.name) place.old place.new out.old out.new n result }
     ensures files { P.files place.new ≡ P.files place.old }
 {
     let plan = load_plan(alloc, names.plan, place, out)?;

@@ -1,11 +1,13 @@
 //! The replies of shares, from files.
-ghost use Rattle.std.specs.Prelude.{◌≡◌, ℕ, ◌<◌, ◌≤◌, All, IfOk, Err, length, map, string_bytes};
+ghost use Rattle.std.specs.Prelude.{◌≡◌, ℕ, ◌<◌, ◌≤◌, All, IfOk, Err, [], ◌∷◌, length, map, string_bytes};
+ghost use Rattle.std.specs.Result.{result_err};
 ghost use Rattle.cube_view.specs.declared.schema.Schema.{Schema};
-ghost use Rattle.outer_io.specs.Faults.{HasCause};
 ghost use Rattle.outer_io.specs.Lines.{input_limit};
 ghost use Rattle.outer_io.specs.Told.{Told};
 ghost use Rattle.reply_sums.specs.Sums.{AsksShallow};
-ghost use Rattle.run_files.specs.Outside.{file_of};
+ghost use Rattle.run_files.specs.Outside.{file_of, seen_place};
+ghost use Rattle.run_files.specs.declared.stop.Stop.{Stop};
+ghost use Rattle.share_replies.specs.Causes.{ReadsFiles, ReadsFront, stop_in_file, stop_in_shares, stop_of_file, stop_of_shares};
 ghost use Rattle.share_replies.specs.Refusals.{DecidesFile, DecidesFiles, totals_of};
 ghost use Rattle.share_replies.specs.Sums.{AddsFile, AddsFiles, IsInnocentFile, IsInnocentShares, IsInnocentText};
 ghost use Rattle.share_replies.specs.declared.fault.Why.{Why};
@@ -30,7 +32,7 @@ pub(crate) fn read_text<P: Place>(
     ensures whole { IfOk result (λ bytes. Told (file_of (P.files place.old) name.now) (λ all. bytes ≡ all)) }
     ensures short { IfOk result (λ bytes. length bytes ≤ input_limit) }
     ensures files { P.files place.new ≡ P.files place.old }
-    ensures cause { HasCause (P.read_faults place.old) (P.read_faults place.new) result Stop.ReadFault }
+    ensures stage { ReadsFiles (seen_place P.files P.read_faults P.write_faults P.opened P.created) place.old place.new (name.now ∷ []) (result_err result) }
 {
     let bytes = read_file(alloc, name, LONGEST_TEXT, place)?;
     if bytes.len() > LONGEST_TEXT {
@@ -42,6 +44,7 @@ pub(crate) fn read_text<P: Place>(
 fn fault_of_text(fault: TextFault) -> FileFault
     ensures innocent { IsInnocentText fault → IsInnocentFile result }
     ensures at { (line : ℕ) (w : Why) → result ≡ FileFault.Wrong line w → fault ≡ TextFault.At line w }
+    ensures memory { (stop : Stop) → result ≡ FileFault.Stopped stop → stop ≡ Stop.NoMemory }
 {
     match fault {
         TextFault::NoMemory => FileFault::Stopped(Stop::NoMemory),
@@ -52,6 +55,7 @@ fn fault_of_text(fault: TextFault) -> FileFault
 fn fault_of_share(fault: FileFault, share: usize) -> SharesFault
     ensures innocent { IsInnocentFile fault → IsInnocentShares result }
     ensures at { (k line : ℕ) (w : Why) → result ≡ SharesFault.Wrong k line w → (k ≡ share) × (fault ≡ FileFault.Wrong line w) }
+    ensures stop { stop_of_shares result ≡ stop_of_file fault }
 {
     match fault {
         FileFault::Stopped(stop) => SharesFault::Stopped(stop),
@@ -72,6 +76,7 @@ fn add_file<P: Place>(
     ensures law { (schema : Schema) → AddsFile schema asked.now sums.now (file_of (P.files place.old) name.now) result }
     ensures decides { DecidesFile (file_of (P.files place.old) name.now) asked.now sums.now result }
     ensures size { IfOk result (λ next. length next ≡ length asked.now) }
+    ensures stage { ReadsFiles (seen_place P.files P.read_faults P.write_faults P.opened P.created) place.old place.new (name.now ∷ []) (stop_in_file result) }
     ensures files { P.files place.new ≡ P.files place.old }
 {
     let bytes = match read_text(alloc, name, place) {
@@ -97,6 +102,7 @@ pub(crate) fn add_files<P: Place>(
     ensures law { (schema : Schema) → AddsFiles schema asked.now first (P.files place.old) (map string_bytes names.now) result }
     ensures share { (k line : ℕ) (why : Why) → result ≡ Err (SharesFault.Wrong k line why) → k < length names.now }
     ensures decides { DecidesFiles (P.files place.old) asked.now (totals_of first) (map string_bytes names.now) result }
+    ensures stage { ReadsFront (seen_place P.files P.read_faults P.write_faults P.opened P.created) place.old place.new (map string_bytes names.now) (stop_in_shares result) }
     ensures files { P.files place.new ≡ P.files place.old }
 {
     let mut sums = first;

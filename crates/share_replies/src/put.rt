@@ -1,5 +1,5 @@
 //! The lines of sums, put.
-ghost use Rattle.std.specs.Prelude.{◌≡◌, List, IfOk, OnOk, IsTrue};
+ghost use Rattle.std.specs.Prelude.{◌≡◌, List, IfErr, IfOk, OnOk, IsTrue};
 ghost use Rattle.cube_view.specs.declared.schema.Schema.{Schema};
 ghost use Rattle.outer_io.specs.Bytes.{Gains};
 ghost use Rattle.outer_io.specs.Faults.{HasCause};
@@ -9,6 +9,7 @@ ghost use Rattle.reply_json.specs.Validity.{is_valid_reply};
 ghost use Rattle.reply_sums.specs.Additive.{adds_up};
 ghost use Rattle.session_core.specs.Asked.{reply_line};
 ghost use Rattle.run_files.specs.Outside.{Puts, seen_sink};
+ghost use Rattle.share_replies.specs.Causes.{IsPutEnd};
 ghost use Rattle.share_replies.specs.Shares.{Share};
 ghost use Rattle.share_replies.specs.Sums.{IsSumOver, SumsOver};
 ghost use Rattle.share_replies.specs.Texts.{IsLineOver, PutsSumLine, PutsSums, not_additive_line};
@@ -45,6 +46,7 @@ pub(crate) fn put_bytes<O: Sink>(bytes: &[u8], out: &mut O) -> Result<(), Stop>
     ensures put { OnOk result (Gains (O.held out.old) (O.held out.new) bytes.now) }
     ensures all { OnOk result (Puts (seen_sink O.held O.faults O.name) out.old out.new bytes.now) }
     ensures cause { HasCause (O.faults out.old) (O.faults out.new) result Stop.WriteFault }
+    ensures ends { IfErr result IsPutEnd }
 {
     match out.put(bytes) {
         Ok(()) => Ok(()),
@@ -57,6 +59,7 @@ pub(crate) fn put_bytes<O: Sink>(bytes: &[u8], out: &mut O) -> Result<(), Stop>
 fn put_sum<O: Sink>(alloc: Global, sum: &Option<Summed>, out: &mut O) -> Result<(), Stop>
     ensures law { (z : Schema) (s : Share) (p : Parsed) → IsSumOver z s p sum.now → OnOk result (PutsSumLine z s p (O.held out.old) (O.held out.new)) }
     ensures cause { HasCause (O.faults out.old) (O.faults out.new) result Stop.WriteFault }
+    ensures ends { IfErr result IsPutEnd }
 {
     let Some(sum) = sum else {
         return put_bytes(not_additive_line().as_bytes(), out);
@@ -74,6 +77,7 @@ fn put_sum<O: Sink>(alloc: Global, sum: &Option<Summed>, out: &mut O) -> Result<
 pub fn put_sums<O: Sink>(alloc: Global, sums: &[Option<Summed>], out: &mut O) -> Result<(), Stop>
     ensures law { (z : Schema) (s : Share) (ps : List Parsed) → SumsOver z s ps sums.now → OnOk result (PutsSums z s ps (O.held out.old) (O.held out.new)) }
     ensures cause { HasCause (O.faults out.old) (O.faults out.new) result Stop.WriteFault }
+    ensures ends { IfErr result IsPutEnd }
 {
     for i in 0..sums.len() {
         put_sum(alloc, &sums[i], out)?;

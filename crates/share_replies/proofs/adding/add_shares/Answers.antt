@@ -1,4 +1,4 @@
-use Rattle.std.proofs.Common.{◌≡◌, [], ◌∷◌, List, ℕ, Option, IfOk, None, map, ◌∙◌, ap, subst}
+use Rattle.std.proofs.Common.{◌≡◌, [], ◌∷◌, List, ℕ, Option, IfOk, None, map, ◌∙◌, ap, subst, sym}
 use Rattle.std.specs.Prelude.{string_bytes}
 use Rattle.outer_io.specs.Files.{Files, file_or_empty}
 use Rattle.outer_io.specs.Lines.{lines}
@@ -10,6 +10,11 @@ use Rattle.share_replies.specs.Ends.{OutcomeOver, names_of}
 use Rattle.share_replies.specs.Shares.{together}
 use Rattle.share_replies.proofs.Outcomes.{some_plan, under_plan}
 use Rattle.share_replies.proofs.Saying.{says_shares}
+use Rattle.run_files.proofs.Apart.{residual_is}
+use Rattle.run_files.specs.declared.stop.Stop.{Stop}
+use Rattle.share_replies.specs.Causes.{SharesEnd}
+use Rattle.share_replies.specs.declared.adding.Outcome.{Outcome}
+use Rattle.share_replies.proofs.Ending.{ended_after, ended_by_plan}
 use Rattle.share_replies.proofs.adding.add_shares.Goals as goal
 
 pub returns-clause-law : goal.returns-clause-law
@@ -35,3 +40,16 @@ returns-clause-shares g c =
     let kept : g.P.Place.files c.load_plan.new.place ≡ g.P.Place.files c.args.place.now = same_files p c.args.place.now c.load_plan.new.place (c.args.names.now.plan.now ∷ []) None c.in_ok-plan.ensures.leaves in
     says_shares (seen_sink g.O.Sink.held g.O.Sink.faults g.O.Sink.name) c.args.out.now c.load_plan.new.out c.put_outcome.new.out (g.P.Place.files c.args.place.now) (g.P.Place.files c.load_plan.new.place) (names_of c.args.names.now) c.in_ok-plan.plan
     c.sums_of-sums.result c.put_outcome.result (c.in_ok-plan.ensures.plan.silent (λ e. cc)) kept c.in_ok-plan.ensures.plan.plan c.sums_of-sums.ensures.decides c.put_outcome.ensures.says
+
+pub returns-in_err-plan-clause-ends : goal.returns-in_err-plan-clause-ends
+returns-in_err-plan-clause-ends g c =
+    let p = seen_place g.P.Place.files g.P.Place.read_faults g.P.Place.write_faults g.P.Place.opened g.P.Place.created in
+    let s = seen_sink g.O.Sink.held g.O.Sink.faults g.O.Sink.name in
+    let names = names_of c.args.names.now in
+    subst (SharesEnd p s c.args.place.now c.load_plan.new.place c.args.out.now c.load_plan.new.out names) (sym (residual_is c.from_residual.result c.in_err-plan.field-0.0 c.from_residual.ensures.1))
+    (ended_by_plan p s names c.args.place.now c.load_plan.new.place c.args.out.now c.load_plan.new.out c.in_err-plan.field-0.0 c.in_err-plan.ensures.leaves c.in_err-plan.ensures.plan)
+
+pub returns-clause-ends : goal.returns-clause-ends
+returns-clause-ends g c =
+    ended_after (seen_place g.P.Place.files g.P.Place.read_faults g.P.Place.write_faults g.P.Place.opened g.P.Place.created) (seen_sink g.O.Sink.held g.O.Sink.faults g.O.Sink.name) (names_of c.args.names.now) c.args.place.now c.load_plan.new.place c.sums_of-sums.new.place c.args.out.now c.load_plan.new.out c.put_outcome.new.out c.in_ok-plan.plan
+    c.in_ok-plan.ensures.leaves c.in_ok-plan.ensures.plan _ c.put_outcome.result c.sums_of-sums.ensures.stage c.put_outcome.ensures.puts

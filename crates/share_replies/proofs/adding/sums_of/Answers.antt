@@ -1,10 +1,10 @@
-use Rattle.std.proofs.Common.{All, IsTrue, List, ℕ, Option, map, sym, ◌∙◌, ap, subst}
+use Rattle.std.proofs.Common.{[], ◌∷◌, All, IsTrue, List, ℕ, Option, map, sym, ◌∙◌, ap, subst}
 use Rattle.std.specs.Prelude.{string_bytes}
 use Rattle.outer_io.specs.Files.{Files, file_or_empty}
 use Rattle.outer_io.specs.Lines.{lines}
 use Rattle.query_syntax.specs.Meaning.{asks_valid}
 use Rattle.query_syntax.specs.declared.query.Parsed.{Parsed}
-use Rattle.run_files.specs.Outside.{file_of}
+use Rattle.run_files.specs.Outside.{file_of, seen_place}
 use Rattle.session_core.specs.Asked.{asked}
 use Rattle.share_replies.specs.Shares.{nothing}
 use Rattle.share_replies.specs.Sums.{SumsOver}
@@ -12,6 +12,7 @@ use Rattle.share_replies.proofs.Asking.{all_shallow}
 use Rattle.share_replies.proofs.FileSums.{told_is}
 use Rattle.share_replies.proofs.Outcomes.{sums_asked}
 use Rattle.share_replies.proofs.Saying.{decides_script, stopped_decides}
+use Rattle.share_replies.proofs.Ending.{files_lacked, front_one, front_then}
 use Rattle.share_replies.proofs.adding.sums_of.Goals as goal
 
 pub add_files-requires-clause-shallow : goal.add_files-requires-clause-shallow
@@ -37,3 +38,23 @@ returns-clause-decides g c =
     let first = subst (λ (qs : List Parsed). SumsOver schema nothing qs c.in-Ok-first_sums.first) (c.as_slice-2.ensures ∙ sym c.as_slice-3.ensures) c.in-Ok-first_sums.ensures.sums in
     decides_script schema (g.P.Place.files c.args.place.now) _ c.args.script.now (map string_bytes c.args.replies.now) c.as_slice-3.result.now c.in-Ok-first_sums.first c.in-Ok.script c.add_files.result
     c.in-Ok.ensures.files c.in-Ok.ensures.whole asks first c.add_files.ensures.decides
+
+pub returns-in-Err-clause-stage : goal.returns-in-Err-clause-stage
+returns-in-Err-clause-stage g c = front_one (seen_place g.P.Place.files g.P.Place.read_faults g.P.Place.write_faults g.P.Place.opened g.P.Place.created) c.args.place.now c.read_text.new.place c.args.script.now (map string_bytes c.args.replies.now) _ c.in-Err.ensures.stage
+
+pub returns-clause-stage : goal.returns-clause-stage
+returns-clause-stage g c =
+    front_then (seen_place g.P.Place.files g.P.Place.read_faults g.P.Place.write_faults g.P.Place.opened g.P.Place.created) c.args.place.now c.read_text.new.place c.add_files.new.place c.args.script.now (map string_bytes c.args.replies.now) _
+    c.in-Ok.ensures.stage.leaves c.add_files.ensures.stage
+
+pub returns-in_default-clause-stage : goal.returns-in_default-clause-stage
+returns-in_default-clause-stage g c =
+    let p = seen_place g.P.Place.files g.P.Place.read_faults g.P.Place.write_faults g.P.Place.opened g.P.Place.created in
+    let script = c.args.script.now in
+    front_one p c.args.place.now c.read_text.new.place script (map string_bytes c.args.replies.now) _ (files_lacked p c.args.place.now c.read_text.new.place (script ∷ []) c.in-Ok.ensures.stage.leaves)
+
+pub returns-in_default-first_sums-clause-stage : goal.returns-in_default-first_sums-clause-stage
+returns-in_default-first_sums-clause-stage g c =
+    let p = seen_place g.P.Place.files g.P.Place.read_faults g.P.Place.write_faults g.P.Place.opened g.P.Place.created in
+    let script = c.args.script.now in
+    front_one p c.args.place.now c.read_text.new.place script (map string_bytes c.args.replies.now) _ (files_lacked p c.args.place.now c.read_text.new.place (script ∷ []) c.in-Ok.ensures.stage.leaves)

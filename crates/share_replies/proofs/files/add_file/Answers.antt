@@ -1,9 +1,10 @@
 use Rattle.std.proofs.Common.{Err, sym, ◌∙◌, ap, subst}
-use Rattle.run_files.specs.Outside.{file_of}
+use Rattle.run_files.specs.Outside.{file_of, seen_place}
 use Rattle.share_replies.specs.Shares.{IsShare}
 use Rattle.share_replies.specs.Refusals.{IsRight, IsWrongAt, totals_of}
 use Rattle.share_replies.proofs.FileSums.{told_is}
 use Rattle.share_replies.proofs.RightFiles.{at_file, told_keep}
+use Rattle.share_replies.proofs.Ending.{file_faulty}
 use Rattle.share_replies.proofs.files.add_file.Goals as goal
 
 pub returns-clause-law : goal.returns-clause-law
@@ -27,3 +28,9 @@ returns-clause-decides g c = record {
       told_keep (λ text. IsWrongAt c.args.asked.now (totals_of c.args.sums.now) text line w) (file_of (g.P.Place.files c.args.place.now) c.args.name.now) c.in-Ok.bytes c.as_slice.result.now c.as_slice.ensures
       c.in-Ok.ensures.whole (c.in-Err-add_text.ensures.wrong line w (ap (λ f. Err f) at));
 }
+
+pub returns-in-Ok-add_text-clause-stage : goal.returns-in-Ok-add_text-clause-stage
+returns-in-Ok-add_text-clause-stage g c = c.in-Ok.ensures.stage
+
+pub returns-clause-stage : goal.returns-clause-stage
+returns-clause-stage g c = file_faulty (seen_place g.P.Place.files g.P.Place.read_faults g.P.Place.write_faults g.P.Place.opened g.P.Place.created) c.args.place.now c.read_text.new.place c.args.name.now c.fault_of_text.result c.fault_of_text.ensures.memory c.in-Ok.ensures.stage.leaves

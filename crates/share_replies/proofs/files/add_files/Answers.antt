@@ -1,7 +1,7 @@
-use Rattle.std.proofs.Common.{◌≡◌, List, Option, Err, refl, sym, ◌∙◌, ap, subst, arith, Some}
+use Rattle.std.proofs.Common.{◌≡◌, List, Option, Err, map, take, refl, sym, ◌∙◌, ap, subst, arith, Some}
 use Rattle.std.specs.Prelude.{string_bytes}
 use Rattle.outer_io.specs.Files.{file_or_empty}
-use Rattle.run_files.specs.Outside.{file_of}
+use Rattle.run_files.specs.Outside.{file_of, seen_place}
 use Rattle.outer_io.specs.Told.{Told}
 use Rattle.share_replies.specs.Refusals.{IsRight, IsWrongAt, totals_of}
 use Rattle.share_replies.specs.Shares.{Share, together}
@@ -10,6 +10,8 @@ use Rattle.share_replies.specs.declared.summed.Summed.{Summed}
 use Rattle.share_replies.proofs.FileSums.{front_of, last_of, no_shares}
 use Rattle.share_replies.proofs.RightFiles.{at_share, first_wrong, right_all, right_more, same_share, told_none}
 use Rattle.share_replies.proofs.TextSums.{take_at_item}
+use Rattle.share_replies.specs.Causes.{ReadsFront}
+use Rattle.share_replies.proofs.Ending.{all_more, files_read, front_more, names_at, none_read}
 use Rattle.share_replies.proofs.files.add_files.Goals as goal
 
 pub loop-i-init : goal.loop-i-init
@@ -18,6 +20,7 @@ loop-i-init g c = record {
   right = told_none (g.P.Place.files c.args.place.now) c.args.asked.now (totals_of c.args.first);
   size = c.requires.size;
   files = refl;
+  leaves = none_read (seen_place g.P.Place.files g.P.Place.read_faults g.P.Place.write_faults g.P.Place.opened g.P.Place.created) c.args.place.now;
 }
 
 pub returns-in-Err-clause-law : goal.returns-in-Err-clause-law
@@ -58,6 +61,12 @@ loop-i-preserved g c = record {
       (subst (λ (sums : List (Option Summed)). Told (file_of (g.P.Place.files c.loop-i.place) c.as_str.result.now) (λ text. IsRight asked (totals_of sums) text (totals_of c.in-Ok.next))) c.as_slice.ensures c.in-Ok.ensures.decides.right);
   size = c.in-Ok.ensures.size;
   files = c.add_file.ensures.files ∙ c.loop-i.invariant.files;
+  leaves =
+      let names = c.args.names.now in
+      let i = c.loop-i.i in
+      let name = c.as_str.result.now in
+      let at = names_at string_bytes names i c.index-names-i.result name c.index-names-i.is (omega arith) c.as_str.ensures.value in
+      all_more (seen_place g.P.Place.files g.P.Place.read_faults g.P.Place.write_faults g.P.Place.opened g.P.Place.created) c.args.place.now c.loop-i.place c.add_file.new.place (map string_bytes names) i name at c.loop-i.invariant.leaves c.in-Ok.ensures.stage.leaves;
 }
 
 pub returns-in-Err-clause-decides : goal.returns-in-Err-clause-decides
@@ -81,3 +90,20 @@ returns-clause-decides g c = record {
   right = right_all c.args.asked.now (totals_of c.args.first) string_bytes c.args.names.now (g.P.Place.files c.args.place.now) c.loop-i.i c.loop-i.sums (omega arith) c.loop-i.invariant.right;
   wrong = λ k line w e. cc;
 }
+
+pub returns-in-Err-clause-stage : goal.returns-in-Err-clause-stage
+returns-in-Err-clause-stage g c =
+    let p = (seen_place g.P.Place.files g.P.Place.read_faults g.P.Place.write_faults g.P.Place.opened g.P.Place.created) in
+    let names = c.args.names.now in
+    let i = c.loop-i.i in
+    let n = c.index-names-i.result in
+    let name = c.as_str.result.now in
+    let all = map string_bytes names in
+    let at = names_at string_bytes names i n name c.index-names-i.is (omega arith) c.as_str.ensures.value in
+    subst (ReadsFront p c.args.place.now c.add_file.new.place all) (sym c.fault_of_share.ensures.stop)
+    (front_more p c.args.place.now c.loop-i.place c.add_file.new.place all i name _ at c.loop-i.invariant.leaves c.in-Err.ensures.stage)
+
+pub returns-clause-stage : goal.returns-clause-stage
+returns-clause-stage g c =
+    let all = map string_bytes c.args.names.now in
+    (c.loop-i.i, files_read (seen_place g.P.Place.files g.P.Place.read_faults g.P.Place.write_faults g.P.Place.opened g.P.Place.created) c.args.place.now c.loop-i.place (take c.loop-i.i all) c.loop-i.invariant.leaves)
