@@ -5,6 +5,7 @@ use Rattle.std.specs.Result.{result_err}
 use Rattle.std.proofs.lemmas.Bool.{cases_lt}
 use Rattle.std.proofs.lemmas.List.{append-nil, map-append, take-map, take_all}
 use Rattle.std.proofs.lemmas.List.Elements.{All-head, All-tail}
+use Rattle.cube_schema.specs.Drafts.{draft_of}
 use Rattle.cube_schema.specs.Meaning.{plan_meaning}
 use Rattle.cube_schema.specs.declared.fault.PlanFault.{PlanFault}
 use Rattle.cube_schema.specs.declared.plan.Plan.{Plan}
@@ -19,7 +20,7 @@ use Rattle.run_files.specs.Outside.{file_of, PlaceSeen, Silent, SinkSeen}
 use Rattle.run_files.specs.Planned.{ReadsPlan, RefusesPlan}
 use Rattle.run_files.specs.declared.stop.Stop.{Stop}
 use Rattle.run_files.specs.declared.stop.Stop.TheVariants.{NoMemory, PlanRefused, ReadFault, WriteFault, FeedRefused}
-use Rattle.share_replies.specs.Causes.{AreShort, IsOneLong, IsPutEnd, PutsAfter, ReadsFiles, ReadsFront, SharesEnd, stop_of_file}
+use Rattle.share_replies.specs.Causes.{AreShort, HasNoPlan, IsOneLong, IsPutEnd, PutsAfter, ReadsFiles, ReadsFront, SharesEnd, stop_of_file}
 use Rattle.share_replies.specs.Ends.{FileNames}
 use Rattle.share_replies.specs.declared.adding.Outcome.{Outcome}
 use Rattle.share_replies.specs.declared.fault.FileFault.{FileFault}
@@ -153,6 +154,23 @@ no_fault bytes fault good bad = apart (sym good ∙ ap is_ok bad)
     apart : true ≡ false → ⊥
     apart e = cc
 
+-- so of a plan nothing more need be said
+plan_good : (told : Option Files) (name : List ℕ) (plan : Plan) (Q : Type 0) → Told (file_of told name) (λ bytes. plan_meaning bytes ≡ Ok (draft_of plan)) → Told told (λ files. (fault : PlanFault) → plan_meaning (file_or_empty files name) ≡ Err fault → Q)
+plan_good None name plan Q meaning = tt
+plan_good (Some files) name plan Q meaning = λ fault bad. absurd (no_fault (file_or_empty files name) fault (ap is_ok meaning) bad)
+
+-- an end of reading the plan
+ended_plan : (stop : Stop) → (stop ≢ WriteFault) × (stop ≢ FeedRefused) → HasNoPlan (Err stop)
+ended_plan NoMemory ends = inr (inr refl)
+ended_plan PlanRefused ends = inl refl
+ended_plan ReadFault ends = inr (inl refl)
+ended_plan WriteFault ends = absurd (ends.0 refl)
+ended_plan FeedRefused ends = absurd (ends.1 refl)
+
+of_files : (told : Option Files) (name : List ℕ) (Q : Type 0) → Q → Told told (λ files. (fault : PlanFault) → plan_meaning (file_or_empty files name) ≡ Err fault → Q)
+of_files None name Q q = tt
+of_files (Some files) name Q q = λ fault bad. q
+
 -- an end of putting is no end of reading
 put_end : (stop : Stop) → IsPutEnd stop → (stop ≢ PlanRefused) × (stop ≢ ReadFault) × (stop ≢ FeedRefused)
 put_end NoMemory is = (λ e. cc, λ e. cc, λ e. cc)
@@ -178,11 +196,12 @@ module _ {P O : Type 0} (p : PlaceSeen P) (s : SinkSeen O) (names : FileNames) w
   complete_by a c out out' (Some files) (Err FeedRefused) read plan text write = λ good short no_read no_write. absurd (not_short files Texts short (text refl))
 
   build : (a c : P) (out out' : O) (result : Result Outcome Stop) (k : ℕ) → LeavesPlace p a c (take k (names.plan ∷ Texts)) [] (result_err result)
-      → (result ≡ Err PlanRefused → RefusesPlan s out out' (file_of (p.files a) names.plan)) → (result ≡ Err FeedRefused → Told (p.files a) (λ files. IsOneLong files Texts)) → (result ≡ Err WriteFault → Rose (s.faults out) (s.faults out'))
+      → (result ≡ Err PlanRefused → RefusesPlan s out out' (file_of (p.files a) names.plan)) → Told (p.files a) (λ files. (fault : PlanFault) → plan_meaning (file_or_empty files names.plan) ≡ Err fault → HasNoPlan result) → (result ≡ Err FeedRefused → Told (p.files a) (λ files. IsOneLong files Texts)) → (result ≡ Err WriteFault → Rose (s.faults out) (s.faults out'))
       → (result ≢ Err WriteFault → result ≢ Err PlanRefused → s.faults out' ≡ s.faults out) → SharesEnd p s a c out out' names result
-  build a c out out' result k leaves plan text write quiet = record {
+  build a c out out' result k leaves plan none text write quiet = record {
     leaves = (k, leaves);
     refused_plan = plan;
+    no_plan = none;
     refused = text;
     unsaid = write;
     quiet = quiet;
@@ -194,6 +213,7 @@ module _ {P O : Type 0} (p : PlaceSeen P) (s : SinkSeen O) (names : FileNames) w
   ended_by_plan a b out out' stop leaves reads =
       build a b out out' (Err stop) 1 leaves
       (λ e. reads.refused (ap (λ k. Err k) (err_is stop PlanRefused e)))
+      (of_files (p.files a) names.plan (HasNoPlan (Err stop)) (ended_plan stop reads.ends))
       (λ e. absurd (reads.ends.1 (err_is stop FeedRefused e)))
       (λ e. absurd (reads.ends.0 (err_is stop WriteFault e)))
       (λ not_write not_plan. (reads.silent (λ e. not_plan (ap (λ k. Err k) (err_is stop PlanRefused e)))).faults)
@@ -210,6 +230,7 @@ module _ {P O : Type 0} (p : PlaceSeen P) (s : SinkSeen O) (names : FileNames) w
     ended_by_texts stop k front silent =
         build a c out out' (Err stop) (suc k) (whole k (Some stop) front.leaves)
         (λ e. absurd (front.ends.0 (ap (λ x. Some x) (err_is stop PlanRefused e))))
+        (plan_good (p.files a) names.plan plan (HasNoPlan (Err stop)) reads.plan.meaning)
         (λ e. told_same (p.files a) (p.files b) (λ files. IsOneLong files (take k Texts)) (λ files. IsOneLong files Texts) (same_files p a b (names.plan ∷ []) None opened) (λ files. long_front files k Texts)
         (front.long (ap (λ x. Some x) (err_is stop FeedRefused e))))
         (λ e. absurd (front.ends.1 (ap (λ x. Some x) (err_is stop WriteFault e))))
@@ -221,6 +242,7 @@ module _ {P O : Type 0} (p : PlaceSeen P) (s : SinkSeen O) (names : FileNames) w
     ended_after None (Ok outcome) (k, front) puts =
         build a c out out' (Ok outcome) (suc k) (whole k None front.leaves)
         (λ e. absurd (ok_not_err outcome PlanRefused e))
+        (plan_good (p.files a) names.plan plan (HasNoPlan (Ok outcome)) reads.plan.meaning)
         (λ e. absurd (ok_not_err outcome FeedRefused e))
         (λ e. absurd (ok_not_err outcome WriteFault e))
         (λ not_write not_plan. puts.1.quiet (λ e. ok_not_err outcome WriteFault e) ∙ quiet_plan)
@@ -228,6 +250,7 @@ module _ {P O : Type 0} (p : PlaceSeen P) (s : SinkSeen O) (names : FileNames) w
         let ends = put_end stop puts.0 in
         build a c out out' (Err stop) (suc k) (leaves_ended p a c (take (suc k) (names.plan ∷ Texts)) (Some stop) (λ e. ends.1 (same_stop stop ReadFault e)) (whole k None front.leaves))
         (λ e. absurd (ends.0 (err_is stop PlanRefused e)))
+        (plan_good (p.files a) names.plan plan (HasNoPlan (Err stop)) reads.plan.meaning)
         (λ e. absurd (ends.2 (err_is stop FeedRefused e)))
         (λ e. subst (λ (n : ℕ). Rose n (s.faults out')) quiet_plan (puts.1.rose e))
         (λ not_write not_plan. puts.1.quiet not_write ∙ quiet_plan)

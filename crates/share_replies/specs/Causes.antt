@@ -2,6 +2,7 @@
 use Rattle.std.specs.Prelude.{◌≡◌, ◌≢◌, ◌⊎◌, ℕ, ◌≤◌, ◌<◌, List, [], ◌∷◌, length, take, All, Option, Some, None, Result, Ok, Err, IfErr, IsOk, ⊤}
 use Rattle.std.specs.Result.{result_err}
 use Rattle.cube_schema.specs.Meaning.{plan_meaning}
+use Rattle.cube_schema.specs.declared.fault.PlanFault.{PlanFault}
 use Rattle.outer_io.specs.Faults.{HasCause, Rose}
 use Rattle.outer_io.specs.Files.{Files, file_or_empty}
 use Rattle.outer_io.specs.Lines.{input_limit}
@@ -72,12 +73,18 @@ abbrev pub PutsAfter : {O : Type 0} → SinkSeen O → O → O → Option Stop �
 PutsAfter s out out' (Some stop) result = (result ≡ Err stop) × Silent s out out'
 PutsAfter s out out' None result = IfErr result IsPutEnd × HasCause (s.faults out) (s.faults out') result WriteFault
 
+-- the plan is refused, or was not read, or memory ran out
+abbrev pub HasNoPlan : Result Outcome Stop → Type 0
+HasNoPlan result = (result ≡ Err PlanRefused) ⊎ (result ≡ Err ReadFault) ⊎ (result ≡ Err NoMemory)
+
 -- How adding the replies of shares ends, and what it leaves of a place and a sink
 pub record SharesEnd {P O : Type 0} (p : PlaceSeen P) (s : SinkSeen O) (place place' : P) (out out' : O) (names : FileNames) (result : Result Outcome Stop) : Type 0 where
   -- some of the files were opened, in order, nothing is created, and a read fault comes only where the count of reading rose
   pub leaves : (k : ℕ) × LeavesPlace p place place' (take k (names.plan ∷ names.script ∷ names.replies)) [] (result_err result)
   -- a plan is refused only where the bytes are none, which is said
   pub refused_plan : result ≡ Err PlanRefused → RefusesPlan s out out' (file_of (p.files place) names.plan)
+  -- and where they are none it is, unless it is not read or memory ran out
+  pub no_plan : Told (p.files place) (λ files. (fault : PlanFault) → plan_meaning (file_or_empty files names.plan) ≡ Err fault → HasNoPlan result)
   -- a script or replies are refused only where one has more than 2^30 bytes
   pub refused : result ≡ Err FeedRefused → Told (p.files place) (λ files. IsOneLong files (names.script ∷ names.replies))
   -- a write fault comes only where the count of the sink rose
