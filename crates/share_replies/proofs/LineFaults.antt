@@ -1,5 +1,5 @@
 -- What is wrong with one line.
-use Rattle.std.proofs.Common.{◌≡◌, ℕ, true, false, List, [], ◌++◌, Some, None, Option, Result, Ok, Err, refl, sym, ◌∙◌, ap, subst}
+use Rattle.std.proofs.Common.{◌≡◌, ℕ, true, List, [], ◌++◌, Some, Option, Result, Ok, Err, sym, ◌∙◌, ap, subst}
 use Rattle.std.specs.Result.{IsErrAnd}
 use Rattle.query_syntax.specs.declared.query.Parsed.{Parsed}
 use Rattle.recount.specs.Comparing.{ReadsReply}
@@ -9,13 +9,11 @@ use Rattle.reply_sums.specs.Additive.{adds_up}
 use Rattle.reply_sums.specs.Sums.{HaveGreatSum, HaveNoSum}
 use Rattle.session_core.specs.Asked.{reply_line}
 use Rattle.share_replies.specs.Refusals.{AddsBy, HasOtherRows, IsTooGreat, LineFails, PassesLine, ReplyFails, total_of}
-use Rattle.share_replies.specs.Sums.{is_of_kind}
 use Rattle.share_replies.specs.declared.fault.LineFault.{LineFault}
 use Rattle.share_replies.specs.declared.fault.LineFault.TheVariants as line
 use Rattle.share_replies.specs.declared.fault.Why.{Why}
 use Rattle.share_replies.specs.declared.fault.Why.TheVariants as why
 use Rattle.share_replies.specs.declared.line.Added.{Added}
-use Rattle.share_replies.specs.declared.summed.Summed.{Summed}
 
 -- the answer that a line is wrong
 abbrev pub wrong : (T : Type 0) → Why → Result T LineFault

@@ -13,7 +13,6 @@ use Rattle.share_replies.specs.declared.fault.SharesFault.{SharesFault}
 use Rattle.share_replies.specs.declared.fault.SharesFault.TheVariants as shares
 use Rattle.share_replies.specs.declared.fault.Why.{Why}
 use Rattle.share_replies.specs.declared.summed.Summed.{Summed}
-use Rattle.share_replies.proofs.TextSums.{take_at_item}
 
 -- a bytes' file is what was read of it
 pub told_keep : (P : List ℕ → Type 0) (file : Option (List ℕ)) (bytes own : List ℕ) → own ≡ bytes → Told file (λ all. bytes ≡ all) → P own → Told file P

@@ -1,5 +1,5 @@
 -- What is said of shares.
-use Rattle.std.proofs.Common.{◌≡◌, ℕ, List, [], ◌∷◌, map, get_or, Option, Some, None, Result, Ok, Err, IfOk, refl, sym, ◌∙◌, ap, subst, if◌then◌else◌}
+use Rattle.std.proofs.Common.{◌≡◌, ℕ, List, [], ◌∷◌, map, Option, Some, None, Result, Ok, Err, IfOk, refl, sym, ◌∙◌, ap, subst, if◌then◌else◌}
 use Rattle.cube_schema.specs.declared.plan.Plan.{Plan}
 use Rattle.cube_view.specs.declared.schema.Schema.{Schema}
 use Rattle.outer_io.specs.Bytes.{Gains}
@@ -20,7 +20,6 @@ use Rattle.share_replies.specs.Refusals.{AreRight, DecidesFiles, DecidesScript, 
 use Rattle.share_replies.specs.Shares.{nothing}
 use Rattle.share_replies.specs.Sums.{SumsOver}
 use Rattle.share_replies.specs.declared.adding.Outcome.{Outcome}
-use Rattle.share_replies.specs.declared.adding.Outcome.TheVariants as outcome
 use Rattle.share_replies.specs.declared.fault.SharesFault.{SharesFault}
 use Rattle.share_replies.specs.declared.fault.SharesFault.TheVariants as shares
 use Rattle.share_replies.specs.declared.fault.Why.{Why}

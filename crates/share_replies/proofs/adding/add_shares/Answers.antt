@@ -11,9 +11,7 @@ use Rattle.share_replies.specs.Shares.{together}
 use Rattle.share_replies.proofs.Outcomes.{some_plan, under_plan}
 use Rattle.share_replies.proofs.Saying.{says_shares}
 use Rattle.run_files.proofs.Apart.{residual_is}
-use Rattle.run_files.specs.declared.stop.Stop.{Stop}
 use Rattle.share_replies.specs.Causes.{SharesEnd}
-use Rattle.share_replies.specs.declared.adding.Outcome.{Outcome}
 use Rattle.share_replies.proofs.Ending.{ended_after, ended_by_plan}
 use Rattle.share_replies.proofs.adding.add_shares.Goals as goal
 

@@ -11,7 +11,7 @@ use Rattle.share_replies.specs.Sums.{SumsOver}
 use Rattle.share_replies.proofs.Asking.{all_shallow}
 use Rattle.share_replies.proofs.FileSums.{told_is}
 use Rattle.share_replies.proofs.Outcomes.{sums_asked}
-use Rattle.share_replies.proofs.Saying.{decides_script, stopped_decides}
+use Rattle.share_replies.proofs.Saying.{decides_script}
 use Rattle.share_replies.proofs.Ending.{files_lacked, front_one, front_then}
 use Rattle.share_replies.proofs.adding.sums_of.Goals as goal
 

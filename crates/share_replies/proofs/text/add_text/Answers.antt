@@ -1,12 +1,10 @@
-use Rattle.std.proofs.Common.{◌≡◌, ◌+◌, List, Option, Err, refl, ◌∷◌, [], ◌∙◌, ap, sym, subst, drop, length, arith, length-append, ℕ}
+use Rattle.std.proofs.Common.{◌≡◌, ◌+◌, List, Option, Err, ◌∷◌, [], ◌∙◌, ap, sym, subst, drop, length, arith, length-append, ℕ}
 use Rattle.std.specs.Prelude.{◌==◌}
 use Rattle.std.proofs.lemmas.Bool.{false≢true}
 use Rattle.std.proofs.lemmas.List.{drop_all, length-take-le, map-append, take_all}
 use Rattle.reply_sums.proofs.RowSums.{drop_at}
 use Rattle.reply_json.specs.declared.reply.Reply.{Reply}
-use Rattle.share_replies.specs.Refusals.{TextFails, total_of, totals_of}
-use Rattle.share_replies.specs.declared.fault.LineFault.TheVariants as line
-use Rattle.share_replies.specs.declared.fault.Why.TheVariants as why
+use Rattle.share_replies.specs.Refusals.{total_of, totals_of}
 use Rattle.share_replies.specs.declared.summed.Summed.{Summed}
 use Rattle.share_replies.proofs.LineSums.{no_items, some_items}
 use Rattle.share_replies.proofs.Refusing.{HasRead, at_line, line_of, nothing_left, read_all, read_more, read_none, read_wrong, totals_at}
