@@ -1,5 +1,5 @@
 -- Words that are of the program's form.
-use Rattle.std.proofs.Common.{◌≡◌, ℕ, ◌+◌, ◌<◌, List, [], ◌∷◌, length, map, drop, get_or, sym, ◌∙◌, ap, subst, arith}
+use Rattle.std.proofs.Common.{◌≡◌, ℕ, ◌<◌, List, [], ◌∷◌, length, drop, get_or, sym, subst, arith}
 use Rattle.add_replies.specs.Statuses.{IfForm}
 
 -- two items and those after them are the list

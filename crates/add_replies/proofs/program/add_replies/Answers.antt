@@ -1,4 +1,4 @@
-use Rattle.std.proofs.Common.{ℕ, ◌∷◌, List, map, ◌∙◌, ap, sym, arith}
+use Rattle.std.proofs.Common.{◌∷◌, map, ◌∙◌, ap, sym, arith}
 use Rattle.std.specs.Prelude.{string_bytes}
 use Rattle.run_files.specs.Outside.{seen_place, seen_sink}
 use Rattle.add_replies.specs.Statuses.{EndsByLaw, EndsWithCause, Says}
