@@ -39,19 +39,6 @@ counts_permuted z slots root size h k P C =
 pub adds_none : (z : Schema) (slots : List Slot) (root size : ℕ) → AddsPoints z root size [] slots slots
 adds_none z slots root size h C = subst₂ (λ n (k : List Point). CountsPoints z slots root n k) (sym (add-zero size)) (sym (append-nil h)) C
 
--- one point more of a list that is gone through
-pub adds_more : (z : Schema) (a b c : List Slot) (root size : ℕ) (points : List Point) (i : ℕ) (d : Point) → i < length points → AddsPoints z root size (take i points) a b → AddsPoints z root (size + i) (get_or points i d ∷ []) b c → AddsPoints z root size (take (i + 1) points) a c
-adds_more z a b c root size points i d lt A B = subst (λ (l : List Point). AddsPoints z root size l a c) (sym (take_at_read points i d lt).1) pushed
-  where
-    long : length (take i points) ≡ i
-    long = length-take-le i points (omega (arith, lt))
-
-    pushed : AddsPoints z root size (take i points ++ get_or points i d ∷ []) a c
-    pushed h C =
-        let one : CountsPoints z b root (size + i) (h ++ take i points) = subst (λ n. CountsPoints z b root (size + n) (h ++ take i points)) long (A h C) in
-        let number : size + i + 1 ≡ size + length (take i points ++ get_or points i d ∷ []) = omega (arith, long, length_push (take i points) (get_or points i d)) in
-        subst₂ (λ n (k : List Point). CountsPoints z c root n k) number (append_assoc h (take i points) (get_or points i d ∷ [])) (B (h ++ take i points) one)
-
 -- slots that counted some list count one afterwards
 pub has_added : (z : Schema) (a b : List Slot) (root size : ℕ) (points : List Point) → AddsPoints z root size points a b → HasPoints z a root size → HasPoints z b root (size + length points)
 has_added z a b root size points A R = ∥∥₁_map R (λ C. (C.0 ++ points, A C.0 C.1))
@@ -62,7 +49,3 @@ adds_permuted z a b root size points sorted P A h C =
     let Q : IsPermutation (h ++ sorted) (h ++ points) = IsPermutation-append_right h sorted points (IsPermutation-sym points sorted P) in
     let l = length_permutation points sorted P in
     subst (λ n. CountsPoints z b root (size + n) (h ++ points)) l (counts_permuted z b root (size + length sorted) (h ++ sorted) (h ++ points) Q (A h C))
-
--- a point that is inserted
-pub adds_one : (z : Schema) (p : Point) (old new : List Slot) (root size : ℕ) → IsTrue (sound z p) → length (spot_of p).values ≡ 4 → size < most_points → Inserts (time_dim z) (point_path z p) old new → AddsPoints z root size (p ∷ []) old new
-adds_one z p old new root size is four few I h C = counts_joined z p old new root size h is four few I C

@@ -17,3 +17,4 @@ pub mod Telling
 pub mod Totalling
 pub mod WalkCosting
 pub mod Whole
+pub mod Groups

@@ -70,7 +70,7 @@ shape_moved dims slots homes h p S = shape_same dims slots homes (p ∷ h) (h ++
     amounts a bin = let x = sum_by-cons (adds_under a bin) p h in let y = sum_by_push (adds_under a bin) h p in omega (arith, x, y)
 
 -- sound points weigh no more than so many of the heaviest
-weight_within : (z : Schema) (h : List Point) → All (λ p. IsTrue (sound z p)) h → total_weight (paths_of z h) ≤ length h * heaviest
+pub weight_within : (z : Schema) (h : List Point) → All (λ p. IsTrue (sound z p)) h → total_weight (paths_of z h) ≤ length h * heaviest
 weight_within z [] all = omega arith
 weight_within z (p ∷ h) all =
     let r = weight_within z h (λ i d lt. all (suc i) d (omega (arith, lt))) in
@@ -78,7 +78,7 @@ weight_within z (p ∷ h) all =
     let c = sum_by-cons (λ (w : Weighted). w.amount) (point_path z p) (paths_of z h) in
     omega (arith, r, l, c)
 
-paths_alike : (z : Schema) (p : Point) (h : List Point) → AllOfShape (spots_in (paths_of z h)) (point_path z p).spot
+pub paths_alike : (z : Schema) (p : Point) (h : List Point) → AllOfShape (spots_in (paths_of z h)) (point_path z p).spot
 paths_alike z p [] q c = absurd (let l = c.1 in omega (arith, l))
 paths_alike z p (x ∷ h) q c = go (Contains-cases (spots_in (paths_of z h)) (point_path z x).spot q c) (λ d. paths_alike z p h q d)
   where

@@ -12,7 +12,7 @@ ghost use Rattle.cube_store.specs.Inserting.{CanInsert, Inserts};
 ghost use Rattle.cube_store.specs.Numbers.{cube_numbers, OwnsAllButRoot};
 ghost use Rattle.cube_store.specs.Reading.{spot_weight};
 
-use crate::batch::{in_order, insert_each};
+use crate::batch::{in_order, insert_group};
 use arena_undo::Work;
 use cube_view::{CubeView, Point, Schema};
 use node_arena::{Arena, SlotId};
@@ -109,7 +109,7 @@ impl Cube {
         }
         let sorted = in_order(self.alloc, points)?;
         let arena = replace(&mut self.arena, Arena::new(self.alloc));
-        match insert_each(
+        match insert_group(
             self.alloc,
             arena,
             &self.schema,
@@ -157,7 +157,7 @@ fn insert_into(
 }
 
 /// Adds the point to the first dimension at the root, with an updated set of its own.
-pub(crate) fn add_at_root(
+fn add_at_root(
     alloc: Global,
     work: &mut Work,
     schema: &Schema,

@@ -11,20 +11,20 @@ use Rattle.cube_store.proofs.Batches.{adds_permuted, has_added}
 use Rattle.cube_store.proofs.Numbering.{OwnsAllButRoot-cube}
 use Rattle.cube_store.proofs.cube.Cube.insert_all.Goals as goal
 
-pub insert_each-requires-clause-sound : goal.insert_each-requires-clause-sound
-insert_each-requires-clause-sound c =
+pub insert_group-requires-clause-sound : goal.insert_group-requires-clause-sound
+insert_group-requires-clause-sound c =
     let P : IsPermutation c.args.points.now c.deref.result.now = subst (λ (l : List Point). IsPermutation c.args.points.now l) (sym c.deref.ensures.value) c.in_ok-sorted.ensures in
     All-permutation (λ p. IsTrue (sound c.args.self.now.schema p)) c.args.points.now c.deref.result.now P c.requires.sound
 
-pub insert_each-requires-clause-few : goal.insert_each-requires-clause-few
-insert_each-requires-clause-few c =
+pub insert_group-requires-clause-few : goal.insert_group-requires-clause-few
+insert_group-requires-clause-few c =
     let l = length_permutation c.args.points.now c.in_ok-sorted.sorted.items c.in_ok-sorted.ensures in
     let v = ap (λ (l : List Point). length l) c.deref.ensures.value in
     let r = c.requires.room in
     omega (arith, l, v, r)
 
-pub insert_each-requires-clause-counted : goal.insert_each-requires-clause-counted
-insert_each-requires-clause-counted c = subst (λ (a : List Slot). HasPoints c.args.self.now.schema a c.args.self.now.root.0 c.args.self.now.size) (sym c.replace-arena.ensures.value) c.args.self.now.counted
+pub insert_group-requires-clause-counted : goal.insert_group-requires-clause-counted
+insert_group-requires-clause-counted c = subst (λ (a : List Slot). HasPoints c.args.self.now.schema a c.args.self.now.root.0 c.args.self.now.size) (sym c.replace-arena.ensures.value) c.args.self.now.counted
 
 pub invariant_of-self : goal.invariant_of-self
 invariant_of-self c =
