@@ -96,8 +96,13 @@ module _ (z : Schema) (dim level i : ℕ) (part : List Point) (early : dim < tim
         relinked : IsRelinked mid new i across (shared (target c.link))
         relinked = subst (λ x. IsRelinked mid x i across (shared (target c.link))) (sym (S l (proper j.0) O c.link c.is)) (relink_content mid i (target c.link) (let a = A.keeps.size in let b = K.in_range in omega (arith, a, b)) (A.keeps.kinds i K.in_range ∙ nd))
 
-    pub can_share : (old mid : List Slot) (l : ℕ) → TellsOnlyLabel z dim (level + 1) part old i (Some l) → PassesAll z old mid dim level i part → ∥ CanVisitPart z old dim level i part ∥₁ → ∥ CanShare z mid dim level i part ∥₁
+    pub can_share : (old mid : List Slot) (l : ℕ) → TellsOnlyLabel z dim (level + 1) part old i (Some l) → PassesAll z old mid dim level i part → ∥ CanVisitPart z old dim level i part ∥₁ → ∥ CanShare mid i ∥₁
     can_share old mid l T L R = ∥∥₁_map R (λ C. record {
+      schema = z;
+      dim = dim;
+      level = level;
+      early = early;
+      part = part;
       old = old;
       group = C.group;
       homes = C.homes;

@@ -62,7 +62,12 @@ abbrev pub PassesAll : Schema → List Slot → List Slot → ℕ → ℕ → �
 PassesAll schema before after dim level i part = (from : ℕ) × PassesLabels schema before after dim level i part 0 from × All (λ p. label_at schema dim (level + 1) p < from) part
 
 -- all labels of a node have been visited that has one label
-pub record CanShare (schema : Schema) (slots : List Slot) (dim level i : ℕ) (part : List Point) : Type 0 where
+pub record CanShare (slots : List Slot) (i : ℕ) : Type 0 where
+  pub schema : Schema
+  pub dim : ℕ
+  pub level : ℕ
+  pub early : dim < time_dim schema
+  pub part : List Point
   pub old : List Slot
   pub group : List Point
   pub homes : List Walk

@@ -45,18 +45,8 @@ fn one_below(schema: &Schema, dim: u8, level: u8) -> u8
 }
 
 /// A node that has one child shares its content.
-fn share_only<L: Ledger>(
-    work: &mut Work,
-    schema: &Schema,
-    pile: &Vec<Point>,
-    dim: u8,
-    level: u8,
-    at: SlotId,
-    part: Part,
-    steps: &mut Steps<L>,
-) -> Result<(), NoMemory>
-    requires dim { (1 ≤ dim) × (dim < time_dim schema.now) }
-    requires known { ∥ CanShare schema.now work.old.slots dim level at.0 (slice_range pile.now.items part.at part.end) ∥₁ }
+fn share_only<L: Ledger>(work: &mut Work, at: SlotId, steps: &mut Steps<L>) -> Result<(), NoMemory>
+    requires { ∥ CanShare work.old.slots at.0 ∥₁ }
     ensures shared { OnOk result (SharesOnly work.old.slots work.new.slots at.0) }
     ensures start { work.new.start ≡ work.old.start }
 {
@@ -91,18 +81,11 @@ pub fn visit<L: Ledger>(
         return visit_content(work, schema, pile, dim, level, at, part, steps);
     }
     let below = one_below(schema, dim, level);
-    match only_label(
-        work,
-        schema,
-        &pile[part.at..part.end],
-        dim,
-        below,
-        at,
-        steps,
-    ) {
+    let points = &pile[part.at..part.end];
+    match only_label(work, schema, points, dim, below, at, steps) {
         Some(_) => {
             visit_labels(work, schema, pile, dim, level, at, part, steps)?;
-            share_only(work, schema, pile, dim, level, at, part, steps)
+            share_only(work, at, steps)
         }
         None => {
             visit_content(work, schema, pile, dim, level, at, part, steps)?;

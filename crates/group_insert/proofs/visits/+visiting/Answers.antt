@@ -8,7 +8,7 @@ use Rattle.node_arena.specs.Slots.{slot_of, counts_of}
 use Rattle.time_table.specs.Counts.{total_count}
 use Rattle.group_insert.specs.Added.{IsAdded, amount_in, part_weight}
 use Rattle.group_insert.specs.Labels.{TellsOnlyLabel, TellsNextLabel}
-use Rattle.group_insert.specs.Visiting.{CanVisitPart, CanPass, CanShare, VisitsPart, HasPart, PassesAll}
+use Rattle.group_insert.specs.Visiting.{CanVisitPart, CanPass, VisitsPart, HasPart, PassesAll}
 use Rattle.group_insert.proofs.Composing.{leaf_part, wide_part, narrow_part, can_share, one_can_pass, can_visit_child, passes_label, can_visit_content, content_can_pass, visit_in_range, visit_is_node, visit_inside, visit_some, pass_in_range, pass_is_node, pass_inside, can_pass_on, rank_down, rank_across, table_there, content_counted}
 use Rattle.group_insert.proofs.Passing.{content_passed}
 use Rattle.group_insert.proofs.Pile.{next_part, next_has}
@@ -38,15 +38,13 @@ visit-visit_labels-requires g t c κs within =
     let told = subst₂ (λ x y. TellsOnlyLabel z c.args.dim x (slice_range y c.args.part.at c.args.part.end) c.args.work.now.slots c.args.at.0 (Some c.in-Some.field-0)) c.one_below-below.ensures c.deref.ensures.value c.in-Some.ensures in
     (omega arith, (search rules, (c.requires.dim, (less, (c.requires.part, one_can_pass z c.args.dim c.args.level c.args.at.0 part c.requires.dim.1 less c.args.work.now.slots c.in-Some.field-0 told c.requires.known)))))
 
-pub visit-share_only-requires-clause-known : goal.visit-share_only-requires-clause-known
-visit-share_only-requires-clause-known g t c =
+pub visit-share_only-requires : goal.visit-share_only-requires
+visit-share_only-requires g t c =
     let z = c.args.schema.now in
     let part = slice_range c.args.pile.now.items c.args.part.at c.args.part.end in
     let less : c.args.level < deepest z c.args.dim = search rules in
     let told = subst₂ (λ x y. TellsOnlyLabel z c.args.dim x (slice_range y c.args.part.at c.args.part.end) c.args.work.now.slots c.args.at.0 (Some c.in-Some.field-0)) c.one_below-below.ensures c.deref.ensures.value c.in-Some.ensures in
-    let pile : c.visit_labels.new.pile.items ≡ c.args.pile.now.items = c.in_ok-visit_labels-in-Some.ensures.pile in
-    subst (λ x. ∥ CanShare z c.visit_labels.new.work.slots c.args.dim c.args.level c.args.at.0 (slice_range x c.args.part.at c.args.part.end) ∥₁) (sym pile)
-    (can_share z c.args.dim c.args.level c.args.at.0 part c.requires.dim.1 less c.args.work.now.slots c.visit_labels.new.work.slots c.in-Some.field-0 told c.in_ok-visit_labels-in-Some.ensures.passed c.requires.known)
+    can_share z c.args.dim c.args.level c.args.at.0 part c.requires.dim.1 less c.args.work.now.slots c.visit_labels.new.work.slots c.in-Some.field-0 told c.in_ok-visit_labels-in-Some.ensures.passed c.requires.known
 
 pub visit-visit_labels-requires-in-None : goal.visit-visit_labels-requires-in-None
 visit-visit_labels-requires-in-None g t c κs within =
