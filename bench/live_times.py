@@ -78,8 +78,7 @@ def fork_off(fds, work, *words):
 
 def idle(program, seconds):
     for feeds, asks in ((1, 1), (8, 8)):
-        run = Run(program, plan_over("town", feeds, asks, 1), seconds + 60)
-        try:
+        with Run(program, plan_over("town", feeds, asks, 1), seconds + 60) as run:
             fds, ask_fds, replies = run.open_all(header_of("town"))
             write_all(ask_fds[0], b"count\n")
             assert replies[0].next() == b'{"rows":[[0]],"seen":0}'
@@ -91,8 +90,6 @@ def idle(program, seconds):
             status, *_ = run.wait()
             assert status == 0, status
             print(f"{program}: {feeds} feeds and {asks} asks, silent for {seconds:g} s: {100 * share:.2f} % of a processor", flush=True)
-        finally:
-            run.close()
 
 
 # latency
@@ -189,8 +186,7 @@ def latency(program, records, batch, rate, asks, seconds):
 # memory
 
 def memory(program, records, count):
-    run = Run(program, plan_over(records, 1, 1, 64), 3600)
-    try:
+    with Run(program, plan_over(records, 1, 1, 64), 3600) as run:
         fds, ask_fds, replies = run.open_all(header_of(records))
         block = b"".join(lines_of(records, 50_000, 7))
         lines = block.splitlines(keepends=True)
@@ -210,8 +206,6 @@ def memory(program, records, count):
         assert status == 0 and report.endswith(f"journal: {count} entries\n"), (status, report)
         print(f"{program}: {count} records: {most:.0f} MB at most; {took:.1f} s, {count / took:.0f} records a second, "
               f"{busy:.1f} s of processors", flush=True)
-    finally:
-        run.close()
 
 
 # city

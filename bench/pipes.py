@@ -48,6 +48,12 @@ class Run:
         self.watch.daemon = True
         self.watch.start()
 
+    def __enter__(self):
+        return self
+
+    def __exit__(self, *fault):
+        self.close()
+
     def path(self, name):
         return os.path.join(self.folder, name)
 

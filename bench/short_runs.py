@@ -20,8 +20,7 @@ LATE = 1
 def three_run(program, rng, _):
     """How long after its writers' end a run of three records ended."""
     plan = plan_of(2, 1, rng.choice([1, 2, 64]), 3, [("kind", ["a", "b"])], 10)
-    run = Run(program, plan, 20)
-    try:
+    with Run(program, plan, 20) as run:
         fds, asks, replies = run.open_all(b"x,y,kind,time\n")
         lines = [b"1,2,a,30\n", b"7,7,b,9\n", b"0,0,a,0\n"]
         of_feed = [rng.randrange(2) for _ in lines]
@@ -46,8 +45,6 @@ def three_run(program, rng, _):
         late = time.monotonic() - written
         judge_three(run, status, report, of_feed, asked, replies[0])
         return late
-    finally:
-        run.close()
 
 
 def judge_three(run, status, report, of_feed, asked, replies):
@@ -74,8 +71,7 @@ def judged_run(program, rng, pause):
     """How long after its writers' end a run of judge_runs.py's kind ended, over pipes."""
     asked = queries(rng)
     plan = plan_of(FEEDS, ASKS, 64, 10, [("kind", list("abcd"))])
-    run = Run(program, plan, 120)
-    try:
+    with Run(program, plan, 120) as run:
         source = run.path("written")
         os.mkdir(source)
         feeds, scripts = make(source, rng, asked)
@@ -103,8 +99,6 @@ def judged_run(program, rng, pause):
                 it.write(outs[a])
             judge(run.folder, f"ask{a}.txt", lines, asked, records)
         return late
-    finally:
-        run.close()
 
 
 def write_in_pieces(fd, text, rng, pause):

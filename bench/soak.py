@@ -431,8 +431,7 @@ def last_seen(ask):
 def short_run(program, feed_writes, ask_writes, status, lines, drop=None):
     """Writes to each feed and ask what is given, one after another; a reader of replies may go away after one. Judges status and report."""
     plan = plan_of(2, 2, 1, DEPTH, [("kind", VALUES)], WIDTH)
-    run = Run(program, plan, 60)
-    try:
+    with Run(program, plan, 60) as run:
         fds, asks, replies = run.open_all(HEADER)
         if drop is not None:
             write_all(asks[drop], b"count\n")
@@ -447,28 +446,22 @@ def short_run(program, feed_writes, ask_writes, status, lines, drop=None):
         told, report, *_ = run.wait()
         assert told == status, (told, status, report)
         assert report.splitlines() == lines, (report, lines)
-    finally:
-        run.close()
 
 
 def refused_run(program, text, fault):
     """A feed whose writer ends before its header does, and then no other pipe is opened."""
-    run = Run(program, plan_of(2, 2, 1, DEPTH, [("kind", VALUES)], WIDTH), 60)
-    try:
+    with Run(program, plan_of(2, 2, 1, DEPTH, [("kind", VALUES)], WIDTH), 60) as run:
         fd = run.open_to_write("feed0.csv")
         write_all(fd, text)
         os.close(fd)
         status, report, *_ = run.wait()
         assert (status, report) == (7, f"feed feed0.csv: {fault}\n"), (status, report)
         assert not os.path.exists(run.path("journal.txt"))
-    finally:
-        run.close()
 
 
 def full_run(program):
     """A reader of replies that stops reading until the session waits at the full pipe, and then goes away."""
-    run = Run(program, plan_of(1, 2, 1, DEPTH, [("kind", VALUES)], WIDTH), 60)
-    try:
+    with Run(program, plan_of(1, 2, 1, DEPTH, [("kind", VALUES)], WIDTH), 60) as run:
         fds, asks, replies = run.open_all(HEADER)
         write_all(asks[0], b"hist kind\n" * 5000)
         time.sleep(0.5)
@@ -483,14 +476,11 @@ def full_run(program):
             os.close(fd)
         status, report, *_ = run.wait()
         assert status == 6 and "script ask0.txt stopped: Write\n" in report and "journal: 1 entries\n" in report, (status, report)
-    finally:
-        run.close()
 
 
 def endless_run(program):
     """A feed of one line without end, which is given up at 2^30 bytes. Its writer is waited for by nobody, and the other feed is whole."""
-    run = Run(program, plan_of(2, 1, 1, DEPTH, [("kind", VALUES)], WIDTH), 120)
-    try:
+    with Run(program, plan_of(2, 1, 1, DEPTH, [("kind", VALUES)], WIDTH), 120) as run:
         fds, asks, replies = run.open_all(HEADER)
         child = start_writer(fds[0], lambda fd: [write_all(fd, b"x" * (1 << 20)) for _ in range(1025)])
         os.close(fds[0])
@@ -503,8 +493,6 @@ def endless_run(program):
         lines = ["feed feed0.csv: 0 accepted, 0 blank, 0 refused", "feed feed0.csv stopped: TooMuch",
                  "feed feed1.csv: 3 accepted, 0 blank, 0 refused", "script ask0.txt: 0 replies, seen 0", "journal: 3 entries"]
         assert (status, report.splitlines()) == (7, lines), (status, report)
-    finally:
-        run.close()
 
 
 def short_runs(program):
