@@ -171,14 +171,19 @@ def recount(program):
             print(f"{out.decode().strip()}: status {status}, {seconds:.2f} s, {busy:.2f} of processors, {most:.0f} MB", flush=True)
 
 
-program, what = os.path.abspath(sys.argv[1]), sys.argv[2]
-if what == "crew":
-    crew(program, int(sys.argv[3]) if len(sys.argv) > 3 else 1_000_000)
-elif what == "city":
-    city(program, int(sys.argv[3]) if len(sys.argv) > 3 else 1_000_000)
-elif what == "image":
-    image(program)
-elif what == "big":
-    big(program)
-else:
-    recount(program)
+def main():
+    program, what = os.path.abspath(sys.argv[1]), sys.argv[2]
+    if what == "crew":
+        crew(program, int(sys.argv[3]) if len(sys.argv) > 3 else 1_000_000)
+    elif what == "city":
+        city(program, int(sys.argv[3]) if len(sys.argv) > 3 else 1_000_000)
+    elif what == "image":
+        image(program)
+    elif what == "big":
+        big(program)
+    else:
+        recount(program)
+
+
+if __name__ == "__main__":
+    main()
