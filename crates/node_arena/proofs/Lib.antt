@@ -7,3 +7,4 @@ pub mod Labelled
 pub mod Linked
 pub mod Reaching
 pub mod LinkTotals
+mod ShortLengths

@@ -3,6 +3,7 @@ pub mod Calls
 pub mod Packed
 pub mod Reach
 pub mod Shape
+pub mod Short
 pub mod Slots
 pub mod Stats
 pub mod Stored

@@ -7,10 +7,12 @@ ghost use Rattle.node_arena.specs.Slots.{Children as Listed, IsRising, child, ch
 ghost use Rattle.node_arena.specs.Calls.{with_child, with_link, without_child, child_from, only_link, share_all};
 ghost use Rattle.node_arena.specs.Stats.{children_that, is_proper, is_shared};
 
+use crate::child_list::ChildList;
 use crate::link::Link;
 use crate::packed::Child;
+use crate::short::Found;
 use outer_io::NoMemory;
-use probe_core::{Place, Rows, Steps};
+use probe_core::Steps;
 use std::alloc::Global;
 use std::marker::{Brand, Model};
 use std::sync::ledger::{Blank, Ledger};
@@ -18,7 +20,7 @@ use std::sync::ledger::{Blank, Ledger};
 /// Labels with links, in rising order of label. A link is found by one binary search.
 #[derive(Drop)]
 pub struct Children {
-    rows: Rows<Child>,
+    rows: ChildList,
 }
 
 impl Model for Children {
@@ -26,9 +28,9 @@ impl Model for Children {
 
     ghost Value = { Listed };
 
-    ghost view = { λ c. c.rows.items };
+    ghost view = { λ c. c.rows };
 
-    ghost invariant = { λ c. IsRising c.rows.items };
+    ghost invariant = { λ c. IsRising c.rows };
 }
 
 impl Children {
@@ -37,7 +39,7 @@ impl Children {
         ensures { result ≡ [] }
     {
         Children {
-            rows: Rows::new(alloc),
+            rows: ChildList::new(alloc),
         }
     }
 
@@ -76,14 +78,14 @@ impl Children {
     }
 
     /// The place of a label, by one binary search.
-    fn place_of<L: Ledger>(&self, label: u8, steps: &mut Steps<L>) -> Place<Child>
+    fn place_of<L: Ledger>(&self, label: u8, steps: &mut Steps<L>) -> Found
         ensures place { IsPlace child_label label self.now result.index }
         ensures first { result.first ≡ slice_get self.now result.index }
         ensures cost { steps.new ≤ steps.old + bits (length self.now) }
         ensures not_less { steps.old ≤ steps.new }
         ensures in_order { IsRising self.now }
     {
-        self.rows.first_from(u64::from(label), steps)
+        self.rows.first_from(label, steps)
     }
 
     /// A child of a new label. For want of memory the children are as before.
@@ -168,7 +170,7 @@ impl Children {
     }
 
     /// The place of a label, where nobody counts the steps.
-    fn seek(&self, label: u8) -> Place<Child>
+    fn seek(&self, label: u8) -> Found
         ensures place { IsPlace child_label label self.now result.index }
         ensures first { result.first ≡ slice_get self.now result.index }
         ensures in_order { IsRising self.now }
@@ -186,7 +188,7 @@ impl Children {
     }
 
     /// The place of a label, in a ledger of its own.
-    fn seek_in<L: Ledger>(&self, label: u8, blank: Blank) -> Place<Child>
+    fn seek_in<L: Ledger>(&self, label: u8, blank: Blank) -> Found
         requires { IsBlankOf L.name L.parts blank }
         ensures place { IsPlace child_label label self.now result.index }
         ensures first { result.first ≡ slice_get self.now result.index }

@@ -2,9 +2,10 @@
 //!
 //! An [`Arena`] is seen as a list of slots. A node has children, which are labels with links in rising
 //! order of label, and perhaps a content link; a time table has its counts. A link is proper or shared.
-//! What makes an arena a cube is the shape of `specs/Shape.antt`. The slots lie in blocks, so none moves
-//! when the arena grows. The crate stands on `block_list`, `time_table` and the walks of `cube_view`.
-//! Which slots a cube has, and how it comes to them, it leaves to the crates above.
+//! What makes an arena a cube is the shape of `specs/Shape.antt`. Up to three children of a node lie in its
+//! slot, more on the heap. The slots lie in blocks, so none moves when the arena grows. The crate stands on
+//! `block_list`, `time_table` and the walks of `cube_view`. Which slots a cube has, and how it comes to
+//! them, it leaves to the crates above.
 //!
 //! ```text
 //! let node = arena.add_node()?;
@@ -15,10 +16,12 @@
 #![tactic(auto)]
 
 mod arena;
+mod child_list;
 mod children;
 mod laws;
 mod link;
 mod packed;
+mod short;
 mod slot;
 
 pub use arena::Arena;

@@ -5,23 +5,30 @@ use crate::link::{Link, LinkKind, SlotId};
 use probe_core::Keyed;
 use std::marker::Model;
 
-/// A child, in 8 bytes. Contracts see its label and its link.
+/// A child, in 6 bytes: the place of its slot in two halves needs no padding, so three children and a mark of how many
+/// there are have the bytes of three pointers. Contracts see its label and its link.
 #[derive(Clone, Copy)]
 pub struct Child {
-    to: u32,
+    high: u16,
+    low: u16,
     label: u8,
     kind: LinkKind,
 }
 
 impl Model for Child {
-    ghost use Rattle.std.specs.Prelude.{ℕ};
+    ghost use Rattle.std.specs.Prelude.{ℕ, ◌+◌, ◌*◌, ◌/◌, ◌%◌, ◌<◌};
+    ghost use Rattle.std.proofs.lemmas.Nat.{div-mul-add, mod-mul-add};
     ghost use Rattle.node_arena.specs.declared.link.Link.{Link as Seen};
 
     ghost Value = { ℕ × Seen };
 
-    ghost view = { λ c. (c.label, record { to = record { 0 = c.to }; kind = c.kind }) };
+    ghost view = { λ c. (c.label, record { to = record { 0 = c.high * 65536 + c.low }; kind = c.kind }) };
 
-    ghost inverse = { λ v. record { to = v.1.to.0; label = v.0; kind = v.1.kind } };
+    ghost invariant = { λ c. c.low < 65536 };
+
+    ghost inverse = { λ v. record { high = v.1.to.0 / 65536; low = v.1.to.0 % 65536; label = v.0; kind = v.1.kind } };
+
+    ghost inverse_ok = { λ c low i. record { high = div-mul-add c.high 65536 c.low low i; low = mod-mul-add c.high 65536 c.low low i; label = c.label; kind = c.kind } };
 }
 
 impl Keyed for Child {
@@ -38,7 +45,8 @@ impl Child {
         ensures { result ≡ (label, link) }
     {
         Child {
-            to: link.to.0,
+            high: (link.to.0 / 65536) as u16,
+            low: (link.to.0 % 65536) as u16,
             label,
             kind: link.kind,
         }
@@ -56,7 +64,7 @@ impl Child {
         ensures { result ≡ self.1 }
     {
         Link {
-            to: SlotId(self.to),
+            to: SlotId(u32::from(self.high) * 65536 + u32::from(self.low)),
             kind: self.kind,
         }
     }

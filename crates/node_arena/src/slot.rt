@@ -19,8 +19,8 @@ use std::alloc::Global;
 use std::sync::ledger::Ledger;
 use time_table::TimeTable;
 
-/// A node has children and perhaps a content, a time table its counts. An empty list of children and an
-/// empty table take no memory besides the slot's.
+/// A node has children and perhaps a content, a time table its counts. Up to three children and an empty
+/// table take no memory besides the slot's.
 #[derive(Drop)]
 pub enum Stored {
     Node(Children, Content),

@@ -15,7 +15,7 @@ pub returns-clause-given : goal.returns-clause-given
 returns-clause-given c = child-read _ _ _ c.item-old.result (found_child _ _ _ c.seek-place.ensures.in_order (lies_at _ _ _ c.seek-place.ensures.place) c.requires) c.item-old.ensures.item ∙ ap (λ (k : Link). Some k) (sym c.link.ensures)
 
 pub returns-clause-replaced : goal.returns-clause-replaced
-returns-clause-replaced c = replaced_is _ _ _ _ _ c.args.link c.new.result c.new.ensures c.self.view_is (lies_at _ _ _ c.seek-place.ensures.place) (found_child _ _ _ c.seek-place.ensures.in_order (lies_at _ _ _ c.seek-place.ensures.place) c.requires) c.set.ensures.written
+returns-clause-replaced c = replaced_is _ _ _ _ _ c.args.link c.new.result c.new.ensures c.self.view_is (lies_at _ _ _ c.seek-place.ensures.place) (found_child _ _ _ c.seek-place.ensures.in_order (lies_at _ _ _ c.seek-place.ensures.place) c.requires) c.set.ensures
 
 pub invariant_of-self : goal.invariant_of-self
-invariant_of-self c = replaced_rises _ _ _ _ _ c.args.link c.new.result c.new.ensures c.self.view_is c.seek-place.ensures.in_order (found_child _ _ _ c.seek-place.ensures.in_order (lies_at _ _ _ c.seek-place.ensures.place) c.requires) c.set.ensures.written
+invariant_of-self c = replaced_rises _ _ _ _ _ c.args.link c.new.result c.new.ensures c.self.view_is c.seek-place.ensures.in_order (found_child _ _ _ c.seek-place.ensures.in_order (lies_at _ _ _ c.seek-place.ensures.place) c.requires) c.set.ensures

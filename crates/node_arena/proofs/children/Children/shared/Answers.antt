@@ -8,7 +8,7 @@ pub loop-i-preserved : goal.loop-i-preserved
 loop-i-preserved c =
     let less : c.loop-i.i < length c.args.self.now = omega (arith, ap length c.self.view_is) in
     share_more _ _ _ _ c.item-child.result less c.loop-i.invariant c.item-child.ensures.item
-    (c.set.ensures.written ∙ ap (λ (k : ℕ × Link). set c.loop-i.rows.items c.loop-i.i k) (c.new.ensures ∙ ap₂ (λ (l : ℕ) (k : Link). (l, k)) c.label.ensures (c.shared.ensures ∙ ap (λ (k : Link). shared (target k)) c.link.ensures)))
+    (c.set.ensures ∙ ap (λ (k : ℕ × Link). set c.loop-i.rows c.loop-i.i k) (c.new.ensures ∙ ap₂ (λ (l : ℕ) (k : Link). (l, k)) c.label.ensures (c.shared.ensures ∙ ap (λ (k : Link). shared (target k)) c.link.ensures)))
 
 pub invariant_of-result : goal.invariant_of-result
 invariant_of-result c =
