@@ -4,6 +4,8 @@ pub mod Composing
 pub mod Counting
 pub mod Earlier
 pub mod Ending
+pub mod FinerEnd
+pub mod FinerWalk
 pub mod Grown
 pub mod Keeping
 pub mod Kids
