@@ -37,7 +37,7 @@ pub record Settles (slots : List Slot) (homes : List Walk) (all : List SpotPath)
   pub holds : HoldsAll slots homes all (link_address homes k) slot
 
 -- spots of the group are those of all
-new_spot : (g h : List Weighted) (q : SpotPath) → Contains (spots_in g) q → Contains (spots_in (g ++ h)) q
+pub new_spot : (g h : List Weighted) (q : SpotPath) → Contains (spots_in g) q → Contains (spots_in (g ++ h)) q
 new_spot g h q c = subst (λ z. Contains z q) (sym (map-append (λ (x : Weighted). x.spot) g h)) (Contains-append_left (spots_in g) (spots_in h) q c)
 
 way_above : (w b : Walk) → IsAbove b (w ++ b)

@@ -4,6 +4,7 @@ pub mod Composing
 pub mod Counting
 pub mod Earlier
 pub mod Ending
+pub mod Entries
 pub mod FinerEnd
 pub mod FinerWalk
 pub mod Grown
@@ -18,6 +19,7 @@ pub mod Pile
 pub mod Putting
 pub mod Relinked
 pub mod Sharer
+pub mod Settling
 pub mod Sharing
 pub mod Standing
 pub mod StartEnd
