@@ -144,7 +144,7 @@ length-added before bin n (r ∷ rs) =
     ]
 
 -- the rows raised at a place, from the bin's place on
-added_at : (before bin n i : ℕ) (rows : List Row) → All (λ r. r.bin < bin) (take i rows) → All (λ r. bin ≤ r.bin) (drop i rows) → take i rows ++ map (raised n) (with_first (last_total before (take i rows)) bin (drop i rows)) ≡ added before bin n rows
+pub added_at : (before bin n i : ℕ) (rows : List Row) → All (λ r. r.bin < bin) (take i rows) → All (λ r. bin ≤ r.bin) (drop i rows) → take i rows ++ map (raised n) (with_first (last_total before (take i rows)) bin (drop i rows)) ≡ added before bin n rows
 added_at before bin n zero [] lesser others = refl
 added_at before bin n zero (r ∷ rs) lesser others = rw (le-ltb r.bin bin (All-head (λ (r : Row). bin ≤ r.bin) r rs others))
 added_at before bin n (suc i) [] lesser others = refl

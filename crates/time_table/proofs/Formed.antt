@@ -9,14 +9,14 @@ use Rattle.std.specs.Cmp.{nat_cmp_total}
 use Rattle.std.specs.FinMap.{entries, len, insert, remove, find, put, get-entries, get-remove, entries-insert, same_entries_map, same_map, nat_cmp-IsAntisymmetric}
 use Rattle.std.proofs.lemmas.Bool.{cases_eq, eq-eqb, ne_eqb}
 use Rattle.probe_core.specs.Bits.{bits}
-use Rattle.time_table.specs.Counts.{AllCounted, count_of, add_many, take_many, total_count}
+use Rattle.time_table.specs.Counts.{AllCounted, count_of, add_many, take_many, add_run, total_count}
 use Rattle.time_table.proofs.Counted.{entries-counts, total_count-counts, AllCounted-counts, len-counts}
 use Rattle.time_table.proofs.Lessened.{find-del}
 use Rattle.time_table.specs.declared.row.Row.{Row}
 use Rattle.time_table.specs.declared.form.Form.{Form}
 use Rattle.time_table.specs.declared.form.Form.TheVariants.{Single, Split}
 use Rattle.time_table.specs.Totals.{Rise, counts, counts_from, last_total}
-use Rattle.time_table.specs.Places.{added, taken, count_at, more, less, del}
+use Rattle.time_table.specs.Places.{added, taken, count_at, more, more_run, less, del}
 use Rattle.time_table.specs.Blocks.{Block, flat, parts, Held, IsHead}
 use Rattle.time_table.specs.Forms.{IsSingle, IsForm, rows_of, form_entries, find_cost, total_of}
 use Rattle.time_table.specs.Blocks.{IsSplit}
@@ -25,6 +25,7 @@ use Rattle.time_table.proofs.Taking.{Rise-taken, All-taken, length-taken}
 use Rattle.time_table.proofs.Joined.{length-le-total}
 use Rattle.time_table.proofs.Blocked.{counts_from-flat, Rise-flat, last_total-flat, held_len}
 use Rattle.time_table.proofs.Counting.{length-flat, search_in_blocks}
+use Rattle.time_table.proofs.Runs.{entries-add_run}
 use Rattle.time_table.proofs.Told.{rows_few}
 
 pub one_block : (rows heads : List Row) (blocks : List Block) (b : Block) (h : Row) → IsSingle rows → 63 ≤ length rows → last_total 0 rows ≤ 2 ^ 63 → heads ≡ h ∷ [] → blocks ≡ b ∷ [] → b.items ≡ rows → 64 ≤ length b.items + b.spare → h.bin ≡ 4294967295 → h.total ≡ last_total 0 rows → IsSplit heads blocks
@@ -114,6 +115,11 @@ added-form f f' bin n is is' new =
     ∙ ap (λ k. put nat_cmp bin (k + n) (form_entries f)) (sym (count-form f bin is))
     ∙ ap (put nat_cmp bin (count_of (counts (rows_of f)) bin + n)) (sym (entries-form f is))
     ∙ sym (entries-insert nat_cmp_total (counts (rows_of f)) bin (count_of (counts (rows_of f)) bin + n)))
+
+pub run-form : (f f' : Form) (run : List (ℕ × ℕ)) → IsForm f → IsForm f' → form_entries f' ≡ more_run run (form_entries f) → counts (rows_of f') ≡ add_run (counts (rows_of f)) run
+run-form f f' run is is' new =
+    same_entries_map (counts (rows_of f')) (add_run (counts (rows_of f)) run)
+    (entries-form f' is' ∙ new ∙ ap (more_run run) (sym (entries-form f is)) ∙ sym (entries-add_run (counts (rows_of f)) run))
 
 pub taken-form : (f f' : Form) (bin n : ℕ) → IsForm f → IsForm f' → form_entries f' ≡ less bin n (form_entries f) → counts (rows_of f') ≡ take_many (counts (rows_of f)) bin n
 taken-form f f' bin n is is' new =

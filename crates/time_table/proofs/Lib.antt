@@ -15,6 +15,8 @@ pub mod Merged
 pub mod Nexts
 pub mod Passing
 pub mod Rising
+pub mod RunRows
+pub mod Runs
 pub mod Summed
 pub mod Taking
 pub mod Told

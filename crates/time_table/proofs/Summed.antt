@@ -13,7 +13,7 @@ abbrev pub gathered : List (ℕ × ℕ) → BinCounts
 gathered [] = empty
 gathered (a ∷ rest) = add_many (gathered rest) a.0 a.1
 
-more_there : (b : Bool) (c d n m : ℕ) → (b ≡ true → c ≡ d) → d ≡ n → cond b (c + m) d ≡ cond b m 0 + n
+pub more_there : (b : Bool) (c d n m : ℕ) → (b ≡ true → c ≡ d) → d ≡ n → cond b (c + m) d ≡ cond b m 0 + n
 more_there true c d n m same is = let e : c ≡ d = same refl in omega arith
 more_there false c d n m same is = omega arith
 

@@ -42,3 +42,8 @@ IsForm (Split split) = IsSplit split.value.heads.items split.value.blocks.items
 abbrev pub HasRoom : Form → Type 0
 HasRoom (Single rows) = length rows.items ≤ 62
 HasRoom (Split split) = Unit {0}
+
+-- a list without blocks has room for so many rows
+abbrev pub HasRoomFor : ℕ → Form → Type 0
+HasRoomFor n (Single rows) = length rows.items + n ≤ 63
+HasRoomFor n (Split split) = ⊥

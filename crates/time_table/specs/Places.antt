@@ -1,5 +1,5 @@
 -- Places among rows in rising order of bin.
-use Rattle.std.specs.Prelude.{ℕ, ◌+◌, ◌-◌, ◌==◌, if◌then◌else◌, nat_lt, List, [], ◌∷◌, ◌++◌, take, drop, map, unwrap_or}
+use Rattle.std.specs.Prelude.{◌≡◌, ℕ, ◌+◌, ◌-◌, ◌<◌, ◌≤◌, ◌==◌, if◌then◌else◌, nat_lt, slice_index_or, List, [], ◌∷◌, ◌++◌, length, take, drop, map, All, unwrap_or}
 use Rattle.std.specs.Ordering.{nat_cmp}
 use Rattle.std.specs.FinMap.{find, put}
 use Rattle.time_table.specs.declared.row.Row.{Row}
@@ -49,3 +49,25 @@ more bin n es = put nat_cmp bin (count_at bin es + n) es
 -- the entries with n records less in a bin
 abbrev pub less : ℕ → ℕ → List (ℕ × ℕ) → List (ℕ × ℕ)
 less bin n es = if count_at bin es == n then del bin es else put nat_cmp bin (count_at bin es - n) es
+
+-- the rows with the amounts of a run more, each in its bin
+abbrev pub added_run : List (ℕ × ℕ) → List Row → List Row
+added_run [] rows = rows
+added_run (a ∷ run) rows = added_run run (added 0 a.0 a.1 rows)
+
+-- the entries with the amounts of a run more, each in its bin
+abbrev pub more_run : List (ℕ × ℕ) → List (ℕ × ℕ) → List (ℕ × ℕ)
+more_run [] es = es
+more_run (a ∷ run) es = more_run run (more a.0 a.1 es)
+
+-- the row of n records of a bin, unless the rows begin with one of the bin
+abbrev pub new_row : ℕ → ℕ → ℕ → List Row → List Row
+new_row before bin n [] = record { bin = bin; total = before + n } ∷ []
+new_row before bin n (row ∷ rows) = if row.bin == bin then [] else record { bin = bin; total = before + n } ∷ []
+
+-- The rows from one place to another have bins less than an end, and stand behind others, each with n records more.
+pub record PutsLesser (bin_end n from to : ℕ) (rows old new : List Row) : Type 0 where
+  pub within : to ≤ length rows
+  pub same : new ++ map (raised n) (drop to rows) ≡ old ++ map (raised n) (drop from rows)
+  pub lesser : All (λ row. row.bin < bin_end) old → All (λ row. row.bin < bin_end) new
+  pub others : (d : Row) → to < length rows → bin_end ≤ (slice_index_or rows to d).bin

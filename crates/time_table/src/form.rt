@@ -1,18 +1,19 @@
 //! The two forms of a table.
-ghost use Rattle.std.specs.Prelude.{◌≡◌, ◌+◌, ◌*◌, ◌<◌, ◌≤◌, ◌^◌, [], ◌∷◌, length, OnOk, OnErr, IfOk, MatchBool};
+ghost use Rattle.std.specs.Prelude.{◌≡◌, ◌+◌, ◌*◌, ◌<◌, ◌≤◌, ◌^◌, [], ◌∷◌, length, OnOk, OnErr, IfOk, IsTrue, MatchBool};
 ghost use Rattle.probe_core.specs.Bits.{bits};
 ghost use Rattle.probe_core.specs.Blanks.{IsBlankOf};
-ghost use Rattle.time_table.specs.Counts.{count_before, first_from};
+ghost use Rattle.time_table.specs.Counts.{IsBinRun, count_before, first_from, run_total};
 ghost use Rattle.time_table.specs.Totals.{Rise, counts, last_total};
-ghost use Rattle.time_table.specs.Places.{count_at, more, less};
+ghost use Rattle.time_table.specs.Places.{count_at, more, more_run, less};
 ghost use Rattle.time_table.specs.Blocks.{parts};
-ghost use Rattle.time_table.specs.Forms.{IsForm, HasRoom, rows_of, form_entries, find_cost, total_of};
+ghost use Rattle.time_table.specs.Forms.{IsForm, HasRoom, HasRoomFor, rows_of, form_entries, find_cost, total_of};
 ghost use Rattle.time_table.specs.Series.{each_before, each_cost};
 
 use crate::change::{add_record, take_record};
 use crate::pair::put_row;
 use crate::place::{next_in, place_of};
 use crate::row::Row;
+use crate::run::merged;
 use crate::series::{are_few, digits, pass_blocks, pass_single};
 use crate::split::{
     add_in, before_in, copy_blocks, next_row_in, put_block, reserve_block, take_in,
@@ -152,6 +153,46 @@ impl Form {
                 add_in(alloc, heads, blocks, bin, amount, &mut steps)
             }
         }
+    }
+
+    /// Whether so many amounts are merged with the rows. A new list of one or two rows would take room for four, and
+    /// blocks are changed in place.
+    pub fn is_mergeable(&self, amounts: usize) -> bool
+        requires { IsForm self.now }
+        ensures { IsTrue result → HasRoomFor amounts self.now }
+    {
+        match self {
+            Form::Single(rows) => {
+                let most = 63 - rows.len();
+                1 < amounts && amounts <= most && 2 < rows.len() + amounts
+            }
+            Form::Split(_) => false,
+        }
+    }
+
+    /// The amounts of a run more, merged with rows that have no blocks.
+    pub fn merge<L: Ledger>(
+        &mut self,
+        alloc: Global,
+        run: &[(u32, u64)],
+        blank: Blank,
+    ) -> Result<(), NoMemory>
+        requires blank { IsBlankOf L.name L.parts blank }
+        requires form { IsForm self.old }
+        requires room { HasRoomFor (length run.now) self.old }
+        requires run { IsBinRun run.now }
+        requires fits { total_of self.old + run_total run.now ≤ 2 ^ 63 }
+        ensures form { IsForm self.new }
+        ensures added { OnOk result (form_entries self.new ≡ more_run run.now (form_entries self.old)) }
+        ensures unchanged { OnErr result (form_entries self.new ≡ form_entries self.old) }
+    {
+        let mut steps = Steps::<L>::new(blank);
+        let rows = match self {
+            Form::Single(rows) => merged(alloc, rows, run, &mut steps)?,
+            Form::Split(_) => unreachable!(),
+        };
+        *self = Form::Single(rows);
+        Ok(())
     }
 
     /// Some records less in a bin that has as many.

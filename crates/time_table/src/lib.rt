@@ -19,6 +19,7 @@ mod form;
 mod pair;
 mod place;
 mod row;
+mod run;
 mod series;
 mod split;
 mod table;

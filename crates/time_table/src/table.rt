@@ -1,9 +1,9 @@
 //! The table of one place in space and the categories.
-ghost use Rattle.std.specs.Prelude.{◌≡◌, ◌+◌, ◌*◌, ◌<◌, ◌≤◌, ◌^◌, IfOk, OnOk, OnErr, IsTrue, length};
+ghost use Rattle.std.specs.Prelude.{◌≡◌, ◌+◌, ◌*◌, ◌<◌, ◌≤◌, ◌^◌, All, IfOk, OnOk, OnErr, IsTrue, length};
 ghost use Rattle.std.specs.FinMap.{empty, contains_key, entries, len};
 ghost use Rattle.probe_core.specs.Bits.{bits};
 ghost use Rattle.probe_core.specs.Blanks.{IsBlankOf};
-ghost use Rattle.time_table.specs.Counts.{AllCounted, count_of, add_many, take_many, add_one, take_one, total_count, count_before, first_from};
+ghost use Rattle.time_table.specs.Counts.{AllCounted, IsBinRun, CanTakeRun, count_of, add_many, take_many, add_one, take_one, add_run, take_run, run_total, total_count, count_before, first_from};
 ghost use Rattle.time_table.specs.Series.{each_before, each_cost};
 
 use crate::form::Form;
@@ -91,6 +91,57 @@ impl TimeTable {
         // A bin that is there has a record: contracts learn it where a field is used.
         let _ = &self.form;
         self.take_many(bin, 1);
+    }
+
+    /// Amounts more, each in its bin. Where the rows and the amounts are few, one pass merges them. For want of memory the
+    /// table is as before.
+    pub fn add_run(&mut self, run: &[(u32, u64)]) -> Result<(), NoMemory>
+        requires run { IsBinRun run.now }
+        requires fits { total_count self.old + run_total run.now ≤ 2 ^ 63 }
+        ensures added { OnOk result (self.new ≡ add_run self.old run.now) }
+        ensures unchanged { OnErr result (self.new ≡ self.old) }
+        ensures was_counted { AllCounted self.old }
+        ensures counted { AllCounted self.new }
+    {
+        if self.form.is_mergeable(run.len()) {
+            return self.form.merge::<Brand>(self.alloc, run, Blank::new(1));
+        }
+        self.add_each(run)
+    }
+
+    /// The same, by one amount after the other.
+    fn add_each(&mut self, run: &[(u32, u64)]) -> Result<(), NoMemory>
+        requires some { All (λ a. 0 < a.1) run.now }
+        requires fits { total_count self.old + run_total run.now ≤ 2 ^ 63 }
+        requires was_counted { AllCounted self.old }
+        ensures added { OnOk result (self.new ≡ add_run self.old run.now) }
+        ensures unchanged { OnErr result (self.new ≡ self.old) }
+    {
+        for i in 0..run.len() {
+            let (bin, amount) = run[i];
+            match self.add_many(bin, amount) {
+                Ok(()) => {}
+                Err(refused) => {
+                    self.take_run(&run[..i]);
+                    return Err(refused);
+                }
+            }
+        }
+        Ok(())
+    }
+
+    /// Amounts less, each in its bin, the last one first. It takes no memory.
+    fn take_run(&mut self, run: &[(u32, u64)])
+        requires some { All (λ a. 0 < a.1) run.now }
+        requires there { CanTakeRun self.old run.now }
+        ensures { self.new ≡ take_run self.old run.now }
+    {
+        let mut left = run.len();
+        while left > 0 {
+            left -= 1;
+            let (bin, amount) = run[left];
+            self.take_many(bin, amount);
+        }
     }
 
     /// How many records fell into bins less than `bin_end`, by a search of the heads and one of a block.

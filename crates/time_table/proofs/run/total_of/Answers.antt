@@ -1,0 +1,6 @@
+use Rattle.std.proofs.Common.{◌-◌, arith}
+use Rattle.time_table.proofs.Joined.{last_total_at}
+use Rattle.time_table.proofs.run.total_of.Goals as goal
+
+pub returns : goal.returns
+returns g c = last_total_at 0 (c.len-len.result - 1) c.args.rows.now.items c.at.result (omega arith) c.at.ensures.item
