@@ -1,7 +1,7 @@
 -- The changing calls of an arena, as functions on its list of slots.
 use Rattle.std.specs.Prelude.{ℕ, ◌==◌, if◌then◌else◌, nat_lt, List, [], ◌∷◌, ◌++◌, map, slice_set, Option, Some, None}
 use Rattle.std.specs.FinMap.{empty}
-use Rattle.time_table.specs.Counts.{add_many, take_many}
+use Rattle.time_table.specs.Counts.{add_many, add_run, take_many}
 use Rattle.node_arena.specs.declared.link.Link.{Link}
 use Rattle.node_arena.specs.Slots.{shared, target, Children, Slot, node, table, empty_node, slot_of}
 
@@ -70,6 +70,11 @@ abbrev pub with_many : Slot → ℕ → ℕ → Slot
 with_many (node children content) bin n = node children content
 with_many (table counts) bin n = table (add_many counts bin n)
 
+-- the slot with the amounts of a run more, each in its bin
+abbrev pub with_run : Slot → List (ℕ × ℕ) → Slot
+with_run (node children content) run = node children content
+with_run (table counts) run = table (add_run counts run)
+
 -- the slot with n records less in a bin
 abbrev pub without_many : Slot → ℕ → ℕ → Slot
 without_many (node children content) bin n = node children content
@@ -110,6 +115,10 @@ set_content slots i c = slice_set slots i (with_content (slot_of slots i) c)
 -- n records more in a bin of the time table at a place
 abbrev pub table_add_many : List Slot → ℕ → ℕ → ℕ → List Slot
 table_add_many slots i bin n = slice_set slots i (with_many (slot_of slots i) bin n)
+
+-- the amounts of a run more in the time table at a place, each in its bin
+abbrev pub table_add_run : List Slot → ℕ → List (ℕ × ℕ) → List Slot
+table_add_run slots i run = slice_set slots i (with_run (slot_of slots i) run)
 
 -- n records less in a bin of the time table at a place
 abbrev pub table_take_many : List Slot → ℕ → ℕ → ℕ → List Slot

@@ -3,11 +3,11 @@ ghost use Rattle.std.specs.Prelude.{◌≡◌, ◌+◌, ◌≤◌, ◌<◌, ◌^
 ghost use Rattle.std.specs.FinMap.{contains_key};
 ghost use Rattle.probe_core.specs.Bits.{bits};
 ghost use Rattle.probe_core.specs.Blanks.{IsBlankOf};
-ghost use Rattle.time_table.specs.Counts.{AllCounted, total_count};
+ghost use Rattle.time_table.specs.Counts.{AllCounted, IsBinRun, run_total, total_count};
 ghost use Rattle.cube_view.specs.Walks.{down, across};
 ghost use Rattle.node_arena.specs.Slots.{id_of, IsNode, IsTable, is_table, count, IsRising, slot_of, children_of, counts_of, link_of};
 ghost use Rattle.node_arena.specs.Stats.{stat_of, AllRising, TellsStat};
-ghost use Rattle.node_arena.specs.Calls.{with_slot, add_node, add_table, copy_slot, put_child, set_child, drop_child, set_content, table_add, table_take, table_add_many, table_take_many, child_from, only_link};
+ghost use Rattle.node_arena.specs.Calls.{with_slot, add_node, add_table, copy_slot, put_child, set_child, drop_child, set_content, table_add, table_take, table_add_many, table_add_run, table_take_many, child_from, only_link};
 
 use crate::children::Children;
 use crate::link::{Link, SlotId};
@@ -204,6 +204,20 @@ impl Arena {
     {
         let slot = self.slots.get_mut(id.0 as usize);
         slot.add_many(bin, amount)
+    }
+
+    /// Counts amounts more in a time table, each in its bin. For want of memory the arena is as before.
+    pub fn table_add_run(&mut self, id: SlotId, run: &[(u32, u64)]) -> Result<(), NoMemory>
+        requires in_range { id.0 < length self.old }
+        requires is_table { IsTable (slot_of self.old id.0) }
+        requires run { IsBinRun run.now }
+        requires fits { total_count (counts_of (slot_of self.old id.0)) + run_total run.now ≤ 2 ^ 63 }
+        ensures added { OnOk result (self.new ≡ table_add_run self.old id.0 run.now) }
+        ensures unchanged { OnErr result (self.new ≡ self.old) }
+        ensures was_counted { AllCounted (counts_of (slot_of self.old id.0)) }
+    {
+        let slot = self.slots.get_mut(id.0 as usize);
+        slot.add_run(run)
     }
 
     /// Counts an amount less in a bin of a time table that has as much. It takes no memory.

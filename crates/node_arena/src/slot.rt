@@ -2,10 +2,10 @@
 ghost use Rattle.std.specs.Prelude.{◌≡◌, ◌+◌, ◌≤◌, ◌<◌, ◌^◌, length, None, Some, IfOk, OnOk, OnErr, IsSome, IsTrue};
 ghost use Rattle.std.specs.FinMap.{contains_key};
 ghost use Rattle.probe_core.specs.Bits.{bits};
-ghost use Rattle.time_table.specs.Counts.{AllCounted, total_count};
+ghost use Rattle.time_table.specs.Counts.{AllCounted, IsBinRun, run_total, total_count};
 ghost use Rattle.cube_view.specs.Walks.{down, across};
 ghost use Rattle.node_arena.specs.Slots.{IsNode, IsTable, is_table, count, IsRising, children_of, counts_of, link as link_at};
-ghost use Rattle.node_arena.specs.Calls.{put, relink, unlink, with_content, with_many, without_many, copied, child_from, only_link};
+ghost use Rattle.node_arena.specs.Calls.{put, relink, unlink, with_content, with_many, with_run, without_many, copied, child_from, only_link};
 ghost use Rattle.node_arena.specs.Stats.{content_that, is_proper, is_shared, capped, with_slot};
 ghost use Rattle.node_arena.specs.Stored.{slot_from};
 
@@ -113,6 +113,21 @@ impl Stored {
     {
         match self {
             Stored::Table(counts) => counts.add_many(bin, amount),
+            Stored::Node(_, _) => unreachable!(),
+        }
+    }
+
+    /// Amounts more, each in its bin.
+    pub fn add_run(&mut self, run: &[(u32, u64)]) -> Result<(), NoMemory>
+        requires is_table { IsTable (slot_from self.old) }
+        requires run { IsBinRun run.now }
+        requires fits { total_count (counts_of (slot_from self.old)) + run_total run.now ≤ 2 ^ 63 }
+        ensures added { OnOk result (slot_from self.new ≡ with_run (slot_from self.old) run.now) }
+        ensures unchanged { OnErr result (slot_from self.new ≡ slot_from self.old) }
+        ensures was_counted { AllCounted (counts_of (slot_from self.old)) }
+    {
+        match self {
+            Stored::Table(counts) => counts.add_run(run),
             Stored::Node(_, _) => unreachable!(),
         }
     }
