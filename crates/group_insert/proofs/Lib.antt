@@ -24,5 +24,7 @@ pub mod Sharing
 pub mod Standing
 pub mod StartEnd
 pub mod Turned
+pub mod Turning
 pub mod Visiting
+pub mod Ways
 pub mod Whole

@@ -8,3 +8,4 @@ pub mod Parts
 pub mod Turns
 pub mod Visiting
 pub mod Visits
+pub mod Ways
