@@ -74,7 +74,8 @@ way_across slots homes values values' roots roots' level dim i j pos d lt at new
     none : value_of values' (f + suc n) ≡ None
     none = ap (value_of values') (omega (arith, e)) ∙ new
 
-tail_of : {s t : Step} {a b : Walk} → s ∷ a ≡ t ∷ b → a ≡ b
+-- what two equal walks leave before their last step
+pub tail_of : {s t : Step} {a b : Walk} → s ∷ a ≡ t ∷ b → a ≡ b
 tail_of e = cc
 
 -- down a value of a category, which is then no longer open
