@@ -18,7 +18,7 @@ added_back slots s = take_at slots (s ∷ []) (length (slots ++ s ∷ []) - 1) (
 pub added_there : (slots : List Slot) (s : Slot) → CanTake Added (with_slot slots s)
 added_there slots s = omega (arith, length_push slots s)
 
-slot-set : (slots : List Slot) (i : ℕ) (s : Slot) → i < length slots → slot_of (set slots i s) i ≡ s
+pub slot-set : (slots : List Slot) (i : ℕ) (s : Slot) → i < length slots → slot_of (set slots i s) i ≡ s
 slot-set slots i s less = get_or-set_same slots i s empty_node less
 
 -- a change of one slot
@@ -122,7 +122,7 @@ counted_slot : (s : Slot) (bin n : ℕ) → AllCounted (counts_of s) → without
 counted_slot (node children content) bin n all = refl
 counted_slot (table counts) bin n all = ap table (take_many-add_many counts bin n all)
 
-is_counted : (s : Slot) (bin n : ℕ) → IsTable s → IsTable (with_many s bin n) × (n ≤ count (with_many s bin n) bin)
+pub is_counted : (s : Slot) (bin n : ℕ) → IsTable s → IsTable (with_many s bin n) × (n ≤ count (with_many s bin n) bin)
 is_counted (node children content) bin n is = absurd (true≢false (sym is))
 is_counted (table counts) bin n is =
     let there : count_of (add_many counts bin n) bin ≡ count_of counts bin + n = count_of-add_many counts bin n bin ∙ ap (λ (b : Bool). cond b (count_of counts bin + n) (count_of counts bin)) (eq-eqb bin bin refl) in

@@ -12,7 +12,7 @@ pub undone-push : (changes : List Change) (c : Change) (slots : List Slot) → u
 undone-push [] c slots = refl
 undone-push (d ∷ changes) c slots = ap (take_back d) (undone-push changes c slots)
 
-can_push : (changes : List Change) (c : Change) (slots : List Slot) → CanTake c slots → CanUndo changes (take_back c slots) → CanUndo (changes ++ c ∷ []) slots
+pub can_push : (changes : List Change) (c : Change) (slots : List Slot) → CanTake c slots → CanUndo changes (take_back c slots) → CanUndo (changes ++ c ∷ []) slots
 can_push [] c slots this can = (this, tt)
 can_push (d ∷ changes) c slots this can = (subst (CanTake d) (sym (undone-push changes c slots)) can.0, can_push changes c slots this can.1)
 
@@ -40,7 +40,7 @@ noted_trail slots next changes noted c room capacity more T N left grown =
 pub kept_trail : (slots next : List Slot) (changes : List Change) (room capacity : ℕ) → IsChangeTrail slots changes room capacity → next ≡ slots → IsChangeTrail next changes room capacity
 kept_trail slots next changes room capacity T e = subst (λ z. IsChangeTrail z changes room capacity) (sym e) T
 
-abbrev worked : List Slot → List Slot → ℕ → ℕ → Worked
+abbrev pub worked : List Slot → List Slot → ℕ → ℕ → Worked
 worked slots start made room = record { slots = slots; start = start; made = made; room = room }
 
 -- what contracts see of it

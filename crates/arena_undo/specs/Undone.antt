@@ -1,6 +1,7 @@
 -- Changes of an arena that are taken back, the last one first.
-use Rattle.std.specs.Prelude.{ℕ, ◌-◌, ◌<◌, ◌≤◌, List, [], ◌∷◌, length, take, IsSome}
+use Rattle.std.specs.Prelude.{ℕ, ◌-◌, ◌<◌, ◌≤◌, List, [], ◌∷◌, length, take, map, IsSome}
 use Rattle.cube_view.specs.Walks.{down}
+use Rattle.node_arena.specs.declared.link.SlotId.{SlotId}
 use Rattle.node_arena.specs.Slots.{Slot, IsNode, IsTable, slot_of, count, link_of}
 use Rattle.node_arena.specs.Calls.{drop_child, set_child, set_content, table_take_many}
 use Rattle.arena_undo.specs.declared.change.Change.{Change}
@@ -25,6 +26,10 @@ CanTake (Put id label) slots = IsNodeAt slots id.0 × IsSome (link_of slots id.0
 CanTake (Relinked id label old) slots = IsNodeAt slots id.0 × IsSome (link_of slots id.0 (down label))
 CanTake (Filled id old) slots = IsNodeAt slots id.0
 CanTake (Counted id bin amount) slots = (id.0 < length slots) × IsTable (slot_of slots id.0) × (0 < amount) × (amount ≤ count (slot_of slots id.0) bin)
+
+-- a change for each amount of a run
+abbrev pub counted_each : SlotId → List (ℕ × ℕ) → List Change
+counted_each id run = map (λ (a : ℕ × ℕ). Counted id a.0 a.1) run
 
 -- the slots before the changes, which stand in the order in which they were made
 abbrev pub undone : List Change → List Slot → List Slot

@@ -16,3 +16,7 @@ begun slots room = record { slots = slots; start = slots; made = 0; room = room 
 -- the work with one change more, which left the slots
 abbrev pub changed : Worked → List Slot → Worked
 changed w slots = record { slots = slots; start = w.start; made = w.made + 1; room = w.room }
+
+-- the work with n changes more, which left the slots
+abbrev pub changed_by : ℕ → Worked → List Slot → Worked
+changed_by n w slots = record { slots = slots; start = w.start; made = w.made + n; room = w.room }

@@ -1,6 +1,6 @@
 //! A change of an arena, with what it takes to undo it.
-ghost use Rattle.std.specs.Prelude.{◌≡◌, ◌<◌, ◌≤◌, [], ◌∷◌, ◌++◌, vec_len, vec_capacity};
-ghost use Rattle.arena_undo.specs.Undone.{CanTake, take_back};
+ghost use Rattle.std.specs.Prelude.{◌≡◌, ◌+◌, ◌<◌, ◌≤◌, [], ◌∷◌, ◌++◌, length, vec_len, vec_capacity};
+ghost use Rattle.arena_undo.specs.Undone.{CanTake, counted_each, take_back};
 
 use node_arena::{Arena, Link, SlotId};
 
@@ -51,5 +51,17 @@ pub fn note(changes: &mut Vec<Change>, change: Change)
     match changes.push(change) {
         Ok(()) => {}
         Err(_) => unreachable!(),
+    }
+}
+
+/// Notes a change for each amount of a run in the room that was taken for them.
+pub fn note_run(changes: &mut Vec<Change>, id: SlotId, run: &[(u32, u64)])
+    requires { vec_len changes.old + length run.now ≤ vec_capacity changes.old }
+    ensures noted { changes.new.items ≡ changes.old.items ++ counted_each id run.now }
+    ensures room { vec_capacity changes.old ≤ vec_capacity changes.new }
+{
+    for i in 0..run.len() {
+        let (bin, amount) = run[i];
+        note(changes, Change::Counted(id, bin, amount));
     }
 }

@@ -1,14 +1,14 @@
 //! An arena at work.
 ghost use Rattle.std.specs.Prelude.{◌≡◌, ◌+◌, ◌<◌, ◌≤◌, ◌^◌, length, None, Some, IfOk, IfErr, OnOk, OnErr, IsSome, IsTrue, ◌↔◌, []};
 ghost use Rattle.probe_core.specs.Bits.{bits};
-ghost use Rattle.time_table.specs.Counts.{AllCounted, total_count};
+ghost use Rattle.time_table.specs.Counts.{AllCounted, IsBinRun, run_total, total_count};
 ghost use Rattle.cube_view.specs.Walks.{down, across};
 ghost use Rattle.node_arena.specs.Slots.{id_of, IsNode, IsTable, is_table, IsRising, slot_of, children_of, counts_of, link_of};
-ghost use Rattle.node_arena.specs.Calls.{add_node, add_table, copy_slot, put_child, set_child, set_content, table_add, table_add_many, child_from, only_link};
+ghost use Rattle.node_arena.specs.Calls.{add_node, add_table, copy_slot, put_child, set_child, set_content, table_add, table_add_many, table_add_run, child_from, only_link};
 ghost use Rattle.node_arena.specs.Stats.{stat_of, AllRising, TellsStat};
-ghost use Rattle.arena_undo.specs.Worked.{begun, changed};
+ghost use Rattle.arena_undo.specs.Worked.{begun, changed, changed_by};
 
-use crate::change::{Change, note, take_change_back};
+use crate::change::{Change, note, note_run, take_change_back};
 use cube_view::Stat;
 use node_arena::{Arena, Link, SlotId};
 use outer_io::NoMemory;
@@ -206,6 +206,22 @@ impl Work {
     {
         self.arena.table_add_many(id, bin, amount)?;
         note(&mut self.changes, Change::Counted(id, bin, amount));
+        Ok(())
+    }
+
+    /// Counts amounts more in a time table, each in its bin, as a change for each. For want of memory
+    /// nothing is changed or recorded.
+    pub fn table_add_run(&mut self, id: SlotId, run: &[(u32, u64)]) -> Result<(), NoMemory>
+        requires room { self.old.made + length run.now ≤ self.old.room }
+        requires in_range { id.0 < length self.old.slots }
+        requires is_table { IsTable (slot_of self.old.slots id.0) }
+        requires run { IsBinRun run.now }
+        requires fits { total_count (counts_of (slot_of self.old.slots id.0)) + run_total run.now ≤ 2 ^ 63 }
+        ensures added { OnOk result (self.new ≡ changed_by (length run.now) self.old (table_add_run self.old.slots id.0 run.now)) }
+        ensures unchanged { OnErr result (self.new ≡ self.old) }
+    {
+        self.arena.table_add_run(id, run)?;
+        note_run(&mut self.changes, id, run);
         Ok(())
     }
 
