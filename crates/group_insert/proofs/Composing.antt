@@ -36,7 +36,7 @@ module _ (z : Schema) (dim level i : ℕ) (part : List Point) (early : dim < tim
   pub leaf_part : (old new : List Slot) → level ≡ deepest z dim → PassesContent z old new dim level i part → VisitsPart z old new dim level i part
   leaf_part old new deep C group homes h K =
       let none = none_at_leaf z group (home_of homes i) (K.at_level ∙ (deep ∙ ap (deepest z) (sym K.in_dim))) in
-      among_ends (time_dim z) h (paths_of z group) old new homes i 0 K.points K.in_range (part_node z group old dim level i part homes h early K) (part_spot z group old dim level i part homes h K) (inr (λ n q c u. none n q c u)) (C group homes h K) (λ n q l c u. none n q c u)
+      among_ends (time_dim z) h (paths_of z group) old new homes [] [] i 0 K.points K.in_range (part_node z group old dim level i part homes h early K) (part_spot z group old dim level i part homes h K) (inr (λ n q c u. none n q c u)) (C group homes h K) (λ n q l c u. none n q c u)
 
   module _ (less : level < deepest z dim) where
     less_at : (group : List Point) (old : List Slot) (homes : List Walk) (h : List Weighted) → IsVisitablePart z group old dim level i part homes h → level_of (home_of homes i) < deepest z (dimension (home_of homes i))
@@ -56,18 +56,18 @@ module _ (z : Schema) (dim level i : ℕ) (part : List Point) (early : dim < tim
     -- a node that does not have one label: its content, then its labels
     pub wide_part : (old mid new : List Slot) → TellsOnlyLabel z dim (level + 1) part old i None → PassesContent z old mid dim level i part → PassesAll z mid new dim level i part → VisitsPart z old new dim level i part
     wide_part old mid new T C L group homes h K =
-        among_ends (time_dim z) h (paths_of z group) old new homes i L.0 K.points K.in_range (part_node z group old dim level i part homes h early K) (part_spot z group old dim level i part homes h K) (inl (two_labels group old homes h K T))
+        among_ends (time_dim z) h (paths_of z group) old new homes [] [] i L.0 K.points K.in_range (part_node z group old dim level i part homes h early K) (part_spot z group old dim level i part homes h K) (inl (two_labels group old homes h K T))
         (L.1 old group homes h None K (C group homes h K)) (none_left group old homes h L.0 K L.2)
 
     has_one : (group : List Point) (old : List Slot) (homes : List Walk) (h : List Weighted) (l : ℕ) → IsVisitablePart z group old dim level i part homes h → TellsOnlyLabel z dim (level + 1) part old i (Some l) → HasOneLabel old homes (paths_of z group) i l
     has_one group old homes h l K T = one_alone z group old homes i l (less_at group old homes h K) (one_at group old homes h (Some l) K T.0) T.1
 
-    begins : (group : List Point) (old : List Slot) (homes : List Walk) (h : List Weighted) (l : ℕ) → IsVisitablePart z group old dim level i part homes h → TellsOnlyLabel z dim (level + 1) part old i (Some l) → IsAmong (time_dim z) h (paths_of z group) old homes i (Some l) 0 old
-    begins group old homes h l K T = among_one (time_dim z) h (paths_of z group) old homes i l K.points K.in_range (part_spot z group old dim level i part homes h K) (has_one group old homes h l K T) K.halfway
+    begins : (group : List Point) (old : List Slot) (homes : List Walk) (h : List Weighted) (l : ℕ) → IsVisitablePart z group old dim level i part homes h → TellsOnlyLabel z dim (level + 1) part old i (Some l) → IsAmong (time_dim z) h (paths_of z group) old homes i (Some l) 0 old [] []
+    begins group old homes h l K T = among_one (time_dim z) h (paths_of z group) old homes [] i l K.points K.in_range (part_spot z group old dim level i part homes h K) (has_one group old homes h l K T) K.halfway
 
     -- a node of one label: its label, and then it shares its child's content
     pub narrow_part : (old mid new : List Slot) (l : ℕ) → TellsOnlyLabel z dim (level + 1) part old i (Some l) → PassesAll z old mid dim level i part → SharesOnly mid new i → VisitsPart z old new dim level i part
-    narrow_part old mid new l T L S group homes h K = among_shares (time_dim z) h (paths_of z group) old mid homes i l L.0 K.points K.in_range nd w one A none new c.link c.is relinked
+    narrow_part old mid new l T L S group homes h K = among_shares (time_dim z) h (paths_of z group) old mid homes [] [] i l L.0 K.points K.in_range nd w one A none new c.link c.is relinked
       where
         nd : is_table (slot_of old i) ≡ false
         nd = part_node z group old dim level i part homes h early K
@@ -78,20 +78,20 @@ module _ (z : Schema) (dim level i : ℕ) (part : List Point) (early : dim < tim
         one : HasOneLabel old homes (paths_of z group) i l
         one = has_one group old homes h l K T
 
-        A : IsAmong (time_dim z) h (paths_of z group) old homes i (Some l) L.0 mid
+        A : IsAmong (time_dim z) h (paths_of z group) old homes i (Some l) L.0 mid [] []
         A = L.1 old group homes h (Some l) K (begins group old homes h l K T)
 
         none : (n : ℕ) (q : SpotPath) → L.0 ≤ n → Contains (spots_in (paths_of z group)) q → Under q (down n ∷ home_of homes i) → ⊥
         none = none_left group old homes h L.0 K L.2
 
         j : (j : ℕ) × (link_of mid i (down l) ≡ Some (proper j))
-        j = child (time_dim z) h (paths_of z group) old mid homes i l L.0 K.points K.in_range nd w one A none
+        j = child (time_dim z) h (paths_of z group) old mid homes [] [] i l L.0 K.points K.in_range nd w one A none
 
         c : LeadsRight mid A.homes' j.0 across w.spot
-        c = child_content (time_dim z) h (paths_of z group) old mid homes i l L.0 K.points K.in_range nd w one A none
+        c = child_content (time_dim z) h (paths_of z group) old mid homes [] [] i l L.0 K.points K.in_range nd w one A none
 
         O : HasOneChild mid i l (proper j.0)
-        O = record { is = j.1; only = alone (time_dim z) h (paths_of z group) old mid homes i l L.0 K.points K.in_range nd w one A none }
+        O = record { is = j.1; only = alone (time_dim z) h (paths_of z group) old mid homes [] [] i l L.0 K.points K.in_range nd w one A none }
 
         relinked : IsRelinked mid new i across (shared (target c.link))
         relinked = subst (λ x. IsRelinked mid x i across (shared (target c.link))) (sym (S l (proper j.0) O c.link c.is)) (relink_content mid i (target c.link) (let a = A.keeps.size in let b = K.in_range in omega (arith, a, b)) (A.keeps.kinds i K.in_range ∙ nd))
@@ -124,13 +124,13 @@ module _ (z : Schema) (dim level i : ℕ) (part : List Point) (early : dim < tim
         let m = made C.group C.old mid next C.homes C.counted C.only from l j C.known C.among S in
         record { group = C.group; homes = m.homes'; counted = C.counted; known = child_visitable z C.group C.old mid next dim level i j from l part C.homes C.counted C.only less C.known C.among N m })
       where
-        made : (group : List Point) (old mid next : List Slot) (homes : List Walk) (h : List Weighted) (only : Option ℕ) (from l j : ℕ) → IsVisitablePart z group old dim level i part homes h → (A : IsAmong (time_dim z) h (paths_of z group) old homes i only from mid) → IsStepped mid i (down l) j next → IsMadeBy (time_dim z) mid next A.homes' i (down l) j
+        made : (group : List Point) (old mid next : List Slot) (homes : List Walk) (h : List Weighted) (only : Option ℕ) (from l j : ℕ) → IsVisitablePart z group old dim level i part homes h → (A : IsAmong (time_dim z) h (paths_of z group) old homes i only from mid [] []) → IsStepped mid i (down l) j next → IsMadeBy (time_dim z) mid next A.homes' i (down l) j
         made group old mid next homes h only from l j K A S = stepped_makes (time_dim z) mid next A.homes' i l j (λ d. let a = ap dimension (A.keeps.homes i K.in_range) in let b = K.in_dim in omega (arith, d, a, b, early)) S
 
     -- .. and then the next label's turn comes
     pub passes_label : (mid next new : List Slot) (from l j : ℕ) → IsLeastFrom z dim (level + 1) from l part → IsStepped mid i (down l) j next → VisitsPart z next new dim (level + 1) j (points_at z dim (level + 1) l part) → PassesLabels z mid new dim level i part from (l + 1)
     passes_label mid next new from l j N S V old group homes h only K A =
-        among_next (time_dim z) h (paths_of z group) old mid next new homes m.homes' i j l only from K.in_range A N.reaches (none_between z group (home_of homes i) from l (less_at group old homes h K) N') (spot_at_label z group (home_of homes i) l (less_at group old homes h K) N'.there) m.makes
+        among_next (time_dim z) h (paths_of z group) old mid next new homes m.homes' [] [] [] i j l only from K.in_range A N.reaches (none_between z group (home_of homes i) from l (less_at group old homes h K) N') (spot_at_label z group (home_of homes i) l (less_at group old homes h K) N'.there) m.makes
         (V group m.homes' h (child_visitable z group old mid next dim level i j from l part homes h only less K A N m))
       where
         m : IsMadeBy (time_dim z) mid next A.homes' i (down l) j

@@ -1,5 +1,5 @@
 -- A time table takes the amounts of a group that lie under its home.
-use Rattle.std.proofs.Common.{◌≡◌, ℕ, ◌<◌, true, ◌⊎◌, inl, inr, ◌↔◌, List, [], ◌∷◌, ◌++◌, Some, Contains, length, refl, sym, ◌∙◌, subst, arith}
+use Rattle.std.proofs.Common.{◌≡◌, ℕ, ◌<◌, true, ◌⊎◌, inl, inr, ◌↔◌, List, ◌∷◌, ◌++◌, Some, Contains, length, refl, sym, ◌∙◌, subst, arith, get_or}
 use Rattle.std.proofs.lemmas.Bool.{cases_eq}
 use Rattle.cube_view.specs.Walks.{Step, down, across, Walk, SpotPath, Under, HasSpot, dimension}
 use Rattle.node_arena.specs.Amounts.{Weighted, spots_in, amount_under}
@@ -12,16 +12,16 @@ use Rattle.proper_path.proofs.Dims.{stops_at_time}
 use Rattle.proper_path.proofs.Links.{table_link}
 use Rattle.group_insert.specs.Added.{IsAdded}
 use Rattle.group_insert.specs.Halfway.{LeadsRight, WillHaveTwo, IsHalfwayBefore}
-use Rattle.group_insert.specs.Later.{IsPut}
+use Rattle.group_insert.specs.Later.{PutOff, link_address, IsPutOff, IsPut}
 use Rattle.group_insert.specs.Turns.{EndedBefore, EndedAfter, IsOpenAbove}
 use Rattle.group_insert.specs.Visits.{ArePoints, HasVisitedAll}
 use Rattle.group_insert.proofs.Earlier.{earlier-irreflexive}
 use Rattle.group_insert.proofs.Ending.{IsLast, last_table}
-use Rattle.group_insert.proofs.Putting.{none_put}
+use Rattle.group_insert.proofs.PutBelow.{no_more}
 use Rattle.group_insert.proofs.StartEnd.{amount_under-both}
 
-pub table_visited : (dims : ℕ) (h g : List Weighted) (old new : List Slot) (homes : List Walk) (i : ℕ) → ArePoints dims h g → HasSpot (spots_in g) (home_of homes i) → IsHalfwayBefore dims old homes h g [] (home_of homes i) → IsAdded old new i (λ b. amount_under g (home_of homes i) b) → HasVisitedAll dims h g old homes i new
-table_visited dims h g old new homes i P w M C = record {
+pub table_visited : (dims : ℕ) (h g : List Weighted) (old new : List Slot) (homes : List Walk) (i : ℕ) (put : List PutOff) → ArePoints dims h g → HasSpot (spots_in g) (home_of homes i) → IsHalfwayBefore dims old homes h g put (home_of homes i) → IsAdded old new i (λ b. amount_under g (home_of homes i) b) → HasVisitedAll dims h g old homes i new put put
+table_visited dims h g old new homes i put P w M C = record {
   homes' = homes;
   halfway = record {
     has_homes = homes_same old new homes C.size C.links M.has_homes;
@@ -37,9 +37,15 @@ table_visited dims h g old new homes i P w M C = record {
       shares = λ j label l o O. shares j label l (M.shares.shares j label l o (before j label l O));
       own_child = λ j label l d O. own_child j label l O (N.only j (linked-lt old j (down label) l (before j label l O).is) d);
     };
-    later = none_put new homes h g (EndedAfter g (home_of homes i));
+    later = record {
+      put_off = λ n d lt. put_off (get_or put n d) (M.later.put_off n d lt);
+      ended = λ n d lt. N.to (link_address homes (get_or put n d)) (M.later.ended n d lt);
+      wide = λ n d lt x. wide (get_or put n d) (M.later.put_off n d lt) (M.later.wide n d lt) (N.only (get_or put n d).node (M.later.put_off n d lt).in_range.0 x);
+      in_order = M.later.in_order;
+    };
   };
   keeps = record { size = omega (arith, C.size); homes = λ j l. refl; links = λ j f l n. C.links j f; kinds = λ j l. C.old_kind j };
+  puts = no_more homes (home_of homes i) put;
 }
   where
     none : (e : Step) (q : SpotPath) → Contains (spots_in g) q → Under q (e ∷ home_of homes i) → ⊥
@@ -48,10 +54,10 @@ table_visited dims h g old new homes i P w M C = record {
     N : IsLast old homes g (EndedBefore g (home_of homes i)) (IsOpenAbove (home_of homes i)) (EndedAfter g (home_of homes i)) (IsOpenAbove (home_of homes i)) i
     N = last_table old homes g i M.has_homes C.place w none
 
-    links : (j : ℕ) (e : Step) → j < length old → (q : SpotPath) → Contains (spots_in g) q → Under q (e ∷ home_of homes j) → EndedBefore g (home_of homes i) (home_of homes j) ⊎ (j ≡ i) → LeadsRight new homes j e q ⊎ IsPut [] j e
+    links : (j : ℕ) (e : Step) → j < length old → (q : SpotPath) → Contains (spots_in g) q → Under q (e ∷ home_of homes j) → EndedBefore g (home_of homes i) (home_of homes j) ⊎ (j ≡ i) → LeadsRight new homes j e q ⊎ IsPut put j e
     links j e l q c u (inl d) = pick (M.visited.links j e l d q c u)
       where
-        pick : LeadsRight old homes j e q ⊎ IsPut [] j e → LeadsRight new homes j e q ⊎ IsPut [] j e
+        pick : LeadsRight old homes j e q ⊎ IsPut put j e → LeadsRight new homes j e q ⊎ IsPut put j e
         pick (inl r) = inl (record { link = r.link; is = C.links j e ∙ r.is; lies = r.lies })
         pick (inr x) = inr x
     links j e l q c u (inr x) = absurd (none e q c (subst (λ z. Under q (e ∷ home_of homes z)) x u))
@@ -75,24 +81,37 @@ table_visited dims h g old new homes i P w M C = record {
     before : (j label : ℕ) (l : Link) → HasOneChild new j label l → HasOneChild old j label l
     before j label l O = record { is = sym (C.links j (down label)) ∙ O.is; only = λ m k x. O.only m k (C.links j (down m) ∙ x) }
 
-    two : (j : ℕ) → WillHaveTwo old [] j → WillHaveTwo new [] j
+    two : (j : ℕ) → WillHaveTwo old put j → WillHaveTwo new put j
     two j t = record { one = t.one; other = t.other; differ = t.differ; at_one = more t.one t.at_one; at_other = more t.other t.at_other }
       where
-        more : (m : ℕ) → IsLinked old j (down m) ⊎ IsPut [] j (down m) → IsLinked new j (down m) ⊎ IsPut [] j (down m)
+        more : (m : ℕ) → IsLinked old j (down m) ⊎ IsPut put j (down m) → IsLinked new j (down m) ⊎ IsPut put j (down m)
         more m (inl x) = inl (record { link = x.link; is = C.links j (down m) ∙ x.is })
         more m (inr x) = inr x
 
-    shares : (j label : ℕ) (l : Link) → SharesContent old j l ⊎ WillHaveTwo old [] j → SharesContent new j l ⊎ WillHaveTwo new [] j
+    shares : (j label : ℕ) (l : Link) → SharesContent old j l ⊎ WillHaveTwo old put j → SharesContent new j l ⊎ WillHaveTwo new put j
     shares j label l (inl c) = inl (record { content = c.content; of_child = C.links (target l) across ∙ c.of_child; of_node = C.links j across ∙ c.of_node })
     shares j label l (inr t) = inr (two j t)
 
-    own_child : (j label : ℕ) (l : Link) → HasOneChild new j label l → EndedBefore g (home_of homes i) (home_of homes j) ⊎ (j ≡ i) → ((to : ℕ) × (l ≡ proper to)) ⊎ WillHaveTwo new [] j
+    own_child : (j label : ℕ) (l : Link) → HasOneChild new j label l → EndedBefore g (home_of homes i) (home_of homes j) ⊎ (j ≡ i) → ((to : ℕ) × (l ≡ proper to)) ⊎ WillHaveTwo new put j
     own_child j label l O (inl d) = pick (M.shares.own_child j label l d (before j label l O))
       where
-        pick : ((to : ℕ) × (l ≡ proper to)) ⊎ WillHaveTwo old [] j → ((to : ℕ) × (l ≡ proper to)) ⊎ WillHaveTwo new [] j
+        pick : ((to : ℕ) × (l ≡ proper to)) ⊎ WillHaveTwo old put j → ((to : ℕ) × (l ≡ proper to)) ⊎ WillHaveTwo new put j
         pick (inl x) = inl x
         pick (inr t) = inr (two j t)
     own_child j label l O (inr e) =
         let x : link_of old i (down label) ≡ Some l = subst (λ z. link_of old z (down label) ≡ Some l) e (before j label l O).is in
         let y = table_link (slot_of old i) (down label) C.kind in
         absurd cc
+
+    put_off : (k : PutOff) → IsPutOff old homes h g k → IsPutOff new homes h g k
+    put_off k o = record {
+      in_range = (omega (arith, o.in_range.0, C.size), omega (arith, o.in_range.1, C.size));
+      leads = o.leads;
+      free = λ j x. o.free j (sym (C.links k.node (down k.label)) ∙ x);
+      wanted = o.wanted;
+      turns = o.turns;
+    }
+
+    wide : (k : PutOff) → IsPutOff old homes h g k → (EndedBefore g (home_of homes i) (home_of homes k.node) → WillHaveTwo old put k.node) → EndedBefore g (home_of homes i) (home_of homes k.node) ⊎ (k.node ≡ i) → WillHaveTwo new put k.node
+    wide k o W (inl d) = two k.node (W d)
+    wide k o W (inr e) = let q = o.wanted in absurd (none (down k.label) q.spot q.is_in (subst (λ z. Under q.spot (down k.label ∷ home_of homes z)) e q.lies))

@@ -1,5 +1,6 @@
 -- The visit of a node of one label ends: it shares its child's content.
-use Rattle.std.proofs.Common.{◌≡◌, ℕ, ◌<◌, ◌≤◌, Bool, true, false, ◌⊎◌, inl, inr, List, [], ◌∷◌, Some, Contains, length, refl, sym, ap, ◌∙◌, subst, arith, true≢false}
+use Rattle.std.proofs.Common.{◌≡◌, ℕ, ◌<◌, ◌≤◌, Bool, true, false, ◌⊎◌, inl, inr, List, ◌∷◌, Some, Contains, length, refl, sym, ap, ◌∙◌, subst, subst₂, arith, true≢false}
+use Rattle.std.proofs.lemmas.List.Elements.{All-contains}
 use Rattle.cube_view.specs.Walks.{Step, down, across, Walk, SpotPath, Under, HasSpot, dimension}
 use Rattle.cube_view.proofs.Walking.{under_before}
 use Rattle.node_arena.specs.Amounts.{Weighted, spots_in}
@@ -12,24 +13,24 @@ use Rattle.proper_path.specs.Order.{IsAbove, itself}
 use Rattle.proper_path.proofs.Dims.{goes_across}
 use Rattle.proper_path.proofs.Steps.{keeps-trans}
 use Rattle.group_insert.specs.Halfway.{LeadsRight, WillHaveTwo, IsHalfwayBefore, IsHalfwayAfter}
-use Rattle.group_insert.specs.Later.{IsPut}
+use Rattle.group_insert.specs.Later.{PutOff, IsPutOff, IsPut}
 use Rattle.group_insert.specs.Turns.{EndedBefore, EndedAfter, IsOpenAbove}
-use Rattle.group_insert.specs.Visits.{ArePoints, HasVisitedAll, IsLabelOf, HasOneLabel, IsAmong}
+use Rattle.group_insert.specs.Visits.{ArePoints, HasVisitedAll, IsLabelOf, HasOneLabel, IsGone, IsAmong}
 use Rattle.group_insert.proofs.Earlier.{lesser_earlier}
 use Rattle.group_insert.proofs.Ending.{IsFinished, node_ends, last_label}
 use Rattle.group_insert.proofs.OneChild.{one_child_leads, one_child_right}
 use Rattle.group_insert.proofs.Relinked.{MayLead, halfway_relinked}
 use Rattle.group_insert.proofs.Sharing.{turn_before}
 
-module _ (dims : ℕ) (h g : List Weighted) (old mid : List Slot) (homes : List Walk) (i l from : ℕ) (P : ArePoints dims h g) (lt : i < length old) (nd : is_table (slot_of old i) ≡ false) (w : HasSpot (spots_in g) (home_of homes i)) (T : HasOneLabel old homes g i l) (A : IsAmong dims h g old homes i (Some l) from mid) (none : (n : ℕ) (q : SpotPath) → from ≤ n → Contains (spots_in g) q → Under q (down n ∷ home_of homes i) → ⊥) where
+module _ (dims : ℕ) (h g : List Weighted) (old mid : List Slot) (homes : List Walk) (before put : List PutOff) (i l from : ℕ) (P : ArePoints dims h g) (lt : i < length old) (nd : is_table (slot_of old i) ≡ false) (w : HasSpot (spots_in g) (home_of homes i)) (T : HasOneLabel old homes g i l) (A : IsAmong dims h g old homes i (Some l) from mid before put) (none : (n : ℕ) (q : SpotPath) → from ≤ n → Contains (spots_in g) q → Under q (down n ∷ home_of homes i) → ⊥) where
   at : home_of A.homes' i ≡ home_of homes i
   at = A.keeps.homes i lt
 
   x : Walk
   x = home_of A.homes' i
 
-  M : IsHalfwayBefore dims mid A.homes' h g [] (down from ∷ home_of A.homes' i)
-  M = subst (λ z. IsHalfwayBefore dims mid A.homes' h g [] (down from ∷ z)) (sym at) A.halfway
+  M : IsHalfwayBefore dims mid A.homes' h g put (down from ∷ home_of A.homes' i)
+  M = subst (λ z. IsHalfwayBefore dims mid A.homes' h g put (down from ∷ z)) (sym at) A.halfway
 
   lt_mid : i < length mid
   lt_mid = omega (arith, lt, A.keeps.size)
@@ -55,7 +56,11 @@ module _ (dims : ℕ) (h g : List Weighted) (old mid : List Slot) (homes : List 
 
   -- the child of that label is the node's own, and it has been visited
   pub child : (j : ℕ) × (link_of mid i (down l) ≡ Some (proper j))
-  child = A.gone l passed (record { spot = w.spot; is_in = w.is_in; lies = goes })
+  child = go (A.gone l passed (record { spot = w.spot; is_in = w.is_in; lies = goes }))
+    where
+      go : IsGone mid put i (Some l) l → (j : ℕ) × (link_of mid i (down l) ≡ Some (proper j))
+      go (inl r) = r
+      go (inr r) = let n = r.0 in absurd cc
 
   pub alone : (n : ℕ) (k : Link) → link_of mid i (down n) ≡ Some k → n ≡ l
   alone n k is = go (A.labels n (record { link = k; is = is }))
@@ -87,9 +92,9 @@ module _ (dims : ℕ) (h g : List Weighted) (old mid : List Slot) (homes : List 
   pub child_content : LeadsRight mid A.homes' child.0 across w.spot
   child_content = go (M.visited.links child.0 across child_in child_done w.spot w.is_in (goes_across dims w.spot (P.spots w.spot w.is_in) (home_of A.homes' child.0) (subst (Under w.spot) (sym child_home) lies) (λ d. not_time (sym (ap dimension child_home) ∙ d))))
     where
-      go : LeadsRight mid A.homes' child.0 across w.spot ⊎ IsPut [] child.0 across → LeadsRight mid A.homes' child.0 across w.spot
+      go : LeadsRight mid A.homes' child.0 across w.spot ⊎ IsPut put child.0 across → LeadsRight mid A.homes' child.0 across w.spot
       go (inl r) = r
-      go (inr p) = let n = p.2 in absurd (omega (arith, n))
+      go (inr p) = let n = p.4.1 in absurd cc
 
   -- and it is the only child
   pub only_is : (label : ℕ) (k : Link) → HasOneChild mid i label k → (label ≡ l) × (k ≡ proper child.0)
@@ -98,21 +103,29 @@ module _ (dims : ℕ) (h g : List Weighted) (old mid : List Slot) (homes : List 
       let m : Some k ≡ Some (proper child.0) = sym O.is ∙ (ap (λ z. link_of mid i (down z)) e ∙ child.1) in
       (e, cc)
 
+  -- no link of the node is put off: it would be at the label of its only child
+  none_off : (k : PutOff) → IsPutOff mid A.homes' h g k → k.node ≡ i → ⊥
+  none_off k o e =
+      let q = o.wanted in
+      let v : Under q.spot (down k.label ∷ home_of homes i) = subst (λ z. Under q.spot (down k.label ∷ z)) (ap (home_of A.homes') e ∙ at) q.lies in
+      let n : k.label ≡ l = same_down q.spot k.label l (home_of homes i) v (T.all q.spot q.is_in (under_before q.spot (down k.label) (home_of homes i) v)) in
+      o.free child.0 (subst₂ (λ a b. link_of mid a (down b) ≡ Some (proper child.0)) (sym e) (sym n) child.1)
+
   module _ (new : List Slot) (c : Link) (is : link_of mid child.0 across ≡ Some c) (R : IsRelinked mid new i across (shared (target c))) where
     O : HasOneChild mid i l (proper child.0)
     O = record { is = child.1; only = alone }
 
     may : MayLead mid A.homes' h g i (target c) across
-    may = one_child_leads dims mid A.homes' h g (EndedBefore g (down from ∷ home_of A.homes' i)) (IsOpenAbove (down from ∷ home_of A.homes' i)) [] i l (proper child.0) c w.spot M (P.alike w.spot w.is_in) lies O is A.content
+    may = one_child_leads dims mid A.homes' h g (EndedBefore g (down from ∷ home_of A.homes' i)) (IsOpenAbove (down from ∷ home_of A.homes' i)) put i l (proper child.0) c w.spot M (P.alike w.spot w.is_in) lies O is A.content
 
-    M' : IsHalfwayBefore dims new A.homes' h g [] (down from ∷ home_of A.homes' i)
-    M' = halfway_relinked dims mid new A.homes' h g (EndedBefore g (down from ∷ home_of A.homes' i)) (IsOpenAbove (down from ∷ home_of A.homes' i)) [] i (target c) across M R
+    M' : IsHalfwayBefore dims new A.homes' h g put (down from ∷ home_of A.homes' i)
+    M' = halfway_relinked dims mid new A.homes' h g (EndedBefore g (down from ∷ home_of A.homes' i)) (IsOpenAbove (down from ∷ home_of A.homes' i)) put i (target c) across M R
         (turn_before g (down from) (home_of A.homes' i) (subst (HasSpot (spots_in g)) (sym at) w)) may
 
     below : (n : ℕ) → link_of new i (down n) ≡ link_of mid i (down n)
     below n = R.old_link i (down n) (λ a b. let z : ⊥ = cc in z)
 
-    links : (e : Step) (q : SpotPath) → Contains (spots_in g) q → Under q (e ∷ home_of A.homes' i) → LeadsRight new A.homes' i e q ⊎ IsPut [] i e
+    links : (e : Step) (q : SpotPath) → Contains (spots_in g) q → Under q (e ∷ home_of A.homes' i) → LeadsRight new A.homes' i e q ⊎ IsPut put i e
     links (down n) q d u =
         let v : Under q (down n ∷ home_of homes i) = subst (λ z. Under q (down n ∷ z)) at u in
         let e : n ≡ l = same_down q n l (home_of homes i) v (T.all q d (under_before q (down n) (home_of homes i) v)) in
@@ -127,7 +140,7 @@ module _ (dims : ℕ) (h g : List Weighted) (old mid : List Slot) (homes : List 
         inl (record {
           link = shared (target c);
           is = R.set_link;
-          lies = one_child_right dims mid A.homes' h g (EndedBefore g (down from ∷ home_of A.homes' i)) (IsOpenAbove (down from ∷ home_of A.homes' i)) [] i l (proper child.0) c M child.1 child_done is q d at_child u;
+          lies = one_child_right dims mid A.homes' h g (EndedBefore g (down from ∷ home_of A.homes' i)) (IsOpenAbove (down from ∷ home_of A.homes' i)) put i l (proper child.0) c M child.1 child_done is q d at_child u;
         })
 
     apart : child.0 ≡ i → ⊥
@@ -140,23 +153,23 @@ module _ (dims : ℕ) (h g : List Weighted) (old mid : List Slot) (homes : List 
         let m : Some k ≡ Some (proper child.0) = sym z ∙ (ap (λ u. link_of mid i (down u)) e ∙ child.1) in
         cc
 
-    shares : (n : ℕ) (k : Link) → HasOneChild new i n k → SharesContent new i k ⊎ WillHaveTwo new [] i
+    shares : (n : ℕ) (k : Link) → HasOneChild new i n k → SharesContent new i k ⊎ WillHaveTwo new put i
     shares n k Q = inl (subst (λ z. SharesContent new i z) (sym (only_new n k Q.is)) (record { content = c; of_child = R.old_link child.0 across (λ a b. apart a) ∙ is; of_node = R.set_link }))
 
-    F : IsFinished new A.homes' g [] i
+    F : IsFinished new A.homes' g put i
     F = record {
       is_node = R.old_kind i ∙ node_mid;
       links = links;
       shares = shares;
       own_child = λ n k Q. inl (child.0, only_new n k Q.is);
-      wide = λ k d e. let y = d.1 in absurd (omega (arith, y));
+      wide = λ k d e. absurd (none_off k (All-contains (IsPutOff mid A.homes' h g) put k M.later.put_off d) e);
     }
 
-    pub among_shares : HasVisitedAll dims h g old homes i new
+    pub among_shares : HasVisitedAll dims h g old homes i new before put
     among_shares = record {
       homes' = A.homes';
-      halfway = subst (λ z. IsHalfwayAfter dims new A.homes' h g [] z) at
-          (node_ends dims new A.homes' h g (EndedBefore g (down from ∷ home_of A.homes' i)) (IsOpenAbove (down from ∷ home_of A.homes' i)) (EndedAfter g (home_of A.homes' i)) (IsOpenAbove (home_of A.homes' i)) [] i (omega (arith, lt_mid, R.size))
+      halfway = subst (λ z. IsHalfwayAfter dims new A.homes' h g put z) at
+          (node_ends dims new A.homes' h g (EndedBefore g (down from ∷ home_of A.homes' i)) (IsOpenAbove (down from ∷ home_of A.homes' i)) (EndedAfter g (home_of A.homes' i)) (IsOpenAbove (home_of A.homes' i)) put i (omega (arith, lt_mid, R.size))
           (last_label new A.homes' g i from M'.has_homes (omega (arith, lt_mid, R.size)) (subst (HasSpot (spots_in g)) (sym at) w) (λ n q y d u. none n q y d (subst (λ z. Under q (down n ∷ z)) at u))) F M');
       keeps = keeps-trans A.keeps (record {
         size = omega (arith, R.size);
@@ -164,4 +177,5 @@ module _ (dims : ℕ) (h g : List Weighted) (old mid : List Slot) (homes : List 
         links = λ j f y n. R.old_link j f (λ a b. n (subst (λ z. IsAbove z (home_of A.homes' j)) at (subst (λ z. IsAbove (home_of A.homes' i) (home_of A.homes' z)) (sym a) itself)));
         kinds = λ j y. R.old_kind j;
       });
+      puts = A.puts;
     }

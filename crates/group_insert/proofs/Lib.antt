@@ -16,6 +16,7 @@ pub mod OneChild
 pub mod Parting
 pub mod Passing
 pub mod Pile
+pub mod PutBelow
 pub mod Putting
 pub mod Relinked
 pub mod Sharer

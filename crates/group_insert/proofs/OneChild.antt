@@ -20,8 +20,8 @@ use Rattle.group_insert.proofs.Standing.{shared_free}
 use Rattle.group_insert.proofs.StartEnd.{old_spot}
 
 -- a node that has no other child than at the label of the group's points has no content of its own
-pub one_child_free : (dims : ℕ) (slots : List Slot) (homes : List Walk) (h g : List Weighted) (done open' : Walk → Type 0) (i label : ℕ) (p : SpotPath) → IsHalfway dims slots homes h g done open' [] → AreOfShape (g ++ h) p → Under p (down label ∷ home_of homes i) → (done (home_of homes i) → ⊥) → (open' (home_of homes i) → ⊥) → ((m : ℕ) (k : Link) → link_of slots i (down m) ≡ Some k → m ≡ label) → IsFree slots i across
-one_child_free dims slots homes h g done open' i label p M shape u d o only j is = go (M.shares.shares i label l o (record { is = is'; only = only }))
+pub one_child_free : (dims : ℕ) (slots : List Slot) (homes : List Walk) (h g : List Weighted) (done open' : Walk → Type 0) (put : List PutOff) (i label : ℕ) (p : SpotPath) → ((m : ℕ) → IsPut put i (down m) → ⊥) → IsHalfway dims slots homes h g done open' put → AreOfShape (g ++ h) p → Under p (down label ∷ home_of homes i) → (done (home_of homes i) → ⊥) → (open' (home_of homes i) → ⊥) → ((m : ℕ) (k : Link) → link_of slots i (down m) ≡ Some k → m ≡ label) → IsFree slots i across
+one_child_free dims slots homes h g done open' put i label p none M shape u d o only j is = go (M.shares.shares i label l o (record { is = is'; only = only }))
   where
     w : HasSpot (spots_in h) (across ∷ home_of homes i)
     w = M.untouched i across (proper j) d o is
@@ -38,9 +38,9 @@ one_child_free dims slots homes h g done open' i label p M shape u d o only j is
     is' : link_of slots i (down label) ≡ Some l
     is' = subst (λ z. link_of slots i (down z) ≡ Some l) (only m.0 l l_is) l_is
 
-    go : SharesContent slots i l ⊎ WillHaveTwo slots [] i → ⊥
+    go : SharesContent slots i l ⊎ WillHaveTwo slots put i → ⊥
     go (inl c) = proper≢shared j (target c.content) (let x : Some (proper j) ≡ Some (shared (target c.content)) = sym is ∙ c.of_node in cc)
-    go (inr t) = one_not_two slots [] i label l (record { is = is'; only = only }) (λ n x. let y = x.2 in omega (arith, y)) t
+    go (inr t) = one_not_two slots put i label l (record { is = is'; only = only }) none t
 
 -- the content of the only child, which all points go down to, may be shared
 pub one_child_leads : (dims : ℕ) (slots : List Slot) (homes : List Walk) (h g : List Weighted) (done open' : Walk → Type 0) (put : List PutOff) (i label : ℕ) (k w : Link) (p : SpotPath) → IsHalfway dims slots homes h g done open' put → AreOfShape (g ++ h) p → Under p (down label ∷ home_of homes i) → HasOneChild slots i label k → link_of slots (target k) across ≡ Some w → IsFree slots i across → MayLead slots homes h g i (target w) across

@@ -76,7 +76,7 @@ content_visitable z group old mid dim level i j part homes h lt K m = record {
   in_range = p.in_range;
   in_dim = let d = ap dimension p.at_home in let e = K.in_dim in omega (arith, d, e);
   at_level = ap level_of p.at_home;
-  halfway = content_at (time_dim z) h (paths_of z group) old mid homes m.homes' i j K.in_range goes K.halfway m.makes;
+  halfway = content_at (time_dim z) h (paths_of z group) old mid homes m.homes' [] i j K.in_range goes K.halfway m.makes;
   part_is = K.part_is ∙ (part_across z group (home_of homes i) before ∙ ap (part_of z group) (sym p.at_home));
   some = K.some;
   points = K.points;
@@ -96,10 +96,10 @@ content_visitable z group old mid dim level i j part homes h lt K m = record {
     goes = record { spot = w.spot; is_in = w.is_in; lies = goes_across (time_dim z) w.spot (K.points.spots w.spot w.is_in) (home_of homes i) w.lies (λ d. omega (arith, d, before)) }
 
 -- and afterwards the labels begin
-pub content_passed : (z : Schema) (old mid new : List Slot) (dim level i j : ℕ) (part : List Point) → dim < time_dim z → IsFilled (time_dim z) (dim + 1) [] old i mid (Some j) → VisitsPart z mid new (dim + 1) 0 j part → (group : List Point) (homes : List Walk) (h : List Weighted) → IsVisitablePart z group old dim level i part homes h → IsAmong (time_dim z) h (paths_of z group) old homes i None 0 new
+pub content_passed : (z : Schema) (old mid new : List Slot) (dim level i j : ℕ) (part : List Point) → dim < time_dim z → IsFilled (time_dim z) (dim + 1) [] old i mid (Some j) → VisitsPart z mid new (dim + 1) 0 j part → (group : List Point) (homes : List Walk) (h : List Weighted) → IsVisitablePart z group old dim level i part homes h → IsAmong (time_dim z) h (paths_of z group) old homes i None 0 new [] []
 content_passed z old mid new dim level i j part lt F V group homes h K =
     let m = filled_makes (time_dim z) dim old mid homes i j K.in_dim F in
-    among_content (time_dim z) h (paths_of z group) old mid new homes m.homes' i j K.in_range K.halfway m.makes (V group m.homes' h (content_visitable z group old mid dim level i j part homes h lt K m))
+    among_content (time_dim z) h (paths_of z group) old mid new homes m.homes' [] [] i j K.in_range K.halfway m.makes (V group m.homes' h (content_visitable z group old mid dim level i j part homes h lt K m))
 
 some_kept : (z : Schema) (dim level l : ℕ) (part : List Point) → HasLabel z dim level l part → 0 < length (points_at z dim level l part)
 some_kept z dim level l [] L = let x = L.is_in.1 in absurd (omega (arith, x))
@@ -111,12 +111,12 @@ some_kept z dim level l (x ∷ part) L = go (λ r. some_kept z dim level l part 
     go rest false e (inr c) = rest (record { point = L.point; is_in = c; at = L.at })
 
 -- the child that was made can be visited with the points of its label
-pub child_visitable : (z : Schema) (group : List Point) (old mid next : List Slot) (dim level i j from l : ℕ) (part : List Point) (homes : List Walk) (h : List Weighted) (only : Option ℕ) → level < deepest z dim → (K : IsVisitablePart z group old dim level i part homes h) → (A : IsAmong (time_dim z) h (paths_of z group) old homes i only from mid) → IsLeastFrom z dim (level + 1) from l part → (m : IsMadeBy (time_dim z) mid next A.homes' i (down l) j) → IsVisitablePart z group next dim (level + 1) j (points_at z dim (level + 1) l part) m.homes' h
+pub child_visitable : (z : Schema) (group : List Point) (old mid next : List Slot) (dim level i j from l : ℕ) (part : List Point) (homes : List Walk) (h : List Weighted) (only : Option ℕ) → level < deepest z dim → (K : IsVisitablePart z group old dim level i part homes h) → (A : IsAmong (time_dim z) h (paths_of z group) old homes i only from mid [] []) → IsLeastFrom z dim (level + 1) from l part → (m : IsMadeBy (time_dim z) mid next A.homes' i (down l) j) → IsVisitablePart z group next dim (level + 1) j (points_at z dim (level + 1) l part) m.homes' h
 child_visitable z group old mid next dim level i j from l part homes h only lt K A N m = record {
   in_range = p.in_range;
   in_dim = ap dimension at_home ∙ K.in_dim;
   at_level = ap level_of at_home ∙ (let e = K.at_level in omega (arith, e));
-  halfway = label_at_child (time_dim z) h (paths_of z group) old mid next homes m.homes' i j l only from K.in_range A N'.reaches (none_between z group (home_of homes i) from l lt' N') goes m.makes;
+  halfway = label_at_child (time_dim z) h (paths_of z group) old mid next homes m.homes' [] [] i j l only from K.in_range A N'.reaches (none_between z group (home_of homes i) from l lt' N') goes m.makes;
   part_is = ap (points_at z dim (level + 1) l) K.part_is ∙ (subst₂ (λ x y. points_at z x (y + 1) l (part_of z group (home_of homes i)) ≡ part_of z group (down l ∷ home_of homes i)) K.in_dim K.at_level (part_down z group (home_of homes i) l lt') ∙ ap (part_of z group) (sym at_home));
   some = some_kept z dim (level + 1) l part N.there;
   points = K.points;

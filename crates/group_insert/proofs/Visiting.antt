@@ -165,7 +165,7 @@ table_has_room z group slots dim level i part homes h t K =
     omega (arith, l, w, e, s, k)
 
 pub table_part : (z : Schema) (old new : List Slot) (dim level i : ℕ) (part : List Point) → IsAdded old new i (λ bin. amount_in part bin) → VisitsPart z old new dim level i part
-table_part z old new dim level i part A group homes h K = table_visited (time_dim z) h (paths_of z group) old new homes i K.points (spot_in_part z group (home_of homes i) (subst (λ x. 0 < length x) K.part_is K.some)) K.halfway (record {
+table_part z old new dim level i part A group homes h K = table_visited (time_dim z) h (paths_of z group) old new homes i [] K.points (spot_in_part z group (home_of homes i) (subst (λ x. 0 < length x) K.part_is K.some)) K.halfway (record {
   size = A.size;
   place = A.place;
   kind = A.kind;

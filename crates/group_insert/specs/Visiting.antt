@@ -37,7 +37,7 @@ pub record CanVisitPart (schema : Schema) (slots : List Slot) (dim level i : ℕ
 
 -- the visit has ended, for all of them that fitted
 abbrev pub VisitsPart : Schema → List Slot → List Slot → ℕ → ℕ → ℕ → List Point → Type 0
-VisitsPart schema old new dim level i part = (group : List Point) (homes : List Walk) (h : List Weighted) → IsVisitablePart schema group old dim level i part homes h → HasVisitedAll (time_dim schema) h (paths_of schema group) old homes i new
+VisitsPart schema old new dim level i part = (group : List Point) (homes : List Walk) (h : List Weighted) → IsVisitablePart schema group old dim level i part homes h → HasVisitedAll (time_dim schema) h (paths_of schema group) old homes i new [] []
 
 -- the visit has begun with these slots, and the labels below `from` have been visited
 pub record CanPass (schema : Schema) (slots : List Slot) (dim level i : ℕ) (part : List Point) (from : ℕ) : Type 0 where
@@ -47,15 +47,15 @@ pub record CanPass (schema : Schema) (slots : List Slot) (dim level i : ℕ) (pa
   pub counted : List Weighted
   pub only : Option ℕ
   pub known : IsVisitablePart schema group old dim level i part homes counted
-  pub among : IsAmong (time_dim schema) counted (paths_of schema group) old homes i only from slots
+  pub among : IsAmong (time_dim schema) counted (paths_of schema group) old homes i only from slots [] []
 
 -- then those below `to` have been, for all of them that fitted
 abbrev pub PassesLabels : Schema → List Slot → List Slot → ℕ → ℕ → ℕ → List Point → ℕ → ℕ → Type 0
-PassesLabels schema before after dim level i part from to = (old : List Slot) (group : List Point) (homes : List Walk) (h : List Weighted) (only : Option ℕ) → IsVisitablePart schema group old dim level i part homes h → IsAmong (time_dim schema) h (paths_of schema group) old homes i only from before → IsAmong (time_dim schema) h (paths_of schema group) old homes i only to after
+PassesLabels schema before after dim level i part from to = (old : List Slot) (group : List Point) (homes : List Walk) (h : List Weighted) (only : Option ℕ) → IsVisitablePart schema group old dim level i part homes h → IsAmong (time_dim schema) h (paths_of schema group) old homes i only from before [] [] → IsAmong (time_dim schema) h (paths_of schema group) old homes i only to after [] []
 
 -- the content has been visited, for all of them that fitted
 abbrev pub PassesContent : Schema → List Slot → List Slot → ℕ → ℕ → ℕ → List Point → Type 0
-PassesContent schema old new dim level i part = (group : List Point) (homes : List Walk) (h : List Weighted) → IsVisitablePart schema group old dim level i part homes h → IsAmong (time_dim schema) h (paths_of schema group) old homes i None 0 new
+PassesContent schema old new dim level i part = (group : List Point) (homes : List Walk) (h : List Weighted) → IsVisitablePart schema group old dim level i part homes h → IsAmong (time_dim schema) h (paths_of schema group) old homes i None 0 new [] []
 
 -- all labels have been visited, for all of them that fitted
 abbrev pub PassesAll : Schema → List Slot → List Slot → ℕ → ℕ → ℕ → List Point → Type 0
@@ -76,7 +76,7 @@ pub record CanShare (slots : List Slot) (i : ℕ) : Type 0 where
   pub from : ℕ
   pub known : IsVisitablePart schema group old dim level i part homes counted
   pub has_one : HasOneLabel old homes (paths_of schema group) i label
-  pub among : IsAmong (time_dim schema) counted (paths_of schema group) old homes i (Some label) from slots
+  pub among : IsAmong (time_dim schema) counted (paths_of schema group) old homes i (Some label) from slots [] []
   pub none : (n : ℕ) (q : SpotPath) → from ≤ n → Contains (spots_in (paths_of schema group)) q → Under q (down n ∷ home_of homes i) → ⊥
 
 -- a node that has one child shares its content

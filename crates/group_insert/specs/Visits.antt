@@ -1,14 +1,15 @@
 -- What holds of a node before its visit for a group, between two of its labels, and afterwards.
-use Rattle.std.specs.Prelude.{◌≡◌, ℕ, ◌<◌, ◌⊎◌, List, [], ◌∷◌, ◌++◌, Option, Some, None, Contains}
+use Rattle.std.specs.Prelude.{◌≡◌, ℕ, ◌<◌, ◌⊎◌, List, [], ◌∷◌, ◌++◌, Option, Some, None, All, Contains}
 use Rattle.cube_view.specs.Walks.{down, across, Walk, SpotPath, Under, HasSpot}
 use Rattle.node_arena.specs.Amounts.{Weighted, spots_in}
 use Rattle.node_arena.specs.Shape.{home_of, IsLinked}
 use Rattle.node_arena.specs.Slots.{proper, Slot, link_of}
 use Rattle.node_arena.specs.declared.link.Link.{Link}
 use Rattle.proper_path.specs.Making.{IsSpotOf, Keeps}
-use Rattle.proper_path.specs.Order.{shape_of}
+use Rattle.proper_path.specs.Order.{IsAbove, shape_of}
 use Rattle.proper_path.specs.Rooted.{state}
 use Rattle.group_insert.specs.Halfway.{IsHalfwayBefore, IsHalfwayAfter}
+use Rattle.group_insert.specs.Later.{PutOff, IsPut}
 
 -- all spots have as many labels in each dimension as p
 abbrev pub AreOfShape : List Weighted → SpotPath → Type 0
@@ -19,11 +20,18 @@ pub record ArePoints (dims : ℕ) (h g : List Weighted) : Type 0 where
   pub alike : (p : SpotPath) → Contains (spots_in g) p → AreOfShape (g ++ h) p
   pub spots : (p : SpotPath) → Contains (spots_in g) p → IsSpotOf dims p
 
--- the visit of slot i has ended; what stands outside keeps its links
-pub record HasVisitedAll (dims : ℕ) (h g : List Weighted) (old : List Slot) (homes : List Walk) (i : ℕ) (new : List Slot) : Type 0 where
+-- the list has entries more, of nodes at or below the address
+pub record PutsBelow (homes : List Walk) (a : Walk) (before after : List PutOff) : Type 0 where
+  pub more : List PutOff
+  pub is : after ≡ before ++ more
+  pub below : All (λ k. IsAbove a (home_of homes k.node)) more
+
+-- the visit of slot i has ended; what stands outside keeps its links, and links were put off below alone
+pub record HasVisitedAll (dims : ℕ) (h g : List Weighted) (old : List Slot) (homes : List Walk) (i : ℕ) (new : List Slot) (before after : List PutOff) : Type 0 where
   pub homes' : List Walk
-  pub halfway : IsHalfwayAfter dims new homes' h g [] (home_of homes i)
+  pub halfway : IsHalfwayAfter dims new homes' h g after (home_of homes i)
   pub keeps : Keeps (state old homes []) (state new homes' []) (home_of homes i)
+  pub puts : PutsBelow homes' (home_of homes i) before after
 
 -- a label of the node is that of a child, or a point of the group goes down it
 abbrev pub IsLabelOf : List Slot → List Walk → List Weighted → ℕ → ℕ → Type 0
@@ -56,13 +64,18 @@ abbrev pub HasContentFor : List Slot → ℕ → Option ℕ → Type 0
 HasContentFor slots i None = (j : ℕ) × (link_of slots i across ≡ Some (proper j))
 HasContentFor slots i (Some l) = (j : ℕ) → link_of slots i across ≡ Some (proper j) → ⊥
 
+-- the child at a label is the node's own, or its link is put off, which is so at no node of one label
+abbrev pub IsGone : List Slot → List PutOff → ℕ → Option ℕ → ℕ → Type 0
+IsGone slots put i only n = ((j : ℕ) × (link_of slots i (down n) ≡ Some (proper j))) ⊎ ((only ≡ None) × IsPut put i (down n))
+
 -- the content and the labels below `from` of node i have been visited
-pub record IsAmong (dims : ℕ) (h g : List Weighted) (old : List Slot) (homes : List Walk) (i : ℕ) (only : Option ℕ) (from : ℕ) (new : List Slot) : Type 0 where
+pub record IsAmong (dims : ℕ) (h g : List Weighted) (old : List Slot) (homes : List Walk) (i : ℕ) (only : Option ℕ) (from : ℕ) (new : List Slot) (before put : List PutOff) : Type 0 where
   pub homes' : List Walk
-  pub halfway : IsHalfwayBefore dims new homes' h g [] (down from ∷ home_of homes i)
+  pub halfway : IsHalfwayBefore dims new homes' h g put (down from ∷ home_of homes i)
   pub keeps : Keeps (state old homes []) (state new homes' []) (home_of homes i)
-  -- the children of labels that were visited are the node's own, and no child was lost
-  pub gone : (n : ℕ) → n < from → HasSpot (spots_in g) (down n ∷ home_of homes i) → (j : ℕ) × (link_of new i (down n) ≡ Some (proper j))
+  pub puts : PutsBelow homes' (home_of homes i) before put
+  -- the children of labels that were visited are the node's own or put off, and no child was lost
+  pub gone : (n : ℕ) → n < from → HasSpot (spots_in g) (down n ∷ home_of homes i) → IsGone new put i only n
   pub kids : (n : ℕ) → IsLinked old i (down n) → IsLinked new i (down n)
   -- each child was there or a point goes down to it
   pub labels : (n : ℕ) → IsLinked new i (down n) → IsLabelOf old homes g i n
