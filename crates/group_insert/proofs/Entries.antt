@@ -7,12 +7,11 @@ use Rattle.std.proofs.lemmas.List.Quantifiers.{all_pairs_push}
 use Rattle.cube_view.specs.Walks.{Step, down, Walk, SpotPath, Under, HasSpot}
 use Rattle.cube_view.proofs.Walking.{under_before}
 use Rattle.node_arena.specs.Amounts.{Weighted, spots_in}
-use Rattle.node_arena.specs.Shape.{home_of, IsLinked, SharesContent}
-use Rattle.node_arena.specs.Slots.{proper, Slot}
-use Rattle.node_arena.specs.declared.link.Link.{Link}
+use Rattle.node_arena.specs.Shape.{home_of, IsLinked}
+use Rattle.node_arena.specs.Slots.{Slot}
 use Rattle.proper_path.specs.Order.{IsAbove, itself, IsBefore}
 use Rattle.proper_path.proofs.Steps.{none_below}
-use Rattle.group_insert.specs.Halfway.{LeadsRight, WillHaveTwo, IsHalfway, IsHalfwayBefore, IsHalfwayAfter}
+use Rattle.group_insert.specs.Halfway.{LeadsRight, WillHaveTwo, PutsOff, IsHalfway, IsHalfwayBefore, IsHalfwayAfter}
 use Rattle.group_insert.specs.Later.{PutOff, link_address, IsPutOff, IsPut}
 use Rattle.group_insert.specs.Turns.{IsEarlier, EndedBefore, EndedAfter, IsOpenAbove}
 use Rattle.group_insert.proofs.Earlier.{earlier_not_before}
@@ -29,6 +28,30 @@ two_still slots put k i t = record { one = t.one; other = t.other; differ = t.di
     more m (inl x) = inl x
     more m (inr x) = inr (put_still put k i (down m) x)
 
+-- another list says the same of links and of nodes that will have two children
+halfway_listed : (dims : ℕ) (slots : List Slot) (homes : List Walk) (h g : List Weighted) (done open' : Walk → Type 0) (put put' : List PutOff) → ((i : ℕ) (e : Step) (q : SpotPath) → Contains (spots_in g) q → Under q (e ∷ home_of homes i) → IsPut put i e → LeadsRight slots homes i e q ⊎ IsPut put' i e) → ((i : ℕ) → WillHaveTwo slots put i → WillHaveTwo slots put' i) → PutsOff slots homes h g done put' → IsHalfway dims slots homes h g done open' put → IsHalfway dims slots homes h g done open' put'
+halfway_listed dims slots homes h g done open' put put' right two later M = record {
+  has_homes = M.has_homes;
+  has_tables = M.has_tables;
+  holds = M.holds;
+  untouched = M.untouched;
+  visited = record { holds = M.visited.holds; links = λ i e l d q c u. links i e q c u (M.visited.links i e l d q c u) };
+  counted = M.counted;
+  shares = record {
+    shares = λ i label l o O. more i (M.shares.shares i label l o O);
+    own_child = λ i label l d O. more i (M.shares.own_child i label l d O);
+  };
+  later = later;
+}
+  where
+    links : (i : ℕ) (e : Step) (q : SpotPath) → Contains (spots_in g) q → Under q (e ∷ home_of homes i) → LeadsRight slots homes i e q ⊎ IsPut put i e → LeadsRight slots homes i e q ⊎ IsPut put' i e
+    links i e q c u (inl x) = inl x
+    links i e q c u (inr x) = right i e q c u x
+
+    more : {A : Type 0} (i : ℕ) → A ⊎ WillHaveTwo slots put i → A ⊎ WillHaveTwo slots put' i
+    more i (inl x) = inl x
+    more i (inr x) = inr (two i x)
+
 -- what the entry that is put behind the others has to be
 pub record MayJoin (slots : List Slot) (homes : List Walk) (h g : List Weighted) (done : Walk → Type 0) (put : List PutOff) (k : PutOff) : Type 0 where
   pub may : IsPutOff slots homes h g k
@@ -38,36 +61,13 @@ pub record MayJoin (slots : List Slot) (homes : List Walk) (h g : List Weighted)
   pub after : All (λ j. IsBefore (link_address homes j) (link_address homes k) → ⊥) put
 
 pub halfway_put : (dims : ℕ) (slots : List Slot) (homes : List Walk) (h g : List Weighted) (done open' : Walk → Type 0) (put : List PutOff) (k : PutOff) → MayJoin slots homes h g done put k → IsHalfway dims slots homes h g done open' put → IsHalfway dims slots homes h g done open' (put ++ k ∷ [])
-halfway_put dims slots homes h g done open' put k J M = record {
-  has_homes = M.has_homes;
-  has_tables = M.has_tables;
-  holds = M.holds;
-  untouched = M.untouched;
-  visited = record { holds = M.visited.holds; links = λ i e l d q c u. links i e q (M.visited.links i e l d q c u) };
-  counted = M.counted;
-  shares = record {
-    shares = λ i label l o O. shares i label l (M.shares.shares i label l o O);
-    own_child = λ i label l d O. own_child i label l (M.shares.own_child i label l d O);
-  };
-  later = record {
-    put_off = All-push (IsPutOff slots homes h g) put k M.later.put_off J.may;
-    ended = All-push (λ j. done (link_address homes j)) put k M.later.ended J.ended;
-    wide = All-push (λ j. done (home_of homes j.node) → WillHaveTwo slots (put ++ k ∷ []) j.node) put k (λ n x lt d. two_still slots put k (get_or put n x).node (M.later.wide n x lt d)) (λ d. absurd (J.not_done d));
-    in_order = all_pairs_push (λ i j. IsBefore (link_address homes i) (link_address homes j) → ⊥) put k M.later.in_order J.after;
-  };
-}
-  where
-    links : (i : ℕ) (e : Step) (q : SpotPath) → LeadsRight slots homes i e q ⊎ IsPut put i e → LeadsRight slots homes i e q ⊎ IsPut (put ++ k ∷ []) i e
-    links i e q (inl x) = inl x
-    links i e q (inr x) = inr (put_still put k i e x)
-
-    shares : (i label : ℕ) (l : Link) → SharesContent slots i l ⊎ WillHaveTwo slots put i → SharesContent slots i l ⊎ WillHaveTwo slots (put ++ k ∷ []) i
-    shares i label l (inl x) = inl x
-    shares i label l (inr x) = inr (two_still slots put k i x)
-
-    own_child : (i label : ℕ) (l : Link) → ((to : ℕ) × (l ≡ proper to)) ⊎ WillHaveTwo slots put i → ((to : ℕ) × (l ≡ proper to)) ⊎ WillHaveTwo slots (put ++ k ∷ []) i
-    own_child i label l (inl x) = inl x
-    own_child i label l (inr x) = inr (two_still slots put k i x)
+halfway_put dims slots homes h g done open' put k J M =
+    halfway_listed dims slots homes h g done open' put (put ++ k ∷ []) (λ i e q c u x. inr (put_still put k i e x)) (two_still slots put k) (record {
+      put_off = All-push (IsPutOff slots homes h g) put k M.later.put_off J.may;
+      ended = All-push (λ j. done (link_address homes j)) put k M.later.ended J.ended;
+      wide = All-push (λ j. done (home_of homes j.node) → WillHaveTwo slots (put ++ k ∷ []) j.node) put k (λ n x lt d. two_still slots put k (get_or put n x).node (M.later.wide n x lt d)) (λ d. absurd (J.not_done d));
+      in_order = all_pairs_push (λ i j. IsBefore (link_address homes i) (link_address homes j) → ⊥) put k M.later.in_order J.after;
+    }) M
 
 -- the last entry's link is there by now
 put_less : (rest : List PutOff) (k : PutOff) (i : ℕ) (e : Step) → IsPut (rest ++ k ∷ []) i e → IsPut rest i e ⊎ ((k.node ≡ i) × (down k.label ≡ e))
@@ -100,40 +100,17 @@ first_of_all P rest k A n d lt = subst P (get_or_append_left rest (k ∷ []) d n
 
 -- the link of the last entry is right, so the entry may go
 pub halfway_less : (dims : ℕ) (slots : List Slot) (homes : List Walk) (h g : List Weighted) (done open' : Walk → Type 0) (rest : List PutOff) (k : PutOff) → IsLinked slots k.node (down k.label) → ((q : SpotPath) → Contains (spots_in g) q → Under q (link_address homes k) → LeadsRight slots homes k.node (down k.label) q) → IsHalfway dims slots homes h g done open' (rest ++ k ∷ []) → IsHalfway dims slots homes h g done open' rest
-halfway_less dims slots homes h g done open' rest k L R M = record {
-  has_homes = M.has_homes;
-  has_tables = M.has_tables;
-  holds = M.holds;
-  untouched = M.untouched;
-  visited = record { holds = M.visited.holds; links = λ i e l d q c u. links i e q c u (M.visited.links i e l d q c u) };
-  counted = M.counted;
-  shares = record {
-    shares = λ i label l o O. shares i label l (M.shares.shares i label l o O);
-    own_child = λ i label l d O. own_child i label l (M.shares.own_child i label l d O);
-  };
-  later = record {
-    put_off = first_of_all (IsPutOff slots homes h g) rest k M.later.put_off;
-    ended = first_of_all (λ j. done (link_address homes j)) rest k M.later.ended;
-    wide = first_of_all (λ j. done (home_of homes j.node) → WillHaveTwo slots rest j.node) rest k (λ n x lt d. two_less slots rest k (get_or (rest ++ k ∷ []) n x).node L (M.later.wide n x lt d));
-    in_order = in_order;
-  };
-}
+halfway_less dims slots homes h g done open' rest k L R M =
+    halfway_listed dims slots homes h g done open' (rest ++ k ∷ []) rest (λ i e q c u x. right i e q c u (put_less rest k i e x)) (λ i. two_less slots rest k i L) (record {
+      put_off = first_of_all (IsPutOff slots homes h g) rest k M.later.put_off;
+      ended = first_of_all (λ j. done (link_address homes j)) rest k M.later.ended;
+      wide = first_of_all (λ j. done (home_of homes j.node) → WillHaveTwo slots rest j.node) rest k (λ n x lt d. two_less slots rest k (get_or (rest ++ k ∷ []) n x).node L (M.later.wide n x lt d));
+      in_order = in_order;
+    }) M
   where
     right : (i : ℕ) (e : Step) (q : SpotPath) → Contains (spots_in g) q → Under q (e ∷ home_of homes i) → IsPut rest i e ⊎ ((k.node ≡ i) × (down k.label ≡ e)) → LeadsRight slots homes i e q ⊎ IsPut rest i e
     right i e q c u (inl x) = inr x
     right i e q c u (inr x) = inl (subst₂ (λ a b. LeadsRight slots homes a b q) x.0 x.1 (R q c (subst₂ (λ a b. Under q (b ∷ home_of homes a)) (sym x.0) (sym x.1) u)))
-
-    links : (i : ℕ) (e : Step) (q : SpotPath) → Contains (spots_in g) q → Under q (e ∷ home_of homes i) → LeadsRight slots homes i e q ⊎ IsPut (rest ++ k ∷ []) i e → LeadsRight slots homes i e q ⊎ IsPut rest i e
-    links i e q c u (inl x) = inl x
-    links i e q c u (inr x) = right i e q c u (put_less rest k i e x)
-
-    shares : (i label : ℕ) (l : Link) → SharesContent slots i l ⊎ WillHaveTwo slots (rest ++ k ∷ []) i → SharesContent slots i l ⊎ WillHaveTwo slots rest i
-    shares i label l (inl x) = inl x
-    shares i label l (inr x) = inr (two_less slots rest k i L x)
-
-    own_child : (i label : ℕ) (l : Link) → ((to : ℕ) × (l ≡ proper to)) ⊎ WillHaveTwo slots (rest ++ k ∷ []) i → ((to : ℕ) × (l ≡ proper to)) ⊎ WillHaveTwo slots rest i
-    own_child i label l (inl x) = inl x
-    own_child i label l (inr x) = inr (two_less slots rest k i L x)
 
     in_order : (i j : ℕ) (d : PutOff) → i < j → j < length rest → IsBefore (link_address homes (get_or rest i d)) (link_address homes (get_or rest j d)) → ⊥
     in_order i j d l lt r =

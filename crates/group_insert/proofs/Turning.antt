@@ -20,7 +20,7 @@ use Rattle.group_insert.specs.Halfway.{IsHalfway}
 use Rattle.group_insert.specs.Labels.{label_at, TellsOneLabel}
 use Rattle.group_insert.specs.Later.{PutOff, IsPutOff}
 use Rattle.group_insert.specs.Parts.{part_of}
-use Rattle.group_insert.specs.Ways.{value_of, way_from, IsOpenIn, IsWayTo}
+use Rattle.group_insert.specs.Ways.{value_gone, way_from, IsOpenIn, IsWayTo}
 use Rattle.group_insert.proofs.FinerWalk.{base_above, turns_before}
 use Rattle.group_insert.proofs.Parting.{in_part, spot_is_of}
 use Rattle.group_insert.proofs.Standing.{shared_free}
@@ -43,7 +43,7 @@ leads_free slots k (same_end s is at) j x = shared_free slots k.node s (down k.l
 abbrev pub entry : List (Option ℕ) → List ℕ → ℕ → ℕ → ℕ → ℕ → ℕ → PutOff
 entry values roots i l f n t = record { node = i; label = l; base = get_or roots f 0; turn = t; way = way_from values f n }
 
-pub may_put_off : (z : Schema) (group : List Point) (slots : List Slot) (homes : List Walk) (h : List Weighted) (done open' : Walk → Type 0) (put : List PutOff) (values : List (Option ℕ)) (roots : List ℕ) (level dim i l f n t : ℕ) → IsHalfway (time_dim z) slots homes h (paths_of z group) done open' put → i < length slots → value_of values dim ≡ None → IsWayTo slots homes values roots level dim i → 1 ≤ f → f + suc n ≡ dim → IsOpenIn values f → level_of (home_of homes (get_or roots f 0)) < deepest z (dimension (home_of homes (get_or roots f 0))) → HasSpot (spots_in (paths_of z group)) (down l ∷ home_of homes i) → TellsOneLabel z (dimension (home_of homes (get_or roots f 0))) (level_of (home_of homes (get_or roots f 0)) + 1) (part_of z group (down l ∷ home_of homes i)) (Some t) → LeadsFiner slots (entry values roots i l f n t) → IsPutOff slots homes h (paths_of z group) (entry values roots i l f n t)
+pub may_put_off : (z : Schema) (group : List Point) (slots : List Slot) (homes : List Walk) (h : List Weighted) (done open' : Walk → Type 0) (put : List PutOff) (values : List (Option ℕ)) (roots : List ℕ) (level dim i l f n t : ℕ) → IsHalfway (time_dim z) slots homes h (paths_of z group) done open' put → i < length slots → value_gone values dim ≡ None → IsWayTo slots homes values roots level dim i → 1 ≤ f → f + suc n ≡ dim → IsOpenIn values f → level_of (home_of homes (get_or roots f 0)) < deepest z (dimension (home_of homes (get_or roots f 0))) → HasSpot (spots_in (paths_of z group)) (down l ∷ home_of homes i) → TellsOneLabel z (dimension (home_of homes (get_or roots f 0))) (level_of (home_of homes (get_or roots f 0)) + 1) (part_of z group (down l ∷ home_of homes i)) (Some t) → LeadsFiner slots (entry values roots i l f n t) → IsPutOff slots homes h (paths_of z group) (entry values roots i l f n t)
 may_put_off z group slots homes h done open' put values roots level dim i l f n t M lt was W some e o lv w T L = record {
   in_range = (lt, (W f (suc n) some e o).in_range);
   leads = leads;

@@ -7,17 +7,17 @@ use Rattle.node_arena.specs.Slots.{Slot}
 use Rattle.proper_path.specs.Paths.{level_of}
 
 -- the value that was gone down in a dimension, if one was
-abbrev pub value_of : List (Option ℕ) → ℕ → Option ℕ
-value_of values dim = slice_index_or values dim None
+abbrev pub value_gone : List (Option ℕ) → ℕ → Option ℕ
+value_gone values dim = slice_index_or values dim None
 
 -- the steps from the content of a slot of dimension f, through n dimensions, the last one first
 abbrev pub way_from : List (Option ℕ) → ℕ → ℕ → Walk
 way_from values f zero = []
-way_from values f (suc n) = across ∷ value_step (value_of values (f + suc n)) (way_from values f n)
+way_from values f (suc n) = across ∷ value_step (value_gone values (f + suc n)) (way_from values f n)
 
 -- no label has been gone down in the dimension, or it is space
 abbrev pub IsOpenIn : List (Option ℕ) → ℕ → Type 0
-IsOpenIn values f = (f ≡ 1) ⊎ (value_of values f ≡ None)
+IsOpenIn values f = (f ≡ 1) ⊎ (value_gone values f ≡ None)
 
 -- slot `root` of dimension f stands on the way to slot i, n dimensions on; that of space has the level
 pub record IsRootOn (slots : List Slot) (homes : List Walk) (values : List (Option ℕ)) (level f n root i : ℕ) : Type 0 where
