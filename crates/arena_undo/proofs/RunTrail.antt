@@ -34,7 +34,7 @@ still_table slots i bin n some T =
       counted = subst (λ (s : Slot). AllCounted (counts_of s)) (sym e) (counted_with (slot_of slots i) bin n some T.counted);
     }
 
-run_none : (s : Slot) → with_run s [] ≡ s
+pub run_none : (s : Slot) → with_run s [] ≡ s
 run_none (node children content) = refl
 run_none (table counts) = refl
 
@@ -43,7 +43,7 @@ run_more (node children content) a run = refl
 run_more (table counts) a run = refl
 
 -- one amount, and then the others
-table_add_run-cons : (slots : List Slot) (i : ℕ) (a : ℕ × ℕ) (run : List (ℕ × ℕ)) → i < length slots → table_add_run slots i (a ∷ run) ≡ table_add_run (table_add_many slots i a.0 a.1) i run
+pub table_add_run-cons : (slots : List Slot) (i : ℕ) (a : ℕ × ℕ) (run : List (ℕ × ℕ)) → i < length slots → table_add_run slots i (a ∷ run) ≡ table_add_run (table_add_many slots i a.0 a.1) i run
 table_add_run-cons slots i a run less =
     let new : Slot = with_many (slot_of slots i) a.0 a.1 in
     ap (set slots i) (run_more (slot_of slots i) a run)

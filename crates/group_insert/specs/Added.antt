@@ -1,5 +1,6 @@
 -- What a time table is once it has taken points.
-use Rattle.std.specs.Prelude.{◌≡◌, ℕ, ◌+◌, ◌<◌, true, ◌==◌, if◌then◌else◌, List, length, sum_by}
+use Rattle.std.specs.Prelude.{◌≡◌, ℕ, ◌+◌, ◌<◌, ◌≤◌, true, ◌==◌, if◌then◌else◌, List, length, take, sum_by}
+use Rattle.time_table.specs.Counts.{IsBinRun, amount_at, run_total}
 use Rattle.cube_view.specs.Points.{Point, spot_of, weight_of_point}
 use Rattle.cube_view.specs.Walks.{Step}
 use Rattle.node_arena.specs.Slots.{Slot, link_of, slot_of, count, is_table}
@@ -20,3 +21,19 @@ pub record IsAdded (old new : List Slot) (i : ℕ) (more : ℕ → ℕ) : Type 0
   pub here : (b : ℕ) → count (slot_of new i) b ≡ count (slot_of old i) b + more b
   pub old_count : (j b : ℕ) → (j ≡ i → ⊥) → count (slot_of new j) b ≡ count (slot_of old j) b
   pub old_kind : (j : ℕ) → is_table (slot_of new j) ≡ is_table (slot_of old j)
+
+-- the points from one place to another have one bin, and weigh n together
+pub record IsOneBin (part : List Point) (from to bin n : ℕ) : Type 0 where
+  pub further : from < to
+  pub within : to ≤ length part
+  pub some : 0 < n
+  pub amounts : (b : ℕ) → amount_in (take from part) b + (if bin == b then n else 0) ≡ amount_in (take to part) b
+  pub total : part_weight (take from part) + n ≡ part_weight (take to part)
+
+-- a run has the weights of the points from one place to another
+pub record IsRunOf (part : List Point) (from to : ℕ) (run : List (ℕ × ℕ)) : Type 0 where
+  pub further : from < to
+  pub within : to ≤ length part
+  pub rising : IsBinRun run
+  pub amounts : (b : ℕ) → amount_in (take from part) b + amount_at b run ≡ amount_in (take to part) b
+  pub total : part_weight (take from part) + run_total run ≡ part_weight (take to part)

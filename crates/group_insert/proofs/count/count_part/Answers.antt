@@ -1,13 +1,15 @@
 use Rattle.std.proofs.Common.{◌∙◌}
-use Rattle.group_insert.proofs.Adding.{count_steps, total_steps, still_fits}
+use Rattle.std.proofs.lemmas.Result.{on_ok_weaker}
+use Rattle.group_insert.proofs.Runs.{one_counted, run_steps, run_totals}
 use Rattle.group_insert.proofs.count.count_part.Goals as goal
 
-pub count_point-requires-clause-fits : goal.count_point-requires-clause-fits
-count_point-requires-clause-fits c = still_fits _ _ c.args.part.now c.loop-point.point-index _ c.loop-point-test.true c.loop-point.invariant.total c.requires.fits
+pub returns-then-part-eq1-clause-added : goal.returns-then-part-eq1-clause-added
+returns-then-part-eq1-clause-added c =
+    on_ok_weaker c.count_point.result (λ e. one_counted c.args.work.now.slots c.count_point.new.work.slots c.args.table.0 c.args.part.now _ c.if-part-eq1.true c.requires.in_range c.requires.is_table e) c.count_point.ensures.counted
 
-pub loop-point-preserved : goal.loop-point-preserved
-loop-point-preserved c = record {
-  added = count_steps c.args.work.now.slots c.loop-point.work.slots _ c.args.table.0 c.args.part.now c.loop-point.point-index _ c.loop-point-test.true c.loop-point.invariant.added c.in_ok-count_point.ensures.counted;
-  total = total_steps c.args.work.now.slots c.loop-point.work.slots _ c.args.table.0 _ c.args.part.now c.loop-point.point-index _ c.loop-point-test.true c.loop-point.invariant.added c.loop-point.invariant.total c.in_ok-count_point.ensures.counted;
-  start = c.count_point.ensures.start ∙ c.loop-point.invariant.start;
+pub loop-from-preserved : goal.loop-from-preserved
+loop-from-preserved c = record {
+  added = run_steps c.args.work.now.slots c.loop-from.work.slots _ c.args.table.0 c.loop-from.from c.gather_run-to.result.0 c.args.part.now _ c.loop-from.invariant.added c.gather_run-to.ensures.gathered c.in_ok-count_run.ensures.counted;
+  total = run_totals c.args.work.now.slots c.loop-from.work.slots _ c.args.table.0 _ c.loop-from.from c.gather_run-to.result.0 c.args.part.now _ c.loop-from.invariant.added c.gather_run-to.ensures.gathered c.loop-from.invariant.total c.in_ok-count_run.ensures.counted;
+  start = c.count_run.ensures.start ∙ c.loop-from.invariant.start;
 }
