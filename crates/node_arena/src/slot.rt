@@ -19,8 +19,8 @@ use std::alloc::Global;
 use std::sync::ledger::Ledger;
 use time_table::TimeTable;
 
-/// A node has children and perhaps a content, a time table its counts. Up to three children and an empty
-/// table take no memory besides the slot's.
+/// A node has children and perhaps a content, a time table its counts. Up to three children, and up to three
+/// rows of a table whose totals have 32 bits, take no memory besides the slot's.
 #[derive(Drop)]
 pub enum Stored {
     Node(Children, Content),

@@ -1,4 +1,4 @@
--- The two forms of a table.
+-- The forms of a table.
 use Rattle.std.proofs.Common.{◌≡◌, ℕ, ◌+◌, ◌-◌, ◌<◌, ◌≤◌, ◌^◌, List, [], ◌∷◌, length, get_or, All, sym, ap, subst, inl, inr, cond, ◌∙◌, arith}
 use Rattle.std.proofs.lemmas.List.Elements.{All-weaker}
 use Rattle.std.proofs.lemmas.List.{append-nil}
@@ -14,12 +14,15 @@ use Rattle.time_table.proofs.Counted.{entries-counts, total_count-counts, AllCou
 use Rattle.time_table.proofs.Lessened.{find-del}
 use Rattle.time_table.specs.declared.row.Row.{Row}
 use Rattle.time_table.specs.declared.form.Form.{Form}
-use Rattle.time_table.specs.declared.form.Form.TheVariants.{Single, Split}
+use Rattle.time_table.specs.declared.form.Form.TheVariants.{Few, Single, Split}
+use Rattle.time_table.specs.declared.few.Few.{Few as Kept}
+use Rattle.time_table.specs.declared.few.Few.TheVariants.{No, One, Two, Three}
 use Rattle.time_table.specs.Totals.{Rise, counts, counts_from, last_total}
 use Rattle.time_table.specs.Places.{added, taken, count_at, more, more_run, less, del}
 use Rattle.time_table.specs.Blocks.{Block, flat, parts, Held, IsHead}
 use Rattle.time_table.specs.Forms.{IsSingle, IsForm, rows_of, form_entries, find_cost, total_of}
 use Rattle.time_table.specs.Blocks.{IsSplit}
+use Rattle.time_table.specs.Fews.{few_rows}
 use Rattle.time_table.proofs.Adding.{Rise-added, All-added, length-added}
 use Rattle.time_table.proofs.Taking.{Rise-taken, All-taken, length-taken}
 use Rattle.time_table.proofs.Joined.{length-le-total}
@@ -84,14 +87,17 @@ single_either (Ok x) bin n rows new single room some fits ok err = single_added 
 single_either (Err e) bin n rows new single room some fits ok err = subst IsSingle (sym err) single
 
 pub Rise-rows : (f : Form) → IsForm f → Rise 0 0 (rows_of f)
+Rise-rows (Few few) is = is.rise
 Rise-rows (Single rows) is = is.rise
 Rise-rows (Split split) is = Rise-flat 0 0 split.value.heads.items split.value.blocks.items is.held
 
 pub entries-form : (f : Form) → IsForm f → entries (counts (rows_of f)) ≡ form_entries f
+entries-form (Few few) is = entries-counts (few_rows few) is.rise
 entries-form (Single rows) is = entries-counts rows.items is.rise
 entries-form (Split split) is = entries-counts (flat 0 split.value.blocks.items) (Rise-flat 0 0 split.value.heads.items split.value.blocks.items is.held) ∙ counts_from-flat 0 split.value.blocks.items
 
 pub total-form : (f : Form) → IsForm f → total_count (counts (rows_of f)) ≡ total_of f
+total-form (Few few) is = total_count-counts (few_rows few) is.rise
 total-form (Single rows) is = total_count-counts rows.items is.rise
 total-form (Split split) is = total_count-counts (flat 0 split.value.blocks.items) (Rise-flat 0 0 split.value.heads.items split.value.blocks.items is.held) ∙ last_total-flat 0 0 split.value.heads.items split.value.blocks.items is.held
 
@@ -151,8 +157,17 @@ some_heads [] [] held = absurd (omega arith)
 some_heads [] (b ∷ bs) held = absurd held
 some_heads (h ∷ hs) bs held = omega arith
 
+-- a look at each of a few rows is no more than the number of rows has binary digits, and one
+pub few-le : (few : Kept) → (length (few_rows few) ≤ 3) × (length (few_rows few) ≤ 1 + bits (length (few_rows few)))
+unfolding bits
+few-le No = (omega arith, omega arith)
+few-le (One a) = (omega arith, omega arith)
+few-le (Two a b) = (omega arith, omega arith)
+few-le (Three a b c) = (omega arith, omega arith)
+
 -- a search looks at no more rows than the number of rows has binary digits, and one
 pub find_cost-le : (f : Form) → IsForm f → find_cost f ≤ 1 + bits (length (rows_of f))
+find_cost-le (Few few) form = (few-le few).1
 find_cost-le (Single rows) form = omega arith
 find_cost-le (Split split) form =
     let same = held_len 0 0 split.value.heads.items split.value.blocks.items form.held in
@@ -161,5 +176,6 @@ find_cost-le (Split split) form =
 
 -- no table has more rows than there are bins
 pub rows-few : (f : Form) → IsForm f → length (rows_of f) ≤ 2 ^ 32
+rows-few (Few few) form = let short = (few-le few).0 in omega (arith, short)
 rows-few (Single rows) form = let few = form.few in omega (arith, few)
 rows-few (Split split) form = rows_few split.value.heads.items split.value.blocks.items form.held

@@ -1,5 +1,6 @@
 pub mod AddLaws
 pub mod Adding
+mod Below
 pub mod Blocked
 pub mod Copied
 pub mod CountLaws

@@ -1,29 +1,34 @@
--- The two forms of a table: one list of rows, or blocks under heads.
+-- The forms of a table: a few rows in its own bytes, one list of rows, or blocks under heads.
 use Rattle.std.specs.Prelude.{ℕ, ◌+◌, ◌≤◌, List, length, All}
 use Rattle.probe_core.specs.Bits.{bits}
 use Rattle.time_table.specs.declared.row.Row.{Row}
 use Rattle.time_table.specs.declared.form.Form.{Form}
-use Rattle.time_table.specs.declared.form.Form.TheVariants.{Single, Split}
+use Rattle.time_table.specs.declared.form.Form.TheVariants.{Few, Single, Split}
 use Rattle.time_table.specs.Totals.{Rise, counts_from, last_total}
 use Rattle.time_table.specs.Blocks.{flat, parts, IsSplit}
+use Rattle.time_table.specs.Fews.{few_rows}
 
 -- the rows of a table as one list
 abbrev pub rows_of : Form → List Row
+rows_of (Few few) = few_rows few
 rows_of (Single rows) = rows.items
 rows_of (Split split) = flat 0 split.value.blocks.items
 
 -- the bins with their counts
 abbrev pub form_entries : Form → List (ℕ × ℕ)
+form_entries (Few few) = counts_from 0 (few_rows few)
 form_entries (Single rows) = counts_from 0 rows.items
 form_entries (Split split) = parts split.value.blocks.items
 
 -- how many records there are
 abbrev pub total_of : Form → ℕ
+total_of (Few few) = last_total 0 (few_rows few)
 total_of (Single rows) = last_total 0 rows.items
 total_of (Split split) = last_total 0 split.value.heads.items
 
--- at most how many rows a search looks at: a search of the heads is followed by one of a block
+-- at most how many rows a search looks at: each of a few, and a search of the heads is followed by one of a block
 abbrev pub find_cost : Form → ℕ
+find_cost (Few few) = length (few_rows few)
 find_cost (Single rows) = bits (length rows.items)
 find_cost (Split split) = bits (length split.value.heads.items) + 6
 
@@ -33,17 +38,26 @@ pub record IsSingle (rows : List Row) : Type 0 where
   pub bins : All (λ row. row.bin ≤ 4294967295) rows
   pub few : length rows ≤ 63
 
--- the form of a table: rows without blocks, or in blocks
+-- the form of a table: rows without blocks, in its own bytes or on the heap, or rows in blocks
 abbrev pub IsForm : Form → Type 0
+IsForm (Few few) = IsSingle (few_rows few)
 IsForm (Single rows) = IsSingle rows.items
 IsForm (Split split) = IsSplit split.value.heads.items split.value.blocks.items
 
--- a list without blocks has room for a row
+-- the rows do not lie in the table's own bytes
+abbrev pub IsWide : Form → Type 0
+IsWide (Few few) = ⊥
+IsWide (Single rows) = Unit {0}
+IsWide (Split split) = Unit {0}
+
+-- the rows do not lie in the table's own bytes, and a list without blocks has room for a row
 abbrev pub HasRoom : Form → Type 0
+HasRoom (Few few) = ⊥
 HasRoom (Single rows) = length rows.items ≤ 62
 HasRoom (Split split) = Unit {0}
 
--- a list without blocks has room for so many rows
+-- a list without blocks has room for so many rows more
 abbrev pub HasRoomFor : ℕ → Form → Type 0
+HasRoomFor n (Few few) = length (few_rows few) + n ≤ 63
 HasRoomFor n (Single rows) = length rows.items + n ≤ 63
 HasRoomFor n (Split split) = ⊥

@@ -1,5 +1,6 @@
 pub mod Blocks
 pub mod Counts
+pub mod Fews
 pub mod Forms
 pub mod Places
 pub mod Series

@@ -1,15 +1,16 @@
-//! The two forms of a table.
-ghost use Rattle.std.specs.Prelude.{◌≡◌, ◌+◌, ◌*◌, ◌<◌, ◌≤◌, ◌^◌, [], ◌∷◌, length, OnOk, OnErr, IfOk, IsTrue, MatchBool};
+//! The forms of a table.
+ghost use Rattle.std.specs.Prelude.{◌≡◌, ◌+◌, ◌*◌, ◌<◌, ◌≤◌, ◌^◌, [], ◌∷◌, length, OnOk, OnErr, IfOk, IsTrue, MatchBool, false};
 ghost use Rattle.probe_core.specs.Bits.{bits};
 ghost use Rattle.probe_core.specs.Blanks.{IsBlankOf};
 ghost use Rattle.time_table.specs.Counts.{IsBinRun, count_before, first_from, run_total};
 ghost use Rattle.time_table.specs.Totals.{Rise, counts, last_total};
 ghost use Rattle.time_table.specs.Places.{count_at, more, more_run, less};
 ghost use Rattle.time_table.specs.Blocks.{parts};
-ghost use Rattle.time_table.specs.Forms.{IsForm, HasRoom, HasRoomFor, rows_of, form_entries, find_cost, total_of};
+ghost use Rattle.time_table.specs.Forms.{IsForm, IsWide, HasRoom, HasRoomFor, rows_of, form_entries, find_cost, total_of};
 ghost use Rattle.time_table.specs.Series.{each_before, each_cost};
 
 use crate::change::{add_record, take_record};
+use crate::few::Few;
 use crate::pair::put_row;
 use crate::place::{next_in, place_of};
 use crate::row::Row;
@@ -24,9 +25,10 @@ use std::alloc::Global;
 use std::mem::replace;
 use std::sync::ledger::{Blank, Ledger};
 
-/// A short list of rows, or heads and blocks.
+/// A few rows in the table's own bytes, a short list of rows, or heads and blocks.
 #[derive(Drop)]
 pub enum Form {
+    Few(Few),
     Single(Rows<Row>),
     Split(Box<Split>),
 }
@@ -46,6 +48,7 @@ impl Form {
         ensures cost { steps.new ≤ steps.old + find_cost self.now }
     {
         match self {
+            Form::Few(few) => few.before(bin_end, steps),
             Form::Single(rows) => place_of(rows, bin_end, steps).below,
             Form::Split(split) => before_in(&split.heads, &split.blocks, bin_end, steps),
         }
@@ -77,6 +80,8 @@ impl Form {
         ensures few { result ≤ 70 }
     {
         match self {
+            // Each of its rows is looked at.
+            Form::Few(few) => few.len(),
             Form::Single(rows) => digits(rows.len()),
             // A block has at most 63 rows.
             Form::Split(split) => digits(split.heads.len()) + 6,
@@ -94,6 +99,7 @@ impl Form {
         // A pass of blocks begins with a search too.
         let most = (ends - 1).saturating_mul(self.find_cost());
         match self {
+            Form::Few(few) => few.len() <= most,
             Form::Single(rows) => rows.len() <= most,
             Form::Split(split) => are_few(&split.blocks, most),
         }
@@ -107,6 +113,7 @@ impl Form {
         ensures cost { steps.new ≤ steps.old + (find_cost self.now + length (rows_of self.now)) }
     {
         match self {
+            Form::Few(few) => few.pass(from, wide, totals, steps),
             Form::Single(rows) => pass_single(rows, from, wide, totals, steps),
             Form::Split(split) => {
                 pass_blocks(&split.heads, &split.blocks, from, wide, totals, steps);
@@ -144,9 +151,14 @@ impl Form {
         ensures added { OnOk result (form_entries self.new ≡ more bin amount (form_entries self.old)) }
         ensures unchanged { OnErr result (form_entries self.new ≡ form_entries self.old) }
     {
+        if self.add_few(bin, amount) {
+            return Ok(());
+        }
+        self.widen(alloc)?;
         let mut steps = Steps::<L>::new(blank);
         self.grow(alloc, &mut steps)?;
         match self {
+            Form::Few(_) => unreachable!(),
             Form::Single(rows) => add_record(rows, bin, amount, &mut steps),
             Form::Split(split) => {
                 let Split { heads, blocks } = &mut **split;
@@ -162,6 +174,8 @@ impl Form {
         ensures { IsTrue result → HasRoomFor amounts self.now }
     {
         match self {
+            // Three rows have room in the table's own bytes.
+            Form::Few(few) => 1 < amounts && amounts <= 60 && 3 < few.len() + amounts,
             Form::Single(rows) => {
                 let most = 63 - rows.len();
                 1 < amounts && amounts <= most && 2 < rows.len() + amounts
@@ -188,8 +202,47 @@ impl Form {
     {
         let mut steps = Steps::<L>::new(blank);
         let rows = match self {
+            Form::Few(few) => merged(alloc, &few.widened(alloc)?, run, &mut steps)?,
             Form::Single(rows) => merged(alloc, rows, run, &mut steps)?,
             Form::Split(_) => unreachable!(),
+        };
+        *self = Form::Single(rows);
+        Ok(())
+    }
+
+    /// Some records more in a bin, if the rows lie in the table's own bytes and do so with these records too. It takes
+    /// no memory.
+    fn add_few(&mut self, bin: u32, amount: u64) -> bool
+        requires form { IsForm self.old }
+        requires some { 0 < amount }
+        requires fits { total_of self.old + amount ≤ 2 ^ 63 }
+        ensures form { IsForm self.new }
+        ensures added { IsTrue result → form_entries self.new ≡ more bin amount (form_entries self.old) }
+        ensures unchanged { result ≡ false → self.new ≡ self.old }
+    {
+        let Form::Few(few) = self else {
+            return false;
+        };
+        match few.added(bin, amount) {
+            Some(more) => {
+                *few = more;
+                true
+            }
+            None => false,
+        }
+    }
+
+    /// Moves rows that lie in the table's own bytes to a list. For want of memory the form is as before.
+    fn widen(&mut self, alloc: Global) -> Result<(), NoMemory>
+        requires form { IsForm self.old }
+        ensures form { IsForm self.new }
+        ensures same { form_entries self.new ≡ form_entries self.old }
+        ensures total { total_of self.new ≡ total_of self.old }
+        ensures wide { OnOk result (IsWide self.new) }
+    {
+        let rows = match self {
+            Form::Few(few) => few.widened(alloc)?,
+            Form::Single(_) | Form::Split(_) => return Ok(()),
         };
         *self = Form::Single(rows);
         Ok(())
@@ -206,6 +259,10 @@ impl Form {
     {
         let mut steps = Steps::<L>::new(blank);
         let short = match self {
+            Form::Few(few) => {
+                *few = few.taken(bin, amount);
+                return;
+            }
             Form::Single(rows) => {
                 take_record(rows, bin, amount, &mut steps);
                 return;
@@ -228,6 +285,7 @@ impl Form {
         ensures cost { steps.new ≤ steps.old + (1 + bits (length (rows_of self.now))) }
     {
         match self {
+            Form::Few(few) => few.next_row(from, steps),
             Form::Single(rows) => next_in(rows, u64::from(from), steps),
             Form::Split(split) => next_row_in(&split.heads, &split.blocks, from, steps),
         }
@@ -239,6 +297,7 @@ impl Form {
         ensures { IfOk result (λ form. IsForm form × (form_entries form ≡ form_entries self.now)) }
     {
         match self {
+            Form::Few(few) => Ok(Form::Few(*few)),
             Form::Single(rows) => {
                 let rows = rows.copy(alloc)?;
                 Ok(Form::Single(rows))
@@ -254,6 +313,7 @@ impl Form {
     /// Makes a block of a list of rows that is full. For want of memory the form is as before.
     fn grow<L: Ledger>(&mut self, alloc: Global, steps: &mut Steps<L>) -> Result<(), NoMemory>
         requires form { IsForm self.old }
+        requires wide { IsWide self.old }
         requires fits { total_of self.old ≤ 2 ^ 63 }
         ensures form { IsForm self.new }
         ensures same { form_entries self.new ≡ form_entries self.old }
@@ -261,6 +321,7 @@ impl Form {
         ensures room { OnOk result (HasRoom self.new) }
     {
         let rows = match self {
+            Form::Few(_) => unreachable!(),
             Form::Single(rows) => {
                 if rows.len() < 63 {
                     return Ok(());

@@ -2,9 +2,10 @@
 //!
 //! A [`TimeTable`] is seen as a finite map from a bin to its count. The count of an interval is the
 //! difference of two calls of `before`, and each of these takes at most one step more than the number
-//! of bins has binary digits. A short table is one list of running totals; a long one is a list of
-//! blocks under their heads, so that an addition rewrites one block and the heads after it. No
-//! contract sees the blocks. The crate stands on `probe_core` for its rows and steps. What a bin is,
+//! of bins has binary digits. A table of up to three rows has them in its own bytes, where their totals
+//! have 32 bits. A longer one is a list of running totals on the heap, and a long one a list of blocks
+//! under their heads, so that an addition rewrites one block and the heads after it. No contract sees
+//! which of these a table is. The crate stands on `probe_core` for its rows and steps. What a bin is,
 //! and where a table stands, it leaves to the crates above.
 //!
 //! ```text
@@ -15,6 +16,7 @@
 #![tactic(auto)]
 
 mod change;
+mod few;
 mod form;
 mod pair;
 mod place;

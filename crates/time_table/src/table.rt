@@ -6,9 +6,10 @@ ghost use Rattle.probe_core.specs.Blanks.{IsBlankOf};
 ghost use Rattle.time_table.specs.Counts.{AllCounted, IsBinRun, CanTakeRun, count_of, add_many, take_many, add_one, take_one, add_run, take_run, run_total, total_count, count_before, first_from};
 ghost use Rattle.time_table.specs.Series.{each_before, each_cost};
 
+use crate::few::Few;
 use crate::form::Form;
 use outer_io::NoMemory;
-use probe_core::{Rows, Steps};
+use probe_core::Steps;
 use std::alloc::Global;
 use std::marker::{Brand, Model};
 use std::sync::ledger::{Blank, Ledger};
@@ -44,7 +45,7 @@ impl TimeTable {
     {
         TimeTable {
             alloc,
-            form: Form::Single(Rows::new(alloc)),
+            form: Form::Few(Few::No),
         }
     }
 

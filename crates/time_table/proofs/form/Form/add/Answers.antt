@@ -20,5 +20,5 @@ returns-in-Single-clause-added g c =
     (λ (is : c.add_record.new.rows.items ≡ added 0 c.args.bin c.args.amount c.in-Single.rows.items).
     ap (counts_from 0) is
     ∙ counts_from-added 0 0 c.args.bin c.args.amount c.in-Single.rows.items single.rise
-    ∙ ap (more c.args.bin c.args.amount) (ap form_entries (sym c.in-Single.is) ∙ c.grow.ensures.same))
+    ∙ ap (more c.args.bin c.args.amount) (ap form_entries (sym c.in-Single.is) ∙ (c.grow.ensures.same ∙ (c.widen.ensures.same ∙ ap form_entries (c.add_few.ensures.unchanged c.if-add_few.false)))))
     c.add_record.ensures.added

@@ -1,9 +1,11 @@
-use Rattle.std.proofs.Common.{◌+◌, ◌≤◌, length, arith, sym, ap, subst, ◌∙◌}
+use Rattle.std.proofs.Common.{◌≡◌, ◌+◌, ◌≤◌, length, arith, sym, ap, subst, ◌∙◌}
 use Rattle.probe_core.specs.Bits.{bits}
 use Rattle.time_table.specs.Counts.{first_from}
 use Rattle.time_table.specs.Totals.{counts_from}
 use Rattle.time_table.specs.declared.form.Form.{Form}
 use Rattle.time_table.specs.Forms.{IsSingle, IsForm, form_entries, rows_of}
+use Rattle.time_table.specs.Fews.{few_rows}
+use Rattle.time_table.proofs.Formed.{few-le}
 use Rattle.time_table.proofs.form.Form.next_row.Goals as goal
 
 pub next_in-requires : goal.next_in-requires
@@ -21,3 +23,9 @@ pub returns-in-Single-clause-cost : goal.returns-in-Single-clause-cost
 returns-in-Single-clause-cost g c =
     let cost : c.next_in.new.steps ≤ c.args.steps.now + bits (length c.in-Single.rows.items) = c.next_in.ensures.cost in
     subst (λ (f : Form). c.next_in.new.steps ≤ c.args.steps.now + (1 + bits (length (rows_of f)))) (sym c.in-Single.is) (omega arith)
+
+pub returns-in-Few-clause-cost : goal.returns-in-Few-clause-cost
+returns-in-Few-clause-cost g c =
+    let most : length (few_rows c.in-Few.few) ≤ 1 + bits (length (few_rows c.in-Few.few)) = (few-le c.in-Few.few).1 in
+    let cost : c.next_row.new.steps ≡ c.args.steps.now + length (few_rows c.in-Few.few) = c.next_row.ensures.cost in
+    subst (λ (f : Form). c.next_row.new.steps ≤ c.args.steps.now + (1 + bits (length (rows_of f)))) (sym c.in-Few.is) (omega arith)
