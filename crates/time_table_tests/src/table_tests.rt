@@ -16,6 +16,8 @@ use time_table::TimeTable;
 enum Case {
     /// An amount more in a bin.
     Add(u32, u64),
+    /// Two amounts more, as a run.
+    Pair((u32, u64), (u32, u64)),
     /// An amount less in a bin.
     Take(u32, u64),
     /// How much there is before an end.
@@ -38,6 +40,17 @@ fn add(rt: &impl Abort, table: &mut TimeTable, bin: u32, amount: u64)
     ensures { total_count table.new ≡ total_count table.old + amount }
 {
     table.add_many(bin, amount).expect(rt, "room");
+}
+
+/// Two amounts more as a run, where there has to be memory for them.
+fn add_pair(rt: &impl Abort, table: &mut TimeTable, first: (u32, u64), second: (u32, u64))
+    requires some { (0 < first.1) × (0 < second.1) }
+    requires rise { first.0 < second.0 }
+    requires fits { total_count table.old + (first.1 + second.1) ≤ 2 ^ 63 }
+    ensures { total_count table.new ≡ total_count table.old + (first.1 + second.1) }
+{
+    let run = [first, second];
+    table.add_run(&run).expect(rt, "room");
 }
 
 /// Takes an amount from a bin, which has to have as much.
@@ -73,6 +86,14 @@ fn expect_case<L: Ledger>(
             assert!(rt; 0 < amount && amount <= room);
             add(rt, table, bin, amount);
             return room - amount;
+        }
+        Case::Pair(first, second) => {
+            let (bin, amount) = first;
+            let (later, more) = second;
+            assert!(rt; bin < later && 0 < amount && 0 < more);
+            assert!(rt; amount <= room && more <= room - amount);
+            add_pair(rt, table, first, second);
+            return room - amount - more;
         }
         Case::Take(bin, amount) => {
             assert!(rt; 0 < amount);
@@ -221,6 +242,54 @@ fn push_rows(cases: &mut Vec<Case>, counts: &[u64; 300]) -> Result<(), AllocErro
         bin = bin.wrapping_add(1);
     }
     cases.push(Case::Next(from, None))?;
+    Ok(())
+}
+
+/// Pairs of bins, the lesser ones from below and the greater ones from above, until there are 120 rows.
+fn push_pairs(cases: &mut Vec<Case>) -> Result<(), AllocError> {
+    for i in 0..60u32 {
+        cases.push(Case::Pair((i, 1), (200 - i, 2)))?;
+    }
+    for bin in 0..60u32 {
+        cases.push(Case::Before(u64::from(bin), u64::from(bin)))?;
+        cases.push(Case::Next(bin, Some((bin, 1))))?;
+        cases.push(Case::Next(200 - bin, Some((200 - bin, 2))))?;
+    }
+    cases.push(Case::Before(141, 60))?;
+    cases.push(Case::Before(201, 180))?;
+    Ok(())
+}
+
+#[test]
+fn merges_runs_with_rows_before_between_at_and_behind_them(rt: HostRuntime) {
+    let cases = [
+        Case::Pair((5, 2), (9, 1)),
+        Case::Before(6, 2),
+        Case::Before(10, 3),
+        Case::Pair((1, 1), (7, 4)),
+        Case::Before(1, 0),
+        Case::Before(2, 1),
+        Case::Before(6, 3),
+        Case::Before(8, 7),
+        Case::Before(10, 8),
+        Case::Pair((7, 1), (9, 2)),
+        Case::Before(8, 8),
+        Case::Before(10, 11),
+        Case::Pair((12, 1), (u32::MAX, 1)),
+        Case::Next(10, Some((12, 1))),
+        Case::Next(13, Some((u32::MAX, 1))),
+        Case::Before(1 << 32, 13),
+    ];
+    let mut table = empty(rt.alloc());
+    expect::<Brand>(&rt, Blank::new(1), &mut table, 13, &cases);
+}
+
+#[test]
+fn takes_runs_into_blocks(rt: HostRuntime) -> Result<(), Fail> {
+    let mut cases = Vec::new(rt.alloc());
+    push_pairs(&mut cases)?;
+    let mut table = empty(rt.alloc());
+    expect::<Brand>(&rt, Blank::new(1), &mut table, 180, cases.as_slice());
     Ok(())
 }
 
