@@ -9,6 +9,8 @@ ghost use Rattle.node_arena.specs.Slots.{id_of, IsNode, IsTable, is_table, count
 ghost use Rattle.node_arena.specs.Stats.{stat_of, AllRising, TellsStat};
 ghost use Rattle.node_arena.specs.Calls.{with_slot, add_node, add_table, copy_slot, put_child, set_child, drop_child, set_content, table_add, table_take, table_add_many, table_add_run, table_take_many, child_from, only_link};
 
+mod whole;
+
 use crate::children::Children;
 use crate::link::{Link, SlotId};
 use crate::packed::Content;

@@ -1,5 +1,5 @@
 //! The children of a node.
-ghost use Rattle.std.specs.Prelude.{◌≡◌, ◌+◌, ◌<◌, ◌≤◌, ◌↔◌, [], length, slice_get, slice_index_or, None, Some, IfOk, OnOk, OnErr, IsSome};
+ghost use Rattle.std.specs.Prelude.{◌≡◌, ◌+◌, ◌<◌, ◌≤◌, ◌↔◌, [], ◌∷◌, ◌++◌, length, All, slice_get, slice_index_or, None, Some, IfOk, OnOk, OnErr, IsSome};
 ghost use Rattle.probe_core.specs.Bits.{bits};
 ghost use Rattle.probe_core.specs.Blanks.{IsBlankOf};
 ghost use Rattle.probe_core.specs.Places.{IsPlace};
@@ -167,6 +167,37 @@ impl Children {
     {
         let proper = self.proper_count();
         (proper, self.len() - proper)
+    }
+
+    /// A child whose label is past all others, behind them. For want of memory the children are as before.
+    pub fn push(&mut self, label: u8, link: Link) -> Result<(), NoMemory>
+        requires { All (λ c. c.0 < label) self.old }
+        ensures pushed { OnOk result (self.new ≡ self.old ++ (label, link) ∷ []) }
+        ensures unchanged { OnErr result (self.new ≡ self.old) }
+    {
+        self.rows.insert(self.rows.len(), Child::new(label, link))
+    }
+
+    /// Children that are listed in rising order of label.
+    pub fn of_list(alloc: Global, list: &[(u8, Link)]) -> Result<Children, NoMemory>
+        requires { IsRising list.now }
+        ensures { IfOk result (λ children. children ≡ list.now) }
+    {
+        let mut children = Children::new(alloc);
+        for child in list {
+            children.push(child.0, child.1)?;
+        }
+        Ok(children)
+    }
+
+    /// The child at a place, from 0.
+    pub fn at(&self, i: usize) -> (u8, Link)
+        requires { i < length self.now }
+        ensures child { result ≡ slice_index_or self.now i result }
+        ensures in_order { IsRising self.now }
+    {
+        let child = self.item(i);
+        (child.label(), child.link())
     }
 
     /// The place of a label, where nobody counts the steps.

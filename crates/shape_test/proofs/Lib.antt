@@ -19,6 +19,7 @@ pub mod Owning
 pub mod Pieces
 pub mod Placing
 pub mod Pointed
+pub mod Remaining
 pub mod Rowwise
 pub mod Sizing
 pub mod Spotting

@@ -9,6 +9,7 @@ pub mod Links
 pub mod Merging
 pub mod Owners
 pub mod Places
+pub mod Remainder
 pub mod Sizes
 pub mod Standing
 pub mod Testable

@@ -1,19 +1,19 @@
 //! Whether the content of a node counts what the contents of its children count together, along all finest ways.
 ghost use Rattle.std.specs.Prelude.{◌≡◌, ◌↔◌, ◌<◌, ◌++◌, ◌∷◌, [], length, take, ◌-◌, IsTrue, IfOk, OnOk};
-ghost use Rattle.node_arena.specs.Slots.{IsNode, IsTable, slot_of};
+ghost use Rattle.node_arena.specs.Slots.{IsNode, slot_of};
 ghost use Rattle.image_shape.specs.Sharing.{LeadsWithin, SharesAt};
 ghost use Rattle.shape_test.specs.Agreeing.{AllAgree, BinsAgree, CountedAgree, Covers, CoversParts, MergesFrom, MergesOver, RowsAgree};
-ghost use Rattle.shape_test.specs.Filled.{HasSmallBins};
 ghost use Rattle.shape_test.specs.Homes.{way_of};
 ghost use Rattle.shape_test.specs.Places.{IsSchemaPlace};
 ghost use Rattle.shape_test.specs.Testable.{AreReadable};
 
 use crate::children::first_child;
-use crate::counts::{count_at_end, link_along};
+use crate::counts::link_along;
 use crate::ends::content_end;
 use crate::home::Move;
 use crate::place::{Place, deepest, time_dim};
-use crate::rows::{first_row, rows_merge};
+use crate::remainder::end_covers;
+use crate::rows::rows_merge;
 use cube_view::Schema;
 use node_arena::{Arena, SlotId};
 use outer_io::{List, NoMemory};
@@ -37,28 +37,19 @@ pub struct Side {
 
 /// Whether a node's content counts along a way at least what a table counts, in each bin.
 fn is_covered<L: Ledger>(
+    alloc: Global,
     arena: &Arena,
     id: SlotId,
     table: SlotId,
     way: &[Move],
     steps: &mut Steps<L>,
-) -> bool
+) -> Result<bool, NoMemory>
     requires in_range { (id.0 < length arena.now) × (table.0 < length arena.now) }
-    requires is_table { IsTable (slot_of arena.now table.0) }
     requires within { LeadsWithin arena.now }
-    requires bins { HasSmallBins arena.now }
-    ensures { IsTrue result ↔ Covers arena.now id.0 (way_of way.now) table.0 }
+    ensures { IfOk result (λ r. IsTrue r ↔ Covers arena.now id.0 (way_of way.now) table.0) }
 {
     let whole = content_end(arena, id, way, steps);
-    let rows = arena.table(table, steps);
-    let mut from = 0;
-    while let Some((bin, count)) = first_row(rows, from, steps) {
-        if count > count_at_end(arena, whole, bin, steps) {
-            return false;
-        }
-        from = u64::from(bin) + 1;
-    }
-    true
+    end_covers(alloc, arena, whole, table, steps)
 }
 
 /// Whether what a slot counts at the end of a way agrees. It says no only where it doesn't in some bin.
@@ -80,8 +71,8 @@ fn slot_agrees<L: Ledger>(
         return Ok(true);
     }
     match side.role {
-        Role::Whole => rows_merge(alloc, arena, side.node, at, way, steps),
-        Role::Part => Ok(is_covered(arena, side.node, at, way, steps)),
+        Role::Whole => rows_merge(alloc, arena, side.node, way, steps),
+        Role::Part => is_covered(alloc, arena, side.node, at, way, steps),
     }
 }
 

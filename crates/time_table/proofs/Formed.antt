@@ -152,7 +152,7 @@ taken-form f f' bin n is is' new =
           rw (ne_eqb (count_of (counts (rows_of f)) bin) n some) left
     ]
 
-some_heads : (hs : List Row) (bs : List Block) → Held 0 0 hs bs → 0 < length hs
+pub some_heads : (hs : List Row) (bs : List Block) → Held 0 0 hs bs → 0 < length hs
 some_heads [] [] held = absurd (omega arith)
 some_heads [] (b ∷ bs) held = absurd held
 some_heads (h ∷ hs) bs held = omega arith

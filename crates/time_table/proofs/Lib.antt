@@ -16,6 +16,7 @@ pub mod Merged
 pub mod Nexts
 pub mod Passing
 pub mod Rising
+pub mod RowLists
 pub mod RunRows
 pub mod Runs
 pub mod Summed

@@ -3,5 +3,6 @@ pub mod Counts
 pub mod Fews
 pub mod Forms
 pub mod Places
+pub mod Rows
 pub mod Series
 pub mod Totals

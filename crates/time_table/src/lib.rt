@@ -21,6 +21,7 @@ mod form;
 mod pair;
 mod place;
 mod row;
+mod rows;
 mod run;
 mod series;
 mod split;

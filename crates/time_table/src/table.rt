@@ -1,13 +1,15 @@
 //! The table of one place in space and the categories.
-ghost use Rattle.std.specs.Prelude.{◌≡◌, ◌+◌, ◌*◌, ◌<◌, ◌≤◌, ◌^◌, All, IfOk, OnOk, OnErr, IsTrue, length};
-ghost use Rattle.std.specs.FinMap.{empty, contains_key, entries, len};
+ghost use Rattle.std.specs.Prelude.{◌≡◌, ◌↔◌, ◌+◌, ◌*◌, ◌<◌, ◌≤◌, ◌^◌, ◌++◌, All, IfOk, OnOk, OnErr, IsTrue, length};
+ghost use Rattle.std.specs.FinMap.{empty, contains_key, entries, from_sorted, len};
 ghost use Rattle.probe_core.specs.Bits.{bits};
 ghost use Rattle.probe_core.specs.Blanks.{IsBlankOf};
 ghost use Rattle.time_table.specs.Counts.{AllCounted, IsBinRun, CanTakeRun, count_of, add_many, take_many, add_one, take_one, add_run, take_run, run_total, total_count, count_before, first_from};
+ghost use Rattle.time_table.specs.Rows.{AreRows, row_total};
 ghost use Rattle.time_table.specs.Series.{each_before, each_cost};
 
 use crate::few::Few;
 use crate::form::Form;
+use crate::rows::{form_len, form_of, is_bare, put_form};
 use outer_io::NoMemory;
 use probe_core::Steps;
 use std::alloc::Global;
@@ -185,5 +187,50 @@ impl TimeTable {
     {
         let form = self.form.copy(alloc)?;
         Ok(TimeTable { alloc, form })
+    }
+
+    /// A table of bins with their counts, which stand in rising order of bin. Rows are put behind each other, and only a
+    /// long table is searched.
+    pub fn of_rows(alloc: Global, rows: &[(u32, u64)]) -> Result<TimeTable, NoMemory>
+        requires fit { AreRows 0 rows.now }
+        requires light { row_total rows.now ≤ 2 ^ 63 }
+        ensures { IfOk result (λ table. table ≡ from_sorted rows.now) }
+    {
+        let few = rows.len().min(63);
+        let form = form_of(alloc, &rows[..few])?;
+        let mut table = TimeTable { alloc, form };
+        for i in few..rows.len() {
+            let (bin, count) = rows[i];
+            table.add_many(bin, count)?;
+        }
+        Ok(table)
+    }
+
+    /// Puts all bins with their counts at the end of others, in rising order of bin. It looks at each row once.
+    pub fn put_rows<L: Ledger>(
+        &self,
+        out: &mut Vec<(u32, u64)>,
+        steps: &mut Steps<L>,
+    ) -> Result<(), NoMemory>
+        ensures put { OnOk result (out.new.items ≡ out.old.items ++ entries self.now) }
+        ensures counted { AllCounted self.now }
+    {
+        put_form(&self.form, out, steps)
+    }
+
+    /// How many bins there are.
+    pub fn len(&self) -> u64
+        ensures count { result ≡ len self.now }
+        ensures few { result ≤ 2 ^ 32 }
+    {
+        form_len(&self.form)
+    }
+
+    /// Whether there are none.
+    pub fn is_empty(&self) -> bool
+        ensures empty { IsTrue result ↔ (self.now ≡ empty) }
+        ensures counted { AllCounted self.now }
+    {
+        is_bare(&self.form)
     }
 }

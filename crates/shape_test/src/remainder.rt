@@ -1,0 +1,144 @@
+//! What is left of a slot's rows once those of others are taken off, by one pass over the rows of both.
+ghost use Rattle.std.specs.Prelude.{◌≡◌, ℕ, ◌↔◌, ◌+◌, ◌<◌, ◌≤◌, ◌^◌, length, IsTrue, IfOk};
+ghost use Rattle.probe_core.specs.Places.{RisesBy};
+ghost use Rattle.time_table.specs.Counts.{amount_at};
+ghost use Rattle.node_arena.specs.Slots.{count, slot_of};
+ghost use Rattle.shape_test.specs.Ends.{end_count, ends_count, IsEnd, AreEnds};
+ghost use Rattle.shape_test.specs.Remainder.{AreOrderly, FitIn, IsLeft, bin_of, end_rows, slot_rows};
+
+use node_arena::{Arena, SlotId};
+use outer_io::NoMemory;
+use probe_core::Steps;
+use std::alloc::Global;
+use std::sync::ledger::Ledger;
+
+/// Takes rows off others, bin by bin. It says no only where they count more than these in some bin.
+fn take_off(left: &mut [(u32, u64)], rows: &[(u32, u64)]) -> bool
+    requires orderly { AreOrderly rows.now }
+    requires rises { RisesBy bin_of left.old }
+    ensures rises { RisesBy bin_of left.new }
+    ensures left { IsTrue result → IsLeft left.old rows.now left.new }
+    ensures all { FitIn rows.now left.old → IsTrue result }
+{
+    let mut next = 0;
+    for i in 0..left.len() {
+        if next >= rows.len() {
+            return true;
+        }
+        let (bin, count) = rows[next];
+        if left[i].0 == bin {
+            if left[i].1 < count {
+                return false;
+            }
+            left[i] = (bin, left[i].1 - count);
+            next += 1;
+        }
+    }
+    next >= rows.len()
+}
+
+/// Whether rows count nothing.
+fn are_spent(rows: &[(u32, u64)]) -> bool
+    ensures { IsTrue result ↔ ((bin : ℕ) → amount_at bin rows.now ≡ 0) }
+{
+    for row in rows {
+        if row.1 > 0 {
+            return false;
+        }
+    }
+    true
+}
+
+/// The rows of a slot in rising order of bin: a node has none.
+fn rows_of<L: Ledger>(
+    alloc: Global,
+    arena: &Arena,
+    id: SlotId,
+    steps: &mut Steps<L>,
+) -> Result<Vec<(u32, u64)>, NoMemory>
+    requires { id.0 < length arena.now }
+    ensures rows { IfOk result (λ rows. rows.items ≡ slot_rows arena.now id.0) }
+    ensures orderly { AreOrderly (slot_rows arena.now id.0) }
+{
+    let mut rows = Vec::new(alloc);
+    if arena.is_table(id) {
+        arena.table(id, steps).put_rows(&mut rows, steps)?;
+    }
+    Ok(rows)
+}
+
+/// The rows of a slot, if there is one.
+fn rows_at_end<L: Ledger>(
+    alloc: Global,
+    arena: &Arena,
+    end: Option<SlotId>,
+    steps: &mut Steps<L>,
+) -> Result<Vec<(u32, u64)>, NoMemory>
+    requires { IsEnd arena.now end }
+    ensures rows { IfOk result (λ rows. rows.items ≡ end_rows arena.now end) }
+    ensures orderly { AreOrderly (end_rows arena.now end) }
+{
+    match end {
+        Some(id) => rows_of(alloc, arena, id, steps),
+        None => Ok(Vec::new(alloc)),
+    }
+}
+
+/// Takes the rows of slots off others. It says no only where they count more than these in some bin.
+fn take_ends<L: Ledger>(
+    alloc: Global,
+    arena: &Arena,
+    left: &mut [(u32, u64)],
+    ends: &[SlotId],
+    steps: &mut Steps<L>,
+) -> Result<bool, NoMemory>
+    requires rises { RisesBy bin_of left.old }
+    requires ends { AreEnds arena.now ends.now }
+    ensures left { IfOk result (λ r. IsTrue r → (bin : ℕ) → amount_at bin left.old ≡ amount_at bin left.new + ends_count arena.now ends.now bin) }
+    ensures all { ((bin : ℕ) → ends_count arena.now ends.now bin ≤ amount_at bin left.old) → IfOk result (λ r. IsTrue r) }
+{
+    for end in ends {
+        let rows = rows_of(alloc, arena, *end, steps)?;
+        if !take_off(left, rows.as_slice()) {
+            return Ok(false);
+        }
+    }
+    Ok(true)
+}
+
+/// Whether a slot, if there is one, has in each bin as many records as others have together.
+pub fn ends_merge<L: Ledger>(
+    alloc: Global,
+    arena: &Arena,
+    whole: Option<SlotId>,
+    parts: &[SlotId],
+    steps: &mut Steps<L>,
+) -> Result<bool, NoMemory>
+    requires whole { IsEnd arena.now whole }
+    requires parts { AreEnds arena.now parts.now }
+    ensures { IfOk result (λ r. IsTrue r ↔ ((bin : ℕ) → end_count arena.now whole bin ≡ ends_count arena.now parts.now bin)) }
+{
+    let mut rows = rows_at_end(alloc, arena, whole, steps)?;
+    let left = rows.as_mut_slice();
+    if !take_ends(alloc, arena, left, parts, steps)? {
+        return Ok(false);
+    }
+    Ok(are_spent(left))
+}
+
+/// Whether a slot, if there is one, has in each bin at least as many records as another.
+pub fn end_covers<L: Ledger>(
+    alloc: Global,
+    arena: &Arena,
+    whole: Option<SlotId>,
+    part: SlotId,
+    steps: &mut Steps<L>,
+) -> Result<bool, NoMemory>
+    requires whole { IsEnd arena.now whole }
+    requires part { part.0 < length arena.now }
+    ensures { IfOk result (λ r. IsTrue r ↔ ((bin : ℕ) → count (slot_of arena.now part.0) bin ≤ end_count arena.now whole bin)) }
+{
+    let mut left = rows_at_end(alloc, arena, whole, steps)?;
+    let rows = rows_of(alloc, arena, part, steps)?;
+    Ok(take_off(left.as_mut_slice(), rows.as_slice()))
+}
