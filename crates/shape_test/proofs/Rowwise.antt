@@ -1,11 +1,10 @@
 -- The rows of a table, from a bin on.
-use Rattle.std.proofs.Common.{◌≡◌, ◌⊎◌, inl, inr, ℕ, ◌+◌, ◌<◌, ◌≤◌, ◌^◌, Bool, true, false, cond, eq-eqb, ltb, ltb-true, ltb-false, ne_eqb, nat_cmp, List, [], ◌∷◌, map, Option, Some, None, IfSome, MatchOption, refl, sym, ap, ◌∙◌, subst, arith}
+use Rattle.std.proofs.Common.{◌≡◌, ◌⊎◌, inl, inr, ℕ, ◌<◌, ◌≤◌, ◌^◌, Bool, true, false, cond, eq-eqb, ltb, ltb-true, ltb-false, ne_eqb, nat_cmp, List, [], ◌∷◌, map, Option, Some, None, IfSome, MatchOption, refl, sym, ap, ◌∙◌, subst, arith}
 use Rattle.std.specs.FinMap.{entries, entries_sorted}
 use Rattle.std.specs.FinMap.Entries.{is_sorted, below_all}
 use Rattle.std.proofs.lemmas.Bool.{and_parts, cases_lt}
 use Rattle.time_table.specs.Counts.{BinCounts, count_of, first_from}
 use Rattle.node_arena.specs.Amounts.{amount_under}
-use Rattle.node_arena.specs.Slots.{Slot, slot_of, count, counts_of}
 use Rattle.image_shape.specs.Wholes.{spot_at}
 use Rattle.image_shape.proofs.Core.{one_under, amount-cons}
 use Rattle.image_shape.proofs.Rows.{table_rows, less_of, from_test}
@@ -73,54 +72,3 @@ row_past m from small le b low = go (cases_lt 0 (count_of m b))
     go : (0 < count_of m b) ⊎ (count_of m b ≤ 0) → count_of m b ≡ 0
     go (inl x) = let s = small b x in absurd (omega (arith, s, le, low))
     go (inr x) = omega (arith, x)
-
--- the first row from a bin on is that bin's, or the bin has none
-pub none_here : (m : BinCounts) (b : ℕ) → None ≡ first_from b (entries m) → count_of m b ≡ 0
-none_here m b is = table_rows [] [] m b ∙ none_in (entries m) b b (sym is) (omega arith)
-
-pub row_here : (m : BinCounts) (b : ℕ) (e : ℕ × ℕ) → Some e ≡ first_from b (entries m) → (e.0 ≡ b → count_of m b ≡ e.1) × ((e.0 ≡ b → ⊥) → count_of m b ≡ 0)
-row_here m b e is =
-    let f = first_in (entries m) b e (from_test (is_sorted nat_cmp (entries m)) (entries_sorted m)) (sym is) in
-    (λ s. ap (count_of m) (sym s) ∙ (table_rows [] [] m e.0 ∙ f.2), λ other. table_rows [] [] m b ∙ f.1 b (omega arith) (let g = f.0 in omega (arith, g, other)))
-
-module _ (slots : List Slot) (at : ℕ) (m : BinCounts) (is : m ≡ counts_of (slot_of slots at)) (from : ℕ) where
-  some : (bin : ℕ) → 0 < count (slot_of slots at) bin → 0 < count_of m bin
-  some bin x = subst (λ (z : BinCounts). 0 < count_of z bin) (sym is) x
-
-  module _ (P : ℕ → Type 0) (sofar : (bin : ℕ) → bin < from → 0 < count (slot_of slots at) bin → P bin) where
-    -- what holds of the bins before one, and of the first row's, holds of those up to it
-    pub row_more : (b n : ℕ) → IsFirstRow m from (b, n) → P b → (bin : ℕ) → bin < b + 1 → 0 < count (slot_of slots at) bin → P bin
-    row_more b n F here bin lt x = go (cases_lt bin from) (cases_lt bin b)
-      where
-        go : (bin < from) ⊎ (from ≤ bin) → (bin < b) ⊎ (b ≤ bin) → P bin
-        go (inl y) z = sofar bin y x
-        go (inr y) (inl z) = let none = F.least bin y z in let s = some bin x in absurd (omega (arith, none, s))
-        go (inr y) (inr z) = subst P (let e : b ≡ bin = omega (arith, lt, z) in e) here
-
-    -- where there is no further row it holds of all
-    pub row_all : NoRowFrom m from → (bin : ℕ) → 0 < count (slot_of slots at) bin → P bin
-    row_all N bin x = go (cases_lt bin from)
-      where
-        go : (bin < from) ⊎ (from ≤ bin) → P bin
-        go (inl y) = sofar bin y x
-        go (inr y) = let none = N bin y in let s = some bin x in absurd (omega (arith, none, s))
-
-  module _ (f : ℕ → ℕ) (sofar : (bin : ℕ) → bin < from → count (slot_of slots at) bin ≤ f bin) where
-    own : (bin n : ℕ) → count_of m bin ≡ n → count (slot_of slots at) bin ≡ n
-    own bin n e = subst (λ (z : BinCounts). count_of z bin ≡ n) is e
-
-    -- what covers the bins before one, and the first row's, covers those up to it
-    pub cover_more : (b n : ℕ) → IsFirstRow m from (b, n) → n ≤ f b → (bin : ℕ) → bin < b + 1 → count (slot_of slots at) bin ≤ f bin
-    cover_more b n F here bin lt = go (cases_lt bin from) (cases_lt bin b)
-      where
-        go : (bin < from) ⊎ (from ≤ bin) → (bin < b) ⊎ (b ≤ bin) → count (slot_of slots at) bin ≤ f bin
-        go (inl y) z = sofar bin y
-        go (inr y) (inl z) = let none = own bin 0 (F.least bin y z) in omega (arith, none)
-        go (inr y) (inr z) = subst (λ (k : ℕ). count (slot_of slots at) k ≤ f k) (let e : b ≡ bin = omega (arith, lt, z) in e) (let e = own b n F.there in omega (arith, e, here))
-
-    pub cover_all : NoRowFrom m from → (bin : ℕ) → count (slot_of slots at) bin ≤ f bin
-    cover_all N bin = go (cases_lt bin from)
-      where
-        go : (bin < from) ⊎ (from ≤ bin) → count (slot_of slots at) bin ≤ f bin
-        go (inl y) = sofar bin y
-        go (inr y) = let none = own bin 0 (N bin y) in omega (arith, none)

@@ -1,5 +1,5 @@
 -- What the slots count to which a way leads from several slots.
-use Rattle.std.specs.Prelude.{◌≡◌, ℕ, ◌<◌, List, length, Option, Some, None, All, IfSome, sum_by}
+use Rattle.std.specs.Prelude.{ℕ, ◌<◌, List, length, Option, Some, None, All, IfSome, sum_by}
 use Rattle.node_arena.specs.declared.link.SlotId.{SlotId}
 use Rattle.node_arena.specs.Slots.{Slot, slot_of, count}
 
@@ -19,7 +19,3 @@ IsEnd slots end = IfSome end (λ e. e.0 < length slots)
 -- the slots are the arena's
 abbrev pub AreEnds : List Slot → List SlotId → Type 0
 AreEnds slots ends = All (λ e. e.0 < length slots) ends
-
--- in each bin in which a slot has a record, one counts what others count together
-abbrev pub RowsTotal : List Slot → ℕ → Option SlotId → List SlotId → Type 0
-RowsTotal slots at whole parts = (bin : ℕ) → 0 < count (slot_of slots at) bin → end_count slots whole bin ≡ ends_count slots parts bin

@@ -2,8 +2,8 @@
 use Rattle.std.specs.Prelude.{◌≡◌, ℕ, ◌<◌, ◌≤◌, ◌^◌, List, ◌∷◌, sum_by}
 use Rattle.cube_view.specs.Walks.{down, across}
 use Rattle.time_table.specs.Counts.{BinCounts, count_of}
-use Rattle.node_arena.specs.Slots.{Slot, slot_of, children_of, count}
-use Rattle.image_shape.specs.Ways.{Way, count_below, Merges}
+use Rattle.node_arena.specs.Slots.{Slot, slot_of, children_of}
+use Rattle.image_shape.specs.Ways.{Way, count_below}
 
 -- along a way, in a bin
 abbrev pub parts_count : List Slot → ℕ → Way → ℕ → ℕ
@@ -19,7 +19,3 @@ pub record IsFirstRow (m : BinCounts) (from : ℕ) (row : ℕ × ℕ) : Type 0 w
   pub small : row.0 < 2 ^ 32
   pub there : count_of m row.0 ≡ row.1
   pub least : (bin : ℕ) → from ≤ bin → bin < row.0 → count_of m bin ≡ 0
-
--- in each bin of a slot the content of a node counts along the way what the contents of its children count together
-abbrev pub RowsMerge : List Slot → ℕ → ℕ → Way → Type 0
-RowsMerge slots i at way = (bin : ℕ) → 0 < count (slot_of slots at) bin → Merges slots i way bin

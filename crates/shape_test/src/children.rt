@@ -1,27 +1,25 @@
 //! The children of a node, one after another.
-ghost use Rattle.std.specs.Prelude.{◌≡◌, ◌<◌, length, MatchOption};
-ghost use Rattle.node_arena.specs.Slots.{IsNode, slot_of};
+ghost use Rattle.std.specs.Prelude.{◌≡◌, ◌+◌, ◌<◌, ◌≤◌, length, IfSome, MatchOption};
+ghost use Rattle.probe_core.specs.Places.{IsPlace};
+ghost use Rattle.node_arena.specs.Slots.{IsNode, child_label, children_of, slot_of};
 ghost use Rattle.shape_test.specs.Links.{HasSmallLabels, IsFirstLink, NoneFrom};
 
 use node_arena::{Arena, Link, SlotId};
-use probe_core::Steps;
-use std::sync::ledger::Ledger;
 
-/// The first child from a label on. From 256 on there is none.
-pub fn first_child<L: Ledger>(
-    arena: &Arena,
-    id: SlotId,
-    from: u16,
-    steps: &mut Steps<L>,
-) -> Option<(u8, Link)>
+/// The first child from a label on, which stands at a place among the children. From 256 on there is none.
+pub fn first_child(arena: &Arena, id: SlotId, i: usize, from: u16) -> Option<(u8, Link)>
     requires in_range { id.0 < length arena.now }
     requires is_node { IsNode (slot_of arena.now id.0) }
     requires labels { HasSmallLabels arena.now }
-    ensures { MatchOption result (NoneFrom arena.now id.0 from) (IsFirstLink arena.now id.0 from) }
+    requires place { IsPlace child_label from (children_of (slot_of arena.now id.0)) i }
+    ensures child { MatchOption result (NoneFrom arena.now id.0 from) (IsFirstLink arena.now id.0 from) }
+    ensures place { IfSome result (λ c. IsPlace child_label (c.0 + 1) (children_of (slot_of arena.now id.0)) (i + 1)) }
 {
-    if from < 256 {
-        arena.next_child(id, from as u8, steps)
-    } else {
-        None
+    if from > 255 {
+        return None;
     }
+    if i >= arena.child_count(id) {
+        return None;
+    }
+    Some(arena.child_at(id, i))
 }

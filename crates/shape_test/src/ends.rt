@@ -82,9 +82,11 @@ pub fn part_ends<L: Ledger>(
     ensures in_range { IfOk result (λ ends. AreEnds arena.now ends) }
 {
     let mut ends = List::new(alloc);
+    let mut i = 0;
     let mut from = 0;
-    while let Some((label, link)) = first_child(arena, id, from, steps) {
+    while let Some((label, link)) = first_child(arena, id, i, from) {
         add_end(&mut ends, content_end(arena, link.to, way, steps))?;
+        i += 1;
         from = u16::from(label) + 1;
     }
     Ok(ends)

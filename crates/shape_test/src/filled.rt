@@ -21,7 +21,7 @@ pub fn is_filled<L: Ledger>(
     requires labels { HasSmallLabels arena.now }
     ensures { IsTrue result ↔ IsFilledNode arena.now id.0 is_deepest }
 {
-    let has_child = has_child(arena, id, steps);
+    let has_child = has_child(arena, id);
     match arena.content(id, steps) {
         Some(_) => has_enough(is_deepest, has_child),
         None => is_bare_root(id, has_child),
@@ -29,13 +29,13 @@ pub fn is_filled<L: Ledger>(
 }
 
 /// Whether a node has a child.
-fn has_child<L: Ledger>(arena: &Arena, id: SlotId, steps: &mut Steps<L>) -> bool
+fn has_child(arena: &Arena, id: SlotId) -> bool
     requires in_range { id.0 < length arena.now }
     requires is_node { IsNode (slot_of arena.now id.0) }
     requires labels { HasSmallLabels arena.now }
     ensures { IsTrue result ↔ HasChild arena.now id.0 }
 {
-    match first_child(arena, id, 0, steps) {
+    match first_child(arena, id, 0, 0) {
         Some(_) => true,
         None => false,
     }

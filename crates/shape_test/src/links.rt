@@ -26,7 +26,7 @@ pub fn links_fit<L: Ledger>(
     if arena.is_table(id) {
         return true;
     }
-    if !children_fit(arena, homes, id, steps) {
+    if !children_fit(arena, homes, id) {
         return false;
     }
     match arena.content(id, steps) {
@@ -36,23 +36,20 @@ pub fn links_fit<L: Ledger>(
 }
 
 /// Whether each child of a node is one whose home is the link's address or finer.
-fn children_fit<L: Ledger>(
-    arena: &Arena,
-    homes: &List<List<Move>>,
-    id: SlotId,
-    steps: &mut Steps<L>,
-) -> bool
+fn children_fit(arena: &Arena, homes: &List<List<Move>>, id: SlotId) -> bool
     requires in_range { id.0 < length arena.now }
     requires is_node { IsNode (slot_of arena.now id.0) }
     requires homes { length homes.now ≡ length arena.now }
     requires labels { HasSmallLabels arena.now }
     ensures { IsTrue result ↔ ChildrenFit arena.now (walks_of homes.now) id.0 }
 {
+    let mut i = 0;
     let mut from = 0;
-    while let Some((label, link)) = first_child(arena, id, from, steps) {
+    while let Some((label, link)) = first_child(arena, id, i, from) {
         if !link_fits(homes, id, Move::Down(label), link) {
             return false;
         }
+        i += 1;
         from = u16::from(label) + 1;
     }
     true

@@ -119,14 +119,16 @@ fn content_agrees<L: Ledger>(
     if arena.is_table(content.to) {
         return Ok(true);
     }
+    let mut i = 0;
     let mut from = 0;
-    while let Some((label, child)) = first_child(arena, content.to, from, steps) {
+    while let Some((label, child)) = first_child(arena, content.to, i, from) {
         add_value(way, label)?;
         let agrees = content_agrees(alloc, arena, side, child.to, left - 1, way, steps)?;
         drop_value(way);
         if !agrees {
             return Ok(false);
         }
+        i += 1;
         from = u16::from(label) + 1;
     }
     Ok(true)
@@ -151,11 +153,13 @@ fn parts_agree<L: Ledger>(
         node: id,
         role: Role::Part,
     };
+    let mut i = 0;
     let mut from = 0;
-    while let Some((label, child)) = first_child(arena, id, from, steps) {
+    while let Some((label, child)) = first_child(arena, id, i, from) {
         if !content_agrees(alloc, arena, side, child.to, left, way, steps)? {
             return Ok(false);
         }
+        i += 1;
         from = u16::from(label) + 1;
     }
     Ok(true)

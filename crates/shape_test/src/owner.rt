@@ -42,20 +42,16 @@ fn note_link(owners: &mut [Option<Owner>], link: Link, owner: Owner) -> bool
 }
 
 /// Notes a node as the owner of its children. It says no only where slots have no homes.
-fn note_children<L: Ledger>(
-    owners: &mut [Option<Owner>],
-    arena: &Arena,
-    id: SlotId,
-    steps: &mut Steps<L>,
-) -> bool
+fn note_children(owners: &mut [Option<Owner>], arena: &Arena, id: SlotId) -> bool
     requires in_range { id.0 < length arena.now }
     requires is_node { IsNode (slot_of arena.now id.0) }
     requires labels { HasSmallLabels arena.now }
     requires owners { AreOwners arena.now (Before id.0 0) owners.old }
     ensures { MatchBool result (AreOwners arena.now (Before id.0 256) owners.new) (HasNoHomes arena.now) }
 {
+    let mut i = 0;
     let mut from = 0;
-    while let Some((label, link)) = first_child(arena, id, from, steps) {
+    while let Some((label, link)) = first_child(arena, id, i, from) {
         let owner = Owner {
             by: id,
             step: Move::Down(label),
@@ -63,6 +59,7 @@ fn note_children<L: Ledger>(
         if !note_link(owners, link, owner) {
             return false;
         }
+        i += 1;
         from = u16::from(label) + 1;
     }
     true
@@ -83,7 +80,7 @@ fn note_links<L: Ledger>(
     if arena.is_table(id) {
         return true;
     }
-    if !note_children(owners, arena, id, steps) {
+    if !note_children(owners, arena, id) {
         return false;
     }
     let Some(link) = arena.content(id, steps) else {

@@ -1,13 +1,15 @@
-use Rattle.std.proofs.Common.{◌≡◌, Bool, true, ℕ, ◌-◌, List, [], ◌∷◌, ◌++◌, length, take, sym, ap, ◌∙◌, subst, arith}
+use Rattle.std.proofs.Common.{◌≡◌, Bool, true, ℕ, ◌-◌, List, [], ◌∷◌, ◌++◌, length, take, refl, sym, ap, ◌∙◌, subst, arith, ◌+◌}
 use Rattle.std.proofs.lemmas.Result.{IfOk-weaker}
+use Rattle.probe_core.specs.Places.{IsPlace}
 use Rattle.cube_view.specs.Walks.{down, across}
 use Rattle.node_arena.specs.declared.link.Link.{Link}
-use Rattle.node_arena.specs.Slots.{target}
+use Rattle.node_arena.specs.Slots.{target, child_label, children_of, slot_of}
 use Rattle.image_shape.specs.Ways.{Way}
 use Rattle.shape_test.specs.Agreeing.{AllAgree, BinsAgree, CountedAgree, RowsAgree}
 use Rattle.shape_test.specs.Homes.{way_of}
 use Rattle.shape_test.specs.declared.home.Move.{Move}
 use Rattle.shape_test.specs.declared.home.Move.TheVariants.{Down, Across}
+use Rattle.shape_test.proofs.ChildPlaces.{at_start}
 use Rattle.shape_test.proofs.Agreement.{none_counted, at_end, end_agrees, past_table, children_agree, child_agrees, longer_way, one_less}
 use Rattle.shape_test.proofs.Childwise.{one_more, no_more}
 use Rattle.shape_test.proofs.Ending.{two_off}
@@ -34,7 +36,7 @@ returns-then-is_table-clause-told g t c = λ y.
 pub returns-then-not-agrees-clause-all : goal.returns-then-not-agrees-clause-all
 returns-then-not-agrees-clause-all g t c = λ agree.
     let longer : way_of c.add_value.new.way ≡ way_of c.args.way.now ++ down c.in-Some-first_child.label ∷ across ∷ [] = longer_way c.args.way.now c.add_value.new.way c.in-Some-first_child.label (c.in_ok-add_value.ensures {u = tt} ∙ ap (λ (w : List Move). w ++ Down c.in-Some-first_child.label ∷ Across ∷ []) c.loop-label.invariant.same) in
-    let all = child_agrees c.args.arena.now c.args.side (way_of c.args.way.now) c.args.of.0 c.in-Some.content (sym c.link_along.ensures ∙ c.in-Some.is) (c.args.left - 1) c.in-Some-first_child.label c.in-Some-first_child.child c.in-Some-first_child.ensures.there (subst (AllAgree c.args.arena.now c.args.side (way_of c.args.way.now) c.args.of.0) (one_less c.args.left c.if-left-eq0.false) agree) in
+    let all = child_agrees c.args.arena.now c.args.side (way_of c.args.way.now) c.args.of.0 c.in-Some.content (sym c.link_along.ensures ∙ c.in-Some.is) (c.args.left - 1) c.in-Some-first_child.label c.in-Some-first_child.child c.in-Some-first_child.ensures.child.there (subst (AllAgree c.args.arena.now c.args.side (way_of c.args.way.now) c.args.of.0) (one_less c.args.left c.if-left-eq0.false) agree) in
     let yes = c.in_ok-agrees.ensures.all (subst (λ (w : Way). AllAgree c.args.arena.now c.args.side w (target c.in-Some-first_child.child) (c.args.left - 1)) (sym longer) all) in
     let no = c.if-not-agrees.true in
     absurd cc
@@ -44,11 +46,22 @@ loop-label-preserved g t c =
     let added : c.add_value.new.way ≡ c.args.way.now ++ Down c.in-Some-first_child.label ∷ Across ∷ [] = c.in_ok-add_value.ensures {u = tt} ∙ ap (λ (w : List Move). w ++ Down c.in-Some-first_child.label ∷ Across ∷ []) c.loop-label.invariant.same in
     let here = subst (λ (w : Way). CountedAgree c.args.arena.now c.args.side w (target c.in-Some-first_child.child) (c.args.left - 1)) (longer_way c.args.way.now c.add_value.new.way c.in-Some-first_child.label added) (c.in_ok-agrees.ensures.told c.if-not-agrees.false) in
     record {
-      last = let s = c.in-Some-first_child.ensures.small in let f = c.from-from.ensures in omega (arith, s, f);
+      last = let s = c.in-Some-first_child.ensures.child.small in let f = c.from-from.ensures in omega (arith, s, f);
+      few = let n = c.loop-label.invariant.few in let low = c.in-Some-first_child.ensures.child.low in let f = c.from-from.ensures in omega (arith, n, low, f);
+      place = subst (λ n. IsPlace child_label (n + 1) (children_of (slot_of c.args.arena.now (target c.in-Some.content))) (c.loop-label.i + 1)) (sym c.from-from.ensures) c.in-Some-first_child.ensures.place;
       same = c.drop_value.ensures ∙ (ap (λ (w : List Move). take (length w - 2) w) (c.in_ok-agrees.ensures.same ∙ added) ∙ two_off c.args.way.now (Down c.in-Some-first_child.label) Across);
-      agree = λ m k lt e. one_more c.args.arena.now (target c.in-Some.content) c.loop-label.from (λ (n : ℕ) (l : Link). CountedAgree c.args.arena.now c.args.side (way_of c.args.way.now ++ down n ∷ across ∷ []) (target l) (c.args.left - 1)) c.loop-label.invariant.agree c.in-Some-first_child.label c.in-Some-first_child.child c.in-Some-first_child.ensures here m k (let f = c.from-from.ensures in omega (arith, f, lt)) e;
+      agree = λ m k lt e. one_more c.args.arena.now (target c.in-Some.content) c.loop-label.from (λ (n : ℕ) (l : Link). CountedAgree c.args.arena.now c.args.side (way_of c.args.way.now ++ down n ∷ across ∷ []) (target l) (c.args.left - 1)) c.loop-label.invariant.agree c.in-Some-first_child.label c.in-Some-first_child.child c.in-Some-first_child.ensures.child here m k (let f = c.from-from.ensures in omega (arith, f, lt)) e;
     }
 
 pub returns-clause-told : goal.returns-clause-told
 returns-clause-told g t c = λ y.
-    subst (CountedAgree c.args.arena.now c.args.side (way_of c.args.way.now) c.args.of.0) (sym (one_less c.args.left c.if-left-eq0.false)) (children_agree c.args.arena.now c.args.side (way_of c.args.way.now) c.args.of.0 c.in-Some.content (sym c.link_along.ensures ∙ c.in-Some.is) (c.args.left - 1) (no_more c.args.arena.now (target c.in-Some.content) c.loop-label.from (λ (n : ℕ) (l : Link). CountedAgree c.args.arena.now c.args.side (way_of c.args.way.now ++ down n ∷ across ∷ []) (target l) (c.args.left - 1)) c.loop-label.invariant.agree c.in_default-first_child.ensures))
+    subst (CountedAgree c.args.arena.now c.args.side (way_of c.args.way.now) c.args.of.0) (sym (one_less c.args.left c.if-left-eq0.false)) (children_agree c.args.arena.now c.args.side (way_of c.args.way.now) c.args.of.0 c.in-Some.content (sym c.link_along.ensures ∙ c.in-Some.is) (c.args.left - 1) (no_more c.args.arena.now (target c.in-Some.content) c.loop-label.from (λ (n : ℕ) (l : Link). CountedAgree c.args.arena.now c.args.side (way_of c.args.way.now ++ down n ∷ across ∷ []) (target l) (c.args.left - 1)) c.loop-label.invariant.agree c.in_default-first_child.ensures.child))
+
+pub loop-label-init : goal.loop-label-init
+loop-label-init g t c = record {
+  last = omega arith;
+  few = omega arith;
+  place = at_start (children_of (slot_of c.args.arena.now (target c.in-Some.content)));
+  same = refl;
+  agree = λ m k lt e. absurd (omega (arith, lt));
+}

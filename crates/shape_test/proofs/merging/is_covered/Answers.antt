@@ -1,4 +1,4 @@
-use Rattle.std.proofs.Common.{◌≡◌, ◌≤◌, ℕ, arith}
+use Rattle.std.proofs.Common.{◌≤◌, ℕ, arith}
 use Rattle.node_arena.specs.Slots.{count, slot_of}
 use Rattle.shape_test.specs.Agreeing.{Covers}
 use Rattle.shape_test.specs.Ends.{end_count}

@@ -1,7 +1,7 @@
-use Rattle.std.proofs.Common.{◌≡◌, ◌<◌, ℕ, sym, ◌∙◌, subst, arith}
+use Rattle.std.proofs.Common.{ℕ, sym, ◌∙◌, subst, arith}
 use Rattle.node_arena.specs.Slots.{count, slot_of}
 use Rattle.image_shape.specs.Ways.{Merges}
-use Rattle.shape_test.specs.Agreeing.{Agrees, AgreesAs, BinsAgree, RowsAgree, Covers}
+use Rattle.shape_test.specs.Agreeing.{AgreesAs, BinsAgree, RowsAgree, Covers}
 use Rattle.shape_test.specs.Homes.{way_of}
 use Rattle.shape_test.specs.declared.merging.Role.{Role}
 use Rattle.shape_test.proofs.Counting.{node_count}

@@ -1,16 +1,29 @@
 use Rattle.std.proofs.Common.{ℕ, ◌+◌, sym, subst, arith}
+use Rattle.probe_core.specs.Places.{IsPlace}
+use Rattle.node_arena.specs.Slots.{child_label, children_of, slot_of}
 use Rattle.shape_test.specs.Owners.{AreOwners, Before}
+use Rattle.shape_test.proofs.ChildPlaces.{at_start}
 use Rattle.shape_test.proofs.Noting.{child_noted, child_second, children_noted, when_true, when_false}
 use Rattle.shape_test.proofs.owner.note_children.Goals as goal
 
 pub returns-then-not-note_link : goal.returns-then-not-note_link
-returns-then-not-note_link g c = child_second c.args.arena.now c.args.id.0 c.loop-label.from c.loop-label.owners c.in-Some.label c.in-Some.link c.loop-label.invariant.noted c.in-Some.ensures (when_false c.note_link.result _ _ c.note_link.ensures c.if-not-note_link.true)
+returns-then-not-note_link c = child_second c.args.arena.now c.args.id.0 c.loop-label.from c.loop-label.owners c.in-Some.label c.in-Some.link c.loop-label.invariant.noted c.in-Some.ensures.child (when_false c.note_link.result _ _ c.note_link.ensures c.if-not-note_link.true)
 
 pub loop-label-preserved : goal.loop-label-preserved
-loop-label-preserved g c = record {
-  last = let s = c.in-Some.ensures.small in let f = c.from-from.ensures in omega (arith, s, f);
-  noted = subst (λ (n : ℕ). AreOwners c.args.arena.now (Before c.args.id.0 (n + 1)) c.note_link.new.owners) (sym c.from-from.ensures) (child_noted c.args.arena.now c.args.id.0 c.loop-label.from c.loop-label.owners c.note_link.new.owners c.in-Some.label c.in-Some.link c.loop-label.invariant.noted c.in-Some.ensures (when_true c.note_link.result _ _ c.note_link.ensures c.if-not-note_link.false));
+loop-label-preserved c = record {
+  last = let s = c.in-Some.ensures.child.small in let f = c.from-from.ensures in omega (arith, s, f);
+  few = let n = c.loop-label.invariant.few in let low = c.in-Some.ensures.child.low in let f = c.from-from.ensures in omega (arith, n, low, f);
+  place = subst (λ n. IsPlace child_label (n + 1) (children_of (slot_of c.args.arena.now c.args.id.0)) (c.loop-label.i + 1)) (sym c.from-from.ensures) c.in-Some.ensures.place;
+  noted = subst (λ (n : ℕ). AreOwners c.args.arena.now (Before c.args.id.0 (n + 1)) c.note_link.new.owners) (sym c.from-from.ensures) (child_noted c.args.arena.now c.args.id.0 c.loop-label.from c.loop-label.owners c.note_link.new.owners c.in-Some.label c.in-Some.link c.loop-label.invariant.noted c.in-Some.ensures.child (when_true c.note_link.result _ _ c.note_link.ensures c.if-not-note_link.false));
 }
 
 pub returns : goal.returns
-returns g c = children_noted c.args.arena.now c.args.id.0 c.loop-label.from c.loop-label.owners c.loop-label.invariant.last c.in_default.ensures c.loop-label.invariant.noted
+returns c = children_noted c.args.arena.now c.args.id.0 c.loop-label.from c.loop-label.owners c.loop-label.invariant.last c.in_default.ensures.child c.loop-label.invariant.noted
+
+pub loop-label-init : goal.loop-label-init
+loop-label-init c = record {
+  last = omega arith;
+  few = omega arith;
+  place = at_start (children_of (slot_of c.args.arena.now c.args.id.0));
+  noted = c.requires.owners;
+}

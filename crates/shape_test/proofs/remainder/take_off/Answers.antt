@@ -1,4 +1,4 @@
-use Rattle.std.proofs.Common.{◌≡◌, ◌<◌, ◌≤◌, length, inl, inr, arith}
+use Rattle.std.proofs.Common.{length, inl, inr, arith}
 use Rattle.std.proofs.lemmas.Bool.{cases_lt, le-leb}
 use Rattle.shape_test.proofs.Remaining.{taken_more, passed_by, too_many, is_missing}
 use Rattle.shape_test.proofs.remainder.take_off.Goals as goal

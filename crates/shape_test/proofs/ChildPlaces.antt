@@ -1,0 +1,42 @@
+-- The places of a node's children.
+use Rattle.std.proofs.Common.{◌≡◌, ℕ, ◌+◌, ◌<◌, ◌≤◌, length, take, drop, get_or, zero, suc, [], ◌∷◌, None, Some, slice_get, inl, inr, refl, sym, ap, ◌∙◌, arith}
+use Rattle.std.proofs.lemmas.Bool.{cases_lt}
+use Rattle.std.proofs.lemmas.List.{length-take-le, length-drop, get_or-take, get_or-drop, get_or_default}
+use Rattle.probe_core.specs.Places.{IsPlace}
+use Rattle.node_arena.specs.declared.link.Link.{Link}
+use Rattle.node_arena.specs.Slots.{Children, IsRising, child_label}
+
+-- before the first label there is no child
+pub at_start : (cs : Children) → IsPlace child_label 0 cs 0
+at_start cs = record { within = omega arith; lesser = λ k d less. absurd (omega (arith, less)); others = λ k d less. omega arith }
+
+-- behind a child all labels are past its own
+pub place_more : (cs : Children) (i : ℕ) (c : ℕ × Link) → IsRising cs → i < length cs → c ≡ get_or cs i c → IsPlace child_label (c.0 + 1) cs (i + 1)
+place_more cs i c rises within read = record {
+  within = omega arith;
+  lesser = λ k d less.
+      let long = length-take-le (i + 1) cs (omega arith) in
+      let first : (get_or (take (i + 1) cs) k d).0 ≡ (get_or cs k d).0 = ap child_label (get_or-take (i + 1) cs k d (omega (arith, less, long))) in
+      let here : (get_or cs i d).0 ≡ c.0 = ap child_label (get_or_default cs i d c within ∙ sym read) in
+      elim (cases_lt k i) [
+        | inl low ↦ let up : (get_or cs k d).0 < (get_or cs i d).0 = rises k i d low within in omega arith
+        | inr high ↦ let same : (get_or cs k d).0 ≡ (get_or cs i d).0 = ap (λ n. (get_or cs n d).0) (omega (arith, high, less, long)) in omega arith
+      ];
+  others = λ k d less.
+      let long = length-drop (i + 1) cs in
+      let first : (get_or (drop (i + 1) cs) k d).0 ≡ (get_or cs (i + 1 + k) d).0 = ap child_label (get_or-drop (i + 1) cs k d) in
+      let here : (get_or cs i d).0 ≡ c.0 = ap child_label (get_or_default cs i d c within ∙ sym read) in
+      let up : (get_or cs i d).0 < (get_or cs (i + 1 + k) d).0 = rises i (i + 1 + k) d (omega arith) (omega (arith, less, long)) in
+      omega arith;
+}
+
+-- the child at a place, and none past the last one
+pub get_some : (cs : Children) (i : ℕ) (c : ℕ × Link) → i < length cs → c ≡ get_or cs i c → Some c ≡ slice_get cs i
+get_some [] i c within read = absurd (omega (arith, within))
+get_some (x ∷ cs) zero c within read = ap (λ (y : ℕ × Link). Some y) read
+get_some (x ∷ cs) (suc i) c within read = get_some cs i c (omega (arith, within)) read
+
+pub get_none : (cs : Children) (i : ℕ) → length cs ≤ i → None ≡ slice_get cs i
+get_none [] i past = refl
+get_none (x ∷ cs) zero past = absurd (omega (arith, past))
+get_none (x ∷ cs) (suc i) past = get_none cs i (omega (arith, past))
