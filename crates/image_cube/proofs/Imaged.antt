@@ -24,7 +24,8 @@ use Rattle.proper_path.specs.Paths.{point_path, paths_of}
 use Rattle.cube_store.specs.Counted.{CountsPoints}
 use Rattle.cube_image.proofs.Labels.{label-byte}
 use Rattle.cube_image.proofs.Rests.{Rises, rises, rows-rise, child-low}
-use Rattle.image_parse.specs.Images.{AreChildren, AreRows, IsImageSlot}
+use Rattle.time_table.specs.Rows.{AreRows}
+use Rattle.image_parse.specs.Images.{AreChildren, IsImageSlot}
 use Rattle.image_shape.specs.Laws.{AllTablesCounted}
 use Rattle.image_shape.proofs.Core.{amount-cons}
 

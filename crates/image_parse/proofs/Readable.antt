@@ -12,7 +12,8 @@ use Rattle.node_arena.specs.Slots.{target, Children, IsRising, Slot, node, table
 use Rattle.cube_image.specs.Conditions.{IsReadable}
 use Rattle.cube_image.specs.Cubes.{TellsOwnImage}
 use Rattle.cube_image.specs.Image.{IsImageOf}
-use Rattle.image_parse.specs.Images.{AreChildren, AreRows, IsContent, IsImageSlot}
+use Rattle.time_table.specs.Rows.{AreRows}
+use Rattle.image_parse.specs.Images.{AreChildren, IsContent, IsImageSlot}
 use Rattle.image_parse.specs.Laws.{TellsOrderly}
 use Rattle.image_parse.proofs.Fields.{chosen}
 
@@ -26,7 +27,7 @@ children_from n from (c ∷ cs) fit (suc i) d lt =
     let low : from ≤ c.0 = fit.0 in
     omega arith
 
-children_rise : (n from : ℕ) (cs : Children) → AreChildren n from cs → IsRising cs
+pub children_rise : (n from : ℕ) (cs : Children) → AreChildren n from cs → IsRising cs
 children_rise n from [] fit i j d lt lj = absurd (omega arith)
 children_rise n from (c ∷ cs) fit i zero d lt lj = absurd (omega arith)
 children_rise n from (c ∷ cs) fit zero (suc j) d lt lj = let r = children_from n (c.0 + 1) cs fit.3 j d (omega arith) in omega arith

@@ -1,19 +1,19 @@
 -- Tables that are read, and that are read again.
-use Rattle.std.proofs.Common.{◌≡◌, ℕ, zero, suc, ◌+◌, ◌^◌, ◌<◌, ◌≤◌, Bool, true, cond, eqb, ltb, T, List, [], ◌∷◌, ◌++◌, length, Some, None, refl, sym, ap, subst, ◌∙◌, append_assoc, arith, option_and_then}
+use Rattle.std.proofs.Common.{◌≡◌, ℕ, zero, suc, ◌+◌, ◌^◌, ◌<◌, ◌≤◌, Bool, cond, eqb, ltb, List, [], ◌∷◌, ◌++◌, length, Some, None, refl, sym, ap, subst, ◌∙◌, append_assoc, arith, option_and_then}
 use Rattle.std.specs.FinMap.{from_sorted, entries, entries_sorted, entries-from_sorted, same_entries_map}
-use Rattle.std.specs.FinMap.Entries.{is_sorted, below_all}
 use Rattle.std.specs.Int.{w32, w64, to_be_bytes}
 use Rattle.std.specs.List.{flat_map}
 use Rattle.std.specs.Ordering.{nat_cmp}
-use Rattle.std.proofs.lemmas.Bool.{and_from, lt-ltb, le-ltb, ltb-false, eqb-false, ne_eqb}
+use Rattle.std.proofs.lemmas.Bool.{lt-ltb, le-ltb, ltb-false, eqb-false, ne_eqb}
 use Rattle.node_arena.specs.Slots.{Slot, table}
 use Rattle.time_table.specs.Counts.{BinCounts}
 use Rattle.cube_image.specs.Bytes.{row_bytes, table_bytes, slot_bytes}
 use Rattle.cube_image.specs.Rest.{below_number, word_rows}
-use Rattle.image_parse.specs.Images.{AreRows, IsImageSlot}
+use Rattle.time_table.specs.Rows.{AreRows}
+use Rattle.time_table.proofs.RowLists.{entries_of_rows}
+use Rattle.image_parse.specs.Images.{IsImageSlot}
 use Rattle.image_parse.specs.Reading.{Front, width_number_at, row_at, table_rows_at, table_at}
 use Rattle.image_parse.proofs.Fields.{IsBytes, bind_some, some_is, fails_some, Takes, Takes-then, wide32, wide64, number_takes, number_again}
-use Rattle.cube_store.proofs.Rising.{less_to}
 
 -- a row that was read
 record IsRowAt (from : ℕ) (bytes : List ℕ) (x : Front (ℕ × ℕ)) : Type 0 where
@@ -95,24 +95,6 @@ rows-few from (e ∷ es) fit le =
     let high : e.0 < 2 ^ 32 = fit.1 in
     let r = rows-few (e.0 + 1) es fit.4 (omega arith) in
     omega arith
-
--- a bin below the number that bins rise from is below all of them
-rows_above : (bin from : ℕ) (es : List (ℕ × ℕ)) → bin < from → AreRows from es → below_all nat_cmp bin es ≡ true
-rows_above bin from [] lt fit = refl
-rows_above bin from (e ∷ es) lt fit =
-    let low : from ≤ e.0 = fit.0 in
-    and_from _ _ (less_to bin e.0 (omega arith)) (rows_above bin (e.0 + 1) es (omega arith) fit.4)
-
-sorted_test : (from : ℕ) (es : List (ℕ × ℕ)) → AreRows from es → is_sorted nat_cmp es ≡ true
-sorted_test from [] fit = refl
-sorted_test from (e ∷ es) fit = and_from _ _ (rows_above e.0 (e.0 + 1) es (omega arith) fit.4) (sorted_test (e.0 + 1) es fit.4)
-
-pub rows_sorted : (from : ℕ) (es : List (ℕ × ℕ)) → AreRows from es → T (is_sorted nat_cmp es)
-rows_sorted from es fit = subst T (sym (sorted_test from es fit)) tt
-
--- the table of rows has them
-pub entries_of_rows : (from : ℕ) (es : List (ℕ × ℕ)) → AreRows from es → entries (from_sorted {R = nat_cmp} es) ≡ es
-entries_of_rows from es fit = entries-from_sorted nat_cmp es (rows_sorted from es fit)
 
 -- a table that was read, behind the byte of its kind
 pub record IsTableAt (bytes : List ℕ) (x : Front Slot) : Type 0 where

@@ -5,6 +5,7 @@ use Rattle.std.specs.List.{AllByRecursion}
 use Rattle.node_arena.specs.declared.link.Link.{Link}
 use Rattle.node_arena.specs.Slots.{target, Children, Slot, node, table, counts_of}
 use Rattle.time_table.specs.Counts.{total_count}
+use Rattle.time_table.specs.Rows.{AreRows}
 use Rattle.cube_image.specs.Bytes.{image_bytes}
 use Rattle.cube_image.specs.Order.{IsNumbered}
 
@@ -12,11 +13,6 @@ use Rattle.cube_image.specs.Order.{IsNumbered}
 abbrev pub AreChildren : ℕ → ℕ → Children → Type 0
 AreChildren n from [] = Unit {0}
 AreChildren n from (c ∷ children) = (from ≤ c.0) × (c.0 < 256) × (target c.1 < n) × AreChildren n (c.0 + 1) children
-
--- rows whose bins have 32 bits and rise from a number on, and whose counts have 64 bits and aren't 0
-abbrev pub AreRows : ℕ → List (ℕ × ℕ) → Type 0
-AreRows from [] = Unit {0}
-AreRows from (e ∷ rows) = (from ≤ e.0) × (e.0 < 2 ^ 32) × (0 < e.1) × (e.1 < 2 ^ 64) × AreRows (e.0 + 1) rows
 
 -- the link to a content leads to one of n slots, if there is a content
 abbrev pub IsContent : ℕ → Option Link → Type 0

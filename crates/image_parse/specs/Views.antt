@@ -1,8 +1,9 @@
 -- What functions return, as it is read.
-use Rattle.std.specs.Prelude.{◌≡◌, ℕ, List, sum_by, Option, Some, None, Result, Ok, Err}
+use Rattle.std.specs.Prelude.{◌≡◌, ℕ, List, Option, Some, None, Result, Ok, Err}
 use Rattle.std.specs.FinMap.{from_sorted}
 use Rattle.node_arena.specs.Slots.{Children, Slot, node, table}
-use Rattle.image_parse.specs.Images.{AreChildren, AreRows, AllLight}
+use Rattle.time_table.specs.Rows.{AreRows}
+use Rattle.image_parse.specs.Images.{AreChildren, AllLight}
 use Rattle.image_parse.specs.Reading.{Linked}
 use Rattle.image_parse.specs.declared.fault.ImageParseFault.{ImageParseFault}
 use Rattle.image_parse.specs.declared.fault.ImageParseFault.TheVariants.{NotImage, NoMemory}
@@ -34,10 +35,6 @@ pub record AreImageChildren (children : Children) : Type 0 where
 abbrev pub IsParsed : ParsedSlot → Type 0
 IsParsed (Node children content) = AreImageChildren children.items
 IsParsed (Table rows) = AreRows 0 rows.items
-
--- how much rows count together
-abbrev pub row_total : List (ℕ × ℕ) → ℕ
-row_total rows = sum_by (λ e. e.1) rows
 
 -- an arena keeps the slots; none is kept where a table is too heavy for one
 abbrev pub KeepsLight : Option (List Slot) → List Slot → Type 0

@@ -1,8 +1,8 @@
 //! Slots at the front of bytes.
 ghost use Rattle.std.specs.Prelude.{◌≡◌, ◌<◌, ◌≤◌, IfOk};
 ghost use Rattle.std.specs.FinMap.{from_sorted};
+ghost use Rattle.time_table.specs.Rows.{AreRows};
 ghost use Rattle.node_arena.specs.Slots.{node, table};
-ghost use Rattle.image_parse.specs.Images.{AreRows};
 ghost use Rattle.image_parse.specs.Reading.{children_at, node_at, row_at, table_rows_at, table_at, slot_at};
 ghost use Rattle.image_parse.specs.Views.{Gives, AreImageChildren, IsParsed, slot_parsed};
 

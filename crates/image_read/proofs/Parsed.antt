@@ -5,7 +5,8 @@ use Rattle.std.specs.List.{AllByRecursion}
 use Rattle.std.proofs.lemmas.Bool.{and_parts}
 use Rattle.cube_view.specs.Walks.{under}
 use Rattle.cube_view.specs.declared.schema.Schema.{Schema}
-use Rattle.image_parse.specs.Images.{AreChildren, AreRows, IsImageSlot, IsImage, AllLight, IsHeavyImage}
+use Rattle.time_table.specs.Rows.{AreRows}
+use Rattle.image_parse.specs.Images.{AreChildren, IsImageSlot, IsImage, AllLight, IsHeavyImage}
 use Rattle.image_parse.specs.Laws.{IsOrderly, TellsOrderly}
 use Rattle.image_shape.specs.Wholes.{spot_at}
 use Rattle.image_shape.proofs.Core.{amount-cons}

@@ -1,5 +1,5 @@
 use Rattle.std.proofs.Common.{◌≡◌, ◌≤◌, ◌^◌, take}
-use Rattle.image_parse.specs.Views.{row_total}
+use Rattle.time_table.specs.Rows.{row_total}
 use Rattle.image_parse.proofs.build.is_light.Given as goal
 
 abbrev pub invariant-loop-row : goal.invariant-loop-row
