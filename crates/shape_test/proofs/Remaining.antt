@@ -19,7 +19,7 @@ use Rattle.image_shape.specs.Wholes.{spot_at}
 use Rattle.image_shape.proofs.Core.{one_under, amount-cons}
 use Rattle.image_shape.proofs.Rows.{table_rows, less_of, from_test}
 use Rattle.shape_test.specs.Ends.{end_count, ends_count}
-use Rattle.shape_test.specs.Remainder.{AreOrderly, FitIn, IsLeft, bin_of, slot_rows, end_rows}
+use Rattle.shape_test.specs.Remainder.{AreOrderly, FitIn, IsRemainder, row_key, slot_rows, end_rows}
 use Rattle.shape_test.proofs.Summing.{ends_part}
 
 -- ---- what rows count in a bin
@@ -68,21 +68,21 @@ amount_least es i d within =
     omega (arith, m, h)
 
 -- and alone in its bin
-amount_one : (es : List (ℕ × ℕ)) (i : ℕ) (d : ℕ × ℕ) → RisesBy bin_of es → i < length es → amount_at (get_or es i d).0 es ≡ (get_or es i d).1
+amount_one : (es : List (ℕ × ℕ)) (i : ℕ) (d : ℕ × ℕ) → RisesBy row_key es → i < length es → amount_at (get_or es i d).0 es ≡ (get_or es i d).1
 amount_one es i d rises within =
     let e : ℕ × ℕ = get_or es i d in
     let around : es ≡ take i es ++ (e ∷ drop (suc i) es) = sym (take-append-drop i es) ∙ ap (λ zs. take i es ++ zs) (drop-cons es i d within) in
     let long : length (take i es) ≡ i = length-take-le i es (omega arith) in
     let before : amount_at e.0 (take i es) ≡ 0 = amount_none e.0 (take i es) (λ k q less is.
-    let first : (get_or (take i es) k q).0 ≡ (get_or es k q).0 = ap bin_of (get_or-take i es k q (omega (arith, less))) in
+    let first : (get_or (take i es) k q).0 ≡ (get_or es k q).0 = ap row_key (get_or-take i es k q (omega (arith, less))) in
     let up : (get_or es k q).0 < (get_or es i q).0 = rises k i q (omega (arith, less)) within in
-    let same : (get_or es i q).0 ≡ e.0 = ap bin_of (get_or_default es i q d within) in
+    let same : (get_or es i q).0 ≡ e.0 = ap row_key (get_or_default es i q d within) in
     omega arith) in
     let after : amount_at e.0 (drop (suc i) es) ≡ 0 = amount_none e.0 (drop (suc i) es) (λ k q less is.
     let more = length-drop (suc i) es in
-    let first : (get_or (drop (suc i) es) k q).0 ≡ (get_or es (suc i + k) q).0 = ap bin_of (get_or-drop (suc i) es k q) in
+    let first : (get_or (drop (suc i) es) k q).0 ≡ (get_or es (suc i + k) q).0 = ap row_key (get_or-drop (suc i) es k q) in
     let up : (get_or es i q).0 < (get_or es (suc i + k) q).0 = rises i (suc i + k) q (omega arith) (omega (arith, less, more)) in
-    let same : (get_or es i q).0 ≡ e.0 = ap bin_of (get_or_default es i q d within) in
+    let same : (get_or es i q).0 ≡ e.0 = ap row_key (get_or_default es i q d within) in
     omega arith) in
     let all : amount_at e.0 es ≡ amount_at e.0 (take i es) + amount_at e.0 (e ∷ drop (suc i) es) = ap (amount_at e.0) around ∙ sum_by-append (part_at e.0) (take i es) (e ∷ drop (suc i) es) in
     let one = sum_by-cons (part_at e.0) e (drop (suc i) es) in
@@ -120,15 +120,15 @@ passed_by old rows left i next d T inside some other = record {
   rest = λ k q le. T.rest k q (omega (arith, le));
   apart = λ k q less within more is. elim (cases_eq k i) [
     | inl here ↦
-        let l : (get_or old k q).0 ≡ (get_or left i d).0 = ap (λ n. (get_or old n q).0) here ∙ sym (T.bins i q) ∙ ap bin_of (get_or_default left i q d inside) in
-        let r : (get_or rows next q).0 ≡ (get_or rows next d).0 = ap bin_of (get_or_default rows next q d some) in
+        let l : (get_or old k q).0 ≡ (get_or left i d).0 = ap (λ n. (get_or old n q).0) here ∙ sym (T.bins i q) ∙ ap row_key (get_or_default left i q d inside) in
+        let r : (get_or rows next q).0 ≡ (get_or rows next d).0 = ap row_key (get_or_default rows next q d some) in
         other (sym l ∙ is ∙ r)
     | inr away ↦ T.apart k q (omega (arith, less, away)) within more is
   ];
 }
 
 -- the next row is taken off
-pub taken_more : (old rows left : List (ℕ × ℕ)) (i next : ℕ) (d : ℕ × ℕ) → RisesBy bin_of old → RisesBy bin_of rows → IsTaken old rows left i next → i < length left → next < length rows → (get_or left i d).0 ≡ (get_or rows next d).0 → (get_or rows next d).1 ≤ (get_or left i d).1 → IsTaken old rows (set left i ((get_or rows next d).0, (get_or left i d).1 - (get_or rows next d).1)) (i + 1) (next + 1)
+pub taken_more : (old rows left : List (ℕ × ℕ)) (i next : ℕ) (d : ℕ × ℕ) → RisesBy row_key old → RisesBy row_key rows → IsTaken old rows left i next → i < length left → next < length rows → (get_or left i d).0 ≡ (get_or rows next d).0 → (get_or rows next d).1 ≤ (get_or left i d).1 → IsTaken old rows (set left i ((get_or rows next d).0, (get_or left i d).1 - (get_or rows next d).1)) (i + 1) (next + 1)
 taken_more old rows left i next d up up' T inside some same enough =
     let r : ℕ × ℕ = get_or rows next d in
     let e : ℕ × ℕ = get_or left i d in
@@ -137,8 +137,8 @@ taken_more old rows left i next d up up' T inside some same enough =
       within = omega arith;
       long = length-set left i new ∙ T.long;
       bins = λ k q. elim (cases_eq k i) [
-        | inl here ↦ ap (λ n. (get_or (set left i new) n q).0) here ∙ ap bin_of (get_or-set_same left i new q inside) ∙ sym same ∙ ap bin_of (get_or_default left i d q inside) ∙ T.bins i q ∙ ap (λ n. (get_or old n q).0) (sym here)
-        | inr away ↦ ap bin_of (get_or-set_other left i k new q away) ∙ T.bins k q
+        | inl here ↦ ap (λ n. (get_or (set left i new) n q).0) here ∙ ap row_key (get_or-set_same left i new q inside) ∙ sym same ∙ ap row_key (get_or_default left i d q inside) ∙ T.bins i q ∙ ap (λ n. (get_or old n q).0) (sym here)
+        | inr away ↦ ap row_key (get_or-set_other left i k new q away) ∙ T.bins k q
       ];
       amounts = λ bin.
           let s = sum_by-set (part_at bin) left i new d inside in
@@ -158,8 +158,8 @@ taken_more old rows left i next d up up' T inside some same enough =
           ];
       rest = λ k q le. get_or-set_other left i k new q (λ is. omega (arith, le, is)) ∙ T.rest k q (omega (arith, le));
       apart = λ k q less within more is.
-          let l : (get_or old i q).0 ≡ r.0 = sym (T.bins i q) ∙ ap bin_of (get_or_default left i q d inside) ∙ same in
-          let f : (get_or rows next q).0 ≡ r.0 = ap bin_of (get_or_default rows next q d some) in
+          let l : (get_or old i q).0 ≡ r.0 = sym (T.bins i q) ∙ ap row_key (get_or_default left i q d inside) ∙ same in
+          let f : (get_or rows next q).0 ≡ r.0 = ap row_key (get_or_default rows next q d some) in
           let later : (get_or rows next q).0 < (get_or rows (next + 1) q).0 = up' next (next + 1) q (omega arith) more in
           elim (cases_eq k i) [
             | inl here ↦ let h : (get_or old k q).0 ≡ (get_or old i q).0 = ap (λ n. (get_or old n q).0) here in omega (arith, h, l, f, later, is)
@@ -170,7 +170,7 @@ taken_more old rows left i next d up up' T inside some same enough =
     }
 
 -- what is left rises as it did
-pub left_rises : (old rows left : List (ℕ × ℕ)) (i next : ℕ) → RisesBy bin_of old → IsTaken old rows left i next → RisesBy bin_of left
+pub left_rises : (old rows left : List (ℕ × ℕ)) (i next : ℕ) → RisesBy row_key old → IsTaken old rows left i next → RisesBy row_key left
 left_rises old rows left i next up T a b d less within =
     let long = T.long in
     let low : (get_or old a d).0 < (get_or old b d).0 = up a b d less (omega arith) in
@@ -179,17 +179,17 @@ left_rises old rows left i next up T a b d less within =
     omega arith
 
 -- all rows are taken off
-pub all_taken : (old rows left : List (ℕ × ℕ)) (i next : ℕ) → IsTaken old rows left i next → length rows ≤ next → IsLeft old rows left
+pub all_taken : (old rows left : List (ℕ × ℕ)) (i next : ℕ) → IsTaken old rows left i next → length rows ≤ next → IsRemainder old rows left
 all_taken old rows left i next T done bin = T.amounts bin ∙ ap (λ zs. amount_at bin left + amount_at bin zs) (take_all next rows done)
 
 -- a row counts more than there is
-pub too_many : (old rows left : List (ℕ × ℕ)) (i next : ℕ) (d : ℕ × ℕ) → RisesBy bin_of old → IsTaken old rows left i next → i < length left → next < length rows → (get_or left i d).0 ≡ (get_or rows next d).0 → (get_or left i d).1 < (get_or rows next d).1 → FitIn rows old → ⊥
+pub too_many : (old rows left : List (ℕ × ℕ)) (i next : ℕ) (d : ℕ × ℕ) → RisesBy row_key old → IsTaken old rows left i next → i < length left → next < length rows → (get_or left i d).0 ≡ (get_or rows next d).0 → (get_or left i d).1 < (get_or rows next d).1 → FitIn rows old → ⊥
 too_many old rows left i next d up T inside some same few fit =
     let long = T.long in
     let was : get_or left i d ≡ get_or old i d = T.rest i d (omega arith) in
     let least = amount_least rows next d some in
     let one = amount_one old i d up (omega arith) in
-    let bin : (get_or old i d).0 ≡ (get_or rows next d).0 = ap bin_of (sym was) ∙ same in
+    let bin : (get_or old i d).0 ≡ (get_or rows next d).0 = ap row_key (sym was) ∙ same in
     let count : (get_or left i d).1 ≡ (get_or old i d).1 = ap (λ (e : ℕ × ℕ). e.1) was in
     let most : amount_at (get_or rows next d).0 rows ≤ amount_at (get_or rows next d).0 old = fit (get_or rows next d).0 in
     let at : amount_at (get_or old i d).0 old ≡ amount_at (get_or rows next d).0 old = ap (λ b. amount_at b old) bin in
@@ -200,7 +200,7 @@ pub is_missing : (old rows left : List (ℕ × ℕ)) (i next : ℕ) → IsTaken 
 is_missing old rows left i next T end some counted fit =
     let r : ℕ × ℕ = get_or rows next (0, 0) in
     let long = T.long in
-    let none : amount_at r.0 old ≡ 0 = amount_none r.0 old (λ k d less is. T.apart k d (omega (arith, less)) less some (is ∙ ap bin_of (get_or_default rows next (0, 0) d some))) in
+    let none : amount_at r.0 old ≡ 0 = amount_none r.0 old (λ k d less is. T.apart k d (omega (arith, less)) less some (is ∙ ap row_key (get_or_default rows next (0, 0) d some))) in
     let least = amount_least rows next (0, 0) some in
     let most : amount_at r.0 rows ≤ amount_at r.0 old = fit r.0 in
     let count : 0 < r.1 = counted next (0, 0) some in
@@ -214,7 +214,7 @@ below_later k (x ∷ es) B =
     let parts = and_parts _ (below_all nat_cmp k es) (from_test _ B) in
     All-cons (λ (e : ℕ × ℕ). k < e.0) x es (less_of k x.0 parts.0) (below_later k es (subst T (sym parts.1) tt))
 
-sorted_rises : (es : List (ℕ × ℕ)) → T (is_sorted nat_cmp es) → RisesBy bin_of es
+sorted_rises : (es : List (ℕ × ℕ)) → T (is_sorted nat_cmp es) → RisesBy row_key es
 sorted_rises [] S = λ i j d less within. absurd (omega (arith, within))
 sorted_rises (x ∷ es) S =
     let parts = and_parts (below_all nat_cmp x.0 es) (is_sorted nat_cmp es) (from_test _ S) in
@@ -266,7 +266,7 @@ module _ (slots : List Slot) (ends : List SlotId) (i : ℕ) (d : SlotId) (old le
       omega (arith, part, most, sofar bin, fit bin)
 
   -- once they are taken off, that was left and the slots up to it
-  pub next_left : (new : List (ℕ × ℕ)) → i < length ends → ((bin : ℕ) → amount_at bin old ≡ amount_at bin left + ends_count slots (take i ends) bin) → rows ≡ slot_rows slots (get_or ends i d).0 → IsLeft left rows new → (bin : ℕ) → amount_at bin old ≡ amount_at bin new + ends_count slots (take (i + 1) ends) bin
+  pub next_left : (new : List (ℕ × ℕ)) → i < length ends → ((bin : ℕ) → amount_at bin old ≡ amount_at bin left + ends_count slots (take i ends) bin) → rows ≡ slot_rows slots (get_or ends i d).0 → IsRemainder left rows new → (bin : ℕ) → amount_at bin old ≡ amount_at bin new + ends_count slots (take (i + 1) ends) bin
   next_left new within sofar is taken bin =
       let part = slot_amount slots (get_or ends i d).0 rows bin is in
       let more = sum_by_more (λ (s : SlotId). count (slot_of slots s.0) bin) ends i d within in

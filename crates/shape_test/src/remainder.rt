@@ -4,7 +4,7 @@ ghost use Rattle.probe_core.specs.Places.{RisesBy};
 ghost use Rattle.time_table.specs.Counts.{amount_at};
 ghost use Rattle.node_arena.specs.Slots.{count, slot_of};
 ghost use Rattle.shape_test.specs.Ends.{end_count, ends_count, IsEnd, AreEnds};
-ghost use Rattle.shape_test.specs.Remainder.{AreOrderly, FitIn, IsLeft, bin_of, end_rows, slot_rows};
+ghost use Rattle.shape_test.specs.Remainder.{AreOrderly, FitIn, IsRemainder, row_key, end_rows, slot_rows};
 
 use node_arena::{Arena, SlotId};
 use outer_io::NoMemory;
@@ -15,9 +15,9 @@ use std::sync::ledger::Ledger;
 /// Takes rows off others, bin by bin. It says no only where they count more than these in some bin.
 fn take_off(left: &mut [(u32, u64)], rows: &[(u32, u64)]) -> bool
     requires orderly { AreOrderly rows.now }
-    requires rises { RisesBy bin_of left.old }
-    ensures rises { RisesBy bin_of left.new }
-    ensures left { IsTrue result → IsLeft left.old rows.now left.new }
+    requires rises { RisesBy row_key left.old }
+    ensures rises { RisesBy row_key left.new }
+    ensures left { IsTrue result → IsRemainder left.old rows.now left.new }
     ensures all { FitIn rows.now left.old → IsTrue result }
 {
     let mut next = 0;
@@ -92,7 +92,7 @@ fn take_ends<L: Ledger>(
     ends: &[SlotId],
     steps: &mut Steps<L>,
 ) -> Result<bool, NoMemory>
-    requires rises { RisesBy bin_of left.old }
+    requires rises { RisesBy row_key left.old }
     requires ends { AreEnds arena.now ends.now }
     ensures left { IfOk result (λ r. IsTrue r → (bin : ℕ) → amount_at bin left.old ≡ amount_at bin left.new + ends_count arena.now ends.now bin) }
     ensures all { ((bin : ℕ) → ends_count arena.now ends.now bin ≤ amount_at bin left.old) → IfOk result (λ r. IsTrue r) }

@@ -2,11 +2,11 @@ use Rattle.std.proofs.Common.{◌≡◌, ℕ, ◌+◌, take}
 use Rattle.probe_core.specs.Places.{RisesBy}
 use Rattle.time_table.specs.Counts.{amount_at}
 use Rattle.shape_test.specs.Ends.{ends_count}
-use Rattle.shape_test.specs.Remainder.{bin_of}
+use Rattle.shape_test.specs.Remainder.{row_key}
 use Rattle.shape_test.proofs.remainder.take_ends.Given as goal
 
 abbrev pub invariant-loop-end : goal.invariant-loop-end
 invariant-loop-end g l = record {
-  rises : RisesBy bin_of l.left;
+  rises : RisesBy row_key l.left;
   left : (bin : ℕ) → amount_at bin l.fn.left ≡ amount_at bin l.left + ends_count l.arena (take l.end-index l.ends) bin;
 }
