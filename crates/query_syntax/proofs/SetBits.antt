@@ -1,12 +1,12 @@
 -- Sets of values by their bits.
-use Rattle.std.proofs.Common.{◌≡◌, ℕ, zero, suc, ◌-◌, ◌*◌, ◌/◌, ◌%◌, ◌^◌, ◌<◌, ◌≤◌, Bool, true, false, List, [], ◌∷◌, length, get_or, set, eqb, sym, ◌∙◌, ap, refl, arith, ⊎_elim}
+use Rattle.std.proofs.Common.{◌≡◌, ℕ, zero, suc, ◌+◌, ◌-◌, ◌*◌, ◌/◌, ◌%◌, ◌^◌, ◌<◌, ◌≤◌, Bool, true, false, List, [], ◌∷◌, length, get_or, set, eqb, sym, ◌∙◌, ap, refl, arith, ⊎_elim}
 use Rattle.std.specs.Int.{bit_at, w64}
 use Rattle.std.specs.Int.RustNames.{bit_or}
 use Rattle.std.proofs.lemmas.Bool.{cases_eq, cases_lt}
-use Rattle.std.proofs.lemmas.List.{length-append, length-set, get_or_append_left, get_or-append_right, get_or-set_same, get_or-set_other, ext_get_or}
+use Rattle.std.proofs.lemmas.List.{length-append, length-set, get_or_past, get_or_append_left, get_or-append_right, get_or-set_same, get_or-set_other, ext_get_or}
 use Rattle.std.proofs.lemmas.List.Elements.{All-get_or, All-set}
 use Rattle.std.proofs.lemmas.Nat.{or_lt, mod_below, pow_pos}
-use Rattle.std.proofs.lemmas.Nat.Bits.{bit_at_lowest, bit_at-suc, bit_at-zero, bit_at_set_same, bit_at_set_other}
+use Rattle.std.proofs.lemmas.Nat.Bits.{bit_at_above, bit_at_lowest, bit_at-suc, bit_at-zero, bit_at_set_same, bit_at_set_other}
 use Rattle.query_syntax.specs.SetBits.{bits_of, members_in_words, AreWords}
 
 -- the value's bit is 1: bit v % 64 of word v / 64
@@ -99,3 +99,13 @@ words-set words v below are =
       four = length-set words (v / 64) (with_bit (get_or words (v / 64) 0) (v % 64)) ∙ are.four;
       small = All-set (λ w. w < 2 ^ 64) words (v / 64) (with_bit (get_or words (v / 64) 0) (v % 64)) (or_lt 64 _ _ (All-get_or (λ w. w < 2 ^ 64) words (v / 64) 0 within are.small) (mod_below (1 * 2 ^ (v % 64)) (2 ^ 64) (pow_pos 64))) are.small;
     }
+
+-- behind the last word there is no bit
+pub no_bit_behind : (words : List ℕ) (v : ℕ) → 64 * length words ≤ v → has_bit words v ≡ false
+no_bit_behind words v past = ap (λ w. eqb (bit_at w (v % 64)) 1) (get_or_past words (v / 64) 0 (omega (arith, past))) ∙ ap (λ b. eqb b 1) (bit_at-zero (v % 64))
+
+-- a word has no bit from a place on, if it is less than that power of two
+pub no_bit_from : (words : List ℕ) (at m v : ℕ) → get_or words at 0 < 2 ^ m → 64 * at + m ≤ v → v < 64 * (at + 1) → has_bit words v ≡ false
+no_bit_from words at m v small from within =
+    let word : at ≡ v / 64 = omega (arith, from, within) in
+    ap (λ i. eqb (bit_at (get_or words i 0) (v % 64)) 1) (sym word) ∙ ap (λ b. eqb b 1) (bit_at_above (get_or words at 0) m (v % 64) small (omega (arith, from, within, word)))

@@ -1,7 +1,7 @@
 -- Items: a category and the values of it that count, as `name=value|value`.
 --
 -- A value may stand in quotes. It has to where it has a space or a bar.
-use Rattle.std.specs.Prelude.{◌≡◌, ℕ, zero, suc, ◌+◌, ◌%◌, Bool, true, false, not, ◌||◌, ◌==◌, if◌then◌else◌, List, [], ◌∷◌, ◌++◌, length, filter, take, drop, count_by, position, slice_set, replicate, is_some, Option, Some, option_map, option_and_then, Result, Ok}
+use Rattle.std.specs.Prelude.{◌≡◌, ℕ, zero, suc, ◌+◌, ◌%◌, ◌≤◌, Bool, true, false, not, ◌||◌, ◌==◌, if◌then◌else◌, List, [], ◌∷◌, ◌++◌, length, filter, take, drop, count_by, position, slice_index_or, slice_set, replicate, is_some, Option, Some, option_map, option_and_then, Result, Ok}
 use Rattle.std.specs.List.{list_all, list_any}
 use Rattle.std.specs.Str.{bytes_eq}
 use Rattle.cube_view.specs.declared.category.Category.{Category}
@@ -62,6 +62,10 @@ with_values values set (piece ∷ rest) = option_and_then (λ v. with_values val
 -- the set of the values that the pieces between bars write, if each writes one
 unfoldable pub set_of : List (List ℕ) → List ℕ → Option (List Bool)
 set_of values text = with_values values no_values (cut_pieces bar text)
+
+-- no number from one on is in the set
+abbrev pub HasNoneFrom : List Bool → ℕ → Type 0
+HasNoneFrom set from = (v : ℕ) → from ≤ v → slice_index_or set v false ≡ false
 
 -- a category of so many values has all of them in the set
 abbrev pub is_full : ℕ → List Bool → Bool

@@ -1,7 +1,7 @@
 //! Sets of values of one category.
-ghost use Rattle.std.specs.Prelude.{length, ◌≡◌, ◌≤◌, not, true, false, drop, slice_set, slice_index_or, replicate};
+ghost use Rattle.std.specs.Prelude.{length, ◌≡◌, ◌<◌, ◌≤◌, ◌^◌, not, true, false, drop, slice_set, slice_index_or, replicate};
 ghost use Rattle.std.specs.List.{list_any};
-ghost use Rattle.query_syntax.specs.Items.{is_full};
+ghost use Rattle.query_syntax.specs.Items.{HasNoneFrom, is_full};
 ghost use Rattle.query_syntax.specs.SetBits.{members_in_words};
 
 use std::marker::Model;
@@ -68,6 +68,14 @@ impl ValueSet {
         is_no_member_from(&self.bits, count)
     }
 
+    /// An end behind all numbers of the set: one more than the largest of them, or 0.
+    pub fn end(&self) -> u16
+        ensures within { result ≤ 256 }
+        ensures none { HasNoneFrom self.now result }
+    {
+        end_of(&self.bits)
+    }
+
     /// Puts the value into the set.
     pub fn insert(&mut self, value: u8)
         ensures { self.new ≡ slice_set self.old value true }
@@ -107,4 +115,27 @@ fn is_no_member_from(bits: &[u64; 4], count: usize) -> bool
         }
     }
     true
+}
+
+/// How many bits a word takes.
+fn bit_length(word: u64) -> u16
+    ensures few { result ≤ 64 }
+    ensures small { word < 2 ^ result }
+{
+    (64 - word.leading_zeros()) as u16
+}
+
+/// One more than the largest number whose bit is 1, or 0 where there is none.
+fn end_of(bits: &[u64; 4]) -> u16
+    ensures within { result ≤ 256 }
+    ensures none { HasNoneFrom (members_in_words bits.now) result }
+{
+    let mut end = 0;
+    for word in 0..4u16 {
+        let length = bit_length(bits[usize::from(word)]);
+        if length > 0 {
+            end = 64 * word + length;
+        }
+    }
+    end
 }

@@ -2,7 +2,7 @@
 use Rattle.std.proofs.Common.{◌≡◌, ℕ, zero, suc, ◌+◌, ◌-◌, ◌^◌, ◌<◌, ◌≤◌, Bool, true, false, cond, ◌&&◌, eqb, ltb, leb, List, [], ◌∷◌, length, map, drop, get_or, set, Option, Some, None, refl, sym, ◌∙◌, ap, subst, arith, ⊎_elim, add-one}
 use Rattle.std.proofs.Math.Bool.{and_assoc, and_comm}
 use Rattle.std.proofs.Math.Seq.{drop-nil}
-use Rattle.std.proofs.lemmas.List.{get_or-set_same, get_or-set_other, get_or_past, drop_all}
+use Rattle.std.proofs.lemmas.List.{get_or-set_same, get_or-set_other, drop_all}
 use Rattle.std.proofs.lemmas.Bool.{and_parts, and_from, and_right, eq-eqb, ne_eqb, lt-ltb, le-ltb, cases_eq, cases_lt}
 use Rattle.cube_view.proofs.Amounts.{amount-split, amount-same, none-less, amount-none, amount-within}
 use Rattle.cube_view.proofs.OneWeight.{one_if}
@@ -14,6 +14,7 @@ use Rattle.cube_view.specs.declared.address.Tile.{Tile}
 use Rattle.cube_view.specs.declared.schema.Schema.{Schema}
 use Rattle.cube_view.specs.declared.spot.Spot.{Spot}
 use Rattle.query_syntax.specs.Boxes.{chosen, are_in_sets, inside, box, total}
+use Rattle.query_syntax.specs.Items.{HasNoneFrom}
 use Rattle.query_syntax.specs.declared.query.Choice.{Choice}
 use Rattle.query_syntax.specs.declared.query.Choice.TheVariants.{All, Only}
 use Rattle.query_syntax.specs.declared.query.Query.{Query}
@@ -76,11 +77,11 @@ step_no set x v is_out = ⊎_elim
     (λ (ne : x ≡ v → ⊥). ap (λ b. in_set set x && b) (below_same x v ne))
     (cases_eq x v)
 
--- each member is below the set's length
-all_below : (set : List Bool) (x v : ℕ) → v ≡ length set → (in_set set x && ltb x v) ≡ in_set set x
-all_below set x v end = ⊎_elim
+-- each member is below an end behind all of them
+all_below : (set : List Bool) (x v : ℕ) → HasNoneFrom set v → (in_set set x && ltb x v) ≡ in_set set x
+all_below set x v none = ⊎_elim
     (λ (lt : x < v). ap (λ b. in_set set x && b) (lt-ltb x v lt) ∙ and_true (in_set set x))
-    (λ (ge : v ≤ x). let out : in_set set x ≡ false = get_or_past set x false (omega (arith, ge, end)) in ap (λ b. b && ltb x v) out ∙ sym out)
+    (λ (ge : v ≤ x). let out : in_set set x ≡ false = none x ge in ap (λ b. b && ltb x v) out ∙ sym out)
     (cases_lt x v)
 
 -- One category after the other
@@ -204,7 +205,7 @@ module _ (z : Schema) (q : Query) (a : Address) (k : ℕ) (h : List Point) where
   below_no set v is_out = amount-same (is_left_below z q a k set (v + 1)) (is_left_below z q a k set v) (λ s. ap (λ b. is_under z a s && (b && meets_from q (k + 1) s)) (step_no set (value_of s k) v is_out)) h
 
   -- all values of the set
-  pub below_all : (set : List Bool) (v : ℕ) → v ≡ length set → amount (is_left_below z q a k set v) h ≡ amount (is_left_in_set z q a k set) h
+  pub below_all : (set : List Bool) (v : ℕ) → HasNoneFrom set v → amount (is_left_below z q a k set v) h ≡ amount (is_left_in_set z q a k set) h
   below_all set v end = amount-same (is_left_below z q a k set v) (is_left_in_set z q a k set) (λ s. ap (λ b. is_under z a s && (b && meets_from q (k + 1) s)) (all_below set (value_of s k) v end)) h
 
   -- the set of category k

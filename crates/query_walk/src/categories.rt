@@ -56,7 +56,7 @@ fn total_in_set<V: CubeView, L: Ledger>(
     ensures cost { EachCounted (V.weight_at view.now) (V.seen view.now) (λ h. steps.new ≤ steps.old + set_cost (V.costs view.now) (V.schema view.now) h (choices_from (V.schema view.now) query.now (k + 1)) (V.address view.now cursor) set.now) }
 {
     let mut sum = 0;
-    for value in 0..256u16 {
+    for value in 0..set.end() {
         if set.has(value as u8) {
             let at_value = total_at_value(view, query, cursor, k, value as u8, steps);
             sum += at_value;

@@ -1,4 +1,4 @@
-use Rattle.std.proofs.Common.{ℕ, cond, false, get_or, length, ◌+◌, ◌<◌, ◌^◌, ◌∙◌, sym, ap, arith}
+use Rattle.std.proofs.Common.{◌≡◌, ℕ, cond, false, get_or, length, ◌+◌, ◌-◌, ◌<◌, ◌^◌, ◌∙◌, sym, ap, subst, arith}
 use Rattle.std.specs.Coded.{le_prop}
 use Rattle.std.proofs.Math.Logic.{∥∥₁_elim}
 use Rattle.std.proofs.lemmas.Bool.{cond-true}
@@ -8,10 +8,11 @@ use Rattle.cube_view.proofs.Weighing.{IsBag-small}
 use Rattle.cube_view.specs.Places.{next_dim}
 use Rattle.cube_view.specs.declared.address.Address.{Address}
 use Rattle.cube_view.specs.declared.schema.Schema.{Schema}
+use Rattle.query_syntax.specs.Items.{HasNoneFrom}
 use Rattle.query_syntax.specs.declared.query.Choice.TheVariants.{All}
 use Rattle.query_walk.specs.Costs.{choices_from, rest_cost, value_cost}
 use Rattle.query_walk.proofs.Costing.{next_choice, no_choices, value_is}
-use Rattle.query_walk.proofs.Sums.{sum_upto-more, sum_upto-same}
+use Rattle.query_walk.proofs.Sums.{sum_upto-more, sum_upto-rises, sum_upto-same}
 use Rattle.query_walk.proofs.Sets as sets
 use Rattle.query_walk.proofs.Valid.{at_category, below_four, choices_next}
 use Rattle.query_walk.proofs.categories.+walk.Goals.{total_in_set-then-has, total_in_set-else-has}
@@ -147,12 +148,16 @@ total_in_set-loop-value-preserved g t c =
 
 pub total_in_set-returns-clause-total : goal.total_in_set-returns-clause-total
 total_in_set-returns-clause-total g t c h counts =
-    c.loop-value.invariant.total h counts ∙ sets.below_all (g.V.CubeView.schema c.args.view.now) c.args.query.now (g.V.CubeView.address c.args.view.now c.args.cursor) c.args.k h c.args.set.now c.loop-value.value (let w = c.requires.wide in omega (arith, w))
+    let end : c.end-value-end.result ≡ c.loop-value.value = omega (arith, c.end-value-end.ensures.within) in
+    c.loop-value.invariant.total h counts ∙ sets.below_all (g.V.CubeView.schema c.args.view.now) c.args.query.now (g.V.CubeView.address c.args.view.now c.args.cursor) c.args.k h c.args.set.now c.loop-value.value (subst (HasNoneFrom c.args.set.now) end c.end-value-end.ensures.none)
 
 pub total_in_set-returns-clause-cost : goal.total_in_set-returns-clause-cost
 total_in_set-returns-clause-cost g t c h counts =
     let z = g.V.CubeView.schema c.args.view.now in
     let cost = value_cost (g.V.CubeView.costs c.args.view.now) z h (choices_from z c.args.query.now (c.args.k + 1)) (g.V.CubeView.address c.args.view.now c.args.cursor) in
-    let e = sum_upto-same (λ (v : ℕ). cond (get_or c.args.set.now v false) (cost v) 0) c.loop-value.value (length c.args.set.now) (let w = c.requires.wide in omega (arith, w)) in
+    let of : ℕ → ℕ = λ v. cond (get_or c.args.set.now v false) (cost v) 0 in
+    let at = c.loop-value.value in
+    let more = sum_upto-rises of at (256 - at) in
+    let e = sum_upto-same of (at + (256 - at)) (length c.args.set.now) (let w = c.requires.wide in omega (arith, w, c.end-value-end.ensures.within)) in
     let so_far = c.loop-value.invariant.cost h counts in
-    omega (arith, e, so_far)
+    omega (arith, e, more, so_far)
