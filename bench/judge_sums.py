@@ -5,7 +5,8 @@ python3 bench/judge_sums.py NANOCUBE ADD_REPLIES [CASES [SEED]]
 
 Each case makes a plan, a script and records, cuts the records into 1 to 8 shares, runs each share and the whole feed by
 NANOCUBE, and adds the shares' replies by ADD_REPLIES. The output must be, line by line, the plain sum of the replies, and
-the reply of the whole feed where replies add up. Then one share is damaged, and must be refused at that line.
+the reply of the whole feed where replies add up. Then one share has a line more, a line less or another line, and must be
+refused at that line.
 """
 import json
 import os
@@ -72,6 +73,16 @@ def plain_sum(line, replies):
     return compact({"rows": add_rows(verb, [value["rows"] for value in values]), "seen": sum(value["seen"] for value in values)})
 
 
+def damages(replies):
+    """A share's replies with a line more, and with one less or another in its place; the first wrong line, and why."""
+    yield len(replies) + 1, "TooMany", replies + ['{"told":1}']
+    if replies:
+        yield len(replies), "TooFew", replies[:-1]
+        at = random.randrange(len(replies))
+        why, line = random.choice([("NotReply", ""), ("NotReply", "{}"), ("OtherRows", '{"fault":"NoMemory"}')])
+        yield at + 1, why, replies[:at] + [line] + replies[at + 1:]
+
+
 def run(nanocube, folder, plan, header, records, script):
     os.mkdir(folder)
     for name, text in (("plan.json", compact(plan)), ("q.txt", script), ("a.csv", header + "".join(records))):
@@ -110,14 +121,13 @@ def one_case(nanocube, add_replies, top):
     assert done.returncode == 0 and got == want, (lines, got, want)
     for line, sum_, reply in zip(asked, got, whole):
         assert sum_ in (reply, NOT_ADDITIVE), (line, sum_, reply)
-    if asked:
-        k, at = random.randrange(len(shares)), random.randrange(len(asked))
-        damaged = replies[k][:at] + [random.choice(["", "{}", '{"fault":"NoMemory"}', '{"at":99,"fault":"NotText"}'])] + replies[k][at + 1:]
+    k = random.randrange(len(shares))
+    for at, why, damaged in damages(replies[k]):
         with open(os.path.join(top, f"s{k}", "q.txt.out"), "w", encoding="utf-8") as file:
             file.write("".join(line + "\n" for line in damaged))
         done = subprocess.run(words, cwd=top, capture_output=True, check=False)
         said = done.stdout.decode()
-        assert done.returncode == 9 and said.startswith(f"share s{k}/q.txt.out: reply {at + 1}: "), (lines, damaged, said)
+        assert done.returncode == 9 and said == f"share s{k}/q.txt.out: reply {at}: {why}\n", (lines, damaged, said)
     return len(asked)
 
 
