@@ -1,11 +1,11 @@
 -- The statuses of the program.
-use Rattle.std.specs.Prelude.{◌≡◌, ℕ, ◌<◌, List, ◌∷◌, length, Option, Result, Ok, Err, IfOk, ⊤}
+use Rattle.std.specs.Prelude.{◌≡◌, ℕ, nat_le, if◌then◌else◌, List, ◌∷◌, length, Option, Some, None, Result, Ok, Err, IfOk}
 use Rattle.outer_io.specs.Files.{Files}
 use Rattle.run_files.specs.declared.stop.Stop.{Stop}
 use Rattle.run_files.specs.declared.stop.Stop.TheVariants as stop
 use Rattle.run_files.specs.Outside.{PlaceSeen, SinkSeen}
-use Rattle.share_replies.specs.Causes.{SharesEnd}
-use Rattle.share_replies.specs.Ends.{AddsUpFiles, SaysShares}
+use Rattle.share_replies.specs.Causes.{EndsByFiles, LeavesSink, OpensShares}
+use Rattle.share_replies.specs.Ends.{AddsUpFiles, FileNames, SaysShares}
 use Rattle.share_replies.specs.declared.adding.Outcome.{Outcome}
 use Rattle.share_replies.specs.declared.adding.Outcome.TheVariants as outcome
 use Rattle.add_replies.specs.declared.status.Status.{Status}
@@ -32,25 +32,39 @@ exit_code_of WriteFault = 6
 exit_code_of FeedRefused = 7
 exit_code_of Refused = 9
 
--- the status is that of an end which obeys the law of sums over these files
-abbrev pub EndsByLaw : Option Files → List ℕ → List ℕ → List (List ℕ) → Option (List ℕ) → Option (List ℕ) → Status → Type 0
-EndsByLaw files plan script replies before after status = (end : Result Outcome Stop) × AddsUpFiles files plan script replies before after end × (status ≡ status_of end)
-
--- the status is that of an end which says of the shares that all are right, or which is the first that is wrong
-abbrev pub Says : {O : Type 0} → SinkSeen O → O → O → Option Files → List ℕ → List ℕ → List (List ℕ) → Status → Type 0
-Says s out out' files plan script replies status =
-    (end : Result Outcome Stop) × IfOk end (SaysShares s out out' files (record { plan = plan; script = script; replies = replies })) × (status ≡ status_of end)
-
--- the status is that of an end which has its cause
-abbrev pub EndsWithCause : {P O : Type 0} → PlaceSeen P → SinkSeen O → P → P → O → O → List ℕ → List ℕ → List (List ℕ) → Status → Type 0
-EndsWithCause p s place place' out out' plan script replies status =
-    (end : Result Outcome Stop) × SharesEnd p s place place' out out' (record { plan = plan; script = script; replies = replies }) end × (status ≡ status_of end)
-
 -- the most shares
 abbrev pub most_shares : ℕ
 most_shares = 1024
 
--- the claim holds of the plan, the script and the replies that the words name, if they are of the program's form
-abbrev pub IfForm : List (List ℕ) → (List ℕ → List ℕ → List (List ℕ) → Type 0) → Type 0
-IfForm (plan ∷ script ∷ first ∷ others) Claim = length others < most_shares → Claim plan script (first ∷ others)
-IfForm words Claim = ⊤
+-- the names that the words give, where they are of the program's form: a plan, a script, and the replies of 1 to 1,024 shares
+abbrev pub share_names : List (List ℕ) → Option FileNames
+share_names (plan ∷ script ∷ first ∷ others) = if nat_le (length (first ∷ others)) most_shares then Some (record { plan = plan; script = script; replies = first ∷ others }) else None
+share_names words = None
+
+-- the claim holds of these names, where the words are of this form
+abbrev pub IfForm : List (List ℕ) → (FileNames → Type 0) → Type 0
+IfForm words Claim = (names : FileNames) → share_names words ≡ Some names → Claim names
+
+-- the status is that of an end of which the claim holds
+abbrev pub IsStatusOf : (Result Outcome Stop → Type 0) → Status → Type 0
+IsStatusOf Claim status = (end : Result Outcome Stop) × Claim end × (status ≡ status_of end)
+
+-- of one that obeys the law of sums over the files of these names
+abbrev pub EndsByLaw : Option Files → Option (List ℕ) → Option (List ℕ) → Status → FileNames → Type 0
+EndsByLaw told before after status names = IsStatusOf (AddsUpFiles told names before after) status
+
+-- of one that says of the shares that all are right, or which is the first that is wrong
+abbrev pub EndsSaying : {O : Type 0} → SinkSeen O → O → O → Option Files → Status → FileNames → Type 0
+EndsSaying s out out' told status names = IsStatusOf (λ end. IfOk end (SaysShares s out out' told names)) status
+
+-- of one that comes of these files
+abbrev pub EndsWithCause : Option Files → Status → FileNames → Type 0
+EndsWithCause told status names = IsStatusOf (EndsByFiles told names) status
+
+-- of one that leaves a place so
+abbrev pub OpensBy : {P : Type 0} → PlaceSeen P → P → P → Status → FileNames → Type 0
+OpensBy p place place' status names = IsStatusOf (OpensShares p place place' names) status
+
+-- of one that leaves a sink so
+abbrev pub EndsInSink : {O : Type 0} → SinkSeen O → O → O → Option Files → Status → FileNames → Type 0
+EndsInSink s out out' told status names = IsStatusOf (LeavesSink s out out' told names) status

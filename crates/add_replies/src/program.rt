@@ -1,7 +1,8 @@
 //! The top call.
-ghost use Rattle.std.specs.Prelude.{◌≡◌, map, string_bytes};
+ghost use Rattle.std.specs.Prelude.{◌≡◌, ◌↔◌, None, map, option_map, string_bytes};
 ghost use Rattle.run_files.specs.Outside.{seen_place, seen_sink};
-ghost use Rattle.add_replies.specs.Statuses.{EndsByLaw, EndsWithCause, Says, IfForm};
+ghost use Rattle.share_replies.specs.Ends.{given_names};
+ghost use Rattle.add_replies.specs.Statuses.{EndsByLaw, EndsInSink, EndsSaying, EndsWithCause, IfForm, OpensBy, share_names};
 
 use crate::status::Status;
 use outer_io::{Place, Sink};
@@ -11,26 +12,20 @@ use std::alloc::Global;
 /// The most shares.
 const MOST_SHARES: usize = 1024;
 
-/// Adds the replies of the shares that are named, and says how that ended.
-fn add_named<P: Place, O: Sink>(
-    alloc: Global,
-    plan: &str,
-    script: &str,
-    replies: &[String],
-    place: &mut P,
-    out: &mut O,
-) -> Status
-    ensures law { EndsByLaw (P.files place.old) plan.now script.now (map string_bytes replies.now) (O.held out.old) (O.held out.new) result }
-    ensures says { Says (seen_sink O.held O.faults O.name) out.old out.new (P.files place.old) plan.now script.now (map string_bytes replies.now) result }
-    ensures ends { let r = map string_bytes replies.now in EndsWithCause (seen_place P.files P.read_faults P.write_faults P.opened P.created) (seen_sink O.held O.faults O.name) place.old place.new out.old out.new plan.now script.now r result }
-    ensures files { P.files place.new ≡ P.files place.old }
+/// The names of the plan, the script and the replies, where the words are `PLAN SCRIPT REPLIES REPLIES ..` with 1 to
+/// 1,024 shares.
+fn share_names(words: &[String]) -> Option<ShareNames<'_>>
+    ensures { option_map given_names result ≡ share_names (map string_bytes words.now) }
 {
-    let names = ShareNames {
-        plan,
-        script,
+    if words.len() < 3 || words.len() > MOST_SHARES + 2 {
+        return None;
+    }
+    let (_, replies) = words.split_at(2);
+    Some(ShareNames {
+        plan: words[0].as_str(),
+        script: words[1].as_str(),
         replies,
-    };
-    Status::of_outcome(add_shares(alloc, &names, place, out))
+    })
 }
 
 /// Does what the words say, `PLAN SCRIPT REPLIES REPLIES ..` with 1 to 1,024 shares, and says how it ended. Where the
@@ -41,17 +36,17 @@ pub fn add_replies<P: Place, O: Sink>(
     place: &mut P,
     out: &mut O,
 ) -> Status
-    ensures law { IfForm (map string_bytes words.now) (λ p s rs. EndsByLaw (P.files place.old) p s rs (O.held out.old) (O.held out.new) result) }
-    ensures says { IfForm (map string_bytes words.now) (λ p s r. Says (seen_sink O.held O.faults O.name) out.old out.new (P.files place.old) p s r result) }
-    ensures ends { IfForm (map string_bytes words.now) (λ p s r. EndsWithCause (seen_place P.files P.read_faults P.write_faults P.opened P.created) (seen_sink O.held O.faults O.name) place.old place.new out.old out.new p s r result) }
-    ensures usage { result ≡ Status.Usage → (place.new ≡ place.old) × (out.new ≡ out.old) }
+    ensures law { IfForm (map string_bytes words.now) (EndsByLaw (P.files place.old) (O.held out.old) (O.held out.new) result) }
+    ensures says { IfForm (map string_bytes words.now) (EndsSaying (seen_sink O.held O.faults O.name) out.old out.new (P.files place.old) result) }
+    ensures causes { IfForm (map string_bytes words.now) (EndsWithCause (P.files place.old) result) }
+    ensures opens { IfForm (map string_bytes words.now) (OpensBy (seen_place P.files P.read_faults P.write_faults P.opened P.created) place.old place.new result) }
+    ensures sink { IfForm (map string_bytes words.now) (EndsInSink (seen_sink O.held O.faults O.name) out.old out.new (P.files place.old) result) }
+    ensures usage { (result ≡ Status.Usage) ↔ (share_names (map string_bytes words.now) ≡ None) }
+    ensures silent { result ≡ Status.Usage → (place.new ≡ place.old) × (out.new ≡ out.old) }
     ensures files { P.files place.new ≡ P.files place.old }
 {
-    if words.len() < 3 || words.len() > MOST_SHARES + 2 {
-        return Status::Usage;
+    match share_names(words) {
+        Some(names) => Status::of_outcome(add_shares(alloc, &names, place, out)),
+        None => Status::Usage,
     }
-    let plan = &words[0];
-    let script = &words[1];
-    let (_, replies) = words.split_at(2);
-    add_named(alloc, plan.as_str(), script.as_str(), replies, place, out)
 }

@@ -15,7 +15,7 @@ use Rattle.query_syntax.specs.declared.table.RowOut.{RowOut}
 use Rattle.query_syntax.specs.declared.table.Table.{Table}
 use Rattle.reply_json.specs.Validity.{are_valid_rows, is_area_row, is_bin_row, is_one_total, is_pair_row, is_valid_reply, is_value_row}
 use Rattle.reply_json.specs.declared.reply.Reply.{Reply}
-use Rattle.reply_sums.specs.Areas.{after_head, areas_of_both, head_total, is_none_left, left_after, row_of_total, sum_areas}
+use Rattle.reply_sums.specs.Areas.{after_head, areas_of_both, head_total, is_none_left, left_after, sum_areas}
 use Rattle.reply_sums.specs.Rows.{sum_row, sum_rows}
 use Rattle.reply_sums.specs.Sums.{IsSum, sum_of_query, sum_of_rows, sum_tables}
 use Rattle.reply_sums.specs.declared.fault.SumFault.{SumFault}

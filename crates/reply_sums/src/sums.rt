@@ -103,7 +103,7 @@ fn is_fault(reply: &Reply, fault: QueryFault, word: u32) -> bool
 /// map is of no tile that was asked for, out of path order, or of total 0. Where they have one, but a total of it is 2^64
 /// or more, the answer is `TooMuch`.
 #[tactic(auto, unfolding(reply_json::specs::Validity::is_valid_reply))]
-pub fn add_replies(
+pub fn sum_replies(
     alloc: Global,
     asked: &Parsed,
     reply: &Reply,

@@ -1,6 +1,6 @@
 -- How adding the replies of shares ends, by how its stages ended.
-use Rattle.std.proofs.Common.{◌≡◌, ◌≢◌, ◌⊎◌, ℕ, zero, suc, ◌+◌, ◌≤◌, ◌<◌, true, false, List, [], ◌∷◌, ◌++◌, length, take, map, get_or, Option, Some, None, Result, Ok, Err, inl, inr, refl, sym, ◌∙◌, ap, subst, arith}
-use Rattle.std.specs.Prelude.{IsOk, is_ok}
+use Rattle.std.proofs.Common.{◌≡◌, ◌≢◌, ℕ, zero, suc, ◌+◌, ◌≤◌, ◌<◌, true, false, List, [], ◌∷◌, ◌++◌, length, take, map, get_or, Option, Some, None, Result, Ok, Err, inl, inr, refl, sym, ◌∙◌, ap, subst, arith}
+use Rattle.std.specs.Prelude.{IfErr, IsOk, is_ok}
 use Rattle.std.specs.Result.{result_err}
 use Rattle.std.proofs.lemmas.Bool.{cases_lt}
 use Rattle.std.proofs.lemmas.List.{append-nil, map-append, take-map, take_all}
@@ -20,7 +20,7 @@ use Rattle.run_files.specs.Outside.{file_of, PlaceSeen, Silent, SinkSeen}
 use Rattle.run_files.specs.Planned.{ReadsPlan, RefusesPlan}
 use Rattle.run_files.specs.declared.stop.Stop.{Stop}
 use Rattle.run_files.specs.declared.stop.Stop.TheVariants.{NoMemory, PlanRefused, ReadFault, WriteFault, FeedRefused}
-use Rattle.share_replies.specs.Causes.{AreShort, HasNoPlan, IsOneLong, IsPutEnd, PutsAfter, ReadsFiles, ReadsFront, SharesEnd, stop_of_file}
+use Rattle.share_replies.specs.Causes.{AreFilesShort, EndsAtPlan, EndsByFiles, HasLongFile, IsOutsideEnd, IsPutEnd, LeavesSink, OpensShares, PutsAfter, ReadsFiles, ReadsFront, stop_of_file}
 use Rattle.share_replies.specs.Ends.{FileNames}
 use Rattle.share_replies.specs.declared.adding.Outcome.{Outcome}
 use Rattle.share_replies.specs.declared.fault.FileFault.{FileFault}
@@ -29,20 +29,20 @@ use Rattle.share_replies.proofs.TextSums.{take_at_item}
 
 module _ (files : Files) where
   -- files of which one is long are not all short
-  not_short : (names : List (List ℕ)) → AreShort files names → IsOneLong files names → ⊥
+  not_short : (names : List (List ℕ)) → AreFilesShort files names → HasLongFile files names → ⊥
   not_short [] short long = long
   not_short (name ∷ names) short (inl long) = let few = All-head (λ n. length (file_or_empty files n) ≤ input_limit) name names short in omega (arith, few, long)
   not_short (name ∷ names) short (inr long) = not_short names (All-tail (λ n. length (file_or_empty files n) ≤ input_limit) name names short) long
 
   -- one of the first is one of them
-  long_front : (k : ℕ) (names : List (List ℕ)) → IsOneLong files (take k names) → IsOneLong files names
+  long_front : (k : ℕ) (names : List (List ℕ)) → HasLongFile files (take k names) → HasLongFile files names
   long_front zero names long = absurd long
   long_front (suc k) [] long = absurd long
   long_front (suc k) (name ∷ names) (inl long) = inl long
   long_front (suc k) (name ∷ names) (inr long) = inr (long_front k names long)
 
   -- and so is the last
-  long_last : (names : List (List ℕ)) (name : List ℕ) → IsOneLong files (name ∷ []) → IsOneLong files (names ++ name ∷ [])
+  long_last : (names : List (List ℕ)) (name : List ℕ) → HasLongFile files (name ∷ []) → HasLongFile files (names ++ name ∷ [])
   long_last [] name long = long
   long_last (first ∷ names) name long = inr (long_last names name long)
 
@@ -55,7 +55,7 @@ told_same told now F G same f h = at told (subst (λ (o : Option Files). Told o 
     at (Some files) h = f files h
 
 -- a file that is told is one of the files
-told_file : (told : Option Files) (name : List ℕ) → Told (file_of told name) (λ all. input_limit < length all) → Told told (λ files. IsOneLong files (name ∷ []))
+told_file : (told : Option Files) (name : List ℕ) → Told (file_of told name) (λ all. input_limit < length all) → Told told (λ files. HasLongFile files (name ∷ []))
 told_file None name long = tt
 told_file (Some files) name long = inl long
 
@@ -105,7 +105,7 @@ module _ {P : Type 0} (p : PlaceSeen P) where
   pub files_more : (a b c : P) (names : List (List ℕ)) (name : List ℕ) (stop : Option Stop) → LeavesPlace p a b names [] None → ReadsFiles p b c (name ∷ []) stop → ReadsFiles p a c (names ++ name ∷ []) stop
   files_more a b c names name stop one two = record {
     leaves = leaves_then p a b c names (name ∷ []) [] stop one two.leaves;
-    long = λ e. told_same (p.files a) (p.files b) (λ files. IsOneLong files (name ∷ [])) (λ files. IsOneLong files (names ++ name ∷ [])) (same_files p a b names None one) (λ files. long_last files names name) (two.long e);
+    long = λ e. told_same (p.files a) (p.files b) (λ files. HasLongFile files (name ∷ [])) (λ files. HasLongFile files (names ++ name ∷ [])) (same_files p a b names None one) (λ files. long_last files names name) (two.long e);
     ends = two.ends;
   }
 
@@ -115,7 +115,7 @@ module _ {P : Type 0} (p : PlaceSeen P) where
     suc k,
     record {
       leaves = leaves_then p a b c (name ∷ []) (take k names) [] stop one two.leaves;
-      long = λ e. told_same (p.files a) (p.files b) (λ files. IsOneLong files (take k names)) (λ files. IsOneLong files (name ∷ take k names)) (same_files p a b (name ∷ []) None one) (λ files long. inr long) (two.long e);
+      long = λ e. told_same (p.files a) (p.files b) (λ files. HasLongFile files (take k names)) (λ files. HasLongFile files (name ∷ take k names)) (same_files p a b (name ∷ []) None one) (λ files long. inr long) (two.long e);
       ends = two.ends;
     },
   )
@@ -160,7 +160,7 @@ plan_good None name plan Q meaning = tt
 plan_good (Some files) name plan Q meaning = λ fault bad. absurd (no_fault (file_or_empty files name) fault (ap is_ok meaning) bad)
 
 -- an end of reading the plan
-ended_plan : (stop : Stop) → (stop ≢ WriteFault) × (stop ≢ FeedRefused) → HasNoPlan (Err stop)
+ended_plan : (stop : Stop) → (stop ≢ WriteFault) × (stop ≢ FeedRefused) → EndsAtPlan (Err stop)
 ended_plan NoMemory ends = inr (inr refl)
 ended_plan PlanRefused ends = inl refl
 ended_plan ReadFault ends = inr (inl refl)
@@ -179,41 +179,42 @@ put_end PlanRefused is = absurd is
 put_end ReadFault is = absurd is
 put_end FeedRefused is = absurd is
 
+-- What adding the replies of shares leaves of a place and a sink, by how it ended
+pub record SharesLeft {P O : Type 0} (p : PlaceSeen P) (s : SinkSeen O) (names : FileNames) (a c : P) (out out' : O) (result : Result Outcome Stop) : Type 0 where
+  pub opens : OpensShares p a c names result
+  pub causes : EndsByFiles (p.files a) names result
+  pub sink : LeavesSink s out out' (p.files a) names result
+
 module _ {P O : Type 0} (p : PlaceSeen P) (s : SinkSeen O) (names : FileNames) where
   abbrev Texts : List (List ℕ)
   Texts = names.script ∷ names.replies
 
-  -- an end with no other cause is want of memory
-  complete_by : (a c : P) (out out' : O) (told : Option Files) (result : Result Outcome Stop) → (result_err result ≡ Some ReadFault → Rose (p.read_faults a) (p.read_faults c))
-      → (result ≡ Err PlanRefused → RefusesPlan s out out' (file_of told names.plan)) → (result ≡ Err FeedRefused → Told told (λ files. IsOneLong files Texts)) → (result ≡ Err WriteFault → Rose (s.faults out) (s.faults out'))
-      → Told told (λ files. IsOk (plan_meaning (file_or_empty files names.plan)) → AreShort files Texts → ¬ Rose (p.read_faults a) (p.read_faults c) → ¬ Rose (s.faults out) (s.faults out') → IsOk result ⊎ (result ≡ Err NoMemory))
-  complete_by a c out out' None result read plan text write = tt
-  complete_by a c out out' (Some files) (Ok outcome) read plan text write = λ good short no_read no_write. inl refl
-  complete_by a c out out' (Some files) (Err NoMemory) read plan text write = λ good short no_read no_write. inr refl
-  complete_by a c out out' (Some files) (Err PlanRefused) read plan text write = λ good short no_read no_write. let refuses = plan refl in absurd (no_fault (file_or_empty files names.plan) refuses.fault good refuses.meaning)
-  complete_by a c out out' (Some files) (Err ReadFault) read plan text write = λ good short no_read no_write. absurd (no_read (read refl))
-  complete_by a c out out' (Some files) (Err WriteFault) read plan text write = λ good short no_read no_write. absurd (no_write (write refl))
-  complete_by a c out out' (Some files) (Err FeedRefused) read plan text write = λ good short no_read no_write. absurd (not_short files Texts short (text refl))
+  -- a plan and texts that are short are no cause of an end
+  complete_by : (out out' : O) (told : Option Files) (result : Result Outcome Stop) → (result ≡ Err PlanRefused → RefusesPlan s out out' (file_of told names.plan)) → (result ≡ Err FeedRefused → Told told (λ files. HasLongFile files Texts))
+      → Told told (λ files. IsOk (plan_meaning (file_or_empty files names.plan)) → AreFilesShort files Texts → IfErr result IsOutsideEnd)
+  complete_by out out' None result plan text = tt
+  complete_by out out' (Some files) (Ok outcome) plan text = λ good short. tt
+  complete_by out out' (Some files) (Err NoMemory) plan text = λ good short. tt
+  complete_by out out' (Some files) (Err PlanRefused) plan text = λ good short. let refuses = plan refl in absurd (no_fault (file_or_empty files names.plan) refuses.fault good refuses.meaning)
+  complete_by out out' (Some files) (Err ReadFault) plan text = λ good short. tt
+  complete_by out out' (Some files) (Err WriteFault) plan text = λ good short. tt
+  complete_by out out' (Some files) (Err FeedRefused) plan text = λ good short. absurd (not_short files Texts short (text refl))
 
   build : (a c : P) (out out' : O) (result : Result Outcome Stop) (k : ℕ) → LeavesPlace p a c (take k (names.plan ∷ Texts)) [] (result_err result)
-      → (result ≡ Err PlanRefused → RefusesPlan s out out' (file_of (p.files a) names.plan)) → Told (p.files a) (λ files. (fault : PlanFault) → plan_meaning (file_or_empty files names.plan) ≡ Err fault → HasNoPlan result) → (result ≡ Err FeedRefused → Told (p.files a) (λ files. IsOneLong files Texts)) → (result ≡ Err WriteFault → Rose (s.faults out) (s.faults out'))
-      → (result ≢ Err WriteFault → result ≢ Err PlanRefused → s.faults out' ≡ s.faults out) → SharesEnd p s a c out out' names result
+      → (result ≡ Err PlanRefused → RefusesPlan s out out' (file_of (p.files a) names.plan)) → Told (p.files a) (λ files. (fault : PlanFault) → plan_meaning (file_or_empty files names.plan) ≡ Err fault → EndsAtPlan result) → (result ≡ Err FeedRefused → Told (p.files a) (λ files. HasLongFile files Texts)) → (result ≡ Err WriteFault → Rose (s.faults out) (s.faults out'))
+      → (result ≢ Err WriteFault → result ≢ Err PlanRefused → s.faults out' ≡ s.faults out) → SharesLeft p s names a c out out' result
   build a c out out' result k leaves plan none text write quiet = record {
-    leaves = (k, leaves);
-    refused_plan = plan;
-    no_plan = none;
-    refused = text;
-    unsaid = write;
-    quiet = quiet;
-    complete = complete_by a c out out' (p.files a) result leaves.read plan text write;
+    opens = (k, leaves);
+    causes = record { no_plan = none; refused = text; complete = complete_by out out' (p.files a) result plan text };
+    sink = record { refused_plan = plan; unsaid = write; quiet = quiet };
   }
 
   -- the plan was refused, or was not read
-  pub ended_by_plan : (a b : P) (out out' : O) (stop : Stop) → LeavesPlace p a b (names.plan ∷ []) [] (Some stop) → ReadsPlan s out out' (file_of (p.files a) names.plan) (Err stop) → SharesEnd p s a b out out' names (Err stop)
+  pub ended_by_plan : (a b : P) (out out' : O) (stop : Stop) → LeavesPlace p a b (names.plan ∷ []) [] (Some stop) → ReadsPlan s out out' (file_of (p.files a) names.plan) (Err stop) → SharesLeft p s names a b out out' (Err stop)
   ended_by_plan a b out out' stop leaves reads =
       build a b out out' (Err stop) 1 leaves
       (λ e. reads.refused (ap (λ k. Err k) (err_is stop PlanRefused e)))
-      (of_files (p.files a) names.plan (HasNoPlan (Err stop)) (ended_plan stop reads.ends))
+      (of_files (p.files a) names.plan (EndsAtPlan (Err stop)) (ended_plan stop reads.ends))
       (λ e. absurd (reads.ends.1 (err_is stop FeedRefused e)))
       (λ e. absurd (reads.ends.0 (err_is stop WriteFault e)))
       (λ not_write not_plan. (reads.silent (λ e. not_plan (ap (λ k. Err k) (err_is stop PlanRefused e)))).faults)
@@ -226,23 +227,23 @@ module _ {P O : Type 0} (p : PlaceSeen P) (s : SinkSeen O) (names : FileNames) w
     whole k stop more = leaves_then p a b c (names.plan ∷ []) (take k Texts) [] stop opened more
 
     -- reading ended it
-    ended_by_texts : (stop : Stop) (k : ℕ) → ReadsFiles p b c (take k Texts) (Some stop) → Silent s mid out' → SharesEnd p s a c out out' names (Err stop)
+    ended_by_texts : (stop : Stop) (k : ℕ) → ReadsFiles p b c (take k Texts) (Some stop) → Silent s mid out' → SharesLeft p s names a c out out' (Err stop)
     ended_by_texts stop k front silent =
         build a c out out' (Err stop) (suc k) (whole k (Some stop) front.leaves)
         (λ e. absurd (front.ends.0 (ap (λ x. Some x) (err_is stop PlanRefused e))))
-        (plan_good (p.files a) names.plan plan (HasNoPlan (Err stop)) reads.plan.meaning)
-        (λ e. told_same (p.files a) (p.files b) (λ files. IsOneLong files (take k Texts)) (λ files. IsOneLong files Texts) (same_files p a b (names.plan ∷ []) None opened) (λ files. long_front files k Texts)
+        (plan_good (p.files a) names.plan plan (EndsAtPlan (Err stop)) reads.plan.meaning)
+        (λ e. told_same (p.files a) (p.files b) (λ files. HasLongFile files (take k Texts)) (λ files. HasLongFile files Texts) (same_files p a b (names.plan ∷ []) None opened) (λ files. long_front files k Texts)
         (front.long (ap (λ x. Some x) (err_is stop FeedRefused e))))
         (λ e. absurd (front.ends.1 (ap (λ x. Some x) (err_is stop WriteFault e))))
         (λ not_write not_plan. silent.faults ∙ quiet_plan)
 
     -- or a stage after it
-    pub ended_after : (stop : Option Stop) (result : Result Outcome Stop) → ReadsFront p b c Texts stop → PutsAfter s mid out' stop result → SharesEnd p s a c out out' names result
-    ended_after (Some stop) result (k, front) puts = subst (SharesEnd p s a c out out' names) (sym puts.0) (ended_by_texts stop k front puts.1)
+    pub ended_after : (stop : Option Stop) (result : Result Outcome Stop) → ReadsFront p b c Texts stop → PutsAfter s mid out' stop result → SharesLeft p s names a c out out' result
+    ended_after (Some stop) result (k, front) puts = subst (SharesLeft p s names a c out out') (sym puts.0) (ended_by_texts stop k front puts.1)
     ended_after None (Ok outcome) (k, front) puts =
         build a c out out' (Ok outcome) (suc k) (whole k None front.leaves)
         (λ e. absurd (ok_not_err outcome PlanRefused e))
-        (plan_good (p.files a) names.plan plan (HasNoPlan (Ok outcome)) reads.plan.meaning)
+        (plan_good (p.files a) names.plan plan (EndsAtPlan (Ok outcome)) reads.plan.meaning)
         (λ e. absurd (ok_not_err outcome FeedRefused e))
         (λ e. absurd (ok_not_err outcome WriteFault e))
         (λ not_write not_plan. puts.1.quiet (λ e. ok_not_err outcome WriteFault e) ∙ quiet_plan)
@@ -250,7 +251,7 @@ module _ {P O : Type 0} (p : PlaceSeen P) (s : SinkSeen O) (names : FileNames) w
         let ends = put_end stop puts.0 in
         build a c out out' (Err stop) (suc k) (leaves_ended p a c (take (suc k) (names.plan ∷ Texts)) (Some stop) (λ e. ends.1 (same_stop stop ReadFault e)) (whole k None front.leaves))
         (λ e. absurd (ends.0 (err_is stop PlanRefused e)))
-        (plan_good (p.files a) names.plan plan (HasNoPlan (Err stop)) reads.plan.meaning)
+        (plan_good (p.files a) names.plan plan (EndsAtPlan (Err stop)) reads.plan.meaning)
         (λ e. absurd (ends.2 (err_is stop FeedRefused e)))
         (λ e. subst (λ (n : ℕ). Rose n (s.faults out')) quiet_plan (puts.1.rose e))
         (λ not_write not_plan. puts.1.quiet not_write ∙ quiet_plan)

@@ -8,36 +8,36 @@ use Rattle.reply_json.specs.declared.reply.Reply.{Reply}
 use Rattle.reply_sums.specs.Additive.{adds_up}
 use Rattle.reply_sums.specs.Sums.{HaveGreatSum, HaveNoSum}
 use Rattle.session_core.specs.Asked.{reply_line}
-use Rattle.share_replies.specs.Refusals.{AddsBy, HasOtherRows, IsTooGreat, LineFails, PassesLine, ReplyFails, total_of}
+use Rattle.share_replies.specs.Refusals.{AddsBy, HasOtherRows, IsTooGreat, IsLineWrong, IsLineRight, IsReplyWrong, total_of_sum}
 use Rattle.share_replies.specs.declared.fault.LineFault.{LineFault}
 use Rattle.share_replies.specs.declared.fault.LineFault.TheVariants as line
-use Rattle.share_replies.specs.declared.fault.Why.{Why}
-use Rattle.share_replies.specs.declared.fault.Why.TheVariants as why
+use Rattle.share_replies.specs.declared.fault.WrongReply.{WrongReply}
+use Rattle.share_replies.specs.declared.fault.WrongReply.TheVariants as why
 use Rattle.share_replies.specs.declared.line.Added.{Added}
 
 -- the answer that a line is wrong
-abbrev pub wrong : (T : Type 0) → Why → Result T LineFault
+abbrev pub wrong : (T : Type 0) → WrongReply → Result T LineFault
 wrong T w = Err (line.Wrong w)
 
-pub wrong_is : {T : Type 0} (a b : Why) → wrong T a ≡ wrong T b → a ≡ b
+pub wrong_is : {T : Type 0} (a b : WrongReply) → wrong T a ≡ wrong T b → a ≡ b
 wrong_is a b e = cc
 
 module _ (p : Parsed) (adds : adds_up p ≡ true) (total reply : Reply) where
   -- two replies without a sum, and two of which it is too great
-  pub no_sum : {T : Type 0} (w : Why) → wrong T why.OtherRows ≡ wrong T w → HaveNoSum p total reply → ReplyFails p (Some total) reply w
-  no_sum w e none = subst (ReplyFails p (Some total) reply) (wrong_is why.OtherRows w e) (subst (λ b. HasOtherRows b p (Some total) reply) (sym adds) none)
+  pub no_sum : {T : Type 0} (w : WrongReply) → wrong T why.OtherRows ≡ wrong T w → HaveNoSum p total reply → IsReplyWrong p (Some total) reply w
+  no_sum w e none = subst (IsReplyWrong p (Some total) reply) (wrong_is why.OtherRows w e) (subst (λ b. HasOtherRows b p (Some total) reply) (sym adds) none)
 
-  pub great_sum : {T : Type 0} (w : Why) → wrong T why.TooGreat ≡ wrong T w → HaveGreatSum p total reply → ReplyFails p (Some total) reply w
-  great_sum w e great = subst (ReplyFails p (Some total) reply) (wrong_is why.TooGreat w e) (subst (λ b. IsTooGreat b p (Some total) reply) (sym adds) great)
+  pub great_sum : {T : Type 0} (w : WrongReply) → wrong T why.TooGreat ≡ wrong T w → HaveGreatSum p total reply → IsReplyWrong p (Some total) reply w
+  great_sum w e great = subst (IsReplyWrong p (Some total) reply) (wrong_is why.TooGreat w e) (subst (λ b. IsTooGreat b p (Some total) reply) (sym adds) great)
 
 module _ (p : Parsed) (total : Option Reply) (text : List ℕ) where
-  pub is_few : (w : Why) → wrong Added why.TooFew ≡ wrong Added w → text ≡ [] → LineFails p total text w
-  is_few w e none = subst (LineFails p total text) (wrong_is why.TooFew w e) none
+  pub is_few : (w : WrongReply) → wrong Added why.TooFew ≡ wrong Added w → text ≡ [] → IsLineWrong p total text w
+  is_few w e none = subst (IsLineWrong p total text) (wrong_is why.TooFew w e) none
 
-  pub is_none : (w : Why) → wrong Added why.NotReply ≡ wrong Added w → (text ≡ [] → ⊥) → ((reply : Reply) → ¬ BeginsWithReply text reply) → LineFails p total text w
-  is_none w e some none = subst (LineFails p total text) (wrong_is why.NotReply w e) (some, none)
+  pub is_none : (w : WrongReply) → wrong Added why.NotReply ≡ wrong Added w → (text ≡ [] → ⊥) → ((reply : Reply) → ¬ BeginsWithReply text reply) → IsLineWrong p total text w
+  is_none w e some none = subst (IsLineWrong p total text) (wrong_is why.NotReply w e) (some, none)
 
-  fails_line : (w : Why) (reply : Reply) → BeginsWithReply text reply → ReplyFails p total reply w → LineFails p total text w
+  fails_line : (w : WrongReply) (reply : Reply) → BeginsWithReply text reply → IsReplyWrong p total reply w → IsLineWrong p total text w
   fails_line why.TooFew reply begins fails = absurd fails
   fails_line why.TooMany reply begins fails = absurd fails
   fails_line why.NotReply reply begins fails = absurd fails
@@ -46,14 +46,14 @@ module _ (p : Parsed) (total : Option Reply) (text : List ℕ) where
 
   module _ (reply : Reply) (own rest : List ℕ) (reads : ReadsReply text reply own rest) where
     -- a reply that is none to what was asked
-    pub is_other : (w : Why) → wrong Added why.OtherRows ≡ wrong Added w → HasOtherRows (adds_up p) p total reply → LineFails p total text w
-    is_other w e other = subst (LineFails p total text) (wrong_is why.OtherRows w e) (reply, (reads.0, (rest, reads.2)), other)
+    pub is_other : (w : WrongReply) → wrong Added why.OtherRows ≡ wrong Added w → HasOtherRows (adds_up p) p total reply → IsLineWrong p total text w
+    is_other w e other = subst (IsLineWrong p total text) (wrong_is why.OtherRows w e) (reply, (reads.0, (rest, reads.2)), other)
 
     -- a fault of the sum that was handed on
-    pub is_handed : (w : Why) (r : Result Added LineFault) (fault : LineFault) → IsErrAnd r (λ f. f ≡ fault) → r ≡ wrong Added w → (fault ≡ line.Wrong w → ReplyFails p total reply w) → LineFails p total text w
+    pub is_handed : (w : WrongReply) (r : Result Added LineFault) (fault : LineFault) → IsErrAnd r (λ f. f ≡ fault) → r ≡ wrong Added w → (fault ≡ line.Wrong w → IsReplyWrong p total reply w) → IsLineWrong p total text w
     is_handed w (Ok added) fault bad e fails = absurd bad
     is_handed w (Err f) fault is e fails = let here : f ≡ line.Wrong w = cc in fails_line w reply (reads.0, (rest, reads.2)) (fails (sym is ∙ here))
 
     -- a line that is right
-    pub passes : (added : Added) → added.rest.now ≡ rest → AddsBy (adds_up p) p total reply (total_of added.sum) → PassesLine p total text added
+    pub passes : (added : Added) → added.rest.now ≡ rest → AddsBy (adds_up p) p total reply (total_of_sum added.sum) → IsLineRight p total text added
     passes added is adds = (reply, reads.0, reads.2 ∙ ap (λ x. reply_line reply ++ x) (sym is), adds)

@@ -10,9 +10,9 @@ use Rattle.reply_sums.specs.Numbers.{is_reply_great}
 use Rattle.reply_sums.proofs.ReplySums.{one_sum}
 use Rattle.session_core.specs.Asked.{reply_line}
 use Rattle.session_core.specs.Transcript.{replies_text}
-use Rattle.share_replies.specs.Refusals.{AddsBy, AllAdd, AreRight, HasOtherRows, IsFirstWrong, IsRight, IsTooGreat, IsWrongAt, LineFails, ReplyFails, TextFails}
-use Rattle.share_replies.specs.declared.fault.Why.{Why}
-use Rattle.share_replies.specs.declared.fault.Why.TheVariants as why
+use Rattle.share_replies.specs.Refusals.{AddsBy, AllAdd, AreRight, HasOtherRows, IsFirstWrong, IsRight, IsTooGreat, IsWrongAt, IsLineWrong, IsReplyWrong, IsTextWrong}
+use Rattle.share_replies.specs.declared.fault.WrongReply.{WrongReply}
+use Rattle.share_replies.specs.declared.fault.WrongReply.TheVariants as why
 
 -- a reply makes one total of the one before
 next_one : (b : Bool) (p : Parsed) (total : Option Reply) (reply : Reply) (n m : Option Reply) → AddsBy b p total reply n → AddsBy b p total reply m → n ≡ m
@@ -42,14 +42,14 @@ not_both true p (Some total) reply other (sum, is, great) = other sum is
 not_both true p None reply other great = absurd great
 
 module _ (p : Parsed) (total : Option Reply) where
-  reply_adds : (reply : Reply) (next : Option Reply) (w : Why) → AddsBy (adds_up p) p total reply next → ReplyFails p total reply w → ⊥
+  reply_adds : (reply : Reply) (next : Option Reply) (w : WrongReply) → AddsBy (adds_up p) p total reply next → IsReplyWrong p total reply w → ⊥
   reply_adds reply next why.OtherRows adds fails = not_other (adds_up p) p total reply next adds fails
   reply_adds reply next why.TooGreat adds fails = not_great (adds_up p) p total reply next adds fails
   reply_adds reply next why.TooFew adds fails = absurd fails
   reply_adds reply next why.TooMany adds fails = absurd fails
   reply_adds reply next why.NotReply adds fails = absurd fails
 
-  reply_one : (reply : Reply) (a b : Why) → ReplyFails p total reply a → ReplyFails p total reply b → a ≡ b
+  reply_one : (reply : Reply) (a b : WrongReply) → IsReplyWrong p total reply a → IsReplyWrong p total reply b → a ≡ b
   reply_one reply why.OtherRows why.OtherRows h k = refl
   reply_one reply why.OtherRows why.TooGreat h k = absurd (not_both (adds_up p) p total reply h k)
   reply_one reply why.OtherRows _ h k = absurd k
@@ -62,32 +62,32 @@ module _ (p : Parsed) (total : Option Reply) where
 
   module _ (text : List ℕ) where
     -- the line is a reply's at which a test holds
-    abbrev HasFault : Why → Type 0
-    HasFault w = (reply : Reply) × BeginsWithReply text reply × ReplyFails p total reply w
+    abbrev HasFault : WrongReply → Type 0
+    HasFault w = (reply : Reply) × BeginsWithReply text reply × IsReplyWrong p total reply w
 
-    fault_passes : (reply : Reply) (later : List ℕ) (next : Option Reply) (w : Why) → IsPrintableReply reply → text ≡ reply_line reply ++ later → AddsBy (adds_up p) p total reply next → HasFault w → ⊥
+    fault_passes : (reply : Reply) (later : List ℕ) (next : Option Reply) (w : WrongReply) → IsPrintableReply reply → text ≡ reply_line reply ++ later → AddsBy (adds_up p) p total reply next → HasFault w → ⊥
     fault_passes reply later next w printable is adds (s, (own, (x, begins)), fails) =
         let same : reply ≡ s = (one_line reply s later x printable.1 own.1 (sym is ∙ begins)).0 in
-        reply_adds reply next w adds (subst (λ (r : Reply). ReplyFails p total r w) (sym same) fails)
+        reply_adds reply next w adds (subst (λ (r : Reply). IsReplyWrong p total r w) (sym same) fails)
 
     -- a line that is right is not wrong
-    line_passes : (reply : Reply) (later : List ℕ) (next : Option Reply) (w : Why) → IsPrintableReply reply → text ≡ reply_line reply ++ later → AddsBy (adds_up p) p total reply next → LineFails p total text w → ⊥
+    line_passes : (reply : Reply) (later : List ℕ) (next : Option Reply) (w : WrongReply) → IsPrintableReply reply → text ≡ reply_line reply ++ later → AddsBy (adds_up p) p total reply next → IsLineWrong p total text w → ⊥
     line_passes reply later next why.TooFew printable is adds none = line_there reply later text is none
     line_passes reply later next why.NotReply printable is adds fails = fails.1 reply (printable, (later, is))
     line_passes reply later next why.TooMany printable is adds fails = fault_passes reply later next why.TooMany printable is adds fails
     line_passes reply later next why.OtherRows printable is adds fails = fault_passes reply later next why.OtherRows printable is adds fails
     line_passes reply later next why.TooGreat printable is adds fails = fault_passes reply later next why.TooGreat printable is adds fails
 
-    fault_some : (w : Why) → HasFault w → text ≡ [] → ⊥
+    fault_some : (w : WrongReply) → HasFault w → text ≡ [] → ⊥
     fault_some w (s, (own, (x, begins)), fails) none = line_there s x text begins none
 
-    same_fault : (a b : Why) → HasFault a → HasFault b → a ≡ b
+    same_fault : (a b : WrongReply) → HasFault a → HasFault b → a ≡ b
     same_fault a b (r, (pr, (x, ex)), h) (s, (ps, (y, ey)), k) =
         let same : r ≡ s = (one_line r s x y pr.1 ps.1 (sym ex ∙ ey)).0 in
-        reply_one s a b (subst (λ (q : Reply). ReplyFails p total q a) same h) k
+        reply_one s a b (subst (λ (q : Reply). IsReplyWrong p total q a) same h) k
 
     -- one thing is wrong with a line
-    line_one : (a b : Why) → LineFails p total text a → LineFails p total text b → a ≡ b
+    line_one : (a b : WrongReply) → IsLineWrong p total text a → IsLineWrong p total text b → a ≡ b
     line_one why.TooFew why.TooFew h k = refl
     line_one why.TooFew why.NotReply h k = absurd (k.0 h)
     line_one why.TooFew b h k = absurd (fault_some b k h)
@@ -104,16 +104,16 @@ module _ (p : Parsed) (total : Option Reply) where
     line_one why.TooGreat why.NotReply h k = absurd (k.1 h.0 h.1)
     line_one why.TooGreat b h k = same_fault why.TooGreat b h k
 
-text_one : (ps : List Parsed) (totals : List (Option Reply)) (text : List ℕ) (a b : Why) → TextFails ps totals text a → TextFails ps totals text b → a ≡ b
+text_one : (ps : List Parsed) (totals : List (Option Reply)) (text : List ℕ) (a b : WrongReply) → IsTextWrong ps totals text a → IsTextWrong ps totals text b → a ≡ b
 text_one [] totals text a b h k = h.1 ∙ sym k.1
 text_one (p ∷ ps) (total ∷ totals) text a b h k = line_one p total text a b h k
 text_one (p ∷ ps) [] text a b h k = absurd h
 
 -- two ways to come to a wrong line are one
-wrong_one : (ps : List Parsed) (totals : List (Option Reply)) (rs qs : List Reply) (ns ms : List (Option Reply)) (x y : List ℕ) (v w : Why) → replies_text rs ++ x ≡ replies_text qs ++ y
+wrong_one : (ps : List Parsed) (totals : List (Option Reply)) (rs qs : List Reply) (ns ms : List (Option Reply)) (x y : List ℕ) (v w : WrongReply) → replies_text rs ++ x ≡ replies_text qs ++ y
     → AllAdd (take (length rs) ps) totals rs ns → AllAdd (take (length qs) ps) totals qs ms
-    → TextFails (drop (length rs) ps) (drop (length rs) totals) x v → TextFails (drop (length qs) ps) (drop (length qs) totals) y w → (length rs ≡ length qs) × (v ≡ w)
-wrong_one ps totals [] [] ns ms x y v w e one two h k = (refl, text_one ps totals y v w (subst (λ (t : List ℕ). TextFails ps totals t v) e h) k)
+    → IsTextWrong (drop (length rs) ps) (drop (length rs) totals) x v → IsTextWrong (drop (length qs) ps) (drop (length qs) totals) y w → (length rs ≡ length qs) × (v ≡ w)
+wrong_one ps totals [] [] ns ms x y v w e one two h k = (refl, text_one ps totals y v w (subst (λ (t : List ℕ). IsTextWrong ps totals t v) e h) k)
 wrong_one [] totals [] (b ∷ qs) ns ms x y v w e one two h k = absurd two
 wrong_one (p ∷ ps) [] [] (b ∷ qs) ns ms x y v w e one two h k = absurd h
 wrong_one (p ∷ ps) (t ∷ totals) [] (b ∷ qs) ns [] x y v w e one two h k = absurd two
@@ -131,8 +131,8 @@ wrong_one (p ∷ ps) (t ∷ totals) (a ∷ rs) (b ∷ qs) (n ∷ ns) (m ∷ ms) 
     (ap suc rest.0, rest.1)
 
 -- a text that is right has no wrong line
-right_wrong : (ps : List Parsed) (totals : List (Option Reply)) (rs qs : List Reply) (ns ms : List (Option Reply)) (y : List ℕ) (w : Why) → replies_text rs ≡ replies_text qs ++ y
-    → AllAdd ps totals rs ns → AllAdd (take (length qs) ps) totals qs ms → TextFails (drop (length qs) ps) (drop (length qs) totals) y w → ⊥
+right_wrong : (ps : List Parsed) (totals : List (Option Reply)) (rs qs : List Reply) (ns ms : List (Option Reply)) (y : List ℕ) (w : WrongReply) → replies_text rs ≡ replies_text qs ++ y
+    → AllAdd ps totals rs ns → AllAdd (take (length qs) ps) totals qs ms → IsTextWrong (drop (length qs) ps) (drop (length qs) totals) y w → ⊥
 right_wrong [] totals [] [] ns ms y w e one two k = k.0 (sym e)
 right_wrong [] totals [] (b ∷ qs) ns ms y w e one two k = absurd two
 right_wrong [] totals (a ∷ rs) qs ns ms y w e one two k = absurd one
@@ -164,27 +164,27 @@ nexts_one (p ∷ ps) (t ∷ totals) (a ∷ rs) (b ∷ qs) (n ∷ ns) (m ∷ ms) 
     λ i. here i ∷ later i
 
 module _ (ps : List Parsed) where
-  text_wrong_one : (totals : List (Option Reply)) (text : List ℕ) (line other : ℕ) (v w : Why) → IsWrongAt ps totals text line v → IsWrongAt ps totals text other w → (line ≡ other) × (v ≡ w)
+  text_wrong_one : (totals : List (Option Reply)) (text : List ℕ) (line other : ℕ) (v w : WrongReply) → IsWrongAt ps totals text line v → IsWrongAt ps totals text other w → (line ≡ other) × (v ≡ w)
   text_wrong_one totals text line other v w a b =
       let both = wrong_one ps totals a.before b.before a.nexts b.nexts a.rest b.rest v w (sym a.front ∙ b.front) a.right b.right a.fails b.fails in
       (a.counted ∙ (ap (λ n. n + 1) both.0 ∙ sym b.counted), both.1)
 
-  text_right : (totals nexts : List (Option Reply)) (text : List ℕ) (line : ℕ) (w : Why) → IsRight ps totals text nexts → IsWrongAt ps totals text line w → ⊥
+  text_right : (totals nexts : List (Option Reply)) (text : List ℕ) (line : ℕ) (w : WrongReply) → IsRight ps totals text nexts → IsWrongAt ps totals text line w → ⊥
   text_right totals nexts text line w (replies, all, is) b = right_wrong ps totals replies b.before nexts b.nexts b.rest w (sym is ∙ b.front) all b.right b.fails
 
   text_nexts : (totals n m : List (Option Reply)) (text : List ℕ) → IsRight ps totals text n → IsRight ps totals text m → n ≡ m
   text_nexts totals n m text (rs, one, is) (qs, two, so) = nexts_one ps totals rs qs n m (sym is ∙ so) one two
 
   -- the first text is not the one that is wrong
-  later : (t : List ℕ) (texts : List (List ℕ)) (first : List (Option Reply)) (k line : ℕ) (w : Why) → (a : IsFirstWrong ps first (t ∷ texts) (suc k) line w) → IsFirstWrong ps a.right.0 texts k line w
+  later : (t : List ℕ) (texts : List (List ℕ)) (first : List (Option Reply)) (k line : ℕ) (w : WrongReply) → (a : IsFirstWrong ps first (t ∷ texts) (suc k) line w) → IsFirstWrong ps a.right.0 texts k line w
   later t texts first k line w a = record { totals = a.totals; right = a.right.2; within = (let lt = a.within in omega (arith, lt)); wrong = a.wrong }
 
   -- or it is
-  here : (t : List ℕ) (texts : List (List ℕ)) (first : List (Option Reply)) (line : ℕ) (w : Why) → IsFirstWrong ps first (t ∷ texts) zero line w → IsWrongAt ps first t line w
+  here : (t : List ℕ) (texts : List (List ℕ)) (first : List (Option Reply)) (line : ℕ) (w : WrongReply) → IsFirstWrong ps first (t ∷ texts) zero line w → IsWrongAt ps first t line w
   here t texts first line w a = subst (λ (ts : List (Option Reply)). IsWrongAt ps ts t line w) a.right a.wrong
 
   -- no other line of a text is the first that is wrong
-  pub first_one : (texts : List (List ℕ)) (first : List (Option Reply)) (k m line other : ℕ) (v w : Why) → IsFirstWrong ps first texts k line v → IsFirstWrong ps first texts m other w → (k ≡ m) × (line ≡ other) × (v ≡ w)
+  pub first_one : (texts : List (List ℕ)) (first : List (Option Reply)) (k m line other : ℕ) (v w : WrongReply) → IsFirstWrong ps first texts k line v → IsFirstWrong ps first texts m other w → (k ≡ m) × (line ≡ other) × (v ≡ w)
   first_one [] first k m line other v w a b = let lt = a.within in absurd (omega (arith, lt))
   first_one (t ∷ texts) first zero zero line other v w a b = let both = text_wrong_one first t line other v w (here t texts first line v a) (here t texts first other w b) in (refl, both.0, both.1)
   first_one (t ∷ texts) first zero (suc m) line other v w a b = absurd (text_right first b.right.0 t line v b.right.1 (here t texts first line v a))
@@ -195,7 +195,7 @@ module _ (ps : List Parsed) where
       (ap suc rest.0, rest.1, rest.2)
 
   -- and none is where all texts are right
-  pub right_none : (texts : List (List ℕ)) (first last : List (Option Reply)) (k line : ℕ) (w : Why) → AreRight ps first texts last → IsFirstWrong ps first texts k line w → ⊥
+  pub right_none : (texts : List (List ℕ)) (first last : List (Option Reply)) (k line : ℕ) (w : WrongReply) → AreRight ps first texts last → IsFirstWrong ps first texts k line w → ⊥
   right_none [] first last k line w are a = let lt = a.within in omega (arith, lt)
   right_none (t ∷ texts) first last zero line w are a = text_right first are.0 t line w are.1 (here t texts first line w a)
   right_none (t ∷ texts) first last (suc k) line w are a =

@@ -13,11 +13,11 @@ use Rattle.share_replies.specs.Sums.{IsInnocent, IsInnocentShares, SumsOver}
 use Rattle.share_replies.specs.declared.adding.Outcome.{Outcome}
 use Rattle.share_replies.specs.declared.adding.Outcome.TheVariants as outcome
 use Rattle.share_replies.specs.declared.fault.SharesFault.{SharesFault}
-use Rattle.share_replies.specs.declared.fault.Why.{Why}
+use Rattle.share_replies.specs.declared.fault.WrongReply.{WrongReply}
 use Rattle.share_replies.specs.declared.summed.Summed.{Summed}
 
 -- a refusal says nothing against the replies of shares where its fault does not
-pub refused : (schema : Schema) (ps : List Parsed) (s : Share) (a b : Option (List ℕ)) (why : Why) (r : Result Outcome Stop) → IsInnocent why → IfOk r (λ o. o ≡ outcome.Refused why) → IfOk r (OutcomeOver schema ps s a b)
+pub refused : (schema : Schema) (ps : List Parsed) (s : Share) (a b : Option (List ℕ)) (why : WrongReply) (r : Result Outcome Stop) → IsInnocent why → IfOk r (λ o. o ≡ outcome.Refused why) → IfOk r (OutcomeOver schema ps s a b)
 refused schema ps s a b why (Ok o) innocent is = subst (OutcomeOver schema ps s a b) (sym is) innocent
 refused schema ps s a b why (Err stop) innocent is = tt
 

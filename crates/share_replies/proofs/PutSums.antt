@@ -3,21 +3,43 @@ use Rattle.std.proofs.Common.{◌≡◌, ℕ, zero, suc, ◌+◌, ◌<◌, List,
 use Rattle.std.proofs.lemmas.List.{append-nil}
 use Rattle.cube_view.specs.declared.schema.Schema.{Schema}
 use Rattle.outer_io.proofs.GainedLaws.{gains_none, gains_on}
+use Rattle.outer_io.specs.Bytes.{Gains}
 use Rattle.plain_cube.specs.Listed.{no_structure}
 use Rattle.query_syntax.specs.declared.query.Parsed.{Parsed}
 use Rattle.reply_json.specs.Types.{ReplyFits}
 use Rattle.reply_sums.specs.Additive.{adds_up}
+use Rattle.run_files.specs.Outside.{Puts, SinkSeen}
 use Rattle.session_core.specs.Asked.{reply_line}
 use Rattle.session_core.proofs.Own.{reply_own}
+use Rattle.share_replies.specs.Refusals.{total_of_sum, totals_of}
 use Rattle.share_replies.specs.Shares.{AnyStat, Share}
 use Rattle.share_replies.specs.Sums.{IsSumOver, SumsOver}
-use Rattle.share_replies.specs.Texts.{IsLineOver, IsSummedText, PutsSumLine, PutsSums, not_additive_line}
+use Rattle.share_replies.specs.Texts.{IsLineOver, IsSummedText, PutsSumLine, PutsSums, not_additive_line, total_line, totals_text}
 use Rattle.share_replies.specs.declared.summed.Summed.{Summed}
+
+-- the lines of sums and one more
+totals_push : (sums : List (Option Summed)) (sum : Option Summed) → totals_text (totals_of (sums ++ sum ∷ [])) ≡ totals_text (totals_of sums) ++ total_line (total_of_sum sum)
+totals_push [] sum = append-nil (total_line (total_of_sum sum))
+totals_push (first ∷ sums) sum = ap (λ t. total_line (total_of_sum first) ++ t) (totals_push sums sum) ∙ sym (append_assoc (total_line (total_of_sum first)) (totals_text (totals_of sums)) (total_line (total_of_sum sum)))
 
 -- what follows of a good end
 pub on_ok : {T E : Type 0} (r : Result T E) (P Q : Type 0) → (P → Q) → OnOk r P → OnOk r Q
 on_ok (Ok x) P Q f p = f p
 on_ok (Err e) P Q f p = tt
+
+-- nothing was put for no totals, and for one more its line
+module _ {O : Type 0} (s : SinkSeen O) where
+  pub totals_none : (a : O) → Puts s a a (totals_text [])
+  totals_none a = record { held = gains_none (s.held a); faults = refl; name = refl }
+
+  pub totals_more : (a b c : O) (sums : List (Option Summed)) (i : ℕ) (sum : Option Summed) → take (i + 1) sums ≡ take i sums ++ sum ∷ [] → Puts s a b (totals_text (totals_of (take i sums))) → Puts s b c (total_line (total_of_sum sum)) → Puts s a c (totals_text (totals_of (take (i + 1) sums)))
+  totals_more a b c sums i sum at before more =
+      let here : totals_text (totals_of (take i sums)) ++ total_line (total_of_sum sum) ≡ totals_text (totals_of (take (i + 1) sums)) = sym (ap (λ ss. totals_text (totals_of ss)) at ∙ totals_push (take i sums) sum) in
+      record {
+        held = subst (λ (t : List ℕ). Gains (s.held a) (s.held c) t) here (gains_on (s.held a) (s.held b) (s.held c) (totals_text (totals_of (take i sums))) (total_line (total_of_sum sum)) before.held more.held);
+        faults = more.faults ∙ before.faults;
+        name = more.name ∙ before.name;
+      }
 
 module _ (schema : Schema) (s : Share) where
   -- the line of a sum

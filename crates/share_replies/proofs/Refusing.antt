@@ -8,17 +8,17 @@ use Rattle.reply_json.specs.declared.reply.Reply.{Reply}
 use Rattle.reply_sums.specs.Additive.{adds_up}
 use Rattle.session_core.specs.Asked.{reply_line}
 use Rattle.session_core.specs.Transcript.{replies_text}
-use Rattle.share_replies.specs.Refusals.{AddsBy, AllAdd, LineFails, IsRight, IsWrongAt, TextFails, total_of, totals_of}
+use Rattle.share_replies.specs.Refusals.{AddsBy, AllAdd, IsLineWrong, IsRight, IsWrongAt, IsTextWrong, total_of_sum, totals_of}
 use Rattle.share_replies.specs.declared.fault.LineFault.TheVariants as line
 use Rattle.share_replies.specs.declared.fault.TextFault.{TextFault}
 use Rattle.share_replies.specs.declared.fault.TextFault.TheVariants as text
-use Rattle.share_replies.specs.declared.fault.Why.{Why}
-use Rattle.share_replies.specs.declared.fault.Why.TheVariants as why
+use Rattle.share_replies.specs.declared.fault.WrongReply.{WrongReply}
+use Rattle.share_replies.specs.declared.fault.WrongReply.TheVariants as why
 use Rattle.share_replies.specs.declared.summed.Summed.{Summed}
 
 -- the total at a place, and those after it
-pub totals_at : (sums : List (Option Summed)) (i : ℕ) (sum : Option Summed) → drop i sums ≡ sum ∷ drop (i + 1) sums → drop i (totals_of sums) ≡ total_of sum ∷ drop (i + 1) (totals_of sums)
-totals_at sums i sum is = drop-map total_of i sums ∙ (ap (map total_of) is ∙ ap (λ rest. total_of sum ∷ rest) (sym (drop-map total_of (i + 1) sums)))
+pub totals_at : (sums : List (Option Summed)) (i : ℕ) (sum : Option Summed) → drop i sums ≡ sum ∷ drop (i + 1) sums → drop i (totals_of sums) ≡ total_of_sum sum ∷ drop (i + 1) (totals_of sums)
+totals_at sums i sum is = drop-map total_of_sum i sums ∙ (ap (map total_of_sum) is ∙ ap (λ rest. total_of_sum sum ∷ rest) (sym (drop-map total_of_sum (i + 1) sums)))
 
 -- one reply more
 add_push : (ps : List Parsed) (totals : List (Option Reply)) (replies : List Reply) (nexts : List (Option Reply)) (p : Parsed) (total : Option Reply) (more : List (Option Reply)) (reply : Reply) (next : Option Reply)
@@ -54,7 +54,7 @@ module _ (ps : List Parsed) (totals : List (Option Reply)) (text : List ℕ) (i 
   }
 
   -- the next line is wrong
-  pub read_wrong : (line : ℕ) (w : Why) → line ≡ i + 1 → TextFails (drop i ps) (drop i totals) rest w → IsWrongAt ps totals text line w
+  pub read_wrong : (line : ℕ) (w : WrongReply) → line ≡ i + 1 → IsTextWrong (drop i ps) (drop i totals) rest w → IsWrongAt ps totals text line w
   read_wrong line w is fails = record {
     before = has.replies;
     nexts = nexts;
@@ -62,7 +62,7 @@ module _ (ps : List Parsed) (totals : List (Option Reply)) (text : List ℕ) (i 
     front = has.front;
     right = subst (λ n. AllAdd (take n ps) totals has.replies nexts) (sym has.count) has.right;
     counted = is ∙ ap (λ n. n + 1) (sym has.count);
-    fails = subst (λ n. TextFails (drop n ps) (drop n totals) rest w) (sym has.count) fails;
+    fails = subst (λ n. IsTextWrong (drop n ps) (drop n totals) rest w) (sym has.count) fails;
   }
 
   -- all were read
@@ -73,12 +73,12 @@ module _ (ps : List Parsed) (totals : List (Option Reply)) (text : List ℕ) (i 
 abbrev of_text : (T : Type 0) → TextFault → Result T TextFault
 of_text T fault = Err fault
 
-pub at_line : {T : Type 0} (fault : TextFault) (number : ℕ) (w : Why) → of_text T fault ≡ of_text T (text.At number w) → fault ≡ text.At number w
+pub at_line : {T : Type 0} (fault : TextFault) (number : ℕ) (w : WrongReply) → of_text T fault ≡ of_text T (text.At number w) → fault ≡ text.At number w
 at_line fault number w e = cc
 
 -- what is wrong with the next line, where something is left to answer, and where nothing is
-pub line_of : (left : List Parsed) (totals : List (Option Reply)) (p : Parsed) (ps : List Parsed) (total : Option Reply) (more : List (Option Reply)) (rest : List ℕ) (w : Why) → left ≡ p ∷ ps → totals ≡ total ∷ more → LineFails p total rest w → TextFails left totals rest w
-line_of left totals p ps total more rest w first second fails = subst (λ (qs : List Parsed). TextFails qs totals rest w) (sym first) (subst (λ (ts : List (Option Reply)). TextFails (p ∷ ps) ts rest w) (sym second) fails)
+pub line_of : (left : List Parsed) (totals : List (Option Reply)) (p : Parsed) (ps : List Parsed) (total : Option Reply) (more : List (Option Reply)) (rest : List ℕ) (w : WrongReply) → left ≡ p ∷ ps → totals ≡ total ∷ more → IsLineWrong p total rest w → IsTextWrong left totals rest w
+line_of left totals p ps total more rest w first second fails = subst (λ (qs : List Parsed). IsTextWrong qs totals rest w) (sym first) (subst (λ (ts : List (Option Reply)). IsTextWrong (p ∷ ps) ts rest w) (sym second) fails)
 
-pub nothing_left : (left : List Parsed) (totals : List (Option Reply)) (rest : List ℕ) (w : Why) → left ≡ [] → (rest ≡ [] → ⊥) → line.Wrong why.TooMany ≡ line.Wrong w → TextFails left totals rest w
-nothing_left left totals rest w none some is = let same : w ≡ why.TooMany = cc in subst (λ (qs : List Parsed). TextFails qs totals rest w) (sym none) (some, same)
+pub nothing_left : (left : List Parsed) (totals : List (Option Reply)) (rest : List ℕ) (w : WrongReply) → left ≡ [] → (rest ≡ [] → ⊥) → line.Wrong why.TooMany ≡ line.Wrong w → IsTextWrong left totals rest w
+nothing_left left totals rest w none some is = let same : w ≡ why.TooMany = cc in subst (λ (qs : List Parsed). IsTextWrong qs totals rest w) (sym none) (some, same)

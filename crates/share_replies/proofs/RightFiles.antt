@@ -11,7 +11,7 @@ use Rattle.share_replies.specs.declared.fault.FileFault.{FileFault}
 use Rattle.share_replies.specs.declared.fault.FileFault.TheVariants as file
 use Rattle.share_replies.specs.declared.fault.SharesFault.{SharesFault}
 use Rattle.share_replies.specs.declared.fault.SharesFault.TheVariants as shares
-use Rattle.share_replies.specs.declared.fault.Why.{Why}
+use Rattle.share_replies.specs.declared.fault.WrongReply.{WrongReply}
 use Rattle.share_replies.specs.declared.summed.Summed.{Summed}
 
 -- a bytes' file is what was read of it
@@ -28,13 +28,13 @@ texts_more ps first (t ∷ texts) text last next are is = (are.0, are.1, texts_m
 abbrev of_shares : (T : Type 0) → SharesFault → Result T SharesFault
 of_shares T fault = Err fault
 
-pub at_share : {T : Type 0} (fault : SharesFault) (k line : ℕ) (w : Why) → of_shares T fault ≡ of_shares T (shares.Wrong k line w) → fault ≡ shares.Wrong k line w
+pub at_share : {T : Type 0} (fault : SharesFault) (k line : ℕ) (w : WrongReply) → of_shares T fault ≡ of_shares T (shares.Wrong k line w) → fault ≡ shares.Wrong k line w
 at_share fault k line w e = cc
 
 abbrev of_file : (T : Type 0) → FileFault → Result T FileFault
 of_file T fault = Err fault
 
-pub at_file : {T : Type 0} (fault : FileFault) (line : ℕ) (w : Why) → of_file T fault ≡ of_file T (file.Wrong line w) → fault ≡ file.Wrong line w
+pub at_file : {T : Type 0} (fault : FileFault) (line : ℕ) (w : WrongReply) → of_file T fault ≡ of_file T (file.Wrong line w) → fault ≡ file.Wrong line w
 at_file fault line w e = cc
 
 pub told_none : (told : Option Files) (ps : List Parsed) (first : List (Option Reply)) → Told told (λ files. first ≡ first)
@@ -61,7 +61,7 @@ module _ {A : Type 0} (ps : List Parsed) (first : List (Option Reply)) (g : A �
             (texts_more ps first (map f (map g (take i names))) (f (g n)) (totals_of sums) (totals_of next) before (subst (λ b. IsRight ps (totals_of sums) (f b) (totals_of next)) is here))
 
     -- or the next is the first that is wrong
-    pub first_wrong : (line : ℕ) (w : Why) → n ≡ get_or names i n → i < length names → SoFar told i sums → Told (file_of now name) (λ text. IsWrongAt ps (totals_of sums) text line w) → Told told (λ files. IsFirstWrong ps first (map (file_or_empty files) (map g names)) i line w)
+    pub first_wrong : (line : ℕ) (w : WrongReply) → n ≡ get_or names i n → i < length names → SoFar told i sums → Told (file_of now name) (λ text. IsWrongAt ps (totals_of sums) text line w) → Told told (λ files. IsFirstWrong ps first (map (file_or_empty files) (map g names)) i line w)
     first_wrong line w item lt before here = at told before (subst (λ (o : Option Files). Told (file_of o name) (λ text. IsWrongAt ps (totals_of sums) text line w)) same here)
       where
         at : (told : Option Files) → SoFar told i sums → Told (file_of told name) (λ text. IsWrongAt ps (totals_of sums) text line w) → Told told (λ files. IsFirstWrong ps first (map (file_or_empty files) (map g names)) i line w)
@@ -79,5 +79,5 @@ module _ {A : Type 0} (ps : List Parsed) (first : List (Option Reply)) (g : A �
               wrong = subst (λ t. IsWrongAt ps (totals_of sums) t line w) (sym text) (subst (λ b. IsWrongAt ps (totals_of sums) (f b) line w) is here);
             }
 
-  pub same_share : (told : Option Files) (k i line : ℕ) (w : Why) → k ≡ i → Told told (λ files. IsFirstWrong ps first (map (file_or_empty files) (map g names)) i line w) → Told told (λ files. IsFirstWrong ps first (map (file_or_empty files) (map g names)) k line w)
+  pub same_share : (told : Option Files) (k i line : ℕ) (w : WrongReply) → k ≡ i → Told told (λ files. IsFirstWrong ps first (map (file_or_empty files) (map g names)) i line w) → Told told (λ files. IsFirstWrong ps first (map (file_or_empty files) (map g names)) k line w)
   same_share told k i line w same = subst (λ j. Told told (λ files. IsFirstWrong ps first (map (file_or_empty files) (map g names)) j line w)) (sym same)

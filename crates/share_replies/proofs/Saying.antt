@@ -2,15 +2,14 @@
 use Rattle.std.proofs.Common.{◌≡◌, ℕ, List, [], ◌∷◌, map, Option, Some, None, Result, Ok, Err, IfOk, refl, sym, ◌∙◌, ap, subst, if◌then◌else◌}
 use Rattle.cube_schema.specs.declared.plan.Plan.{Plan}
 use Rattle.cube_view.specs.declared.schema.Schema.{Schema}
-use Rattle.outer_io.specs.Bytes.{Gains}
 use Rattle.outer_io.specs.Files.{Files, file_or_empty}
 use Rattle.outer_io.specs.Lines.{lines}
 use Rattle.outer_io.specs.Told.{Told}
 use Rattle.plain_cube.specs.Listed.{no_structure}
 use Rattle.query_syntax.specs.declared.query.Parsed.{Parsed}
-use Rattle.reply_json.specs.declared.reply.Reply.{Reply}
 use Rattle.reply_sums.specs.Additive.{adds_up}
-use Rattle.run_files.specs.Outside.{file_of, Puts, Silent, SinkSeen}
+use Rattle.run_files.proofs.Putting.{puts_after}
+use Rattle.run_files.specs.Outside.{file_of, Silent, SinkSeen}
 use Rattle.run_files.specs.Planned.{IsPlanOf}
 use Rattle.run_files.specs.declared.stop.Stop.{Stop}
 use Rattle.session_core.specs.Asked.{asked, asked_reply}
@@ -22,7 +21,7 @@ use Rattle.share_replies.specs.Sums.{SumsOver}
 use Rattle.share_replies.specs.declared.adding.Outcome.{Outcome}
 use Rattle.share_replies.specs.declared.fault.SharesFault.{SharesFault}
 use Rattle.share_replies.specs.declared.fault.SharesFault.TheVariants as shares
-use Rattle.share_replies.specs.declared.fault.Why.{Why}
+use Rattle.share_replies.specs.declared.fault.WrongReply.{WrongReply}
 use Rattle.share_replies.specs.declared.summed.Summed.{Summed}
 
 -- the totals of no replies
@@ -53,8 +52,8 @@ pub stopped_decides : (schema : Schema) (told : Option Files) (name : List ℕ) 
 stopped_decides schema told name names stop = record { right = tt; wrong = λ k line w e. cc }
 
 -- where a share is the first that is wrong, no other is
-only_one : (told : Option Files) (schema : Schema) (names : FileNames) (share line : ℕ) (w : Why) → Told told (λ files. IsWrongShare schema names files share line w)
-    → Told told (λ files. (k l : ℕ) (v : Why) → IsWrongShare schema names files k l v → (k ≡ share) × (l ≡ line) × (v ≡ w))
+only_one : (told : Option Files) (schema : Schema) (names : FileNames) (share line : ℕ) (w : WrongReply) → Told told (λ files. IsWrongShare schema names files share line w)
+    → Told told (λ files. (k l : ℕ) (v : WrongReply) → IsWrongShare schema names files k l v → (k ≡ share) × (l ≡ line) × (v ≡ w))
 only_one None schema names share line w wrong = tt
 only_one (Some files) schema names share line w wrong = λ k l v other. first_one (asks_of schema files names.script) (map (file_or_empty files) names.replies) _ k share l line v w other wrong
 
@@ -64,13 +63,6 @@ both_of (Ok x) P Q p q = (p, q)
 both_of (Err e) P Q p q = tt
 
 module _ {O : Type 0} (s : SinkSeen O) (a b d : O) where
-  puts_after : (bytes : List ℕ) → Silent s a b → Puts s b d bytes → Puts s a d bytes
-  puts_after bytes silent puts = record {
-    held = subst (λ h. Gains h (s.held d) bytes) silent.held puts.held;
-    faults = puts.faults ∙ silent.faults;
-    name = puts.name ∙ silent.name;
-  }
-
   -- what was said of sums is said of shares
   pub says_shares : (told now : Option Files) (names : FileNames) (plan : Plan) (sums : Result (List (Option Summed)) SharesFault) (r : Result Outcome Stop) → Silent s a b → now ≡ told → IsPlanOf (file_of told names.plan) plan
       → DecidesScript plan.schema now names.script names.replies sums → IfOk r (SaysSums s b d names.replies sums) → IfOk r (SaysShares s a d told names)
@@ -78,17 +70,12 @@ module _ {O : Type 0} (s : SinkSeen O) (a b d : O) where
   says_shares told now names plan (Err (shares.Stopped stop)) (Ok o) silent same is decides says = absurd says
   says_shares told now names plan (Err (shares.Wrong k line w)) (Ok o) silent same is decides says =
       let here = subst (λ (f : Option Files). DecidesScript plan.schema f names.script names.replies (Err (shares.Wrong k line w))) same decides in
-      subst (SaysShares s a d told names) (sym says.0) (record { plan = plan; is_plan = is; share = k; line = line; wrong = here.wrong k line w refl; only = only_one told plan.schema names k line w (here.wrong k line w refl); puts = puts_after _ silent says.1 })
+      subst (SaysShares s a d told names) (sym says.0) (record { plan = plan; is_plan = is; share = k; line = line; wrong = here.wrong k line w refl; only = only_one told plan.schema names k line w (here.wrong k line w refl); puts = puts_after s a b d silent _ says.1 })
   says_shares told now names plan (Ok last) (Ok o) silent same is decides says =
       let here = subst (λ (f : Option Files). DecidesScript plan.schema f names.script names.replies (Ok last)) same decides in
-      subst (SaysShares s a d told names) (sym says) (record { plan = plan; is_plan = is; right = some told here.right; none = none_wrong told here.right })
+      subst (SaysShares s a d told names) (sym says.0) (record { plan = plan; is_plan = is; last = totals_of last; right = here.right; none = none_wrong told here.right; puts = puts_after s a b d silent _ says.1 })
     where
-      some : (told : Option Files) → Told told (λ files. AreRight (asks_of plan.schema files names.script) (first_totals plan.schema (asks_of plan.schema files names.script)) (map (file_or_empty files) names.replies) (totals_of last))
-          → Told told (λ files. (all : List (Option Reply)) × AreRight (asks_of plan.schema files names.script) (first_totals plan.schema (asks_of plan.schema files names.script)) (map (file_or_empty files) names.replies) all)
-      some None right = tt
-      some (Some files) right = (totals_of last, right)
-
       none_wrong : (told : Option Files) → Told told (λ files. AreRight (asks_of plan.schema files names.script) (first_totals plan.schema (asks_of plan.schema files names.script)) (map (file_or_empty files) names.replies) (totals_of last))
-          → Told told (λ files. (k l : ℕ) (v : Why) → ¬ IsWrongShare plan.schema names files k l v)
+          → Told told (λ files. (k l : ℕ) (v : WrongReply) → ¬ IsWrongShare plan.schema names files k l v)
       none_wrong None right = tt
       none_wrong (Some files) right = λ k l v. right_none (asks_of plan.schema files names.script) (map (file_or_empty files) names.replies) _ (totals_of last) k l v right

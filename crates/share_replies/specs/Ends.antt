@@ -3,24 +3,22 @@ use Rattle.std.specs.Prelude.{◌≡◌, ℕ, List, [], map, get_or, string_byte
 use Rattle.cube_schema.specs.declared.plan.Plan.{Plan}
 use Rattle.cube_view.specs.declared.schema.Schema.{Schema}
 use Rattle.outer_io.specs.Files.{Files, file_or_empty}
-use Rattle.outer_io.specs.Lines.{lines}
 use Rattle.outer_io.specs.Told.{Told}
 use Rattle.query_syntax.specs.declared.query.Parsed.{Parsed}
 use Rattle.reply_json.specs.declared.reply.Reply.{Reply}
 use Rattle.run_files.specs.Outside.{file_of, Puts, SinkSeen}
 use Rattle.run_files.specs.Planned.{IsPlanOf}
 use Rattle.run_files.specs.declared.stop.Stop.{Stop}
-use Rattle.session_core.specs.Asked.{asked}
-use Rattle.share_replies.specs.Refusals.{AreRight, IsFirstWrong, asks_of, first_totals}
+use Rattle.share_replies.specs.Refusals.{AreRight, IsFirstWrong, asks_of, first_totals, totals_of}
 use Rattle.share_replies.specs.Shares.{AreShares, Share, together}
 use Rattle.share_replies.specs.Sums.{IsInnocent, IsInnocentShares, SumsOver}
-use Rattle.share_replies.specs.Texts.{PutsSums, wrong_line}
+use Rattle.share_replies.specs.Texts.{PutsSums, totals_text, wrong_line}
 use Rattle.share_replies.specs.declared.adding.Outcome.{Outcome}
 use Rattle.share_replies.specs.declared.adding.Outcome.TheVariants as outcome
 use Rattle.share_replies.specs.declared.adding.ShareNames.{ShareNames}
 use Rattle.share_replies.specs.declared.fault.SharesFault.{SharesFault}
 use Rattle.share_replies.specs.declared.fault.SharesFault.TheVariants as shares
-use Rattle.share_replies.specs.declared.fault.Why.{Why}
+use Rattle.share_replies.specs.declared.fault.WrongReply.{WrongReply}
 use Rattle.share_replies.specs.declared.summed.Summed.{Summed}
 
 -- what an outcome says of what was asked and of shares whose replies are all final: the transcript over all of them was
@@ -29,27 +27,6 @@ abbrev pub OutcomeOver : Schema → List Parsed → Share → Option (List ℕ) 
 OutcomeOver schema ps s before after outcome.Added = PutsSums schema s ps before after
 OutcomeOver schema ps s before after (outcome.Refused why) = IsInnocent why
 
--- where the files are told, and each file of replies is the final transcript of the script over a share, the answer is
--- the sums over all of them, and no fault but an innocent one comes
-abbrev pub SumsOfFiles : Schema → Option Files → List ℕ → List (List ℕ) → Result (List (Option Summed)) SharesFault → Type 0
-SumsOfFiles schema told script names result =
-    (files : Files) (shares : List Share) → told ≡ Some files
-    → AreShares schema (asked schema (lines (file_or_empty files script))) shares (map (file_or_empty files) names)
-    → IfOk result (SumsOver schema (together shares) (asked schema (lines (file_or_empty files script)))) × IfErr result IsInnocentShares
-
--- the sums are over some points, or the fault is innocent
-abbrev pub AreSumsOver : Schema → Share → List Parsed → Result (List (Option Summed)) SharesFault → Type 0
-AreSumsOver schema s ps sums = IfOk sums (SumsOver schema s ps) × IfErr sums IsInnocentShares
-
--- the law of sums over files: where they are told, the first is a plan, and where each file of replies is the final
--- transcript of the script over a list of points, the outcome is that of the lists joined
-abbrev pub AddsUpFiles : Option Files → List ℕ → List ℕ → List (List ℕ) → Option (List ℕ) → Option (List ℕ) → Result Outcome Stop → Type 0
-AddsUpFiles told plan_name script_name names before after result =
-    (files : Files) → told ≡ Some files → IfOk result (λ outcome.
-    (plan : Plan) × IsPlanOf (Some (file_or_empty files plan_name)) plan
-    × ((shares : List Share) → AreShares plan.schema (asked plan.schema (lines (file_or_empty files script_name))) shares (map (file_or_empty files) names)
-    → OutcomeOver plan.schema (asked plan.schema (lines (file_or_empty files script_name))) (together shares) before after outcome))
-
 -- The names of the plan, the script, and the replies of each share
 pub record FileNames : Type 0 where
   pub plan : List ℕ
@@ -57,15 +34,36 @@ pub record FileNames : Type 0 where
   pub replies : List (List ℕ)
 
 -- those that are given
-abbrev pub names_of : ShareNames → FileNames
-names_of names = record { plan = names.plan.now; script = names.script.now; replies = map string_bytes names.replies.now }
+abbrev pub given_names : ShareNames → FileNames
+given_names names = record { plan = names.plan.now; script = names.script.now; replies = map string_bytes names.replies.now }
+
+-- where the files are told, and each file of replies is the final transcript of the script over a share, the answer is
+-- the sums over all of them, and no fault but an innocent one comes
+abbrev pub SumsOfFiles : Schema → Option Files → FileNames → Result (List (Option Summed)) SharesFault → Type 0
+SumsOfFiles schema told names result =
+    (files : Files) (shares : List Share) → told ≡ Some files
+    → AreShares schema (asks_of schema files names.script) shares (map (file_or_empty files) names.replies)
+    → IfOk result (SumsOver schema (together shares) (asks_of schema files names.script)) × IfErr result IsInnocentShares
+
+-- the sums are over some points, or the fault is innocent
+abbrev pub AreSumsOver : Schema → Share → List Parsed → Result (List (Option Summed)) SharesFault → Type 0
+AreSumsOver schema s ps sums = IfOk sums (SumsOver schema s ps) × IfErr sums IsInnocentShares
+
+-- the law of sums over files: where they are told, the first is a plan, and where each file of replies is the final
+-- transcript of the script over a list of points, the outcome is that of the lists joined
+abbrev pub AddsUpFiles : Option Files → FileNames → Option (List ℕ) → Option (List ℕ) → Result Outcome Stop → Type 0
+AddsUpFiles told names before after result =
+    (files : Files) → told ≡ Some files → IfOk result (λ outcome.
+    (plan : Plan) × IsPlanOf (Some (file_or_empty files names.plan)) plan
+    × ((shares : List Share) → AreShares plan.schema (asks_of plan.schema files names.script) shares (map (file_or_empty files) names.replies)
+    → OutcomeOver plan.schema (asks_of plan.schema files names.script) (together shares) before after outcome))
 
 -- under a schema, in these files, the share of that place is the first that is wrong, this line is its first, and so it is
-abbrev pub IsWrongShare : Schema → FileNames → Files → ℕ → ℕ → Why → Type 0
+abbrev pub IsWrongShare : Schema → FileNames → Files → ℕ → ℕ → WrongReply → Type 0
 IsWrongShare schema names files = IsFirstWrong (asks_of schema files names.script) (first_totals schema (asks_of schema files names.script)) (map (file_or_empty files) names.replies)
 
 -- What a refusal of a share says
-pub record RefusesShare {O : Type 0} (s : SinkSeen O) (out out' : O) (told : Option Files) (names : FileNames) (w : Why) : Type 0 where
+pub record RefusesShare {O : Type 0} (s : SinkSeen O) (out out' : O) (told : Option Files) (names : FileNames) (w : WrongReply) : Type 0 where
   -- under the plan
   pub plan : Plan
   pub is_plan : IsPlanOf (file_of told names.plan) plan
@@ -74,31 +72,34 @@ pub record RefusesShare {O : Type 0} (s : SinkSeen O) (out out' : O) (told : Opt
   pub line : ℕ
   pub wrong : Told told (λ files. IsWrongShare plan.schema names files share line w)
   -- and no other is
-  pub only : Told told (λ files. (k l : ℕ) (v : Why) → IsWrongShare plan.schema names files k l v → (k ≡ share) × (l ≡ line) × (v ≡ w))
+  pub only : Told told (λ files. (k l : ℕ) (v : WrongReply) → IsWrongShare plan.schema names files k l v → (k ≡ share) × (l ≡ line) × (v ≡ w))
   -- which is said, and nothing else
   pub puts : Puts s out out' (wrong_line (get_or names.replies share []) line w)
 
 -- What sums say of shares
-pub record TakesShares (told : Option Files) (names : FileNames) : Type 0 where
+pub record TakesShares {O : Type 0} (s : SinkSeen O) (out out' : O) (told : Option Files) (names : FileNames) : Type 0 where
   -- under the plan
   pub plan : Plan
   pub is_plan : IsPlanOf (file_of told names.plan) plan
-  -- no line of a share is wrong
-  pub right : Told told (λ files. (last : List (Option Reply)) × AreRight (asks_of plan.schema files names.script) (first_totals plan.schema (asks_of plan.schema files names.script)) (map (file_or_empty files) names.replies) last)
+  -- no line of a share is wrong, and these are the totals after the last share
+  pub last : List (Option Reply)
+  pub right : Told told (λ files. AreRight (asks_of plan.schema files names.script) (first_totals plan.schema (asks_of plan.schema files names.script)) (map (file_or_empty files) names.replies) last)
   -- so none is the first that is
-  pub none : Told told (λ files. (k l : ℕ) (v : Why) → ¬ IsWrongShare plan.schema names files k l v)
+  pub none : Told told (λ files. (k l : ℕ) (v : WrongReply) → ¬ IsWrongShare plan.schema names files k l v)
+  -- and their lines were put, and nothing else
+  pub puts : Puts s out out' (totals_text last)
 
 -- what an outcome says of shares: all are right, or the first wrong line is refused
 abbrev pub SaysShares : {O : Type 0} → SinkSeen O → O → O → Option Files → FileNames → Outcome → Type 0
-SaysShares s out out' told names outcome.Added = TakesShares told names
+SaysShares s out out' told names outcome.Added = TakesShares s out out' told names
 SaysShares s out out' told names (outcome.Refused w) = RefusesShare s out out' told names w
 
 -- what an outcome says of a fault: the line of the share that is wrong was put
-abbrev pub SaysFault : {O : Type 0} → SinkSeen O → O → O → List (List ℕ) → SharesFault → Outcome → Type 0
-SaysFault s out out' names (shares.Stopped stop) o = ⊥
-SaysFault s out out' names (shares.Wrong k line w) o = (o ≡ outcome.Refused w) × Puts s out out' (wrong_line (get_or names k []) line w)
+abbrev pub SaysWrong : {O : Type 0} → SinkSeen O → O → O → List (List ℕ) → SharesFault → Outcome → Type 0
+SaysWrong s out out' names (shares.Stopped stop) o = ⊥
+SaysWrong s out out' names (shares.Wrong k line w) o = (o ≡ outcome.Refused w) × Puts s out out' (wrong_line (get_or names k []) line w)
 
--- and of sums: that they were added
+-- and of sums: that they were added, and their lines put
 abbrev pub SaysSums : {O : Type 0} → SinkSeen O → O → O → List (List ℕ) → Result (List (Option Summed)) SharesFault → Outcome → Type 0
-SaysSums s out out' names (Ok sums) o = o ≡ outcome.Added
-SaysSums s out out' names (Err fault) o = SaysFault s out out' names fault o
+SaysSums s out out' names (Ok sums) o = (o ≡ outcome.Added) × Puts s out out' (totals_text (totals_of sums))
+SaysSums s out out' names (Err fault) o = SaysWrong s out out' names fault o

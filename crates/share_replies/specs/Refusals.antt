@@ -18,18 +18,18 @@ use Rattle.share_replies.specs.declared.fault.FileFault.{FileFault}
 use Rattle.share_replies.specs.declared.fault.FileFault.TheVariants as file
 use Rattle.share_replies.specs.declared.fault.SharesFault.{SharesFault}
 use Rattle.share_replies.specs.declared.fault.SharesFault.TheVariants as shares
-use Rattle.share_replies.specs.declared.fault.Why.{Why}
-use Rattle.share_replies.specs.declared.fault.Why.TheVariants as why
+use Rattle.share_replies.specs.declared.fault.WrongReply.{WrongReply}
+use Rattle.share_replies.specs.declared.fault.WrongReply.TheVariants as why
 use Rattle.share_replies.specs.declared.line.Added.{Added}
 use Rattle.share_replies.specs.declared.summed.Summed.{Summed}
 
 -- the total of a sum, if it is one
-abbrev pub total_of : Option Summed → Option Reply
-total_of sum = option_map (λ s. s.reply) sum
+abbrev pub total_of_sum : Option Summed → Option Reply
+total_of_sum sum = option_map (λ s. s.reply) sum
 
 -- those of sums
 abbrev pub totals_of : List (Option Summed) → List (Option Reply)
-totals_of sums = map total_of sums
+totals_of sums = map total_of_sum sums
 
 -- the totals of no replies: the reply over no points, where replies add up
 abbrev pub first_totals : Schema → List Parsed → List (Option Reply)
@@ -55,26 +55,26 @@ IsTooGreat true p (Some total) reply = HaveGreatSum p total reply
 IsTooGreat true p None reply = ⊥
 
 -- what is wrong with a reply, which should answer what was asked, with this total before it
-abbrev pub ReplyFails : Parsed → Option Reply → Reply → Why → Type 0
-ReplyFails p total reply why.OtherRows = HasOtherRows (adds_up p) p total reply
-ReplyFails p total reply why.TooGreat = IsTooGreat (adds_up p) p total reply
-ReplyFails p total reply w = ⊥
+abbrev pub IsReplyWrong : Parsed → Option Reply → Reply → WrongReply → Type 0
+IsReplyWrong p total reply why.OtherRows = HasOtherRows (adds_up p) p total reply
+IsReplyWrong p total reply why.TooGreat = IsTooGreat (adds_up p) p total reply
+IsReplyWrong p total reply w = ⊥
 
 -- what is wrong with the first line of a text, which should be such a reply
-abbrev pub LineFails : Parsed → Option Reply → List ℕ → Why → Type 0
-LineFails p total text why.TooFew = text ≡ []
-LineFails p total text why.NotReply = (text ≢ []) × ((reply : Reply) → ¬ BeginsWithReply text reply)
-LineFails p total text w = (reply : Reply) × BeginsWithReply text reply × ReplyFails p total reply w
+abbrev pub IsLineWrong : Parsed → Option Reply → List ℕ → WrongReply → Type 0
+IsLineWrong p total text why.TooFew = text ≡ []
+IsLineWrong p total text why.NotReply = (text ≢ []) × ((reply : Reply) → ¬ BeginsWithReply text reply)
+IsLineWrong p total text w = (reply : Reply) × BeginsWithReply text reply × IsReplyWrong p total reply w
 
 -- nothing is: it is that of a reply, which makes the next total, and the rest follows
-abbrev pub PassesLine : Parsed → Option Reply → List ℕ → Added → Type 0
-PassesLine p total text added = (reply : Reply) × IsPrintableReply reply × (text ≡ reply_line reply ++ added.rest.now) × AddsBy (adds_up p) p total reply (total_of added.sum)
+abbrev pub IsLineRight : Parsed → Option Reply → List ℕ → Added → Type 0
+IsLineRight p total text added = (reply : Reply) × IsPrintableReply reply × (text ≡ reply_line reply ++ added.rest.now) × AddsBy (adds_up p) p total reply (total_of_sum added.sum)
 
 -- what is wrong with the first line of a text, where this is left to answer
-abbrev pub TextFails : List Parsed → List (Option Reply) → List ℕ → Why → Type 0
-TextFails [] totals text w = (text ≢ []) × (w ≡ why.TooMany)
-TextFails (p ∷ ps) (total ∷ totals) text w = LineFails p total text w
-TextFails (p ∷ ps) [] text w = ⊥
+abbrev pub IsTextWrong : List Parsed → List (Option Reply) → List ℕ → WrongReply → Type 0
+IsTextWrong [] totals text w = (text ≢ []) × (w ≡ why.TooMany)
+IsTextWrong (p ∷ ps) (total ∷ totals) text w = IsLineWrong p total text w
+IsTextWrong (p ∷ ps) [] text w = ⊥
 
 -- replies to what was asked that can be printed, one each, make the next totals of those before
 abbrev pub AllAdd : List Parsed → List (Option Reply) → List Reply → List (Option Reply) → Type 0
@@ -87,7 +87,7 @@ abbrev pub IsRight : List Parsed → List (Option Reply) → List ℕ → List (
 IsRight ps totals text nexts = (replies : List Reply) × AllAdd ps totals replies nexts × (text ≡ replies_text replies)
 
 -- The first wrong line of a text, and what is wrong with it
-pub record IsWrongAt (ps : List Parsed) (totals : List (Option Reply)) (text : List ℕ) (line : ℕ) (w : Why) : Type 0 where
+pub record IsWrongAt (ps : List Parsed) (totals : List (Option Reply)) (text : List ℕ) (line : ℕ) (w : WrongReply) : Type 0 where
   -- the replies before it, and the totals that they make
   pub before : List Reply
   pub nexts : List (Option Reply)
@@ -100,7 +100,7 @@ pub record IsWrongAt (ps : List Parsed) (totals : List (Option Reply)) (text : L
   -- lines are numbered from 1 on
   pub counted : line ≡ length before + 1
   -- this is wrong with the next
-  pub fails : TextFails (drop (length before) ps) (drop (length before) totals) rest w
+  pub fails : IsTextWrong (drop (length before) ps) (drop (length before) totals) rest w
 
 -- the texts are right, one after another, and these are the totals after the last
 abbrev pub AreRight : List Parsed → List (Option Reply) → List (List ℕ) → List (Option Reply) → Type 0
@@ -108,7 +108,7 @@ AreRight ps totals [] last = last ≡ totals
 AreRight ps totals (text ∷ texts) last = (nexts : List (Option Reply)) × IsRight ps totals text nexts × AreRight ps nexts texts last
 
 -- The first text that is wrong, by its place from 0 on, its first wrong line, and what is wrong with it
-pub record IsFirstWrong (ps : List Parsed) (first : List (Option Reply)) (texts : List (List ℕ)) (k line : ℕ) (w : Why) : Type 0 where
+pub record IsFirstWrong (ps : List Parsed) (first : List (Option Reply)) (texts : List (List ℕ)) (k line : ℕ) (w : WrongReply) : Type 0 where
   -- the totals of those before it
   pub totals : List (Option Reply)
   -- which are right
@@ -123,14 +123,14 @@ pub record DecidesFile (told : Option (List ℕ)) (ps : List Parsed) (sums : Lis
   -- with sums its text is right
   pub right : IfOk result (λ next. Told told (λ text. IsRight ps (totals_of sums) text (totals_of next)))
   -- with a line this is the first that is wrong
-  pub wrong : (line : ℕ) (w : Why) → result ≡ Err (file.Wrong line w) → Told told (λ text. IsWrongAt ps (totals_of sums) text line w)
+  pub wrong : (line : ℕ) (w : WrongReply) → result ≡ Err (file.Wrong line w) → Told told (λ text. IsWrongAt ps (totals_of sums) text line w)
 
 -- What is answered of the named files, where they are told
 pub record DecidesFiles (told : Option Files) (ps : List Parsed) (first : List (Option Reply)) (names : List (List ℕ)) (result : Result (List (Option Summed)) SharesFault) : Type 0 where
   -- with sums their texts are right
   pub right : IfOk result (λ last. Told told (λ files. AreRight ps first (map (file_or_empty files) names) (totals_of last)))
   -- with a share and a line these are the first that are wrong
-  pub wrong : (k line : ℕ) (w : Why) → result ≡ Err (shares.Wrong k line w) → Told told (λ files. IsFirstWrong ps first (map (file_or_empty files) names) k line w)
+  pub wrong : (k line : ℕ) (w : WrongReply) → result ≡ Err (shares.Wrong k line w) → Told told (λ files. IsFirstWrong ps first (map (file_or_empty files) names) k line w)
 
 -- what the script of that name asks
 abbrev pub asks_of : Schema → Files → List ℕ → List Parsed
@@ -141,4 +141,4 @@ pub record DecidesScript (schema : Schema) (told : Option Files) (script : List 
   -- with sums all are right
   pub right : IfOk result (λ last. Told told (λ files. AreRight (asks_of schema files script) (first_totals schema (asks_of schema files script)) (map (file_or_empty files) names) (totals_of last)))
   -- with a share and a line these are the first that are wrong
-  pub wrong : (k line : ℕ) (w : Why) → result ≡ Err (shares.Wrong k line w) → Told told (λ files. IsFirstWrong (asks_of schema files script) (first_totals schema (asks_of schema files script)) (map (file_or_empty files) names) k line w)
+  pub wrong : (k line : ℕ) (w : WrongReply) → result ≡ Err (shares.Wrong k line w) → Told told (λ files. IsFirstWrong (asks_of schema files script) (first_totals schema (asks_of schema files script)) (map (file_or_empty files) names) k line w)

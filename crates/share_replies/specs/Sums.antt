@@ -20,8 +20,8 @@ use Rattle.share_replies.specs.declared.fault.SharesFault.{SharesFault}
 use Rattle.share_replies.specs.declared.fault.SharesFault.TheVariants as shares
 use Rattle.share_replies.specs.declared.fault.TextFault.{TextFault}
 use Rattle.share_replies.specs.declared.fault.TextFault.TheVariants as text
-use Rattle.share_replies.specs.declared.fault.Why.{Why}
-use Rattle.share_replies.specs.declared.fault.Why.TheVariants as why
+use Rattle.share_replies.specs.declared.fault.WrongReply.{WrongReply}
+use Rattle.share_replies.specs.declared.fault.WrongReply.TheVariants as why
 use Rattle.share_replies.specs.declared.line.Added.{Added}
 use Rattle.share_replies.specs.declared.summed.Summed.{Summed}
 
@@ -55,7 +55,7 @@ module _ (schema : Schema) (s : Share) where
   AnswersText ps text = (replies : List Reply) × AllAnswered schema AnyStat true s.points s.told false ps replies × (text ≡ replies_text replies)
 
 -- the fault says nothing against the replies: memory ran out, or a number is too great
-abbrev pub IsInnocent : Why → Type 0
+abbrev pub IsInnocent : WrongReply → Type 0
 IsInnocent why.TooGreat = ⊤
 IsInnocent why.TooFew = ⊥
 IsInnocent why.TooMany = ⊥

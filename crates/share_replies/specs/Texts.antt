@@ -1,6 +1,7 @@
 -- What is written of the sums.
-use Rattle.std.specs.Prelude.{◌≡◌, ℕ, Bool, true, false, List, [], ◌∷◌, ◌++◌, Option, codes}
+use Rattle.std.specs.Prelude.{◌≡◌, ℕ, Bool, true, false, List, [], ◌∷◌, ◌++◌, Option, Some, None, codes}
 use Rattle.std.specs.Fmt.{decimal}
+use Rattle.std.specs.List.{flat_map}
 use Rattle.cube_view.specs.declared.schema.Schema.{Schema}
 use Rattle.outer_io.specs.Bytes.{Gains}
 use Rattle.query_syntax.specs.declared.query.Parsed.{Parsed}
@@ -9,12 +10,21 @@ use Rattle.reply_sums.specs.Additive.{adds_up}
 use Rattle.session_core.specs.Asked.{reply_line}
 use Rattle.session_core.specs.Transcript.{IsReply}
 use Rattle.share_replies.specs.Shares.{AnyStat, Share}
-use Rattle.share_replies.specs.declared.fault.Why.{Why}
-use Rattle.share_replies.specs.declared.fault.Why.TheVariants as why
+use Rattle.share_replies.specs.declared.fault.WrongReply.{WrongReply}
+use Rattle.share_replies.specs.declared.fault.WrongReply.TheVariants as why
 
 -- the line that answers what was asked where its replies do not add up
 abbrev pub not_additive_line : List ℕ
 not_additive_line = codes "{\"fault\":\"NotAdditive\"}\n"
+
+-- the line of a total: that of its reply, or the one that says that replies do not add up
+abbrev pub total_line : Option Reply → List ℕ
+total_line None = not_additive_line
+total_line (Some reply) = reply_line reply
+
+-- the lines of totals
+abbrev pub totals_text : List (Option Reply) → List ℕ
+totals_text totals = flat_map total_line totals
 
 -- under a schema, over the points of shares
 module _ (schema : Schema) (s : Share) where
@@ -37,13 +47,13 @@ module _ (schema : Schema) (s : Share) where
   PutsSumLine p before after = (line : List ℕ) × IsLineOver (adds_up p) p line × Gains before after line
 
 -- the name of what is wrong with a reply
-abbrev pub share_why_text : Why → List ℕ
-share_why_text why.TooFew = codes "TooFew"
-share_why_text why.TooMany = codes "TooMany"
-share_why_text why.NotReply = codes "NotReply"
-share_why_text why.OtherRows = codes "OtherRows"
-share_why_text why.TooGreat = codes "TooGreat"
+abbrev pub wrong_reply_text : WrongReply → List ℕ
+wrong_reply_text why.TooFew = codes "TooFew"
+wrong_reply_text why.TooMany = codes "TooMany"
+wrong_reply_text why.NotReply = codes "NotReply"
+wrong_reply_text why.OtherRows = codes "OtherRows"
+wrong_reply_text why.TooGreat = codes "TooGreat"
 
 -- `share NAME: reply L: WHY`
-unfoldable pub wrong_line : List ℕ → ℕ → Why → List ℕ
-wrong_line name line w = codes "share " ++ name ++ codes ": reply " ++ decimal line ++ codes ": " ++ share_why_text w ++ 10 ∷ []
+unfoldable pub wrong_line : List ℕ → ℕ → WrongReply → List ℕ
+wrong_line name line w = codes "share " ++ name ++ codes ": reply " ++ decimal line ++ codes ": " ++ wrong_reply_text w ++ 10 ∷ []

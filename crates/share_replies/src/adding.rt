@@ -4,16 +4,16 @@ ghost use Rattle.outer_io.specs.Faults.{HasCause};
 ghost use Rattle.cube_view.specs.declared.schema.Schema.{Schema};
 ghost use Rattle.query_syntax.specs.declared.query.Parsed.{Parsed};
 ghost use Rattle.run_files.specs.Outside.{Puts, seen_place, seen_sink};
-ghost use Rattle.share_replies.specs.Causes.{IsPutEnd, PutsAfter, ReadsFront, SharesEnd, stop_in_shares, stop_of_shares};
-ghost use Rattle.share_replies.specs.Ends.{AddsUpFiles, AreSumsOver, OutcomeOver, SaysFault, SaysShares, SaysSums, SumsOfFiles, names_of};
+ghost use Rattle.share_replies.specs.Causes.{EndsByFiles, IsPutEnd, LeavesSink, OpensShares, PutsAfter, ReadsShares, stop_in_shares, stop_of_shares};
+ghost use Rattle.share_replies.specs.Ends.{AddsUpFiles, AreSumsOver, OutcomeOver, SaysWrong, SaysShares, SaysSums, SumsOfFiles, given_names};
 ghost use Rattle.share_replies.specs.Refusals.{DecidesScript};
 ghost use Rattle.share_replies.specs.Shares.{Share};
 ghost use Rattle.share_replies.specs.Sums.{IsInnocentShares};
 ghost use Rattle.share_replies.specs.declared.fault.SharesFault.{SharesFault};
-ghost use Rattle.share_replies.specs.declared.fault.Why.{Why};
-ghost use Rattle.share_replies.specs.Texts.{share_why_text, wrong_line};
+ghost use Rattle.share_replies.specs.declared.fault.WrongReply.{WrongReply};
+ghost use Rattle.share_replies.specs.Texts.{wrong_reply_text, wrong_line};
 
-use crate::fault::{SharesFault, Why};
+use crate::fault::{SharesFault, WrongReply};
 use crate::files::{add_files, read_text};
 use crate::first::first_sums;
 use crate::put::{put_bytes, put_sums};
@@ -36,31 +36,31 @@ pub struct ShareNames<'a> {
 #[derive(Clone, Copy, PartialEq, Eq, Debug)]
 pub enum Outcome {
     Added,
-    Refused(Why),
+    Refused(WrongReply),
 }
 
-fn why_name(why: Why) -> &'static str
-    ensures { result.now ≡ share_why_text why }
+fn why_name(why: WrongReply) -> &'static str
+    ensures { result.now ≡ wrong_reply_text why }
 {
     match why {
-        Why::TooFew => "TooFew",
-        Why::TooMany => "TooMany",
-        Why::NotReply => "NotReply",
-        Why::OtherRows => "OtherRows",
-        Why::TooGreat => "TooGreat",
+        WrongReply::TooFew => "TooFew",
+        WrongReply::TooMany => "TooMany",
+        WrongReply::NotReply => "NotReply",
+        WrongReply::OtherRows => "OtherRows",
+        WrongReply::TooGreat => "TooGreat",
     }
 }
 
 // Appends the line that says which reply of a share is wrong.
 #[tactic(auto, unfolding(crate::specs::Texts::wrong_line))]
-fn push_wrong(text: &mut String, name: &str, line: u64, why: Why) -> Result<(), AllocError>
+fn push_wrong(text: &mut String, name: &str, line: u64, why: WrongReply) -> Result<(), AllocError>
     ensures { OnOk result (string_bytes text.new ≡ string_bytes text.old ++ wrong_line name.now line why) }
 {
     let why = why_name(why);
     write!(text, "share {name}: reply {line}: {why}\n")
 }
 
-fn wrong_line(alloc: Global, name: &str, line: u64, why: Why) -> Result<String, AllocError>
+fn wrong_line(alloc: Global, name: &str, line: u64, why: WrongReply) -> Result<String, AllocError>
     ensures { IfOk result (λ text. string_bytes text ≡ wrong_line name.now line why) }
 {
     let mut text = String::new(alloc);
@@ -73,7 +73,7 @@ fn refuse<O: Sink>(
     alloc: Global,
     name: &str,
     line: u64,
-    why: Why,
+    why: WrongReply,
     out: &mut O,
 ) -> Result<Outcome, Stop>
     ensures outcome { IfOk result (λ outcome. outcome ≡ Outcome.Refused why) }
@@ -92,17 +92,16 @@ fn refuse<O: Sink>(
 fn sums_of<P: Place>(
     alloc: Global,
     schema: &Schema,
-    script: &str,
-    replies: &[String],
+    names: &ShareNames<'_>,
     place: &mut P,
 ) -> Result<List<Option<Summed>>, SharesFault>
-    ensures law { SumsOfFiles schema.now (P.files place.old) script.now (map string_bytes replies.now) result }
-    ensures decides { DecidesScript schema.now (P.files place.old) script.now (map string_bytes replies.now) result }
-    ensures share { (k line : ℕ) (why : Why) → result ≡ Err (SharesFault.Wrong k line why) → k < length replies.now }
-    ensures stage { ReadsFront (seen_place P.files P.read_faults P.write_faults P.opened P.created) place.old place.new (script.now ∷ map string_bytes replies.now) (stop_in_shares result) }
+    ensures law { SumsOfFiles schema.now (P.files place.old) (given_names names.now) result }
+    ensures decides { DecidesScript schema.now (P.files place.old) names.now.script.now (map string_bytes names.now.replies.now) result }
+    ensures share { (k line : ℕ) (why : WrongReply) → result ≡ Err (SharesFault.Wrong k line why) → k < length names.now.replies.now }
+    ensures stage { ReadsShares (seen_place P.files P.read_faults P.write_faults P.opened P.created) place.old place.new (given_names names.now) result }
     ensures files { P.files place.new ≡ P.files place.old }
 {
-    let script = match read_text(alloc, script, place) {
+    let script = match read_text(alloc, names.script, place) {
         Ok(script) => script,
         Err(stop) => return Err(SharesFault::Stopped(stop)),
     };
@@ -112,7 +111,7 @@ fn sums_of<P: Place>(
     let Ok(first) = first_sums(alloc, schema, asked.as_slice()) else {
         return Err(SharesFault::Stopped(Stop::NoMemory));
     };
-    add_files(alloc, asked.as_slice(), first, replies, place)
+    add_files(alloc, asked.as_slice(), first, names.replies, place)
 }
 
 // Says what is wrong with a share, if a share is.
@@ -122,8 +121,8 @@ fn say_fault<O: Sink>(
     fault: SharesFault,
     out: &mut O,
 ) -> Result<Outcome, Stop>
-    requires share { (k line : ℕ) (why : Why) → fault ≡ SharesFault.Wrong k line why → k < length replies.now }
-    ensures says { IfOk result (SaysFault (seen_sink O.held O.faults O.name) out.old out.new (map string_bytes replies.now) fault) }
+    requires share { (k line : ℕ) (why : WrongReply) → fault ≡ SharesFault.Wrong k line why → k < length replies.now }
+    ensures says { IfOk result (SaysWrong (seen_sink O.held O.faults O.name) out.old out.new (map string_bytes replies.now) fault) }
     ensures puts { PutsAfter (seen_sink O.held O.faults O.name) out.old out.new (stop_of_shares fault) result }
     ensures law { (z : Schema) (s : Share) (ps : List Parsed) → IsInnocentShares fault → IfOk result (OutcomeOver z ps s (O.held out.old) (O.held out.new)) }
 {
@@ -142,7 +141,7 @@ fn put_outcome<O: Sink>(
     sums: Result<List<Option<Summed>>, SharesFault>,
     out: &mut O,
 ) -> Result<Outcome, Stop>
-    requires share { (k line : ℕ) (why : Why) → sums ≡ Err (SharesFault.Wrong k line why) → k < length replies.now }
+    requires share { (k line : ℕ) (why : WrongReply) → sums ≡ Err (SharesFault.Wrong k line why) → k < length replies.now }
     ensures says { IfOk result (SaysSums (seen_sink O.held O.faults O.name) out.old out.new (map string_bytes replies.now) sums) }
     ensures puts { PutsAfter (seen_sink O.held O.faults O.name) out.old out.new (stop_in_shares sums) result }
     ensures law { (z : Schema) (s : Share) (ps : List Parsed) → AreSumsOver z s ps sums → IfOk result (OutcomeOver z ps s (O.held out.old) (O.held out.new)) }
@@ -168,12 +167,14 @@ pub fn add_shares<P: Place, O: Sink>(
     place: &mut P,
     out: &mut O,
 ) -> Result<Outcome, Stop>
-    ensures law { let n = names.now in AddsUpFiles (P.files place.old) n.plan.now n.script.now (map string_bytes n.replies.now) (O.held out.old) (O.held out.new) result }
-    ensures shares { IfOk result (SaysShares (seen_sink O.held O.faults O.name) out.old out.new (P.files place.old) (names_of names.now)) }
-    ensures ends { let n = names_of names.now in SharesEnd (seen_place P.files P.read_faults P.write_faults P.opened P.created) (seen_sink O.held O.faults O.name) place.old place.new out.old out.new n result }
+    ensures law { AddsUpFiles (P.files place.old) (given_names names.now) (O.held out.old) (O.held out.new) result }
+    ensures shares { IfOk result (SaysShares (seen_sink O.held O.faults O.name) out.old out.new (P.files place.old) (given_names names.now)) }
+    ensures causes { EndsByFiles (P.files place.old) (given_names names.now) result }
+    ensures opens { OpensShares (seen_place P.files P.read_faults P.write_faults P.opened P.created) place.old place.new (given_names names.now) result }
+    ensures sink { LeavesSink (seen_sink O.held O.faults O.name) out.old out.new (P.files place.old) (given_names names.now) result }
     ensures files { P.files place.new ≡ P.files place.old }
 {
     let plan = load_plan(alloc, names.plan, place, out)?;
-    let sums = sums_of(alloc, &plan.schema, names.script, names.replies, place);
+    let sums = sums_of(alloc, &plan.schema, names, place);
     put_outcome(alloc, names.replies, sums, out)
 }

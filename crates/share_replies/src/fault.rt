@@ -7,7 +7,7 @@ use run_files::Stop;
 /// What is wrong with a reply of a share: there are fewer lines than replies were asked for, or more, the line is no
 /// reply, it is no reply to what was asked or has rows of other keys, or a sum with it is 2^64 or more.
 #[derive(Clone, Copy, PartialEq, Eq, Debug)]
-pub enum Why {
+pub enum WrongReply {
     TooFew,
     TooMany,
     NotReply,
@@ -19,21 +19,21 @@ pub enum Why {
 #[derive(Clone, Copy, PartialEq, Eq, Debug)]
 pub(crate) enum LineFault {
     NoMemory,
-    Wrong(Why),
+    Wrong(WrongReply),
 }
 
 /// Why the replies of a share are not added: memory ran out, or a line is wrong, by its number from 1.
 #[derive(Clone, Copy, PartialEq, Eq, Debug)]
 pub enum TextFault {
     NoMemory,
-    At(u64, Why),
+    At(u64, WrongReply),
 }
 
 /// Why the replies of a file are not added: the stage that reads it ends, or a line is wrong, by its number from 1.
 #[derive(Clone, Copy, PartialEq, Eq, Debug)]
 pub(crate) enum FileFault {
     Stopped(Stop),
-    Wrong(u64, Why),
+    Wrong(u64, WrongReply),
 }
 
 /// Why the replies of shares are not added: a stage that reads them ends, or a line of a share is wrong, by the share's
@@ -41,7 +41,7 @@ pub(crate) enum FileFault {
 #[derive(Clone, Copy, PartialEq, Eq, Debug)]
 pub(crate) enum SharesFault {
     Stopped(Stop),
-    Wrong(usize, u64, Why),
+    Wrong(usize, u64, WrongReply),
 }
 
 impl From<NoMemory> for LineFault {

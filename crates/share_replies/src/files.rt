@@ -7,10 +7,10 @@ ghost use Rattle.outer_io.specs.Told.{Told};
 ghost use Rattle.reply_sums.specs.Sums.{AsksShallow};
 ghost use Rattle.run_files.specs.Outside.{file_of, seen_place};
 ghost use Rattle.run_files.specs.declared.stop.Stop.{Stop};
-ghost use Rattle.share_replies.specs.Causes.{ReadsFiles, ReadsFront, stop_in_file, stop_in_shares, stop_of_file, stop_of_shares};
+ghost use Rattle.share_replies.specs.Causes.{ReadsFiles, ReadsReplies, stop_in_file, stop_of_file, stop_of_shares};
 ghost use Rattle.share_replies.specs.Refusals.{DecidesFile, DecidesFiles, totals_of};
 ghost use Rattle.share_replies.specs.Sums.{AddsFile, AddsFiles, IsInnocentFile, IsInnocentShares, IsInnocentText};
-ghost use Rattle.share_replies.specs.declared.fault.Why.{Why};
+ghost use Rattle.share_replies.specs.declared.fault.WrongReply.{WrongReply};
 
 use crate::fault::{FileFault, SharesFault, TextFault};
 use crate::summed::Summed;
@@ -43,7 +43,7 @@ pub(crate) fn read_text<P: Place>(
 
 fn fault_of_text(fault: TextFault) -> FileFault
     ensures innocent { IsInnocentText fault → IsInnocentFile result }
-    ensures at { (line : ℕ) (w : Why) → result ≡ FileFault.Wrong line w → fault ≡ TextFault.At line w }
+    ensures at { (line : ℕ) (w : WrongReply) → result ≡ FileFault.Wrong line w → fault ≡ TextFault.At line w }
     ensures memory { (stop : Stop) → result ≡ FileFault.Stopped stop → stop ≡ Stop.NoMemory }
 {
     match fault {
@@ -54,7 +54,7 @@ fn fault_of_text(fault: TextFault) -> FileFault
 
 fn fault_of_share(fault: FileFault, share: usize) -> SharesFault
     ensures innocent { IsInnocentFile fault → IsInnocentShares result }
-    ensures at { (k line : ℕ) (w : Why) → result ≡ SharesFault.Wrong k line w → (k ≡ share) × (fault ≡ FileFault.Wrong line w) }
+    ensures at { (k line : ℕ) (w : WrongReply) → result ≡ SharesFault.Wrong k line w → (k ≡ share) × (fault ≡ FileFault.Wrong line w) }
     ensures stop { stop_of_shares result ≡ stop_of_file fault }
 {
     match fault {
@@ -100,9 +100,9 @@ pub(crate) fn add_files<P: Place>(
     requires size { length first ≡ length asked.now }
     requires shallow { All AsksShallow asked.now }
     ensures law { (schema : Schema) → AddsFiles schema asked.now first (P.files place.old) (map string_bytes names.now) result }
-    ensures share { (k line : ℕ) (why : Why) → result ≡ Err (SharesFault.Wrong k line why) → k < length names.now }
+    ensures share { (k line : ℕ) (why : WrongReply) → result ≡ Err (SharesFault.Wrong k line why) → k < length names.now }
     ensures decides { DecidesFiles (P.files place.old) asked.now (totals_of first) (map string_bytes names.now) result }
-    ensures stage { ReadsFront (seen_place P.files P.read_faults P.write_faults P.opened P.created) place.old place.new (map string_bytes names.now) (stop_in_shares result) }
+    ensures stage { ReadsReplies (seen_place P.files P.read_faults P.write_faults P.opened P.created) place.old place.new (map string_bytes names.now) result }
     ensures files { P.files place.new ≡ P.files place.old }
 {
     let mut sums = first;

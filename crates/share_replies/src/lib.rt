@@ -23,7 +23,7 @@ mod summed;
 mod text;
 
 pub use adding::{Outcome, ShareNames, add_shares};
-pub use fault::{TextFault, Why};
+pub use fault::{TextFault, WrongReply};
 pub use first::first_sums;
 pub use put::put_sums;
 pub use summed::Summed;

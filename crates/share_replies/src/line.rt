@@ -3,17 +3,17 @@ ghost use Rattle.std.specs.Prelude.{◌≡◌, true, Err, Some, IfOk, IsTrue};
 ghost use Rattle.reply_json.specs.Validity.{is_valid_reply};
 ghost use Rattle.reply_sums.specs.Additive.{adds_up};
 ghost use Rattle.reply_sums.specs.Sums.{AsksShallow};
-ghost use Rattle.share_replies.specs.Refusals.{AddsBy, LineFails, PassesLine, ReplyFails, total_of};
+ghost use Rattle.share_replies.specs.Refusals.{AddsBy, IsLineWrong, IsLineRight, IsReplyWrong, total_of_sum};
 ghost use Rattle.share_replies.specs.Sums.{AddsLine, AddsOne, is_of_kind, kind_fits};
-ghost use Rattle.share_replies.specs.declared.fault.Why.{Why};
+ghost use Rattle.share_replies.specs.declared.fault.WrongReply.{WrongReply};
 
-use crate::fault::{LineFault, Why};
+use crate::fault::{LineFault, WrongReply};
 use crate::summed::Summed;
 use outer_io::NoMemory;
 use query_syntax::{Parsed, Verb};
 use recount::next_reply;
 use reply_json::Reply;
-use reply_sums::{SumFault, add_replies, adds_up};
+use reply_sums::{SumFault, adds_up, sum_replies};
 use std::alloc::Global;
 
 /// A sum with the reply of a line, and what follows the line.
@@ -56,13 +56,13 @@ fn sum_with(
     requires shallow { AsksShallow asked.now }
     requires valid { IsTrue (is_valid_reply sum.now) }
     ensures law { AddsOne asked.now sum.now reply.now result }
-    ensures right { IfOk result (λ next. AddsBy true asked.now (Some sum.now) reply.now (total_of next)) }
-    ensures wrong { (w : Why) → result ≡ Err (LineFault.Wrong w) → ReplyFails asked.now (Some sum.now) reply.now w }
+    ensures right { IfOk result (λ next. AddsBy true asked.now (Some sum.now) reply.now (total_of_sum next)) }
+    ensures wrong { (w : WrongReply) → result ≡ Err (LineFault.Wrong w) → IsReplyWrong asked.now (Some sum.now) reply.now w }
 {
-    match add_replies(alloc, asked, sum, reply) {
+    match sum_replies(alloc, asked, sum, reply) {
         Ok(total) => Ok(Some(Summed { reply: total })),
-        Err(SumFault::OtherRows) => Err(LineFault::Wrong(Why::OtherRows)),
-        Err(SumFault::TooMuch) => Err(LineFault::Wrong(Why::TooGreat)),
+        Err(SumFault::OtherRows) => Err(LineFault::Wrong(WrongReply::OtherRows)),
+        Err(SumFault::TooMuch) => Err(LineFault::Wrong(WrongReply::TooGreat)),
         Err(SumFault::NoMemory) => Err(LineFault::NoMemory),
     }
 }
@@ -76,24 +76,24 @@ pub(crate) fn add_next<'a>(
 ) -> Result<Added<'a>, LineFault>
     requires shallow { AsksShallow asked.now }
     ensures law { AddsLine asked.now sum.now text.now result }
-    ensures right { IfOk result (λ added. PassesLine asked.now (total_of sum.now) text.now added) }
-    ensures wrong { (w : Why) → result ≡ Err (LineFault.Wrong w) → LineFails asked.now (total_of sum.now) text.now w }
+    ensures right { IfOk result (λ added. IsLineRight asked.now (total_of_sum sum.now) text.now added) }
+    ensures wrong { (w : WrongReply) → result ≡ Err (LineFault.Wrong w) → IsLineWrong asked.now (total_of_sum sum.now) text.now w }
 {
     if text.is_empty() {
-        return Err(LineFault::Wrong(Why::TooFew));
+        return Err(LineFault::Wrong(WrongReply::TooFew));
     }
     let Some(next) = next_reply(alloc, text)? else {
-        return Err(LineFault::Wrong(Why::NotReply));
+        return Err(LineFault::Wrong(WrongReply::NotReply));
     };
     let rest = next.rest;
     if !adds_up(asked) {
         if is_of_kind(asked, &next.reply) {
             return Ok(Added { sum: None, rest });
         }
-        return Err(LineFault::Wrong(Why::OtherRows));
+        return Err(LineFault::Wrong(WrongReply::OtherRows));
     }
     let Some(sum) = sum else {
-        return Err(LineFault::Wrong(Why::OtherRows));
+        return Err(LineFault::Wrong(WrongReply::OtherRows));
     };
     let sum = sum_with(alloc, asked, &sum.reply, &next.reply)?;
     Ok(Added { sum, rest })

@@ -4,9 +4,9 @@ ghost use Rattle.cube_view.specs.declared.schema.Schema.{Schema};
 ghost use Rattle.reply_sums.specs.Sums.{AsksShallow};
 ghost use Rattle.share_replies.specs.Refusals.{IsRight, IsWrongAt, totals_of};
 ghost use Rattle.share_replies.specs.Sums.{AddsShare, IsInnocentLine, IsInnocentText};
-ghost use Rattle.share_replies.specs.declared.fault.Why.{Why};
+ghost use Rattle.share_replies.specs.declared.fault.WrongReply.{WrongReply};
 
-use crate::fault::{LineFault, TextFault, Why};
+use crate::fault::{LineFault, TextFault, WrongReply};
 use crate::line::{Added, add_next};
 use crate::summed::Summed;
 use outer_io::List;
@@ -17,7 +17,7 @@ use std::alloc::Global;
 fn fault_after(fault: LineFault, lines: usize) -> TextFault
     requires { lines < 2 ^ 63 }
     ensures innocent { IsInnocentLine fault → IsInnocentText result }
-    ensures at { (line : ℕ) (w : Why) → result ≡ TextFault.At line w → (line ≡ lines + 1) × (fault ≡ LineFault.Wrong w) }
+    ensures at { (line : ℕ) (w : WrongReply) → result ≡ TextFault.At line w → (line ≡ lines + 1) × (fault ≡ LineFault.Wrong w) }
 {
     match fault {
         LineFault::NoMemory => TextFault::NoMemory,
@@ -39,7 +39,7 @@ pub fn add_text(
     requires shallow { All AsksShallow asked.now }
     ensures law { (schema : Schema) → AddsShare schema asked.now sums.now text.now result }
     ensures right { IfOk result (λ next. IsRight asked.now (totals_of sums.now) text.now (totals_of next)) }
-    ensures wrong { (line : ℕ) (w : Why) → result ≡ Err (TextFault.At line w) → IsWrongAt asked.now (totals_of sums.now) text.now line w }
+    ensures wrong { (line : ℕ) (w : WrongReply) → result ≡ Err (TextFault.At line w) → IsWrongAt asked.now (totals_of sums.now) text.now line w }
     ensures size { IfOk result (λ next. length next ≡ length asked.now) }
 {
     let mut next = List::new(alloc);
@@ -56,6 +56,6 @@ pub fn add_text(
     if rest.is_empty() {
         Ok(next)
     } else {
-        Err(fault_after(LineFault::Wrong(Why::TooMany), asked.len()))
+        Err(fault_after(LineFault::Wrong(WrongReply::TooMany), asked.len()))
     }
 }

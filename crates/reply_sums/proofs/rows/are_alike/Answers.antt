@@ -1,6 +1,5 @@
-use Rattle.std.proofs.Common.{◌≡◌, false, ◌+◌, ◌∷◌, drop, List, sym, ◌∙◌, ap, arith, refl}
+use Rattle.std.proofs.Common.{◌+◌, drop, sym, ◌∙◌, ap, arith, refl}
 use Rattle.std.specs.Prelude.{is_some}
-use Rattle.query_syntax.specs.declared.table.RowOut.{RowOut}
 use Rattle.reply_sums.specs.Rows.{sum_row, sum_rows}
 use Rattle.reply_sums.proofs.Great.{alike_step, alike_stop}
 use Rattle.reply_sums.proofs.RowSums.{drop_at, rows_apart}

@@ -5,7 +5,7 @@ use Rattle.reply_sums.specs.declared.fault.SumFault.TheVariants as fault
 use Rattle.reply_sums.proofs.Great.{great_by}
 use Rattle.reply_sums.proofs.ReplySums.{adds_by}
 use Rattle.reply_sums.proofs.ValidSums.{valid_by}
-use Rattle.reply_sums.proofs.sums.add_replies.Goals as goal
+use Rattle.reply_sums.proofs.sums.sum_replies.Goals as goal
 
 pub returns-in-Ask-clause-law : goal.returns-in-Ask-clause-law
 returns-in-Ask-clause-law c =

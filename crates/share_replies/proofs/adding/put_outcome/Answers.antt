@@ -1,7 +1,9 @@
 use Rattle.std.proofs.Common.{List, map, IfOk, None, Ok, Option, Result, refl, sym, subst}
 use Rattle.std.specs.Prelude.{string_bytes}
-use Rattle.run_files.specs.Outside.{seen_sink}
+use Rattle.run_files.specs.Outside.{Puts, seen_sink}
 use Rattle.share_replies.specs.Ends.{AreSumsOver, SaysSums}
+use Rattle.share_replies.specs.Refusals.{totals_of}
+use Rattle.share_replies.specs.Texts.{totals_text}
 use Rattle.share_replies.specs.declared.adding.Outcome.TheVariants as outcome
 use Rattle.share_replies.specs.declared.fault.SharesFault.{SharesFault}
 use Rattle.share_replies.specs.declared.summed.Summed.{Summed}
@@ -21,7 +23,9 @@ returns-in-Err-clause-says g c =
 
 pub returns-clause-says : goal.returns-clause-says
 returns-clause-says g c =
-    subst (λ (r : Result (List (Option Summed)) SharesFault). SaysSums (seen_sink g.O.Sink.held g.O.Sink.faults g.O.Sink.name) c.args.out.now c.put_sums.new.out (map string_bytes c.args.replies.now) r outcome.Added) (sym c.in-Ok.is) refl
+    let seen = seen_sink g.O.Sink.held g.O.Sink.faults g.O.Sink.name in
+    let puts = subst (λ (sums : List (Option Summed)). Puts seen c.args.out.now c.put_sums.new.out (totals_text (totals_of sums))) c.as_slice.ensures c.in_ok-put_sums.ensures.puts in
+    subst (λ (r : Result (List (Option Summed)) SharesFault). SaysSums seen c.args.out.now c.put_sums.new.out (map string_bytes c.args.replies.now) r outcome.Added) (sym c.in-Ok.is) (refl, puts)
 
 pub returns-in-Err-clause-puts : goal.returns-in-Err-clause-puts
 returns-in-Err-clause-puts g c =

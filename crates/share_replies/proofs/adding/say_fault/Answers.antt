@@ -2,7 +2,7 @@ use Rattle.std.proofs.Common.{◌≡◌, ℕ, List, [], Err, refl, map, get_or, 
 use Rattle.std.specs.Prelude.{string_bytes}
 use Rattle.std.proofs.lemmas.List.{get_or-map}
 use Rattle.run_files.specs.Outside.{Puts, seen_sink}
-use Rattle.share_replies.specs.Ends.{SaysFault}
+use Rattle.share_replies.specs.Ends.{SaysWrong}
 use Rattle.share_replies.specs.Texts.{wrong_line}
 use Rattle.share_replies.specs.declared.adding.Outcome.TheVariants as outcome
 use Rattle.share_replies.specs.declared.fault.SharesFault.{SharesFault}
@@ -17,7 +17,7 @@ returns-in-Wrong-clause-says g c =
     let names = map string_bytes c.args.replies.now in
     let k = c.in-Wrong.share in
     let name = c.as_str.ensures.value ∙ (ap string_bytes c.index-replies-share.is ∙ sym (get_or-map string_bytes c.args.replies.now k c.index-replies-share.result [] (c.requires.share k c.in-Wrong.line c.in-Wrong.why c.in-Wrong.is))) in
-    subst (λ (f : SharesFault). IfOk c.refuse.result (SaysFault seen c.args.out.now c.refuse.new.out names f)) (sym c.in-Wrong.is)
+    subst (λ (f : SharesFault). IfOk c.refuse.result (SaysWrong seen c.args.out.now c.refuse.new.out names f)) (sym c.in-Wrong.is)
     (both_of c.refuse.result (λ o. o ≡ outcome.Refused c.in-Wrong.why) (λ o. Puts seen c.args.out.now c.refuse.new.out (wrong_line (get_or names k []) c.in-Wrong.line c.in-Wrong.why)) c.refuse.ensures.outcome
     (subst (λ (n : List ℕ). IfOk c.refuse.result (λ o. Puts seen c.args.out.now c.refuse.new.out (wrong_line n c.in-Wrong.line c.in-Wrong.why))) name c.refuse.ensures.puts))
 

@@ -1,8 +1,12 @@
-use Rattle.std.proofs.Common.{List, sym, ◌∙◌, subst, take, take_all, arith}
+use Rattle.std.proofs.Common.{List, Option, sym, ◌∙◌, subst, take, take_all, arith}
 use Rattle.query_syntax.specs.declared.query.Parsed.{Parsed}
+use Rattle.run_files.specs.Outside.{Puts, seen_sink}
+use Rattle.share_replies.specs.Refusals.{totals_of}
+use Rattle.share_replies.specs.declared.summed.Summed.{Summed}
 use Rattle.share_replies.specs.Sums.{IsSumOver}
-use Rattle.share_replies.specs.Texts.{PutsSums}
-use Rattle.share_replies.proofs.PutSums.{puts_more, sum_at, sums_length}
+use Rattle.share_replies.specs.Texts.{PutsSums, totals_text}
+use Rattle.share_replies.proofs.PutSums.{puts_more, sum_at, sums_length, totals_more}
+use Rattle.share_replies.proofs.TextSums.{take_at_item}
 use Rattle.share_replies.proofs.put.put_sums.Goals as goal
 
 pub loop-i-preserved : goal.loop-i-preserved
@@ -16,9 +20,16 @@ loop-i-preserved g c = record {
       subst (λ (qs : List Parsed). PutsSums schema s qs a d) (sym at.front)
       (puts_more schema s (take c.loop-i.i ps) at.asked a b d (c.loop-i.invariant.law schema s ps all) (c.in_ok-put_sum.ensures.law schema s at.asked here));
   quiet = c.in_ok-put_sum.ensures.cause.quiet (λ e. cc) ∙ c.loop-i.invariant.quiet;
+  puts =
+      totals_more (seen_sink g.O.Sink.held g.O.Sink.faults g.O.Sink.name) c.args.out.now c.loop-i.out c.put_sum.new.out c.args.sums.now c.loop-i.i c.index-sums-i.result (take_at_item c.args.sums.now c.loop-i.i c.index-sums-i.result c.index-sums-i.is (omega arith))
+      c.loop-i.invariant.puts c.in_ok-put_sum.ensures.puts;
 }
 
 pub returns-clause-law : goal.returns-clause-law
 returns-clause-law g c schema s ps all =
     let same = sums_length schema s ps c.args.sums.now all in
     subst (λ (qs : List Parsed). PutsSums schema s qs (g.O.Sink.held c.args.out.now) (g.O.Sink.held c.loop-i.out)) (take_all c.loop-i.i ps (omega (arith, same))) (c.loop-i.invariant.law schema s ps all)
+
+pub returns-clause-puts : goal.returns-clause-puts
+returns-clause-puts g c =
+    subst (λ (sums : List (Option Summed)). Puts (seen_sink g.O.Sink.held g.O.Sink.faults g.O.Sink.name) c.args.out.now c.loop-i.out (totals_text (totals_of sums))) (take_all c.loop-i.i c.args.sums.now (omega arith)) c.loop-i.invariant.puts

@@ -4,7 +4,7 @@ use Rattle.std.proofs.lemmas.Bool.{false≢true}
 use Rattle.std.proofs.lemmas.List.{drop_all, length-take-le, map-append, take_all}
 use Rattle.reply_sums.proofs.RowSums.{drop_at}
 use Rattle.reply_json.specs.declared.reply.Reply.{Reply}
-use Rattle.share_replies.specs.Refusals.{total_of, totals_of}
+use Rattle.share_replies.specs.Refusals.{total_of_sum, totals_of}
 use Rattle.share_replies.specs.declared.summed.Summed.{Summed}
 use Rattle.share_replies.proofs.LineSums.{no_items, some_items}
 use Rattle.share_replies.proofs.Refusing.{HasRead, at_line, line_of, nothing_left, read_all, read_more, read_none, read_wrong, totals_at}
@@ -47,8 +47,8 @@ loop-i-preserved c = record {
       let second = drop_at sums i c.index-sums-i.result c.index-sums-i.is (omega (arith, c.requires.size)) in
       let front = take_at_item asked i c.index-asked-i.result c.index-asked-i.is (omega arith) in
       subst (λ (next : List (Option Summed)). HasRead asked (totals_of sums) c.args.text.now (i + 1) (totals_of next) added.rest.now) (sym c.in_ok-add-in-Ok.ensures.added)
-      (subst (λ (nexts : List (Option Reply)). HasRead asked (totals_of sums) c.args.text.now (i + 1) nexts added.rest.now) (sym (map-append total_of c.loop-i.next (added.sum ∷ [])))
-      (read_more asked (totals_of sums) c.args.text.now i (totals_of c.loop-i.next) c.loop-i.rest.now c.loop-i.invariant.read c.index-asked-i.result (total_of c.index-sums-i.result) passes.0 (total_of added.sum) added.rest.now
+      (subst (λ (nexts : List (Option Reply)). HasRead asked (totals_of sums) c.args.text.now (i + 1) nexts added.rest.now) (sym (map-append total_of_sum c.loop-i.next (added.sum ∷ [])))
+      (read_more asked (totals_of sums) c.args.text.now i (totals_of c.loop-i.next) c.loop-i.rest.now c.loop-i.invariant.read c.index-asked-i.result (total_of_sum c.index-sums-i.result) passes.0 (total_of_sum added.sum) added.rest.now
       front (length-take-le i asked (omega arith)) (totals_at sums i c.index-sums-i.result second) passes.1 passes.2 passes.3));
   size = omega (arith, ap length c.in_ok-add-in-Ok.ensures.added, length-append c.loop-i.next (c.in-Ok.field-0.sum ∷ []), c.loop-i.invariant.size);
 }
@@ -75,7 +75,7 @@ returns-in-Err-clause-wrong c number w e =
     let first = drop_at asked i c.index-asked-i.result c.index-asked-i.is (omega arith) in
     let second = totals_at sums i c.index-sums-i.result (drop_at sums i c.index-sums-i.result c.index-sums-i.is (omega (arith, c.requires.size))) in
     read_wrong asked (totals_of sums) c.args.text.now i (totals_of c.loop-i.next) c.loop-i.rest.now c.loop-i.invariant.read number w at.0
-    (line_of (drop i asked) (drop i (totals_of sums)) c.index-asked-i.result (drop (i + 1) asked) (total_of c.index-sums-i.result) (drop (i + 1) (totals_of sums)) c.loop-i.rest.now w first second (c.in-Err.ensures.wrong w (ap (λ f. Err f) at.1)))
+    (line_of (drop i asked) (drop i (totals_of sums)) c.index-asked-i.result (drop (i + 1) asked) (total_of_sum c.index-sums-i.result) (drop (i + 1) (totals_of sums)) c.loop-i.rest.now w first second (c.in-Err.ensures.wrong w (ap (λ f. Err f) at.1)))
 
 pub returns-else-is_empty-clause-wrong : goal.returns-else-is_empty-clause-wrong
 returns-else-is_empty-clause-wrong c number w e =
