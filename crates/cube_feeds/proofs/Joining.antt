@@ -1,12 +1,13 @@
 -- Feeds of which the first were read, and how the reading of all ends.
 use Rattle.std.proofs.Common.{◌≡◌, ℕ, ◌+◌, ◌*◌, ◌≤◌, ◌<◌, List, [], ◌∷◌, ◌++◌, All, length, map, take, drop, get_or, set, Option, Result, Err, IsErrOf, refl, sym, ◌∙◌, ap, subst, arith, add-zero}
 use Rattle.std.specs.List.{AllZip, flat_map}
-use Rattle.std.proofs.lemmas.List.{drop-drop, drop-set-lt, flat_map_more, get_or-drop, get_or_default, length-set, map_push, take_more}
+use Rattle.std.proofs.lemmas.List.{drop-drop, drop-set-lt, flat_map_more, get_or-drop, get_or_default, length-set, map_push, take_all, take_more}
 use Rattle.std.proofs.lemmas.List.Elements.{All-set, All-weaker}
 use Rattle.std.proofs.lemmas.List.Quantifiers.{any-set}
 use Rattle.std.proofs.lemmas.Slice.Zip.{all_zipped_more}
 use Rattle.cube_store.specs.Holding.{CubeCounts}
 use Rattle.cube_store.specs.declared.cube.Cube.{Cube}
+use Rattle.cube_view.specs.Points.{Point}
 use Rattle.cube_view.specs.declared.schema.Schema.{Schema}
 use Rattle.feed_reader.specs.Feeds.{points_in}
 use Rattle.feed_reader.specs.declared.row.Row.{Row}
@@ -19,7 +20,10 @@ use Rattle.outer_io.specs.declared.cutter.CutFault.TheVariants as fault
 use Rattle.run_files.specs.declared.feeds.HeadedFeed.{HeadedFeed}
 use Rattle.run_report.specs.declared.counts.FeedCounts.{FeedCounts}
 use Rattle.cube_feeds.specs.Counting.{JoinsFeed}
-use Rattle.cube_feeds.specs.Taking.{AreQuiet, EndsBy, HasRows, IsUnread, counts_at_end}
+use Rattle.cube_feeds.specs.Grouping.{GroupsCount, grouped_size}
+use Rattle.cube_feeds.specs.Taking.{AreQuiet, EndsBy, HasRows, IsUnread, TakesAll, counts_at_end}
+use Rattle.cube_feeds.specs.declared.grouped_cube.GroupedCube.{GroupedCube}
+use Rattle.cube_feeds.proofs.Groups.{counted_size}
 
 -- lists that are the same from a place on are the same from the next on
 drop_next : {X : Type 0} (n : ℕ) (xs ys : List X) → drop n xs ≡ drop n ys → drop (n + 1) xs ≡ drop (n + 1) ys
@@ -33,24 +37,24 @@ same_at n xs ys d e =
 
 module _ {S : Type 0} (left : S → Option (List ℕ)) (faults : S → ℕ) (schema : Schema) (before : List (HeadedFeed (Cutter S))) where
   -- the first so many of the feeds were read into the cube
-  pub record HasTaken (n : ℕ) (now : List (HeadedFeed (Cutter S))) (cube : Cube) (counts : List FeedCounts) : Type 0 where
+  pub record HasTaken (n : ℕ) (now : List (HeadedFeed (Cutter S))) (grouped : GroupedCube) (counts : List FeedCounts) : Type 0 where
     pub rows : List (List Row)
     pub read : AllZip (HasRows left faults) (take n before) rows
-    pub schema_is : cube.schema ≡ schema
-    pub points : CubeCounts cube (flat_map points_in rows)
+    pub schema_is : grouped.cube.schema ≡ schema
+    pub points : GroupsCount grouped (flat_map points_in rows)
     pub counts_are : counts ≡ map counts_at_end rows
     pub quiet : AreQuiet left faults now
     pub rest : drop n now ≡ drop n before
     pub whole : length now ≡ length before
-    pub few : cube.size ≤ n * input_limit
+    pub few : grouped_size grouped ≤ n * input_limit
 
   -- feeds of which the header alone was read are quiet
   pub all_quiet : All (IsUnread left faults schema) before → AreQuiet left faults before
   all_quiet unread = All-weaker (IsUnread left faults schema) (λ (feed : HeadedFeed (Cutter S)). faults feed.cutter.source ≡ 0) (λ feed is. is.quiet) before unread
 
   -- before the first feed
-  pub begins : (cube : Cube) (counts : List FeedCounts) → cube.schema ≡ schema → CubeCounts cube [] → counts ≡ [] → All (IsUnread left faults schema) before → HasTaken 0 before cube counts
-  begins cube counts schema_is empty none unread = record {
+  pub begins : (grouped : GroupedCube) (counts : List FeedCounts) → grouped.cube.schema ≡ schema → GroupsCount grouped [] → counts ≡ [] → All (IsUnread left faults schema) before → HasTaken 0 before grouped counts
+  begins grouped counts schema_is empty none unread = record {
     rows = [];
     read = tt;
     schema_is = schema_is;
@@ -59,10 +63,22 @@ module _ {S : Type 0} (left : S → Option (List ℕ)) (faults : S → ℕ) (sch
     quiet = All-weaker (IsUnread left faults schema) (λ (feed : HeadedFeed (Cutter S)). faults feed.cutter.source ≡ 0) (λ feed is. is.quiet) before unread;
     rest = refl;
     whole = refl;
-    few = omega (arith, empty.number);
+    few = let none = counted_size grouped [] empty in omega (arith, none);
   }
 
-  module _ (n : ℕ) (now : List (HeadedFeed (Cutter S))) (cube : Cube) (counts : List FeedCounts) (on : HasTaken n now cube counts) (d : HeadedFeed (Cutter S)) (lt : n < length before) where
+  -- all feeds were read, and the points that were gathered last are inserted
+  pub all_taken : (now : List (HeadedFeed (Cutter S))) (n : ℕ) (grouped : GroupedCube) (counts : List FeedCounts) (cube : Cube) → n ≡ length before → HasTaken n now grouped counts → cube.schema ≡ grouped.cube.schema
+      → ((h : List Point) → GroupsCount grouped h → CubeCounts cube h) → TakesAll left faults schema before now cube counts
+  all_taken now n grouped counts cube all on same counted = record {
+    rows = on.rows;
+    read = subst (λ (feeds : List (HeadedFeed (Cutter S))). AllZip (HasRows left faults) feeds on.rows) (take_all n before (omega (arith, all))) on.read;
+    schema_is = same ∙ on.schema_is;
+    points = counted (flat_map points_in on.rows) on.points;
+    counts_are = on.counts_are;
+    quiet = on.quiet;
+  }
+
+  module _ (n : ℕ) (now : List (HeadedFeed (Cutter S))) (grouped : GroupedCube) (counts : List FeedCounts) (on : HasTaken n now grouped counts) (d : HeadedFeed (Cutter S)) (lt : n < length before) where
     next_is : get_or now n d ≡ get_or before n d
     next_is = same_at n now before d on.rest
 
@@ -76,15 +92,15 @@ module _ {S : Type 0} (left : S → Option (List ℕ)) (faults : S → ℕ) (sch
       quiet_on quiet = All-set (λ (feed : HeadedFeed (Cutter S)). faults feed.cutter.source ≡ 0) now n after quiet on.quiet
 
       -- a feed more is read
-      pub one_more : (cube' : Cube) (of_feed : FeedCounts) (counts' : List FeedCounts) → JoinsFeed left faults (get_or now n d) cube cube' of_feed → cube'.schema ≡ cube.schema → cube'.size ≤ cube.size + input_limit
-          → faults after.cutter.source ≡ 0 → counts' ≡ counts ++ of_feed ∷ [] → HasTaken (n + 1) (set now n after) cube' counts'
-      one_more cube' of_feed counts' taken schema_is size quiet counted =
+      pub one_more : (grouped' : GroupedCube) (of_feed : FeedCounts) (counts' : List FeedCounts) → JoinsFeed left faults (get_or now n d) grouped grouped' of_feed → grouped'.cube.schema ≡ grouped.cube.schema → grouped_size grouped' ≤ grouped_size grouped + input_limit
+          → faults after.cutter.source ≡ 0 → counts' ≡ counts ++ of_feed ∷ [] → HasTaken (n + 1) (set now n after) grouped' counts'
+      one_more grouped' of_feed counts' taken schema_is size quiet counted =
           let more : take (n + 1) before ≡ take n before ++ get_or now n d ∷ [] = take_more before n d lt ∙ ap (λ feed. take n before ++ feed ∷ []) (sym next_is) in
           record {
             rows = on.rows ++ taken.rows ∷ [];
             read = subst (λ (feeds : List (HeadedFeed (Cutter S))). AllZip (HasRows left faults) feeds (on.rows ++ taken.rows ∷ [])) (sym more) (all_zipped_more (HasRows left faults) (take n before) on.rows (get_or now n d) taken.rows on.read taken.read);
             schema_is = schema_is ∙ on.schema_is;
-            points = subst (λ points. CubeCounts cube' points) (flat_map_more points_in [] on.rows taken.rows) (taken.points (flat_map points_in on.rows) on.points);
+            points = subst (λ points. GroupsCount grouped' points) (flat_map_more points_in [] on.rows taken.rows) (taken.points (flat_map points_in on.rows) on.points);
             counts_are = counted ∙ ap (λ cs. cs ++ of_feed ∷ []) on.counts_are ∙ ap (λ c. map counts_at_end on.rows ++ c ∷ []) taken.counts_are ∙ sym (map_push counts_at_end on.rows taken.rows);
             quiet = quiet_on quiet;
             rest = drop-set-lt (n + 1) now n after (omega arith) ∙ drop_next n now before on.rest;

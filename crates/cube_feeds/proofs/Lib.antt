@@ -1,3 +1,4 @@
+mod Groups
 mod Tallies
 mod Reading
 mod Joining

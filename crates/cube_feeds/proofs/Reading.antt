@@ -1,11 +1,6 @@
--- A feed on the way through its cutter's lines, and the cube that takes its points.
+-- A feed on the way through its cutter's lines, and the cube that takes its points in groups.
 use Rattle.std.proofs.Common.{◌≡◌, ℕ, ◌+◌, ◌≤◌, ◌<◌, ◌^◌, List, [], ◌∷◌, ◌++◌, length, map, Option, refl, sym, ◌∙◌, ap, subst, arith, append-nil, append_assoc, Result, Err, IsErrOf}
-use Rattle.std.proofs.Math.Logic.{∥∥₁_elim}
 use Rattle.std.proofs.lemmas.List.{length-map, length_push, map_push}
-use Rattle.std.specs.Coded.{le_prop}
-use Rattle.cube_store.specs.Holding.{CubeCounts}
-use Rattle.cube_store.specs.declared.cube.Cube.{Cube}
-use Rattle.cube_view.specs.Points.{Point}
 use Rattle.cube_view.specs.declared.schema.Schema.{Schema}
 use Rattle.feed_reader.proofs.FeedLaws.{points_in-append}
 use Rattle.feed_reader.specs.Feeds.{points_in}
@@ -23,8 +18,11 @@ use Rattle.outer_io.specs.declared.cutter.CutFault.{CutFault}
 use Rattle.outer_io.specs.declared.cutter.CutFault.TheVariants as fault
 use Rattle.run_files.specs.declared.feeds.HeadedFeed.{HeadedFeed}
 use Rattle.run_report.specs.declared.counts.FeedCounts.{FeedCounts}
-use Rattle.cube_feeds.specs.Counting.{CubeTakes, JoinsFeed, tally_counts, having_counted, tally_of}
+use Rattle.cube_feeds.specs.Counting.{JoinsFeed, tally_counts, having_counted, tally_of}
+use Rattle.cube_feeds.specs.Grouping.{GroupsCount, GroupsTake, grouped_size}
+use Rattle.cube_feeds.specs.declared.grouped_cube.GroupedCube.{GroupedCube}
 use Rattle.cube_feeds.specs.declared.tally.Tally.{Tally}
+use Rattle.cube_feeds.proofs.Groups.{takes_none}
 use Rattle.cube_feeds.proofs.Tallies.{few_counted, tally_more}
 
 -- a call behind one that met no fault of a source, which meets none itself
@@ -38,37 +36,27 @@ same_cause first now after r s f same is also cause = record {
   quiet = λ other. cause.quiet (λ read. let e : f ≡ fault.Read = cc in other (also ∙ ap (λ x. Err x) e)) ∙ same;
 }
 
--- a cube takes no points by staying as it is
-pub takes_none : (cube : Cube) → CubeTakes cube cube []
-takes_none cube h counts = subst (λ points. CubeCounts cube points) (sym (append-nil h)) counts
-
 -- the points of some rows, and then that of one row more
-takes_on : (a b c : Cube) (rows : List Row) (row : Row) → CubeTakes a b (points_in rows) → CubeTakes b c (points_in (row ∷ [])) → CubeTakes a c (points_in (rows ++ row ∷ []))
+takes_on : (a b c : GroupedCube) (rows : List Row) (row : Row) → GroupsTake a b (points_in rows) → GroupsTake b c (points_in (row ∷ [])) → GroupsTake a c (points_in (rows ++ row ∷ []))
 takes_on a b c rows row p q h counts =
-    subst (λ points. CubeCounts c points) (append_assoc h (points_in rows) (points_in (row ∷ [])) ∙ ap (λ points. h ++ points) (sym (points_in-append rows (row ∷ [])))) (q (h ++ points_in rows) (p h counts))
+    subst (λ points. GroupsCount c points) (append_assoc h (points_in rows) (points_in (row ∷ [])) ∙ ap (λ points. h ++ points) (sym (points_in-append rows (row ∷ [])))) (q (h ++ points_in rows) (p h counts))
 
--- a cube that takes a point is of one more
-pub one_larger : (a b : Cube) (p : Point) → CubeTakes a b (p ∷ []) → b.size ≤ a.size + 1
-one_larger a b p takes = ∥∥₁_elim a.counted le_prop (λ s.
-    let after = takes s.0 s.1 in
-    omega (arith, after.number, s.1.number, length_push s.0 p))
-
-module _ {S : Type 0} (left : S → Option (List ℕ)) (faults : S → ℕ) (start : HeadedFeed (Cutter S)) (before : Cube) where
+module _ {S : Type 0} (left : S → Option (List ℕ)) (faults : S → ℕ) (start : HeadedFeed (Cutter S)) (before : GroupedCube) where
   -- what a line's row is
   abbrev pub row_at : Line → Row
   row_at line = row_of_line start.header.schema start.header.places line
 
   -- the rows of some lines of a feed that was as at first were taken, and it goes on
-  pub record GoesOn (feed : HeadedFeed (Cutter S)) (cube : Cube) (tally : Tally) : Type 0 where
+  pub record GoesOn (feed : HeadedFeed (Cutter S)) (grouped : GroupedCube) (tally : Tally) : Type 0 where
     pub lines : List Line
     pub passed : Passes left faults start.cutter feed.cutter lines
     pub going : IsGoing feed.cutter
     pub given : feed.cutter.given ≡ 1 + length lines
     pub few : feed.cutter.given ≤ input_limit
     pub header : feed.header ≡ start.header
-    pub points : CubeTakes before cube (points_in (map row_at lines))
-    pub schema : cube.schema ≡ before.schema
-    pub size : cube.size ≤ before.size + length lines
+    pub points : GroupsTake before grouped (points_in (map row_at lines))
+    pub schema : grouped.cube.schema ≡ before.cube.schema
+    pub size : grouped_size grouped ≤ grouped_size before + length lines
     pub counted : tally ≡ tally_of (map row_at lines)
 
   -- before the first row
@@ -86,21 +74,21 @@ module _ {S : Type 0} (left : S → Option (List ℕ)) (faults : S → ℕ) (sta
     counted = counted;
   }
 
-  module _ (feed : HeadedFeed (Cutter S)) (cube : Cube) (tally : Tally) (on : GoesOn feed cube tally) where
+  module _ (feed : HeadedFeed (Cutter S)) (grouped : GroupedCube) (tally : Tally) (on : GoesOn feed grouped tally) where
     rows_few : length (map row_at on.lines) < input_limit
     rows_few = omega (arith, on.given, on.few, length-map on.lines row_at)
 
     -- the counts and the cube have room for one row more
-    pub has_room : (tally.accepted < 2 ^ 32) × (tally.blank < 2 ^ 32) × (tally.refused < 2 ^ 32) × (cube.size < before.size + input_limit)
+    pub has_room : (tally.accepted < 2 ^ 32) × (tally.blank < 2 ^ 32) × (tally.refused < 2 ^ 32) × (grouped_size grouped < grouped_size before + input_limit)
     has_room =
         let few = few_counted (map row_at on.lines) tally on.counted in
         let rows = rows_few in
         (omega (arith, few.0, rows), omega (arith, few.1, rows), omega (arith, few.2, rows), omega (arith, on.given, on.few, on.size))
 
     -- a row more is read and taken
-    pub takes_row : (after : HeadedFeed (Cutter S)) (cube' : Cube) (tally' : Tally) (found : Row × ℕ) (schema : Schema) → schema ≡ start.header.schema → ReadsRow left faults schema feed.header.places feed.cutter after.cutter found → after.header ≡ feed.header
-        → tally' ≡ having_counted tally found.1 found.0 → CubeTakes cube cube' (points_in (found.0 ∷ [])) → cube'.schema ≡ cube.schema → cube'.size ≤ cube.size + 1 → GoesOn after cube' tally'
-    takes_row after cube' tally' found schema same reads header counted points schema_is size =
+    pub takes_row : (after : HeadedFeed (Cutter S)) (grouped' : GroupedCube) (tally' : Tally) (found : Row × ℕ) (schema : Schema) → schema ≡ start.header.schema → ReadsRow left faults schema feed.header.places feed.cutter after.cutter found → after.header ≡ feed.header
+        → tally' ≡ having_counted tally found.1 found.0 → GroupsTake grouped grouped' (points_in (found.0 ∷ [])) → grouped'.cube.schema ≡ grouped.cube.schema → grouped_size grouped' ≤ grouped_size grouped + 1 → GoesOn after grouped' tally'
+    takes_row after grouped' tally' found schema same reads header counted points schema_is size =
         let line = reads.0 in
         let gives = reads.1 in
         let rows = map row_at on.lines in
@@ -116,14 +104,14 @@ module _ {S : Type 0} (left : S → Option (List ℕ)) (faults : S → ℕ) (sta
           given = omega (arith, gives.given, gives.counts, on.given, more);
           few = omega (arith, gives.given, gives.small);
           header = header ∙ on.header;
-          points = subst (λ rs. CubeTakes before cube' (points_in rs)) rows_are (takes_on before cube cube' rows found.0 on.points points);
+          points = subst (λ rs. GroupsTake before grouped' (points_in rs)) rows_are (takes_on before grouped grouped' rows found.0 on.points points);
           schema = schema_is ∙ on.schema;
           size = omega (arith, on.size, size, more);
           counted = counted ∙ ap (λ t. having_counted t found.1 found.0) on.counted ∙ tally_more rows found.1 found.0 number ∙ ap tally_of rows_are;
         }
 
     -- it comes to the end of its cutter
-    pub at_end : (cutter : Cutter S) (counts : FeedCounts) → IsEnd left faults feed.cutter cutter → counts ≡ tally_counts tally → JoinsFeed left faults start before cube counts
+    pub at_end : (cutter : Cutter S) (counts : FeedCounts) → IsEnd left faults feed.cutter cutter → counts ≡ tally_counts tally → JoinsFeed left faults start before grouped counts
     at_end cutter counts end is =
         let all : PassesAll left faults start.cutter cutter on.lines = subst (λ ls. PassesAll left faults start.cutter cutter ls) (append-nil on.lines) (passes_all left faults start.cutter feed.cutter cutter on.lines [] on.passed end.passed) in
         record {

@@ -1,8 +1,5 @@
--- What is counted row by row, and what one feed adds to a cube.
-use Rattle.std.specs.Prelude.{◌≡◌, ℕ, ◌+◌, List, ◌++◌, Option, None}
-use Rattle.cube_store.specs.Holding.{CubeCounts}
-use Rattle.cube_store.specs.declared.cube.Cube.{Cube}
-use Rattle.cube_view.specs.Points.{Point}
+-- What is counted row by row, and what one feed adds to a cube and its gathered points.
+use Rattle.std.specs.Prelude.{◌≡◌, ℕ, ◌+◌, List, Option, None}
 use Rattle.crew_feeder.specs.RowCounts.{count_accepted, count_blank, count_refused, first_refusals}
 use Rattle.crew_feeder.specs.Taking.{having_kept}
 use Rattle.feed_reader.specs.Feeds.{points_in}
@@ -11,7 +8,9 @@ use Rattle.feed_reader.specs.declared.row.Row.TheVariants as row
 use Rattle.outer_io.specs.Cutting.{Cutter}
 use Rattle.run_files.specs.declared.feeds.HeadedFeed.{HeadedFeed}
 use Rattle.run_report.specs.declared.counts.FeedCounts.{FeedCounts}
+use Rattle.cube_feeds.specs.Grouping.{GroupsTake}
 use Rattle.cube_feeds.specs.Taking.{HasRows, counts_at_end}
+use Rattle.cube_feeds.specs.declared.grouped_cube.GroupedCube.{GroupedCube}
 use Rattle.cube_feeds.specs.declared.tally.Tally.{Tally}
 
 -- the tally of these rows, the first of which is that of line 2
@@ -28,15 +27,11 @@ having_counted tally line (row.Refused f) = record tally { refused = tally.refus
 abbrev pub tally_counts : Tally → FeedCounts
 tally_counts tally = record { accepted = tally.accepted; blank = tally.blank; refused = tally.refused; first = tally.first; fault = None }
 
--- the second cube counts the points that the first counts, and these behind them
-abbrev pub CubeTakes : Cube → Cube → List Point → Type 0
-CubeTakes before after points = (h : List Point) → CubeCounts before h → CubeCounts after (h ++ points)
-
--- A feed was read to its end: the cube took the points among its rows, and this is what is counted of them
-pub record JoinsFeed {S : Type 0} (left : S → Option (List ℕ)) (faults : S → ℕ) (feed : HeadedFeed (Cutter S)) (before after : Cube) (counts : FeedCounts) : Type 0 where
+-- A feed was read to its end: the points among its rows were taken, and this is what is counted of them
+pub record JoinsFeed {S : Type 0} (left : S → Option (List ℕ)) (faults : S → ℕ) (feed : HeadedFeed (Cutter S)) (before after : GroupedCube) (counts : FeedCounts) : Type 0 where
   -- the rows of the feed
   pub rows : List Row
   pub read : HasRows left faults feed rows
-  -- the cube counts the points among them
-  pub points : CubeTakes before after (points_in rows)
+  -- the points among them are counted behind those of before
+  pub points : GroupsTake before after (points_in rows)
   pub counts_are : counts ≡ counts_at_end rows

@@ -13,9 +13,8 @@
 //! ```
 #![tactic(auto)]
 
+mod grouped_cube;
 mod taking;
 mod tally;
-#[cfg(test)]
-mod tests;
 
 pub use taking::cube_of_feeds;

@@ -1,12 +1,13 @@
 //! The counts of a feed while it is read.
 ghost use Rattle.std.specs.Prelude.{◌≡◌, ◌+◌, ◌^◌, ◌<◌, ◌≤◌, [], ◌∷◌, IfOk, OnOk};
-ghost use Rattle.cube_feeds.specs.Counting.{CubeTakes, tally_counts, having_counted, tally_of};
+ghost use Rattle.cube_feeds.specs.Counting.{having_counted, tally_counts, tally_of};
+ghost use Rattle.cube_feeds.specs.Grouping.{GroupsTake, grouped_size};
 ghost use Rattle.cube_view.specs.Bag.{most_points};
 ghost use Rattle.feed_reader.specs.Feeds.{points_in};
 ghost use Rattle.feed_reader.specs.Rows.{IsValidRow};
 
+use crate::grouped_cube::GroupedCube;
 use crew_feeder::{FirstRefusals, Refusal};
-use cube_store::Cube;
 use feed_reader::Row;
 use outer_io::NoMemory;
 use run_report::FeedCounts;
@@ -55,25 +56,25 @@ impl Tally {
     }
 }
 
-/// Inserts the row's point into the cube, if it is one, and counts the row, whose line has that number.
+/// Takes the row's point behind the others, if it is one, and counts the row, whose line has that number.
 pub(crate) fn take_row(
-    cube: &mut Cube,
+    grouped: &mut GroupedCube,
     tally: &mut Tally,
     row: Row,
     line: u64,
 ) -> Result<(), NoMemory>
-    requires valid { IsValidRow cube.old.schema row }
-    requires room { cube.old.size < most_points }
+    requires valid { IsValidRow grouped.old.cube.schema row }
+    requires room { grouped_size grouped.old < most_points }
     requires few { (tally.old.accepted < 2 ^ 32) × (tally.old.blank < 2 ^ 32) × (tally.old.refused < 2 ^ 32) }
     ensures counted { OnOk result (tally.new ≡ having_counted tally.old line row) }
-    ensures points { OnOk result (CubeTakes cube.old cube.new (points_in (row ∷ []))) }
-    ensures schema { cube.new.schema ≡ cube.old.schema }
-    ensures size { OnOk result (cube.new.size ≤ cube.old.size + 1) }
+    ensures points { OnOk result (GroupsTake grouped.old grouped.new (points_in (row ∷ []))) }
+    ensures schema { grouped.new.cube.schema ≡ grouped.old.cube.schema }
+    ensures size { OnOk result (grouped_size grouped.new ≤ grouped_size grouped.old + 1) }
 {
     match row {
         Row::Blank => tally.blank += 1,
         Row::Point(point) => {
-            cube.insert(point)?;
+            grouped.take(point)?;
             tally.accepted += 1;
         }
         Row::Refused(fault) => {

@@ -2,4 +2,4 @@ use Rattle.cube_feeds.proofs.Joining.{HasTaken}
 use Rattle.cube_feeds.proofs.taking.cube_of_feeds.Given as goal
 
 abbrev pub invariant-loop-feed : goal.invariant-loop-feed
-invariant-loop-feed g l = HasTaken g.S.Source.left g.S.Source.faults l.schema l.initial.feeds l.feed-index l.feeds l.cube l.counts
+invariant-loop-feed g l = HasTaken g.S.Source.left g.S.Source.faults l.schema l.initial.feeds l.feed-index l.feeds l.grouped l.counts

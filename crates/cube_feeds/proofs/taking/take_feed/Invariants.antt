@@ -4,7 +4,7 @@ use Rattle.cube_feeds.proofs.Reading.{GoesOn}
 use Rattle.cube_feeds.proofs.taking.take_feed.Given as goal
 
 abbrev pub invariant-loop-tally : goal.invariant-loop-tally
-invariant-loop-tally g l = GoesOn g.S.Source.left g.S.Source.faults l.initial.feed l.initial.cube l.feed l.cube l.tally
+invariant-loop-tally g l = GoesOn g.S.Source.left g.S.Source.faults l.initial.feed l.initial.grouped l.feed l.grouped l.tally
 
 abbrev pub decreases-loop-tally : goal.decreases-loop-tally
 decreases-loop-tally g l = input_limit - l.feed.cutter.given

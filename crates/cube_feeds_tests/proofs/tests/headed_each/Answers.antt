@@ -4,7 +4,7 @@ use Rattle.outer_io.specs.Cutting.{Cutter}
 use Rattle.outer_io.specs.Memory.{MemInput}
 use Rattle.run_files.specs.declared.feeds.HeadedFeed.{HeadedFeed}
 use Rattle.cube_feeds.specs.Taking.{IsUnread}
-use Rattle.cube_feeds.proofs.tests.headed_each.Goals as goal
+use Rattle.cube_feeds_tests.proofs.tests.headed_each.Goals as goal
 
 pub loop-feed-preserved : goal.loop-feed-preserved
 loop-feed-preserved g c =
