@@ -1,5 +1,5 @@
 -- How a load ends, by how its stages ended.
-use Rattle.std.proofs.Common.{◌≡◌, ◌≢◌, ◌⊎◌, ℕ, suc, ◌+◌, ◌<◌, ◌≤◌, ◌^◌, true, false, List, [], ◌∷◌, ◌++◌, length, take, Option, Some, None, Result, Ok, Err, inl, inr, refl, sym, ◌∙◌, ap, subst, arith, append_assoc}
+use Rattle.std.proofs.Common.{◌≡◌, ◌≢◌, ◌⊎◌, ℕ, suc, ◌+◌, ◌<◌, ◌≤◌, ◌^◌, true, false, List, [], ◌∷◌, ◌++◌, length, take, Option, Some, None, Result, Ok, Err, inl, inr, refl, sym, ◌∙◌, ap, subst, arith, append_assoc, length-append}
 use Rattle.std.proofs.lemmas.Bool.{cases_lt}
 use Rattle.std.proofs.lemmas.List.{length-take-le, take_all}
 use Rattle.std.proofs.Math.Logic.{∥∥₁_elim, ∥∥₁_map}
@@ -85,6 +85,19 @@ accepted_not_refused schema bytes fault A R = ∥∥₁_elim A (λ x y. absurd x
 
 -- ---- ends
 
+-- names that were opened are not more than these
+not_more : (before after few more : List (List ℕ)) → after ≡ before ++ few → after ≡ before ++ more → length few < length more → ⊥
+not_more before after few more one other less =
+    let a = ap (λ (ns : List (List ℕ)). length ns) one ∙ length-append before few in
+    let b = ap (λ (ns : List (List ℕ)). length ns) other ∙ length-append before more in
+    omega (arith, a, b, less)
+
+-- of some names those that were opened are no more
+opened_few : (names opens unopened : List (List ℕ)) → names ≡ opens ++ unopened → length opens ≤ length names
+opened_few names opens unopened are =
+    let n = ap (λ (ns : List (List ℕ)). length ns) are ∙ length-append opens unopened in
+    omega (arith, n)
+
 not_err : (e : ImageEnd) (k : Stop) → ◌≡◌ {A = End} (Err k) (Ok e) → ⊥
 not_err e k is = cc
 
@@ -124,6 +137,7 @@ module _ {P O : Type 0} (p : PlaceSeen P) (s : SinkSeen O) where
           said = says_plan s out out' (file_of (p.files a) name) k reads;
           opened = opened_front p a b (name ∷ image ∷ script ∷ []) (Some k) all;
           opened_all = λ e. absurd (not_err Done k e);
+          opened_last = λ e. let few = opened_few (name ∷ []) leaves.opens leaves.unopened leaves.inputs_are in absurd (not_more (p.opened a) (p.opened b) leaves.opens (name ∷ image ∷ script ∷ []) leaves.opened e (omega (arith, few)));
           faults = faults_ended a b out out' (name ∷ image ∷ script ∷ []) k all (λ e. absurd (reads.ends.0 e)) (λ w m l. (reads.silent (λ e. l (plan_is e))).faults) (named k reads);
           complete = λ r w. tt;
         }
@@ -161,9 +175,9 @@ module _ {P O : Type 0} (p : PlaceSeen P) (s : SinkSeen O) where
       read_end stop.FeedRefused ends read e = absurd (ends.2 refl)
 
       -- it ends by a stop before the script is answered
-      stopped : (out' : O) (k : Stop) → (k ≢ stop.PlanRefused) × (k ≢ stop.FeedRefused) → (n : ℕ) × (p.opened c ≡ p.opened a ++ take n (name ∷ image ∷ script ∷ [])) → SaysOfLoad p s a c out out' name image script (Some pl) (Err k)
+      stopped : (out' : O) (k : Stop) → (k ≢ stop.PlanRefused) × (k ≢ stop.FeedRefused) → (opens : List (List ℕ)) × (p.opened c ≡ p.opened a ++ opens) × (length opens ≤ 2) → (n : ℕ) × (p.opened c ≡ p.opened a ++ take n (name ∷ image ∷ script ∷ [])) → SaysOfLoad p s a c out out' name image script (Some pl) (Err k)
           → HasLoadFaults {T = ImageEnd} p s a c out out' (Err k) → (¬ Rose (p.read_faults a) (p.read_faults c) → ¬ Rose (s.faults out) (s.faults out') → (e : ImageEnd) → IsOrLacks e (Err k)) → Ends a c out out' (Err k)
-      stopped out' k other opened said faults complete = record {
+      stopped out' k other few opened said faults complete = record {
         plan = Some pl;
         plan_is = reads.plan;
         unplanned = λ e. cc;
@@ -174,6 +188,7 @@ module _ {P O : Type 0} (p : PlaceSeen P) (s : SinkSeen O) where
         said = said;
         opened = opened;
         opened_all = λ e. absurd (not_err Done k e);
+        opened_last = λ e. let least = few.2 in absurd (not_more (p.opened a) (p.opened c) few.0 (name ∷ image ∷ script ∷ []) few.1 e (omega (arith, least)));
         faults = faults;
         complete = λ r w files is. (λ x y. complete r w Done, λ fault x. complete r w Refused);
       }
@@ -182,7 +197,8 @@ module _ {P O : Type 0} (p : PlaceSeen P) (s : SinkSeen O) where
       pub ended_by_image : (k : Stop) → LeavesPlace p b c (image ∷ []) [] (Some k) → (k ≢ stop.PlanRefused) × (k ≢ stop.WriteFault) × (k ≢ stop.FeedRefused) → Ends a c out mid (Err k)
       ended_by_image k more ends =
           let all : LeavesPlace p a c (name ∷ image ∷ script ∷ []) [] (Some k) = leaves_more p a c Two (script ∷ []) [] k (whole (Some k) more) in
-          stopped mid k (ends.0, ends.2) (opened_front p a c (name ∷ image ∷ script ∷ []) (Some k) all) (inl quiet)
+          let first : LeavesPlace p a c Two [] (Some k) = whole (Some k) more in
+          stopped mid k (ends.0, ends.2) (first.opens, first.opened, opened_few Two first.opens first.unopened first.inputs_are) (opened_front p a c (name ∷ image ∷ script ∷ []) (Some k) all) (inl quiet)
           (faults_ended a c out mid (name ∷ image ∷ script ∷ []) k all (λ e. absurd (ends.1 e)) (λ w m l. quiet.faults) quiet.name) (λ r w. read_end k ends (λ e. r (all.read (ap (λ l. Some l) e))))
 
       -- the image was read
@@ -218,6 +234,7 @@ module _ {P O : Type 0} (p : PlaceSeen P) (s : SinkSeen O) where
               said = inr (inl (record { fault = F.fault; refuses = F.refuses; says = inl F.says }));
               opened = (2, opened_two);
               opened_all = λ e. cc;
+              opened_last = λ e. absurd (not_more (p.opened a) (p.opened c) Two (name ∷ image ∷ script ∷ []) opened_two e (omega arith));
               faults = record {
                 read = λ e. absurd (ok_not_err Refused stop.ReadFault e);
                 write = λ e. absurd (ok_not_err Refused stop.WriteFault e);
@@ -239,14 +256,14 @@ module _ {P O : Type 0} (p : PlaceSeen P) (s : SinkSeen O) where
         ended_unsaid out' R =
             let F = refused_for out' (FailsToPut s mid out') (FailsToPut s out out') (fails_after s out mid out' quiet) R in
             let all : LeavesPlace p a c (name ∷ image ∷ script ∷ []) [] (Some stop.WriteFault) = leaves_more p a c Two (script ∷ []) [] stop.WriteFault (leaves_ended p a c Two (Some stop.WriteFault) (λ e. cc) both) in
-            stopped out' stop.WriteFault ((λ e. cc), (λ e. cc)) (2, opened_two) (inr (inl (record { fault = F.fault; refuses = F.refuses; says = inr F.says })))
+            stopped out' stop.WriteFault ((λ e. cc), (λ e. cc)) (Two, opened_two, omega arith) (2, opened_two) (inr (inl (record { fault = F.fault; refuses = F.refuses; says = inr F.says })))
             (faults_ended a c out out' (name ∷ image ∷ script ∷ []) stop.WriteFault all (λ e. F.says.faults) (λ x m l. absurd (x refl)) F.says.name) (λ r w e. absurd (w F.says.faults))
 
         pub ended_lacking : (out' : O) → Silent s mid out' → Ends a c out out' (Err stop.NoMemory)
         ended_lacking out' silent =
             let all : LeavesPlace p a c (name ∷ image ∷ script ∷ []) [] (Some stop.NoMemory) = leaves_more p a c Two (script ∷ []) [] stop.NoMemory (leaves_ended p a c Two (Some stop.NoMemory) (λ e. cc) both) in
             let still = silent_after s out mid out' quiet silent in
-            stopped out' stop.NoMemory ((λ e. cc), (λ e. cc)) (2, opened_two) (inl still)
+            stopped out' stop.NoMemory ((λ e. cc), (λ e. cc)) (Two, opened_two, omega arith) (2, opened_two) (inl still)
             (faults_ended a c out out' (name ∷ image ∷ script ∷ []) stop.NoMemory all (λ e. cc) (λ x m l. absurd (m refl)) still.name) (λ r w e. inr refl)
 
         -- by how taking it ended
@@ -326,6 +343,7 @@ module _ {P O : Type 0} (p : PlaceSeen P) (s : SinkSeen O) where
             said = inr (inr (some_replies (Ok x) answers faults));
             opened = opened_three (Ok x) answers faults;
             opened_all = λ e. answers.opened_it refl ∙ (ap (λ ns. ns ++ script ∷ []) opened_two ∙ append_assoc (p.opened a) Two (script ∷ []));
+            opened_last = λ e. (pl, refl, accepted);
             faults = faults_of (Ok x) answers faults (Ok Done) (λ k e. absurd (ok_not_err Done k e)) (λ k e. cc);
             complete = λ r w files is. (λ y z. inl refl, λ fault y. no_refusal (Ok x) answers faults fault files is Refused (Ok Done) y);
           }
@@ -356,6 +374,7 @@ module _ {P O : Type 0} (p : PlaceSeen P) (s : SinkSeen O) where
             said = inr (inr (λ files is. subst (GainsSomeImageAnswers s out out' pl.schema (file_or_empty files image) (file_or_empty files script)) (same_lack k) (some_replies (Err k) answers faults files is)));
             opened = opened_three (Err k) answers faults;
             opened_all = λ e. absurd (not_err Done k e);
+            opened_last = λ e. (pl, refl, accepted);
             faults = faults_of (Err k) answers faults (Err k) (λ l e. ap (λ m. Err m) (err_is k l e)) (λ l e. ap (λ m. Err m) (err_is k l e));
             complete = λ r w files is. (λ y z. ended_well k answers faults r w files is z, λ fault y. no_refusal (Err k) answers faults fault files is Refused (Err k) y);
           }

@@ -94,6 +94,8 @@ module _ {P O : Type 0} (p : PlaceSeen P) (s : SinkSeen O) (place place' : P) (o
     -- the plan was opened, then the image, and then the script, each once at most, and all with Done
     pub opened : (k : ℕ) × (p.opened place' ≡ p.opened place ++ take k (name ∷ image ∷ script ∷ []))
     pub opened_all : result ≡ Ok Done → p.opened place' ≡ p.opened place ++ name ∷ image ∷ script ∷ []
+    -- the script only where the image was accepted
+    pub opened_last : p.opened place' ≡ p.opened place ++ name ∷ image ∷ script ∷ [] → (which : Plan) × (plan ≡ Some which) × OfLoadFiles (λ i q. IsAcceptedImage which.schema i)
     -- each fault has its cause, and no file is written
     pub faults : HasLoadFaults p s place place' out out' result
     -- where there is a plan and no count rose, the run is done with an image that is accepted and a script that is not refused, and a refused image is refused, unless memory was wanted

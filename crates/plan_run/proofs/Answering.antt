@@ -1,7 +1,8 @@
 -- What a script of a run gets, whatever ended its session.
-use Rattle.std.proofs.Common.{◌≡◌, ◌≢◌, ◌⊎◌, inl, inr, ◌+◌, ◌≤◌, ℕ, Bool, true, false, List, [], ◌++◌, length, take, Some, Result, Ok, Err, refl, sym, ap, subst, ◌∙◌, zero-add}
+use Rattle.std.proofs.Common.{◌≡◌, ◌≢◌, ◌⊎◌, inl, inr, ◌+◌, ◌≤◌, ℕ, Bool, true, false, List, [], ◌++◌, length, take, None, Some, Result, Ok, Err, refl, sym, ap, subst, ◌∙◌, zero-add}
 use Rattle.std.specs.Prelude.{IsErrOf, OnOk}
 use Rattle.std.specs.FinMap.{get}
+use Rattle.std.proofs.lemmas.Bool.{false≢true}
 use Rattle.std.proofs.lemmas.List.{take_at}
 use Rattle.crew_session.specs.Work.{ending_fault, last_number}
 use Rattle.crew_session.specs.declared.done.SessionDone.{SessionDone}
@@ -11,6 +12,7 @@ use Rattle.cube_view.specs.Points.{Point}
 use Rattle.cube_view.specs.declared.schema.Schema.{Schema}
 use Rattle.feed_reader.proofs.FeedStart.{new_lines}
 use Rattle.live_session.specs.News.{News}
+use Rattle.live_session.specs.Refusing.{TellsRefused}
 use Rattle.live_session.specs.SoFar.{AnswersAll, AsksFirst, HasAnswered, HasDone}
 use Rattle.live_session.specs.State.{SessionState}
 use Rattle.live_session.specs.Turned.{seens_of}
@@ -35,6 +37,7 @@ use Rattle.run_stages.specs.Counted.{script_counts}
 use Rattle.run_stages.specs.Ends.{session_end}
 use Rattle.session_core.proofs.Transcripts.{transcript_lacking}
 use Rattle.session_core.specs.Asked.{asked}
+use Rattle.session_core.specs.Scripts.{is_script_refused}
 use Rattle.session_core.specs.Transcript.{IsTranscript, replies_text}
 use Rattle.session_core.specs.declared.fault.SessionFault.{SessionFault}
 use Rattle.session_core.specs.declared.fault.SessionFault.TheVariants as fault
@@ -54,12 +57,28 @@ module _ {I O : Type 0} (i : PartSeen I) (s : SinkSeen O) (schema : Schema) (fin
     pub ready : IsSessionOf i.left i.faults s (Some files) name before
     pub leaves : LeavesTranscript i.left i.faults s.held s.faults s.name OwnsAllButRoot schema final closed starved points before done
 
-  pub stops_script : end ≢ Err PlanRefused → (name : List ℕ) (done : SessionDone I O) → HasRun name done → rank_end end ≤ rank_end (session_end done.fault) → StopsScript end files name (script_counts done)
+  pub stops_script : end ≢ Err PlanRefused → (name : List ℕ) (done : SessionDone I O) → HasRun name done → rank_end end ≤ rank_end (session_end done.fault) → StopsScript schema closed end files name (script_counts done)
   stops_script planned name done run first = record {
     read = session_read end planned done.fault first;
     too_much = λ much. large_script i s OwnsAllButRoot schema final closed starved points files name run.before done run.ready run.leaves (ap session_end much);
+    refused = λ shut r w m bad. run.leaves.numbers.2 ∙ named_end run.leaves.end
+        (λ whole. Told-some (i.left run.before.source.source) (file_or_empty files name) (λ script. is_script_refused schema script ≡ false) run.ready.script.left_is (taken_end run.leaves.end whole (run.leaves.taken shut) run.ready.script.is_new))
+        (λ is. r (run.leaves.numbers.2 ∙ is)) (λ is. w (run.leaves.numbers.2 ∙ is)) (λ is. m (run.leaves.numbers.2 ∙ is)) bad;
     no_memory = session_lacking end planned done.fault first;
   }
+    where
+      taken_end : (e : Ending) → ending_fault e ≡ None → OnOk e (TellsRefused i.left schema run.before.source false) → TellsRefused i.left schema run.before.source false
+      taken_end (Ok x) whole taken = taken
+      taken_end (Err f) whole taken = absurd (cc whole)
+
+      -- a script that is refused ended by too much, where it ended by no other fault
+      named_end : (e : Ending) → (ending_fault e ≡ None → is_script_refused schema (file_or_empty files name) ≡ false) → ending_fault e ≢ Some fault.Read → ending_fault e ≢ Some fault.Write → ending_fault e ≢ Some fault.NoMemory → is_script_refused schema (file_or_empty files name) ≡ true
+          → ending_fault e ≡ Some fault.TooMuch
+      named_end (Ok x) fine r w m bad = absurd (false≢true (sym (fine refl) ∙ bad))
+      named_end (Err fault.NoMemory) fine r w m bad = absurd (m refl)
+      named_end (Err fault.Read) fine r w m bad = absurd (r refl)
+      named_end (Err fault.TooMuch) fine r w m bad = refl
+      named_end (Err fault.Write) fine r w m bad = absurd (w refl)
 
   until_put : (news : News) (before after : SessionState I O) (e : Ending) → ending_fault e ≢ Some fault.Write → HasDone i.left i.faults s.held schema OwnsAllButRoot final 0 news before after e → HasAnswered i.left i.faults s.held schema OwnsAllButRoot final 0 news before after
   until_put news before after (Ok x) put has = has

@@ -1,6 +1,6 @@
 -- How a run ends, by how it was opened and by what became of its parts.
-use Rattle.std.proofs.Common.{◌≡◌, ◌≢◌, ◌⊎◌, inl, inr, ℕ, Bool, true, false, List, [], ◌∷◌, ◌++◌, All, map, Option, Some, None, Result, Ok, Err, IsSomeAnd, OnOk, refl, sym, ap, subst, ◌∙◌}
-use Rattle.std.proofs.lemmas.List.{append-nil, map-append}
+use Rattle.std.proofs.Common.{◌≡◌, ◌≢◌, ◌⊎◌, inl, inr, ℕ, Bool, true, false, List, [], ◌∷◌, ◌++◌, All, map, Option, Some, None, Result, Ok, Err, IsSomeAnd, OnOk, ◌≤◌, refl, sym, ap, subst, ◌∙◌, arith}
+use Rattle.std.proofs.lemmas.List.{map-append}
 use Rattle.std.specs.Prelude.{Contains, IfSome}
 use Rattle.std.specs.FinMap.{get}
 use Rattle.std.specs.List.{AllZip}
@@ -30,25 +30,29 @@ use Rattle.plan_run.proofs.Blamed.{AnyOf, all_err, any_in, any_left, any_right, 
 use Rattle.plan_run.proofs.OneJournal.{EntryLaws}
 use Rattle.plan_run.proofs.Raised.{closing_not_plan, closing_read, closing_write, starved_of}
 use Rattle.plan_run.proofs.Refused.{large_feeds, refused_scripts, write_not_refused}
-use Rattle.plan_run.proofs.Said.{completes, opening_refused, opening_said, opening_truth, opening_unmade, opening_wrote, text_after}
-use Rattle.plan_run.proofs.Whole.{all_quiet, completed}
+use Rattle.plan_run.proofs.Ranked.{rank_end}
+use Rattle.plan_run.proofs.Said.{InOrder, Unplanned, opening_headed, opening_put, opening_unmade, opening_write}
+use Rattle.plan_run.proofs.Standing.{put_still, read_still, write_still}
+use Rattle.plan_run.proofs.Whole.{completed}
 use Rattle.plan_run.proofs.Truth.{account, account_is, begins_files, holds_files, kept_found, kept_well, kept_where, reads_counted, said_found, said_lost, wrote_found, wrote_well, wrote_where}
 use Rattle.plan_run.proofs.Unreported.{empty_made, given_back_empty}
 use Rattle.plan_run.specs.Completed.{IsCompleted}
-use Rattle.plan_run.specs.Ends.{AreHeaded, EndsBeforeThreads, HasReported, IsDone, HasRefusedInput, LacksReport, LeavesNames, MissesNothing, RunEnds, SaysOfRun, TellsTruth}
+use Rattle.plan_run.specs.Ends.{EndsUnderPlan, HasBegun, HasRefusedInput, HasReported, LacksPlan, LacksReport, RunEnds}
 use Rattle.plan_run.specs.Interrupted.{Account, BeginsFiles, HoldsFiles, account_text, read_stops}
 use Rattle.plan_run.specs.Parts.{GivesBack, RunsParts, run_done_of, jobs_of}
 use Rattle.plan_run.specs.Seen.{PartSeen}
 use Rattle.run_files.proofs.Emptied.{told_still}
-use Rattle.run_files.proofs.Putting.{puts_after, silent_after}
+use Rattle.run_files.proofs.Putting.{fails_after, puts_after, silent_after}
 use Rattle.run_files.proofs.Stages.{all_empty, all_made, all_opened, KeepsOthers-after, KeepsOthers-more, KeepsOthers-one}
-use Rattle.run_files.specs.Leaving.{KeepsOthers, LeavesPlace}
+use Rattle.run_files.specs.Counts.{CountsAt, StandStill}
+use Rattle.run_files.specs.Headed.{HasHeader}
+use Rattle.run_files.specs.Leaving.{FailsAtLast, KeepsOthers, LeavesPlace}
 use Rattle.run_files.specs.Outside.{file_of, PlaceSeen, Puts as Said, PutsOrFails, Silent, SinkSeen}
-use Rattle.run_files.specs.Planned.{IsPlanOf}
+use Rattle.run_files.specs.Planned.{IsPlanOf, RefusesPlan}
 use Rattle.run_files.specs.Stops.{write_end}
 use Rattle.run_files.specs.declared.stop.Stop.{Stop}
 use Rattle.run_files.specs.declared.stop.Stop.TheVariants.{NoMemory, PlanRefused, ReadFault, WriteFault, FeedRefused}
-use Rattle.run_opening.specs.Opening.{AreReady, OpensInOrder, OpensRun, inputs_of, outputs_of}
+use Rattle.run_opening.specs.Opening.{AreReady, OpensRun, inputs_of, outputs_of}
 use Rattle.run_opening.specs.Ready.{IsJobOf, IsSessionOf}
 use Rattle.run_opening.specs.declared.parts.RunParts.{RunParts}
 use Rattle.run_stages.specs.Closing.{ClosesRun, run_text, threads_end}
@@ -59,60 +63,75 @@ use Rattle.session_core.proofs.WholeScripts.{told_by}
 use Rattle.session_core.specs.Scripts.{is_script_refused}
 use Rattle.world_core.specs.Interleaving.{entry_points}
 
-some_each : {A : Type 0} (o : Option A) (P Q : A → Type 0) → ((x : A) → P x → Q x) → IsSomeAnd o P → IsSomeAnd o Q
-some_each None P Q f some = absurd some
-some_each (Some x) P Q f some = f x some
+-- an end of opening among those of a run
+unplanned_end : (stop : Stop) → (Some stop ≡ Some NoMemory) ⊎ (Some stop ≡ Some ReadFault) ⊎ (Some stop ≡ Some PlanRefused) → (ended stop ≡ ended NoMemory) ⊎ (ended stop ≡ ended ReadFault) ⊎ (ended stop ≡ ended PlanRefused)
+unplanned_end stop (inl e) = inl (cc e)
+unplanned_end stop (inr (inl e)) = inr (inl (cc e))
+unplanned_end stop (inr (inr e)) = inr (inr (cc e))
+
+same_stop : (a b : Stop) → ended a ≡ ended b → Some a ≡ Some b
+same_stop a b e = cc e
+
+same_end : (a b : Stop) → Some a ≡ Some b → ended a ≡ ended b
+same_end a b e = cc e
+
+-- without a plan it is by no file
+not_by_file : (stop other : Stop) → other ≢ NoMemory → other ≢ ReadFault → other ≢ PlanRefused → (Some stop ≡ Some NoMemory) ⊎ (Some stop ≡ Some ReadFault) ⊎ (Some stop ≡ Some PlanRefused) → Some stop ≢ Some other
+not_by_file stop other found read planned (inl e) is = found (cc (e, is))
+not_by_file stop other found read planned (inr (inl e)) is = read (cc (e, is))
+not_by_file stop other found read planned (inr (inr e)) is = planned (cc (e, is))
 
 module _ {P T : Type 0} (p : PlaceSeen P) (t : SinkSeen T) where
   -- ---- a run that opening ended
 
-  opening_write : (place mid : P) (out out1 : T) (name : List ℕ) (stop : Stop) (plan : Option Plan) (opens makes : List (List ℕ)) → stop ≡ WriteFault
-      → (plan ≡ None → (Some stop ≡ Some NoMemory) ⊎ (Some stop ≡ Some ReadFault) ⊎ (Some stop ≡ Some PlanRefused))
-      → IfSome plan (λ plan. (later : List (List ℕ)) × (opens ≡ name ∷ later) × OpensInOrder t plan (p.files place) (p.write_faults place) (p.write_faults mid) out out1 later makes (Some stop))
-      → Rose (p.write_faults place) (p.write_faults mid) ⊎ Rose (t.faults out) (t.faults out1)
-  opening_write place mid out out1 name stop None opens makes is unplanned order = absurd (none (unplanned refl))
-    where
-      none : ¬ ((Some stop ≡ Some NoMemory) ⊎ (Some stop ≡ Some ReadFault) ⊎ (Some stop ≡ Some PlanRefused))
-      none (inl e) = cc (e, is)
-      none (inr (inl e)) = cc (e, is)
-      none (inr (inr e)) = cc (e, is)
-  opening_write place mid out out1 name stop (Some plan) opens makes is unplanned (later, e, inl feeds) = inr (feeds.unsaid (ap (λ s. Some s) is)).refuses.says.faults
-  opening_write place mid out out1 name stop (Some plan) opens makes is unplanned (later, e, inr scripts) = inl (scripts.write (ap (λ s. Some s) is))
+  module _ (place mid : P) (out out1 : T) (name : List ℕ) (stop : Stop) where
+    opening_counts : (plan : Option Plan) (inputs outs : List (List ℕ)) (leaves : LeavesPlace p place mid inputs outs (Some stop)) (opens makes : List (List ℕ)) → (plan ≡ None → Unplanned p t place mid out out1 name stop) → IfSome plan (InOrder p t place mid out out1 name stop opens makes)
+        → CountsAt p t place mid out out1 (ended stop)
+    opening_counts plan inputs outs leaves opens makes unplanned order = record {
+      done = λ x e. absurd (cc e);
+      refused = λ e. (
+        leaves.read_quiet (λ is. cc (is, e)),
+        leaves.write_quiet (λ is. cc (is, e)) (λ is. cc (is, e)),
+        opening_put p t place mid out out1 name stop plan opens makes (cc e) unplanned order,
+      );
+      unread = λ e. leaves.read_quiet (λ is. cc (is, e));
+      write = λ e. opening_write p t place mid out out1 name stop plan opens makes (cc e) unplanned order;
+      read = λ e. leaves.read (same_stop stop ReadFault e);
+      refused_plan = λ e. (leaves.read_quiet (λ is. cc (is, e)), leaves.write_quiet (λ is. cc (is, e)) (λ is. cc (is, e)));
+    }
 
-  unplanned_end : (stop : Stop) → (Some stop ≡ Some NoMemory) ⊎ (Some stop ≡ Some ReadFault) ⊎ (Some stop ≡ Some PlanRefused) → (ended stop ≡ ended NoMemory) ⊎ (ended stop ≡ ended ReadFault) ⊎ (ended stop ≡ ended PlanRefused)
-  unplanned_end stop (inl e) = inl (cc e)
-  unplanned_end stop (inr (inl e)) = inr (inl (cc e))
-  unplanned_end stop (inr (inr e)) = inr (inr (cc e))
-
-  same_stop : (a b : Stop) → ended a ≡ ended b → Some a ≡ Some b
-  same_stop a b e = cc e
+    opening_stage : (plan : Option Plan) (leaves : LeavesPlace p place mid (name ∷ inputs_of plan) (outputs_of plan) (Some stop)) → IfSome plan (IsPlanOf (file_of (p.files place) name)) → (plan ≡ None → Unplanned p t place mid out out1 name stop)
+        → (Some stop ≡ Some ReadFault → FailsAtLast p place leaves.opens) → IfSome plan (InOrder p t place mid out out1 name stop leaves.opens leaves.makes) → (Some stop ≡ Some PlanRefused → (plan ≡ None) × RefusesPlan t out out1 (file_of (p.files place) name))
+        → (Some stop ≢ Some PlanRefused → Some stop ≢ Some FeedRefused → Some stop ≢ Some WriteFault → Silent t out out1) → LacksPlan p t place mid out out1 name (Err stop) ⊎ EndsUnderPlan p t place mid out out1 name (Err stop)
+    unfolding names_of
+    opening_stage None leaves plan_is unplanned first order refused_plan silent = inl (record {
+      names = names_of p place mid (name ∷ []) [] (Some stop) leaves;
+      first = λ e. first (same_stop stop ReadFault e);
+      ends = unplanned_end stop (unplanned refl);
+      refused = λ e. (refused_plan (same_stop stop PlanRefused e)).1;
+      silent = λ other. silent (λ e. other (same_end stop PlanRefused e)) (not_by_file stop FeedRefused (λ e. cc e) (λ e. cc e) (λ e. cc e) (unplanned refl)) (not_by_file stop WriteFault (λ e. cc e) (λ e. cc e) (λ e. cc e) (unplanned refl));
+    })
+    opening_stage (Some plan) leaves plan_is unplanned first order refused_plan silent = inr (record {
+      plan = plan;
+      plan_is = plan_is;
+      stage = inl (record {
+        stop = stop;
+        end_is = refl;
+        names = names_of p place mid (name ∷ input_names plan) (output_names plan) (Some stop) leaves;
+        later = order.0;
+        opens_are = order.1;
+        first = λ e. first (ap (λ s. Some s) e);
+        order = order.2;
+        unmade = λ found written. opening_unmade p t place mid out out1 name stop (Some plan) leaves.opens leaves.makes leaves.unmade found written (λ e. leaves.read_first (ap (λ s. Some s) e)) leaves.outputs_are order;
+        empty = λ no_write. empty_made p place mid leaves.makes leaves.others (leaves.emptied (λ _. no_write));
+      });
+    })
 
   pub ended_by_opening : (place mid : P) (out out1 : T) (name : List ℕ) (stop : Stop) → OpensRun p t place mid out out1 name None (Some stop) → RunEnds p t place mid out out1 name (Err stop)
   ended_by_opening place mid out out1 name stop opens = record {
-    plan = opens.plan;
-    plan_is = opens.plan_is;
-    unplanned = λ none. unplanned_end stop (opens.unplanned none);
-    refused_plan = λ e. opens.refused_plan (same_stop stop PlanRefused e);
-    names = names_of p place mid (name ∷ inputs_of opens.plan) (outputs_of opens.plan) (Some stop) opens.leaves;
-    made = λ found written. inl (opens.leaves.created ∙ ap (λ ns. p.created place ++ ns) (no_makes found written) ∙ append-nil (p.created place));
-    done = tt;
-    read = λ e. opens.leaves.read (same_stop stop ReadFault e);
-    write = write;
-    said = opening_said p t place mid out out1 name stop opens.plan opens.leaves.opens opens.leaves.makes opens opens.unplanned opens.order;
-    refused = refused;
-    truth = λ no_write no_out. opening_truth p t place mid out out1 name stop opens.plan opens.leaves.opens opens.leaves.makes (name ∷ inputs_of opens.plan) (outputs_of opens.plan) no_write no_out opens.leaves opens.order;
-    unsaid = λ e no_write. opening_wrote p t place mid out out1 name stop opens.plan opens.leaves.opens opens.leaves.makes (cc e) no_write opens.leaves.created opens.order;
-    complete = completes p t place mid out out1 name opens.plan (Err stop) (λ e. (opens.refused_plan (same_stop stop PlanRefused e)).0) refused (λ e. opens.leaves.read (same_stop stop ReadFault e)) write;
+    stage = opening_stage place mid out out1 name stop opens.plan opens.leaves opens.plan_is opens.unplanned opens.first opens.order opens.refused_plan opens.silent;
+    counts = opening_counts place mid out out1 name stop opens.plan (name ∷ inputs_of opens.plan) (outputs_of opens.plan) opens.leaves opens.leaves.opens opens.leaves.makes opens.unplanned opens.order;
   }
-    where
-      no_makes : ended stop ≢ Err NoMemory → ended stop ≢ Err WriteFault → opens.leaves.makes ≡ []
-      no_makes found written = opening_unmade p t place mid out out1 name stop opens.plan opens.leaves.opens opens.leaves.makes opens.leaves.unmade (λ e. found (ap ended e)) (λ e. written (ap ended e)) (λ e. opens.leaves.read_first (ap (λ s. Some s) e)) opens.leaves.outputs_are opens.order
-
-      refused : ended stop ≡ Err FeedRefused → (which : Plan) × (opens.plan ≡ Some which) × Told (p.files place) (λ files. HasRefusedInput files which)
-      refused e = opening_refused p t place mid out out1 name stop opens.plan opens.leaves.opens opens.leaves.makes (cc e) opens.unplanned opens.order
-
-      write : ended stop ≡ Err WriteFault → Rose (p.write_faults place) (p.write_faults mid) ⊎ Rose (t.faults out) (t.faults out1)
-      write e = opening_write place mid out out1 name stop opens.plan opens.leaves.opens opens.leaves.makes (cc e) opens.unplanned opens.order
 
   -- ---- a run that went on
 
@@ -125,6 +144,24 @@ module _ {P T : Type 0} (p : PlaceSeen P) (t : SinkSeen T) where
 
     silent : Silent t out out1
     silent = opens.silent (λ e. cc e) (λ e. cc e) (λ e. cc e)
+
+    headed : All (λ feed. HasHeader plan.schema (file_of (p.files place) feed)) plan.feeds
+    headed = opening_headed p t place mid out out1 name opens.plan plan opens.leaves.opens opens.leaves.makes its_plan opens.order
+
+    -- what the threads began from
+    began : (place' : P) → p.opened place' ≡ p.opened mid → p.created place' ≡ p.created mid → KeepsOthers (p.files mid) (p.files place') (output_names plan) → HasBegun p t place place' out out' name plan
+    began place' opened created kept = record {
+      opened = opened ∙ leaves.opened ∙ ap (λ ns. p.opened place ++ ns) (sym (all_opened p place mid (name ∷ input_names plan) (output_names plan) leaves));
+      created = created ∙ leaves.created ∙ ap (λ ns. p.created place ++ ns) (sym (all_made p place mid (name ∷ input_names plan) (output_names plan) leaves));
+      began = mid;
+      opened_then = sym opened;
+      created_then = sym created;
+      quiet_then = (leaves.read_quiet (λ e. cc e), leaves.write_quiet (λ e. cc e) (λ e. cc e));
+      headed = headed;
+      others =
+          KeepsOthers-twice (p.files place) (p.files mid) (p.files place') (output_names plan)
+          (subst (KeepsOthers (p.files place) (p.files mid)) (sym (all_made p place mid (name ∷ input_names plan) (output_names plan) leaves)) leaves.others) kept;
+    }
 
     module _ {I O : Type 0} (i : PartSeen I) (s : SinkSeen O) (parts : RunParts I O) (ready : AreReady i.left i.faults s (p.files place) plan parts) where
       abbrev sink_of : SessionDone I O → O
@@ -174,8 +211,8 @@ module _ {P T : Type 0} (p : PlaceSeen P) (t : SinkSeen T) where
         created : p.created place' ≡ p.created mid
         created = closes.journal.created ∙ closes.parts.sinks_back.created ∙ closes.parts.finals_back.created ∙ closes.parts.asks_back.created ∙ closes.parts.feeds_back.created
 
-        names : LeavesNames p place place' (name ∷ input_names plan) (output_names plan)
-        names = names_then p place mid place' (name ∷ input_names plan) (output_names plan) leaves opened created kept
+        begun : HasBegun p t place place' out out' name plan
+        begun = began place' opened created kept
 
         read_before : p.read_faults mid ≡ p.read_faults place
         read_before = leaves.read_quiet (λ e. cc e)
@@ -183,22 +220,14 @@ module _ {P T : Type 0} (p : PlaceSeen P) (t : SinkSeen T) where
         write_before : p.write_faults mid ≡ p.write_faults place
         write_before = leaves.write_quiet (λ e. cc e) (λ e. cc e)
 
-        all_created : p.created place' ≡ p.created place ++ output_names plan
-        all_created = created ∙ leaves.created ∙ ap (λ ns. p.created place ++ ns) (sym (all_made p place mid (name ∷ input_names plan) (output_names plan) leaves))
-
-        is_done : EntryLaws → result ≡ Ok tt → IsDone p t place place' out out' name plan
+        -- the files of a run that is completed
+        is_done : EntryLaws → result ≡ Ok tt → Told (p.files place) (λ files. IsSomeAnd (p.files place') (λ files'. IsCompleted plan files files' (t.held out) (t.held out')))
         is_done laws well =
             let closed : ClosesRun plan (run_done_of crewed parts.journal) p s t i.faults mid place' out1 out' (Ok tt) = subst (ClosesRun plan (run_done_of crewed parts.journal) p s t i.faults mid place' out1 out') well closes in
-            let quiet = all_quiet p i s t plan parts mid place' out1 out' (p.files place) crewed ready ran closed in
-            record {
-              opened = opened ∙ leaves.opened ∙ ap (λ ns. p.opened place ++ ns) (sym (all_opened p place mid (name ∷ input_names plan) (output_names plan) leaves));
-              created = all_created;
-              quiet = (quiet.0 ∙ read_before, quiet.1 ∙ write_before, quiet.2 ∙ silent.faults);
-              files = told_by (p.files place) (λ files. IsSomeAnd (p.files place') (λ files'. IsCompleted plan files files' (t.held out) (t.held out'))) (λ files told.
-                  let now = told_pair (p.files place) (p.files mid) files (λ a b. (other : List ℕ) → ¬ Contains leaves.makes other → get b other ≡ get a other) told leaves.others in
-                  subst (λ o. IsSomeAnd (p.files place') (λ files'. IsCompleted plan files files' o (t.held out'))) silent.held
-                  (completed p i s t plan parts mid place' out1 out' laws files now.0 crewed plan_is.files (subst (λ o. AreReady i.left i.faults s o plan parts) told ready) ran now.1 closed));
-            }
+            told_by (p.files place) (λ files. IsSomeAnd (p.files place') (λ files'. IsCompleted plan files files' (t.held out) (t.held out'))) (λ files told.
+            let now = told_pair (p.files place) (p.files mid) files (λ a b. (other : List ℕ) → ¬ Contains leaves.makes other → get b other ≡ get a other) told leaves.others in
+            subst (λ o. IsSomeAnd (p.files place') (λ files'. IsCompleted plan files files' o (t.held out'))) silent.held
+            (completed p i s t plan parts mid place' out1 out' laws files now.0 crewed plan_is.files (subst (λ o. AreReady i.left i.faults s o plan parts) told ready) ran now.1 closed))
 
         abbrev done : RunDone I O
         done = run_done_of crewed parts.journal
@@ -242,8 +271,8 @@ module _ {P T : Type 0} (p : PlaceSeen P) (t : SinkSeen T) where
             by (inr (inr (inr (inr (inl said))))) = absurd (closes.report.ends.2 said)
             by (inr (inr (inr (inr (inr none))))) = absurd none
 
-        refused : result ≡ Err FeedRefused → (which : Plan) × (Some plan ≡ Some which) × Told (p.files place) (λ files. HasRefusedInput files which)
-        refused e = (plan, refl, told_by (p.files place) (λ files. HasRefusedInput files plan) (λ files told. is_refused e files told))
+        refused : result ≡ Err FeedRefused → Told (p.files place) (λ files. HasRefusedInput files plan)
+        refused e = told_by (p.files place) (λ files. HasRefusedInput files plan) (λ files told. is_refused e files told)
 
         not_plan : result ≢ Err PlanRefused
         not_plan e = closing_not_plan p i.faults s t plan (run_done_of crewed parts.journal) mid place' out1 out' result ready.journal.fresh feeds asks finals closes e
@@ -258,7 +287,30 @@ module _ {P T : Type 0} (p : PlaceSeen P) (t : SinkSeen T) where
             written (inl rose) = inl (subst (λ n. Rose n (p.write_faults place')) write_before rose)
             written (inr rose) = inr (subst (λ n. Rose n (t.faults out')) silent.faults rose)
 
-        -- ---- where no writing failed
+        -- ---- counts
+
+        -- the counts that stand still, by how late in the order of causes the end comes
+        reads_stand : 3 ≤ rank_end result → p.read_faults place' ≡ p.read_faults place
+        reads_stand late = read_still p i.faults s t plan done mid place' out1 out' result ready.journal.fresh feeds asks finals closes late ∙ read_before
+
+        all_stand : 4 ≤ rank_end result → StandStill p t place place' out out'
+        all_stand late = (
+          reads_stand (omega (arith, late)),
+          write_still p i.faults s t plan done mid place' out1 out' result ready.journal.fresh feeds asks finals closes late ∙ write_before,
+          put_still p i.faults s t plan done mid place' out1 out' result ready.journal.fresh feeds asks finals closes late ∙ silent.faults,
+        )
+
+        counts : CountsAt p t place place' out out' result
+        counts = record {
+          done = λ x e. all_stand (subst (λ (end : End). 4 ≤ rank_end end) (sym e) (omega arith));
+          refused = λ e. all_stand (subst (λ (end : End). 4 ≤ rank_end end) (sym e) (omega arith));
+          unread = λ e. reads_stand (subst (λ (end : End). 3 ≤ rank_end end) (sym e) (omega arith));
+          write = write_rose;
+          read = read_rose;
+          refused_plan = λ e. absurd (not_plan e);
+        }
+
+        -- ---- files and report
 
         -- each output was empty when the threads began
         empty_outputs : (files now : Files) → p.files place ≡ Some files → p.files mid ≡ Some now → All (λ name. get now name ≡ Some []) (output_names plan)
@@ -295,85 +347,45 @@ module _ {P T : Type 0} (p : PlaceSeen P) (t : SinkSeen T) where
         unfolding its_account
         its_reads = subst (λ n. RoseBy (read_stops its_account) n (p.read_faults place')) read_before (reads_counted p i s t plan parts mid place' out1 out' (p.files place) ready crewed ran feeds asks finals result not_plan closes)
 
-        reported : ¬ Rose (p.write_faults place) (p.write_faults place') → closes.said ≢ Err NoMemory → Said t out1 out' (run_text plan done) → HasReported p t place place' out out' plan result
-        reported no_write found puts =
-            let quiet : ¬ Rose (p.write_faults mid) (p.write_faults place') = subst (λ n. ¬ Rose n (p.write_faults place')) (sym write_before) no_write in
-            record {
-              account = its_account;
-              puts = subst (Said t out out') its_text (puts_after t out out1 out' silent (run_text plan done) puts);
-              files = its_files no_write (wrote_where p i s t plan parts mid place' out1 out' (p.files place) ready crewed ran feeds asks finals result not_plan closes quiet found) (kept_where p i s t plan parts mid place' out1 out' (p.files place) ready crewed ran feeds asks finals result not_plan closes quiet found);
-              reads = its_reads;
-            }
-
-        tells : ¬ Rose (p.write_faults place) (p.write_faults place') → ¬ Rose (t.faults out) (t.faults out') → TellsTruth p t place place' out out' plan result
-        tells no_write no_out = record {
-          says = says closes.said refl closes.report;
-          refused = λ is. told_by (p.files place) (λ files. AreHeaded p t place place' out out' plan files → HasReported p t place place' out out' plan result)
-              (λ files told headed. reports closes.said refl closes.report (said_found p i s t plan parts mid place' out1 out' (p.files place) ready crewed ran feeds asks finals result not_plan closes (λ bad. cc (is, bad))));
-          read = λ is all. reports closes.said refl closes.report (said_found p i s t plan parts mid place' out1 out' (p.files place) ready crewed ran feeds asks finals result not_plan closes (λ bad. cc (is, bad)));
+        reported : EntryLaws → PutsOrFails t out out' (run_text plan done) → closes.said ≢ Err NoMemory → HasReported p t place place' out out' name plan result
+        reported laws puts found = record {
+          begun = begun;
+          account = its_account;
+          puts = subst (PutsOrFails t out out') its_text puts;
+          files = its_beginnings;
+          holds = λ no_write.
+              let quiet : ¬ Rose (p.write_faults mid) (p.write_faults place') = subst (λ n. ¬ Rose n (p.write_faults place')) (sym write_before) no_write in
+              its_files no_write (wrote_where p i s t plan parts mid place' out1 out' (p.files place) ready crewed ran feeds asks finals result not_plan closes quiet found)
+              (kept_where p i s t plan parts mid place' out1 out' (p.files place) ready crewed ran feeds asks finals result not_plan closes quiet found);
+          reads = its_reads;
+          done = is_done laws;
+          refused = refused;
+          planned = not_plan;
         }
-          where
-            no_later : ¬ Rose (t.faults out1) (t.faults out')
-            no_later = subst (λ n. ¬ Rose n (t.faults out')) (sym silent.faults) no_out
 
-            reports : (r : End) → closes.said ≡ r → SaysText t out1 out' (run_text plan done) r → closes.said ≢ Err NoMemory → HasReported p t place place' out out' plan result
-            reports (Ok x) is says found = reported no_write found says.puts
-            reports (Err NoMemory) is says found = absurd (found is)
-            reports (Err PlanRefused) is says found = absurd (says.ends.0 refl)
-            reports (Err ReadFault) is says found = absurd (says.ends.1 refl)
-            reports (Err WriteFault) is says found = absurd (no_later (says.fails refl).faults)
-            reports (Err FeedRefused) is says found = absurd (says.ends.2 refl)
-
-            says : (r : End) → closes.said ≡ r → SaysText t out1 out' (run_text plan done) r
-                → EndsBeforeThreads p t place place' out out' plan ⊎ LacksReport p t place place' out out' plan result ⊎ HasReported p t place place' out out' plan result
-            says (Ok x) is text = inr (inr (reports (Ok x) is text (λ bad. cc (is, bad))))
-            says (Err NoMemory) is text = inr (inl (record {
-              lacking = said_lost p i s t plan parts mid place' out1 out' (p.files place) ready crewed ran feeds asks finals result not_plan closes is;
-              silent = silent_after t out out1 out' silent (text.silent refl);
-              created = all_created;
-              account = its_account;
-              files = its_beginnings;
-            }))
-            says (Err PlanRefused) is text = absurd (text.ends.0 refl)
-            says (Err ReadFault) is text = absurd (text.ends.1 refl)
-            says (Err WriteFault) is text = absurd (no_later (text.fails refl).faults)
-            says (Err FeedRefused) is text = absurd (text.ends.2 refl)
-
-        misses_nothing : result ≡ Err WriteFault → ¬ Rose (p.write_faults place) (p.write_faults place') → MissesNothing p t place place' out out' plan
-        misses_nothing is no_write =
-            let found : result ≢ Err NoMemory = λ bad. cc (is, bad) in
-            let unread : result ≢ Err ReadFault = λ bad. cc (is, bad) in
-            Told-each (p.files place) _ _ (λ files some. some_each (p.files place') _ _ (λ files' holds. (its_account.entries, holds.journal, holds.all found unread)) some)
-            (its_files no_write (wrote_found p i s t plan parts mid place' out1 out' (p.files place) ready crewed ran feeds asks finals result not_plan closes found) (kept_found p i s t plan parts mid place' out1 out' (p.files place) ready crewed ran feeds asks finals result not_plan closes found))
+        stage : EntryLaws → (r : End) → closes.said ≡ r → SaysText t out1 out' (run_text plan done) r → LacksReport p t place place' out out' name plan result ⊎ HasReported p t place place' out out' name plan result
+        stage laws (Ok x) is text = inr (reported laws (inl (puts_after t out out1 out' silent (run_text plan done) text.puts)) (λ bad. cc (is, bad)))
+        stage laws (Err NoMemory) is text = inl (record {
+          begun = begun;
+          lacking = said_lost p i s t plan parts mid place' out1 out' (p.files place) ready crewed ran feeds asks finals result not_plan closes is;
+          silent = silent_after t out out1 out' silent (text.silent refl);
+          account = its_account;
+          files = its_beginnings;
+        })
+        stage laws (Err PlanRefused) is text = absurd (text.ends.0 refl)
+        stage laws (Err ReadFault) is text = absurd (text.ends.1 refl)
+        stage laws (Err WriteFault) is text = inr (reported laws (inr (fails_after t out out1 out' silent (run_text plan done) (text.fails refl))) (λ bad. cc (is, bad)))
+        stage laws (Err FeedRefused) is text = absurd (text.ends.2 refl)
 
         pub ended_by_closing : EntryLaws → RunEnds p t place place' out out' name result
         ended_by_closing laws = record {
-          plan = Some plan;
-          plan_is = plan_is;
-          unplanned = λ none. absurd (cc none);
-          refused_plan = λ e. absurd (not_plan e);
-          names = names;
-          made = λ found written. inr all_created;
-          done = by result refl;
-          said = says (text_after t out out1 out' silent (run_text plan done) closes.said closes.report);
-          refused = refused;
-          read = read_rose;
-          write = write_rose;
-          truth = tells;
-          unsaid = λ e no_write all. misses_nothing e no_write;
-          complete = completes p t place place' out out' name (Some plan) result (λ e. absurd (not_plan e)) refused read_rose write_rose;
+          stage = inr (record { plan = plan; plan_is = plan_is; stage = inr (stage laws closes.said refl closes.report) });
+          counts = counts;
         }
-          where
-            by : (r : Result (Unit {0}) Stop) → result ≡ r → OnOk r ((which : Plan) × (Some plan ≡ Some which) × IsDone p t place place' out out' name which)
-            by (Ok x) is = (plan, refl, is_done laws is)
-            by (Err e) is = tt
-
-            says : Silent t out out' ⊎ PutsOrFails t out out' (run_text plan done) → SaysOfRun p t place place' out out' name result (Some plan)
-            says (inl quiet) = inl quiet
-            says (inr puts) = inr (inr (record { account = its_account; puts = subst (PutsOrFails t out out') its_text puts; files = its_beginnings; reads = its_reads }))
 
       -- a run that found no memory to begin with
       pub ended_unrun : (result : Result (Unit {0}) Stop) → result ≡ Err NoMemory → out' ≡ out1 → GivesBack p i s parts mid place' → RunEnds p t place place' out out' name result
+      unfolding names_then
       ended_unrun result is said back =
           let named : map s.name (map sink_in parts.asks ++ map sink_in parts.finals) ≡ outputs plan.asks ++ outputs plan.finals =
           both_named (map sink_in parts.asks) (map sink_in parts.finals) (sessions_named i s (p.files place) plan.asks parts.asks ready.asks) (sessions_named i s (p.files place) plan.finals parts.finals ready.finals) in
@@ -384,32 +396,40 @@ module _ {P T : Type 0} (p : PlaceSeen P) (t : SinkSeen T) where
           (subst (KeepsOthers (p.files back.read) (p.files back.replied)) named back.sinks_back.others)
           (subst (λ n. KeepsOthers (p.files back.replied) (p.files place') (n ∷ [])) ready.journal.name_is (KeepsOthers-one (p.files back.replied) (p.files place') (s.name parts.journal) back.journal_back.others))) in
           record {
-            plan = Some plan;
-            plan_is = plan_is;
-            unplanned = λ none. absurd (cc none);
-            refused_plan = λ e. absurd (cc (is, e));
-            names = names_then p place mid place' (name ∷ input_names plan) (output_names plan) leaves
-                (back.journal_back.opened ∙ back.sinks_back.opened ∙ back.finals_back.opened ∙ back.asks_back.opened ∙ back.feeds_back.opened)
-                created kept;
-            made = λ found. absurd (found is);
-            done = subst (λ r. OnOk r ((which : Plan) × (Some plan ≡ Some which) × IsDone p t place place' out out' name which)) (sym is) tt;
-            said = inl (silent_after t out out1 out' silent (record { held = ap t.held said; faults = ap t.faults said; name = ap t.name said }));
-            refused = λ e. absurd (cc (is, e));
-            read = λ e. absurd (cc (is, e));
-            write = λ e. absurd (cc (is, e));
-            truth = λ no_write no_out. record {
-              says = inl (record {
-                puts = inl (silent_after t out out1 out' silent (record { held = ap t.held said; faults = ap t.faults said; name = ap t.name said }));
-                makes = leaves.makes;
-                created = created ∙ leaves.created;
-                empty = empty_made p place place' leaves.makes (KeepsOthers-twice (p.files place) (p.files mid) (p.files place') leaves.makes leaves.others (subst (KeepsOthers (p.files mid) (p.files place')) (all_made p place mid (name ∷ input_names plan) (output_names plan) leaves) kept)) (λ told.
-                    given_back_empty p i s plan parts (p.files place) ready told mid place' leaves.makes (told_still (p.files place) (p.files mid) leaves.makes leaves.others told) back (leaves.emptied (λ other. absurd (other refl)) told));
+            stage = inr (record {
+              plan = plan;
+              plan_is = plan_is;
+              stage = inl (record {
+                stop = NoMemory;
+                end_is = is;
+                names = names_then p place mid place' (name ∷ input_names plan) (output_names plan) leaves
+                    (back.journal_back.opened ∙ back.sinks_back.opened ∙ back.finals_back.opened ∙ back.asks_back.opened ∙ back.feeds_back.opened)
+                    created kept;
+                later = input_names plan;
+                opens_are = sym (all_opened p place mid (name ∷ input_names plan) (output_names plan) leaves);
+                first = λ e. absurd (cc e);
+                order = inr (record {
+                  scripts = plan.asks ++ plan.finals;
+                  opens_are = refl;
+                  headed = headed;
+                  silent = silent_after t out out1 out' silent (record { held = ap t.held said; faults = ap t.faults said; name = ap t.name said });
+                  write = λ e. absurd (cc e);
+                  ends = (λ e. cc e, λ e. cc e);
+                });
+                unmade = λ found. absurd (found refl);
+                empty = λ no_write. empty_made p place place' leaves.makes
+                    (KeepsOthers-twice (p.files place) (p.files mid) (p.files place') leaves.makes leaves.others (subst (KeepsOthers (p.files mid) (p.files place')) (all_made p place mid (name ∷ input_names plan) (output_names plan) leaves) kept))
+                    (λ told. given_back_empty p i s plan parts (p.files place) ready told mid place' leaves.makes (told_still (p.files place) (p.files mid) leaves.makes leaves.others told) back (leaves.emptied (λ other. absurd (other refl)) told));
               });
+            });
+            counts = record {
+              done = λ x e. absurd (cc (is, e));
               refused = λ e. absurd (cc (is, e));
+              unread = λ e. absurd (cc (is, e));
+              write = λ e. absurd (cc (is, e));
               read = λ e. absurd (cc (is, e));
+              refused_plan = λ e. absurd (cc (is, e));
             };
-            unsaid = λ e. absurd (cc (is, e));
-            complete = completes p t place place' out out' name (Some plan) result (λ e. absurd (cc (is, e))) (λ e. absurd (cc (is, e))) (λ e. absurd (cc (is, e))) (λ e. absurd (cc (is, e)));
           }
 
       pub ended_by_parts : EntryLaws → (result : Result (Unit {0}) Stop) → RunsParts p i s t plan parts mid place' out1 out' result → RunEnds p t place place' out out' name result

@@ -37,7 +37,7 @@ module _ (plan : Plan) (end : Result (Unit {0}) Stop) (files files' : Files) (fo
   neither (inr lacking) = found lacking
 
   module _ (final : Bool) (journal : List Point) where
-    script_held : (name : List ℕ) (script : ScriptCounts) → AnswersInFile plan.schema final true journal end files files' name script → StopsScript end files name script → (replies : List Reply) × HasTranscript plan.schema final journal files files' name replies
+    script_held : (name : List ℕ) (script : ScriptCounts) → AnswersInFile plan.schema final true journal end files files' name script → StopsScript plan.schema true end files name script → (replies : List Reply) × HasTranscript plan.schema final journal files files' name replies
     script_held name script answers stops =
         let asks = asked plan.schema (lines (file_or_empty files name)) in
         let count : length answers.replies ≡ length asks = sym answers.counted.0 ∙ answers.all refl (λ is. neither (stops.read is)) (λ is. found (stops.no_memory is)) in
@@ -51,7 +51,7 @@ module _ (plan : Plan) (end : Result (Unit {0}) Stop) (files files' : Files) (fo
           },
         )
 
-    pub scripts_held : (names : List (List ℕ)) (scripts : List ScriptCounts) → AllZip (AnswersInFile plan.schema final true journal end files files') names scripts → AllZip (StopsScript end files) names scripts
+    pub scripts_held : (names : List (List ℕ)) (scripts : List ScriptCounts) → AllZip (AnswersInFile plan.schema final true journal end files files') names scripts → AllZip (StopsScript plan.schema true end files) names scripts
         → (replies : List (List Reply)) × AllZip (HasTranscript plan.schema final journal files files') names replies
     scripts_held [] [] answers stops = ([], tt)
     scripts_held [] (c ∷ scripts) answers stops = absurd answers
@@ -63,8 +63,8 @@ module _ (plan : Plan) (end : Result (Unit {0}) Stop) (files files' : Files) (fo
 
   pub all_held : (feeds : List FeedRows) (asks finals : List ScriptCounts) (entries : List Entry) → AllZip (ReportsFeed plan.schema end files) plan.feeds feeds
       → IsInterleaving (length plan.feeds) (list_of (map (λ (feed : FeedRows). points_in feed.rows) feeds)) entries
-      → AllZip (AnswersInFile plan.schema false true (entry_points entries) end files files') plan.asks asks → AllZip (StopsScript end files) plan.asks asks
-      → AllZip (AnswersInFile plan.schema true true (entry_points entries) end files files') plan.finals finals → AllZip (StopsScript end files) plan.finals finals
+      → AllZip (AnswersInFile plan.schema false true (entry_points entries) end files files') plan.asks asks → AllZip (StopsScript plan.schema true end files) plan.asks asks
+      → AllZip (AnswersInFile plan.schema true true (entry_points entries) end files files') plan.finals finals → AllZip (StopsScript plan.schema true end files) plan.finals finals
       → HoldsAll plan entries files files'
   all_held feeds asks finals entries takes order asked stopped ended stopped' =
       let to_asks = scripts_held false (entry_points entries) plan.asks asks asked stopped in

@@ -11,6 +11,7 @@ mod Whole
 mod Blamed
 mod Named
 mod Raised
+mod Standing
 mod Refused
 mod Unreported
 mod Said
@@ -23,3 +24,4 @@ mod Counting
 mod Truth
 mod Fronts
 mod Ended
+mod Following

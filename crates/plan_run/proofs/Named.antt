@@ -47,7 +47,7 @@ module _ {I O : Type 0} (i : PartSeen I) (s : SinkSeen O) (files : Option Files)
 
 module _ {P : Type 0} (p : PlaceSeen P) where
   -- a stage that ends the run leaves the names that it leaves
-  pub names_of : (a b : P) (inputs outputs : List (List ℕ)) (stop : Option Stop) → LeavesPlace p a b inputs outputs stop → LeavesNames p a b inputs outputs
+  unfoldable pub names_of : (a b : P) (inputs outputs : List (List ℕ)) (stop : Option Stop) → LeavesPlace p a b inputs outputs stop → LeavesNames p a b inputs outputs
   names_of a b inputs outputs stop stage = record {
     opens = stage.opens;
     unopened = stage.unopened;
@@ -62,7 +62,7 @@ module _ {P : Type 0} (p : PlaceSeen P) where
   }
 
   -- and so does a run that goes on after a stage, and changes files that were created alone
-  pub names_then : (a b c : P) (inputs outputs : List (List ℕ)) → LeavesPlace p a b inputs outputs None → p.opened c ≡ p.opened b → p.created c ≡ p.created b → KeepsOthers (p.files b) (p.files c) outputs → LeavesNames p a c inputs outputs
+  unfoldable pub names_then : (a b c : P) (inputs outputs : List (List ℕ)) → LeavesPlace p a b inputs outputs None → p.opened c ≡ p.opened b → p.created c ≡ p.created b → KeepsOthers (p.files b) (p.files c) outputs → LeavesNames p a c inputs outputs
   names_then a b c inputs outputs stage opened created others =
       let made : outputs ≡ stage.makes = stage.outputs_are ∙ ap (λ ns. stage.makes ++ ns) (stage.makes_all refl) ∙ append-nil stage.makes in
       record {

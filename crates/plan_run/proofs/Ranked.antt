@@ -2,7 +2,7 @@
 use Rattle.std.proofs.Common.{◌≡◌, ◌≢◌, inl, inr, ◌≤◌, ℕ, Bool, true, false, nat_lt, cond, List, [], ◌∷◌, All, Option, Some, Ok, Err, refl, subst, arith}
 use Rattle.std.specs.Prelude.{fold}
 use Rattle.std.proofs.lemmas.Bool.{ltb-false, ltb-true}
-use Rattle.std.proofs.lemmas.List.Elements.{All-cons, All-nil}
+use Rattle.std.proofs.lemmas.List.Elements.{All-cons, All-nil, All-weaker}
 use Rattle.outer_io.specs.declared.cutter.CutFault.{CutFault}
 use Rattle.outer_io.specs.declared.cutter.CutFault.TheVariants as cut
 use Rattle.plan_run.proofs.Joined.{End}
@@ -56,6 +56,10 @@ folded_ranked (x ∷ xs) acc =
 -- the end of several
 pub all_ranked : (ends : List End) → ComesFirst (rank_end (all_ends ends)) ends
 all_ranked ends = (folded_ranked ends (Ok tt)).1
+
+-- an end that comes no later than several together comes no later than each
+pub within : (n : ℕ) (ends : List End) → n ≤ rank_end (all_ends ends) → ComesFirst n ends
+within n ends first = All-weaker (λ (e : End). rank_end (all_ends ends) ≤ rank_end e) (λ (e : End). n ≤ rank_end e) (λ e less. omega (arith, first, less)) ends (all_ranked ends)
 
 -- an end before all others is by want of memory
 pub lacking : (e : End) → rank_end e ≤ 0 → e ≡ Err NoMemory

@@ -103,6 +103,15 @@ module _ {I : Type 0} (left : I → Option (List ℕ)) (faults : I → ℕ) wher
       let it = subst (GivesUntil left faults start now given) much until in
       Told-some (input_size left start) size (λ n. input_limit < n) told it.1
 
+  -- and one that is over the limit was given until too much, or until another fault
+  until_named : (start now : Cutter I) (given : List Line) (f : Option CutFault) (size : ℕ) → input_size left start ≡ Some size → GivesUntil left faults start now given f → f ≢ Some cut.Read → f ≢ Some cut.NoMemory → input_limit < size → f ≡ Some cut.TooMuch
+  until_named start now given None size told until read found large =
+      let within = Told-some (input_size left start) size (λ n. n ≤ input_limit) told until.0.size in
+      absurd (omega (arith, within, large))
+  until_named start now given (Some cut.TooMuch) size told until read found large = refl
+  until_named start now given (Some cut.Read) size told until read found large = absurd (read refl)
+  until_named start now given (Some cut.NoMemory) size told until read found large = absurd (found refl)
+
   module _ (schema : Schema) (end : Result (Unit {0}) Stop) (planned : end ≢ Err PlanRefused) (files : Files) where
     pub takes_feed : (name : List ℕ) (job : FeedJob I) (feed : FeedRows) → IsJobOf left faults schema (Some (file_or_empty files name)) job → GaveRows job feed → rank_end end ≤ rank_end (feed_end feed.fault) → ReportsFeed schema end files name feed
     takes_feed name job feed is gave first =
@@ -127,6 +136,7 @@ module _ {I : Type 0} (left : I → Option (List ℕ)) (faults : I → ℕ) wher
           whole = λ r m. sym (split ∙ ap (λ (ls : List Line). feed.rows ++ map row ls) (some.2 r m) ∙ append-nil feed.rows);
           read = feed_read end planned feed.fault first;
           too_much = λ much. let large = until_large job.cutter gave.cutter gave.lines feed.fault (0 + length bytes) size much gave.given in omega (arith, large);
+          large = λ r m much. until_named job.cutter gave.cutter gave.lines feed.fault (0 + length bytes) size gave.given r m (omega (arith, much));
           no_memory = feed_lacking end planned feed.fault first;
         }
 

@@ -37,7 +37,7 @@ use Rattle.plan_run.proofs.Joined.{All-unmapped, End}
 use Rattle.plan_run.proofs.Landed.{AllPairs-back, AllPairs-front, AllPairs-last, told_pair}
 use Rattle.plan_run.proofs.Landing.{LandsAs, all_landed_as}
 use Rattle.plan_run.proofs.Named.{dones_named}
-use Rattle.plan_run.proofs.Ranked.{ComesFirst, all_ranked, lacking, rank_end}
+use Rattle.plan_run.proofs.Ranked.{ComesFirst, all_ranked, lacking, rank_end, within}
 use Rattle.plan_run.proofs.Taken.{Gave, GaveRows, StandsAfterOne, all_gave, points_begin, takes_feed}
 use Rattle.plan_run.proofs.Zips.{AllZip-ap, AllZip-mapped, AllZip-with}
 use Rattle.plan_run.specs.Interrupted.{Account, BeginsFiles, AnswersInFile, HoldsFiles, InterleavesFronts, StopsScript, ReportsFeed, account_text, accepted_lists, is_script_unread, is_unread, read_stops}
@@ -69,10 +69,6 @@ Answer = Result (Unit {0}) IoFault
 
 abbrev well : End
 well = Ok tt
-
--- an end that comes no later than several together comes no later than each
-within : (n : ℕ) (ends : List End) → n ≤ rank_end (all_ends ends) → ComesFirst n ends
-within n ends first = All-weaker (λ (e : End). rank_end (all_ends ends) ≤ rank_end e) (λ (e : End). n ≤ rank_end e) (λ e less. omega (arith, first, less)) ends (all_ranked ends)
 
 -- writing that neither failed nor found no memory went well
 fine : (answer : Answer) → answer ≢ Err io.Failed → answer ≢ Err io.NoMemory → answer ≡ Ok tt
@@ -294,10 +290,10 @@ module _ {P I O T : Type 0} (p : PlaceSeen P) (i : PartSeen I) (s : SinkSeen O) 
         AllZip-then (IsSessionOf i.left i.faults s (Some files)) (LeavesTranscript i.left i.faults s.held s.faults s.name OwnsAllButRoot plan.schema true crewed.closed crewed.starved points) (HasRun i s plan.schema true crewed.closed crewed.starved points files result)
         plan.finals parts.finals crewed.finals (λ name before d r l. record { before = before; ready = r; leaves = l }) it_is.finals ran.finals
 
-    stopped : (final : Bool) (scripts : List (List ℕ)) (sessions : List (SessionDone I O)) → AllZip (HasRun i s plan.schema final crewed.closed crewed.starved points files result) scripts sessions → All SessionFirst sessions → AllZip (StopsScript result files) scripts (map script_counts sessions)
+    stopped : (final : Bool) (scripts : List (List ℕ)) (sessions : List (SessionDone I O)) → AllZip (HasRun i s plan.schema final crewed.closed crewed.starved points files result) scripts sessions → All SessionFirst sessions → AllZip (StopsScript plan.schema crewed.closed result files) scripts (map script_counts sessions)
     stopped final scripts sessions run first =
-        AllZip-mapped (StopsScript result files) script_counts scripts sessions
-        (AllZip-with (HasRun i s plan.schema final crewed.closed crewed.starved points files result) SessionFirst (λ name d. StopsScript result files name (script_counts d)) scripts sessions
+        AllZip-mapped (StopsScript plan.schema crewed.closed result files) script_counts scripts sessions
+        (AllZip-with (HasRun i s plan.schema final crewed.closed crewed.starved points files result) SessionFirst (λ name d. StopsScript plan.schema crewed.closed result files name (script_counts d)) scripts sessions
         (stops_script i s plan.schema final crewed.closed crewed.starved points files result planned) run first)
 
     told_read : p.files closes.parts.read ≡ Some now
@@ -427,8 +423,8 @@ module _ {P I O T : Type 0} (p : PlaceSeen P) (i : PartSeen I) (s : SinkSeen O) 
           let finals_answered = answered true plan.finals crewed.finals finals_run (finals_unbroken quiet) back in
           let closed_asks = λ (shut : crewed.closed ≡ true). subst (λ b. AllZip (AnswersInFile plan.schema false b points result files last.0) plan.asks (map script_counts crewed.asks)) shut asks_answered in
           let closed_finals = λ (shut : crewed.closed ≡ true). subst (λ b. AllZip (AnswersInFile plan.schema true b points result files last.0) plan.finals (map script_counts crewed.finals)) shut finals_answered in
-          let asks_stopped = stopped false plan.asks crewed.asks asks_run asks_first in
-          let finals_stopped = stopped true plan.finals crewed.finals finals_run finals_first in
+          let closed_asks_stopped = λ (shut : crewed.closed ≡ true). subst (λ b. AllZip (StopsScript plan.schema b result files) plan.asks (map script_counts crewed.asks)) shut (stopped false plan.asks crewed.asks asks_run asks_first) in
+          let closed_finals_stopped = λ (shut : crewed.closed ≡ true). subst (λ b. AllZip (StopsScript plan.schema b result files) plan.finals (map script_counts crewed.finals)) shut (stopped true plan.finals crewed.finals finals_run finals_first) in
           subst (λ f. IsSomeAnd f (HoldsFiles plan result account files)) (sym last.1)
           (record {
             begins = begins;
@@ -438,5 +434,5 @@ module _ {P I O T : Type 0} (p : PlaceSeen P) (i : PartSeen I) (s : SinkSeen O) 
             unbroken = (All-map Whole script_counts crewed.asks (asks_unbroken quiet), All-map Whole script_counts crewed.finals (finals_unbroken quiet));
             all = λ found unread.
                 let shut = (ran.found (fed_where crewed.starved refl found)).closed in
-                all_held plan result files last.0 found unread gave.feeds (map script_counts crewed.asks) (map script_counts crewed.finals) crewed.journal takes (drawn found) (closed_asks shut) asks_stopped (closed_finals shut) finals_stopped;
+                all_held plan result files last.0 found unread gave.feeds (map script_counts crewed.asks) (map script_counts crewed.finals) crewed.journal takes (drawn found) (closed_asks shut) (closed_asks_stopped shut) (closed_finals shut) (closed_finals_stopped shut);
           })

@@ -44,24 +44,6 @@ module _ {P : Type 0} (p : PlaceSeen P) (a b : P) where
       subst (λ o. IsSomeAnd o (λ now. All (λ name. get now name ≡ Some []) makes)) (sym now.1)
       (All-weaker (λ name. HasFile (p.files b) name []) (λ name. get now.0 name ≡ Some []) (λ name has. Told-some (p.files b) now.0 (λ f. get f name ≡ Some []) now.1 has) makes (empty (some_is (p.files a) files told))))
 
-  -- opening that ends by a read fault has not created all outputs of the plan
-  pub read_unmade : (plan : Plan) (inputs outs : List (List ℕ)) (stop : Option Stop) → LeavesPlace p a b inputs outs stop → stop ≡ Some ReadFault → p.created b ≡ p.created a ++ output_names plan → ⊥
-  read_unmade plan inputs outs stop leaves is all =
-      let none = length-append (p.created a) leaves.makes in
-      let some = length-append (p.created a) (output_names plan) in
-      let last = length-append (outputs plan.asks ++ outputs plan.finals) (plan.journal ∷ []) in
-      omega (arith, none, some, last, ap length leaves.created, ap length all, ap length (leaves.read_first is))
-
--- opening that ends a run leaves what it created empty, where no write failed
-pub ended_early : {P T : Type 0} (p : PlaceSeen P) (t : SinkSeen T) (place mid : P) (out out1 : T) (plan : Plan) (inputs outs : List (List ℕ)) (stop : Option Stop) → LeavesPlace p place mid inputs outs stop → ¬ Rose (p.write_faults place) (p.write_faults mid)
-    → Silent t out out1 ⊎ ((opens : List (List ℕ)) × RefusesLast plan.schema (file_of (p.files place)) opens (Puts t out out1)) → EndsBeforeThreads p t place mid out out1 plan
-ended_early p t place mid out out1 plan inputs outs stop leaves no_write puts = record {
-  puts = puts;
-  makes = leaves.makes;
-  created = leaves.created;
-  empty = empty_made p place mid leaves.makes leaves.others (leaves.emptied (λ _. no_write));
-}
-
 module _ {P I O : Type 0} (p : PlaceSeen P) (i : PartSeen I) (s : SinkSeen O) (plan : Plan) (parts : RunParts I O) (files : Option Files) (ready : AreReady i.left i.faults s files plan parts) (told : IsSome files) where
   abbrev sink_in : SessionState I O → O
   sink_in session = session.sink

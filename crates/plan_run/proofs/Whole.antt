@@ -51,15 +51,6 @@ use Rattle.session_core.specs.Scripts.{is_script_refused}
 use Rattle.session_core.specs.declared.fault.SessionFault.TheVariants as fault
 use Rattle.world_core.specs.Interleaving.{IsInterleaving, entry_points, list_of}
 
-abbrev well_done : Result (Unit {0}) IoFault
-well_done = Ok tt
-
-ok_is_no_fault : ¬ IsErrOf well_done io.Failed
-ok_is_no_fault bad = cc bad
-
-none_is_none : {F : Type 0} (o : Option F) (f : F) → o ≡ None → o ≢ Some f
-none_is_none o f none is = cc
-
 module _ {P I O T : Type 0} (p : PlaceSeen P) (i : PartSeen I) (s : SinkSeen O) (t : SinkSeen T) (plan : Plan) (parts : RunParts I O) (place place' : P) (out out' : T) where
   -- What ended well of a run that was closed, and was to end well
   pub record EndsWell (crewed : Crewed I O) (closes : ClosesRun plan (run_done_of crewed parts.journal) p s t i.faults place place' out out' (Ok tt)) : Type 0 where
@@ -179,46 +170,3 @@ module _ {P I O T : Type 0} (p : PlaceSeen P) (i : PartSeen I) (s : SinkSeen O) 
         finals = to_finals.1;
         report = subst (Gains (t.held out) (t.held out')) report puts;
       })
-
-  -- no count rose in a run that was closed and ended well
-  pub all_quiet : (files : Option Files) (crewed : Crewed I O) → AreReady i.left i.faults s files plan parts → IsCrewed i.left i.faults s.held s.faults s.name OwnsAllButRoot plan.schema (jobs_of parts) crewed
-      → (closes : ClosesRun plan (run_done_of crewed parts.journal) p s t i.faults place place' out out' (Ok tt)) → (p.read_faults place' ≡ p.read_faults place) × (p.write_faults place' ≡ p.write_faults place) × (t.faults out' ≡ t.faults out)
-  all_quiet files crewed ready ran closes =
-      let well = ends_well crewed closes in
-      let points = entry_points crewed.journal in
-      let back = closes.parts in
-      let fresh : All (λ (job : FeedJob I). i.faults job.cutter.source ≡ 0) parts.feeds =
-      AllZip-right (λ name. IsJobOf i.left i.faults plan.schema (file_of files name)) (λ (job : FeedJob I). i.faults job.cutter.source ≡ 0) plan.feeds parts.feeds (λ name job is. is.fresh) ready.feeds in
-      let feeds : All (FeedCause i.faults) crewed.feeds = feed_causes i.left i.faults parts.feeds ran.sent crewed.feeds fresh ran.feeds in
-      let asks : All (SessionCause i.faults s.faults) crewed.asks = session_causes i s OwnsAllButRoot plan.schema false crewed.closed crewed.starved points files plan.asks parts.asks crewed.asks ready.asks ran.asks in
-      let finals : All (SessionCause i.faults s.faults) crewed.finals = session_causes i s OwnsAllButRoot plan.schema true crewed.closed crewed.starved points files plan.finals parts.finals crewed.finals ready.finals ran.finals in
-      let fed_quiet = quiet_feeds crewed.feeds feeds well.feeds in
-      let asks_quiet = quiet_sources crewed.asks asks well.asks in
-      let finals_quiet = quiet_sources crewed.finals finals well.finals in
-      let sinks_quiet = All-append (λ sink. s.faults sink ≡ 0) (map sink_of crewed.asks) (map sink_of crewed.finals) (quiet_sinks crewed.asks asks well.asks) (quiet_sinks crewed.finals finals well.finals) in
-      let read : p.read_faults back.read ≡ p.read_faults place = back.finals_back.quiet finals_quiet ∙ back.asks_back.quiet asks_quiet ∙ back.feeds_back.quiet fed_quiet in
-      let sinks_back = subst (λ r. OnOk r (All (λ sink. s.faults sink ≡ 0) (map sink_of crewed.asks ++ map sink_of crewed.finals) → p.write_faults closes.replied ≡ p.write_faults back.read)) well.given back.sinks_back.quiet in
-      let journal_quiet : s.faults closes.sink ≡ 0 = closes.written.cause.quiet (λ bad. ok_is_no_fault (subst (λ r. IsErrOf r io.Failed) well.wrote bad)) ∙ ready.journal.fresh in
-      let kept = (closes.journal.counts.cause journal_quiet).quiet (λ bad. ok_is_no_fault (subst (λ r. IsErrOf r io.Failed) well.kept bad)) in (
-        closes.journal.read_faults ∙ back.sinks_back.read_faults ∙ read,
-        kept ∙ sinks_back sinks_quiet ∙ back.finals_back.write_faults ∙ back.asks_back.write_faults ∙ back.feeds_back.write_faults,
-        (subst (λ r. OnOk r (Said t out out' (run_text plan (run_done_of crewed parts.journal)))) well.said closes.report.puts).faults,
-      )
-    where
-      quiet_feeds : (dones : List (FeedDone I)) → All (FeedCause i.faults) dones → All (λ (done : FeedDone I). done.fault ≡ None) dones → All (λ n. n ≡ 0) (map (λ (done : FeedDone I). i.faults done.source) dones)
-      quiet_feeds [] causes well = All-nil (λ n. n ≡ 0)
-      quiet_feeds (d ∷ dones) causes well =
-          All-cons (λ n. n ≡ 0) (i.faults d.source) (map (λ (done : FeedDone I). i.faults done.source) dones) ((All-head (FeedCause i.faults) d dones causes).quiet (λ is. none_is_none d.fault cut.Read (All-head (λ (done : FeedDone I). done.fault ≡ None) d dones well) is))
-          (quiet_feeds dones (All-tail (FeedCause i.faults) d dones causes) (All-tail (λ (done : FeedDone I). done.fault ≡ None) d dones well))
-
-      quiet_sources : (dones : List (SessionDone I O)) → All (SessionCause i.faults s.faults) dones → All (λ (done : SessionDone I O). done.fault ≡ None) dones → All (λ n. n ≡ 0) (map (λ (done : SessionDone I O). i.faults done.source) dones)
-      quiet_sources [] causes well = All-nil (λ n. n ≡ 0)
-      quiet_sources (d ∷ dones) causes well =
-          All-cons (λ n. n ≡ 0) (i.faults d.source) (map (λ (done : SessionDone I O). i.faults done.source) dones) ((All-head (SessionCause i.faults s.faults) d dones causes).read_quiet (λ is. none_is_none d.fault fault.Read (All-head (λ (done : SessionDone I O). done.fault ≡ None) d dones well) is))
-          (quiet_sources dones (All-tail (SessionCause i.faults s.faults) d dones causes) (All-tail (λ (done : SessionDone I O). done.fault ≡ None) d dones well))
-
-      quiet_sinks : (dones : List (SessionDone I O)) → All (SessionCause i.faults s.faults) dones → All (λ (done : SessionDone I O). done.fault ≡ None) dones → All (λ sink. s.faults sink ≡ 0) (map sink_of dones)
-      quiet_sinks [] causes well = All-nil (λ sink. s.faults sink ≡ 0)
-      quiet_sinks (d ∷ dones) causes well =
-          All-cons (λ sink. s.faults sink ≡ 0) d.sink (map sink_of dones) ((All-head (SessionCause i.faults s.faults) d dones causes).write_quiet (λ is. none_is_none d.fault fault.Write (All-head (λ (done : SessionDone I O). done.fault ≡ None) d dones well) is))
-          (quiet_sinks dones (All-tail (SessionCause i.faults s.faults) d dones causes) (All-tail (λ (done : SessionDone I O). done.fault ≡ None) d dones well))

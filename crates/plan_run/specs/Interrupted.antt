@@ -21,6 +21,7 @@ use Rattle.run_files.specs.declared.stop.Stop.TheVariants.{NoMemory, PlanRefused
 use Rattle.run_report.specs.Reports.{FeedRows, report_text}
 use Rattle.run_report.specs.declared.counts.ScriptCounts.{ScriptCounts}
 use Rattle.session_core.specs.Asked.{asked}
+use Rattle.session_core.specs.Scripts.{is_script_refused}
 use Rattle.session_core.specs.Transcript.{IsTranscript, replies_text}
 use Rattle.session_core.specs.declared.fault.SessionFault.{SessionFault}
 use Rattle.session_core.specs.declared.fault.SessionFault.TheVariants as fault
@@ -97,17 +98,20 @@ pub record ReportsFeed (schema : Schema) (end : Result (Unit {0}) Stop) (files :
   pub whole : feed.fault ≢ Some cut.Read → feed.fault ≢ Some cut.NoMemory → feed.rows ≡ rows schema (file_or_empty files name)
   -- `stopped: Read` comes only where the run ends so, or for want of memory
   pub read : feed.fault ≡ Some cut.Read → IsReadOrLacking end
-  -- `stopped: TooMuch` only for a file of more than 2^30 bytes
+  -- `stopped: TooMuch` only for a file of more than 2^30 bytes, and for each one that was read so far
   pub too_much : feed.fault ≡ Some cut.TooMuch → input_limit < length (file_or_empty files name)
+  pub large : feed.fault ≢ Some cut.Read → feed.fault ≢ Some cut.NoMemory → input_limit < length (file_or_empty files name) → feed.fault ≡ Some cut.TooMuch
   -- `stopped: NoMemory` only where the run ends so
   pub no_memory : feed.fault ≡ Some cut.NoMemory → end ≡ Err NoMemory
 
--- Why a run that ended so says that the script of that name was stopped
-pub record StopsScript (end : Result (Unit {0}) Stop) (files : Files) (name : List ℕ) (script : ScriptCounts) : Type 0 where
+-- Why a run that ended so, and whose sessions were closed or not, says that the script of that name was stopped
+pub record StopsScript (schema : Schema) (closed : Bool) (end : Result (Unit {0}) Stop) (files : Files) (name : List ℕ) (script : ScriptCounts) : Type 0 where
   -- `stopped: Read` comes only where the run ends so, or for want of memory
   pub read : script.fault ≡ Some fault.Read → IsReadOrLacking end
   -- `stopped: TooMuch` only for a file of more than 2^30 bytes
   pub too_much : script.fault ≡ Some fault.TooMuch → input_limit < length (file_or_empty files name)
+  -- and where the sessions were closed for each script that has no `quit` before that, and ran so far
+  pub refused : closed ≡ true → script.fault ≢ Some fault.Read → script.fault ≢ Some fault.Write → script.fault ≢ Some fault.NoMemory → is_script_refused schema (file_or_empty files name) ≡ true → script.fault ≡ Some fault.TooMuch
   -- `stopped: NoMemory` only where the run ends so
   pub no_memory : script.fault ≡ Some fault.NoMemory → end ≡ Err NoMemory
 
@@ -150,8 +154,8 @@ pub record BeginsFiles (plan : Plan) (end : Result (Unit {0}) Stop) (account : A
   -- of each feed the rows are a beginning of the file's, or all
   pub feeds : AllZip (ReportsFeed plan.schema end files) plan.feeds account.feeds
   -- a script is stopped only with its cause
-  pub asks : AllZip (StopsScript end files) plan.asks account.asks
-  pub finals : AllZip (StopsScript end files) plan.finals account.finals
+  pub asks : AllZip (StopsScript plan.schema account.closed end files) plan.asks account.asks
+  pub finals : AllZip (StopsScript plan.schema account.closed end files) plan.finals account.finals
   -- the sessions were closed unless memory was wanted
   pub closed : account.closed ≡ false → end ≡ Err NoMemory
 

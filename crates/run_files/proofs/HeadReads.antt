@@ -24,10 +24,10 @@ use Rattle.outer_io.specs.Faults.{Rose}
 use Rattle.outer_io.specs.Files.{Files, file_or_empty}
 use Rattle.run_files.proofs.Putting.{fails_after, puts_after, silent_after, silent_itself}
 use Rattle.run_files.proofs.Returning.{leaves_given_back}
-use Rattle.run_files.proofs.Stages.{leaves_reading, leaves_then, leaves_more, nothing_made, all_opened}
+use Rattle.run_files.proofs.Stages.{fails_at, fails_on, leaves_reading, leaves_then, leaves_more, nothing_made, all_opened}
 use Rattle.run_report.specs.Lines.{head_line}
 use Rattle.run_files.specs.GivingBack.{TakesSources}
-use Rattle.run_files.specs.Leaving.{LeavesPlace}
+use Rattle.run_files.specs.Leaving.{FailsAtLast, LeavesPlace}
 use Rattle.run_files.specs.Headed.{HasHeader, IsHeaded, OpensFeeds, RefusesHead, RefusesLast}
 use Rattle.run_files.specs.Outside.{FailsToPut, file_of, PlaceSeen, Puts, Silent, SinkSeen}
 use Rattle.run_files.specs.declared.stop.Stop.{Stop}
@@ -113,6 +113,7 @@ module _ {P O : Type 0} (p : PlaceSeen P) (s : SinkSeen O) (schema : Schema) whe
       → OpensFeeds p s schema a c o o' others stop
   opens_leaving a b c o o' names others stop one leaves same = record {
     leaves = leaves;
+    first = λ e. subst (FailsAtLast p a) (sym same) (one.first e);
     headed = λ i lt. subst (λ ns. HasHeader schema (file_of (p.files a) (get_or ns i []))) (sym same) (one.headed i (subst (λ ns. i + 1 < length ns) same lt));
     refused = λ e. subst (λ ns. RefusesLast schema (file_of (p.files a)) ns (Puts s o o')) (sym same) (one.refused e);
     unsaid = λ e. subst (λ ns. RefusesLast schema (file_of (p.files a)) ns (FailsToPut s o o')) (sym same) (one.unsaid e);
@@ -132,6 +133,7 @@ module _ {P O : Type 0} (p : PlaceSeen P) (s : SinkSeen O) (schema : Schema) whe
   opens_unnamed a b o stop only opened created write files quiet = record {
     leaves = leaves_reading p a b [] [] [] stop refl (opened ∙ sym (append-nil _)) (λ _. refl) created write files (λ e. let k = only ReadFault e in absurd (cc)) (λ _. quiet);
     headed = λ i lt. absurd (omega (arith, lt));
+    first = λ e. let k = only ReadFault e in absurd (cc);
     refused = λ e. let k = only FeedRefused e in absurd (cc);
     unsaid = λ e. let k = only WriteFault e in absurd (cc);
     silent = λ _ _. silent_itself s o;
@@ -160,6 +162,7 @@ module _ {P O : Type 0} (p : PlaceSeen P) (s : SinkSeen O) (schema : Schema) whe
   opens_one a b o o' name stop opened created write files read quiet refused unsaid silent ends = record {
     leaves = leaves_reading p a b (name ∷ []) (name ∷ []) [] stop refl opened (λ _. refl) created write files read quiet;
     headed = λ i lt. absurd (omega (arith, lt));
+    first = λ _. fails_at p a name;
     refused = λ e. record { earlier = []; name = name; names_are = refl; refuses = refused e };
     unsaid = λ e. record { earlier = []; name = name; names_are = refl; refuses = unsaid e };
     silent = silent;
@@ -175,6 +178,7 @@ module _ {P O : Type 0} (p : PlaceSeen P) (s : SinkSeen O) (schema : Schema) whe
       let quiet = one.silent (λ e. cc) (λ e. cc) in
       record {
         leaves = leaves_then p a b c first (name ∷ []) [] stop one.leaves two.leaves;
+        first = λ e. fails_on p a b one.leaves.opens two.leaves.opens one.leaves.opened (one.leaves.read_quiet (λ e. cc)) (two.first e);
         headed = λ i lt. HasHeader-first schema (p.files a) first one.leaves.opens two.leaves.opens i all (all_opened p a b first [] one.leaves) (one_at_most name two.leaves.opens two.leaves.unopened two.leaves.inputs_are) lt;
         refused = λ e. refuses_on schema (p.files a) (p.files b) one.leaves.opens two.leaves.opens _ _ same (puts_after s o o' o'' quiet) (two.refused e);
         unsaid = λ e. refuses_on schema (p.files a) (p.files b) one.leaves.opens two.leaves.opens _ _ same (fails_after s o o' o'' quiet) (two.unsaid e);

@@ -296,6 +296,7 @@ module _ {P O : Type 0} (p : PlaceSeen P) (s : SinkSeen O) where
           others = KeepsOthers-fewer (p.files a) (p.files c) one.leaves.makes (map s.name sinks) (λ n within. subst (λ (ns : List (List ℕ)). Contains ns n) (sym makes) (Contains-append_right first (map s.name sinks ++ rest) n (Contains-append_left (map s.name sinks) rest n within)))
               (KeepsOthers-more (p.files a) (p.files b) (p.files c) one.leaves.makes (map s.name sinks) one.leaves.others back.others);
         };
+        first = λ e. absurd (read' (same_stop _ _ e));
         write = λ e.
             let end = same_stop _ _ e in
             elim (write_or_not stop) [

@@ -8,7 +8,7 @@ use Rattle.std.specs.Result.{result_err}
 use Rattle.outer_io.specs.Faults.{Rose}
 use Rattle.outer_io.specs.Files.{ChangesOnly, Files, HasFile}
 use Rattle.run_files.proofs.Emptied.{emptied_after, told_still}
-use Rattle.run_files.specs.Leaving.{KeepsOthers, LeavesPlace}
+use Rattle.run_files.specs.Leaving.{FailsAtLast, KeepsOthers, LeavesPlace}
 use Rattle.run_files.specs.Outside.{PlaceSeen}
 use Rattle.run_files.specs.declared.stop.Stop.{Stop}
 use Rattle.run_files.specs.declared.stop.Stop.TheVariants.{NoMemory, ReadFault}
@@ -84,6 +84,21 @@ module _ {P : Type 0} (p : PlaceSeen P) where
   -- and these are empty
   pub all_empty : (a b : P) (inputs outputs : List (List ℕ)) → LeavesPlace p a b inputs outputs None → IsSome (p.files a) → All (λ name. HasFile (p.files b) name []) outputs
   all_empty a b inputs outputs stage told = subst (λ names. All (λ name. HasFile (p.files b) name []) names) (sym (all_made a b inputs outputs stage)) (stage.emptied (λ other. absurd (other refl)) told)
+
+  -- a read fails first at a name that is opened
+  pub fails_at : (a : P) (name : List ℕ) → FailsAtLast p a (name ∷ [])
+  fails_at a name = record { earlier = []; last = name; opens_are = refl; reached = a; opened = sym (append-nil _); quiet = refl }
+
+  -- also where others were opened before, and no read failed
+  pub fails_on : (a b : P) (first opens : List (List ℕ)) → p.opened b ≡ p.opened a ++ first → p.read_faults b ≡ p.read_faults a → FailsAtLast p b opens → FailsAtLast p a (first ++ opens)
+  fails_on a b first opens opened quiet one = record {
+    earlier = first ++ one.earlier;
+    last = one.last;
+    opens_are = ap (λ o. first ++ o) one.opens_are ∙ sym (append_assoc first one.earlier (one.last ∷ []));
+    reached = one.reached;
+    opened = one.opened ∙ (ap (λ o. o ++ one.earlier) opened ∙ append_assoc (p.opened a) first one.earlier);
+    quiet = one.quiet ∙ quiet;
+  }
 
   -- a stage that reads alone, and opened these of its names
   unfoldable pub leaves_reading : (a b : P) (inputs opens unopened : List (List ℕ)) (stop : Option Stop) → inputs ≡ opens ++ unopened → p.opened b ≡ p.opened a ++ opens → (stop ≡ None → unopened ≡ [])
@@ -236,7 +251,7 @@ module _ {P : Type 0} (p : PlaceSeen P) where
       }
 
   -- a stage that ends the run has created those from the front of more names
-  pub leaves_unmade : (a b : P) (inputs outputs more : List (List ℕ)) (stop : Stop) → LeavesPlace p a b inputs outputs (Some stop) → LeavesPlace p a b inputs (outputs ++ more) (Some stop)
+  unfoldable pub leaves_unmade : (a b : P) (inputs outputs more : List (List ℕ)) (stop : Stop) → LeavesPlace p a b inputs outputs (Some stop) → LeavesPlace p a b inputs (outputs ++ more) (Some stop)
   leaves_unmade a b inputs outputs more stop one = record {
     opens = one.opens;
     unopened = one.unopened;

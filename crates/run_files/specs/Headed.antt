@@ -8,11 +8,11 @@ use Rattle.feed_reader.specs.declared.header.HeadFault.TheVariants as head
 use Rattle.outer_io.specs.Cutting.{Cutter, IsNew}
 use Rattle.outer_io.specs.Told.{Told}
 use Rattle.run_report.specs.Lines.{head_line}
-use Rattle.run_files.specs.Leaving.{LeavesPlace}
+use Rattle.run_files.specs.Leaving.{FailsAtLast, LeavesPlace}
 use Rattle.run_files.specs.Outside.{FailsToPut, file_of, PlaceSeen, Puts, Silent, SinkSeen}
 use Rattle.run_files.specs.declared.feeds.HeadedFeed.{HeadedFeed}
 use Rattle.run_files.specs.declared.stop.Stop.{Stop}
-use Rattle.run_files.specs.declared.stop.Stop.TheVariants.{PlanRefused, WriteFault, FeedRefused}
+use Rattle.run_files.specs.declared.stop.Stop.TheVariants.{PlanRefused, ReadFault, WriteFault, FeedRefused}
 
 module _ {S : Type 0} (left : S → Option (List ℕ)) (faults : S → ℕ) (schema : Schema) where
   -- a cutter was made of the source, and gave its first line, which is the header
@@ -53,6 +53,8 @@ pub record OpensFeeds {P O : Type 0} (p : PlaceSeen P) (s : SinkSeen O) (schema 
   pub leaves : LeavesPlace p place place' names [] stop
   -- the first trouble ends the run: each feed that was opened before another one has a header
   pub headed : (i : ℕ) → i + 1 < length leaves.opens → HasHeader schema (file_of (p.files place) (get_or leaves.opens i []))
+  -- a read fault ends it at the feed that was opened last
+  pub first : stop ≡ Some ReadFault → FailsAtLast p place leaves.opens
   -- the one that was opened last is refused, which is said, or a part of it where the put fails
   pub refused : stop ≡ Some FeedRefused → RefusesLast schema (file_of (p.files place)) leaves.opens (Puts s out out')
   pub unsaid : stop ≡ Some WriteFault → RefusesLast schema (file_of (p.files place)) leaves.opens (FailsToPut s out out')

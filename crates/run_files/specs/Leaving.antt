@@ -1,5 +1,5 @@
 -- What a stage of a run leaves of a place.
-use Rattle.std.specs.Prelude.{◌≡◌, ◌≢◌, ℕ, List, [], ◌++◌, All, Contains, Option, Some, None, IsSome, IsSomeAnd, ◌⊎◌}
+use Rattle.std.specs.Prelude.{◌≡◌, ◌≢◌, ℕ, List, [], ◌∷◌, ◌++◌, All, Contains, Option, Some, None, IsSome, IsSomeAnd, ◌⊎◌}
 use Rattle.std.specs.FinMap.{get}
 use Rattle.outer_io.specs.Faults.{Rose}
 use Rattle.outer_io.specs.Files.{Files, HasFile}
@@ -11,6 +11,16 @@ use Rattle.run_files.specs.declared.stop.Stop.TheVariants.{NoMemory, ReadFault, 
 -- files that were told are told still, and only files of these names may have changed
 abbrev pub KeepsOthers : Option Files → Option Files → List (List ℕ) → Type 0
 KeepsOthers before after names = Told before (λ files. IsSomeAnd after (λ now. (other : List ℕ) → ¬ Contains names other → get now other ≡ get files other))
+
+-- The last of these names, which were opened one after another, is the first at which a read failed
+pub record FailsAtLast {P : Type 0} (p : PlaceSeen P) (before : P) (opens : List (List ℕ)) : Type 0 where
+  pub earlier : List (List ℕ)
+  pub last : List ℕ
+  pub opens_are : opens ≡ earlier ++ last ∷ []
+  -- the place was this when the earlier ones were opened, and no read had failed
+  pub reached : P
+  pub opened : p.opened reached ≡ p.opened before ++ earlier
+  pub quiet : p.read_faults reached ≡ p.read_faults before
 
 -- What a stage leaves of a place, which is to open and then to create these names, by what ends the run with it, if it
 -- does. The stages of a run follow each other, so this is also what several of them leave, of all their names.

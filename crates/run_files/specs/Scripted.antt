@@ -7,11 +7,11 @@ use Rattle.outer_io.specs.Cutting.{Cutter, IsNew}
 use Rattle.outer_io.specs.Faults.{Rose}
 use Rattle.outer_io.specs.Files.{Files}
 use Rattle.outer_io.specs.Told.{Told}
-use Rattle.run_files.specs.Leaving.{LeavesPlace}
+use Rattle.run_files.specs.Leaving.{FailsAtLast, LeavesPlace}
 use Rattle.run_files.specs.Outside.{file_of, PlaceSeen, SinkSeen}
 use Rattle.run_files.specs.declared.scripts.ScriptParts.{ScriptParts}
 use Rattle.run_files.specs.declared.stop.Stop.{Stop}
-use Rattle.run_files.specs.declared.stop.Stop.TheVariants.{PlanRefused, WriteFault, FeedRefused}
+use Rattle.run_files.specs.declared.stop.Stop.TheVariants.{PlanRefused, ReadFault, WriteFault, FeedRefused}
 
 -- a cutter that has given nothing, over a source that met no fault and has the bytes of the file, where they are told
 pub record IsScript {S : Type 0} (left : S → Option (List ℕ)) (faults : S → ℕ) (file : Option (List ℕ)) (cutter : Cutter S) : Type 0 where
@@ -28,6 +28,8 @@ pub record IsOutput {O : Type 0} (s : SinkSeen O) (files : Option Files) (name :
 -- What opening scripts and creating outputs leaves of a place, by what ends the run with it, if it does
 pub record OpensScripts {P : Type 0} (p : PlaceSeen P) (before after : P) (inputs outputs : List (List ℕ)) (stop : Option Stop) : Type 0 where
   pub leaves : LeavesPlace p before after inputs outputs stop
+  -- a read fault ends the run at the script that was opened last
+  pub first : stop ≡ Some ReadFault → FailsAtLast p before leaves.opens
   -- a write fault has its cause
   pub write : stop ≡ Some WriteFault → Rose (p.write_faults before) (p.write_faults after)
   -- no other end comes than those of the place and want of memory

@@ -1,5 +1,5 @@
 //! A file read whole, and a run's plan.
-ghost use Rattle.std.specs.Prelude.{◌≡◌, ◌≢◌, ◌⊎◌, ◌+◌, [], ◌∷◌, Err, Some, take, IfOk, IfErr};
+ghost use Rattle.std.specs.Prelude.{◌≡◌, ◌≢◌, ◌⊎◌, ◌+◌, [], ◌∷◌, ◌++◌, Err, Some, take, IfOk, IfErr};
 ghost use Rattle.std.specs.Result.{result_err};
 ghost use Rattle.outer_io.specs.Told.{Told};
 ghost use Rattle.run_report.specs.Lines.{plan_line};
@@ -25,6 +25,7 @@ pub fn read_file<P: Place>(
     place: &mut P,
 ) -> Result<List<u8>, Stop>
     ensures leaves { LeavesPlace (seen_place P.files P.read_faults P.write_faults P.opened P.created) place.old place.new (name.now ∷ []) [] (result_err result) }
+    ensures read { result ≡ Err Stop.ReadFault → P.opened place.new ≡ P.opened place.old ++ name.now ∷ [] }
     ensures bytes { IfOk result (λ bytes. Told (file_of (P.files place.old) name.now) (λ all. bytes ≡ take (most + 1) all)) }
     ensures ends { IfErr result (λ end. (end ≢ Stop.PlanRefused) × (end ≢ Stop.WriteFault) × (end ≢ Stop.FeedRefused)) }
 {
@@ -74,6 +75,7 @@ pub fn load_plan<P: Place, O: Sink>(
     out: &mut O,
 ) -> Result<Plan, Stop>
     ensures leaves { LeavesPlace (seen_place P.files P.read_faults P.write_faults P.opened P.created) place.old place.new (name.now ∷ []) [] (result_err result) }
+    ensures read { result ≡ Err Stop.ReadFault → P.opened place.new ≡ P.opened place.old ++ name.now ∷ [] }
     ensures plan { ReadsPlan (seen_sink O.held O.faults O.name) out.old out.new (file_of (P.files place.old) name.now) result }
 {
     let bytes = read_file(alloc, name, LONGEST_PLAN, place)?;

@@ -1,6 +1,6 @@
 -- The stages of opening a run, one after another.
-use Rattle.std.proofs.Common.{◌≡◌, ◌≢◌, ℕ, List, [], ◌∷◌, ◌++◌, Option, Some, None, Result, Ok, Err, All, inl, inr, refl, sym, ap, subst, arith}
-use Rattle.std.proofs.lemmas.List.{append-nil}
+use Rattle.std.proofs.Common.{◌≡◌, ◌≢◌, ℕ, List, [], ◌∷◌, ◌++◌, Option, Some, None, Result, Ok, Err, All, inl, inr, refl, sym, ◌∙◌, ap, subst, arith}
+use Rattle.std.proofs.lemmas.List.{append-nil, append_cancel_left}
 use Rattle.std.specs.Prelude.{IfSome, IsErrAnd, ◌⊎◌}
 use Rattle.std.specs.Result.{result_err}
 use Rattle.cube_schema.specs.Files.{input_names, output_names}
@@ -9,10 +9,10 @@ use Rattle.outer_io.specs.Faults.{Rose}
 use Rattle.outer_io.specs.Files.{Files}
 use Rattle.run_files.proofs.Putting.{silent_after}
 use Rattle.run_files.proofs.Returning.{leaves_given_back}
-use Rattle.run_files.proofs.Stages.{all_opened, leaves_more, leaves_reading, leaves_then, nothing_made}
+use Rattle.run_files.proofs.Stages.{all_opened, fails_at, fails_on, leaves_more, leaves_reading, leaves_then, nothing_made}
 use Rattle.run_files.specs.GivingBack.{TakesSources}
 use Rattle.run_files.specs.Headed.{HasHeader, OpensFeeds}
-use Rattle.run_files.specs.Leaving.{LeavesPlace}
+use Rattle.run_files.specs.Leaving.{FailsAtLast, LeavesPlace}
 use Rattle.run_files.specs.Outside.{file_of, PlaceSeen, Silent, SinkSeen}
 use Rattle.run_files.specs.Planned.{ReadsPlan}
 use Rattle.run_files.specs.Scripted.{OpensScripts}
@@ -44,6 +44,7 @@ module _ {P O : Type 0} (p : PlaceSeen P) (s : SinkSeen O) (plan : Plan) where
   unfolding leaves_more
   feeds_end a b o o' stop one = record {
     leaves = leaves_more p a b plan.feeds (plan.asks ++ plan.finals) (output_names plan) stop one.leaves;
+    first = one.first;
     order = inl (record {
       unopened = one.leaves.unopened;
       feeds_are = one.leaves.inputs_are;
@@ -62,6 +63,7 @@ module _ {P O : Type 0} (p : PlaceSeen P) (s : SinkSeen O) (plan : Plan) where
   nothing_opened a o = feeds_end a a o o NoMemory (record {
     leaves = leaves_reading p a a plan.feeds [] plan.feeds (Some NoMemory) refl (sym (append-nil _)) (λ e. absurd (cc)) refl refl refl (λ e. absurd (cc)) (λ _. refl);
     headed = λ i lt. absurd (omega (arith, lt));
+    first = λ e. absurd (cc);
     refused = λ e. absurd (cc);
     unsaid = λ e. absurd (cc);
     silent = λ _ _. record { held = refl; faults = refl; name = refl };
@@ -76,6 +78,7 @@ module _ {P O : Type 0} (p : PlaceSeen P) (s : SinkSeen O) (plan : Plan) where
       let nothing = nothing_made p a b plan.feeds None one.leaves in
       record {
         leaves = leaves_then p a b c plan.feeds (plan.asks ++ plan.finals) (output_names plan) stop one.leaves two.leaves;
+        first = λ e. fails_on p a b one.leaves.opens two.leaves.opens one.leaves.opened (one.leaves.read_quiet (λ e. cc)) (two.first e);
         order = inr (record {
           scripts = two.leaves.opens;
           opens_are = ap (λ n. n ++ two.leaves.opens) (sym (all_opened p a b plan.feeds [] one.leaves));
@@ -91,6 +94,7 @@ module _ {P O : Type 0} (p : PlaceSeen P) (s : SinkSeen O) (plan : Plan) where
   unfolding leaves_given_back
   files_given_back a b c o o' stop counts one back none = record {
     leaves = leaves_given_back p a b c (input_names plan) (output_names plan) stop counts one.leaves back none;
+    first = one.first;
     order = subst (λ n. OpensInOrder s plan (p.files a) (p.write_faults a) n o o' one.leaves.opens one.leaves.makes stop) (sym back.write_faults) one.order;
   }
 
@@ -101,13 +105,14 @@ module _ {P O : Type 0} (p : PlaceSeen P) (s : SinkSeen O) (plan : Plan) where
 
 module _ {P O : Type 0} (p : PlaceSeen P) (s : SinkSeen O) (name : List ℕ) where
   -- a run without a plan
-  pub run_ended : (a b : P) (o o' : O) (stop : Stop) → LeavesPlace p a b (name ∷ []) [] (Some stop) → ReadsPlan s o o' (file_of (p.files a) name) (Err stop) → OpensRun p s a b o o' name None (Some stop)
-  run_ended a b o o' stop one reads = record {
+  pub run_ended : (a b : P) (o o' : O) (stop : Stop) → LeavesPlace p a b (name ∷ []) [] (Some stop) → (no_plan stop ≡ no_plan ReadFault → p.opened b ≡ p.opened a ++ name ∷ []) → ReadsPlan s o o' (file_of (p.files a) name) (Err stop) → OpensRun p s a b o o' name None (Some stop)
+  run_ended a b o o' stop one opened reads = record {
     plan = None;
     plan_is = tt;
     goes_on = tt;
     unplanned = λ _. plan_ends stop reads.ends;
     leaves = one;
+    first = λ e. subst (FailsAtLast p a) (append_cancel_left (p.opened a) (name ∷ []) one.opens (sym (opened (same_end stop ReadFault e)) ∙ one.opened)) (fails_at p a name);
     order = tt;
     refused_plan = λ e. (refl, reads.refused (same_end stop PlanRefused e));
     silent = λ other _ _. reads.silent (λ e. other (same_answer stop PlanRefused e));
@@ -128,6 +133,7 @@ module _ {P O : Type 0} (p : PlaceSeen P) (s : SinkSeen O) (name : List ℕ) whe
         goes_on = goes_on;
         unplanned = λ e. absurd (cc);
         leaves = leaves_then p a b c (name ∷ []) (input_names plan) (output_names plan) stop one two.leaves;
+        first = λ e. fails_on p a b one.opens two.leaves.opens one.opened (one.read_quiet (λ e. cc)) (two.first e);
         order = (
           two.leaves.opens,
           ap (λ n. n ++ two.leaves.opens) (sym (all_opened p a b (name ∷ []) [] one)),

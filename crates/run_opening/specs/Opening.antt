@@ -10,7 +10,7 @@ use Rattle.outer_io.specs.Faults.{Rose}
 use Rattle.outer_io.specs.Files.{Files}
 use Rattle.outer_io.specs.Progress.{IsGoing}
 use Rattle.run_files.specs.Headed.{HasHeader, RefusesLast}
-use Rattle.run_files.specs.Leaving.{LeavesPlace}
+use Rattle.run_files.specs.Leaving.{FailsAtLast, LeavesPlace}
 use Rattle.run_files.specs.Outside.{FailsToPut, file_of, PlaceSeen, Puts, Silent, SinkSeen}
 use Rattle.run_files.specs.Planned.{IsPlanOf, RefusesPlan}
 use Rattle.run_files.specs.Scripted.{IsOutput}
@@ -69,6 +69,8 @@ module _ {O : Type 0} (s : SinkSeen O) (plan : Plan) (files : Option Files) wher
 -- What opening the files of a plan leaves of a place and a sink, by what ends the run with it, if it does
 pub record OpensFiles {P O : Type 0} (p : PlaceSeen P) (s : SinkSeen O) (place place' : P) (out out' : O) (plan : Plan) (stop : Option Stop) : Type 0 where
   pub leaves : LeavesPlace p place place' (input_names plan) (output_names plan) stop
+  -- a read fault ends the run at the file that was opened last
+  pub first : stop ≡ Some ReadFault → FailsAtLast p place leaves.opens
   pub order : OpensInOrder s plan (p.files place) (p.write_faults place) (p.write_faults place') out out' leaves.opens leaves.makes stop
 
 -- What opening a run leaves of a place and a sink, by the plan that it goes on with, or what ends it
@@ -81,6 +83,8 @@ pub record OpensRun {P O : Type 0} (p : PlaceSeen P) (s : SinkSeen O) (place pla
   pub unplanned : plan ≡ None → (stop ≡ Some NoMemory) ⊎ (stop ≡ Some ReadFault) ⊎ (stop ≡ Some PlanRefused)
   -- it was opened first, then the plan's inputs, and then its outputs were created
   pub leaves : LeavesPlace p place place' (name ∷ inputs_of plan) (outputs_of plan) stop
+  -- a read fault ends the run at the file that was opened last
+  pub first : stop ≡ Some ReadFault → FailsAtLast p place leaves.opens
   -- feeds come before scripts, and what ends the run there has its cause
   pub order : IfSome plan (λ plan. (opens : List (List ℕ)) × (leaves.opens ≡ name ∷ opens) × OpensInOrder s plan (p.files place) (p.write_faults place) (p.write_faults place') out out' opens leaves.makes stop)
   -- a refused plan is said, and comes only where its bytes meet a fault

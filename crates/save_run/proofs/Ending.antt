@@ -104,11 +104,21 @@ module _ {P O : Type 0} (p : PlaceSeen P) (s : SinkSeen O) where
           created_last = λ e. absurd (not_grown (p.created a) (p.created b) image e stays);
           others = KeepsOthers-same (p.files a) (p.files b) (image ∷ []) (same_files p a b (name ∷ feeds_of plan) (Some k) leaves);
           untouched = λ e. same_files p a b (name ∷ feeds_of plan) (Some k) leaves;
-          read = λ e. leaves.read (ap (λ l. Some l) (err_is k stop.ReadFault e));
-          write = λ e. inr (write (err_is k stop.WriteFault e));
+          counts = record {
+            done = λ x e. cc;
+            refused = λ e. (leaves.read_quiet (λ is. cc), leaves.unwritten (nothing_made p a b (name ∷ feeds_of plan) (Some k) leaves), unput (err_is k stop.FeedRefused e));
+            unread = λ e. leaves.read_quiet (λ is. cc);
+            write = λ e. inr (write (err_is k stop.WriteFault e));
+            read = λ e. leaves.read (ap (λ l. Some l) (err_is k stop.ReadFault e));
+            refused_plan = λ e. (leaves.read_quiet (λ is. cc), leaves.unwritten (nothing_made p a b (name ∷ feeds_of plan) (Some k) leaves));
+          };
           unsaid = λ e w c. absurd (not_grown (p.created a) (p.created b) image c stays);
           complete = λ r w u. complete r u;
         }
+      where
+        -- what is said of a refused feed leaves the count of the sink
+        unput : k ≡ stop.FeedRefused → s.faults out' ≡ s.faults out
+        unput e = elim (refused e).3 [ inl head ↦ head.1.refuses.says.faults | inr quiet ↦ quiet.0.faults ]
 
     -- ---- the plan was refused, or was not read
 

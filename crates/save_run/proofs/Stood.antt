@@ -95,14 +95,24 @@ module _ {P O : Type 0} (p : PlaceSeen P) (s : SinkSeen O) (a d : P) (out mid : 
       said = said;
       opened = (length (name ∷ pl.feeds), opens_all keeps ∙ ap (λ ns. p.opened a ++ ns) (sym (take_whole (name ∷ pl.feeds))));
       created = none_or_image keeps;
-      created_last = λ e. (pl, refl, opens_all keeps, Told-each (p.files a) _ (AreTaken pl) (λ files it. it.taken) S.told);
+      created_last = λ e. (pl, refl, opens_all keeps, Told-each (p.files a) _ (AreTaken pl) (λ files it. it.taken) S.told, keeps.read_faults ∙ S.read_faults);
       others = KeepsOthers-after (p.files a) (p.files d) (p.files f) (image ∷ []) S.files keeps.others;
       untouched = λ e. keeps.untouched (e ∙ sym S.created) ∙ S.files;
-      read = λ e. absurd (ends.1 e);
-      write = write;
+      counts = record {
+        done = stand;
+        refused = λ e. absurd (ends.2 e);
+        unread = λ e. keeps.read_faults ∙ S.read_faults;
+        write = write;
+        read = λ e. absurd (ends.1 e);
+        refused_plan = λ e. absurd (ends.0 e);
+      };
       unsaid = λ e w c. (pl, refl, unsaid e w c);
       complete = λ x w u. Told-each (p.files a) _ _ (λ files it taken. completed r (λ e. no_write (write e) w u) ends) S.told;
     }
+      where
+        stand : (x : ImageEnd) → r ≡ Ok x → IsQuiet p s a f out out' name image
+        stand Done e = (done e).1
+        stand Refused e = (refused e).1
 
     -- ---- what is said of the image
 

@@ -9,6 +9,7 @@ use Rattle.image_run.specs.declared.end.ImageEnd.TheVariants.{Done, Refused}
 use Rattle.outer_io.specs.Faults.{Rose}
 use Rattle.outer_io.specs.Files.{Files}
 use Rattle.outer_io.specs.Told.{Told}
+use Rattle.run_files.specs.Counts.{CountsAt}
 use Rattle.run_files.specs.Headed.{RefusesLast}
 use Rattle.run_files.specs.Leaving.{KeepsOthers}
 use Rattle.run_files.specs.Outside.{FailsToPut, file_of, PlaceSeen, Puts, PutsOrFails, Silent, SinkSeen}
@@ -96,16 +97,14 @@ module _ {P O : Type 0} (p : PlaceSeen P) (s : SinkSeen O) (place place' : P) (o
     pub said : SaysOfSave plan
     -- the plan was opened, and then its feeds, each once at most
     pub opened : (k : ℕ) × (p.opened place' ≡ p.opened place ++ take k (name ∷ feeds_of plan))
-    -- the image was created, once at most, and only where all feeds were read to their ends
+    -- the image was created, once at most, and only where all feeds were read to their ends, and no read failed
     pub created : CreatesNone ⊎ CreatesImage
-    pub created_last : CreatesImage → (which : Plan) × (plan ≡ Some which) × OpensAll which × AtEntry (AreTaken which)
+    pub created_last : CreatesImage → (which : Plan) × (plan ≡ Some which) × OpensAll which × AtEntry (AreTaken which) × (p.read_faults place' ≡ p.read_faults place)
     -- every other file is as before, and that too where it was not created
     pub others : KeepsOthers (p.files place) (p.files place') (image ∷ [])
     pub untouched : CreatesNone → p.files place' ≡ p.files place
-    -- a read fault comes only where the place's count of reading rose
-    pub read : result ≡ Err ReadFault → Rose (p.read_faults place) (p.read_faults place')
-    -- a write fault only where its count of writing rose, or the sink's
-    pub write : result ≡ Err WriteFault → Rose (p.write_faults place) (p.write_faults place') ⊎ Rose (s.faults out) (s.faults out')
+    -- each fault has its cause in a count that rose, and where it is the end those before it did not
+    pub counts : CountsAt p s place place' out out' result
     -- where the image was created and putting what is said of it alone failed, the image is whole
     pub unsaid : result ≡ Err WriteFault → ¬ Rose (p.write_faults place) (p.write_faults place') → CreatesImage → (which : Plan) × (plan ≡ Some which) × SaysImage which (FailsToPut s out out')
     -- where there is a plan, no feed is refused and no count rose, the image is written or has too many bytes, or memory was wanted

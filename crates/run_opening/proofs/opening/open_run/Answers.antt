@@ -11,7 +11,7 @@ returns-in_err-plan-clause-opens g c =
     let p = seen_place g.P.Place.files g.P.Place.read_faults g.P.Place.write_faults g.P.Place.opened g.P.Place.created in
     let s = seen_sink g.O.Sink.held g.O.Sink.faults g.O.Sink.name in
     run_residual p s c.args.name.now c.args.place.now c.load_plan.new.place c.args.out.now c.load_plan.new.out c.from_residual.result c.in_err-plan.field-0.0 c.from_residual.ensures.1
-    (run_ended p s c.args.name.now c.args.place.now c.load_plan.new.place c.args.out.now c.load_plan.new.out c.in_err-plan.field-0.0 c.in_err-plan.ensures.leaves c.in_err-plan.ensures.plan)
+    (run_ended p s c.args.name.now c.args.place.now c.load_plan.new.place c.args.out.now c.load_plan.new.out c.in_err-plan.field-0.0 c.in_err-plan.ensures.leaves c.in_err-plan.ensures.read c.in_err-plan.ensures.plan)
 
 pub returns-in_err-parts-clause-opens : goal.returns-in_err-parts-clause-opens
 returns-in_err-parts-clause-opens g c =
