@@ -60,7 +60,7 @@ fn look_after<V: Grow, R: Wait + Abort>(
     ensures site { site.new.builder.published.book ≡ site.old.builder.published.book }
 {
     let mut viewer = viewer;
-    let told = site.builder.tell().expect(rt, "a told");
+    let told = site.builder.tell();
     assert_eq!(rt; told.count(), count);
     viewer.learn(told);
     let shown = viewer.look(rt);

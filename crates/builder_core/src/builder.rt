@@ -1,5 +1,5 @@
 //! The builder.
-ghost use Rattle.std.specs.Prelude.{◌≡◌, ◌≤◌, ◌++◌, ◌↔◌, [], false, true, length, All, IsTrue, IsOk, IfOk, MatchResult};
+ghost use Rattle.std.specs.Prelude.{◌≡◌, ◌≤◌, ◌++◌, ◌↔◌, [], false, true, length, All, IsTrue, IfOk, MatchResult};
 ghost use Rattle.builder_core.specs.Builder.{builder_state, MayBeTaken, KeepsJournal};
 ghost use Rattle.builder_core.specs.Endings.{EachEnded, all_ended};
 ghost use Rattle.builder_core.specs.Taking.{IsTaking};
@@ -153,11 +153,9 @@ impl<V: Grow> BuilderOf<Of<V>> {
         &self.out.entries.as_slice()[..self.out.published]
     }
 
-    /// What viewers are to know of: the published list. It always succeeds.
-    pub fn tell(&mut self) -> Result<Told, NoMemory>
-        ensures given { IsOk result }
-        ensures told { IfOk result (λ t. t.front ≡ self.old.published) }
-        ensures same { self.new ≡ self.old }
+    /// What viewers are to know of: the published list. It takes no memory.
+    pub fn tell(&self) -> Told
+        ensures { result.front ≡ self.now.published }
     {
         self.out.publisher.tell()
     }

@@ -3,6 +3,7 @@ ghost use Rattle.builder_core.specs.Numbering.{EntriesAreFew};
 
 use crate::builder::Builder;
 use cube_view::Grow;
+use published_pair::{MayGo, may_go};
 
 /// At most eight feeders, each of whose entries has a number of 32 bits that counts the earlier ones, send no more
 /// entries than a bag may have points. It does nothing when run.
@@ -10,10 +11,7 @@ pub fn builder_laws()
     ensures { EntriesAreFew }
 {}
 
-/// Only a type whose values may go to another thread can be named here.
-fn may_go<T: Send>() {}
-
-/// The builder of a pair of any view that threads may share may go to another thread. It does nothing when run.
-pub fn builder_may_go<V: Grow + Send + Sync>() {
-    may_go::<Builder<V>>();
+/// The builder of a pair of any view that threads may share may go to another thread.
+pub fn builder_may_go<V: Grow + Send + Sync>() -> MayGo<Builder<V>> {
+    may_go()
 }

@@ -31,7 +31,6 @@ pub record Goes (before after : BuilderWorkState) : Type 0 where
   pub end : IsSameEnd before.draws after.draws
   pub run : IsSameRun before.builder after.builder
   pub keeps : KeepsJournal after.builder
-  pub untold : after.untold ≡ false
   pub mails : IsSameMails before.mails after.mails
 
 -- What the steps so far have left, while Ends are missing
@@ -45,11 +44,11 @@ put_same part same n [] = refl
 put_same part same n (m ∷ mails) = ap (λ x. x ∷ map part (map (having_put n) mails)) (same n m) ∙ ap (λ l. part m ∷ l) (put_same part same n mails)
 
 -- telling leaves all but what was put
-pub same_parts : (r : Result Taken NoMemory) (w : BuilderWorkState) → (having_answered r w).draws ≡ w.draws × (having_answered r w).builder ≡ w.builder × (having_answered r w).untold ≡ w.untold
-same_parts (Ok Kept) w = (refl, refl, refl)
-same_parts (Ok (Published n)) w = (refl, refl, refl)
-same_parts (Ok (LastEnd n)) w = (refl, refl, refl)
-same_parts (Err e) w = (refl, refl, refl)
+pub same_parts : (r : Result Taken NoMemory) (w : BuilderWorkState) → (having_answered r w).draws ≡ w.draws × (having_answered r w).builder ≡ w.builder
+same_parts (Ok Kept) w = (refl, refl)
+same_parts (Ok (Published n)) w = (refl, refl)
+same_parts (Ok (LastEnd n)) w = (refl, refl)
+same_parts (Err e) w = (refl, refl)
 
 same_mails : {A : Type 0} (part : InEnd → A) → ((n : ℕ) (m : InEnd) → part (having_put n m) ≡ part m) → (r : Result Taken NoMemory) (w : BuilderWorkState) → map part (having_answered r w).mails ≡ map part w.mails
 same_mails part same (Ok Kept) w = refl
@@ -86,7 +85,6 @@ module _ (first before next : BuilderWorkState) (r : Result Taken NoMemory) (goe
     };
     run = then_same first.builder before.builder next.builder goes.run takes.taken.same;
     keeps = takes.keeps;
-    untold = takes.untold ∙ goes.untold;
     mails = subst (IsSameMails first.mails) (sym takes.mails) goes.mails;
   }
 
@@ -98,7 +96,6 @@ module _ (first before next : BuilderWorkState) (r : Result Taken NoMemory) (goe
     end = subst (IsSameEnd first.draws) (sym same.0) goes_taken.end;
     run = subst (IsSameRun first.builder) (sym same.1) goes_taken.run;
     keeps = subst KeepsJournal (sym same.1) goes_taken.keeps;
-    untold = same.2 ∙ goes_taken.untold;
     mails = record {
       names = same_mails (λ (m : InEnd). m.mailbox) (λ n m. refl) r next ∙ goes_taken.mails.names;
       pairs = same_mails (λ (m : InEnd). m.pair) (λ n m. refl) r next ∙ goes_taken.mails.pairs;
@@ -117,10 +114,10 @@ module _ (first before next : BuilderWorkState) (r : Result Taken NoMemory) (goe
 
   -- what is so of what a builder that is not spent should have left and told, is so of what is left
   after_is : (P : BuilderState → List InEnd → Type 0) → Took before.builder takes.item r next.builder
-      → (let w : BuilderWorkState = having_answered {E = NoMemory} (Ok (answer_of before.builder takes.item)) (work_state next.draws (having_taken before.builder takes.item) before.mails next.untold) in P w.builder w.mails)
+      → (let w : BuilderWorkState = having_answered {E = NoMemory} (Ok (answer_of before.builder takes.item)) (work_state next.draws (having_taken before.builder takes.item) before.mails) in P w.builder w.mails)
       → P (having_answered r next).builder (having_answered r next).mails
   after_is P is so =
-      let left : work_state next.draws (having_taken before.builder takes.item) before.mails next.untold ≡ next = λ j. work_state next.draws (sym is.left j) (sym takes.mails j) next.untold in
+      let left : work_state next.draws (having_taken before.builder takes.item) before.mails ≡ next = λ j. work_state next.draws (sym is.left j) (sym takes.mails j) in
       subst (λ (x : Result Taken NoMemory). P (having_answered x next).builder (having_answered x next).mails) (sym is.answer)
       (subst (λ (w : BuilderWorkState). P (having_answered {E = NoMemory} (Ok (answer_of before.builder takes.item)) w).builder (having_answered {E = NoMemory} (Ok (answer_of before.builder takes.item)) w).mails) left so)
 
@@ -132,7 +129,7 @@ module _ (first before next : BuilderWorkState) (r : Result Taken NoMemory) (goe
       → (having_answered r next).builder.spent ≡ false → HasMultiples (having_answered r next).builder (having_answered r next).mails
   put_more put missing open_ =
       let is = took (open_next open_) in
-      after_is HasMultiples is (goes_on before.builder before.mails next.draws next.untold goes.keeps is.open_ (put is.open_) takes.item (sym ended_is ∙ missing))
+      after_is HasMultiples is (goes_on before.builder before.mails next.draws goes.keeps is.open_ (put is.open_) takes.item (sym ended_is ∙ missing))
 
   -- an entry is not the last item
   no_entry : EachEnded (having_answered r next).builder.feeders (having_answered r next).builder.taken → (e : Entry) → takes.item ≡ One e → ⊥
@@ -148,7 +145,7 @@ module _ (first before next : BuilderWorkState) (r : Result Taken NoMemory) (goe
       → (having_answered r next).builder.spent ≡ false → HasTold (having_answered r next).builder (having_answered r next).mails
   put_all put all each open_ =
       let is = took (open_next open_) in
-      after_is HasTold is (ends before.builder before.mails next.draws next.untold goes.keeps is.open_ (put is.open_) takes.item (no_entry each) (sym ended_is ∙ all))
+      after_is HasTold is (ends before.builder before.mails next.draws goes.keeps is.open_ (put is.open_) takes.item (no_entry each) (sym ended_is ∙ all))
 
 put_nothing : (w : BuilderWorkState) → IsNewWork w → HasMultiples w.builder w.mails
 put_nothing w new =
@@ -173,7 +170,6 @@ has_run-none w new = record {
     end = record { lane = refl; feeders = refl; schema = refl };
     run = record { feeders = refl; batch = refl; book = refl; schema = refl; viewers = refl };
     keeps = new.keeps;
-    untold = new.untold;
     mails = record { names = refl; pairs = refl };
   };
   put = λ open_. put_nothing w new;
@@ -201,7 +197,6 @@ module _ (first after : BuilderWorkState) (goes : Goes first after) (put : after
     prefix = subst (λ (items : List Item). IsPrefix after.builder.journal (entries_in items)) goes.draws.taken (IsPrefix-then after.builder.journal (after.builder.journal ++ after.builder.pending) (entries_in after.builder.taken) (after.builder.pending, refl) goes.keeps.prefix);
     whole = λ open_. sym (append-nil after.builder.journal) ∙ (ap (λ (l : List Entry). after.builder.journal ++ l) (sym (goes.keeps.settled open_ all)) ∙ (goes.keeps.whole open_ ∙ ap entries_in goes.draws.taken));
     lengths = put;
-    untold = goes.untold;
     mails = goes.mails;
   }
 

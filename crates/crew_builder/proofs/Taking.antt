@@ -70,10 +70,10 @@ filled b fills = ⊎_elim (λ (t : (eqb (length b.pending + 1) b.batch ≡ true)
 length-appended : (b : BuilderState) → KeepsJournal b → length b.appended ≡ length b.journal + length b.pending
 length-appended b keeps = ap length keeps.appended ∙ (length-map (b.journal ++ b.pending) (λ (e : Entry). e.point) ∙ length-append b.journal b.pending)
 
-module _ (b : BuilderState) (mails : List InEnd) (end : DrawState) (untold : Bool) (keeps : KeepsJournal b) (open_ : b.spent ≡ false) (has : HasMultiples b mails) where
+module _ (b : BuilderState) (mails : List InEnd) (end : DrawState) (keeps : KeepsJournal b) (open_ : b.spent ≡ false) (has : HasMultiples b mails) where
   -- what is so of the builder and the mailboxes once that was answered and told
   abbrev After : (BuilderState → List InEnd → Type 0) → Taken → BuilderState → Type 0
-  After P t left = let w : BuilderWorkState = having_answered {E = NoMemory} (Ok t) (work_state end left mails untold) in P w.builder w.mails
+  After P t left = let w : BuilderWorkState = having_answered {E = NoMemory} (Ok t) (work_state end left mails) in P w.builder w.mails
 
   some : 0 < b.batch
   some = let few = keeps.few open_ in omega (arith, few)

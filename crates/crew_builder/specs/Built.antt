@@ -24,8 +24,6 @@ pub record IsNewWork (w : BuilderWorkState) : Type 0 where
   pub pair : AreOfPair w.builder w.mails
   -- and nothing was put into it
   pub empty : All (λ (m : InEnd). m.lengths ≡ []) w.mails
-  -- no tell was noted
-  pub untold : w.untold ≡ false
 
 -- What drawing never changes of an end
 pub record IsSameEnd (end after : DrawState) : Type 0 where
@@ -65,5 +63,3 @@ pub record IsBuilt (before after : BuilderWorkState) : Type 0 where
   pub whole : after.builder.spent ≡ false → after.builder.journal ≡ entries_in after.draws.drawn
   -- then the multiples of the batch up to the journal's length were put into each mailbox, and then that length
   pub lengths : after.builder.spent ≡ false → All (λ (m : InEnd). m.lengths ≡ told_lengths after.builder.batch (length after.builder.journal)) after.mails
-  -- every tell found memory, so none is noted
-  pub untold : after.untold ≡ false

@@ -23,8 +23,6 @@ pub record TakesNext (before : BuilderWorkState) (answer : Result Taken NoMemory
   pub keeps : KeepsJournal after.builder
   -- the mailboxes are as they were
   pub mails : after.mails ≡ before.mails
-  -- no tell was noted
-  pub untold : after.untold ≡ before.untold
 
 -- What a step leaves: an item was drawn and taken, and then told what the builder's answer asks for
 pub record IsStep (before after : BuilderWorkState) : Type 0 where

@@ -1,5 +1,5 @@
 -- A builder's work as contracts see it.
-use Rattle.std.specs.Prelude.{◌≡◌, Bool, List, All}
+use Rattle.std.specs.Prelude.{◌≡◌, List, All}
 use Rattle.builder_core.specs.Builder.{BuilderState}
 use Rattle.feed_queue.specs.Ends.{DrawState}
 use Rattle.mailbox.specs.Ends.{InEnd}
@@ -12,12 +12,10 @@ pub record BuilderWorkState : Type 0 where
   pub builder : BuilderState
   -- a mailbox for each ask, in the order of the asks
   pub mails : List InEnd
-  -- a tell found no memory
-  pub untold : Bool
 
 -- the work of these parts
-abbrev pub work_state : DrawState → BuilderState → List InEnd → Bool → BuilderWorkState
-work_state draws builder mails untold = record { draws = draws; builder = builder; mails = mails; untold = untold }
+abbrev pub work_state : DrawState → BuilderState → List InEnd → BuilderWorkState
+work_state draws builder mails = record { draws = draws; builder = builder; mails = mails }
 
 -- The end draws for the builder
 pub record DrawsFor (end : DrawState) (b : BuilderState) : Type 0 where

@@ -11,7 +11,7 @@
 //! ```text
 //! let mut work = BuilderWork::new(draws, builder, mails);
 //! work.run(rt);                // over a batch of two and five entries, 2, 4 and 5 are put into each mailbox
-//! let (draws, builder, mails, untold) = work.into_parts();
+//! let (draws, builder, mails) = work.into_parts();
 //! draws.settle(rt, ended);
 //! let (journal, outcome) = builder.into_journal(rt, alloc);
 //! ```
@@ -19,8 +19,6 @@
 
 mod laws;
 mod telling;
-#[cfg(test)]
-mod tests;
 mod work;
 
 pub use laws::builder_works_may_go;

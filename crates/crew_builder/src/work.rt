@@ -1,5 +1,5 @@
 //! The builder's work.
-ghost use Rattle.std.specs.Prelude.{◌≡◌, ◌↔◌, false, IsTrue};
+ghost use Rattle.std.specs.Prelude.{◌≡◌, ◌↔◌, IsTrue};
 ghost use Rattle.builder_core.specs.Endings.{EachEnded, all_ended};
 ghost use Rattle.crew_builder.specs.Built.{IsNewWork, IsBuilt};
 ghost use Rattle.crew_builder.specs.Steps.{TakesNext, IsStep};
@@ -16,13 +16,11 @@ use published_pair::{Of, Pairing};
 use std::marker::Model;
 use std::sync::Wait;
 
-/// A builder with the end that draws for it and the mailboxes that it tells. Contracts see each of them, and whether a
-/// tell found no memory.
+/// A builder with the end that draws for it and the mailboxes that it tells. Contracts see each of them.
 pub struct BuilderWorkOf<K: Pairing> {
     draws: DrawEnd,
     builder: BuilderOf<K>,
     mails: Vec<MailIn>,
-    untold: bool,
 }
 
 impl<K: Pairing> Model for BuilderWorkOf<K> {
@@ -30,9 +28,9 @@ impl<K: Pairing> Model for BuilderWorkOf<K> {
 
     ghost Value = { BuilderWorkState };
 
-    ghost view = { λ w. work_state w.draws w.builder w.mails.items w.untold };
+    ghost view = { λ w. work_state w.draws w.builder w.mails.items };
 
-    ghost invariant = { λ w. IsWork (work_state w.draws w.builder w.mails.items w.untold) };
+    ghost invariant = { λ w. IsWork (work_state w.draws w.builder w.mails.items) };
 }
 
 /// The builder's work over a pair of a view. It is not `Drop`: end it by `into_parts`.
@@ -41,15 +39,14 @@ pub type BuilderWork<V> = BuilderWorkOf<Of<V>>;
 impl<V: Grow> BuilderWorkOf<Of<V>> {
     /// The work of a builder that has taken nothing, of the end that draws for it, and of a mailbox for each ask.
     pub fn new(draws: DrawEnd, builder: Builder<V>, mails: List<MailIn>) -> BuilderWork<V>
-        requires { IsNewWork (work_state draws builder mails false) }
-        ensures parts { result ≡ work_state draws builder mails false }
+        requires { IsNewWork (work_state draws builder mails) }
+        ensures parts { result ≡ work_state draws builder mails }
         ensures new { IsNewWork result }
     {
         BuilderWorkOf {
             draws,
             builder,
             mails: mails.into_vec(),
-            untold: false,
         }
     }
 
@@ -68,17 +65,16 @@ impl<V: Grow> BuilderWorkOf<Of<V>> {
         unreachable!()
     }
 
-    /// The end that draws, the builder, the mailboxes, and whether a tell found no memory.
-    pub fn into_parts(self) -> (DrawEnd, Builder<V>, List<MailIn>, bool)
-        ensures { work_state result.0 result.1 result.2 result.3 ≡ self }
+    /// The end that draws, the builder, and the mailboxes.
+    pub fn into_parts(self) -> (DrawEnd, Builder<V>, List<MailIn>)
+        ensures { work_state result.0 result.1 result.2 ≡ self }
     {
         let BuilderWorkOf {
             draws,
             builder,
             mails,
-            untold,
         } = self;
-        (draws, builder, List::from_vec(mails), untold)
+        (draws, builder, List::from_vec(mails))
     }
 
     /// Draws an item and takes it, and tells what is to be told of it.
@@ -111,9 +107,7 @@ impl<V: Grow> BuilderWorkOf<Of<V>> {
     fn tell<R: Wait>(&mut self, rt: &R)
         ensures { self.new ≡ having_told self.old }
     {
-        if tell_all(rt, &mut self.builder, self.mails.as_mut_slice()) {
-            self.untold = true;
-        }
+        tell_all(rt, &self.builder, self.mails.as_mut_slice());
     }
 
     /// Whether the End of each feeder was taken.

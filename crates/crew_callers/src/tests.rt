@@ -132,7 +132,7 @@ fn works_of(
     requires publisher { (pair.0.published.points ≡ []) × (pair.0.appended.items ≡ []) }
     requires viewer { pair.1.shown ≡ pair.0.published }
     requires put { ends.0 ≡ mail_in ends.1.mailbox pair.0.published.book [] }
-    requires take { ends.1 ≡ mail_out ends.1.mailbox pair.0.published.book 0 }
+    requires take { ends.1 ≡ mail_out ends.1.mailbox pair.0.published.book 0 [] }
     requires no_turn { HadNoTurn session }
     requires room { (mails.items ≡ []) × (1 ≤ vec_capacity mails) }
     requires batch { (1 ≤ batch) × (batch ≤ 65536) }
@@ -209,9 +209,9 @@ fn end_works<R: Wait + Abort>(
     requires each { (f : ℕ) → 1 ≤ f → f ≤ building.draws.feeders → is_among ended f ≡ true }
     requires pair { asking.shown.book ≡ building.builder.published.book }
 {
-    let (draws, builder, _mails, untold) = building.into_parts();
+    let (draws, builder, _mails) = building.into_parts();
     draws.settle(rt, ended);
-    assert!(rt; builder.ended() && !untold);
+    assert!(rt; builder.ended());
     let (journal, outcome) = builder.into_journal(rt, alloc);
     check_numbers(rt, journal.as_slice());
     if let Some(case) = case {

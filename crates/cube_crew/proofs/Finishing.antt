@@ -36,8 +36,8 @@ module _ {I O : Type 0} (left : I → Option (List ℕ)) (faults : I → ℕ) (h
       })
       z
 
-  pub ends_run : (works : List (FeedWork I)) (draws : DrawState) (builder : BuilderState) (mails : List InEnd) (untold : Bool) (asks finals : List (WorkState I O)) (c : Crewed I O)
-      → IsRun works (work_state draws builder mails untold) asks finals
+  pub ends_run : (works : List (FeedWork I)) (draws : DrawState) (builder : BuilderState) (mails : List InEnd) (asks finals : List (WorkState I O)) (c : Crewed I O)
+      → IsRun works (work_state draws builder mails) asks finals
       → c.feeds ≡ map fed_of works → c.mails ≡ mails → c.drawn ≡ entries_in draws.drawn
       → (AreInTurn (map end_of works) draws.feeders → IsInterleaving draws.feeders (list_of (sent_lists (map end_of works))) c.drawn)
       → IsPrefix c.journal (entries_in builder.taken) → (builder.spent ≡ false → c.journal ≡ entries_in builder.taken)
@@ -45,8 +45,8 @@ module _ {I O : Type 0} (left : I → Option (List ℕ)) (faults : I → ℕ) (h
       → (c.closed ≡ false → (c.asks ≡ map done_of asks) × (c.finals ≡ map done_of finals))
       → (c.starved ≡ false → (c.closed ≡ true) × (builder.spent ≡ false))
       → (c.starved ≡ false → All FoundRoom works × All FoundMemory asks)
-      → EndsRun left faults held put_faults name is_stat works (work_state draws builder mails untold) asks finals c
-  ends_run works draws builder mails untold asks finals c run feeds same drawn turn prefix whole closed unclosed found fed =
+      → EndsRun left faults held put_faults name is_stat works (work_state draws builder mails) asks finals c
+  ends_run works draws builder mails asks finals c run feeds same drawn turn prefix whole closed unclosed found fed =
       let taken : entries_in builder.taken ≡ c.drawn = ap entries_in run.draws.taken ∙ sym drawn in
       record {
         feeds = feeds;

@@ -57,7 +57,7 @@ pub seats_of : {I O : Type 0} (schema : Schema) (jobs : Jobs I O) (draws : DrawS
     → AreMails front.book puts takes → length takes ≡ length jobs.asks → All (λ (out : OutEnd). (out.pair ≡ front.book) × (out.takes ≡ 0)) final_takes → length final_takes ≡ length jobs.finals
     → feeders ≡ length jobs.feeds → viewers ≡ length jobs.asks + length jobs.finals → pair_schema ≡ schema
     → builder ≡ builder_state feeders schema.batch [] [] 0 false front [] pair_schema viewers → KeepsJournal builder
-    → Seats schema jobs draws front ends puts takes final_takes (work_state draws builder puts false)
+    → Seats schema jobs draws front ends puts takes final_takes (work_state draws builder puts)
 seats_of schema jobs draws front ends puts takes final_takes builder feeders viewers pair_schema may ends_are draws_are mails takes_count new_finals finals_count feeders_are viewers_are same made keeps =
     let drawn = ap (λ (d : DrawState). d.drawn) draws_are in
     let fed = ap (λ (b : BuilderState). b.feeders) made ∙ feeders_are in
@@ -86,7 +86,6 @@ seats_of schema jobs draws front ends puts takes final_takes builder feeders vie
         keeps = keeps;
         pair = AllZip-left (IsMail front.book) (λ (m : InEnd). m.pair ≡ builder.published.book) puts takes (λ put take is. ap (λ (m : InEnd). m.pair) is.0 ∙ sym (ap (λ (k : Known). k.book) lists)) mails;
         empty = AllZip-left (IsMail front.book) (λ (m : InEnd). m.lengths ≡ []) puts takes (λ put take is. ap (λ (m : InEnd). m.lengths) is.0) mails;
-        untold = refl;
       };
     }
 

@@ -17,7 +17,7 @@ IsNewViewer schema front its_schema shown learned last = (its_schema ≡ schema)
 
 -- the two ends are those of one new mailbox of the pair
 abbrev pub IsMail : Book → InEnd → OutEnd → Type 0
-IsMail pair put take = (put ≡ mail_in take.mailbox pair []) × (take ≡ mail_out take.mailbox pair 0)
+IsMail pair put take = (put ≡ mail_in take.mailbox pair []) × (take ≡ mail_out take.mailbox pair 0 [])
 
 -- the ends are those of new mailboxes of the pair, in order
 abbrev pub AreMails : Book → List InEnd → List OutEnd → Type 0

@@ -140,8 +140,8 @@ fn end_run<R: Threads + Wait + Sync, V: Grow + Send + Sync, I: Source + Send, O:
     ensures { EndsRun I.left I.faults O.held O.faults O.name V.is_stat works.items later.building later.asks.items finals.items result }
 {
     let Later { building, asks } = later;
-    let (draws, builder, mails, untold) = building.into_parts();
-    let starved = has_starved(works.as_slice(), asks.as_slice(), builder.spent(), untold);
+    let (draws, builder, mails) = building.into_parts();
+    let starved = has_starved(works.as_slice(), asks.as_slice(), builder.spent());
     let (feeds, ended) = end_feeds(works, fed.0, fed.1);
     let feeds = List::from_vec(feeds);
     let drawn = draws.settle(rt, List::from_vec(ended));

@@ -43,12 +43,11 @@ pub(crate) fn has_starved_session<V: Grow, I: Source, O: Sink>(
     false
 }
 
-/// Whether a feeder or a session of these, the builder or a tell found no memory.
+/// Whether a feeder or a session of these, or the builder, found no memory.
 pub(crate) fn has_starved<V: Grow, I: Source, O: Sink>(
     works: &[FeedWork<I>],
     sessions: &[SessionWork<V, I, O>],
     spent: bool,
-    untold: bool,
 ) -> bool
     ensures { result ≡ false → All FoundRoom works.now × All FoundMemory sessions.now × (spent ≡ false) }
 {
@@ -58,10 +57,7 @@ pub(crate) fn has_starved<V: Grow, I: Source, O: Sink>(
     if has_starved_session(sessions) {
         return true;
     }
-    if spent {
-        return true;
-    }
-    untold
+    spent
 }
 
 /// Whether either is so.

@@ -1,20 +1,23 @@
 -- What a turn keeps, from what its parts do.
-use Rattle.std.proofs.Common.{◌≡◌, ◌≢◌, ℕ, ◌≤◌, Bool, true, ◌||◌, List, [], length, Option, Some, None, ◌⊎◌, inl, inr, refl, sym, ap, ◌∙◌, subst, arith, append-nil, Result, Ok, Err, IfOk, OnErr, IsErrOf, IfSome}
+use Rattle.std.proofs.Common.{◌≡◌, ◌≢◌, ℕ, ◌≤◌, Bool, true, false, ◌||◌, if◌then◌else◌, List, [], ◌++◌, length, Option, Some, None, ◌⊎◌, inl, inr, refl, sym, ap, ◌∙◌, subst, arith, append-nil, append_assoc, Result, Ok, Err, IfOk, OnErr, IsErrOf, IfSome}
+use Rattle.std.proofs.lemmas.List.Elements.{All-append, All-nil, All-weaker}
 use Rattle.cube_view.specs.Points.{Point}
 use Rattle.cube_view.specs.declared.schema.Schema.{Schema}
 use Rattle.cube_view.specs.declared.spot.Spot.{Spot}
 use Rattle.cube_view.specs.declared.stat.Stat.{Stat}
-use Rattle.live_session.specs.News.{Goes, GoesFor, HasNews, KeepsViewer, news_of, takes_for}
+use Rattle.live_session.specs.News.{AsksMail, Goes, GoesFor, HasNews, KeepsViewer, LearnsTaken, MayAsk, asks_news, news_of, takes_for}
 use Rattle.live_session.specs.Saying.{IsShown}
 use Rattle.live_session.specs.State.{SessionState}
 use Rattle.live_session.specs.Turned.{HasFaults, is_no_memory}
 use Rattle.live_session.proofs.NextReply.{prefix-longer}
 use Rattle.live_session.proofs.Turning.{Reads}
-use Rattle.mailbox.specs.Ends.{OutEnd, mail_out}
+use Rattle.mailbox.specs.Ends.{OutEnd}
+use Rattle.outer_io.specs.Counts.{next_count}
 use Rattle.outer_io.specs.Cutting.{Cutter}
 use Rattle.outer_io.specs.Faults.{HasCause}
 use Rattle.outer_io.specs.Progress.{PassesAll}
 use Rattle.published_pair.specs.Rules.{Known}
+use Rattle.published_pair.specs.declared.told.Told.{Told}
 use Rattle.query_syntax.specs.declared.query.Parsed.{Parsed}
 use Rattle.session_core.specs.Asked.{asks_look}
 use Rattle.session_core.specs.Turns.{AsksNext}
@@ -91,17 +94,44 @@ keeps_on p q = record {
 -- what answering a line changes of what is shown and told
 pub has_news : (p : Parsed) (shown learned : Known) (last : Option Known) (mail : OutEnd) (shown' learned' : Known) (mail' : OutEnd) → GoesFor p shown learned last mail shown' learned' mail' → HasNews p (news_of shown learned mail) (news_of shown' learned' mail')
 has_news p shown learned last mail shown' learned' mail' did = record {
-  takes = ap (λ (m : OutEnd). m.takes) did.mail.0;
-  told = λ e. ap (λ (k : Known). k.points) (did.unasked e);
+  takes = did.mail.asked;
+  told = λ e. ap (λ (k : Known). k.points) (did.unasked e).0;
   unseen = λ e. ap (λ (k : Known). k.points) (did.unseen e);
   fresh = λ e. (did.look e).0;
   goes_on = (did.goes.seen, did.goes.told);
 }
 
+-- the mailbox was asked once, or not
+pub may_ask : (p : Parsed) (shown learned : Known) (last : Option Known) (mail : OutEnd) (shown' learned' : Known) (mail' : OutEnd) → GoesFor p shown learned last mail shown' learned' mail' → MayAsk learned' mail mail'
+may_ask p shown learned last mail shown' learned' mail' did = by_asked (asks_news p) refl
+  where
+    by_asked : (b : Bool) → asks_news p ≡ b → MayAsk learned' mail mail'
+    by_asked true is = inr (subst (λ (n : ℕ). AsksMail n learned' mail mail') (ap (λ (b : Bool). if b then next_count mail.takes else mail.takes) is) did.mail)
+    by_asked false is = inl (did.unasked is).1
+
+-- nothing was taken
+pub learns_nothing : (learned : Known) (mail mail' : OutEnd) → mail' ≡ mail → LearnsTaken learned mail mail'
+learns_nothing learned mail mail' same = ([], ap (λ (m : OutEnd). m.taken) same ∙ sym (append-nil mail.taken), All-nil _)
+
+learns_asked : (learned : Known) (mail mail' : OutEnd) → MayAsk learned mail mail' → LearnsTaken learned mail mail'
+learns_asked learned mail mail' (inl same) = learns_nothing learned mail mail' same
+learns_asked learned mail mail' (inr asks) = asks.learns
+
+-- what was taken before a turn and in it is learned
+pub learns_on : (learned learned' : Known) (mail mail' mail'' : OutEnd) → IsPrefix learned.points learned'.points → LearnsTaken learned mail mail' → MayAsk learned' mail' mail'' → LearnsTaken learned' mail mail''
+learns_on learned learned' mail mail' mail'' goes was asks =
+    let now = learns_asked learned' mail' mail'' asks in (
+      was.0 ++ now.0,
+      now.1 ∙ (ap (λ (l : List Told). l ++ now.0) was.1 ∙ append_assoc mail.taken was.0 now.0),
+      All-append (λ (t : Told). IsPrefix t.front.points learned'.points) was.0 now.0
+          (All-weaker (λ (t : Told). IsPrefix t.front.points learned.points) (λ (t : Told). IsPrefix t.front.points learned'.points) (λ t p. IsPrefix-then t.front.points learned.points learned'.points p goes) was.0 was.2)
+          now.2,
+    )
+
 -- what answering a line changes where all is known already
-pub whole_news : (p : Parsed) (whole : Known) (mail mail' : OutEnd) → mail' ≡ mail_out mail.mailbox mail.pair (takes_for p mail.takes) → HasNews p (news_of whole whole mail) (news_of whole whole mail')
+pub whole_news : (p : Parsed) (whole : Known) (mail mail' : OutEnd) → mail'.takes ≡ takes_for p mail.takes → HasNews p (news_of whole whole mail) (news_of whole whole mail')
 whole_news p whole mail mail' taken = record {
-  takes = ap (λ (m : OutEnd). m.takes) taken;
+  takes = taken;
   told = λ e. refl;
   unseen = λ e. refl;
   fresh = λ e. prefix-same whole.points whole.points refl;

@@ -2,16 +2,15 @@
 use Rattle.std.proofs.Common.{◌≡◌, ◌≢◌, ℕ, ◌<◌, ◌≤◌, Bool, true, false, List, length, Option, Some, None, ◌⊎◌, inl, inr, refl, sym, ap, ◌∙◌, subst, arith, Result, Ok, Err, IfOk, IsErrOf, IfSome}
 use Rattle.cube_view.specs.declared.schema.Schema.{Schema}
 use Rattle.cube_view.specs.declared.stat.Stat.{Stat}
-use Rattle.live_session.specs.News.{KeepsViewer, News, news_of}
+use Rattle.live_session.specs.News.{KeepsViewer, LearnsTaken, MayAsk, News, news_of}
 use Rattle.live_session.specs.SoFar.{AnswersAll, HasAnswered, HasDone, KeepsAnswers}
 use Rattle.live_session.specs.State.{SessionState}
 use Rattle.live_session.specs.Turned.{HasFaults, IsTurn, Turned}
 use Rattle.live_session.specs.declared.turn.Turn.{Turn}
 use Rattle.live_session.specs.declared.turn.Turn.TheVariants as turn
-use Rattle.live_session.proofs.OneTurn.{as_fault, keeps_on, of_err, of_ok, ok_answer}
+use Rattle.live_session.proofs.OneTurn.{as_fault, keeps_on, learns_on, of_err, of_ok, ok_answer}
 use Rattle.live_session.proofs.SoFarLaws.{all_at_end, all_at_too_much}
-use Rattle.mailbox.specs.Ends.{OutEnd, mail_out}
-use Rattle.outer_io.specs.Counts.{next_count}
+use Rattle.mailbox.specs.Ends.{OutEnd}
 use Rattle.outer_io.specs.Cutting.{input_size}
 use Rattle.outer_io.specs.Lines.{input_limit}
 use Rattle.outer_io.specs.Progress.{IsTooLarge}
@@ -35,9 +34,9 @@ some_on {P = P} None o' same gives p q = tt
 some_on {P = P} (Some x) o' same gives p q = gives x (subst (λ o. IfSome o P) same p) q
 
 -- a mailbox keeps its names
-pub mail_same : (mail mail' : OutEnd) (taken : ℕ) → (mail' ≡ mail) ⊎ (mail' ≡ mail_out mail.mailbox mail.pair taken) → (mail'.mailbox ≡ mail.mailbox) × (mail'.pair ≡ mail.pair)
-mail_same mail mail' taken (inl e) = (ap (λ (m : OutEnd). m.mailbox) e, ap (λ (m : OutEnd). m.pair) e)
-mail_same mail mail' taken (inr e) = (ap (λ (m : OutEnd). m.mailbox) e, ap (λ (m : OutEnd). m.pair) e)
+pub mail_same : (learned : Known) (mail mail' : OutEnd) → MayAsk learned mail mail' → (mail'.mailbox ≡ mail.mailbox) × (mail'.pair ≡ mail.pair)
+mail_same learned mail mail' (inl e) = (ap (λ (m : OutEnd). m.mailbox) e, ap (λ (m : OutEnd). m.pair) e)
+mail_same learned mail mail' (inr asks) = (asks.mailbox, asks.pair)
 
 module _ {I O : Type 0} (left : I → Option (List ℕ)) (faults : I → ℕ) (held : O → Option (List ℕ)) (is_stat : Stat → Type 0) (taken : ℕ) (final : Bool) (a b : News) (start before after : SessionState I O) where
   -- what a turn does under a schema that is another's
@@ -123,18 +122,20 @@ pub record BetweenTurns {I O : Type 0} (left : I → Option (List ℕ)) (faults 
   -- and the mailbox, and the names
   pub mailbox : mail'.mailbox ≡ mail.mailbox
   pub mail_pair : mail'.pair ≡ mail.pair
+  -- what was taken is learned
+  pub learns : LearnsTaken learned' mail mail'
   pub name : name_of now.sink ≡ name_of start.sink
 
 module _ {I O : Type 0} {left : I → Option (List ℕ)} {faults : I → ℕ} {held : O → Option (List ℕ)} {put_faults : O → ℕ} {name_of : O → List ℕ} {is_stat : Stat → Type 0} {shown learned : Known} {last : Option Known} {schema : Schema} {mail : OutEnd} {start : SessionState I O} {shown' learned' : Known} {last' : Option Known} {schema' : Schema} {mail' : OutEnd} {now : SessionState I O} where
   -- it holds after a turn that is not the last
   pub after_turn : (A : Stat → Type 0) (shown'' learned'' : Known) (last'' : Option Known) (schema'' : Schema) (mail'' : OutEnd) (after : SessionState I O) (r : Result Turn SessionFault) (t : Turn) → BetweenTurns left faults held put_faults name_of is_stat shown learned last schema mail start shown' learned' last' schema' mail' now → r ≡ Ok t → t ≢ turn.Ended
       → ((stat : Stat) → A stat → is_stat stat) → IfOk r (Turned left faults held schema' A (news_of shown' learned' mail') (news_of shown'' learned'' mail'') now after) → HasFaults left faults held put_faults now after r × (name_of after.sink ≡ name_of now.sink)
-      → KeepsViewer shown' learned' last' schema' shown'' learned'' last'' schema'' → (mail'' ≡ mail') ⊎ (mail'' ≡ mail_out mail'.mailbox mail'.pair (next_count mail'.takes))
+      → KeepsViewer shown' learned' last' schema' shown'' learned'' last'' schema'' → MayAsk learned'' mail' mail''
       → KeepsAnswers left faults held schema' is_stat false (news_of shown' learned' mail') (news_of shown'' learned'' mail'') now after r
       → IfSome last' (λ w. KeepsAnswers left faults held schema' is_stat true (news_of w w mail') (news_of w w mail'') now after r)
       → BetweenTurns left faults held put_faults name_of is_stat shown learned last schema mail start shown'' learned'' last'' schema'' mail'' after
   after_turn A shown'' learned'' last'' schema'' mail'' after r t was is ne weaker turned fs viewer mails so_far finals =
-      let names = mail_same mail' mail'' (next_count mail'.takes) mails in
+      let names = mail_same learned'' mail' mail'' mails in
       record {
         so_far = answered_on left faults held is_stat mail.takes false (news_of shown' learned' mail') (news_of shown'' learned'' mail'') start now after schema' schema r t was.viewer.same_schema is so_far was.so_far;
         finals = some_on last last' was.viewer.same_last (λ w. answered_on left faults held is_stat mail.takes true (news_of w w mail') (news_of w w mail'') start now after schema' schema r t was.viewer.same_schema is) finals was.finals;
@@ -145,5 +146,6 @@ module _ {I O : Type 0} {left : I → Option (List ℕ)} {faults : I → ℕ} {h
         viewer = keeps_on was.viewer viewer;
         mailbox = names.0 ∙ was.mailbox;
         mail_pair = names.1 ∙ was.mail_pair;
+        learns = learns_on learned' learned'' mail mail' mail'' viewer.goes.told was.learns mails;
         name = fs.1 ∙ was.name;
       }

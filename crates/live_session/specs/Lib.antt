@@ -8,3 +8,4 @@ pub mod SoFar
 pub mod Refusing
 pub mod Ending
 pub mod TranscriptLaws
+pub mod Bounds

@@ -1,11 +1,12 @@
 -- What a session is shown and told, and what a line asks of it.
-use Rattle.std.specs.Prelude.{◌≡◌, ℕ, ◌≤◌, ◌⊎◌, Bool, true, false, not, if◌then◌else◌, List, [], ◌∷◌, Option, Some, None, IfSome}
+use Rattle.std.specs.Prelude.{◌≡◌, ℕ, ◌≤◌, ◌⊎◌, Bool, true, false, not, if◌then◌else◌, List, [], ◌∷◌, ◌++◌, All, Option, Some, None, IfSome}
 use Rattle.cube_view.specs.Points.{Point}
 use Rattle.cube_view.specs.declared.schema.Schema.{Schema}
-use Rattle.mailbox.specs.Ends.{OutEnd, mail_out}
+use Rattle.mailbox.specs.Ends.{OutEnd}
 use Rattle.outer_io.specs.Counts.{next_count}
 use Rattle.outer_io.specs.Lines.{Line}
 use Rattle.published_pair.specs.Rules.{Known}
+use Rattle.published_pair.specs.declared.told.Told.{Told}
 use Rattle.query_syntax.specs.declared.query.Parsed.{Parsed}
 use Rattle.query_syntax.specs.declared.query.Parsed.TheVariants.{Skip, Ask, Fault}
 use Rattle.session_core.specs.Asked.{asks_look, ends, line_meaning}
@@ -81,6 +82,31 @@ pub record KeepsViewer (shown learned : Known) (last : Option Known) (schema : S
   -- and its schema
   pub same_schema : schema' ≡ schema
 
+-- what was taken from the mailbox since is learned: each list is a prefix of the longest that was told
+abbrev pub LearnsTaken : Known → OutEnd → OutEnd → Type 0
+LearnsTaken learned out out' = (more : List Told) × (out'.taken ≡ out.taken ++ more) × All (λ (t : Told). IsPrefix t.front.points learned.points) more
+
+-- the same end of the mailbox, and what was taken is learned
+abbrev pub KeepsOut : Known → OutEnd → OutEnd → Type 0
+KeepsOut learned out out' = (out'.mailbox ≡ out.mailbox) × (out'.pair ≡ out.pair) × LearnsTaken learned out out'
+
+-- What asking a mailbox leaves of its end, once it was asked n times in all and the viewer has learned these lists
+pub record AsksMail (n : ℕ) (learned : Known) (out out' : OutEnd) : Type 0 where
+  -- it is of the same mailbox
+  pub mailbox : out'.mailbox ≡ out.mailbox
+  -- and of the same pair
+  pub pair : out'.pair ≡ out.pair
+  -- it was asked so often
+  pub asked : out'.takes ≡ n
+  -- which is no less than before
+  pub rises : out.takes ≤ out'.takes
+  -- what was taken is learned
+  pub learns : LearnsTaken learned out out'
+
+-- the mailbox was not asked, or once
+abbrev pub MayAsk : Known → OutEnd → OutEnd → Type 0
+MayAsk learned out out' = (out' ≡ out) ⊎ AsksMail (next_count out.takes) learned out out'
+
 -- What answering what a line means changes of the viewer's lists and of the mailbox's end that takes
 pub record GoesFor (p : Parsed) (shown learned : Known) (last : Option Known) (out : OutEnd) (shown' learned' : Known) (out' : OutEnd) : Type 0 where
   -- the lists go on
@@ -90,6 +116,6 @@ pub record GoesFor (p : Parsed) (shown learned : Known) (last : Option Known) (o
   -- only for a look another is shown
   pub unseen : asks_look p ≡ false → shown' ≡ shown
   -- only for a look or the told length more is told
-  pub unasked : asks_news p ≡ false → learned' ≡ learned
+  pub unasked : asks_news p ≡ false → (learned' ≡ learned) × (out' ≡ out)
   -- and exactly then the mailbox was asked
-  pub mail : (out' ≡ mail_out out.mailbox out.pair (takes_for p out.takes)) × (out.takes ≤ out'.takes)
+  pub mail : AsksMail (takes_for p out.takes) learned' out out'

@@ -1,8 +1,8 @@
 //! What is answered to a line, by what the mailbox holds and the viewer is shown.
 ghost use Rattle.std.specs.Prelude.{◌≡◌, ◌≤◌, true, false, IsTrue, IfSome};
-ghost use Rattle.live_session.specs.News.{GoesFor, asks_news, takes_for};
+ghost use Rattle.live_session.specs.Bounds.{TakesSteps};
+ghost use Rattle.live_session.specs.News.{AsksMail, GoesFor, asks_news, takes_for};
 ghost use Rattle.live_session.specs.Saying.{IsServed};
-ghost use Rattle.mailbox.specs.Ends.{mail_out};
 ghost use Rattle.published_pair.specs.Pair.{Fresh};
 ghost use Rattle.query_syntax.specs.Meaning.{asks_valid};
 ghost use Rattle.session_core.specs.Asked.{asks_look};
@@ -30,8 +30,8 @@ fn catch_up<V: Grow, R: Wait>(
     requires { viewer.shown.book ≡ mail.old.pair }
     ensures same { (result.shown ≡ viewer.shown) × (result.schema ≡ viewer.schema) × (result.last ≡ viewer.last) }
     ensures learned { IsPrefix viewer.learned.points result.learned.points }
-    ensures unasked { asks_news parsed.now ≡ false → result.learned ≡ viewer.learned }
-    ensures mail { (mail.new ≡ mail_out mail.old.mailbox mail.old.pair (takes_for parsed.now mail.old.takes)) × (mail.old.takes ≤ mail.new.takes) }
+    ensures unasked { asks_news parsed.now ≡ false → (result.learned ≡ viewer.learned) × (mail.new ≡ mail.old) }
+    ensures mail { AsksMail (takes_for parsed.now mail.old.takes) result.learned mail.old mail.new }
 {
     let mut viewer = viewer;
     if asks_news(parsed) {
@@ -58,6 +58,7 @@ fn look_once<V: Grow, R: Wait, L: Ledger>(
     ensures ended { IfSome viewer.last (λ w. result.0.shown.points ≡ w.points) }
     ensures pair { result.0.shown.book ≡ viewer.shown.book }
     ensures same { (result.0.learned ≡ viewer.learned) × (result.0.last ≡ viewer.last) × (result.0.schema ≡ viewer.schema) }
+    ensures steps { TakesSteps V.weight_at V.seen V.schema V.costs viewer.schema result.0.shown.points parsed.now steps.old steps.new }
 {
     let told = viewer.told();
     let shown = viewer.look(rt);
@@ -81,6 +82,7 @@ pub(crate) fn answer_line<V: Grow, R: Wait, L: Ledger>(
     ensures served { IsServed V.weight_at V.seen V.schema V.numbers viewer.schema result.0.shown result.0.learned parsed.now result.1 }
     ensures goes { GoesFor parsed.now viewer.shown viewer.learned viewer.last mail.old result.0.shown result.0.learned mail.new }
     ensures same { (result.0.last ≡ viewer.last) × (result.0.schema ≡ viewer.schema) }
+    ensures steps { TakesSteps V.weight_at V.seen V.schema V.costs viewer.schema result.0.shown.points parsed.now steps.old steps.new }
 {
     let viewer = catch_up(rt, viewer, mail, parsed);
     if asks_look(parsed) {

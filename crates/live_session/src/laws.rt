@@ -4,6 +4,7 @@ ghost use Rattle.live_session.specs.TranscriptLaws.{StaysTranscript, TextTellsRe
 use crate::Session;
 use cube_view::CubeView;
 use outer_io::{Sink, Source};
+use published_pair::{MayGo, may_go};
 
 /// For any view's test of the structure's numbers: a transcript stays one as the list grows, and its text determines its
 /// replies. It does nothing when run.
@@ -12,10 +13,7 @@ pub fn transcript_laws<V: CubeView>()
     ensures tells { TextTellsReplies V.is_stat }
 {}
 
-/// Only a type whose values may go to another thread can be named here.
-fn may_go<T: Send>() {}
-
-/// A session over a source and a sink that may go to another thread may go there. It does nothing when run.
-pub fn sessions_may_go<I: Source + Send, O: Sink + Send>() {
-    may_go::<Session<I, O>>();
+/// A session over a source and a sink that may go to another thread may go there.
+pub fn sessions_may_go<I: Source + Send, O: Sink + Send>() -> MayGo<Session<I, O>> {
+    may_go()
 }

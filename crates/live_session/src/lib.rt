@@ -21,8 +21,6 @@ mod answering;
 mod asking;
 mod laws;
 mod session;
-#[cfg(test)]
-mod tests;
 mod turn;
 
 pub use laws::{sessions_may_go, transcript_laws};

@@ -1,15 +1,14 @@
 //! A session: a script answered line by line over what a live pair shows.
-ghost use Rattle.std.specs.Prelude.{◌≡◌, ◌≢◌, ◌+◌, ◌<◌, ◌≤◌, ◌⊎◌, ◌++◌, length, true, false, Ok, Err, IfOk, IfSome, IsErrOf, vec_len, vec_capacity};
+ghost use Rattle.std.specs.Prelude.{◌≡◌, ◌≢◌, ◌+◌, ◌<◌, ◌≤◌, ◌++◌, length, true, false, Ok, Err, IfOk, IfSome, IsErrOf, vec_len, vec_capacity};
 ghost use Rattle.live_session.specs.Answered.{PutsFor, PutsLine};
+ghost use Rattle.live_session.specs.Bounds.{TurnCosts};
 ghost use Rattle.live_session.specs.Ending.{EndsScript};
-ghost use Rattle.live_session.specs.News.{KeepsViewer, news_of, seen_asked};
+ghost use Rattle.live_session.specs.News.{KeepsOut, KeepsViewer, news_of, seen_asked};
 ghost use Rattle.live_session.specs.Reading.{ReadsNext};
 ghost use Rattle.live_session.specs.Saying.{IsServed};
 ghost use Rattle.live_session.specs.SoFar.{HasDone, KeepsAnswers};
 ghost use Rattle.live_session.specs.State.{SessionState, new_session};
 ghost use Rattle.live_session.specs.Turned.{HasFaults, HasTurned, listed};
-ghost use Rattle.mailbox.specs.Ends.{mail_out};
-ghost use Rattle.outer_io.specs.Counts.{next_count};
 ghost use Rattle.outer_io.specs.Bytes.{GainsPart};
 ghost use Rattle.outer_io.specs.Cutting.{IsNew};
 ghost use Rattle.outer_io.specs.Faults.{HasCause};
@@ -248,7 +247,7 @@ impl<I: Source, O: Sink> Session<I, O> {
         ensures ended { self.old.ended ≡ true → (result.1 ≡ Ok Turn.Ended) × (self.new ≡ self.old) × (mail.new ≡ mail.old) × (result.0.shown ≡ viewer.shown) × (result.0.learned ≡ viewer.learned) }
         ensures faults { HasFaults I.left I.faults O.held O.faults self.old self.new result.1 × (O.name self.new.sink ≡ O.name self.old.sink) }
         ensures viewer { KeepsViewer viewer.shown viewer.learned viewer.last viewer.schema result.0.shown result.0.learned result.0.last result.0.schema }
-        ensures mail { (mail.new ≡ mail.old) ⊎ (mail.new ≡ mail_out mail.old.mailbox mail.old.pair (next_count mail.old.takes)) }
+        ensures costs { TurnCosts I.left I.faults V.weight_at V.seen V.schema V.costs viewer.schema result.0.shown result.0.learned mail.old mail.new self.old self.new steps.old steps.new }
         ensures so_far { KeepsAnswers I.left I.faults O.held viewer.schema V.is_stat false (news_of viewer.shown viewer.learned mail.old) (news_of result.0.shown result.0.learned mail.new) self.old self.new result.1 }
         ensures finals { IfSome viewer.last (λ w. KeepsAnswers I.left I.faults O.held viewer.schema V.is_stat true (news_of w w mail.old) (news_of w w mail.new) self.old self.new result.1) }
     {
@@ -285,7 +284,7 @@ impl<I: Source, O: Sink> Session<I, O> {
         ensures read { HasCause (I.faults self.old.source.source) (I.faults self.new.source.source) result.1 SessionFault.Read }
         ensures write { HasCause (O.faults self.old.sink) (O.faults self.new.sink) result.1 SessionFault.Write }
         ensures viewer { KeepsViewer viewer.shown viewer.learned viewer.last viewer.schema result.0.shown result.0.learned result.0.last result.0.schema }
-        ensures names { (O.name self.new.sink ≡ O.name self.old.sink) × (mail.new.mailbox ≡ mail.old.mailbox) × (mail.new.pair ≡ mail.old.pair) }
+        ensures names { (O.name self.new.sink ≡ O.name self.old.sink) × KeepsOut result.0.learned mail.old mail.new }
     {
         let mut viewer = viewer;
         let mut room = List::new(alloc);

@@ -1,19 +1,20 @@
 -- Each step keeps the rule of the mailbox.
-use Rattle.std.proofs.Common.{◌≡◌, ◌≢◌, ℕ, zero, suc, ◌<◌, inl, inr, ⊎_elim, List, [], ◌∷◌, ◌++◌, length, set, sym, refl, ap, ◌∙◌, subst, arith}
+use Rattle.std.proofs.Common.{◌≡◌, ℕ, zero, suc, ◌<◌, ◌⊎◌, inl, inr, ⊎_elim, List, [], ◌∷◌, ◌++◌, length, set, sym, refl, ap, ◌∙◌, subst, arith, append-nil}
+use mathlib.Core.List.{Sublist, nil-sublist}
+use mathlib.Core.List.Sublist as sublist
 use mathlib.Core.Option.{some, some-injective, some-ne-none}
 use lib.ListN.{get_elem?}
 use Rattle.crossbeam_queue.specs.Fifo.{Pushes, Pops, PopsFrom, PushesAfter, Forks}
-use Rattle.crossbeam_queue.proofs.Lists.{at_set, at_snoc}
-use Rattle.logbook.specs.Pages.{Book}
 use Rattle.published_pair.specs.Rules.{Known}
 use Rattle.published_pair.specs.declared.told.Told.{Told}
 use Rattle.mailbox.specs.declared.place.Letter.{Letter}
-use Rattle.mailbox.specs.declared.place.Letter.TheVariants.{Brings}
+use Rattle.mailbox.specs.declared.place.Letter.TheVariants.{Opens, Brings}
 use Rattle.mailbox.specs.declared.place.Putting.{Putting}
+use Rattle.mailbox.specs.declared.place.Taking.{Taking}
 use Rattle.mailbox.specs.declared.place.View.{View}
-use Rattle.mailbox.specs.declared.place.View.TheVariants.{Fresh, Opening, Whole, Puts, Takes}
-use Rattle.mailbox.specs.Rule.{putting, FitsMail, IsLastPut, HoldsLast, IsMailbox, KeepsMail}
-use Rattle.mailbox.specs.Steps.{naming_view, named_view, putter_view, taker_view, after_letter, BringsLast, IsTake}
+use Rattle.mailbox.specs.declared.place.View.TheVariants.{Fresh, Opening, Whole, Puts, Replaces, Takes}
+use Rattle.mailbox.specs.Rule.{putting, taking, FitsPlace, IsLastTaken, IsMailbox, KeepsMail}
+use Rattle.mailbox.specs.Steps.{naming_view, named_view, putter_view, removed_view, taker_view, after_letter, IsTake, Took}
 
 -- the one view of a mailbox that is not open yet
 sole_view : (x v : View) (pass : ℕ) → get_elem? (x ∷ []) pass ≡ some v → (pass ≡ 0) × (x ≡ v)
@@ -23,89 +24,110 @@ sole_view x v (suc pass) e = absurd (some-ne-none v (sym e))
 sole_of : (views : List View) (x v : View) (pass : ℕ) → views ≡ x ∷ [] → get_elem? views pass ≡ some v → (pass ≡ 0) × (x ≡ v)
 sole_of views x v pass are at = sole_view x v pass (ap (λ l. get_elem? l pass) (sym are) ∙ at)
 
+-- the two views of one that is open
+two_views : (x y v : View) (pass : ℕ) → get_elem? (x ∷ y ∷ []) pass ≡ some v → ((pass ≡ 0) × (x ≡ v)) ⊎ ((pass ≡ 1) × (y ≡ v))
+two_views x y v zero e = inl (refl, some-injective x v e)
+two_views x y v (suc zero) e = inr (refl, some-injective y v e)
+two_views x y v (suc (suc pass)) e = absurd (some-ne-none v (sym e))
+
 -- the view is of a mailbox that is open
 abbrev IsOpenView : View → Type 0
 IsOpenView Fresh = ⊥
 IsOpenView (Opening p) = ⊥
-IsOpenView (Whole p) = Unit {0}
+IsOpenView (Whole p) = ⊥
 IsOpenView (Puts w) = Unit {0}
-IsOpenView (Takes p) = Unit {0}
+IsOpenView (Replaces w) = Unit {0}
+IsOpenView (Takes t) = Unit {0}
+
+-- the view is the putting end's
+abbrev IsPutView : View → Type 0
+IsPutView Fresh = ⊥
+IsPutView (Opening p) = ⊥
+IsPutView (Whole p) = ⊥
+IsPutView (Puts w) = Unit {0}
+IsPutView (Replaces w) = Unit {0}
+IsPutView (Takes t) = ⊥
 
 is_mailbox : (letters : List Letter) (views : List View) (pass : ℕ) (v : View) → IsOpenView v → KeepsMail letters views → get_elem? views pass ≡ some v → IsMailbox letters views
 is_mailbox letters views pass v is_open (inl n) at = absurd (subst IsOpenView (sym (sole_of views Fresh v pass n.views_are at).1) is_open)
-is_mailbox letters views pass v is_open (inr (inl o)) at = absurd (subst IsOpenView (sym (sole_of views (Opening o.pair) v pass o.views_are at).1) is_open)
-is_mailbox letters views pass v is_open (inr (inr box)) at = box
+is_mailbox letters views pass v is_open (inr (inl o)) at = absurd (subst IsOpenView (sym (sole_of views (Opening o.name.front) v pass o.views_are at).1) is_open)
+is_mailbox letters views pass v is_open (inr (inr (inl w))) at = absurd (subst IsOpenView (sym (sole_of views (Whole w.pair) v pass w.views_are at).1) is_open)
+is_mailbox letters views pass v is_open (inr (inr (inr box))) at = box
+
+-- the pass of the end that puts is the first
+putter_of : (letters : List Letter) (views : List View) (pass : ℕ) (v : View) (box : IsMailbox letters views) → IsPutView v → get_elem? views pass ≡ some v → (pass ≡ 0) × (box.putter ≡ v)
+putter_of letters views pass v box is at = ⊎_elim
+    (λ (t : (pass ≡ 0) × (box.putter ≡ v)). t)
+    (λ (t : (pass ≡ 1) × (Takes box.taker ≡ v)). absurd (subst IsPutView (sym t.1) is))
+    (two_views box.putter (Takes box.taker) v pass (ap (λ l. get_elem? l pass) (sym box.views_are) ∙ at))
+
+no_taker : (v : View) (t taker : Taking) (letters : List Letter) → v ≡ Takes t → FitsPlace v taker letters → ⊥
+no_taker v t taker letters is fits = subst (λ (u : View). FitsPlace u taker letters) is fits
+
+-- the pass of the end that takes is the second
+taker_of : (letters : List Letter) (views : List View) (pass : ℕ) (t : Taking) (box : IsMailbox letters views) → get_elem? views pass ≡ some (Takes t) → (pass ≡ 1) × (box.taker ≡ t)
+taker_of letters views pass t box at = ⊎_elim
+    (λ (e : (pass ≡ 0) × (box.putter ≡ Takes t)). absurd (no_taker box.putter t box.taker letters e.1 box.place))
+    (λ (e : (pass ≡ 1) × (Takes box.taker ≡ Takes t)). (e.0, (let same : Takes box.taker ≡ Takes t = e.1 in let one : box.taker ≡ t = cc in one)))
+    (two_views box.putter (Takes box.taker) (Takes t) pass (ap (λ l. get_elem? l pass) (sym box.views_are) ∙ at))
+
+fits_open : (v : View) (t : Taking) (letters : List Letter) → FitsPlace v t letters → IsOpenView v
+fits_open Fresh t letters fits = fits
+fits_open (Opening p) t letters fits = fits
+fits_open (Whole p) t letters fits = fits
+fits_open (Puts w) t letters fits = tt
+fits_open (Replaces w) t letters fits = tt
+fits_open (Takes taker) t letters fits = tt
+
+-- each view of an open mailbox is one
+open_view : (letters : List Letter) (views : List View) (pass : ℕ) (v : View) → IsMailbox letters views → get_elem? views pass ≡ some v → IsOpenView v
+open_view letters views pass v box at = ⊎_elim
+    (λ (t : (pass ≡ 0) × (box.putter ≡ v)). subst IsOpenView t.1 (fits_open box.putter box.taker letters box.place))
+    (λ (t : (pass ≡ 1) × (Takes box.taker ≡ v)). subst IsOpenView t.1 tt)
+    (two_views box.putter (Takes box.taker) v pass (ap (λ l. get_elem? l pass) (sym box.views_are) ∙ at))
 
 pub new_place : KeepsMail [] (Fresh ∷ [])
 new_place = inl (record { letters_are = refl; views_are = refl })
 
-names_from : (n pass : ℕ) (s : Letter) (p : Known) → naming_view s ≡ Opening p → Pushes KeepsMail n pass Fresh s (λ w. w ≡ naming_view s)
-names_from n pass s p is letters views room (inl k) at =
+names_from : (n pass : ℕ) (t : Told) → Pushes KeepsMail n pass Fresh (Opens t) (λ w. w ≡ naming_view (Opens t))
+names_from n pass t letters views room (inl k) at =
     let e = sole_of views Fresh Fresh pass k.views_are at in
-    (naming_view s, inr (inl (record { letter = s; pair = p; letters_are = ap (λ l. l ++ s ∷ []) k.letters_are; views_are = (λ i. set (k.views_are i) (e.0 i) (naming_view s)) ∙ ap (λ v. v ∷ []) is })), refl)
-names_from n pass s p is letters views room (inr (inl o)) at = absurd (let e : Opening o.pair ≡ Fresh = (sole_of views (Opening o.pair) Fresh pass o.views_are at).1 in cc)
-names_from n pass s p is letters views room (inr (inr box)) at = absurd (box.knows pass Fresh at)
+    (naming_view (Opens t), inr (inl (record { name = t; letters_are = ap (λ l. l ++ Opens t ∷ []) k.letters_are; views_are = λ i. set (k.views_are i) (e.0 i) (naming_view (Opens t)) })), refl)
+names_from n pass t letters views room (inr (inl o)) at = absurd (let e : Opening o.name.front ≡ Fresh = (sole_of views (Opening o.name.front) Fresh pass o.views_are at).1 in cc)
+names_from n pass t letters views room (inr (inr (inl w))) at = absurd (let e : Whole w.pair ≡ Fresh = (sole_of views (Whole w.pair) Fresh pass w.views_are at).1 in cc)
+names_from n pass t letters views room (inr (inr (inr box))) at = absurd (open_view letters views pass Fresh box at)
 
 -- the pair's name may go in
-pub may_name : (n pass : ℕ) (v : View) (s : Letter) (p : Known) → v ≡ Fresh → naming_view s ≡ Opening p → Pushes KeepsMail n pass v s (λ w. w ≡ naming_view s)
-may_name n pass v s p is e = subst (λ (u : View). Pushes KeepsMail n pass u s (λ w. w ≡ naming_view s)) (sym is) (names_from n pass s p e)
+pub may_name : (n pass : ℕ) (v : View) (t : Told) → v ≡ Fresh → Pushes KeepsMail n pass v (Opens t) (λ w. w ≡ naming_view (Opens t))
+may_name n pass v t is = subst (λ (u : View). Pushes KeepsMail n pass u (Opens t) (λ w. w ≡ naming_view (Opens t))) (sym is) (names_from n pass t)
 
 tail_of_sole : (x y : Letter) (l : List Letter) → x ∷ l ≡ y ∷ [] → l ≡ []
 tail_of_sole x y l e = cc
 
-whole_fits : (p : Known) (pass : ℕ) (v : View) → get_elem? (Whole p ∷ []) pass ≡ some v → FitsMail 0 p [] pass v
-whole_fits p pass v at =
-    let e = sole_view (Whole p) v pass at in
-    subst (λ (x : ℕ × View). FitsMail 0 p [] x.0 x.1) (λ i. (sym e.0 i, e.1 i)) (refl, refl, refl)
-
-whole_mailbox : (p : Known) → KeepsMail [] (Whole p ∷ [])
-whole_mailbox p = inr (inr (record { putter = 0; pair = p; put = []; place = inl refl; knows = whole_fits p }))
-
 begins_from : (pass : ℕ) (p : Known) → Pops KeepsMail pass (Opening p) (λ x w. w ≡ named_view (Opening p))
 begins_from pass p x letters views (inl k) at = absurd (let e : Fresh ≡ Opening p = (sole_of views Fresh (Opening p) pass k.views_are at).1 in cc)
 begins_from pass p x letters views (inr (inl o)) at =
-    let e = sole_of views (Opening o.pair) (Opening p) pass o.views_are at in
-    let w : View = named_view (Opening p) in
-    let vs : set views pass w ≡ w ∷ [] = λ i. set (o.views_are i) (e.0 i) w in
-    let none : letters ≡ [] = tail_of_sole x o.letter letters o.letters_are in
-    (w, subst (λ (y : List Letter × List View). KeepsMail y.0 y.1) (λ i. (sym none i, sym vs i)) (whole_mailbox p), refl)
-begins_from pass p x letters views (inr (inr box)) at = absurd (box.knows pass (Opening p) at)
+    let e = sole_of views (Opening o.name.front) (Opening p) pass o.views_are at in
+    (Whole p, inr (inr (inl (record { pair = p; letters_are = tail_of_sole x (Opens o.name) letters o.letters_are; views_are = λ i. set (o.views_are i) (e.0 i) (Whole p) }))), refl)
+begins_from pass p x letters views (inr (inr (inl w))) at = absurd (let e : Whole w.pair ≡ Opening p = (sole_of views (Whole w.pair) (Opening p) pass w.views_are at).1 in cc)
+begins_from pass p x letters views (inr (inr (inr box))) at = absurd (open_view (x ∷ letters) views pass (Opening p) box at)
 
 -- the pair's name may come out
 pub may_begin : (pass : ℕ) (v : View) (p : Known) → v ≡ Opening p → Pops KeepsMail pass v (λ x w. w ≡ named_view v)
 may_begin pass v p is = subst (λ (u : View). Pops KeepsMail pass u (λ x w. w ≡ named_view u)) (sym is) (begins_from pass p)
 
--- a pass that does not put knows what it knew when more is put
-still_fits : (putter : ℕ) (pair : Known) (put put' : List Told) (j : ℕ) (u : View) → j ≢ putter → FitsMail putter pair put j u → FitsMail putter pair put' j u
-still_fits putter pair put put' j Fresh ne h = h
-still_fits putter pair put put' j (Opening p) ne h = h
-still_fits putter pair put put' j (Whole p) ne h = absurd (ne h.0)
-still_fits putter pair put put' j (Puts w) ne h = absurd (ne h.0)
-still_fits putter pair put put' j (Takes p) ne h = h
-
--- what was known of each pass is so of each pass after one view has changed
-each_after : (views : List View) (pass : ℕ) (v : View) (F : ℕ → View → Type 0) → F pass v → ((j : ℕ) (u : View) → j ≢ pass → get_elem? views j ≡ some u → F j u) → (j : ℕ) (u : View) → get_elem? (set views pass v) j ≡ some u → F j u
-each_after views pass v F here else j u at = ⊎_elim
-    (λ (t : (j ≡ pass) × (v ≡ u)). subst (λ (x : ℕ × View). F x.0 x.1) (λ i. (sym t.0 i, t.1 i)) here)
-    (λ (t : (j ≢ pass) × (get_elem? views j ≡ some u)). else j u t.0 t.1)
-    (at_set views pass j v u at)
-
 parts_from : (pass : ℕ) (p : Known) → Forks KeepsMail pass (Whole p) (putter_view (Whole p)) (taker_view (Whole p))
-parts_from pass p letters views keeps at =
-    let box = is_mailbox letters views pass (Whole p) tt keeps at in
-    let whole = box.knows pass (Whole p) at in
-    let w : View = Puts (putting p []) in
-    let vs : List View = set views pass w in
-    let F : ℕ → View → Type 0 = FitsMail box.putter box.pair box.put in
-    let puts : F pass w = (whole.0, λ i. putting (whole.1 i) (sym whole.2 i)) in
-    let old : (j : ℕ) (u : View) → get_elem? vs j ≡ some u → F j u = each_after views pass w F puts (λ j u ne at'. box.knows j u at') in
-    inr (inr (record {
-      putter = box.putter;
-      pair = box.pair;
-      put = box.put;
-      place = box.place;
-      knows = λ j u e. ⊎_elim (λ (t : get_elem? vs j ≡ some u). old j u t) (λ (t : Takes p ≡ u). subst (λ (x : View). F j x) t whole.1) (at_snoc vs (Takes p) u j e);
-    }))
+parts_from pass p letters views (inl k) at = absurd (let e : Fresh ≡ Whole p = (sole_of views Fresh (Whole p) pass k.views_are at).1 in cc)
+parts_from pass p letters views (inr (inl o)) at = absurd (let e : Opening o.name.front ≡ Whole p = (sole_of views (Opening o.name.front) (Whole p) pass o.views_are at).1 in cc)
+parts_from pass p letters views (inr (inr (inl w))) at =
+    let e = sole_of views (Whole w.pair) (Whole p) pass w.views_are at in
+    inr (inr (inr (record {
+      putter = Puts (putting p []);
+      taker = taking p [];
+      views_are = λ i. set (w.views_are i) (e.0 i) (Puts (putting p [])) ++ Takes (taking p []) ∷ [];
+      place = (refl, inr (w.letters_are, inl (refl, refl)));
+    })))
+parts_from pass p letters views (inr (inr (inr box))) at = absurd (open_view letters views pass (Whole p) box at)
 
 -- the ends may be parted
 pub may_part : (pass : ℕ) (v : View) (p : Known) → v ≡ Whole p → Forks KeepsMail pass v (putter_view v) (taker_view v)
@@ -115,63 +137,149 @@ no_room : (letters : List Letter) (n : ℕ) → n ≡ 1 → length letters < n �
 no_room [] n e h = refl
 no_room (x ∷ l) n e h = absurd (omega arith)
 
-puts_from : (n pass : ℕ) (w : Putting) (t : Told) → n ≡ 1 → t.front.book ≡ w.pair.book → Pushes KeepsMail n pass (Puts w) (Brings t) (λ v. v ≡ after_letter (Puts w) (Brings t))
-puts_from n pass w t one of letters views room keeps at =
-    let box = is_mailbox letters views pass (Puts w) tt keeps at in
-    let known = box.knows pass (Puts w) at in
-    let v : View = after_letter (Puts w) (Brings t) in
-    let pair : w.pair ≡ box.pair = ap (λ (x : Putting). x.pair) known.1 in
-    let more : List Told = w.put ++ t ∷ [] in
-    let here : FitsMail box.putter box.pair more pass v = (known.0, ap (λ (x : Known). putting x more) pair) in
-    let last : IsLastPut box.pair.book more t = record { of = of ∙ ap (λ (x : Known). x.book) pair; before = w.put; last = refl } in (
-      v,
-      inr (inr (record {
-        putter = box.putter;
-        pair = box.pair;
-        put = more;
-        place = inr (t, ap (λ l. l ++ Brings t ∷ []) (no_room letters n one room), last);
-        knows = each_after views pass v (FitsMail box.putter box.pair more) here (λ j u ne at'. still_fits box.putter box.pair box.put more j u (λ same. ne (same ∙ sym known.0)) (box.knows j u at'));
-      })),
+-- a part stays one when more is put, and when the same is put and taken
+part_more : (taken put : List Told) (t : Told) → Sublist taken put → Sublist taken (put ++ t ∷ [])
+part_more taken put t part = subst (λ (l : List Told). Sublist l (put ++ t ∷ [])) (append-nil taken) (sublist.append part (nil-sublist (t ∷ [])))
+
+part_both : (taken put : List Told) (t : Told) → Sublist taken put → Sublist (taken ++ t ∷ []) (put ++ t ∷ [])
+part_both taken put t part = sublist.append part (sublist.refl (t ∷ []))
+
+part_taken : (put taken : List Told) → IsLastTaken put taken → Sublist taken put
+part_taken put taken (inl none) = subst (λ (x : List Told × List Told). Sublist x.0 x.1) (λ i. (sym none.1 i, sym none.0 i)) (nil-sublist [])
+part_taken put taken (inr took) = subst (λ (x : List Told × List Told). Sublist x.0 x.1) (λ i. (sym took.taken_is i, sym took.put_is i)) (part_both took.taken_before took.put_before took.told took.before)
+
+-- the putting end is one that has put these
+abbrev IsPutter : Putting → View → Type 0
+IsPutter w v = (v ≡ Puts w) ⊎ (v ≡ Replaces w)
+
+-- of an empty place all that was taken was put, and the ends know one pair
+part_empty : (v : View) (w : Putting) (t : Taking) (letters : List Letter) → IsPutter w v → letters ≡ [] → FitsPlace v t letters → (w.pair ≡ t.pair) × Sublist t.taken w.put
+part_empty v w t letters (inl is) none fits = by_puts (subst (λ (u : View). FitsPlace u t letters) is fits)
+  where
+    by_puts : FitsPlace (Puts w) t letters → (w.pair ≡ t.pair) × Sublist t.taken w.put
+    by_puts (pair, inl holds) = absurd (let e : [] ≡ Brings holds.told ∷ [] = sym none ∙ holds.letters_are in cc)
+    by_puts (pair, inr (empty, took)) = (pair, part_taken w.put t.taken took)
+part_empty v w t letters (inr is) none fits =
+    let so : FitsPlace (Replaces w) t letters = subst (λ (u : View). FitsPlace u t letters) is fits in (so.0, so.2)
+
+put_view : (v : View) (w : Putting) → IsPutter w v → IsPutView v
+put_view v w (inl is) = subst IsPutView (sym is) tt
+put_view v w (inr is) = subst IsPutView (sym is) tt
+
+open_put : (v : View) → IsPutView v → IsOpenView v
+open_put Fresh is = is
+open_put (Opening p) is = is
+open_put (Whole p) is = is
+open_put (Puts w) is = tt
+open_put (Replaces w) is = tt
+open_put (Takes t) is = tt
+
+puts_from : (n pass : ℕ) (v : View) (w : Putting) (t : Told) → IsPutter w v → n ≡ 1 → t.front.book ≡ w.pair.book → Pushes KeepsMail n pass v (Brings t) (λ u. u ≡ Puts (putting w.pair (w.put ++ t ∷ [])))
+puts_from n pass v w t is one of letters views room keeps at =
+    let put_view : IsPutView v = put_view v w is in
+    let box = is_mailbox letters views pass v (open_put v put_view) keeps at in
+    let first = putter_of letters views pass v box put_view at in
+    let none = no_room letters n one room in
+    let fits = part_empty v w box.taker letters is none (subst (λ (u : View). FitsPlace u box.taker letters) first.1 box.place) in
+    let more : View = Puts (putting w.pair (w.put ++ t ∷ [])) in (
+      more,
+      inr (inr (inr (record {
+        putter = more;
+        taker = box.taker;
+        views_are = λ i. set (box.views_are i) (first.0 i) more;
+        place = (
+          fits.0,
+          inl (record { told = t; letters_are = ap (λ l. l ++ Brings t ∷ []) none; last = record { of = of; before = w.put; last = refl }; before = fits.1 }),
+        );
+      }))),
       refl,
     )
 
--- where a letter goes, the place held the last that was put, and is empty then
-held_last : (x : Letter) (letters : List Letter) (pair : Book) (put : List Told) → HoldsLast pair put (x ∷ letters) → (letters ≡ []) × ((t : Told) × (x ≡ Brings t) × IsLastPut pair put t)
-held_last x letters pair put (inl e) = absurd (let f : x ∷ letters ≡ [] = e in cc)
-held_last x letters pair put (inr t) = (tail_of_sole x (Brings t.0) letters t.1, (t.0, (let e : x ∷ letters ≡ Brings t.0 ∷ [] = t.1 in let f : x ≡ Brings t.0 = cc in f), t.2))
+after_put : (v : View) (w : Putting) (t : Told) → IsPutter w v → after_letter v (Brings t) ≡ Puts (putting w.pair (w.put ++ t ∷ []))
+after_put v w t (inl is) = ap (λ (u : View). after_letter u (Brings t)) is
+after_put v w t (inr is) = ap (λ (u : View). after_letter u (Brings t)) is
 
--- an emptied place keeps the rule, where the pass that empties it knows what it knew
-emptied : (x : Letter) (letters : List Letter) (views : List View) (pass : ℕ) (v : View) → get_elem? views pass ≡ some v → (box : IsMailbox (x ∷ letters) views) → KeepsMail letters (set views pass v)
-emptied x letters views pass v at box = inr (inr (record {
-  putter = box.putter;
-  pair = box.pair;
-  put = box.put;
-  place = inl (held_last x letters box.pair.book box.put box.place).0;
-  knows = each_after views pass v (FitsMail box.putter box.pair box.put) (box.knows pass v at) (λ j u ne at'. box.knows j u at');
-}))
+-- a told length may be put into an empty place, also where the end is replacing
+put_into : (n pass : ℕ) (v : View) (w : Putting) (t : Told) → IsPutter w v → n ≡ 1 → t.front.book ≡ w.pair.book → Pushes KeepsMail n pass v (Brings t) (λ u. u ≡ after_letter v (Brings t))
+put_into n pass v w t is one of = subst (λ (x : View). Pushes KeepsMail n pass v (Brings t) (λ u. u ≡ x)) (sym (after_put v w t is)) (puts_from n pass v w t is one of)
 
--- a told length may be put into an empty place
 pub may_put : (n pass : ℕ) (v : View) (t : Told) (w : Putting) → v ≡ Puts w → n ≡ 1 → t.front.book ≡ w.pair.book → Pushes KeepsMail n pass v (Brings t) (λ u. u ≡ after_letter v (Brings t))
-may_put n pass v t w is one of = subst (λ (x : View). Pushes KeepsMail n pass x (Brings t) (λ u. u ≡ after_letter x (Brings t))) (sym is) (puts_from n pass w t one of)
+may_put n pass v t w is one of = put_into n pass v w t (inl is) one of
 
 -- the same after what the place held was removed
-pub may_put_after : (n pass : ℕ) (v : View) (t : Told) (w : Putting) → v ≡ Puts w → n ≡ 1 → t.front.book ≡ w.pair.book → PushesAfter KeepsMail n pass (λ x u. u ≡ v) (Brings t) (λ u x z. z ≡ after_letter u x)
-may_put_after n pass v t w is one of old u e = may_put n pass u t w (e ∙ is) one of
+pub may_put_after : (n pass : ℕ) (v : View) (t : Told) (w : Putting) → v ≡ Puts w → n ≡ 1 → t.front.book ≡ w.pair.book → PushesAfter KeepsMail n pass (λ x u. u ≡ removed_view v) (Brings t) (λ u x z. z ≡ after_letter u x)
+may_put_after n pass v t w is one of old u e = put_into n pass u w t (inr (e ∙ ap removed_view is)) one of
 
--- what the place holds may be removed by the end that puts
-pub may_remove : (n pass : ℕ) (v : View) (w : Putting) → v ≡ Puts w → PopsFrom KeepsMail n pass v (λ x u. u ≡ v)
-may_remove n pass v w is x letters views full keeps at =
-    let at' : get_elem? views pass ≡ some (Puts w) = at ∙ ap some is in
-    (v, emptied x letters views pass v at (is_mailbox (x ∷ letters) views pass (Puts w) tt keeps at'), refl)
+removes_from : (n pass : ℕ) (w : Putting) → PopsFrom KeepsMail n pass (Puts w) (λ x u. u ≡ Replaces w)
+removes_from n pass w x letters views full keeps at =
+    let box = is_mailbox (x ∷ letters) views pass (Puts w) tt keeps at in
+    let first = putter_of (x ∷ letters) views pass (Puts w) box tt at in (
+      Replaces w,
+      inr (inr (inr (record {
+        putter = Replaces w;
+        taker = box.taker;
+        views_are = λ i. set (box.views_are i) (first.0 i) (Replaces w);
+        place = held box.taker (subst (λ (u : View). FitsPlace u box.taker (x ∷ letters)) first.1 box.place);
+      }))),
+      refl,
+    )
+  where
+    held : (t : Taking) → FitsPlace (Puts w) t (x ∷ letters) → FitsPlace (Replaces w) t letters
+    held t (pair, inl holds) = (pair, tail_of_sole x (Brings holds.told) letters holds.letters_are, subst (Sublist t.taken) (sym holds.last.last) (part_more t.taken holds.last.before holds.told holds.before))
+    held t (pair, inr (empty, took)) = absurd (let e : x ∷ letters ≡ [] = empty in cc)
 
-takes_from : (pass : ℕ) (p : Known) → Pops KeepsMail pass (Takes p) (IsTake (Takes p))
-takes_from pass p x letters views keeps at =
-    let box = is_mailbox (x ∷ letters) views pass (Takes p) tt keeps at in
-    let t = (held_last x letters box.pair.book box.put box.place).1 in
-    let same : box.pair.book ≡ p.book = sym (ap (λ (k : Known). k.book) (box.knows pass (Takes p) at)) in
-    let last : IsLastPut p.book box.put t.0 = subst (λ (b : Book). IsLastPut b box.put t.0) same t.2 in
-    (Takes p, emptied x letters views pass (Takes p) at box, (refl, subst (BringsLast p.book) (sym t.1) (box.put, last)))
+-- what the place holds may be removed by the end that puts, which puts one more next
+pub may_remove : (n pass : ℕ) (v : View) (w : Putting) → v ≡ Puts w → PopsFrom KeepsMail n pass v (λ x u. u ≡ removed_view v)
+may_remove n pass v w is = subst (λ (y : View). PopsFrom KeepsMail n pass y (λ x u. u ≡ removed_view y)) (sym is) (removes_from n pass w)
+
+-- what a take leaves, by what the place held
+took_of : (v : View) (t : Taking) (x : Letter) (letters : List Letter) → FitsPlace v t (x ∷ letters)
+    → (told : Told) × (x ≡ Brings told) × Took t told (Takes (taking t.pair (t.taken ++ told ∷ []))) × FitsPlace v (taking t.pair (t.taken ++ told ∷ [])) letters
+took_of Fresh t x letters fits = absurd fits
+took_of (Opening p) t x letters fits = absurd fits
+took_of (Whole p) t x letters fits = absurd fits
+took_of (Takes taker) t x letters fits = absurd fits
+took_of (Replaces w) t x letters fits = absurd (let e : x ∷ letters ≡ [] = fits.1 in cc)
+took_of (Puts w) t x letters (pair, inr (empty, took)) = absurd (let e : x ∷ letters ≡ [] = empty in cc)
+took_of (Puts w) t x letters (pair, inl holds) = (
+  holds.told,
+  (let e : x ∷ letters ≡ Brings holds.told ∷ [] = holds.letters_are in let f : x ≡ Brings holds.told = cc in f),
+  record {
+    after = refl;
+    last = record { put = w.put; last = record { of = holds.last.of ∙ ap (λ (p : Known). p.book) pair; before = holds.last.before; last = holds.last.last }; before = holds.before };
+  },
+  (
+    pair,
+    inr (
+      tail_of_sole x (Brings holds.told) letters holds.letters_are,
+      inr (record {
+        told = holds.told;
+        put_before = holds.last.before;
+        taken_before = t.taken;
+        put_is = holds.last.last;
+        taken_is = refl;
+        before = holds.before;
+      }),
+    ),
+  ),
+)
+
+takes_from : (pass : ℕ) (t : Taking) → Pops KeepsMail pass (Takes t) (IsTake (Takes t))
+takes_from pass t x letters views keeps at =
+    let box = is_mailbox (x ∷ letters) views pass (Takes t) tt keeps at in
+    let second = taker_of (x ∷ letters) views pass t box at in
+    let took = took_of box.putter t x letters (subst (λ (u : Taking). FitsPlace box.putter u (x ∷ letters)) second.1 box.place) in
+    let after : View = Takes (taking t.pair (t.taken ++ took.0 ∷ [])) in (
+      after,
+      inr (inr (inr (record {
+        putter = box.putter;
+        taker = taking t.pair (t.taken ++ took.0 ∷ []);
+        views_are = λ i. set (box.views_are i) (second.0 i) after;
+        place = took.3;
+      }))),
+      subst (λ (y : Letter). IsTake (Takes t) y after) (sym took.1) took.2,
+    )
 
 -- what the place holds may be taken by the end that takes
-pub may_take : (pass : ℕ) (v : View) (p : Known) → v ≡ Takes p → Pops KeepsMail pass v (IsTake v)
-may_take pass v p is = subst (λ (u : View). Pops KeepsMail pass u (IsTake u)) (sym is) (takes_from pass p)
+pub may_take : (pass : ℕ) (v : View) (t : Taking) → v ≡ Takes t → Pops KeepsMail pass v (IsTake v)
+may_take pass v t is = subst (λ (u : View). Pops KeepsMail pass u (IsTake u)) (sym is) (takes_from pass t)

@@ -1,12 +1,12 @@
 -- What each step of a mailbox does to the view of the pass that takes it.
 use Rattle.std.specs.Prelude.{◌≡◌, [], ◌∷◌, ◌++◌}
-use Rattle.logbook.specs.Pages.{Book}
 use Rattle.published_pair.specs.declared.told.Told.{Told}
 use Rattle.mailbox.specs.declared.place.Letter.{Letter}
 use Rattle.mailbox.specs.declared.place.Letter.TheVariants.{Opens, Brings}
+use Rattle.mailbox.specs.declared.place.Taking.{Taking}
 use Rattle.mailbox.specs.declared.place.View.{View}
-use Rattle.mailbox.specs.declared.place.View.TheVariants.{Fresh, Opening, Whole, Puts, Takes}
-use Rattle.mailbox.specs.Rule.{putting, WasPutLast}
+use Rattle.mailbox.specs.declared.place.View.TheVariants.{Fresh, Opening, Whole, Puts, Replaces, Takes}
+use Rattle.mailbox.specs.Rule.{putting, taking, WasPutLast}
 
 -- the first pass's view once it has put this in: the pair, where it is its name
 abbrev pub naming_view : Letter → View
@@ -25,13 +25,18 @@ putter_view v = v
 
 -- the view of the end that takes
 abbrev pub taker_view : View → View
-taker_view (Whole pair) = Takes pair
-taker_view (Puts w) = Takes w.pair
+taker_view (Whole pair) = Takes (taking pair [])
 taker_view v = v
+
+-- the putting end's view once it has removed what the place held, to put one more
+abbrev pub removed_view : View → View
+removed_view (Puts w) = Replaces w
+removed_view v = v
 
 -- the putting end's view once it has put one more
 abbrev pub after_told : View → Told → View
 after_told (Puts w) told = Puts (putting w.pair (w.put ++ told ∷ []))
+after_told (Replaces w) told = Puts (putting w.pair (w.put ++ told ∷ []))
 after_told v told = v
 
 -- the same, by what the place takes in
@@ -39,12 +44,14 @@ abbrev pub after_letter : View → Letter → View
 after_letter v (Opens told) = v
 after_letter v (Brings told) = after_told v told
 
--- what comes out of the place is the last that was put, of that pair
-abbrev pub BringsLast : Book → Letter → Type 0
-BringsLast pair (Opens told) = ⊥
-BringsLast pair (Brings told) = WasPutLast pair told
+-- What comes out of the place, and the view after it, are those of a take
+pub record Took (t : Taking) (told : Told) (next : View) : Type 0 where
+  -- what came out is noted as the last that was taken
+  pub after : next ≡ Takes (taking t.pair (t.taken ++ told ∷ []))
+  -- it was put last
+  pub last : WasPutLast t.pair.book t.taken told
 
 -- the view before, what comes out, and the view after are those of a take
 abbrev pub IsTake : View → Letter → View → Type 0
-IsTake (Takes pair) letter after = (after ≡ Takes pair) × BringsLast pair.book letter
+IsTake (Takes t) (Brings told) after = Took t told after
 IsTake v letter after = ⊥

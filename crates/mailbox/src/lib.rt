@@ -8,7 +8,7 @@
 //!
 //! ```
 //! let (mut put, mut take) = open_mail(alloc, &publisher)?;
-//! put.put(rt, publisher.mark());
+//! put.put(rt, publisher.tell());
 //! take.take(rt);   // Some(told), whose count is publisher.len()
 //! take.take(rt);   // None
 //! take.takes();    // 2
@@ -18,8 +18,6 @@
 mod laws;
 mod mail;
 mod place;
-#[cfg(test)]
-mod tests;
 
 pub use laws::mail_ends_may_go;
 pub use mail::{MailIn, MailOut, open_mail};

@@ -1,6 +1,6 @@
 //! The two ends of a mailbox.
 ghost use Rattle.std.specs.Prelude.{◌≡◌, ◌≤◌, [], ◌∷◌, ◌++◌, length, IfOk, IfSome};
-ghost use Rattle.mailbox.specs.Ends.{mail_in, mail_out};
+ghost use Rattle.mailbox.specs.Ends.{and_taken, mail_in, mail_out};
 ghost use Rattle.mailbox.specs.Rule.{WasPutLast};
 ghost use Rattle.outer_io.specs.Counts.{next_count};
 
@@ -44,7 +44,8 @@ impl MailIn {
     }
 }
 
-/// The end that takes what was put last. Contracts see the mailbox's name, the pair's, and how often it was asked.
+/// The end that takes what was put last. Contracts see the mailbox's name, the pair's, how often it was asked, and what was
+/// taken.
 #[derive(Drop)]
 pub struct MailOut {
     place: Arc<Place>,
@@ -56,21 +57,21 @@ pub struct MailOut {
 impl Model for MailOut {
     ghost use Rattle.std.specs.Arc.{arc_value};
     ghost use Rattle.crossbeam_queue.specs.Passes.{IsPassOf};
-    ghost use Rattle.mailbox.specs.Ends.{OutEnd, mail_out, KnowsPair};
+    ghost use Rattle.mailbox.specs.Ends.{OutEnd, out_of, KnowsTaken};
 
     ghost Value = { OutEnd };
 
-    ghost view = { λ e. mail_out e.pass.table_id e.mark.front.book e.takes };
+    ghost view = { λ e. out_of e.pass e.mark.front.book e.takes };
 
-    ghost invariant = { λ e. IsPassOf (arc_value e.place) e.pass × KnowsPair e.pass e.mark.front };
+    ghost invariant = { λ e. IsPassOf (arc_value e.place) e.pass × KnowsTaken e.pass e.mark.front };
 }
 
 impl MailOut {
     /// Takes what the mailbox holds, which is the last that was put. `None` only where it was empty at one moment of the
     /// call.
     pub fn take<R: Wait>(&mut self, rt: &R) -> Option<Told>
-        ensures last { IfSome result (WasPutLast self.old.pair) }
-        ensures end { self.new ≡ mail_out self.old.mailbox self.old.pair (next_count self.old.takes) }
+        ensures last { IfSome result (WasPutLast self.old.pair self.old.taken) }
+        ensures end { self.new ≡ mail_out self.old.mailbox self.old.pair (next_count self.old.takes) (and_taken self.old.taken result) }
         ensures rises { self.old.takes ≤ self.new.takes }
     {
         self.takes = self.takes.saturating_add(1);
@@ -95,12 +96,12 @@ pub fn open_mail<V: Grow>(
     publisher: &Publisher<V>,
 ) -> Result<(MailIn, MailOut), NoMemory>
     ensures put { IfOk result (λ ends. ends.0 ≡ mail_in ends.1.mailbox publisher.now.published.book []) }
-    ensures take { IfOk result (λ ends. ends.1 ≡ mail_out ends.1.mailbox publisher.now.published.book 0) }
+    ensures take { IfOk result (λ ends. ends.1 ≡ mail_out ends.1.mailbox publisher.now.published.book 0 []) }
 {
     let Ok((place, mut pass)) = Place::ruled(alloc, 1) else {
         return Err(NoMemory);
     };
-    match place.try_push_as::<Names>(&mut pass, Letter::Opens(publisher.mark())) {
+    match place.try_push_as::<Names>(&mut pass, Letter::Opens(publisher.tell())) {
         Ok(()) => {}
         Err(_) => return Err(NoMemory),
     }
@@ -119,12 +120,12 @@ pub fn open_mail<V: Grow>(
         MailIn {
             place,
             pass,
-            mark: publisher.mark(),
+            mark: publisher.tell(),
         },
         MailOut {
             place: shared,
             pass: taking,
-            mark: publisher.mark(),
+            mark: publisher.tell(),
             takes: 0,
         },
     ))

@@ -1,7 +1,7 @@
 //! The rule of a mailbox's place, and what each of its steps does. No value of a view is ever made.
 ghost use Rattle.std.specs.Prelude.{◌≡◌, ⊤};
 ghost use Rattle.mailbox.specs.Rule.{KeepsMail};
-ghost use Rattle.mailbox.specs.Steps.{after_letter, naming_view, named_view, putter_view, taker_view, IsTake};
+ghost use Rattle.mailbox.specs.Steps.{after_letter, naming_view, named_view, putter_view, removed_view, taker_view, IsTake};
 ghost use Rattle.mailbox.specs.declared.place.View.TheVariants.{Fresh};
 
 use crossbeam_queue::protocol::{Lesson, Outcome, Protocol, Split};
@@ -22,13 +22,21 @@ pub struct Putting {
     pub put: LinkedList<Told>,
 }
 
-/// What a pass knows: nothing yet, the pair alone, and then, of both ends or of one, the pair and what was put.
+/// What the taking end's pass knows: the pair, and all that it has taken, in order.
+pub struct Taking {
+    pub pair: Front,
+    pub taken: LinkedList<Told>,
+}
+
+/// What a pass knows: nothing yet, the pair alone, and then, of one end, what it has put or taken.
 pub enum View {
     Fresh,
     Opening(Front),
     Whole(Front),
     Puts(Putting),
-    Takes(Front),
+    /// It has removed what the place held, and puts one more next.
+    Replaces(Putting),
+    Takes(Taking),
 }
 
 /// The rule of a mailbox.
@@ -87,15 +95,15 @@ impl Outcome<Letter, View> for Puts {
 pub struct Removes;
 
 impl Outcome<Letter, View> for Removes {
-    /// The putting end knows what it knew.
-    ghost then = { λ v x w. w ≡ v };
+    /// The putting end puts one more next.
+    ghost then = { λ v x w. w ≡ removed_view v };
 }
 
 /// What the place holds is taken.
 pub struct Takes;
 
 impl Outcome<Letter, View> for Takes {
-    /// It is the last that was put, of the pair.
+    /// It is the last that was put, of the pair, and is noted.
     ghost then = { IsTake };
 }
 

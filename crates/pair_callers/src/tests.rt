@@ -132,11 +132,11 @@ fn learn_both<V: Grow, R: Wait>(
 fn tells<V: Begin, R: Wait + Abort>(rt: &R, alloc: Global) -> Result<(), NoMemory> {
     let (mut publisher, mut viewers, schema) = open_empty::<V, R>(rt, alloc, 1)?;
     let viewer = one_of(rt, &mut viewers, &publisher);
-    let early = publisher.mark();
+    let early = publisher.tell();
     add(rt, &mut publisher, &schema);
     add(rt, &mut publisher, &schema);
     assert_eq!(rt; publisher.publish(rt), Ok(2));
-    let late = publisher.tell().expect(rt, "a told");
+    let late = publisher.tell();
     assert_eq!(rt; (early.count(), late.count()), (0, 2));
     assert_eq!(rt; learn_both(rt, viewer, late, early), ((2, 0), 2));
     publisher.finish(rt);

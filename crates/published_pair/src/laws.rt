@@ -1,6 +1,7 @@
 //! What the steps of a pair are to the loading machine, as laws of the definitions.
 ghost use Rattle.published_pair.specs.PairLaws.{FreshIsPairFact, RuleIsPairFact, PublicationIsPublish, TellingIsTell, LookingIsLook};
 
+use crate::crossing::{MayGo, may_go};
 use crate::publisher::Publisher;
 use crate::rested::Rested;
 use crate::told::{Closed, Last, Told};
@@ -17,17 +18,18 @@ pub fn pair_laws()
     ensures look { LookingIsLook }
 {}
 
-/// Only a type whose values may go to another thread can be named here.
-fn may_go<T: Send>() {}
-
-/// The ends of a pair of any view that threads may share, its looks, and what becomes of its ends, may go to other
-/// threads. It does nothing when run.
-pub fn pair_ends_may_go<V: Grow + Send + Sync>() {
-    may_go::<Publisher<V>>();
-    may_go::<Viewer<V>>();
-    may_go::<Shown<V>>();
-    may_go::<Told>();
-    may_go::<Rested<V>>();
-    may_go::<Last>();
-    may_go::<Closed>();
+/// What the answer names may go to other threads: the ends of a pair of any view that threads may share, its looks, and what
+/// becomes of its ends.
+pub fn pair_ends_may_go<V: Grow + Send + Sync>() -> MayGo<
+    (
+        Publisher<V>,
+        Viewer<V>,
+        Shown<V>,
+        Told,
+        Rested<V>,
+        Last,
+        Closed,
+    ),
+> {
+    may_go()
 }

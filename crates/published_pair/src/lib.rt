@@ -23,6 +23,7 @@
 #![tactic(auto)]
 
 mod book;
+mod crossing;
 mod laws;
 mod looks;
 mod names;
@@ -36,6 +37,7 @@ mod told;
 mod viewer;
 
 pub use book::{Front, Whole};
+pub use crossing::{MayGo, may_go};
 pub use laws::{pair_ends_may_go, pair_laws};
 pub use opening::open;
 pub use publisher::{Of, Pairing, Publisher, PublisherOf};

@@ -1,5 +1,5 @@
 //! The end that adds points.
-ghost use Rattle.std.specs.Prelude.{◌≡◌, ◌+◌, ◌<◌, ◌≤◌, ◌++◌, ◌∷◌, [], length, take, drop, fold, All, IsTrue, IsOk, Some, OnOk, OnErr, IfOk, MatchResult};
+ghost use Rattle.std.specs.Prelude.{◌≡◌, ◌+◌, ◌<◌, ◌≤◌, ◌++◌, ◌∷◌, [], length, take, drop, fold, All, IsTrue, Some, OnOk, OnErr, IfOk, MatchResult};
 ghost use Rattle.cube_view.specs.Bag.{most_points};
 ghost use Rattle.cube_view.specs.Validity.{sound};
 ghost use Rattle.left_right.specs.Sides.{view};
@@ -167,21 +167,12 @@ impl<V: Grow> PublisherOf<Of<V>> {
     }
 
     /// What viewers are to know of: the published list. It takes no memory.
-    pub fn mark(&self) -> Told
+    pub fn tell(&self) -> Told
         ensures { result.front ≡ self.now.published }
     {
         Told {
             front: self.published.again(),
         }
-    }
-
-    /// What viewers are to know of: the published list. It always succeeds.
-    pub fn tell(&mut self) -> Result<Told, NoMemory>
-        ensures given { IsOk result }
-        ensures told { IfOk result (λ t. t.front ≡ self.old.published) }
-        ensures same { (self.new.published ≡ self.old.published) × (self.new.appended ≡ self.old.appended) × (self.new.schema ≡ self.old.schema) × (self.new.viewers ≡ self.old.viewers) }
-    {
-        Ok(self.mark())
     }
 
     /// How many points were published.

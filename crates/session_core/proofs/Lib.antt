@@ -7,4 +7,3 @@ pub mod Replying
 pub mod SoFar
 pub mod WholeScripts
 pub mod Texts
-mod NoPoints

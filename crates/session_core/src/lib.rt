@@ -18,8 +18,6 @@ mod answering;
 mod asking;
 mod fault;
 mod serving;
-#[cfg(test)]
-mod tests;
 
 pub use answering::{ScriptEnd, answer_lines, answer_script};
 pub use asking::next_asked;

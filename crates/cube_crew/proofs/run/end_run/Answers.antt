@@ -68,7 +68,7 @@ ends_by g c asks finals starved closed whole left enough found =
     let ended : c.from_vec.result ≡ map end_of works = c.from_vec.ensures ∙ c.end_feeds-feeds.ensures.ended in
     let turn = subst (λ (l : List FeedState). AreInTurn l parts.0.feeders → IsInterleaving parts.0.feeders (list_of (sent_lists l)) c.settle-drawn.result) ended c.settle-drawn.ensures.in_turn in
     subst (λ (b : Building). EndsRun g.I.Source.left g.I.Source.faults g.O.Sink.held g.O.Sink.faults g.O.Sink.name g.V.CubeView.is_stat works b c.args.later.asks.items c.args.finals.items (given g c asks finals starved closed)) c.into_parts-draws.ensures
-    (ends_run g.I.Source.left g.I.Source.faults g.O.Sink.held g.O.Sink.faults g.O.Sink.name g.V.CubeView.is_stat works parts.0 parts.1 parts.2 parts.3 c.args.later.asks.items c.args.finals.items (given g c asks finals starved closed)
+    (ends_run g.I.Source.left g.I.Source.faults g.O.Sink.held g.O.Sink.faults g.O.Sink.name g.V.CubeView.is_stat works parts.0 parts.1 parts.2 c.args.later.asks.items c.args.finals.items (given g c asks finals starved closed)
     run (c.from_vec-feeds.ensures ∙ c.end_feeds-feeds.ensures.dones) refl c.settle-drawn.ensures.drawn turn c.into_journal-journal.ensures.prefix c.into_journal-journal.ensures.whole whole left enough found)
 
 pub returns-in-Ok : goal.returns-in-Ok

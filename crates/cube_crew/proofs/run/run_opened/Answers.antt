@@ -22,7 +22,7 @@ use Rattle.cube_crew.proofs.run.run_opened.Goals.{After-new, After-new-builder, 
 use Rattle.cube_crew.proofs.run.run_opened.Goals as goal
 
 -- what the run begins with
-seats_at : (g : Over) (c : After-new-builder g) → Seats c.args.opened.schema c.args.jobs c.args.opened.draws c.args.opened.publisher.published c.args.opened.ends.items c.args.opened.mails.ins c.args.opened.mails.outs.items c.args.opened.mails.final_outs.items (work_state c.args.opened.draws c.new-builder.result c.args.opened.mails.ins false)
+seats_at : (g : Over) (c : After-new-builder g) → Seats c.args.opened.schema c.args.jobs c.args.opened.draws c.args.opened.publisher.published c.args.opened.ends.items c.args.opened.mails.ins c.args.opened.mails.outs.items c.args.opened.mails.final_outs.items (work_state c.args.opened.draws c.new-builder.result c.args.opened.mails.ins)
 seats_at g c =
     let r = c.requires in
     seats_of c.args.opened.schema c.args.jobs c.args.opened.draws c.args.opened.publisher.published c.args.opened.ends.items c.args.opened.mails.ins c.args.opened.mails.outs.items c.args.opened.mails.final_outs.items c.new-builder.result c.len-feeders.result c.args.opened.publisher.viewers c.args.opened.publisher.schema
@@ -50,7 +50,7 @@ have_asked : (g : Over) (c : After-run_together g) → c.seat_sessions-asks.resu
 have_asked g c seated = subst (λ l. AllZip (LeavesSession g.I.Source.left g.I.Source.faults g.O.Sink.held g.O.Sink.faults g.O.Sink.name g.V.CubeView.is_stat) l c.run_together.new.later.asks.items) seated c.run_together.ensures.later.asks
 
 -- and the builder has built
-has_built : (g : Over) (c : After-run_together g) → IsBuilt (work_state c.args.opened.draws c.new-builder.result c.args.opened.mails.ins false) c.run_together.new.later.building
+has_built : (g : Over) (c : After-run_together g) → IsBuilt (work_state c.args.opened.draws c.new-builder.result c.args.opened.mails.ins) c.run_together.new.later.building
 has_built g c = subst (λ (w : Building). IsBuilt w c.run_together.new.later.building) c.new.ensures.parts c.run_together.ensures.later.built
 
 -- there are as many works as were seated
@@ -141,7 +141,7 @@ end_run-requires-clause-run g c κs within =
     omega (arith, ap length final, c.seat_sessions-finals.result.ok.0, c.seat_sessions-finals.ensures.len.0, c.into_vec-final_jobs.result.ok.0, ap length c.into_vec-final_jobs.ensures) in
     subst (IsRun c.run_together.new.feeds.items c.run_together.new.later.building c.run_together.new.later.asks.items) (sym final)
     (is_run g.I.Source.left g.I.Source.faults g.O.Sink.held g.O.Sink.faults g.O.Sink.name g.V.CubeView.is_stat opened.schema c.args.jobs opened.draws opened.publisher.published opened.ends.items opened.mails.ins opened.mails.outs.items opened.mails.final_outs.items
-    c.run_together.new.feeds.items (work_state opened.draws c.new-builder.result opened.mails.ins false) c.run_together.new.later.building c.run_together.new.later.asks.items
+    c.run_together.new.feeds.items (work_state opened.draws c.new-builder.result opened.mails.ins) c.run_together.new.later.building c.run_together.new.later.asks.items
     (seats_at g at.After-new-builder) (have_fed g at.After-run_together (seated_feeds g at.After-seat_feeds-works)) (have_asked g at.After-run_together (seated_asks g at.After-seat_sessions-asks)) (has_built g at.After-run_together) asks_count finals_count)
 
 pub end_run-requires-clause-fed : goal.end_run-requires-clause-fed
@@ -166,5 +166,5 @@ returns g c =
     let asks = c.run_together.new.later.asks.items in
     let over = subst (λ l. EndsRun g.I.Source.left g.I.Source.faults g.O.Sink.held g.O.Sink.faults g.O.Sink.name g.V.CubeView.is_stat works building asks l c.end_run.result) (seated_finals g at.After-seat_sessions-finals) c.end_run.ensures in
     crewed g.I.Source.left g.I.Source.faults g.O.Sink.held g.O.Sink.faults g.O.Sink.name g.V.CubeView.is_stat opened.schema c.args.jobs c.transcript_laws.ensures.stays opened.draws opened.publisher.published opened.ends.items opened.mails.ins opened.mails.outs.items opened.mails.final_outs.items
-    works (work_state opened.draws c.new-builder.result opened.mails.ins false) building asks c.end_run.result
+    works (work_state opened.draws c.new-builder.result opened.mails.ins) building asks c.end_run.result
     (seats_at g at.After-new-builder) (have_fed g at.After-run_together (seated_feeds g at.After-seat_feeds-works)) (have_asked g at.After-run_together (seated_asks g at.After-seat_sessions-asks)) (has_built g at.After-run_together) over

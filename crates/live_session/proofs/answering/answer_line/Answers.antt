@@ -1,6 +1,7 @@
-use Rattle.std.proofs.Common.{ℕ, ◌∙◌, sym, subst, IfOk}
+use Rattle.std.proofs.Common.{ℕ, ◌∙◌, refl, sym, subst, IfOk}
 use Rattle.std.proofs.lemmas.Bool.{false≢true}
 use Rattle.cube_view.specs.declared.schema.Schema.{Schema}
+use Rattle.live_session.specs.Bounds.{TakesSteps}
 use Rattle.live_session.specs.Saying.{IsServed, IsShown, SaysOver}
 use Rattle.live_session.proofs.OneTurn.{goes_unseen}
 use Rattle.live_session.proofs.Says.{over_unseen}
@@ -29,4 +30,15 @@ returns-clause-goes g c = record {
   unseen = λ e. c.catch_up-viewer.ensures.same.0;
   unasked = c.catch_up-viewer.ensures.unasked;
   mail = c.catch_up-viewer.ensures.mail;
+}
+
+pub returns-then-asks_look-clause-steps : goal.returns-then-asks_look-clause-steps
+returns-then-asks_look-clause-steps g c =
+    subst (λ (z : Schema). TakesSteps g.V.CubeView.weight_at g.V.CubeView.seen g.V.CubeView.schema g.V.CubeView.costs z c.look_once.result.0.shown.points c.args.parsed.now c.args.steps.now c.look_once.new.steps) c.catch_up-viewer.ensures.same.1
+    c.look_once.ensures.steps
+
+pub returns-clause-steps : goal.returns-clause-steps
+returns-clause-steps g c = record {
+  unlooked = λ e. refl;
+  looked = λ e. absurd (false≢true (sym c.if-asks_look.false ∙ c.asks_look.ensures ∙ e));
 }

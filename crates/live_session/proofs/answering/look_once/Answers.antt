@@ -1,4 +1,8 @@
-use Rattle.std.proofs.Common.{◌∙◌, ap, sym, length}
+use Rattle.std.proofs.Common.{◌∙◌, ◌+◌, ◌≤◌, ap, sym, subst, length}
+use Rattle.std.proofs.lemmas.Bool.{false≢true}
+use Rattle.cube_view.specs.Bag.{Counts}
+use Rattle.cube_view.specs.declared.schema.Schema.{Schema}
+use Rattle.session_core.specs.Serving.{answer_cost}
 use Rattle.live_session.specs.Saying.{IsShown}
 use Rattle.published_pair.specs.Rules.{Known}
 use Rattle.live_session.proofs.Says.{over_shown, shown_says}
@@ -17,4 +21,20 @@ returns-clause-served g c =
           (c.told-told.ensures ∙ ap (λ (k : Known). length k.points) (sym (c.leave.ensures.1 ∙ c.look-shown.ensures.same.1)))
           (c.serve-served.ensures.served c.look-shown.result.shown.points c.view.ensures.counts));
       no_memory = c.serve-served.ensures.no_memory;
+    }
+
+pub returns-clause-steps : goal.returns-clause-steps
+returns-clause-steps g c =
+    let view = g.V.CubeView in
+    let schema = c.view.ensures.schema ∙ c.look-shown.ensures.same.3 in
+    let shown = sym c.leave.ensures.0 in record {
+      unlooked = λ e. absurd (false≢true (sym e ∙ c.requires.look));
+      looked = λ e. (
+        c.view.result.now,
+        subst (λ (k : Known). Counts (view.weight_at c.view.result.now) (view.seen c.view.result.now) k.points) shown c.view.ensures.counts,
+        schema,
+        subst (λ (k : Known). c.serve-served.new.steps ≤ c.args.steps.now + answer_cost (view.costs c.view.result.now) c.args.viewer.schema c.args.parsed.now k.points) shown
+            (subst (λ (z : Schema). c.serve-served.new.steps ≤ c.args.steps.now + answer_cost (view.costs c.view.result.now) z c.args.parsed.now c.look-shown.result.shown.points) schema
+            (c.serve-served.ensures.cost c.look-shown.result.shown.points c.view.ensures.counts)),
+      );
     }

@@ -6,10 +6,10 @@ pub ruled-requires-clause-rule : goal.ruled-requires-clause-rule
 ruled-requires-clause-rule g c = new_place
 
 pub try_push_as-requires-clause-rule : goal.try_push_as-requires-clause-rule
-try_push_as-requires-clause-rule g c = may_name _ _ _ _ c.mark.result.front c.in-Ok.ensures.3 refl
+try_push_as-requires-clause-rule g c = may_name _ _ _ c.tell.result c.in-Ok.ensures.3
 
 pub try_pop_as-requires-clause-rule : goal.try_pop_as-requires-clause-rule
-try_pop_as-requires-clause-rule g c = may_begin _ _ c.mark.result.front (search rules)
+try_pop_as-requires-clause-rule g c = may_begin _ _ c.tell.result.front (search rules)
 
 pub another-taking-requires-clause-rule : goal.another-taking-requires-clause-rule
-another-taking-requires-clause-rule g c = may_part _ _ c.mark.result.front (search rules)
+another-taking-requires-clause-rule g c = may_part _ _ c.tell.result.front (search rules)

@@ -1,9 +1,9 @@
-use Rattle.std.proofs.Common.{refl, arith, true, false}
+use Rattle.std.proofs.Common.{◌∙◌, refl, arith, true, false}
 use Rattle.live_session.specs.News.{news_of}
 use Rattle.live_session.specs.Saying.{IsShown}
-use Rattle.live_session.proofs.OneTurn.{goes_unseen, if_some, keeps_on, of_err, prefix-same, shown_numbers}
+use Rattle.live_session.proofs.OneTurn.{goes_unseen, if_some, keeps_on, learns_nothing, learns_on, of_err, prefix-same, shown_numbers}
 use Rattle.live_session.proofs.Refused.{refused_at_too_much, taken_at_end}
-use Rattle.live_session.proofs.Running.{after_turn, all_ended, all_too_much, answered_on, done_fault, has_ended, not_last, replied_not_last, skipped_not_last, some_on}
+use Rattle.live_session.proofs.Running.{after_turn, all_ended, all_too_much, answered_on, done_fault, has_ended, mail_same, not_last, replied_not_last, skipped_not_last, some_on}
 use Rattle.live_session.proofs.SoFarLaws.{answered_nothing}
 use Rattle.session_core.proofs.SoFar.{fault_is}
 use Rattle.live_session.proofs.session.Session.run.Goals as goal
@@ -23,6 +23,7 @@ turns-init g c = record {
   };
   mailbox = refl;
   mail_pair = refl;
+  learns = learns_nothing c.args.viewer.learned c.args.mail.now c.args.mail.now refl;
   name = refl;
 }
 
@@ -33,7 +34,7 @@ turns-preserved-in-Ok-Skipped g c =
     after_turn _ after.shown after.learned after.last after.schema c.turn-after.new.mail c.turn-after.new.self c.turn-after.result.1 c.in-Ok-Skipped.field-0 c.turns.invariant c.in-Ok-Skipped.is
     (not_last _ _ (rw c.in-Ok-Skipped.is at c.in-Ok-Skipped.field-0-is) skipped_not_last)
     (shown_numbers g.V.CubeView.weight_at g.V.CubeView.seen g.V.CubeView.schema g.V.CubeView.numbers g.V.CubeView.is_stat c.turns.viewer.schema after.shown.points g.met.V.CubeView.structure)
-    turn.turned.turned turn.faults turn.viewer turn.mail turn.so_far turn.finals
+    turn.turned.turned turn.faults turn.viewer turn.costs.mail turn.so_far turn.finals
 
 pub turns-preserved : goal.turns-preserved
 turns-preserved g c =
@@ -42,7 +43,7 @@ turns-preserved g c =
     after_turn _ after.shown after.learned after.last after.schema c.turn-after.new.mail c.turn-after.new.self c.turn-after.result.1 c.in-Ok-Replied.field-0 c.turns.invariant c.in-Ok-Replied.is
     (not_last _ _ (rw c.in-Ok-Replied.is at c.in-Ok-Replied.field-0-is) replied_not_last)
     (shown_numbers g.V.CubeView.weight_at g.V.CubeView.seen g.V.CubeView.schema g.V.CubeView.numbers g.V.CubeView.is_stat c.turns.viewer.schema after.shown.points g.met.V.CubeView.structure)
-    turn.turned.turned turn.faults turn.viewer turn.mail turn.so_far turn.finals
+    turn.turned.turned turn.faults turn.viewer turn.costs.mail turn.so_far turn.finals
 
 pub returns-in-Err-clause-done : goal.returns-in-Err-clause-done
 returns-in-Err-clause-done g c =
@@ -107,3 +108,17 @@ returns-in-Ok-Ended-clause-viewer g c = keeps_on c.turns.invariant.viewer c.turn
 
 pub returns-in-Err-clause-viewer : goal.returns-in-Err-clause-viewer
 returns-in-Err-clause-viewer g c = keeps_on c.turns.invariant.viewer c.turn-after.ensures.viewer
+
+pub returns-in-Ok-Ended-clause-names : goal.returns-in-Ok-Ended-clause-names
+returns-in-Ok-Ended-clause-names g c =
+    let was = c.turns.invariant in
+    let turn = c.turn-after.ensures in
+    let names = mail_same c.turn-after.result.0.learned c.turns.mail c.turn-after.new.mail turn.costs.mail in
+    (turn.faults.1 ∙ was.name, (names.0 ∙ was.mailbox, names.1 ∙ was.mail_pair, learns_on c.turns.viewer.learned c.turn-after.result.0.learned c.args.mail.now c.turns.mail c.turn-after.new.mail turn.viewer.goes.told was.learns turn.costs.mail))
+
+pub returns-in-Err-clause-names : goal.returns-in-Err-clause-names
+returns-in-Err-clause-names g c =
+    let was = c.turns.invariant in
+    let turn = c.turn-after.ensures in
+    let names = mail_same c.turn-after.result.0.learned c.turns.mail c.turn-after.new.mail turn.costs.mail in
+    (turn.faults.1 ∙ was.name, (names.0 ∙ was.mailbox, names.1 ∙ was.mail_pair, learns_on c.turns.viewer.learned c.turn-after.result.0.learned c.args.mail.now c.turns.mail c.turn-after.new.mail turn.viewer.goes.told was.learns turn.costs.mail))

@@ -1,11 +1,14 @@
-use Rattle.std.proofs.Common.{length, IfOk, ◌∙◌, ap, sym, subst, refl, true, false, Ok, Err, arith}
+use Rattle.std.proofs.Common.{◌∷◌, [], length, inr, IfOk, ◌∙◌, ap, sym, subst, refl, true, false, Ok, Err, arith}
 use Rattle.cube_view.specs.declared.schema.Schema.{Schema}
 use Rattle.live_session.specs.Answered.{Answered, IsBroken}
+use Rattle.live_session.specs.Bounds.{TakesSteps}
 use Rattle.live_session.specs.News.{news_of}
 use Rattle.live_session.specs.Saying.{IsNewsOf, IsShown}
 use Rattle.live_session.specs.declared.turn.Turn.{Turn}
-use Rattle.live_session.proofs.OneTurn.{end_of, faults_after, has_news, if_some, known_some, of_fault, prefix-same, reads_of, same_fault, shown_numbers, whole_news}
+use Rattle.live_session.proofs.OneTurn.{end_of, faults_after, has_news, if_some, known_some, may_ask, of_fault, prefix-same, reads_of, same_fault, shown_numbers, whole_news}
 use Rattle.live_session.proofs.SoFarLaws.{done_turn, goes_final, goes_within}
+use Rattle.outer_io.specs.Progress.{Passes}
+use Rattle.query_syntax.specs.declared.query.Parsed.{Parsed}
 use Rattle.session_core.proofs.SoFar.{fault_is}
 use Rattle.live_session.proofs.Turning.{Keeps, breaks_off, turned_answered, turned_end, turned_ended}
 use Rattle.live_session.proofs.session.Session.turn.Goals as goal
@@ -55,7 +58,7 @@ returns-in-Ok-Some-clause-so_far g c start taken s =
     (shown_numbers g.V.CubeView.weight_at g.V.CubeView.seen g.V.CubeView.schema g.V.CubeView.numbers g.V.CubeView.is_stat c.args.viewer.schema viewer.shown.points g.met.V.CubeView.structure)
     (news_of c.args.viewer.shown c.args.viewer.learned c.args.mail.now) (news_of viewer.shown viewer.learned c.answer_line-viewer.new.mail) start c.args.self.now c.finish-turn.new.self {put_faults = g.O.Sink.faults}
     (goes_within c.args.viewer.schema g.V.CubeView.is_stat (news_of c.args.viewer.shown c.args.viewer.learned c.args.mail.now) (news_of viewer.shown viewer.learned c.answer_line-viewer.new.mail) line.goes.goes.seen line.goes.goes.told)
-    c.finish-turn.result (ap (λ s. s.ended) (sym c.self.view_is) ∙ c.if-self.false) line.goes.mail.1 s
+    c.finish-turn.result (ap (λ s. s.ended) (sym c.self.view_is) ∙ c.if-self.false) line.goes.mail.rises s
     (returns-in-Ok-Some-clause-turned g c).turned (returns-in-Ok-Some-clause-turned g c).broken (returns-in-Ok-Some-clause-faults g c).0
 
 pub returns-in-Ok-None-clause-turned : goal.returns-in-Ok-None-clause-turned
@@ -92,13 +95,13 @@ returns-in-Ok-Some-clause-finals g c =
     let A = IsShown g.V.CubeView.weight_at g.V.CubeView.seen g.V.CubeView.schema g.V.CubeView.numbers z viewer.shown.points in
     let a = news_of w w c.args.mail.now in
     let b = news_of w w c.answer_line-viewer.new.mail in
-    let news = whole_news p w c.args.mail.now c.answer_line-viewer.new.mail line.goes.mail.0 in
+    let news = whole_news p w c.args.mail.now c.answer_line-viewer.new.mail line.goes.mail.asked in
     let reads = reads_of g.I.Source.left g.I.Source.faults g.O.Sink.held z c.schema.result.now c.args.self.now c.read_next.new.self c.in-Ok-Some.field-0 p c.schema.ensures c.in-Ok-Some.field-0-is c.in-Ok-Some.ensures.reads.asked in
     let is : IsNewsOf viewer.shown viewer.learned p b = (λ look. known_some _ c.args.viewer.last w last (line.goes.look look).1, (known_some _ viewer.last w (line.same.0 ∙ last) viewer.within).1) in
     done_turn g.I.Source.left g.I.Source.faults g.O.Sink.held z g.V.CubeView.is_stat taken true A
     (shown_numbers g.V.CubeView.weight_at g.V.CubeView.seen g.V.CubeView.schema g.V.CubeView.numbers g.V.CubeView.is_stat z viewer.shown.points g.met.V.CubeView.structure)
     a b start c.args.self.now c.finish-turn.new.self {put_faults = g.O.Sink.faults} (goes_final z g.V.CubeView.is_stat w c.args.mail.now c.answer_line-viewer.new.mail)
-    c.finish-turn.result (ap (λ s. s.ended) (sym c.self.view_is) ∙ c.if-self.false) line.goes.mail.1 s
+    c.finish-turn.result (ap (λ s. s.ended) (sym c.self.view_is) ∙ c.if-self.false) line.goes.mail.rises s
     (turned_answered g.I.Source.left g.I.Source.faults g.O.Sink.held z A a b c.finish-turn.result c.args.self.now c.read_next.new.self c.finish-turn.new.self p reads
     (c.read_next.ensures.same.0, c.read_next.ensures.same.1, c.read_next.ensures.same.2, c.in-Ok-Some.ensures.reads.lacked) c.finish-turn.ensures.source news
     (subst (λ (y : Schema). IfOk c.finish-turn.result (Answered g.O.Sink.held y (IsShown g.V.CubeView.weight_at g.V.CubeView.seen g.V.CubeView.schema g.V.CubeView.numbers y viewer.shown.points) a.shown b.shown (length a.told) (length b.told) c.read_next.new.self c.finish-turn.new.self p)) line.same.1
@@ -120,3 +123,18 @@ returns-in-Err-clause-finals g c =
     (Err c.in-Err.fault) (ap (λ s. s.ended) (sym c.self.view_is) ∙ c.if-self.false) (omega arith) s tt
     (λ e. absurd (c.in-Err.ensures.no_write (ap (λ f. Err f) (fault_is {T = Turn} c.in-Err.fault _ e))))
     (same_fault g.I.Source.left g.I.Source.faults g.O.Sink.held g.O.Sink.faults c.args.self.now c.read_next.new.self c.in-Err.fault c.in-Err.ensures.faults))
+
+pub returns-in-Ok-Some-clause-costs : goal.returns-in-Ok-Some-clause-costs
+returns-in-Ok-Some-clause-costs g c =
+    let viewer = c.answer_line-viewer.result.0 in
+    let line = c.answer_line-viewer.ensures in
+    let p = c.in-Ok-Some.parsed in
+    let reads = reads_of g.I.Source.left g.I.Source.faults g.O.Sink.held c.args.viewer.schema c.schema.result.now c.args.self.now c.read_next.new.self c.in-Ok-Some.field-0 p c.schema.ensures c.in-Ok-Some.field-0-is c.in-Ok-Some.ensures.reads.asked in
+    record {
+      mail = may_ask p c.args.viewer.shown c.args.viewer.learned c.args.viewer.last c.args.mail.now viewer.shown viewer.learned c.answer_line-viewer.new.mail line.goes;
+      steps = inr (
+        reads.0,
+        subst (λ s. Passes g.I.Source.left g.I.Source.faults c.args.self.now.source s (reads.0 ∷ [])) (sym c.finish-turn.ensures.source) reads.1.passed,
+        subst (λ (m : Parsed). TakesSteps g.V.CubeView.weight_at g.V.CubeView.seen g.V.CubeView.schema g.V.CubeView.costs c.args.viewer.schema viewer.shown.points m c.args.steps.now c.answer_line-viewer.new.steps) reads.2 line.steps,
+      );
+    }
