@@ -12,17 +12,17 @@ returns-clause-added g c =
     let run = c.args.run.now in
     elim c.match-self.branch [
       | in-Few+in_ok-widened-in-Few+in_ok-rows-in-Few w ↦ (
-        let few = few_rows w.in-Few.few in
-        let single : IsSingle few = subst IsForm w.in-Few.is c.requires.form in
-        ap (λ r. counts_from 0 r.items) w.rows-is
-        ∙ ap (counts_from 0) (w.in_ok-rows-in-Few.ensures.merged ∙ ap (added_run run) w.in_ok-widened-in-Few.ensures)
-        ∙ counts_from-added_run run few c.requires.run.some single.rise
-        ∙ ap (more_run run) (ap form_entries (sym w.in-Few.is)))
+          let few = few_rows w.in-Few.few in
+          let single : IsSingle few = subst IsForm w.in-Few.is c.requires.form in
+          ap (λ r. counts_from 0 r.items) w.rows-is
+          ∙ ap (counts_from 0) (w.in_ok-rows-in-Few.ensures.merged ∙ ap (added_run run) w.in_ok-widened-in-Few.ensures)
+          ∙ counts_from-added_run run few c.requires.run.some single.rise
+          ∙ ap (more_run run) (ap form_entries (sym w.in-Few.is)))
       | in-Single+in_ok-rows-in-Single w ↦ (
-        let rows = w.in-Single.rows.items in
-        let single : IsSingle rows = subst IsForm w.in-Single.is c.requires.form in
-        ap (λ r. counts_from 0 r.items) w.rows-is
-        ∙ ap (counts_from 0) w.in_ok-rows-in-Single.ensures.merged
-        ∙ counts_from-added_run run rows c.requires.run.some single.rise
-        ∙ ap (more_run run) (ap form_entries (sym w.in-Single.is)))
+          let rows = w.in-Single.rows.items in
+          let single : IsSingle rows = subst IsForm w.in-Single.is c.requires.form in
+          ap (λ r. counts_from 0 r.items) w.rows-is
+          ∙ ap (counts_from 0) w.in_ok-rows-in-Single.ensures.merged
+          ∙ counts_from-added_run run rows c.requires.run.some single.rise
+          ∙ ap (more_run run) (ap form_entries (sym w.in-Single.is)))
     ]
