@@ -2,3 +2,4 @@ mod Points
 mod Loaded
 mod Ended
 mod Forms
+mod Causes

@@ -31,6 +31,7 @@ fn run<R: AllocGlobal + Threads + Wait + Sync, P: Place, O: Sink>(
     out: &mut O,
 ) -> Status
     ensures ends { PlanRunEnds (seen_place P.files P.read_faults P.write_faults P.opened P.created) (seen_sink O.held O.faults O.name) place.old place.new out.old out.new result plan.now }
+    ensures causes { HasCauses (seen_place P.files P.read_faults P.write_faults P.opened P.created) (seen_sink O.held O.faults O.name) place.old place.new out.old out.new result }
 {
     Status::of_end(run_plan(rt, rt.alloc(), plan, place, out))
 }
@@ -51,6 +52,7 @@ fn audit<P: Place, O: Sink>(
     out: &mut O,
 ) -> Status
     ensures ends { AuditEnds (seen_place P.files P.read_faults P.write_faults P.opened P.created) (seen_sink O.held O.faults O.name) place.old place.new out.old out.new result names.now.plan.now names.now.journal.now names.now.script.now names.now.replies.now }
+    ensures causes { HasCauses (seen_place P.files P.read_faults P.write_faults P.opened P.created) (seen_sink O.held O.faults O.name) place.old place.new out.old out.new result }
 {
     Status::of_audit(recount_files(alloc, names, place, out))
 }
@@ -64,6 +66,7 @@ fn save<P: Place, O: Sink>(
     out: &mut O,
 ) -> Status
     ensures ends { ImageSaveEnds (seen_place P.files P.read_faults P.write_faults P.opened P.created) (seen_sink O.held O.faults O.name) place.old place.new out.old out.new result plan.now image.now }
+    ensures causes { HasCauses (seen_place P.files P.read_faults P.write_faults P.opened P.created) (seen_sink O.held O.faults O.name) place.old place.new out.old out.new result }
 {
     Status::of_image(save_files(alloc, plan, image, place, out))
 }
@@ -76,6 +79,7 @@ fn load<P: Place, O: Sink>(
     out: &mut O,
 ) -> Status
     ensures ends { ImageLoadEnds (seen_place P.files P.read_faults P.write_faults P.opened P.created) (seen_sink O.held O.faults O.name) place.old place.new out.old out.new result names.now.plan.now names.now.image.now names.now.script.now }
+    ensures causes { HasCauses (seen_place P.files P.read_faults P.write_faults P.opened P.created) (seen_sink O.held O.faults O.name) place.old place.new out.old out.new result }
 {
     Status::of_image(load_files(alloc, names, place, out))
 }
