@@ -10,6 +10,7 @@ use Rattle.cube_view.specs.Points.{Point}
 use Rattle.cube_view.specs.declared.address.Address.{Address}
 use Rattle.cube_view.specs.declared.schema.Schema.{Schema}
 use Rattle.cube_view.specs.declared.spot.Spot.{Spot}
+use Rattle.query_syntax.specs.Items.{HasNoneFrom}
 use Rattle.query_syntax.specs.Parts.{with_span}
 use Rattle.query_syntax.specs.declared.query.Choice.TheVariants.{All, Only}
 use Rattle.query_syntax.specs.declared.query.Query.{Query}
@@ -60,8 +61,8 @@ module _ (z : Schema) (s : Series) (h : List Point) (a : Address) (k : ℕ) wher
     pub row_none : (i : ℕ) → 0 ≡ amount (row_below z s a k set 0 i) h
     row_none i = below_none z (row i) a k h set
 
-    pub row_all : (v : ℕ) → v ≡ length set → (i : ℕ) → amount (row_below z s a k set v i) h ≡ amount (row_left z s a k i) h
-    row_all v end i = below_all z (row i) a k h set v end ∙ set_left z (row i) a k h set lt is
+    pub row_all : (v : ℕ) → HasNoneFrom set v → (i : ℕ) → amount (row_below z s a k set v i) h ≡ amount (row_left z s a k i) h
+    row_all v none i = below_all z (row i) a k h set v none ∙ set_left z (row i) a k h set lt is
 
     -- one value more, where it is not in the set
     pub row_no : (v : ℕ) → get_or set v false ≡ false → (i : ℕ) → amount (row_below z s a k set v i) h ≡ amount (row_below z s a k set (v + 1) i) h

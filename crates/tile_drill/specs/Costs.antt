@@ -1,5 +1,5 @@
 -- How many steps a table takes at most, by the costs that a view gives its addresses and the list that it counts.
-use Rattle.std.specs.Prelude.{ℕ, ◌+◌, ◌*◌, nat_lt, List, length}
+use Rattle.std.specs.Prelude.{ℕ, ◌+◌, nat_lt, List, length}
 use Rattle.cube_view.specs.Bag.{amount, anywhere}
 use Rattle.cube_view.specs.Costs.{ViewCosts, cost_if, is_found}
 use Rattle.cube_view.specs.Places.{next_dim, region_address}

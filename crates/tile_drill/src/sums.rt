@@ -98,7 +98,7 @@ fn add_in_set<V: CubeView, L: Ledger>(
     ensures sums { EachCounted (V.weight_at view.now) (V.seen view.now) (GainsEach (row_left (V.schema view.now) series.now (V.address view.now cursor) k) sums.old sums.new) }
     ensures cost { EachCounted (V.weight_at view.now) (V.seen view.now) (Pays (V.costs view.now) (V.schema view.now) series.now (V.address view.now cursor) k steps.old steps.new) }
 {
-    for value in 0..256u16 {
+    for value in 0..set.end() {
         if set.has(value as u8) {
             add_at_value(view, series, cursor, k, value as u8, ends, sums, steps);
         }

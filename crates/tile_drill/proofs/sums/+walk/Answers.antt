@@ -1,4 +1,4 @@
-use Rattle.std.proofs.Common.{ℕ, cond, false, List, get_or, length, ◌+◌, ◌∙◌, sym, ap, subst, arith}
+use Rattle.std.proofs.Common.{◌≡◌, ℕ, cond, false, List, get_or, length, ◌+◌, ◌-◌, ◌∙◌, sym, ap, subst, arith}
 use Rattle.std.proofs.lemmas.Bool.{cond-true}
 use Rattle.std.proofs.lemmas.List.{get_or_default}
 use Rattle.cube_view.proofs.Amounts.{none-anywhere}
@@ -6,12 +6,13 @@ use Rattle.cube_view.specs.Bag.{amount}
 use Rattle.cube_view.specs.Places.{next_dim}
 use Rattle.cube_view.specs.declared.address.Address.{Address}
 use Rattle.cube_view.specs.declared.schema.Schema.{Schema}
+use Rattle.query_syntax.specs.Items.{HasNoneFrom}
 use Rattle.query_syntax.specs.Parts.{with_span}
 use Rattle.query_syntax.specs.declared.query.Choice.TheVariants.{All, Only}
 use Rattle.query_walk.specs.Costs.{choices_from, value_walk_cost, walk_cost}
 use Rattle.query_walk.proofs.Costing.{next_choice, no_choices, value_walk_is}
 use Rattle.query_walk.proofs.Sets.{none_at}
-use Rattle.query_walk.proofs.Sums.{sum_upto-more, sum_upto-same}
+use Rattle.query_walk.proofs.Sums.{sum_upto-more, sum_upto-rises, sum_upto-same}
 use Rattle.query_walk.proofs.Valid.{at_category, below_four, choices_next}
 use Rattle.tile_drill.specs.Costs.{ends_cost}
 use Rattle.tile_drill.specs.Series.{row_at_value, row_left, row_span, row_under, GainsEach}
@@ -173,8 +174,9 @@ add_in_set-returns-clause-sums g t c h counts =
     let k = c.args.k in
     let wide = c.requires.walk.choices.wide in
     let few = below_four z k c.requires.walk.category in
+    let end : c.end-value-end.result ≡ c.loop-value.value = omega (arith, c.end-value-end.ensures.within) in
     gains_same h (row_below z s a k c.args.set.now c.loop-value.value) (row_left z s a k)
-    (row_all z s h a k c.args.set.now (omega (arith, wide, few)) c.requires.set c.loop-value.value (let w = c.requires.wide in omega (arith, w))) _ _ (c.loop-value.invariant.sums h counts)
+    (row_all z s h a k c.args.set.now (omega (arith, wide, few)) c.requires.set c.loop-value.value (subst (HasNoneFrom c.args.set.now) end c.end-value-end.ensures.none)) _ _ (c.loop-value.invariant.sums h counts)
 
 pub add_in_set-returns-clause-cost : goal.add_in_set-returns-clause-cost
 add_in_set-returns-clause-cost g t c h counts =
@@ -188,9 +190,12 @@ add_in_set-returns-clause-cost g t c h counts =
     let few = below_four z k c.requires.walk.category in
     let cost = value_walk_cost costs z h end (choices_from z s.query (k + 1)) a in
     let all = ap (λ cs. walk_cost costs z h end cs a) (next_choice z s.query k (Only c.args.set.now) c.requires.walk.category (omega (arith, wide, few)) c.requires.set) in
-    let e = sum_upto-same (λ (v : ℕ). cond (get_or c.args.set.now v false) (cost v) 0) c.loop-value.value (length c.args.set.now) (let w = c.requires.wide in omega (arith, w)) in
+    let of : ℕ → ℕ = λ v. cond (get_or c.args.set.now v false) (cost v) 0 in
+    let at = c.loop-value.value in
+    let more = sum_upto-rises of at (256 - at) in
+    let e = sum_upto-same of (at + (256 - at)) (length c.args.set.now) (let w = c.requires.wide in omega (arith, w, c.end-value-end.ensures.within)) in
     let so_far = c.loop-value.invariant.cost h counts in
-    omega (arith, all, e, so_far)
+    omega (arith, all, e, more, so_far)
 
 -- One value
 
