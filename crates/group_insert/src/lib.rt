@@ -16,6 +16,7 @@ mod count;
 mod group;
 mod node;
 mod parts;
+mod pending;
 mod visits;
 
 pub use group::add_group;

@@ -1,0 +1,106 @@
+//! Links of a group that are put off: each gets its target later, when a finer address has been visited.
+ghost use Rattle.std.specs.Prelude.{◌≡◌, ◌+◌, ◌<◌, ◌++◌, ◌∷◌, [], Some, length};
+ghost use Rattle.cube_view.specs.Paths.{value_step};
+ghost use Rattle.cube_view.specs.Walks.{down, across};
+ghost use Rattle.node_arena.specs.Slots.{follow, walk_end};
+ghost use Rattle.group_insert.specs.FinerWalk.{entry_of, finer_steps, place_of, LeadInside};
+ghost use Rattle.group_insert.specs.Ways.{way_from};
+
+use arena_undo::Work;
+use node_arena::SlotId;
+use probe_core::Steps;
+use std::sync::ledger::Ledger;
+
+/// The link of a label at a node that is put off. Its target is found from the base, a slot of dimension `from`: down the
+/// turn, and then across so many dimensions, down the value of each if there is one, and at last down the label.
+#[derive(Clone, Copy)]
+pub struct Pending {
+    pub node: SlotId,
+    pub base: SlotId,
+    pub label: u8,
+    pub turn: u8,
+    pub from: u8,
+    pub between: u8,
+    pub values: [Option<u8>; 6],
+}
+
+// Where the link of a label leads, if there is one.
+fn child_at<L: Ledger>(
+    work: &Work,
+    at: SlotId,
+    label: u8,
+    steps: &mut Steps<L>,
+) -> Option<SlotId>
+    requires in_range { at.0 < length work.now.slots }
+    ensures { place_of result ≡ follow work.now.slots (Some at.0) (down label) }
+{
+    if work.is_table(at) {
+        return None;
+    }
+    match work.child(at, label, steps) {
+        Some(link) => Some(link.to),
+        None => None,
+    }
+}
+
+// Where the link to the content leads, if there is one.
+fn content_at<L: Ledger>(work: &Work, at: SlotId, steps: &mut Steps<L>) -> Option<SlotId>
+    requires in_range { at.0 < length work.now.slots }
+    ensures { place_of result ≡ follow work.now.slots (Some at.0) across }
+{
+    if work.is_table(at) {
+        return None;
+    }
+    match work.content(at, steps) {
+        Some(link) => Some(link.to),
+        None => None,
+    }
+}
+
+// Down a value, if there is one.
+fn value_at<L: Ledger>(
+    work: &Work,
+    at: SlotId,
+    value: Option<u8>,
+    steps: &mut Steps<L>,
+) -> Option<SlotId>
+    requires in_range { at.0 < length work.now.slots }
+    ensures { place_of result ≡ walk_end work.now.slots at.0 (value_step value []) }
+{
+    match value {
+        Some(label) => child_at(work, at, label, steps),
+        None => Some(at),
+    }
+}
+
+// Where the finer walk of a link stands after so many dimensions.
+fn way_end<L: Ledger>(
+    work: &Work,
+    p: &Pending,
+    between: u8,
+    steps: &mut Steps<L>,
+) -> Option<SlotId>
+    requires base { p.now.base.0 < length work.now.slots }
+    requires inside { LeadInside work.now.slots }
+    requires within { p.now.from + between < 6 }
+    ensures { place_of result ≡ walk_end work.now.slots p.now.base.0 (way_from p.now.values p.now.from between ++ across ∷ down p.now.turn ∷ []) }
+{
+    if between == 0 {
+        let turned = child_at(work, p.base, p.turn, steps)?;
+        return content_at(work, turned, steps);
+    }
+    let before = way_end(work, p, between - 1, steps)?;
+    let below = value_at(work, before, p.values[(p.from + between) as usize], steps)?;
+    content_at(work, below, steps)
+}
+
+/// Where the finer walk of a link that is put off ends.
+pub fn finer<L: Ledger>(work: &Work, p: &Pending, steps: &mut Steps<L>) -> Option<SlotId>
+    requires base { p.now.base.0 < length work.now.slots }
+    requires inside { LeadInside work.now.slots }
+    requires within { p.now.from + p.now.between < 6 }
+    ensures { place_of result ≡ walk_end work.now.slots p.now.base.0 (finer_steps (entry_of p.now)) }
+{
+    let node = way_end(work, p, p.between, steps)?;
+    child_at(work, node, p.label, steps)
+}
