@@ -1,5 +1,5 @@
 -- The last of the links that are put off is set, at a node whose visit has ended.
-use Rattle.std.proofs.Common.{◌≡◌, ℕ, ◌<◌, true, false, ◌⊎◌, inl, inr, ◌↔◌, List, [], ◌∷◌, ◌++◌, Some, None, length, refl, sym, ap, ◌∙◌, subst, arith}
+use Rattle.std.proofs.Common.{◌≡◌, ℕ, ◌<◌, true, false, ◌⊎◌, inl, inr, ◌↔◌, List, [], ◌∷◌, ◌++◌, Some, None, length, refl, sym, ap, ap₂, ◌∙◌, subst, arith}
 use Rattle.std.proofs.lemmas.Bool.{cases_eq}
 use Rattle.std.proofs.lemmas.List.{get_or_push, length_push}
 use Rattle.cube_view.specs.Walks.{Step, down, across, Walk, SpotPath, HasSpot, dimension}
@@ -8,7 +8,7 @@ use Rattle.node_arena.specs.Calls.{put, relink, put_child, set_child}
 use Rattle.node_arena.proofs.Linked.{linked-lt}
 use Rattle.node_arena.specs.Amounts.{Weighted, spots_in}
 use Rattle.node_arena.specs.Shape.{home_of, HasOneChild, SharesContent}
-use Rattle.node_arena.specs.Slots.{proper, shared, target, Slot, link_of, slot_of, is_table}
+use Rattle.node_arena.specs.Slots.{proper, shared, target, Slot, link_of, slot_of, is_table, walk_end}
 use Rattle.node_arena.specs.declared.link.Link.{Link}
 use Rattle.point_insert.proofs.Visits.{homes_relinked, holds_relinked}
 use Rattle.proper_path.specs.Changes.{IsRelinked}
@@ -16,6 +16,7 @@ use Rattle.proper_path.specs.Order.{IsAbove, itself, further}
 use Rattle.proper_path.proofs.Calls.{relinks, put_sets, set_sets}
 use Rattle.proper_path.proofs.Dims.{dimension-before}
 use Rattle.proper_path.proofs.Links.{same_place}
+use Rattle.group_insert.specs.FinerWalk.{finer_steps, IsSet}
 use Rattle.group_insert.specs.Halfway.{LeadsRight, WillHaveTwo, IsHalfway, IsHalfwayAfter}
 use Rattle.group_insert.specs.Later.{PutOff, link_address, IsPutOff, IsPut}
 use Rattle.group_insert.specs.Turns.{EndedAfter, IsOpenAbove}
@@ -124,3 +125,18 @@ relink_set slots i l u old lt is = relinks slots i (down l) (relink (slot_of slo
 
 pub relink_same : (slots : List Slot) (i l u : ℕ) → link_of slots i (down l) ≡ Some (shared u) → IsRelinked slots slots i (down l) (shared u)
 relink_same slots i l u is = record { size = refl; place = linked-lt slots i (down l) (shared u) is; set_link = is; old_link = λ j f n. refl; old_count = λ j bin. refl; old_kind = λ j. refl }
+
+-- so a call sets it
+pub set_settles : (slots mid new : List Slot) (k : PutOff) (to : ℕ) (l old : Link) → mid ≡ slots → walk_end mid k.base (finer_steps k) ≡ Some to → link_of mid k.node (down k.label) ≡ Some old → k.node < length slots → l ≡ shared to → new ≡ set_child mid k.node k.label l → IsSet slots new k
+set_settles slots mid new k to l old same ends is lt e n = record {
+  to = to;
+  ends = subst (λ z. walk_end z k.base (finer_steps k) ≡ Some to) same ends;
+  relinked = subst (λ z. IsRelinked slots z k.node (down k.label) (shared to)) (sym (n ∙ ap₂ (λ z m. set_child z k.node k.label m) same e)) (relink_set slots k.node k.label to old lt (subst (λ z. link_of z k.node (down k.label) ≡ Some old) same is));
+}
+
+pub put_settles : (slots mid new : List Slot) (k : PutOff) (to : ℕ) (l : Link) → mid ≡ slots → walk_end mid k.base (finer_steps k) ≡ Some to → link_of mid k.node (down k.label) ≡ None → k.node < length slots → is_table (slot_of slots k.node) ≡ false → l ≡ shared to → new ≡ put_child mid k.node k.label l → IsSet slots new k
+put_settles slots mid new k to l same ends is lt t e n = record {
+  to = to;
+  ends = subst (λ z. walk_end z k.base (finer_steps k) ≡ Some to) same ends;
+  relinked = subst (λ z. IsRelinked slots z k.node (down k.label) (shared to)) (sym (n ∙ ap₂ (λ z m. put_child z k.node k.label m) same e)) (relink_put slots k.node k.label to lt t (subst (λ z. link_of z k.node (down k.label) ≡ None) same is));
+}

@@ -4,6 +4,7 @@ use Rattle.cube_view.specs.Walks.{Step, down, across, Walk}
 use Rattle.node_arena.specs.Slots.{shared, target, Slot, link_of, walk_end}
 use Rattle.node_arena.specs.declared.link.Link.{Link}
 use Rattle.node_arena.specs.declared.link.SlotId.{SlotId}
+use Rattle.proper_path.specs.Changes.{IsRelinked}
 use Rattle.group_insert.specs.Later.{PutOff}
 use Rattle.group_insert.specs.Ways.{way_from}
 use Rattle.group_insert.specs.declared.pending.Pending.{Pending}
@@ -29,3 +30,9 @@ place_of (Some id) = Some id.0
 -- what the entry of the list says in the words of walks
 abbrev pub entry_of : Pending → PutOff
 entry_of p = record { node = p.node.0; label = p.label; base = p.base.0; turn = p.turn; way = way_from p.values p.from p.between }
+
+-- the link of the entry was set to where its finer walk ends
+pub record IsSet (old new : List Slot) (k : PutOff) : Type 0 where
+  pub to : ℕ
+  pub ends : walk_end old k.base (finer_steps k) ≡ Some to
+  pub relinked : IsRelinked old new k.node (down k.label) (shared to)

@@ -1,13 +1,14 @@
 //! Links of a group that are put off: each gets its target later, when a finer address has been visited.
-ghost use Rattle.std.specs.Prelude.{◌≡◌, ◌+◌, ◌<◌, ◌++◌, ◌∷◌, [], Some, length};
+ghost use Rattle.std.specs.Prelude.{◌≡◌, ◌+◌, ◌<◌, ◌++◌, ◌∷◌, [], Some, length, IsSome, OnOk};
 ghost use Rattle.cube_view.specs.Paths.{value_step};
 ghost use Rattle.cube_view.specs.Walks.{down, across};
-ghost use Rattle.node_arena.specs.Slots.{follow, walk_end};
-ghost use Rattle.group_insert.specs.FinerWalk.{entry_of, finer_steps, place_of, LeadInside};
+ghost use Rattle.node_arena.specs.Slots.{follow, slot_of, walk_end, IsNode};
+ghost use Rattle.group_insert.specs.FinerWalk.{entry_of, finer_steps, place_of, IsSet, LeadInside};
 ghost use Rattle.group_insert.specs.Ways.{way_from};
 
 use arena_undo::Work;
-use node_arena::SlotId;
+use node_arena::{Link, SlotId};
+use outer_io::NoMemory;
 use probe_core::Steps;
 use std::sync::ledger::Ledger;
 
@@ -25,12 +26,7 @@ pub struct Pending {
 }
 
 // Where the link of a label leads, if there is one.
-fn child_at<L: Ledger>(
-    work: &Work,
-    at: SlotId,
-    label: u8,
-    steps: &mut Steps<L>,
-) -> Option<SlotId>
+fn child_at<L: Ledger>(work: &Work, at: SlotId, label: u8, steps: &mut Steps<L>) -> Option<SlotId>
     requires in_range { at.0 < length work.now.slots }
     ensures { place_of result ≡ follow work.now.slots (Some at.0) (down label) }
 {
@@ -74,12 +70,7 @@ fn value_at<L: Ledger>(
 }
 
 // Where the finer walk of a link stands after so many dimensions.
-fn way_end<L: Ledger>(
-    work: &Work,
-    p: &Pending,
-    between: u8,
-    steps: &mut Steps<L>,
-) -> Option<SlotId>
+fn way_end<L: Ledger>(work: &Work, p: &Pending, between: u8, steps: &mut Steps<L>) -> Option<SlotId>
     requires base { p.now.base.0 < length work.now.slots }
     requires inside { LeadInside work.now.slots }
     requires within { p.now.from + between < 6 }
@@ -103,4 +94,32 @@ pub fn finer<L: Ledger>(work: &Work, p: &Pending, steps: &mut Steps<L>) -> Optio
 {
     let node = way_end(work, p, p.between, steps)?;
     child_at(work, node, p.label, steps)
+}
+
+/// Sets a link that is put off to where its finer walk ends.
+pub fn settle<L: Ledger>(work: &mut Work, p: &Pending, steps: &mut Steps<L>) -> Result<(), NoMemory>
+    requires in_range { p.now.node.0 < length work.old.slots }
+    requires is_node { IsNode (slot_of work.old.slots p.now.node.0) }
+    requires base { p.now.base.0 < length work.old.slots }
+    requires inside { LeadInside work.old.slots }
+    requires within { p.now.from + p.now.between < 6 }
+    requires ends { IsSome (walk_end work.old.slots p.now.base.0 (finer_steps (entry_of p.now))) }
+    ensures set { OnOk result (IsSet work.old.slots work.new.slots (entry_of p.now)) }
+    ensures start { work.new.start ≡ work.old.start }
+{
+    work.reserve(1)?;
+    // The walk always ends at a slot.
+    let Some(to) = finer(work, p, steps) else {
+        return Ok(());
+    };
+    let link = Link::proper(to).shared();
+    match work.child(p.node, p.label, steps) {
+        Some(old) => {
+            if old.is_proper() || old.to.0 != to.0 {
+                work.set_child(p.node, p.label, link);
+            }
+            Ok(())
+        }
+        None => work.put_child(p.node, p.label, link),
+    }
 }
