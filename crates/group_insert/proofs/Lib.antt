@@ -21,6 +21,7 @@ pub mod Putting
 pub mod Relinked
 pub mod Runs
 pub mod Sharer
+pub mod Settlement
 pub mod Settling
 pub mod Sharing
 pub mod Standing

@@ -5,6 +5,7 @@ pub mod InsertingAll
 pub mod Labels
 pub mod Later
 pub mod Parts
+pub mod Settling
 pub mod Turns
 pub mod Visiting
 pub mod Visits
