@@ -1,4 +1,5 @@
 pub mod Added
+pub mod Entry
 pub mod FinerWalk
 pub mod Halfway
 pub mod InsertingAll

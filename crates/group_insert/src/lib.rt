@@ -18,5 +18,6 @@ mod node;
 mod parts;
 mod pending;
 mod visits;
+mod way;
 
 pub use group::add_group;

@@ -1,0 +1,31 @@
+-- The entry for a link that may be put off, as the visit finds it.
+use Rattle.std.specs.Prelude.{◌≡◌, ℕ, ◌+◌, ◌-◌, ◌<◌, ◌⊎◌, ◌==◌, if◌then◌else◌, List, Option, Some, None, slice_index_or}
+use Rattle.cube_view.specs.Places.{deepest}
+use Rattle.cube_view.specs.Points.{Point}
+use Rattle.cube_view.specs.declared.schema.Schema.{Schema}
+use Rattle.node_arena.specs.Slots.{Slot, walk_end}
+use Rattle.node_arena.specs.declared.link.SlotId.{SlotId}
+use Rattle.group_insert.specs.FinerWalk.{finer_steps, entry_of, place_of}
+use Rattle.group_insert.specs.Labels.{TellsOneLabel}
+use Rattle.group_insert.specs.Ways.{way_from, IsOpenIn}
+use Rattle.group_insert.specs.declared.pending.Pending.{Pending}
+use Rattle.group_insert.specs.declared.way.Way.{Way}
+use Rattle.proper_path.specs.Rooted.{places_of}
+
+-- the level of the root of a dimension on the way
+abbrev pub root_level : Way → ℕ → ℕ
+root_level way from = if from == 1 then way.level else 0
+
+-- the slot at level 0 of a dimension on the way, or the node of space
+abbrev pub root_at : Way → ℕ → ℕ
+root_at way from = slice_index_or (places_of way.roots) from 0
+
+-- the walk of the entry turns off in the dimension `from`, where all points of the part have one label, and the old link
+-- leads where that walk leads or is none
+pub record IsTurn (schema : Schema) (slots : List Slot) (part : List Point) (way : Way) (node label dim from : ℕ) (old : Option SlotId) (p : Pending) : Type 0 where
+  pub is : entry_of p ≡ record { node = node; label = label; base = root_at way from; turn = p.turn; way = way_from way.values from (dim - from - 1) }
+  pub within : p.from + p.between < 6
+  pub is_open : IsOpenIn way.values from
+  pub less : root_level way from < deepest schema from
+  pub one : TellsOneLabel schema from (root_level way from + 1) part (Some p.turn)
+  pub leads : (old ≡ None) ⊎ (walk_end slots (root_at way from) (finer_steps (entry_of p)) ≡ place_of old)

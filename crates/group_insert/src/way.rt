@@ -1,0 +1,83 @@
+//! The way of a visit: the values that were gone down, and the slot at level 0 of each dimension.
+ghost use Rattle.std.specs.Prelude.{◌≡◌, ◌<◌, ◌≤◌, length, All, IfSome, IsTrue};
+ghost use Rattle.cube_view.specs.Places.{deepest, time_dim};
+ghost use Rattle.cube_view.specs.Validity.{sound};
+ghost use Rattle.group_insert.specs.Entry.{root_at, root_level, IsTurn};
+ghost use Rattle.group_insert.specs.FinerWalk.{LeadInside};
+ghost use Rattle.group_insert.specs.Ways.{IsOpenIn};
+
+use crate::parts::one_label;
+use crate::pending::{Pending, finer};
+use arena_undo::Work;
+use cube_view::{Point, Schema};
+use node_arena::SlotId;
+use probe_core::Steps;
+use std::sync::ledger::Ledger;
+
+/// By the number of a dimension, the value that was gone down there, and the slot at its level 0 or, of space, the node.
+/// `level` is that node's.
+#[derive(Clone, Copy)]
+pub struct Way {
+    pub values: [Option<u8>; 6],
+    pub roots: [SlotId; 6],
+    pub level: u8,
+}
+
+// The level of the root of a dimension, where it is open below the root.
+fn open_level(schema: &Schema, way: &Way, from: u8) -> Option<u8>
+    requires { (1 ≤ from) × (from < time_dim schema.now) }
+    ensures { IfSome result (λ level. (level ≡ root_level way.now from) × (level < deepest schema.now from) × IsOpenIn way.now.values from) }
+{
+    if from == 1 {
+        if way.level < schema.depth {
+            Some(way.level)
+        } else {
+            None
+        }
+    } else {
+        match way.values[from as usize] {
+            Some(_) => None,
+            None => Some(0),
+        }
+    }
+}
+
+/// The entry for a link whose walk turns off in a dimension, where that may be.
+pub fn turn_in<L: Ledger>(
+    work: &Work,
+    schema: &Schema,
+    part: &[Point],
+    way: &Way,
+    node: SlotId,
+    label: u8,
+    dim: u8,
+    from: u8,
+    old: Option<SlotId>,
+    steps: &mut Steps<L>,
+) -> Option<Pending>
+    requires some { 0 < length part.now }
+    requires sound { All (λ p. IsTrue (sound schema.now p)) part.now }
+    requires dims { (1 ≤ from) × (from < dim) × (dim < time_dim schema.now) }
+    requires base { root_at way.now from < length work.now.slots }
+    requires inside { LeadInside work.now.slots }
+    ensures { IfSome result (λ p. IsTurn schema.now work.now.slots part.now way.now node.0 label dim from old p) }
+{
+    let level = open_level(schema, way, from)?;
+    let turn = one_label(schema, part, from, level + 1)?;
+    let entry = Pending {
+        node,
+        base: way.roots[from as usize],
+        label,
+        turn,
+        from,
+        between: dim - from - 1,
+        values: way.values,
+    };
+    let Some(to) = old else {
+        return Some(entry);
+    };
+    match finer(work, &entry, steps) {
+        Some(end) => { if end.0 == to.0 { Some(entry) } else { None } }
+        None => None,
+    }
+}
