@@ -1,11 +1,12 @@
 -- The entry for a link that may be put off, as the visit finds it.
-use Rattle.std.specs.Prelude.{◌≡◌, ℕ, ◌+◌, ◌-◌, ◌<◌, ◌⊎◌, ◌==◌, if◌then◌else◌, List, Option, Some, None, slice_index_or}
+use Rattle.std.specs.Prelude.{◌≡◌, ℕ, ◌+◌, ◌-◌, ◌<◌, ◌≤◌, ◌⊎◌, ◌==◌, if◌then◌else◌, List, length, Option, Some, None, slice_index_or, slice_set}
 use Rattle.cube_view.specs.Places.{deepest}
 use Rattle.cube_view.specs.Points.{Point}
 use Rattle.cube_view.specs.declared.schema.Schema.{Schema}
 use Rattle.node_arena.specs.Slots.{Slot, walk_end}
 use Rattle.node_arena.specs.declared.link.SlotId.{SlotId}
-use Rattle.group_insert.specs.FinerWalk.{finer_steps, entry_of, place_of}
+use Rattle.point_insert.specs.Visited.{place_of}
+use Rattle.group_insert.specs.FinerWalk.{finer_steps, entry_of}
 use Rattle.group_insert.specs.Labels.{TellsOneLabel}
 use Rattle.group_insert.specs.Ways.{way_from, IsOpenIn}
 use Rattle.group_insert.specs.declared.pending.Pending.{Pending}
@@ -22,10 +23,30 @@ root_at way from = slice_index_or (places_of way.roots) from 0
 
 -- the walk of the entry turns off in the dimension `from`, where all points of the part have one label, and the old link
 -- leads where that walk leads or is none
-pub record IsTurn (schema : Schema) (slots : List Slot) (part : List Point) (way : Way) (node label dim from : ℕ) (old : Option SlotId) (p : Pending) : Type 0 where
+pub record TurnsIn (schema : Schema) (slots : List Slot) (part : List Point) (way : Way) (node label dim from : ℕ) (old : Option SlotId) (p : Pending) : Type 0 where
   pub is : entry_of p ≡ record { node = node; label = label; base = root_at way from; turn = p.turn; way = way_from way.values from (dim - from - 1) }
   pub within : p.from + p.between < 6
   pub is_open : IsOpenIn way.values from
   pub less : root_level way from < deepest schema from
   pub one : TellsOneLabel schema from (root_level way from + 1) part (Some p.turn)
   pub leads : (old ≡ None) ⊎ (walk_end slots (root_at way from) (finer_steps (entry_of p)) ≡ place_of old)
+
+-- so in some dimension before the node's
+pub record MayTurn (schema : Schema) (slots : List Slot) (part : List Point) (way : Way) (node label dim : ℕ) (old : Option SlotId) (p : Pending) : Type 0 where
+  pub from : ℕ
+  pub some : 1 ≤ from
+  pub early : from < dim
+  pub turn : TurnsIn schema slots part way node label dim from old p
+
+-- the roots of open dimensions are slots
+abbrev pub HasRoots : List Slot → Way → ℕ → Type 0
+HasRoots slots way dim = (from : ℕ) → 1 ≤ from → from < dim → IsOpenIn way.values from → root_at way from < length slots
+
+-- the way one label further down, where a node of space has so many levels above
+abbrev pub way_below : Way → ℕ → ℕ → ℕ → SlotId → Way
+way_below way dim level label child =
+    if dim == 1 then record { values = way.values; roots = slice_set way.roots 1 child; level = level } else record { values = slice_set way.values dim (Some label); roots = way.roots; level = way.level }
+
+-- the way on to the content of a node of the dimension
+abbrev pub way_on : Way → ℕ → SlotId → Way
+way_on way dim content = record { values = slice_set way.values (dim + 1) None; roots = slice_set way.roots (dim + 1) content; level = way.level }

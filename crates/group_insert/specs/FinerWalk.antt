@@ -1,9 +1,8 @@
 -- The finer walk of a link that is put off: from the base down the turn, and then the node's own way.
-use Rattle.std.specs.Prelude.{◌≡◌, ℕ, ◌<◌, List, [], ◌∷◌, ◌++◌, Option, Some, None, length}
+use Rattle.std.specs.Prelude.{◌≡◌, ℕ, ◌<◌, List, [], ◌∷◌, ◌++◌, Some, None, length}
 use Rattle.cube_view.specs.Walks.{Step, down, across, Walk}
 use Rattle.node_arena.specs.Slots.{shared, target, Slot, link_of, walk_end}
 use Rattle.node_arena.specs.declared.link.Link.{Link}
-use Rattle.node_arena.specs.declared.link.SlotId.{SlotId}
 use Rattle.proper_path.specs.Changes.{IsRelinked}
 use Rattle.group_insert.specs.Later.{PutOff}
 use Rattle.group_insert.specs.Ways.{way_from}
@@ -21,11 +20,6 @@ pub data LeadsFiner (slots : List Slot) (k : PutOff) : Type 0 where
 -- every link leads to a slot
 abbrev pub LeadInside : List Slot → Type 0
 LeadInside slots = (i : ℕ) (e : Step) (l : Link) → link_of slots i e ≡ Some l → target l < length slots
-
--- the place of a slot, if there is one
-abbrev pub place_of : Option SlotId → Option ℕ
-place_of None = None
-place_of (Some id) = Some id.0
 
 -- what the entry of the list says in the words of walks
 abbrev pub entry_of : Pending → PutOff

@@ -3,7 +3,8 @@ ghost use Rattle.std.specs.Prelude.{◌≡◌, ◌+◌, ◌<◌, ◌≤◌, ◌+
 ghost use Rattle.cube_view.specs.Paths.{value_step};
 ghost use Rattle.cube_view.specs.Walks.{down, across};
 ghost use Rattle.node_arena.specs.Slots.{follow, slot_of, walk_end, IsNode};
-ghost use Rattle.group_insert.specs.FinerWalk.{entry_of, finer_steps, place_of, IsSet, LeadInside};
+ghost use Rattle.point_insert.specs.Visited.{place_of};
+ghost use Rattle.group_insert.specs.FinerWalk.{entry_of, finer_steps, IsSet, LeadInside};
 ghost use Rattle.group_insert.specs.Settling.{entries, CanSettle, SettlesTo};
 ghost use Rattle.group_insert.specs.Ways.{way_from};
 

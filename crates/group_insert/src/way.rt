@@ -1,8 +1,8 @@
 //! The way of a visit: the values that were gone down, and the slot at level 0 of each dimension.
-ghost use Rattle.std.specs.Prelude.{◌≡◌, ◌<◌, ◌≤◌, length, All, IfSome, IsTrue};
+ghost use Rattle.std.specs.Prelude.{◌≡◌, ◌+◌, ◌<◌, ◌≤◌, length, All, IfSome, IsTrue};
 ghost use Rattle.cube_view.specs.Places.{deepest, time_dim};
 ghost use Rattle.cube_view.specs.Validity.{sound};
-ghost use Rattle.group_insert.specs.Entry.{root_at, root_level, IsTurn};
+ghost use Rattle.group_insert.specs.Entry.{root_at, root_level, way_below, way_on, HasRoots, TurnsIn, MayTurn};
 ghost use Rattle.group_insert.specs.FinerWalk.{LeadInside};
 ghost use Rattle.group_insert.specs.Ways.{IsOpenIn};
 
@@ -58,9 +58,9 @@ pub fn turn_in<L: Ledger>(
     requires some { 0 < length part.now }
     requires sound { All (λ p. IsTrue (sound schema.now p)) part.now }
     requires dims { (1 ≤ from) × (from < dim) × (dim < time_dim schema.now) }
-    requires base { root_at way.now from < length work.now.slots }
+    requires base { IsOpenIn way.now.values from → root_at way.now from < length work.now.slots }
     requires inside { LeadInside work.now.slots }
-    ensures { IfSome result (λ p. IsTurn schema.now work.now.slots part.now way.now node.0 label dim from old p) }
+    ensures { IfSome result (λ p. TurnsIn schema.now work.now.slots part.now way.now node.0 label dim from old p) }
 {
     let level = open_level(schema, way, from)?;
     let turn = one_label(schema, part, from, level + 1)?;
@@ -80,4 +80,58 @@ pub fn turn_in<L: Ledger>(
         Some(end) => { if end.0 == to.0 { Some(entry) } else { None } }
         None => None,
     }
+}
+
+/// The entry for a link, where it may be put off: its walk turns off in the first dimension in which that may be.
+pub fn put_off<L: Ledger>(
+    work: &Work,
+    schema: &Schema,
+    part: &[Point],
+    way: &Way,
+    node: SlotId,
+    label: u8,
+    dim: u8,
+    old: Option<SlotId>,
+    steps: &mut Steps<L>,
+) -> Option<Pending>
+    requires some { 0 < length part.now }
+    requires sound { All (λ p. IsTrue (sound schema.now p)) part.now }
+    requires dim { dim < time_dim schema.now }
+    requires roots { HasRoots work.now.slots way.now dim }
+    requires inside { LeadInside work.now.slots }
+    ensures { IfSome result (λ p. MayTurn schema.now work.now.slots part.now way.now node.0 label dim old p) }
+{
+    for from in 1..dim {
+        let entry = turn_in(work, schema, part, way, node, label, dim, from, old, steps);
+        if entry.is_some() {
+            return entry;
+        }
+    }
+    None
+}
+
+/// The way one label further down. In space it gets to a node of the level.
+pub fn below(way: &Way, dim: u8, level: u8, label: u8, child: SlotId) -> Way
+    requires { dim < 6 }
+    ensures { result ≡ way_below way.now dim level label child }
+{
+    let mut next = *way;
+    if dim == 1 {
+        next.roots[1] = child;
+        next.level = level;
+    } else {
+        next.values[dim as usize] = Some(label);
+    }
+    next
+}
+
+/// The way on to the content of a node of the dimension.
+pub fn on(way: &Way, dim: u8, content: SlotId) -> Way
+    requires { dim + 1 < 6 }
+    ensures { result ≡ way_on way.now dim content }
+{
+    let mut next = *way;
+    next.values[dim as usize + 1] = None;
+    next.roots[dim as usize + 1] = content;
+    next
 }
