@@ -19,6 +19,7 @@ pub mod Pile
 pub mod PutBelow
 pub mod Putting
 pub mod Relinked
+pub mod Routes
 pub mod Runs
 pub mod Sharer
 pub mod Settlement

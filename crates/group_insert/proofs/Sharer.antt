@@ -1,5 +1,5 @@
 -- What the share of an only child's content wants, from what is known of its node.
-use Rattle.std.proofs.Common.{◌≡◌, ℕ, ◌<◌, false, List, [], Some, length, sym, ap, ◌∙◌, subst, arith}
+use Rattle.std.proofs.Common.{◌≡◌, ℕ, ◌<◌, false, List, Some, length, sym, ap, ◌∙◌, subst, arith}
 use Rattle.std.proofs.Math.Bool.{Bool-set}
 use Rattle.std.proofs.Math.Logic.{∥∥₁_elim}
 use Rattle.std.specs.Coded.{le_prop}
@@ -17,10 +17,10 @@ use Rattle.proper_path.specs.Paths.{paths_of}
 
 module _ (slots : List Slot) (i : ℕ) where
   node_before : (C : CanShare slots i) → is_table (slot_of C.old i) ≡ false
-  node_before C = part_node C.schema C.group C.old C.dim C.level i C.part C.homes C.counted C.early C.known
+  node_before C = part_node C.schema C.group C.old C.way C.before C.dim C.level i C.part C.homes C.counted C.early C.known
 
   spot : (C : CanShare slots i) → HasSpot (spots_in (paths_of C.schema C.group)) (home_of C.homes i)
-  spot C = part_spot C.schema C.group C.old C.dim C.level i C.part C.homes C.counted C.known
+  spot C = part_spot C.schema C.group C.old C.way C.before C.dim C.level i C.part C.homes C.counted C.known
 
   -- the node
   pub share_in_range : ∥ CanShare slots i ∥₁ → i < length slots
@@ -31,13 +31,13 @@ module _ (slots : List Slot) (i : ℕ) where
 
   -- and its only child
   module _ (k : Link) (T : TellsOnlyChild slots i (Some k)) where
-    is : (C : CanShare slots i) → target k ≡ (child (time_dim C.schema) C.counted (paths_of C.schema C.group) C.old slots C.homes [] [] i C.label C.from C.known.points C.known.in_range (node_before C) (spot C) C.has_one C.among C.none).0
-    is C = ap target (only_is (time_dim C.schema) C.counted (paths_of C.schema C.group) C.old slots C.homes [] [] i C.label C.from C.known.points C.known.in_range (node_before C) (spot C) C.has_one C.among C.none T.0 k T.1).1
+    is : (C : CanShare slots i) → target k ≡ (child (time_dim C.schema) C.counted (paths_of C.schema C.group) C.old slots C.homes C.before C.put i C.label C.from C.known.points C.known.in_range (node_before C) (spot C) C.has_one C.among C.none).0
+    is C = ap target (only_is (time_dim C.schema) C.counted (paths_of C.schema C.group) C.old slots C.homes C.before C.put i C.label C.from C.known.points C.known.in_range (node_before C) (spot C) C.has_one C.among C.none T.0 k T.1).1
 
     pub share_child_in : ∥ CanShare slots i ∥₁ → target k < length slots
     share_child_in R = ∥∥₁_elim R le_prop (λ C. subst (λ x. x < length slots) (sym (is C))
-        (child_in (time_dim C.schema) C.counted (paths_of C.schema C.group) C.old slots C.homes [] [] i C.label C.from C.known.points C.known.in_range (node_before C) (spot C) C.has_one C.among C.none))
+        (child_in (time_dim C.schema) C.counted (paths_of C.schema C.group) C.old slots C.homes C.before C.put i C.label C.from C.known.points C.known.in_range (node_before C) (spot C) C.has_one C.among C.none))
 
     pub share_child_node : ∥ CanShare slots i ∥₁ → is_table (slot_of slots (target k)) ≡ false
     share_child_node R = ∥∥₁_elim R (Bool-set _ _) (λ C. subst (λ x. is_table (slot_of slots x) ≡ false) (sym (is C))
-        (child_node (time_dim C.schema) C.counted (paths_of C.schema C.group) C.old slots C.homes [] [] i C.label C.from C.known.points C.known.in_range (node_before C) (spot C) C.has_one C.among C.none))
+        (child_node (time_dim C.schema) C.counted (paths_of C.schema C.group) C.old slots C.homes C.before C.put i C.label C.from C.known.points C.known.in_range (node_before C) (spot C) C.has_one C.among C.none))

@@ -20,7 +20,9 @@ use Rattle.proper_path.proofs.Labels.{length-path_of}
 use Rattle.group_insert.specs.Added.{IsAdded, amount_in, part_weight}
 use Rattle.group_insert.specs.Labels.{label_at, HasLabel, IsLeastFrom, TellsOneLabel}
 use Rattle.group_insert.specs.Parts.{part_of}
-use Rattle.group_insert.specs.Visiting.{IsVisitablePart, VisitsPart}
+use Rattle.group_insert.specs.Later.{PutOff}
+use Rattle.group_insert.specs.Visiting.{IsVisitableAt, VisitsAt}
+use Rattle.group_insert.specs.declared.way.Way.{Way}
 use Rattle.group_insert.specs.Visits.{HasTwoLabels, HasOneLabel}
 use Rattle.group_insert.proofs.Counting.{table_visited}
 use Rattle.group_insert.proofs.Earlier.{earlier-irreflexive}
@@ -155,8 +157,8 @@ weight_in_part z (x ∷ group) a = go (under (spot_path z (spot_of x)) a) (weigh
     go false r = let t = sum_by-cons (λ (w : Weighted). w.amount) (point_path z x) (paths_of z group) in omega (arith, r, t)
 
 -- a table is visited by counting its part, for which it has room
-pub table_has_room : (z : Schema) (group : List Point) (slots : List Slot) (dim level i : ℕ) (part : List Point) (homes : List Walk) (h : List Weighted) → is_table (slot_of slots i) ≡ true → IsVisitablePart z group slots dim level i part homes h → total_count (counts_of (slot_of slots i)) + part_weight part ≤ 2 ^ 63
-table_has_room z group slots dim level i part homes h t K =
+pub table_has_room : (z : Schema) (group : List Point) (slots : List Slot) (way : Way) (put : List PutOff) (dim level i : ℕ) (part : List Point) (homes : List Walk) (h : List Weighted) → is_table (slot_of slots i) ≡ true → IsVisitableAt z group slots way put dim level i part homes h → total_count (counts_of (slot_of slots i)) + part_weight part ≤ 2 ^ 63
+table_has_room z group slots way put dim level i part homes h t K =
     let l = table_light slots i (home_of homes i) h (λ bin. K.halfway.counted.still i bin K.in_range t (λ d. earlier-irreflexive d.1)) in
     let w = weight_in_part z group (home_of homes i) in
     let e = ap part_weight K.part_is in
@@ -164,8 +166,8 @@ table_has_room z group slots dim level i part homes h t K =
     let k = K.light in
     omega (arith, l, w, e, s, k)
 
-pub table_part : (z : Schema) (old new : List Slot) (dim level i : ℕ) (part : List Point) → IsAdded old new i (λ bin. amount_in part bin) → VisitsPart z old new dim level i part
-table_part z old new dim level i part A group homes h K = table_visited (time_dim z) h (paths_of z group) old new homes i [] K.points (spot_in_part z group (home_of homes i) (subst (λ x. 0 < length x) K.part_is K.some)) K.halfway (record {
+pub table_part : (z : Schema) (old new : List Slot) (way : Way) (put : List PutOff) (dim level i : ℕ) (part : List Point) → IsAdded old new i (λ bin. amount_in part bin) → VisitsAt z old new way put put dim level i part
+table_part z old new way put dim level i part A group homes h K = table_visited (time_dim z) h (paths_of z group) old new homes i put K.points (spot_in_part z group (home_of homes i) (subst (λ x. 0 < length x) K.part_is K.some)) K.halfway (record {
   size = A.size;
   place = A.place;
   kind = A.kind;

@@ -1,9 +1,10 @@
 -- The entry for a link that may be put off, as the visit finds it.
-use Rattle.std.specs.Prelude.{◌≡◌, ℕ, ◌+◌, ◌-◌, ◌<◌, ◌≤◌, ◌⊎◌, ◌==◌, if◌then◌else◌, List, length, Option, Some, None, slice_index_or, slice_set}
+use Rattle.std.specs.Prelude.{◌≡◌, ℕ, ◌+◌, ◌-◌, ◌<◌, ◌≤◌, ◌⊎◌, ◌==◌, if◌then◌else◌, Bool, true, false, List, [], ◌∷◌, ◌++◌, length, Option, Some, None, slice_index_or, slice_set}
 use Rattle.cube_view.specs.Places.{deepest}
 use Rattle.cube_view.specs.Points.{Point}
 use Rattle.cube_view.specs.declared.schema.Schema.{Schema}
-use Rattle.node_arena.specs.Slots.{Slot, walk_end}
+use Rattle.cube_view.specs.Walks.{down}
+use Rattle.node_arena.specs.Slots.{shared, Slot, link_of, walk_end}
 use Rattle.node_arena.specs.declared.link.SlotId.{SlotId}
 use Rattle.point_insert.specs.Visited.{place_of}
 use Rattle.group_insert.specs.FinerWalk.{finer_steps, entry_of}
@@ -37,6 +38,24 @@ pub record MayTurn (schema : Schema) (slots : List Slot) (part : List Point) (wa
   pub some : 1 ≤ from
   pub early : from < dim
   pub turn : TurnsIn schema slots part way node label dim from old p
+
+-- what is known of a link that is shared or none
+abbrev pub TellsShared : List Slot → ℕ → ℕ → Option SlotId → Type 0
+TellsShared slots node label None = link_of slots node (down label) ≡ None
+TellsShared slots node label (Some to) = link_of slots node (down label) ≡ Some (shared to.0)
+
+-- the list has one entry more, for the label's link
+pub record HasEntry (schema : Schema) (slots : List Slot) (part : List Point) (way : Way) (node label dim : ℕ) (before after : List Pending) : Type 0 where
+  pub entry : Pending
+  pub is : after ≡ before ++ entry ∷ []
+  pub old : Option SlotId
+  pub held : TellsShared slots node label old
+  pub turn : MayTurn schema slots part way node label dim old entry
+
+-- whether the link of a label has been put off, which is done at nodes alone that do not have one label
+abbrev pub TellsPut : Schema → List Slot → List Point → Way → ℕ → ℕ → ℕ → Bool → List Pending → List Pending → Bool → Type 0
+TellsPut schema slots part way node label dim wide before after false = after ≡ before
+TellsPut schema slots part way node label dim wide before after true = (wide ≡ true) × HasEntry schema slots part way node label dim before after
 
 -- the roots of open dimensions are slots
 abbrev pub HasRoots : List Slot → Way → ℕ → Type 0

@@ -5,8 +5,11 @@ ghost use Rattle.cube_view.specs.Validity.{sound};
 ghost use Rattle.probe_core.specs.Blanks.{IsBlankOf};
 ghost use Rattle.proper_path.specs.Paths.{paths_of};
 ghost use Rattle.group_insert.specs.InsertingAll.{CanInsertAll, InsertsAll};
+ghost use Rattle.group_insert.specs.Visiting.{root_of};
 
-use crate::visits::{Part, visit};
+use crate::pending::Pending;
+use crate::visits::{Part, Place, visit};
+use crate::way::Way;
 use arena_undo::Work;
 use cube_view::{Point, Schema};
 use node_arena::SlotId;
@@ -35,6 +38,23 @@ pub fn add_group(
     add_counted::<Brand>(alloc, work, schema, points, root, Blank::new(1))
 }
 
+/// The root, where a visit begins.
+fn root_place(root: SlotId, end: usize) -> Place
+    ensures { result ≡ root_of root end }
+{
+    Place {
+        dim: 1,
+        level: 0,
+        at: root,
+        part: Part { at: 0, end },
+        way: Way {
+            values: [None; 6],
+            roots: [root; 6],
+            level: 0,
+        },
+    }
+}
+
 /// The same, read in a ledger of its own. The points are copied, and the parts of the visits stand behind them.
 fn add_counted<L: Ledger>(
     alloc: Global,
@@ -55,10 +75,8 @@ fn add_counted<L: Ledger>(
     let Ok(mut pile) = Vec::from_slice(alloc, points) else {
         return Err(NoMemory);
     };
-    let whole = Part {
-        at: 0,
-        end: points.len(),
-    };
+    let mut pending = Vec::<Pending>::new(alloc);
+    let place = root_place(root, points.len());
     let mut steps = Steps::<L>::new(blank);
-    visit(work, schema, &mut pile, 1, 0, root, whole, &mut steps)
+    visit(work, schema, &mut pile, &mut pending, &place, &mut steps)
 }

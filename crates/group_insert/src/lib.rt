@@ -3,9 +3,10 @@
 //! [`add_group`] copies the points and visits the root with all of them. A visit of a node takes the content first and
 //! then label after label, from the least up, so whatever is copied is as it was before the group. A node all of whose
 //! points and children have one label visits that label alone, and then shares its child's content. The points of a
-//! label are put behind the others while its child is visited. Weights are counted at time tables alone. `specs/Halfway.antt`
-//! has the invariant between two visits. What is done after want of memory is left to `cube_store`, which does not call
-//! this crate yet.
+//! label are put behind the others while its child is visited. Where all that lies below a child lies below a finer address
+//! too, the link to it is put off, and set when the node of space above has been visited. Weights are counted at time tables
+//! alone. `specs/Halfway.antt` has the invariant between two visits. What is done after want of memory is left to
+//! `cube_store`.
 //!
 //! ```text
 //! add_group(alloc, &mut work, &schema, &points, SlotId(0))?;

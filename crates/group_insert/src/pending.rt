@@ -1,11 +1,12 @@
 //! Links of a group that are put off: each gets its target later, when a finer address has been visited.
-ghost use Rattle.std.specs.Prelude.{◌≡◌, ◌+◌, ◌<◌, ◌≤◌, ◌++◌, ◌∷◌, [], Some, length, All, IsSome, OnOk};
+ghost use Rattle.std.specs.Prelude.{◌≡◌, ◌+◌, ◌<◌, ◌≤◌, ◌++◌, ◌∷◌, [], Some, length, IsSome, OnOk};
 ghost use Rattle.cube_view.specs.Paths.{value_step};
 ghost use Rattle.cube_view.specs.Walks.{down, across};
 ghost use Rattle.node_arena.specs.Slots.{follow, slot_of, walk_end, IsNode};
 ghost use Rattle.point_insert.specs.Visited.{place_of};
 ghost use Rattle.group_insert.specs.FinerWalk.{entry_of, finer_steps, IsSet, LeadInside};
 ghost use Rattle.group_insert.specs.Settling.{entries, CanSettle, SettlesTo};
+ghost use Rattle.group_insert.specs.Visiting.{AreEntries};
 ghost use Rattle.group_insert.specs.Ways.{way_from};
 
 use arena_undo::Work;
@@ -134,10 +135,10 @@ pub fn settle_all<L: Ledger>(
     steps: &mut Steps<L>,
 ) -> Result<(), NoMemory>
     requires kept { kept ≤ length pending.old.items }
-    requires within { All (λ p. p.from + p.between < 6) pending.old.items }
+    requires within { AreEntries pending.old.items }
     requires known { ∥ CanSettle work.old.slots (entries pending.old.items) kept ∥₁ }
     ensures settled { OnOk result (SettlesTo kept work.old.slots work.new.slots (entries pending.old.items) (entries pending.new.items)) }
-    ensures left { OnOk result (length pending.new.items ≡ kept) }
+    ensures left { OnOk result ((length pending.new.items ≡ kept) × AreEntries pending.new.items) }
     ensures start { work.new.start ≡ work.old.start }
 {
     while pending.len() > kept {

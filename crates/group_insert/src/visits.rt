@@ -1,12 +1,15 @@
 //! The visits of a group, each address that holds some of its points once: the content first, then label after label.
-ghost use Rattle.std.specs.Prelude.{◌≡◌, ◌+◌, ◌<◌, ◌≤◌, Some, length, slice_range, OnOk};
+ghost use Rattle.std.specs.Prelude.{◌≡◌, ◌+◌, ◌<◌, ◌≤◌, Some, length, OnOk};
 ghost use Rattle.cube_view.specs.Places.{deepest, time_dim};
 ghost use Rattle.group_insert.specs.Labels.{TellsNextLabel};
-ghost use Rattle.group_insert.specs.Visiting.{CanVisitPart, VisitsPart, CanPass, PassesLabels, PassesContent, PassesAll, CanShare, SharesOnly, HasPart};
+ghost use Rattle.group_insert.specs.Visiting.{part_at, CanVisitPart, VisitsPart, CanPass, PassesTo, PassesContent, PassesAll};
+ghost use Rattle.group_insert.specs.Visiting.{CanShare, SharesOnly, HasPart, AreEntries};
 
 use crate::count::count_part;
 use crate::node::{only_label, own_child, own_content};
 use crate::parts::{gather, next_label};
+use crate::pending::{Pending, settle_all};
+use crate::way::{Way, below, on, put_later};
 use arena_undo::Work;
 use cube_view::{Point, Schema};
 use node_arena::SlotId;
@@ -20,6 +23,16 @@ use std::sync::ledger::Ledger;
 pub struct Part {
     pub at: usize,
     pub end: usize,
+}
+
+/// What a visit is of: a node of a dimension, so many levels down in it, with its part and the way to it.
+#[derive(Clone, Copy)]
+pub struct Place {
+    pub dim: u8,
+    pub level: u8,
+    pub at: SlotId,
+    pub part: Part,
+    pub way: Way,
 }
 
 /// How many levels a dimension has below level 0.
@@ -57,39 +70,65 @@ fn share_only<L: Ledger>(work: &mut Work, at: SlotId, steps: &mut Steps<L>) -> R
     Ok(())
 }
 
-/// Visits a node and all below it. For want of memory the arena holds the changes that were recorded.
+/// Visits a node and all below it. A node of space settles the links that were put off below it. For want of memory the
+/// arena holds the changes that were recorded.
 #[cycle(visiting)]
 pub fn visit<L: Ledger>(
     work: &mut Work,
     schema: &Schema,
     pile: &mut Vec<Point>,
-    dim: u8,
-    level: u8,
-    at: SlotId,
-    part: Part,
+    pending: &mut Vec<Pending>,
+    place: &Place,
     steps: &mut Steps<L>,
 ) -> Result<(), NoMemory>
-    requires dim { (1 ≤ dim) × (dim < time_dim schema.now) }
-    requires level { level ≤ deepest schema.now dim }
-    requires part { HasPart schema.now pile.old.items part.at part.end }
-    requires known { ∥ CanVisitPart schema.now work.old.slots dim level at.0 (slice_range pile.old.items part.at part.end) ∥₁ }
-    ensures visited { OnOk result (VisitsPart schema.now work.old.slots work.new.slots dim level at.0 (slice_range pile.old.items part.at part.end)) }
-    ensures pile { OnOk result (pile.new.items ≡ pile.old.items) }
+    requires dim { (1 ≤ place.now.dim) × (place.now.dim < time_dim schema.now) }
+    requires level { place.now.level ≤ deepest schema.now place.now.dim }
+    requires part { HasPart schema.now pile.old.items place.now.part.at place.now.part.end × AreEntries pending.old.items }
+    requires known { ∥ CanVisitPart schema.now work.old.slots place.now pile.old.items pending.old.items ∥₁ }
+    ensures visited { OnOk result (VisitsPart schema.now work.old.slots work.new.slots place.now pile.old.items pending.old.items pending.new.items) }
+    ensures settled { OnOk result (place.now.dim ≡ 1 → length pending.new.items ≡ length pending.old.items) }
+    ensures pile { OnOk result ((pile.new.items ≡ pile.old.items) × AreEntries pending.new.items) }
     ensures start { work.new.start ≡ work.old.start }
 {
-    if level == levels(schema, dim) {
-        return visit_content(work, schema, pile, dim, level, at, part, steps);
+    let kept = pending.len();
+    visit_node(work, schema, pile, pending, place, steps)?;
+    if place.dim == 1 {
+        return settle_all(work, pending, kept, steps);
     }
-    let below = one_below(schema, dim, level);
-    let points = &pile[part.at..part.end];
-    match only_label(work, schema, points, dim, below, at, steps) {
+    Ok(())
+}
+
+/// Visits a node and all below it, and settles no link at the node itself.
+#[cycle(visiting)]
+fn visit_node<L: Ledger>(
+    work: &mut Work,
+    schema: &Schema,
+    pile: &mut Vec<Point>,
+    pending: &mut Vec<Pending>,
+    place: &Place,
+    steps: &mut Steps<L>,
+) -> Result<(), NoMemory>
+    requires dim { (1 ≤ place.now.dim) × (place.now.dim < time_dim schema.now) }
+    requires level { place.now.level ≤ deepest schema.now place.now.dim }
+    requires part { HasPart schema.now pile.old.items place.now.part.at place.now.part.end × AreEntries pending.old.items }
+    requires known { ∥ CanVisitPart schema.now work.old.slots place.now pile.old.items pending.old.items ∥₁ }
+    ensures visited { OnOk result (VisitsPart schema.now work.old.slots work.new.slots place.now pile.old.items pending.old.items pending.new.items) }
+    ensures pile { OnOk result ((pile.new.items ≡ pile.old.items) × AreEntries pending.new.items) }
+    ensures start { work.new.start ≡ work.old.start }
+{
+    if place.level == levels(schema, place.dim) {
+        return visit_content(work, schema, pile, pending, place, steps);
+    }
+    let below = one_below(schema, place.dim, place.level);
+    let points = &pile[place.part.at..place.part.end];
+    match only_label(work, schema, points, place.dim, below, place.at, steps) {
         Some(_) => {
-            visit_labels(work, schema, pile, dim, level, at, part, steps)?;
-            share_only(work, at, steps)
+            visit_labels(work, schema, pile, pending, place, false, steps)?;
+            share_only(work, place.at, steps)
         }
         None => {
-            visit_content(work, schema, pile, dim, level, at, part, steps)?;
-            visit_labels(work, schema, pile, dim, level, at, part, steps)
+            visit_content(work, schema, pile, pending, place, steps)?;
+            visit_labels(work, schema, pile, pending, place, true, steps)
         }
     }
 }
@@ -100,89 +139,120 @@ fn visit_content<L: Ledger>(
     work: &mut Work,
     schema: &Schema,
     pile: &mut Vec<Point>,
-    dim: u8,
-    level: u8,
-    at: SlotId,
-    part: Part,
+    pending: &mut Vec<Pending>,
+    place: &Place,
     steps: &mut Steps<L>,
 ) -> Result<(), NoMemory>
-    requires dim { (1 ≤ dim) × (dim < time_dim schema.now) }
-    requires level { level ≤ deepest schema.now dim }
-    requires part { HasPart schema.now pile.old.items part.at part.end }
-    requires known { ∥ CanVisitPart schema.now work.old.slots dim level at.0 (slice_range pile.old.items part.at part.end) ∥₁ }
-    ensures passed { OnOk result (PassesContent schema.now work.old.slots work.new.slots dim level at.0 (slice_range pile.old.items part.at part.end)) }
-    ensures pile { OnOk result (pile.new.items ≡ pile.old.items) }
+    requires dim { (1 ≤ place.now.dim) × (place.now.dim < time_dim schema.now) }
+    requires level { place.now.level ≤ deepest schema.now place.now.dim }
+    requires part { HasPart schema.now pile.old.items place.now.part.at place.now.part.end × AreEntries pending.old.items }
+    requires known { ∥ CanVisitPart schema.now work.old.slots place.now pile.old.items pending.old.items ∥₁ }
+    ensures passed { OnOk result (PassesContent schema.now work.old.slots work.new.slots place.now pile.old.items pending.old.items pending.new.items) }
+    ensures pile { OnOk result ((pile.new.items ≡ pile.old.items) × AreEntries pending.new.items) }
     ensures start { work.new.start ≡ work.old.start }
 {
-    let content = own_content(work, schema, dim, at, steps)?;
-    if is_time(schema, dim + 1) {
-        count_part(work, schema, content, &pile[part.at..part.end])
-    } else {
-        visit(work, schema, pile, dim + 1, 0, content, part, steps)
+    let content = own_content(work, schema, place.dim, place.at, steps)?;
+    if is_time(schema, place.dim + 1) {
+        return count_part(work, schema, content, &pile[place.part.at..place.part.end]);
     }
+    let next = Place {
+        dim: place.dim + 1,
+        level: 0,
+        at: content,
+        part: place.part,
+        way: on(&place.way, place.dim, content),
+    };
+    visit(work, schema, pile, pending, &next, steps)
 }
 
-/// Visits the children of all labels of a part, in their order.
+/// Visits the children of all labels of a part, in their order. A `wide` node is one that does not have one label.
 #[cycle(visiting)]
 fn visit_labels<L: Ledger>(
     work: &mut Work,
     schema: &Schema,
     pile: &mut Vec<Point>,
-    dim: u8,
-    level: u8,
-    at: SlotId,
-    part: Part,
+    pending: &mut Vec<Pending>,
+    place: &Place,
+    wide: bool,
     steps: &mut Steps<L>,
 ) -> Result<(), NoMemory>
-    requires dim { (1 ≤ dim) × (dim < time_dim schema.now) }
-    requires level { level < deepest schema.now dim }
-    requires part { HasPart schema.now pile.old.items part.at part.end }
-    requires known { ∥ CanPass schema.now work.old.slots dim level at.0 (slice_range pile.old.items part.at part.end) 0 ∥₁ }
-    ensures passed { OnOk result (PassesAll schema.now work.old.slots work.new.slots dim level at.0 (slice_range pile.old.items part.at part.end)) }
-    ensures pile { OnOk result (pile.new.items ≡ pile.old.items) }
+    requires dim { (1 ≤ place.now.dim) × (place.now.dim < time_dim schema.now) }
+    requires level { place.now.level < deepest schema.now place.now.dim }
+    requires part { HasPart schema.now pile.old.items place.now.part.at place.now.part.end × AreEntries pending.old.items }
+    requires known { ∥ CanPass schema.now work.old.slots place.now pile.old.items pending.old.items wide 0 ∥₁ }
+    ensures passed { OnOk result (PassesAll schema.now work.old.slots work.new.slots place.now pile.old.items pending.old.items pending.new.items wide) }
+    ensures pile { OnOk result ((pile.new.items ≡ pile.old.items) × AreEntries pending.new.items) }
     ensures start { work.new.start ≡ work.old.start }
 {
-    let below = one_below(schema, dim, level);
+    let below = one_below(schema, place.dim, place.level);
     let mut from: u16 = 0;
-    while let Some(label) = next_label(schema, &pile[part.at..part.end], dim, below, from) {
-        visit_label(work, schema, pile, dim, level, at, from, label, part, steps)?;
+    while let Some(label) = next_label(
+        schema,
+        &pile[place.part.at..place.part.end],
+        place.dim,
+        below,
+        from,
+    ) {
+        visit_label(work, schema, pile, pending, place, wide, from, label, steps)?;
         from = u16::from(label) + 1;
     }
     Ok(())
 }
 
-/// Visits the child of a label, made the node's own, with the points of the label.
+/// Visits the child of a label, made the node's own, with the points of the label, or puts its link off.
 #[cycle(visiting)]
 fn visit_label<L: Ledger>(
     work: &mut Work,
     schema: &Schema,
     pile: &mut Vec<Point>,
-    dim: u8,
-    level: u8,
-    at: SlotId,
+    pending: &mut Vec<Pending>,
+    place: &Place,
+    wide: bool,
     from: u16,
     label: u8,
-    part: Part,
     steps: &mut Steps<L>,
 ) -> Result<(), NoMemory>
-    requires dim { (1 ≤ dim) × (dim < time_dim schema.now) }
-    requires level { level < deepest schema.now dim }
-    requires part { HasPart schema.now pile.old.items part.at part.end }
-    requires next { TellsNextLabel schema.now dim (level + 1) from (slice_range pile.old.items part.at part.end) (Some label) }
-    requires known { ∥ CanPass schema.now work.old.slots dim level at.0 (slice_range pile.old.items part.at part.end) from ∥₁ }
-    ensures passed { OnOk result (PassesLabels schema.now work.old.slots work.new.slots dim level at.0 (slice_range pile.old.items part.at part.end) from (label + 1)) }
-    ensures pile { OnOk result (pile.new.items ≡ pile.old.items) }
+    requires dim { (1 ≤ place.now.dim) × (place.now.dim < time_dim schema.now) }
+    requires level { place.now.level < deepest schema.now place.now.dim }
+    requires part { HasPart schema.now pile.old.items place.now.part.at place.now.part.end × AreEntries pending.old.items }
+    requires next { TellsNextLabel schema.now place.now.dim (place.now.level + 1) from (part_at place.now pile.old.items) (Some label) }
+    requires known { ∥ CanPass schema.now work.old.slots place.now pile.old.items pending.old.items wide from ∥₁ }
+    ensures passed { OnOk result (PassesTo schema.now work.old.slots work.new.slots place.now pile.old.items pending.old.items pending.new.items wide from label) }
+    ensures pile { OnOk result ((pile.new.items ≡ pile.old.items) × AreEntries pending.new.items) }
     ensures start { work.new.start ≡ work.old.start }
 {
-    let child = own_child(work, at, label, steps)?;
-    let below = one_below(schema, dim, level);
+    let level = one_below(schema, place.dim, place.level);
     let top = pile.len();
-    gather(schema, pile, part.at, part.end, dim, below, label)?;
-    let picked = Part {
+    gather(
+        schema,
+        pile,
+        place.part.at,
+        place.part.end,
+        place.dim,
+        level,
+        label,
+    )?;
+    let part = Part {
         at: top,
         end: pile.len(),
     };
-    visit(work, schema, pile, dim, below, child, picked, steps)?;
+    let points = &pile[part.at..part.end];
+    let later = put_later(
+        work, schema, points, pending, &place.way, place.at, label, place.dim, wide, steps,
+    )?;
+    if later {
+        pile.truncate(top);
+        return Ok(());
+    }
+    let child = own_child(work, place.at, label, steps)?;
+    let next = Place {
+        dim: place.dim,
+        level,
+        at: child,
+        part,
+        way: below(&place.way, place.dim, level, label, child),
+    };
+    visit(work, schema, pile, pending, &next, steps)?;
     pile.truncate(top);
     Ok(())
 }

@@ -1,9 +1,11 @@
 //! The way of a visit: the values that were gone down, and the slot at level 0 of each dimension.
-ghost use Rattle.std.specs.Prelude.{◌≡◌, ◌+◌, ◌<◌, ◌≤◌, length, All, IfSome, IsTrue};
+ghost use Rattle.std.specs.Prelude.{◌≡◌, ◌+◌, ◌<◌, ◌≤◌, length, All, IfSome, IfOk, IsTrue, OnOk};
 ghost use Rattle.cube_view.specs.Places.{deepest, time_dim};
 ghost use Rattle.cube_view.specs.Validity.{sound};
-ghost use Rattle.group_insert.specs.Entry.{root_at, root_level, way_below, way_on, HasRoots, TurnsIn, MayTurn};
+ghost use Rattle.node_arena.specs.Slots.{slot_of, IsNode};
+ghost use Rattle.group_insert.specs.Entry.{root_at, root_level, way_below, way_on, HasRoots, TurnsIn, MayTurn, TellsShared, TellsPut};
 ghost use Rattle.group_insert.specs.FinerWalk.{LeadInside};
+ghost use Rattle.group_insert.specs.Visiting.{AreEntries};
 ghost use Rattle.group_insert.specs.Ways.{IsOpenIn};
 
 use crate::parts::one_label;
@@ -11,6 +13,7 @@ use crate::pending::{Pending, finer};
 use arena_undo::Work;
 use cube_view::{Point, Schema};
 use node_arena::SlotId;
+use outer_io::NoMemory;
 use probe_core::Steps;
 use std::sync::ledger::Ledger;
 
@@ -108,6 +111,69 @@ pub fn put_off<L: Ledger>(
         }
     }
     None
+}
+
+// Where the link of a label leads that is shared or none. A proper link gives none at all.
+fn not_own<L: Ledger>(
+    work: &Work,
+    node: SlotId,
+    label: u8,
+    steps: &mut Steps<L>,
+) -> Option<Option<SlotId>>
+    requires in_range { node.0 < length work.now.slots }
+    requires is_node { IsNode (slot_of work.now.slots node.0) }
+    ensures { IfSome result (λ old. TellsShared work.now.slots node.0 label old) }
+{
+    match work.child(node, label, steps) {
+        Some(link) => {
+            if link.is_proper() {
+                None
+            } else {
+                Some(Some(link.to))
+            }
+        }
+        None => Some(None),
+    }
+}
+
+/// Puts the link of a label off, where it may be, and tells whether it did. At a node of one label it does not, and no
+/// proper link is put off.
+pub fn put_later<L: Ledger>(
+    work: &Work,
+    schema: &Schema,
+    part: &[Point],
+    pending: &mut Vec<Pending>,
+    way: &Way,
+    node: SlotId,
+    label: u8,
+    dim: u8,
+    wide: bool,
+    steps: &mut Steps<L>,
+) -> Result<bool, NoMemory>
+    requires part { (0 < length part.now) × All (λ p. IsTrue (sound schema.now p)) part.now }
+    requires dim { dim < time_dim schema.now }
+    requires node { (node.0 < length work.now.slots) × IsNode (slot_of work.now.slots node.0) }
+    requires roots { HasRoots work.now.slots way.now dim }
+    requires inside { LeadInside work.now.slots }
+    requires within { AreEntries pending.old.items }
+    ensures put { IfOk result (λ x. TellsPut schema.now work.now.slots part.now way.now node.0 label dim wide pending.old.items pending.new.items x) }
+    ensures still { OnOk result (AreEntries pending.new.items) }
+{
+    if !wide {
+        return Ok(false);
+    }
+    let Some(old) = not_own(work, node, label, steps) else {
+        return Ok(false);
+    };
+    match put_off(work, schema, part, way, node, label, dim, old, steps) {
+        Some(entry) => {
+            match pending.push(entry) {
+                Ok(()) => Ok(true),
+                Err(_) => Err(NoMemory),
+            }
+        }
+        None => Ok(false),
+    }
 }
 
 /// The way one label further down. In space it gets to a node of the level.
