@@ -1,43 +1,27 @@
--- Pairs in rising order that are read one after another: the children of a node, and the rows of a table.
-use Rattle.std.proofs.Common.{◌≡◌, ℕ, suc, ◌+◌, ◌^◌, ◌<◌, ◌≤◌, Bool, true, false, cond, ◌⊎◌, inl, inr, ltb, List, [], ◌∷◌, length, get_or, Option, Some, None, IfSome, refl, sym, ap, ◌∙◌, subst, arith}
+-- Pairs in rising order: the children of a node, and the rows of a table.
+use Rattle.std.proofs.Common.{◌≡◌, ℕ, suc, ◌+◌, ◌-◌, ◌^◌, ◌<◌, ◌≤◌, Bool, cond, ◌⊎◌, inl, inr, List, [], ◌∷◌, length, get_or, Some, refl, sym, ap, ◌∙◌, subst, arith}
 use Rattle.std.specs.FinMap.{entries, entries_sorted}
 use Rattle.std.specs.FinMap.Entries.{is_sorted}
 use Rattle.std.specs.List.{AllPairs}
 use Rattle.std.specs.Ordering.{nat_cmp}
+use Rattle.std.proofs.lemmas.List.{get_or_default}
 use Rattle.std.proofs.lemmas.Bool.{cases_lt, cases_eq, eq-eqb, ne_eqb, lt-ltb, le-ltb}
-use Rattle.time_table.specs.Counts.{BinCounts, first_from}
+use Rattle.time_table.specs.Counts.{BinCounts}
 use Rattle.node_arena.specs.declared.link.Link.{Link}
-use Rattle.node_arena.specs.Calls.{child_from}
 use Rattle.node_arena.specs.Slots.{Children, IsRising, child}
 use Rattle.cube_store.proofs.Rising.{rises-tail, rises_from_test, from_T}
-use Rattle.cube_image.specs.Rest.{from_number, below_number, byte_children, word_rows, IsNextPair}
+use Rattle.cube_image.specs.Rest.{below_number, byte_children, word_rows}
 
 -- the numbers are b or greater, and rise
 abbrev pub Rises : {X : Type 0} → ℕ → List (ℕ × X) → Type 0
 Rises b [] = Unit {0}
 Rises b (x ∷ xs) = (b ≤ x.0) × Rises (x.0 + 1) xs
 
--- the first pair of a list
-abbrev first_of : {X : Type 0} → List (ℕ × X) → Option (ℕ × X)
-first_of [] = None
-first_of (x ∷ xs) = Some x
-
 module _ {X : Type 0} where
-  here : (n : ℕ) (x : ℕ × X) (xs : List (ℕ × X)) → n ≤ x.0 → from_number n (x ∷ xs) ≡ x ∷ xs
-  here n x xs le = ap (λ (b : Bool). cond b (from_number n xs) (x ∷ xs)) (le-ltb x.0 n le)
-
-  past : (n : ℕ) (x : ℕ × X) (xs : List (ℕ × X)) → x.0 < n → from_number n (x ∷ xs) ≡ from_number n xs
-  past n x xs lt = ap (λ (b : Bool). cond b (from_number n xs) (x ∷ xs)) (lt-ltb x.0 n lt)
-
   rises-above : (b : ℕ) (xs : List (ℕ × X)) → AllPairs (λ (x y : ℕ × X). x.0 < y.0) xs → ((i : ℕ) (d : ℕ × X) → i < length xs → b ≤ (get_or xs i d).0) → Rises b xs
   rises-above b [] R low = tt
   rises-above b (x ∷ xs) R low =
       (low 0 x (omega arith), rises-above (x.0 + 1) xs (rises-tail x xs R) (λ i d lt. let r = R 0 (suc i) d (omega arith) (omega arith) in omega arith))
-
-  -- all pairs come from a number on that isn't greater than the first one
-  pub from_number-all : (b n : ℕ) (xs : List (ℕ × X)) → Rises b xs → n ≤ b → from_number n xs ≡ xs
-  from_number-all b n [] R le = refl
-  from_number-all b n (x ∷ xs) R le = let low = R.0 in here n x xs (omega arith)
 
   pub taken : (m : ℕ) (x : ℕ × X) (xs : List (ℕ × X)) → x.0 < m → below_number m (x ∷ xs) ≡ x ∷ below_number m xs
   taken m x xs lt = ap (λ (b : Bool). cond b (x ∷ below_number m xs) (below_number m xs)) (lt-ltb x.0 m lt)
@@ -58,81 +42,51 @@ module _ {X : Type 0} where
       go (inl lt) r = subst (Rises b) (sym (taken m x xs lt)) (R.0, r)
       go (inr le) r = let low = R.0 in subst (Rises b) (sym (dropped m x xs le)) (rises-weaker b (x.0 + 1) (below_number m xs) r (omega arith))
 
-  -- none of them comes from that number on
-  pub below-none : (m n : ℕ) (xs : List (ℕ × X)) → m ≤ n → from_number n (below_number m xs) ≡ []
-  below-none m n [] le = refl
-  below-none m n (x ∷ xs) le = go (cases_lt x.0 m) (below-none m n xs le)
-    where
-      go : (x.0 < m) ⊎ (m ≤ x.0) → from_number n (below_number m xs) ≡ [] → from_number n (below_number m (x ∷ xs)) ≡ []
-      go (inl lt) r = ap (from_number n) (taken m x xs lt) ∙ (past n x (below_number m xs) (omega arith) ∙ r)
-      go (inr more) r = ap (from_number n) (dropped m x xs more) ∙ r
+  -- no pair is left out where all numbers are less
+  below-all : (m : ℕ) (xs : List (ℕ × X)) → ((i : ℕ) (d : ℕ × X) → i < length xs → (get_or xs i d).0 < m) → below_number m xs ≡ xs
+  below-all m [] small = refl
+  below-all m (x ∷ xs) small = taken m x xs (small 0 x (omega arith)) ∙ ap (λ (ys : List (ℕ × X)). x ∷ ys) (below-all m xs (λ i d lt. small (suc i) d (omega (arith, lt))))
 
-  next_pair : (b n : ℕ) (xs : List (ℕ × X)) (x : ℕ × X) (ys : List (ℕ × X)) → Rises b xs → from_number n xs ≡ x ∷ ys → (n ≤ x.0) × (from_number n xs ≡ x ∷ from_number (x.0 + 1) xs)
-  next_pair b n [] x ys R e = absurd cc
-  next_pair b n (z ∷ zs) x ys R e = go (cases_lt z.0 n) (λ r. next_pair (z.0 + 1) n zs x ys R.1 r)
-    where
-      go : (z.0 < n) ⊎ (n ≤ z.0) → (from_number n zs ≡ x ∷ ys → (n ≤ x.0) × (from_number n zs ≡ x ∷ from_number (x.0 + 1) zs)) → (n ≤ x.0) × (from_number n (z ∷ zs) ≡ x ∷ from_number (x.0 + 1) (z ∷ zs))
-      go (inl less) rest =
-          let r = rest (sym (past n z zs less) ∙ e) in
-          let low = r.0 in
-          (low, past n z zs less ∙ (r.1 ∙ ap (λ (t : List (ℕ × X)). x ∷ t) (sym (past (x.0 + 1) z zs (omega arith)))))
-      go (inr more) rest =
-          let at : z ∷ zs ≡ x ∷ ys = sym (here n z zs more) ∙ e in
-          let same : z ≡ x = cc in
-          let further : from_number (z.0 + 1) (z ∷ zs) ≡ zs = past (z.0 + 1) z zs (omega arith) ∙ from_number-all (z.0 + 1) (z.0 + 1) zs R.1 (omega arith) in
-          subst (λ (y : ℕ × X). (n ≤ y.0) × (from_number n (z ∷ zs) ≡ y ∷ from_number (y.0 + 1) (z ∷ zs))) same
-          (more, here n z zs more ∙ ap (λ (t : List (ℕ × X)). z ∷ t) (sym further))
+  -- as many numbers rise as there are from the least to the greatest, at most
+  rises-few : (b m : ℕ) (xs : List (ℕ × X)) → Rises b xs → b ≤ m → ((i : ℕ) (d : ℕ × X) → i < length xs → (get_or xs i d).0 < m) → b + length xs ≤ m
+  rises-few b m [] R le small = omega (arith, le)
+  rises-few b m (x ∷ xs) R le small =
+      let low = R.0 in
+      let first : x.0 < m = small 0 x (omega arith) in
+      let rest = rises-few (x.0 + 1) m xs R.1 (omega (arith, first)) (λ i d lt. small (suc i) d (omega (arith, lt))) in
+      omega (arith, low, rest)
 
-  -- the first pair from a number on is the next one
-  pub is_next : (b n : ℕ) (xs : List (ℕ × X)) (o : Option (ℕ × X)) → Rises b xs → first_of (from_number n xs) ≡ o → IsNextPair n xs o
-  is_next b n xs o R e = go (from_number n xs) refl e
-    where
-      go : (ys : List (ℕ × X)) → from_number n xs ≡ ys → first_of ys ≡ o → IsNextPair n xs o
-      go [] r f = subst (λ (p : Option (ℕ × X)). IsNextPair n xs p) f r
-      go (y ∷ ys) r f = subst (λ (p : Option (ℕ × X)). IsNextPair n xs p) f (next_pair b n xs y ys R r)
+  -- the last of numbers that rise is the greatest
+  last-greatest : (m last : ℕ) (xs : List (ℕ × X)) (x : ℕ × X) → AllPairs (λ (a b : ℕ × X). a.0 < b.0) xs → last + 1 ≡ length xs → x ≡ get_or xs last x → x.0 < m → (i : ℕ) (d : ℕ × X) → i < length xs → (get_or xs i d).0 < m
+  last-greatest m last xs x R size is less i d within =
+      let here : (get_or xs last d).0 ≡ x.0 = ap (λ (y : ℕ × X). y.0) (get_or_default xs last d x (omega (arith, size)) ∙ sym is) in
+      elim (cases_lt i last) [
+        | inl low ↦ let up : (get_or xs i d).0 < (get_or xs last d).0 = R i last d low (omega (arith, size)) in omega (arith, up, here, less)
+        | inr high ↦ let same : (get_or xs i d).0 ≡ (get_or xs last d).0 = ap (λ n. (get_or xs n d).0) (omega (arith, high, size, within)) in omega (arith, same, here, less)
+      ]
 
-  -- the first pair from a number on is the first of those below a greater one, if it is one of them
-  first-below : (m n : ℕ) (xs : List (ℕ × X)) (o : Option (ℕ × X)) → first_of (from_number n xs) ≡ o → IfSome o (λ x. x.0 < m) → first_of (from_number n (below_number m xs)) ≡ o
-  first-below m n [] o e small = e
-  first-below m n (x ∷ xs) o e small = go (cases_lt x.0 n) (λ r. first-below m n xs o r small)
-    where
-      at : (below_number m (x ∷ xs) ≡ x ∷ below_number m xs) ⊎ (below_number m (x ∷ xs) ≡ below_number m xs)
-      at = kept (cases_lt x.0 m)
-        where
-          kept : (x.0 < m) ⊎ (m ≤ x.0) → (below_number m (x ∷ xs) ≡ x ∷ below_number m xs) ⊎ (below_number m (x ∷ xs) ≡ below_number m xs)
-          kept (inl lt) = inl (taken m x xs lt)
-          kept (inr le) = inr (dropped m x xs le)
+  -- where it is less than a number, no pair is left out, and there are few
+  below-last : (m last : ℕ) (xs : List (ℕ × X)) (x : ℕ × X) → AllPairs (λ (a b : ℕ × X). a.0 < b.0) xs → last + 1 ≡ length xs → x ≡ get_or xs last x → x.0 < m → (below_number m xs ≡ xs) × (length xs ≤ m)
+  below-last m last xs x R size is less =
+      let small = last-greatest m last xs x R size is less in
+      let few = rises-few 0 m xs (rises-above 0 xs R (λ i d lt. omega arith)) (omega arith) small in
+      (below-all m xs small, omega (arith, few))
 
-      go : (x.0 < n) ⊎ (n ≤ x.0) → (first_of (from_number n xs) ≡ o → first_of (from_number n (below_number m xs)) ≡ o) → first_of (from_number n (below_number m (x ∷ xs))) ≡ o
-      go (inl lt) rest = skip at
-        where
-          r : first_of (from_number n (below_number m xs)) ≡ o
-          r = rest (ap first_of (sym (past n x xs lt)) ∙ e)
-
-          skip : (below_number m (x ∷ xs) ≡ x ∷ below_number m xs) ⊎ (below_number m (x ∷ xs) ≡ below_number m xs) → first_of (from_number n (below_number m (x ∷ xs))) ≡ o
-          skip (inl t) = ap (λ (ys : List (ℕ × X)). first_of (from_number n ys)) t ∙ (ap first_of (past n x (below_number m xs) lt) ∙ r)
-          skip (inr d) = ap (λ (ys : List (ℕ × X)). first_of (from_number n ys)) d ∙ r
-      go (inr le) rest =
-          let is : Some x ≡ o = ap first_of (sym (here n x xs le)) ∙ e in
-          let lt : x.0 < m = subst (λ (p : Option (ℕ × X)). IfSome p (λ y. y.0 < m)) (sym is) small in
-          ap (λ (ys : List (ℕ × X)). first_of (from_number n ys)) (taken m x xs lt) ∙ (ap first_of (here n x (below_number m xs) le) ∙ is)
-
-  -- and it is the next one of them
-  pub next-below : (m n : ℕ) (xs : List (ℕ × X)) (o : Option (ℕ × X)) → Rises 0 xs → first_of (from_number n xs) ≡ o → IfSome o (λ x. x.0 < m) → IsNextPair n (below_number m xs) o
-  next-below m n xs o R e small = is_next 0 n (below_number m xs) o (below-rises 0 m xs R) (first-below m n xs o e small)
+  below-none : (m : ℕ) (xs : List (ℕ × X)) → length xs ≡ 0 → below_number m xs ≡ xs
+  below-none m [] none = refl
+  below-none m (x ∷ xs) none = absurd (omega (arith, none))
 
 -- children
 
-child_from-first : (children : Children) (n : ℕ) → first_of (from_number n children) ≡ child_from children n
-child_from-first [] n = refl
-child_from-first (x ∷ children) n =
-    elim (ltb x.0 n) as (λ (b : Bool). first_of (cond b (from_number n children) (x ∷ children)) ≡ cond b (child_from children n) (Some x)) [ true ↦ child_from-first children n | false ↦ refl ]
+-- the label of the last child is a byte, so all are
+pub children-last : (children : Children) (count : ℕ) (c : ℕ × Link) → IsRising children → (count ≡ 0 → ⊥) → count ≡ length children → c ≡ get_or children (count - 1) c → c.0 < 256 → (byte_children children ≡ children) × (length children ≤ 256)
+children-last children count c R some size is less = below-last 256 (count - 1) children c R (omega (arith, some, size)) is less
+
+pub children-none : (children : Children) → length children ≡ 0 → byte_children children ≡ children
+children-none children none = below-none 256 children none
 
 pub rises : (children : Children) → IsRising children → Rises 0 children
 rises children R = rises-above 0 children R (λ i d lt. omega arith)
-
-pub next-child : (children : Children) (n : ℕ) (o : Option (ℕ × Link)) → IsRising children → o ≡ child_from children n → IfSome o (λ x. x.0 < 256) → IsNextPair n (byte_children children) o
-next-child children n o R is small = next-below 256 n children o (rises children R) (child_from-first children n ∙ sym is) small
 
 -- a label whose child is there isn't less than the least
 pub child-low : (b : ℕ) (children : Children) (label : ℕ) (l : Link) → Rises b children → child children label ≡ Some l → b ≤ label
@@ -168,33 +122,21 @@ child-below m b (x ∷ children) label l R is = go (cases_lt x.0 m) (λ r. child
             ap (λ (t : Bool). cond t (Some x.1) (child children label)) (ne_eqb x.0 label n)
             ∙ rest (sym (ap (λ (t : Bool). cond t (Some x.1) (child (below_number m children) label)) (ne_eqb x.0 label n)) ∙ at)
 
--- the next child is the child of its label
-pub next-linked : (b n : ℕ) (children : Children) (x : ℕ × Link) (ys : Children) → Rises b children → from_number n children ≡ x ∷ ys → child children x.0 ≡ Some x.1
-next-linked b n [] x ys R e = absurd cc
-next-linked b n (z ∷ zs) x ys R e = go (cases_lt z.0 n) (λ r. next-linked (z.0 + 1) n zs x ys R.1 r)
-  where
-    go : (z.0 < n) ⊎ (n ≤ z.0) → (from_number n zs ≡ x ∷ ys → child zs x.0 ≡ Some x.1) → child (z ∷ zs) x.0 ≡ Some x.1
-    go (inl less) rest =
-        let at = rest (sym (past n z zs less) ∙ e) in
-        let low = child-low (z.0 + 1) zs x.0 x.1 R.1 at in
-        ap (λ (t : Bool). cond t (Some z.1) (child zs x.0)) (ne_eqb z.0 x.0 (λ s. omega arith)) ∙ at
-    go (inr more) rest =
-        let at : z ∷ zs ≡ x ∷ ys = sym (here n z zs more) ∙ e in
-        let same : z ≡ x = cc in
-        subst (λ (y : ℕ × Link). child (z ∷ zs) y.0 ≡ Some y.1) same (ap (λ (t : Bool). cond t (Some z.1) (child zs z.0)) (eq-eqb z.0 z.0 refl))
-
 -- rows
 
-first_from-first : (n : ℕ) (es : List (ℕ × ℕ)) → first_of (from_number n es) ≡ first_from n es
-first_from-first n [] = refl
-first_from-first n (x ∷ es) =
-    elim (ltb x.0 n) as (λ (b : Bool). first_of (cond b (from_number n es) (x ∷ es)) ≡ cond b (first_from n es) (Some x)) [ true ↦ first_from-first n es | false ↦ refl ]
+bins-rise : (m : BinCounts) → AllPairs (λ (a b : ℕ × ℕ). a.0 < b.0) (entries m)
+bins-rise m = rises_from_test (entries m) (from_T (is_sorted nat_cmp (entries m)) (entries_sorted m))
 
 pub rows-rise : (m : BinCounts) → Rises 0 (entries m)
-rows-rise m = rises-above 0 (entries m) (rises_from_test (entries m) (from_T (is_sorted nat_cmp (entries m)) (entries_sorted m))) (λ i d lt. omega arith)
+rows-rise m = rises-above 0 (entries m) (bins-rise m) (λ i d lt. omega arith)
 
-pub next-row : (m : BinCounts) (n : ℕ) (o : Option (ℕ × ℕ)) → o ≡ first_from n (entries m) → IfSome o (λ x. x.0 < 2 ^ 32) → IsNextPair n (word_rows m) o
-next-row m n o is small = next-below (2 ^ 32) n (entries m) o (rows-rise m) (first_from-first n (entries m) ∙ sym is) small
+-- the bin of the last row has 32 bits, so all have
+pub rows-last : (m : BinCounts) (rows : List (ℕ × ℕ)) (n : ℕ) (row : ℕ × ℕ) → rows ≡ entries m → (n ≡ 0 → ⊥) → n ≡ length rows → row ≡ get_or rows (n - 1) row → row.0 < 2 ^ 32 → (rows ≡ word_rows m) × (length rows ≤ 2 ^ 32)
+rows-last m rows n row at some size is less =
+    let long = ap length at in
+    let all = below-last (2 ^ 32) (n - 1) (entries m) row (bins-rise m) (omega (arith, some, size, long)) (is ∙ ap (λ (xs : List (ℕ × ℕ)). get_or xs (n - 1) row) at) less in
+    let few = all.1 in
+    (at ∙ sym all.0, omega (arith, few, long))
 
-pub word_rows-rise : (m : BinCounts) → Rises 0 (word_rows m)
-word_rows-rise m = below-rises 0 (2 ^ 32) (entries m) (rows-rise m)
+pub rows-none : (m : BinCounts) (rows : List (ℕ × ℕ)) → rows ≡ entries m → length rows ≡ 0 → rows ≡ word_rows m
+rows-none m rows at none = at ∙ sym (below-none (2 ^ 32) (entries m) (sym (ap length at) ∙ none))

@@ -1,5 +1,5 @@
 -- The bytes of slots and of an image, put piece by piece.
-use Rattle.std.proofs.Common.{◌≡◌, ℕ, ◌+◌, ◌<◌, ◌≤◌, List, [], ◌∷◌, ◌++◌, length, map, Option, Some, refl, sym, ap, ◌∙◌, arith, append_assoc, true≢false, take, get_or, sum_by}
+use Rattle.std.proofs.Common.{◌≡◌, ℕ, ◌+◌, ◌<◌, ◌≤◌, List, [], ◌∷◌, ◌++◌, length, map, Option, refl, sym, ap, ◌∙◌, arith, append_assoc, true≢false, take, get_or, sum_by}
 use Rattle.std.specs.Coded.{le_prop}
 use Rattle.std.proofs.Math.Logic.{∥∥₁_elim}
 use Rattle.std.proofs.lemmas.List.{length-map, get_or-map}
@@ -17,9 +17,9 @@ use Rattle.cube_image.specs.Bytes.{child_bytes, row_bytes, content_bytes, table_
 use Rattle.cube_image.specs.Conditions.{HasSomeHomes, IsReadable}
 use Rattle.cube_image.specs.Image.{most_bytes, image_length, IsWritten, HasLongImage}
 use Rattle.cube_image.specs.Order.{moved, moved_child, moved_content, IsOrder, in_order}
-use Rattle.cube_image.specs.Rest.{from_number, byte_children, word_rows, IsNextPair}
+use Rattle.cube_image.specs.Rest.{byte_children, word_rows}
 use Rattle.cube_image.proofs.Lengths.{byte_children-map, length-image}
-use Rattle.cube_image.proofs.Moving.{read_more, put_more}
+use Rattle.cube_image.proofs.Moving.{put_more}
 
 -- what is known of slots with homes
 pub readable : (slots : List Slot) → ∥ HasSomeHomes slots ∥₁ → AllRising slots → IsReadable slots
@@ -65,11 +65,10 @@ image_long slots size places O long = record {
 }
 
 -- a row more is put
-pub row_put : (out a new whole bytes : List ℕ) (n m bin count : ℕ) (rows : List (ℕ × ℕ)) → IsNextPair n rows (Some (bin, count)) → out ++ flat_map row_bytes (from_number n rows) ≡ whole → a ≡ out ++ bytes → bytes ≡ to_be_bytes w32 bin → new ≡ a ++ to_be_bytes w64 count → m ≡ bin → new ++ flat_map row_bytes (from_number (m + 1) rows) ≡ whole
-row_put out a new whole bytes n m bin count rows N before one is two same =
-    let put : new ≡ out ++ row_bytes (bin, count) =
-    two ∙ (ap (λ (t : List ℕ). t ++ to_be_bytes w64 count) (one ∙ ap (λ (t : List ℕ). out ++ t) is) ∙ append_assoc out (to_be_bytes w32 bin) (to_be_bytes w64 count)) in
-    ap (λ (k : ℕ). new ++ flat_map row_bytes (from_number (k + 1) rows)) same ∙ read_more row_bytes out new whole n rows (bin, count) N before put
+pub row_put : (start out a new bytes : List ℕ) (i : ℕ) (rows : List (ℕ × ℕ)) (d : ℕ × ℕ) → i < length rows → out ≡ start ++ flat_map row_bytes (take i rows) → a ≡ out ++ bytes → bytes ≡ to_be_bytes w32 (get_or rows i d).0 → new ≡ a ++ to_be_bytes w64 (get_or rows i d).1 → new ≡ start ++ flat_map row_bytes (take (i + 1) rows)
+row_put start out a new bytes i rows d lt before one is two =
+    put_more row_bytes start out new rows i d lt before
+    (two ∙ (ap (λ (t : List ℕ). t ++ to_be_bytes w64 (get_or rows i d).1) (one ∙ ap (λ (t : List ℕ). out ++ t) is) ∙ append_assoc out (to_be_bytes w32 (get_or rows i d).0) (to_be_bytes w64 (get_or rows i d).1)))
 
 -- a slot more is put
 pub slot_put : (slots : List Slot) (places items start out new : List ℕ) (i : ℕ) → items ≡ places → i < length items → out ≡ start ++ flat_map slot_bytes (take i (in_order slots places)) → new ≡ out ++ slot_bytes (moved places (slot_of slots (get_or items i 0))) → new ≡ start ++ flat_map slot_bytes (take (i + 1) (in_order slots places))

@@ -1,6 +1,6 @@
--- What calls of an arena tell of a slot, pair by pair: children with their labels, and rows with their bins. A label is
+-- What calls of an arena tell of a slot: children with their labels, and rows with their bins. A label is
 -- a byte there and a bin a number of 32 bits, so nothing else can be read.
-use Rattle.std.specs.Prelude.{◌≡◌, ℕ, ◌+◌, ◌≤◌, ◌^◌, if◌then◌else◌, nat_lt, List, [], ◌∷◌, Option, Some, None}
+use Rattle.std.specs.Prelude.{ℕ, ◌^◌, if◌then◌else◌, nat_lt, List, [], ◌∷◌}
 use Rattle.std.specs.FinMap.{entries}
 use Rattle.time_table.specs.Counts.{BinCounts}
 use Rattle.node_arena.specs.Slots.{Children, Slot, children_of, slot_of}
@@ -21,13 +21,3 @@ told_children slots i = byte_children (children_of (slot_of slots i))
 -- the rows whose bins have 32 bits
 abbrev pub word_rows : BinCounts → List (ℕ × ℕ)
 word_rows counts = below_number (2 ^ 32) (entries counts)
-
--- the pairs from a number on
-abbrev pub from_number : {X : Type 0} → ℕ → List (ℕ × X) → List (ℕ × X)
-from_number n [] = []
-from_number n (x ∷ xs) = if nat_lt x.0 n then from_number n xs else x ∷ xs
-
--- the first pair from a number on, before those from the next number on; or there is none
-abbrev pub IsNextPair : {X : Type 0} → ℕ → List (ℕ × X) → Option (ℕ × X) → Type 0
-IsNextPair n xs None = from_number n xs ≡ []
-IsNextPair n xs (Some x) = (n ≤ x.0) × (from_number n xs ≡ x ∷ from_number (x.0 + 1) xs)

@@ -1,47 +1,61 @@
 //! How many bytes an image has.
-ghost use Rattle.std.specs.Prelude.{◌≡◌, ◌+◌, ◌<◌, ◌≤◌, ◌^◌, length, All, MatchOption};
+ghost use Rattle.std.specs.Prelude.{◌≡◌, ◌+◌, ◌<◌, ◌≤◌, ◌^◌, length, All, IfOk, Err};
 ghost use Rattle.node_arena.specs.Slots.{IsNode, slot_of};
 ghost use Rattle.cube_image.specs.Bytes.{slot_bytes};
-ghost use Rattle.cube_image.specs.Conditions.{IsReadable};
 ghost use Rattle.cube_image.specs.Image.{most_bytes, image_length};
 
 use crate::children::child_count;
-use crate::rows::row_count;
+use crate::fault::SaveFault;
+use crate::rows::read_rows;
 use node_arena::{Arena, SlotId};
+use outer_io::NoMemory;
 use probe_core::Steps;
+use std::alloc::Global;
 use std::sync::ledger::Ledger;
 
 /// The most bytes that an image has.
 pub const MOST_BYTES: u64 = 1 << 30;
 
-/// How many bytes the image of the slots in an order has. None comes exactly where they are more than 2^30.
-pub fn image_len<L: Ledger>(arena: &Arena, places: &[u32], steps: &mut Steps<L>) -> Option<u64>
-    requires within { All (λ i. i < length arena.now) places.now }
-    requires readable { IsReadable arena.now }
-    ensures { MatchOption result (most_bytes < image_length arena.now places.now) (λ n. (n ≡ image_length arena.now places.now) × (n ≤ most_bytes)) }
+/// How many bytes the image of the slots in an order has. `TooLong` comes exactly where they are more than 2^30, unless
+/// memory was wanted before.
+pub fn image_len<L: Ledger>(
+    alloc: Global,
+    arena: &Arena,
+    places: &[u32],
+    steps: &mut Steps<L>,
+) -> Result<u64, SaveFault>
+    requires { All (λ i. i < length arena.now) places.now }
+    ensures len { IfOk result (λ n. n ≡ image_length arena.now places.now) }
+    ensures fits { IfOk result (λ n. n ≤ most_bytes) }
+    ensures too_long { result ≡ Err SaveFault.TooLong → most_bytes < image_length arena.now places.now }
 {
+    let mut rows = Vec::new(alloc);
     let mut len = 24;
     for place in places {
-        len += slot_len(arena, SlotId(*place), steps);
+        len += slot_len(arena, SlotId(*place), &mut rows, steps)?;
         if len > MOST_BYTES {
-            return None;
+            return Err(SaveFault::TooLong);
         }
     }
-    Some(len)
+    Ok(len)
 }
 
-/// How many bytes a slot takes.
-fn slot_len<L: Ledger>(arena: &Arena, id: SlotId, steps: &mut Steps<L>) -> u64
-    requires in_range { id.0 < length arena.now }
-    requires readable { IsReadable arena.now }
-    ensures len { result ≡ length (slot_bytes (slot_of arena.now id.0)) }
-    ensures few { result ≤ 2 ^ 36 }
+/// How many bytes a slot takes. The rows of a time table are read into a list that is there.
+fn slot_len<L: Ledger>(
+    arena: &Arena,
+    id: SlotId,
+    rows: &mut Vec<(u32, u64)>,
+    steps: &mut Steps<L>,
+) -> Result<u64, NoMemory>
+    requires { id.0 < length arena.now }
+    ensures len { IfOk result (λ n. n ≡ length (slot_bytes (slot_of arena.now id.0))) }
+    ensures few { IfOk result (λ n. n ≤ 2 ^ 36) }
 {
     if arena.is_table(id) {
-        let table = arena.table(id, steps);
-        9 + 12 * row_count(table, steps)
+        read_rows(rows, arena.table(id, steps), steps)?;
+        Ok(9 + 12 * rows.len() as u64)
     } else {
-        node_len(arena, id, steps)
+        Ok(node_len(arena, id, steps))
     }
 }
 
@@ -49,11 +63,10 @@ fn slot_len<L: Ledger>(arena: &Arena, id: SlotId, steps: &mut Steps<L>) -> u64
 fn node_len<L: Ledger>(arena: &Arena, id: SlotId, steps: &mut Steps<L>) -> u64
     requires in_range { id.0 < length arena.now }
     requires is_node { IsNode (slot_of arena.now id.0) }
-    requires readable { IsReadable arena.now }
     ensures len { result ≡ length (slot_bytes (slot_of arena.now id.0)) }
     ensures few { result ≤ 3000 }
 {
-    let children = u64::from(child_count(arena, id, steps));
+    let children = child_count(arena, id) as u64;
     match arena.content(id, steps) {
         Some(_) => 12 + 10 * children,
         None => 4 + 10 * children,

@@ -5,7 +5,7 @@ ghost use Rattle.cube_image.specs.Conditions.{HasSomeHomes, IsReadable};
 ghost use Rattle.cube_image.specs.Order.{IsOrder, owned_by, owned_children, proper_target, order_number, AreNumbers};
 ghost use Rattle.cube_image.specs.Rest.{told_children};
 
-use crate::children::next_child;
+use crate::children::child_count;
 use node_arena::{Arena, Link, SlotId};
 use outer_io::{List, NoMemory};
 use probe_core::Steps;
@@ -71,14 +71,13 @@ fn put_owned<L: Ledger>(
     places: &mut List<u32>,
     steps: &mut Steps<L>,
 ) -> Result<(), NoMemory>
-    requires in_range { id.0 < length arena.now }
-    requires readable { IsReadable arena.now }
+    requires { id.0 < length arena.now }
     ensures { OnOk result (places.new ≡ places.old ++ owned_by (slot_of arena.now id.0)) }
 {
     if arena.is_table(id) {
         return Ok(());
     }
-    put_owned_children(arena, id, places, steps)?;
+    put_owned_children(arena, id, places)?;
     match arena.content(id, steps) {
         Some(link) => put_target(link, places),
         None => Ok(()),
@@ -86,21 +85,13 @@ fn put_owned<L: Ledger>(
 }
 
 /// Puts the children at the end that a node owns.
-fn put_owned_children<L: Ledger>(
-    arena: &Arena,
-    id: SlotId,
-    places: &mut List<u32>,
-    steps: &mut Steps<L>,
-) -> Result<(), NoMemory>
+fn put_owned_children(arena: &Arena, id: SlotId, places: &mut List<u32>) -> Result<(), NoMemory>
     requires in_range { id.0 < length arena.now }
     requires is_node { IsNode (slot_of arena.now id.0) }
-    requires readable { IsReadable arena.now }
     ensures { OnOk result (places.new ≡ places.old ++ owned_children (told_children arena.now id.0)) }
 {
-    let mut from = 0;
-    while let Some((label, link)) = next_child(arena, id, from, steps) {
-        put_target(link, places)?;
-        from = u16::from(label) + 1;
+    for i in 0..child_count(arena, id) {
+        put_target(arena.child_at(id, i).1, places)?;
     }
     Ok(())
 }

@@ -8,17 +8,19 @@ ghost use Rattle.cube_image.specs.Order.{moved, moved_child, moved_link, in_orde
 ghost use Rattle.cube_image.specs.Rest.{word_rows, told_children};
 
 use crate::bytes::{put, put_number};
-use crate::children::{child_count, next_child};
+use crate::children::child_count;
 use crate::order::Order;
-use crate::rows::{next_row, row_count};
+use crate::rows::read_rows;
 use node_arena::{Arena, Link, SlotId};
 use outer_io::NoMemory;
 use probe_core::Steps;
+use std::alloc::Global;
 use std::sync::ledger::Ledger;
 use time_table::TimeTable;
 
 /// Puts all slots in their order.
 pub fn put_slots<L: Ledger>(
+    alloc: Global,
     out: &mut Vec<u8>,
     arena: &Arena,
     order: &Order,
@@ -28,18 +30,20 @@ pub fn put_slots<L: Ledger>(
     requires able { CanPut arena.now order.now.numbers.items }
     ensures { OnOk result (out.new.items ≡ out.old.items ++ flat_map slot_bytes (in_order arena.now order.now.places)) }
 {
+    let mut rows = Vec::new(alloc);
     for place in order.places.as_slice() {
-        put_slot(out, arena, SlotId(*place), order, steps)?;
+        put_slot(out, arena, SlotId(*place), order, &mut rows, steps)?;
     }
     Ok(())
 }
 
-/// Puts a slot.
+/// Puts a slot. The rows of a time table are read into a list that is there.
 fn put_slot<L: Ledger>(
     out: &mut Vec<u8>,
     arena: &Arena,
     id: SlotId,
     order: &Order,
+    rows: &mut Vec<(u32, u64)>,
     steps: &mut Steps<L>,
 ) -> Result<(), NoMemory>
     requires in_range { id.0 < length arena.now }
@@ -47,7 +51,7 @@ fn put_slot<L: Ledger>(
     ensures { OnOk result (out.new.items ≡ out.old.items ++ slot_bytes (moved order.now.places (slot_of arena.now id.0))) }
 {
     if arena.is_table(id) {
-        put_table(out, arena.table(id, steps), steps)
+        put_table(out, arena.table(id, steps), rows, steps)
     } else {
         put_node(out, arena, id, order, steps)
     }
@@ -67,9 +71,9 @@ fn put_node<L: Ledger>(
     ensures { OnOk result (out.new.items ≡ out.old.items ++ slot_bytes (moved order.now.places (slot_of arena.now id.0))) }
 {
     put(out, &[1])?;
-    let count = child_count(arena, id, steps);
+    let count = child_count(arena, id) as u16;
     put(out, &count.to_be_bytes())?;
-    put_children(out, arena, id, order, steps)?;
+    put_children(out, arena, id, order)?;
     match arena.content(id, steps) {
         Some(link) => put_link(out, link, order),
         None => put(out, &[0]),
@@ -77,23 +81,16 @@ fn put_node<L: Ledger>(
 }
 
 /// Puts the children of a node.
-fn put_children<L: Ledger>(
-    out: &mut Vec<u8>,
-    arena: &Arena,
-    id: SlotId,
-    order: &Order,
-    steps: &mut Steps<L>,
-) -> Result<(), NoMemory>
+fn put_children(out: &mut Vec<u8>, arena: &Arena, id: SlotId, order: &Order) -> Result<(), NoMemory>
     requires in_range { id.0 < length arena.now }
     requires is_node { IsNode (slot_of arena.now id.0) }
     requires able { CanPut arena.now order.now.numbers.items }
     ensures { OnOk result (out.new.items ≡ out.old.items ++ flat_map (λ c. child_bytes (moved_child order.now.places c)) (told_children arena.now id.0)) }
 {
-    let mut from = 0;
-    while let Some((label, link)) = next_child(arena, id, from, steps) {
+    for i in 0..child_count(arena, id) {
+        let (label, link) = arena.child_at(id, i);
         put(out, &[label])?;
         put_link(out, link, order)?;
-        from = u16::from(label) + 1;
     }
     Ok(())
 }
@@ -111,28 +108,24 @@ fn put_link(out: &mut Vec<u8>, link: Link, order: &Order) -> Result<(), NoMemory
 fn put_table<L: Ledger>(
     out: &mut Vec<u8>,
     table: &TimeTable,
+    rows: &mut Vec<(u32, u64)>,
     steps: &mut Steps<L>,
 ) -> Result<(), NoMemory>
     ensures { OnOk result (out.new.items ≡ out.old.items ++ table_bytes (word_rows table.now)) }
 {
+    read_rows(rows, table, steps)?;
     put(out, &[2])?;
-    put_number(out, row_count(table, steps))?;
-    put_rows(out, table, steps)
+    put_number(out, rows.len() as u64)?;
+    put_rows(out, rows)
 }
 
-/// Puts the rows of a time table.
-fn put_rows<L: Ledger>(
-    out: &mut Vec<u8>,
-    table: &TimeTable,
-    steps: &mut Steps<L>,
-) -> Result<(), NoMemory>
-    ensures { OnOk result (out.new.items ≡ out.old.items ++ flat_map row_bytes (word_rows table.now)) }
+/// Puts rows.
+fn put_rows(out: &mut Vec<u8>, rows: &[(u32, u64)]) -> Result<(), NoMemory>
+    ensures { OnOk result (out.new.items ≡ out.old.items ++ flat_map row_bytes rows.now) }
 {
-    let mut from = 0;
-    while let Some((bin, count)) = next_row(table, from, steps) {
-        put(out, &bin.to_be_bytes())?;
-        put_number(out, count)?;
-        from = u64::from(bin) + 1;
+    for row in rows {
+        put(out, &row.0.to_be_bytes())?;
+        put_number(out, row.1)?;
     }
     Ok(())
 }

@@ -53,12 +53,10 @@ fn write_in<L: Ledger>(
     let mut steps = Steps::<L>::new(blank);
     tell_order(arena);
     let order = order_of(alloc, arena, root, &mut steps)?;
-    let Some(len) = image_len(arena, order.places.as_slice(), &mut steps) else {
-        return Err(SaveFault::TooLong);
-    };
+    let len = image_len(alloc, arena, order.places.as_slice(), &mut steps)?;
     let mut out = room_for(alloc, len)?;
     put_head(&mut out, size, order.places.len() as u64)?;
-    put_slots(&mut out, arena, &order, &mut steps)?;
+    put_slots(alloc, &mut out, arena, &order, &mut steps)?;
     Ok(List::from_vec(out))
 }
 

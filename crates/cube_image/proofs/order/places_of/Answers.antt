@@ -6,8 +6,8 @@ pub returns-then-i-len-clause-within : goal.returns-then-i-len-clause-within
 returns-then-i-len-clause-within g c =
     λ k d lt. front-below c.args.arena.now c.loop-i.places c.loop-i.i k d c.requires.homes c.requires.readable.rising c.loop-i.invariant lt
 
-pub put_owned-requires-clause-in_range : goal.put_owned-requires-clause-in_range
-put_owned-requires-clause-in_range g c =
+pub put_owned-requires : goal.put_owned-requires
+put_owned-requires g c =
     let below = front-below c.args.arena.now c.loop-i.places c.loop-i.i c.loop-i.i c.get-place.result.now c.requires.homes c.requires.readable.rising c.loop-i.invariant (omega arith) in
     omega (arith, below, c.get-place.ensures)
 

@@ -1,14 +1,11 @@
-use Rattle.std.proofs.Common.{ℕ, arith}
-use Rattle.node_arena.specs.declared.link.Link.{Link}
-use Rattle.cube_image.specs.Bytes.{child_bytes}
-use Rattle.cube_image.specs.Order.{moved_child}
-use Rattle.cube_image.specs.Rest.{told_children}
-use Rattle.cube_image.proofs.Linking.{children-rise}
-use Rattle.cube_image.proofs.Moving.{read_none}
+use Rattle.std.proofs.Common.{ap, length, arith}
+use Rattle.cube_view.specs.Walks.{down}
+use Rattle.cube_image.proofs.Linking.{linked_at}
 use Rattle.cube_image.proofs.print.put_children.Goals as goal
 
-pub loop-label-init : goal.loop-label-init
-loop-label-init g c = record {
-  last = omega arith;
-  left = read_none (λ (k : ℕ × Link). child_bytes (moved_child c.args.order.now.places k)) c.args.out.now.items (told_children c.args.arena.now c.args.id.0) (children-rise c.args.arena.now c.args.id.0 c.requires.able.readable c.requires.in_range);
-}
+pub put_link-requires : goal.put_link-requires
+put_link-requires c =
+    let all = ap length c.child_count-i-end.ensures.all in
+    let link = linked_at c.args.arena.now c.args.id.0 c.loop-i.i c.child_at-label.result c.child_at-label.ensures.in_order (omega (arith, all, c.child_count-i-end.ensures.count, c.loop-i-test.true)) c.child_at-label.ensures.child in
+    let target = c.requires.able.readable.targets c.args.id.0 (down c.child_at-label.result.0) c.child_at-label.result.1 link in
+    omega (arith, target, c.requires.able.numbered)
