@@ -5,7 +5,7 @@ use Rattle.std.proofs.Math.Logic.{∥∥₁_elim}
 use Rattle.std.proofs.lemmas.List.{length-map, get_or-map}
 use Rattle.std.proofs.lemmas.List.Sums.{sum_by_more_le}
 use Rattle.std.proofs.lemmas.List.Folds.{flat_map-map}
-use Rattle.std.specs.Int.{to_be_bytes, w16, w32, w64}
+use Rattle.std.specs.Int.{to_be_bytes, w16}
 use Rattle.std.specs.List.{flat_map}
 use Rattle.cube_view.specs.Walks.{across}
 use Rattle.time_table.specs.Counts.{BinCounts}
@@ -13,7 +13,7 @@ use Rattle.node_arena.specs.declared.link.Link.{Link}
 use Rattle.node_arena.specs.Slots.{Children, Slot, node, table, IsNode, IsTable, children_of, counts_of, link, slot_of}
 use Rattle.node_arena.specs.Stats.{AllRising}
 use Rattle.node_arena.proofs.Reaching.{target-lt}
-use Rattle.cube_image.specs.Bytes.{child_bytes, row_bytes, content_bytes, table_bytes, slot_bytes, head_bytes, image_bytes}
+use Rattle.cube_image.specs.Bytes.{child_bytes, content_bytes, table_bytes, slot_bytes, head_bytes, image_bytes}
 use Rattle.cube_image.specs.Conditions.{HasSomeHomes, IsReadable}
 use Rattle.cube_image.specs.Image.{most_bytes, image_length, IsWritten, HasLongImage}
 use Rattle.cube_image.specs.Order.{moved, moved_child, moved_content, IsOrder, in_order}
@@ -29,18 +29,18 @@ readable slots some R = record {
 }
 
 -- a node is put: its number of children, the children, and the content
-pub node_put : (places : List ℕ) (s : Slot) (content : Option Link) (out a b c new : List ℕ) → IsNode s → content ≡ link s across → a ≡ out ++ 1 ∷ [] → b ≡ a ++ to_be_bytes w16 (length (byte_children (children_of s))) → c ≡ b ++ flat_map (λ k. child_bytes (moved_child places k)) (byte_children (children_of s)) → new ≡ c ++ content_bytes (moved_content places content) → new ≡ out ++ slot_bytes (moved places s)
-node_put places (table counts) content out a b c new is at one two three four = absurd (true≢false is)
-node_put places (node children own) content out a b c new is at one two three four =
+pub node_put : (places : List ℕ) (s : Slot) (content : Option Link) (out b c new : List ℕ) → IsNode s → content ≡ link s across → b ≡ out ++ (1 ∷ to_be_bytes w16 (length (byte_children (children_of s)))) → c ≡ b ++ flat_map (λ k. child_bytes (moved_child places k)) (byte_children (children_of s)) → new ≡ c ++ content_bytes (moved_content places content) → new ≡ out ++ slot_bytes (moved places s)
+node_put places (table counts) content out b c new is at two three four = absurd (true≢false is)
+node_put places (node children own) content out b c new is at two three four =
     let same = byte_children-map places children in
     let kids : flat_map (λ k. child_bytes (moved_child places k)) (byte_children children) ≡ flat_map child_bytes (byte_children (map (moved_child places) children)) = sym (flat_map-map child_bytes (moved_child places) (byte_children children)) ∙ ap (λ (cs : Children). flat_map child_bytes cs) (sym same) in
     let count : to_be_bytes w16 (length (byte_children children)) ≡ to_be_bytes w16 (length (byte_children (map (moved_child places) children))) = ap (λ n. to_be_bytes w16 n) (sym (ap length same ∙ length-map (byte_children children) (moved_child places))) in
     let last : content_bytes (moved_content places content) ≡ content_bytes (moved_content places own) = ap (λ o. content_bytes (moved_content places o)) at in
-    joined out a b c new (to_be_bytes w16 (length (byte_children (map (moved_child places) children)))) (flat_map child_bytes (byte_children (map (moved_child places) children))) (content_bytes (moved_content places own)) one (two ∙ ap (λ (t : List ℕ). a ++ t) count) (three ∙ ap (λ (t : List ℕ). b ++ t) kids) (four ∙ ap (λ (t : List ℕ). c ++ t) last)
+    joined out b c new (to_be_bytes w16 (length (byte_children (map (moved_child places) children)))) (flat_map child_bytes (byte_children (map (moved_child places) children))) (content_bytes (moved_content places own)) (two ∙ ap (λ (t : List ℕ). out ++ (1 ∷ t)) count) (three ∙ ap (λ (t : List ℕ). b ++ t) kids) (four ∙ ap (λ (t : List ℕ). c ++ t) last)
   where
-    joined : (out a b c new count kids last : List ℕ) → a ≡ out ++ 1 ∷ [] → b ≡ a ++ count → c ≡ b ++ kids → new ≡ c ++ last → new ≡ out ++ ((1 ∷ []) ++ count ++ kids ++ last)
-    joined out a b c new count kids last one two three four =
-        let first : b ≡ out ++ ((1 ∷ []) ++ count) = two ∙ (ap (λ (t : List ℕ). t ++ count) one ∙ append_assoc out (1 ∷ []) count) in
+    joined : (out b c new count kids last : List ℕ) → b ≡ out ++ (1 ∷ count) → c ≡ b ++ kids → new ≡ c ++ last → new ≡ out ++ ((1 ∷ []) ++ count ++ kids ++ last)
+    joined out b c new count kids last two three four =
+        let first : b ≡ out ++ ((1 ∷ []) ++ count) = two in
         let second : c ≡ out ++ ((1 ∷ []) ++ count ++ kids) = three ∙ (ap (λ (t : List ℕ). t ++ kids) first ∙ append_assoc out ((1 ∷ []) ++ count) kids) in
         four ∙ (ap (λ (t : List ℕ). t ++ last) second ∙ append_assoc out ((1 ∷ []) ++ count ++ kids) last)
 
@@ -63,12 +63,6 @@ image_long slots size places O long = record {
   image = record { places = places; ordered = O; text = refl };
   long = let e = length-image slots size places in omega (arith, e, long);
 }
-
--- a row more is put
-pub row_put : (start out a new bytes : List ℕ) (i : ℕ) (rows : List (ℕ × ℕ)) (d : ℕ × ℕ) → i < length rows → out ≡ start ++ flat_map row_bytes (take i rows) → a ≡ out ++ bytes → bytes ≡ to_be_bytes w32 (get_or rows i d).0 → new ≡ a ++ to_be_bytes w64 (get_or rows i d).1 → new ≡ start ++ flat_map row_bytes (take (i + 1) rows)
-row_put start out a new bytes i rows d lt before one is two =
-    put_more row_bytes start out new rows i d lt before
-    (two ∙ (ap (λ (t : List ℕ). t ++ to_be_bytes w64 (get_or rows i d).1) (one ∙ ap (λ (t : List ℕ). out ++ t) is) ∙ append_assoc out (to_be_bytes w32 (get_or rows i d).0) (to_be_bytes w64 (get_or rows i d).1)))
 
 -- a slot more is put
 pub slot_put : (slots : List Slot) (places items start out new : List ℕ) (i : ℕ) → items ≡ places → i < length items → out ≡ start ++ flat_map slot_bytes (take i (in_order slots places)) → new ≡ out ++ slot_bytes (moved places (slot_of slots (get_or items i 0))) → new ≡ start ++ flat_map slot_bytes (take (i + 1) (in_order slots places))

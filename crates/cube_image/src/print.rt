@@ -2,12 +2,12 @@
 ghost use Rattle.std.specs.Prelude.{◌≡◌, ◌<◌, ◌++◌, length, OnOk, All};
 ghost use Rattle.std.specs.List.{flat_map};
 ghost use Rattle.node_arena.specs.Slots.{IsNode, slot_of, children_of, target};
-ghost use Rattle.cube_image.specs.Bytes.{link_bytes, child_bytes, row_bytes, table_bytes, slot_bytes};
+ghost use Rattle.cube_image.specs.Bytes.{kind_byte, link_bytes, child_bytes, row_bytes, table_bytes, slot_bytes};
 ghost use Rattle.cube_image.specs.Conditions.{CanPut};
-ghost use Rattle.cube_image.specs.Order.{moved, moved_child, moved_link, in_order};
+ghost use Rattle.cube_image.specs.Order.{order_number, moved, moved_child, moved_link, in_order};
 ghost use Rattle.cube_image.specs.Rest.{word_rows, told_children};
 
-use crate::bytes::{put, put_number};
+use crate::bytes::{put, put_labelled, put_marked, put_pair, put_short};
 use crate::children::child_count;
 use crate::order::Order;
 use crate::rows::read_rows;
@@ -70,9 +70,7 @@ fn put_node<L: Ledger>(
     requires able { CanPut arena.now order.now.numbers.items }
     ensures { OnOk result (out.new.items ≡ out.old.items ++ slot_bytes (moved order.now.places (slot_of arena.now id.0))) }
 {
-    put(out, &[1])?;
-    let count = child_count(arena, id) as u16;
-    put(out, &count.to_be_bytes())?;
+    put_short(out, 1, child_count(arena, id) as u16)?;
     put_children(out, arena, id, order)?;
     match arena.content(id, steps) {
         Some(link) => put_link(out, link, order),
@@ -89,10 +87,17 @@ fn put_children(out: &mut Vec<u8>, arena: &Arena, id: SlotId, order: &Order) -> 
 {
     for i in 0..child_count(arena, id) {
         let (label, link) = arena.child_at(id, i);
-        put(out, &[label])?;
-        put_link(out, link, order)?;
+        put_child(out, label, link, order)?;
     }
     Ok(())
+}
+
+/// Puts a child: its label and its link.
+fn put_child(out: &mut Vec<u8>, label: u8, link: Link, order: &Order) -> Result<(), NoMemory>
+    requires { target link < length order.now.numbers.items }
+    ensures { OnOk result (out.new.items ≡ out.old.items ++ child_bytes (moved_child order.now.places (label, link))) }
+{
+    put_labelled(out, label, kind_of(link), number_of(link, order))
 }
 
 /// Puts a link, which leads to a place in the order.
@@ -100,8 +105,22 @@ fn put_link(out: &mut Vec<u8>, link: Link, order: &Order) -> Result<(), NoMemory
     requires { target link < length order.now.numbers.items }
     ensures { OnOk result (out.new.items ≡ out.old.items ++ link_bytes (moved_link order.now.places link)) }
 {
-    put(out, &[if link.is_proper() { 1 } else { 2 }])?;
-    put_number(out, order.numbers[link.to.0 as usize] as u64)
+    put_marked(out, kind_of(link), number_of(link, order))
+}
+
+/// The byte for the kind of a link.
+fn kind_of(link: Link) -> u8
+    ensures { result ≡ kind_byte link.kind }
+{
+    if link.is_proper() { 1 } else { 2 }
+}
+
+/// Where the target of a link stands in the order.
+fn number_of(link: Link, order: &Order) -> u64
+    requires { target link < length order.now.numbers.items }
+    ensures { result ≡ order_number order.now.places (target link) }
+{
+    order.numbers[link.to.0 as usize] as u64
 }
 
 /// Puts a time table: its number of rows, and the rows.
@@ -114,8 +133,7 @@ fn put_table<L: Ledger>(
     ensures { OnOk result (out.new.items ≡ out.old.items ++ table_bytes (word_rows table.now)) }
 {
     read_rows(rows, table, steps)?;
-    put(out, &[2])?;
-    put_number(out, rows.len() as u64)?;
+    put_marked(out, 2, rows.len() as u64)?;
     put_rows(out, rows)
 }
 
@@ -124,8 +142,7 @@ fn put_rows(out: &mut Vec<u8>, rows: &[(u32, u64)]) -> Result<(), NoMemory>
     ensures { OnOk result (out.new.items ≡ out.old.items ++ flat_map row_bytes rows.now) }
 {
     for row in rows {
-        put(out, &row.0.to_be_bytes())?;
-        put_number(out, row.1)?;
+        put_pair(out, row.0, row.1)?;
     }
     Ok(())
 }
