@@ -26,6 +26,7 @@ SECTIONS = {
     "scaling": ["python3 {bench}/scaling.py {program}"],
     "refused": ["python3 {bench}/judge_interrupted.py {program} {refuse}", "python3 {bench}/judge_interrupted.py {program} {refuse} rows",
                 "python3 {bench}/judge_images.py {program} {refuse}"],
+    "least": ["python3 {bench}/judge_least.py {program}"],
 }
 MANIFEST = """[package]
 name = "feed_lines"
