@@ -87,19 +87,23 @@ part_at place pile = slice_range pile place.part.at place.part.end
 abbrev pub root_of : SlotId → ℕ → Place
 root_of root end = record { dim = 1; level = 0; at = root; part = record { at = 0; end = end }; way = record { values = None ∷ None ∷ None ∷ None ∷ None ∷ None ∷ []; roots = root ∷ root ∷ root ∷ root ∷ root ∷ root ∷ []; level = 0 } }
 
--- the same of a place, by its part of the pile and by the links that are put off
+-- a place can be visited, with its part of the pile and the links that were put off before
 abbrev pub CanVisitPart : Schema → List Slot → Place → List Point → List Pending → Type 0
 CanVisitPart schema slots place pile put = CanVisitAt schema slots place.way (entries put) place.dim place.level place.at.0 (part_at place pile)
 
+-- its visit has ended, with the links that were put off before and those afterwards
 abbrev pub VisitsPart : Schema → List Slot → List Slot → Place → List Point → List Pending → List Pending → Type 0
 VisitsPart schema old new place pile before after = VisitsAt schema old new place.way (entries before) (entries after) place.dim place.level place.at.0 (part_at place pile)
 
+-- its visit has begun, and the labels below `from` have been visited
 abbrev pub CanPass : Schema → List Slot → Place → List Point → List Pending → Bool → ℕ → Type 0
 CanPass schema slots place pile put wide from = CanPassAt schema slots place.way (entries put) place.dim place.level place.at.0 (part_at place pile) wide from
 
+-- its content has been visited
 abbrev pub PassesContent : Schema → List Slot → List Slot → Place → List Point → List Pending → List Pending → Type 0
 PassesContent schema old new place pile before after = PassesContentAt schema old new place.way (entries before) (entries after) place.dim place.level place.at.0 (part_at place pile)
 
+-- all its labels have been visited
 abbrev pub PassesAll : Schema → List Slot → List Slot → Place → List Point → List Pending → List Pending → Bool → Type 0
 PassesAll schema mid new place pile put after wide = PassesAllAt schema mid new place.way (entries put) (entries after) place.dim place.level place.at.0 (part_at place pile) wide
 
