@@ -1,8 +1,8 @@
-"""judge_interrupted.py PROGRAM LIBRARY [rows]: runs with each call of one kind refused in turn (LIBRARY is bench/refuse.c, built),
+"""judge_interrupted.py PROGRAM LIBRARY [rows | BATCH]: runs with each call of one kind refused in turn (LIBRARY is bench/refuse.c, built),
 judged by what docs/FORMATS.md says of status, report and files. Each ends with 1 at the first run that is wrong.
 
-Without `rows` it is a plan of two feeds, an ask and a final, with each opening, read, write, half write, closing and allocation
-refused, judged by plain counts over the journal.
+Without `rows` it is a plan of two feeds, an ask and a final, published in batches of BATCH records (1), with each opening, read,
+write, half write, closing and allocation refused, judged by plain counts over the journal.
 With `rows` it is worked rows with each allocation refused: the counts of a feed of three records by `demo`; two feeds with an ask
 and a final; a final whose second put fails; and two categories. Such a run ends with the row's own status and text, or out of memory,
 and then it is judged as the others are."""
@@ -289,6 +289,7 @@ def main():
         for title, case in {"three records by demo": Demo(), **ROWS}.items():
             refuse_each(title, case, program, library, "FAIL_ALLOC")
         return
+    INTERRUPTED.plan["batch"] = int((sys.argv[3:] or [1])[0])
     for kind in ("FAIL_OPEN", "FAIL_READ", "FAIL_WRITE", "FAIL_SHORT", "FAIL_CLOSE", "FAIL_ALLOC"):
         refuse_each(kind, INTERRUPTED, program, library, kind)
 

@@ -24,7 +24,7 @@ SECTIONS = {
               "python3 {bench}/live_times.py city {both} --rounds 1", "python3 {bench}/live_times.py memory {program} --counts 3600,100000,1000000,4000000",
               "python3 {bench}/short_runs.py three {program} --runs 10000 --beside 4", "python3 {bench}/short_runs.py judged {program} --runs 1000 --beside 4"],
     "scaling": ["python3 {bench}/scaling.py {program}"],
-    "refused": ["python3 {bench}/judge_interrupted.py {program} {refuse}", "python3 {bench}/judge_interrupted.py {program} {refuse} rows",
+    "refused": ["python3 {bench}/judge_interrupted.py {program} {refuse}", "python3 {bench}/judge_interrupted.py {program} {refuse} 64", "python3 {bench}/judge_interrupted.py {program} {refuse} rows",
                 "python3 {bench}/judge_images.py {program} {refuse}"],
     "least": ["python3 {bench}/judge_least.py {program}"],
 }
