@@ -3,7 +3,7 @@
 PROGRAM reads by `save` with a plan that starts after all times: each row is split, its numbers are read and its value is found,
 and then it is refused as too early, so that nothing is inserted. PEER is bench/feed_lines.rs, which reads the same lines by the
 Rust crate `csv`. Printed for each feed: processor seconds for N lines (1,000,000), the least of R rounds (9) in turn, and
-instructions a line where `valgrind` is installed, as the difference of a tenth of the lines and of none."""
+instructions a line where `valgrind` is installed, as the difference of 5,000 lines and of none."""
 import argparse, json, os, re, shutil, subprocess, tempfile
 
 from pipes import plan_of
@@ -66,7 +66,7 @@ def measure(programs, lines, rounds):
             least = [min(timed(words[0], words[1:], folder)[3] for _ in range(rounds)) for words in programs]
             told = [f"{seconds:.3f} s" for seconds in least]
             if shutil.which("valgrind"):
-                told = [f"{text}, {a_line(words, folder, header, line, lines // 10):.0f} instructions a line" for text, words in zip(told, programs)]
+                told = [f"{text}, {a_line(words, folder, header, line, min(lines, 5_000)):.0f} instructions a line" for text, words in zip(told, programs)]
             print(f"{name}, {size:.1f} MB: {told[0]}; plain Rust {told[1]}; {least[0] / least[1]:.2f} times", flush=True)
 
 

@@ -30,7 +30,7 @@ def feed(path, records, depth, values, bins, clustered):
 
 def measure(nanocube, records, depth, values, bins, clustered):
     with tempfile.TemporaryDirectory() as top:
-        plan = {"asks": [], "batch": 64, "depth": depth, "feeds": ["a.csv"], "finals": [], "journal": "j.txt", "start": 0, "version": 1,
+        plan = {"asks": [], "batch": 65536, "depth": depth, "feeds": ["a.csv"], "finals": [], "journal": "j.txt", "start": 0, "version": 1,
                 "width": 1, "categories": [{"name": f"c{k}", "values": [f"v{v}" for v in range(n)]} for k, n in enumerate(values)]}
         with open(os.path.join(top, "plan.json"), "w", encoding="utf-8") as file:
             json.dump(plan, file)
