@@ -6,6 +6,8 @@ proper where no walk that is longer in an earlier dimension has all the records 
 root and at the end of each proper link. A batch of one record is inserted by itself, so sizes that leave one over are not drawn."""
 import json, os, random, subprocess, sys, tempfile
 
+from pipes import plan_of
+
 BATCHES = (2, 3, 7, 64, 65536)
 
 
@@ -77,11 +79,10 @@ def case(program, folder, rng):
         again = rows and rng.random() < 0.3
         rows.append(rng.choice(rows) if again else (rng.randrange(1 << depth), rng.randrange(1 << depth), [rng.randrange(len(it)) for it in values]))
     names = [f"c{k}" for k in range(few)]
-    with open(os.path.join(folder, "feed.csv"), "w", encoding="utf-8") as it:
+    with open(os.path.join(folder, "feed0.csv"), "w", encoding="utf-8") as it:
         it.write(",".join(["x", "y", "time", *names]) + "\n")
         it.writelines(",".join(map(str, [x, y, rng.randrange(5), *(f"v{n}" for n in chosen)])) + "\n" for x, y, chosen in rows)
-    plan = {"asks": [], "batch": batch, "categories": [{"name": name, "values": it} for name, it in zip(names, values)], "depth": depth,
-            "feeds": ["feed.csv"], "finals": [], "journal": "j.txt", "start": 0, "version": 1, "width": 1}
+    plan = plan_of(1, 0, batch, depth, list(zip(names, values)))
     with open(os.path.join(folder, "plan.json"), "w", encoding="utf-8") as it:
         json.dump(plan, it)
     for words in (["save", "plan.json", "cube.img"], ["load", "plan.json", "cube.img", "script.txt"]):

@@ -11,6 +11,7 @@ city: a month of incidents at depth 16, 64 by 64 places, two categories, hours.
 checkins: depth 15, hour and weekday, 170,000 places round 400 towns, of which few are visited often, in rising order of time."""
 import argparse, json, os, random, subprocess, tempfile
 
+from pipes import plan_of
 from run_times import step, timed
 
 
@@ -21,9 +22,7 @@ class Kind:
         self.depth, self.categories, self.width, self.start, self.make = depth, categories, width, start, make
 
     def plan(self, feeds, batch):
-        return {"asks": [], "batch": batch, "categories": [{"name": name, "values": values} for name, values in self.categories],
-                "depth": self.depth, "feeds": [f"feed{f}.csv" for f in range(feeds)], "finals": ["final.txt"], "journal": "journal.txt",
-                "start": self.start, "version": 1, "width": self.width}
+        return plan_of(feeds, 0, batch, self.depth, self.categories, self.width, self.start, ["final.txt"])
 
     def write(self, folder, records, feeds):
         """The records as so many feeds, in turn, and as the numbers that bench/groups.rs reads."""

@@ -7,27 +7,27 @@ const DEPTH: usize = 10;
 const NONE: u32 = u32::MAX;
 
 #[derive(Clone, Copy)]
-struct Child {
+pub struct Child {
     to: u32,
     label: u8,
     shared: bool,
 }
 
 #[derive(Clone)]
-enum Slot {
+pub enum Slot {
     Node { children: Vec<Child>, content: u32, shared: bool },
     Table(Vec<(u32, u64)>),
 }
 
-struct Cube {
-    slots: Vec<Slot>,
+pub struct Cube {
+    pub slots: Vec<Slot>,
     visits: u64,
     changes: u64,
 }
 
-struct Point {
-    labels: Vec<Vec<u8>>,
-    bin: u32,
+pub struct Point {
+    pub labels: Vec<Vec<u8>>,
+    pub bin: u32,
 }
 
 fn point(x: u32, y: u32, values: &[u8], bin: u32) -> Point {
@@ -43,7 +43,7 @@ fn point(x: u32, y: u32, values: &[u8], bin: u32) -> Point {
 }
 
 impl Cube {
-    fn new() -> Cube {
+    pub fn new() -> Cube {
         let mut cube = Cube { slots: Vec::new(), visits: 0, changes: 0 };
         cube.add_node();
         cube
@@ -177,7 +177,7 @@ impl Cube {
         }
     }
 
-    fn insert(&mut self, point: &Point) {
+    pub fn insert(&mut self, point: &Point) {
         self.add(point, 0, 0, &mut HashSet::new());
     }
 

@@ -3,7 +3,7 @@
 
 python3 bench/scaling.py NANOCUBE [RECORDS]
 
-For each row makes a feed of RECORDS (200,000) records, uniform or clustered, saves its cube (`save`, one copy), and prints
+For each row makes a feed of RECORDS (200,000) records, uniform or clustered, saves its cube (`save`, one copy, in groups of 65,536), and prints
 the most memory a record, the image's bytes a record, and the processor seconds for a million records.
 """
 import json
