@@ -23,7 +23,7 @@ use Rattle.proper_path.proofs.Labels.{spot_of_schema, shape-point_path}
 use Rattle.proper_path.specs.Paths.{point_path, paths_of}
 use Rattle.cube_store.specs.Counted.{CountsPoints, HasPoints}
 use Rattle.cube_store.specs.Reading.{is_countable, spot_weight}
-use Rattle.cube_store.proofs.Telling.{IsOfSchema, of_schema, of_test, same_spot}
+use Rattle.cube_store.proofs.SpotPaths.{IsOfSchema, of_schema, of_test, same_spot}
 use Rattle.cube_store.proofs.Whole.{same_paths, under_whole}
 
 -- a spot lies under the whole walk of another one in its bin exactly where the two are one

@@ -15,7 +15,7 @@ use Rattle.node_arena.specs.Slots.{Slot}
 use Rattle.proper_path.specs.Paths.{point_path, paths_of}
 use Rattle.cube_store.specs.Counted.{AddsPoints, CountsPoints, HasPoints}
 use Rattle.cube_store.specs.Inserting.{Inserts}
-use Rattle.cube_store.proofs.Listing.{adds_under, counts_joined, shape_same}
+use Rattle.cube_store.proofs.PointLists.{adds_under, counts_joined, shape_same}
 
 -- slots that count a list count it in each order
 pub counts_permuted : (z : Schema) (slots : List Slot) (root size : ℕ) (h k : List Point) → IsPermutation h k → CountsPoints z slots root size h → CountsPoints z slots root size k

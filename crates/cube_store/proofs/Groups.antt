@@ -10,7 +10,7 @@ use Rattle.cube_view.specs.Points.{Point, spot_of, heaviest}
 use Rattle.cube_view.specs.Validity.{sound}
 use Rattle.cube_view.specs.declared.schema.Schema.{Schema}
 use Rattle.cube_view.proofs.Walking.{Contains-cases}
-use Rattle.group_insert.specs.InsertingAll.{CanInsertAll, HasAll, InsertsAll, IsInsertableAll}
+use Rattle.group_insert.specs.InsertingAll.{CanInsertAll, HasInserted, InsertsAll, IsInsertableAll}
 use Rattle.node_arena.specs.Amounts.{Weighted, spots_in}
 use Rattle.node_arena.specs.Shape.{HasShape}
 use Rattle.node_arena.specs.Slots.{Slot}
@@ -20,7 +20,7 @@ use Rattle.proper_path.specs.Paths.{point_path, paths_of}
 use Rattle.proper_path.proofs.Labels.{spot_of_schema}
 use Rattle.cube_store.specs.Counted.{AddsPoints, CountsPoints, HasPoints}
 use Rattle.cube_store.proofs.Batches.{counts_permuted}
-use Rattle.cube_store.proofs.Listing.{paths_alike, weight_within}
+use Rattle.cube_store.proofs.PointLists.{paths_alike, weight_within}
 
 -- a path of a list of points is that of a point
 point_with_path : (z : Schema) (h : List Point) (w : Weighted) → Contains (paths_of z h) w → (p : Point) × (point_path z p ≡ w)
@@ -62,7 +62,7 @@ can_insert_all z points slots root size are few R = ∥∥₁_map R (λ C. recor
 pub adds_group : (z : Schema) (points : List Point) (old new : List Slot) (root size : ℕ) → All (λ p. IsTrue (sound z p)) points → All (λ p. length (spot_of p).values ≡ 4) points → size + length points ≤ most_points → InsertsAll (time_dim z) (paths_of z points) old new → AddsPoints z root size points old new
 adds_group z points old new root size are four few I h C = counts_permuted z new root (size + length points) (points ++ h) (h ++ points) (IsPermutation-append_comm points h) counted
   where
-    r : HasAll (time_dim z) (paths_of z points ++ paths_of z h) new
+    r : HasInserted (time_dim z) (paths_of z points ++ paths_of z h) new
     r = I C.homes (paths_of z h) (insertable_all z points old root size h are few C)
 
     counted : CountsPoints z new root (size + length points) (points ++ h)

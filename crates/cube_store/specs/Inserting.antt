@@ -3,6 +3,7 @@ use Rattle.std.specs.Prelude.{◌<◌, ◌^◌, ℕ, List, ◌∷◌}
 use Rattle.cube_view.specs.Walks.{Walk}
 use Rattle.node_arena.specs.Amounts.{Weighted, spots_in}
 use Rattle.node_arena.specs.Shape.{HasShape}
+use Rattle.group_insert.specs.InsertingAll.{HasInserted}
 use Rattle.node_arena.specs.Slots.{Slot}
 use Rattle.point_insert.specs.Known.{total_weight}
 use Rattle.proper_path.specs.Making.{IsSpotOf, AllOfShape}
@@ -19,11 +20,6 @@ pub record CanInsert (dims : ℕ) (p : Weighted) (slots : List Slot) : Type 0 wh
   pub homes : List Walk
   pub points : List Weighted
   pub known : IsInsertable dims p slots homes points
-
--- homes are known with which the slots have the shape over these points
-pub record HasInserted (dims : ℕ) (h : List Weighted) (slots : List Slot) : Type 0 where
-  pub homes : List Walk
-  pub shape : HasShape dims slots homes h
 
 -- the new slots have the shape with p, for all homes and points that fitted
 abbrev pub Inserts : ℕ → Weighted → List Slot → List Slot → Type 0

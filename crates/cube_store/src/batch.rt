@@ -76,6 +76,7 @@ pub fn insert_group(
     ensures added { IfOk result (λ again. AddsPoints schema.now root.0 size points.now arena again) }
     ensures back { IfErr result (λ again. again ≡ arena) }
 {
+    // Room for changes is taken visit by visit: a bound for a whole group is far more than is changed.
     let mut work = Work::begin(alloc, arena, 0)?;
     match add_all(alloc, &mut work, schema, points, root, size) {
         Ok(()) => Ok(work.keep()),

@@ -82,6 +82,7 @@ impl Cube {
         ensures schema { self.new.schema ≡ self.old.schema }
     {
         tell_length(&point.spot.values);
+        // `Work` owns the arena while it changes, and gives it back either way.
         let arena = replace(&mut self.arena, Arena::new(self.alloc));
         match insert_into(self.alloc, arena, &self.schema, &point, self.root) {
             Ok(arena) => {
@@ -104,6 +105,7 @@ impl Cube {
         ensures unchanged { OnErr result ((self.new.arena ≡ self.old.arena) × (self.new.root ≡ self.old.root) × (self.new.size ≡ self.old.size)) }
         ensures schema { self.new.schema ≡ self.old.schema }
     {
+        // One point is inserted by the five cases: the numbers of a cube of single points are those of docs/CUBE.md.
         if let [point] = points {
             return self.insert(*point);
         }
@@ -171,6 +173,7 @@ fn add_at_root(
     ensures inserted { OnOk result (Inserts (time_dim schema.now) (point_path schema.now point.now) work.old.slots work.new.slots) }
     ensures start { work.new.start ≡ work.old.start }
 {
+    // 64 is a first room and no bound: the set grows where an insertion updates more contents.
     let mut updated = Updated::with_room(alloc, 64)?;
     add(alloc, work, schema, point, 1, root, &mut updated)
 }

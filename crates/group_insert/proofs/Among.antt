@@ -22,12 +22,12 @@ use Rattle.group_insert.specs.Turns.{EndedBefore, EndedAfter, IsOpenAbove}
 use Rattle.group_insert.specs.Visits.{ArePoints, HasVisitedAll, IsLabelOf, HasTwoLabels, HasOneLabel, HasNoLabel, TellsLabels, HasContentFor, PutsBelow, IsGone, IsAmong}
 use Rattle.group_insert.proofs.Earlier.{earlier-irreflexive}
 use Rattle.group_insert.proofs.Entries.{halfway_put_off}
-use Rattle.group_insert.proofs.Ending.{IsFinished, node_ends, last_label}
-use Rattle.group_insert.proofs.Grown.{halfway_made}
-use Rattle.group_insert.proofs.Keeping.{halfway_same}
+use Rattle.group_insert.proofs.VisitEnd.{IsFinished, node_ends, last_label}
+use Rattle.group_insert.proofs.Growth.{halfway_made}
+use Rattle.group_insert.proofs.SameState.{halfway_same}
 use Rattle.group_insert.proofs.OneChild.{one_child_free}
 use Rattle.group_insert.proofs.PutBelow.{no_more, one_more, puts_less, puts_on, put_stays, none_at}
-use Rattle.group_insert.proofs.Turned.{begins_content, begins_labels, content_to_labels, over_labels, past_label}
+use Rattle.group_insert.proofs.NextVisit.{begins_content, begins_labels, content_to_labels, over_labels, past_label}
 
 before_step : (g : List Weighted) (e : Step) (a : Walk) → HasSpot (spots_in g) (e ∷ a) → HasSpot (spots_in g) a
 before_step g e a w = record { spot = w.spot; is_in = w.is_in; lies = under_before w.spot e a w.lies }

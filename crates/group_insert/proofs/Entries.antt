@@ -15,8 +15,8 @@ use Rattle.group_insert.specs.Halfway.{LeadsRight, WillHaveTwo, PutsOff, IsHalfw
 use Rattle.group_insert.specs.Later.{PutOff, link_address, IsPutOff, IsPut}
 use Rattle.group_insert.specs.Turns.{IsEarlier, EndedBefore, EndedAfter, IsOpenAbove}
 use Rattle.group_insert.proofs.Earlier.{earlier_not_before}
-use Rattle.group_insert.proofs.Keeping.{IsSameTurn, halfway_same}
-use Rattle.group_insert.proofs.Sharing.{turn_after}
+use Rattle.group_insert.proofs.SameState.{IsSameTurn, halfway_same}
+use Rattle.group_insert.proofs.SharedContent.{turn_after}
 
 put_still : (put : List PutOff) (k : PutOff) (i : ℕ) (e : Step) → IsPut put i e → IsPut (put ++ k ∷ []) i e
 put_still put k i e (n, p, lt, at, same) = (n, p, omega (arith, lt, length_push put k), get_or_append_left put (k ∷ []) p n lt ∙ at, same)

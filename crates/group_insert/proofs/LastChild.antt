@@ -17,10 +17,10 @@ use Rattle.group_insert.specs.Later.{PutOff, IsPutOff, IsPut}
 use Rattle.group_insert.specs.Turns.{EndedBefore, EndedAfter, IsOpenAbove}
 use Rattle.group_insert.specs.Visits.{ArePoints, HasVisitedAll, IsLabelOf, HasOneLabel, IsGone, IsAmong}
 use Rattle.group_insert.proofs.Earlier.{lesser_earlier}
-use Rattle.group_insert.proofs.Ending.{IsFinished, node_ends, last_label}
+use Rattle.group_insert.proofs.VisitEnd.{IsFinished, node_ends, last_label}
 use Rattle.group_insert.proofs.OneChild.{one_child_leads, one_child_right}
-use Rattle.group_insert.proofs.Relinked.{MayLead, halfway_relinked}
-use Rattle.group_insert.proofs.Sharing.{turn_before}
+use Rattle.group_insert.proofs.SharedLink.{MayLead, halfway_relinked}
+use Rattle.group_insert.proofs.SharedContent.{turn_before}
 
 module _ (dims : ℕ) (h g : List Weighted) (old mid : List Slot) (homes : List Walk) (before put : List PutOff) (i l from : ℕ) (P : ArePoints dims h g) (lt : i < length old) (nd : is_table (slot_of old i) ≡ false) (w : HasSpot (spots_in g) (home_of homes i)) (T : HasOneLabel old homes g i l) (A : IsAmong dims h g old homes i (Some l) from mid before put) (none : (n : ℕ) (q : SpotPath) → from ≤ n → Contains (spots_in g) q → Under q (down n ∷ home_of homes i) → ⊥) where
   at : home_of A.homes' i ≡ home_of homes i

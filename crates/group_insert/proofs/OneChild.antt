@@ -14,9 +14,9 @@ use Rattle.proper_path.proofs.Links.{proper≢shared}
 use Rattle.group_insert.specs.Halfway.{LeadsRight, WillHaveTwo, IsHalfway}
 use Rattle.group_insert.specs.Later.{PutOff, IsPut}
 use Rattle.group_insert.specs.Visits.{AreOfShape}
-use Rattle.group_insert.proofs.Relinked.{MayLead}
-use Rattle.group_insert.proofs.Sharing.{one_not_two}
-use Rattle.group_insert.proofs.Standing.{shared_free}
+use Rattle.group_insert.proofs.SharedLink.{MayLead}
+use Rattle.group_insert.proofs.SharedContent.{one_not_two}
+use Rattle.group_insert.proofs.NewSlots.{shared_free}
 use Rattle.group_insert.proofs.StartEnd.{old_spot}
 
 -- a node that has no other child than at the label of the group's points has no content of its own

@@ -6,8 +6,8 @@ use Rattle.cube_view.specs.Points.{Point}
 use Rattle.cube_view.specs.Validity.{sound}
 use Rattle.cube_view.specs.declared.schema.Schema.{Schema}
 use Rattle.group_insert.specs.Labels.{label_at, points_at}
-use Rattle.group_insert.specs.Visiting.{HasPart}
-use Rattle.group_insert.proofs.Composing.{part_sound, picked}
+use Rattle.group_insert.specs.Visiting.{HasPartAt}
+use Rattle.group_insert.proofs.VisitCalls.{part_sound, picked}
 
 module _ (z : Schema) (dim level l at end below top stop : ℕ) (old new : List Point) (grown : new ≡ old ++ points_at z dim below l (slice_range old at end)) (b : below ≡ level + 1) (t : top ≡ length old) (s : stop ≡ length new) where
   -- it has the points of the label
@@ -19,7 +19,7 @@ module _ (z : Schema) (dim level l at end below top stop : ℕ) (old new : List 
       ∙ ap (λ x. points_at z dim x l (slice_range old at end)) b))
 
   -- and is a part again
-  pub next_has : HasPart z old at end → HasPart z new top stop
+  pub next_has : HasPartAt z old at end → HasPartAt z new top stop
   next_has H = record {
     ordered = let n = ap length grown in let m = length-append old (points_at z dim below l (slice_range old at end)) in omega (arith, n, m, t, s);
     within = omega (arith, s);

@@ -20,9 +20,9 @@ use Rattle.group_insert.specs.Later.{PutOff, IsPutOff}
 use Rattle.group_insert.specs.Parts.{part_of}
 use Rattle.group_insert.specs.Visiting.{IsOnWay}
 use Rattle.group_insert.specs.Ways.{value_gone, IsOpenIn, IsRootOn}
-use Rattle.group_insert.specs.declared.pending.Pending.{Pending}
+use Rattle.group_insert.specs.declared.put_off.PutOffLink.{PutOffLink}
 use Rattle.group_insert.specs.declared.way.Way.{Way}
-use Rattle.group_insert.proofs.Turning.{entry, may_put_off}
+use Rattle.group_insert.proofs.Turns.{entry, may_put_off}
 use Rattle.group_insert.proofs.Ways.{way_kept, way_in_space, way_across, way_down}
 
 -- the place of the root that was set, and those of the others
@@ -94,7 +94,7 @@ pub has_roots : (slots : List Slot) (homes : List Walk) (way : Way) (dim level i
 has_roots slots homes way dim level i W from some less o = (W.leads from (dim - from) some (omega (arith, less)) o).in_range
 
 -- so the entry that was found may be put off
-module _ (z : Schema) (group : List Point) (slots : List Slot) (homes : List Walk) (h : List Weighted) (way : Way) (dim level i l : ℕ) (part : List Point) (before after : List Pending) (W : IsOnWay slots homes way dim level i) (E : HasEntry z slots part way i l dim before after) where
+module _ (z : Schema) (group : List Point) (slots : List Slot) (homes : List Walk) (h : List Weighted) (way : Way) (dim level i l : ℕ) (part : List Point) (before after : List PutOffLink) (W : IsOnWay slots homes way dim level i) (E : HasEntry z slots part way i l dim before after) where
   abbrev from : ℕ
   from = E.turn.from
 

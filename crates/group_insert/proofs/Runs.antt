@@ -15,7 +15,7 @@ use Rattle.arena_undo.proofs.RunTrail.{run_none, table_add_run-cons}
 use Rattle.proper_path.proofs.Leaving.{turned}
 use Rattle.proper_path.proofs.Links.{slot-set_same}
 use Rattle.group_insert.specs.Added.{IsAdded, IsOneBin, IsRunOf, amount_in, part_weight}
-use Rattle.group_insert.proofs.Adding.{added_none, added_more}
+use Rattle.group_insert.proofs.TableAmounts.{added_none, added_more}
 
 -- how much one point has in a bin
 abbrev gives : ℕ → Point → ℕ

@@ -20,9 +20,9 @@ use Rattle.group_insert.specs.FinerWalk.{entry_of, finer_steps, LeadInside, IsSe
 use Rattle.group_insert.specs.Later.{PutOff, IsPutOff}
 use Rattle.group_insert.specs.Settling.{entries, CanSettle, SettlesTo}
 use Rattle.group_insert.specs.Visits.{PutsBelow}
-use Rattle.group_insert.specs.declared.pending.Pending.{Pending}
+use Rattle.group_insert.specs.declared.put_off.PutOffLink.{PutOffLink}
 use Rattle.group_insert.proofs.Entries.{last_of}
-use Rattle.group_insert.proofs.Settling.{last_settles, last_is_set}
+use Rattle.group_insert.proofs.LastLink.{last_settles, last_is_set}
 
 -- the last entry is one of those that were put behind
 module _ (homes : List Walk) (x : Walk) (before rest : List PutOff) (k : PutOff) (P : PutsBelow homes x before (rest ++ k ∷ [])) (some : length before < length (rest ++ k ∷ [])) where
@@ -129,7 +129,7 @@ can_settle_on kept a b put left P R = ∥∥₁_map R (λ C. record {
 })
 
 -- the same of a list from whose end an entry was taken
-module _ (kept : ℕ) (start slots : List Slot) (put : List PutOff) (items rest : List Pending) (p : Pending) (is : items ≡ rest ++ p ∷ []) (some : kept < length items) (S : SettlesTo kept start slots put (entries items)) where
+module _ (kept : ℕ) (start slots : List Slot) (put : List PutOff) (items rest : List PutOffLink) (p : PutOffLink) (is : items ≡ rest ++ p ∷ []) (some : kept < length items) (S : SettlesTo kept start slots put (entries items)) where
   split : entries items ≡ entries rest ++ entry_of p ∷ []
   split = ap entries is ∙ map-append (λ q. entry_of q) rest (p ∷ [])
 

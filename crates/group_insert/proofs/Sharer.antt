@@ -12,7 +12,7 @@ use Rattle.node_arena.specs.declared.link.Link.{Link}
 use Rattle.point_insert.specs.Visited.{TellsOnlyChild}
 use Rattle.group_insert.specs.Visiting.{CanShare}
 use Rattle.group_insert.proofs.LastChild.{child, child_in, child_node, only_is}
-use Rattle.group_insert.proofs.Passing.{part_node, part_spot}
+use Rattle.group_insert.proofs.VisitSteps.{part_node, part_spot}
 use Rattle.proper_path.specs.Paths.{paths_of}
 
 module _ (slots : List Slot) (i : ℕ) where

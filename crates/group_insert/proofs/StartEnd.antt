@@ -15,11 +15,11 @@ use Rattle.proper_path.specs.Order.{IsAbove, itself, further}
 use Rattle.proper_path.specs.Making.{IsSpotOf, AllOfShape}
 use Rattle.proper_path.proofs.Order.{above-length}
 use Rattle.group_insert.specs.Halfway.{LeadsRight, WillHaveTwo, IsHalfwayBefore, IsHalfwayAfter}
-use Rattle.group_insert.specs.InsertingAll.{IsInsertableAll, HasAll}
+use Rattle.group_insert.specs.InsertingAll.{IsInsertableAll, HasInserted}
 use Rattle.group_insert.specs.Later.{IsPut}
 use Rattle.group_insert.specs.Turns.{IsEarlier, crosses, lesser, EndedBefore, EndedAfter, IsOpenAbove}
-use Rattle.group_insert.proofs.Putting.{none_put}
-use Rattle.group_insert.proofs.Sharing.{one_not_two}
+use Rattle.group_insert.proofs.LinksPutOff.{none_put}
+use Rattle.group_insert.proofs.SharedContent.{one_not_two}
 
 -- nothing comes before the top, and nothing stands above it
 not_above_top : {e : Step} {a b : Walk} → IsAbove (e ∷ a) b → b ≡ [] → ⊥
@@ -142,7 +142,7 @@ alike_all dims (w ∷ g) h some A P = record {
   same = A w (Contains-head g w);
 }
 
-pub shape_with : (dims : ℕ) (old new : List Slot) (homes homes' : List Walk) (h g : List Weighted) → 0 < length g → IsInsertableAll dims g old homes h → IsHalfwayAfter dims new homes' h g [] [] → HasAll dims (g ++ h) new
+pub shape_with : (dims : ℕ) (old new : List Slot) (homes homes' : List Walk) (h g : List Weighted) → 0 < length g → IsInsertableAll dims g old homes h → IsHalfwayAfter dims new homes' h g [] [] → HasInserted dims (g ++ h) new
 shape_with dims old new homes homes' h g some K M = record {
   homes = homes';
   shape = record {

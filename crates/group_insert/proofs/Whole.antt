@@ -11,10 +11,10 @@ use Rattle.group_insert.specs.InsertingAll.{CanInsertAll, InsertsAll}
 use Rattle.group_insert.specs.FinerWalk.{entry_of}
 use Rattle.group_insert.specs.Settling.{entries}
 use Rattle.group_insert.specs.Visiting.{root_of, CanVisitAt, CanVisitPart, VisitsAt, VisitsPart}
-use Rattle.group_insert.specs.declared.pending.Pending.{Pending}
+use Rattle.group_insert.specs.declared.put_off.PutOffLink.{PutOffLink}
 use Rattle.node_arena.specs.declared.link.SlotId.{SlotId}
 use Rattle.std.proofs.lemmas.List.{length-map}
-use Rattle.group_insert.proofs.Passing.{root_visitable, inserts_all}
+use Rattle.group_insert.proofs.VisitSteps.{root_visitable, inserts_all}
 use Rattle.proper_path.specs.Paths.{paths_of}
 
 -- what a call gives in two clauses
@@ -32,5 +32,5 @@ module _ (z : Schema) (group pile : List Point) (slots : List Slot) (root : Slot
       (∥∥₁_map R (λ C. record { group = group; homes = C.homes; counted = C.points; known = root_visitable z group slots root stop C.homes C.points at_root some C.known }))
 
   -- and afterwards it is inserted
-  pub root_visited : (new : List Slot) (after : List Pending) → 0 < length group → length after ≡ 0 → VisitsPart z slots new (root_of root stop) pile [] after → InsertsAll (time_dim z) (paths_of z group) slots new
+  pub root_visited : (new : List Slot) (after : List PutOffLink) → 0 < length group → length after ≡ 0 → VisitsPart z slots new (root_of root stop) pile [] after → InsertsAll (time_dim z) (paths_of z group) slots new
   root_visited new after some none V = inserts_all z group slots new root stop (entries after) at_root (length-map after (λ q. entry_of q) ∙ none) some (subst (λ x. VisitsAt z slots new (root_of root stop).way [] (entries after) 1 0 root.0 x) whole V)

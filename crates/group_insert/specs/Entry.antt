@@ -10,7 +10,7 @@ use Rattle.point_insert.specs.Visited.{place_of}
 use Rattle.group_insert.specs.FinerWalk.{finer_steps, entry_of}
 use Rattle.group_insert.specs.Labels.{TellsOneLabel}
 use Rattle.group_insert.specs.Ways.{way_from, IsOpenIn}
-use Rattle.group_insert.specs.declared.pending.Pending.{Pending}
+use Rattle.group_insert.specs.declared.put_off.PutOffLink.{PutOffLink}
 use Rattle.group_insert.specs.declared.way.Way.{Way}
 use Rattle.proper_path.specs.Rooted.{places_of}
 
@@ -24,7 +24,7 @@ root_at way from = slice_index_or (places_of way.roots) from 0
 
 -- the walk of the entry turns off in the dimension `from`, where all points of the part have one label, and the old link
 -- leads where that walk leads or is none
-pub record TurnsIn (schema : Schema) (slots : List Slot) (part : List Point) (way : Way) (node label dim from : ℕ) (old : Option SlotId) (p : Pending) : Type 0 where
+pub record TurnsIn (schema : Schema) (slots : List Slot) (part : List Point) (way : Way) (node label dim from : ℕ) (old : Option SlotId) (p : PutOffLink) : Type 0 where
   pub is : entry_of p ≡ record { node = node; label = label; base = root_at way from; turn = p.turn; way = way_from way.values from (dim - from - 1) }
   pub within : p.from + p.between < 6
   pub is_open : IsOpenIn way.values from
@@ -33,7 +33,7 @@ pub record TurnsIn (schema : Schema) (slots : List Slot) (part : List Point) (wa
   pub leads : (old ≡ None) ⊎ (walk_end slots (root_at way from) (finer_steps (entry_of p)) ≡ place_of old)
 
 -- so in some dimension before the node's
-pub record MayTurn (schema : Schema) (slots : List Slot) (part : List Point) (way : Way) (node label dim : ℕ) (old : Option SlotId) (p : Pending) : Type 0 where
+pub record MayTurn (schema : Schema) (slots : List Slot) (part : List Point) (way : Way) (node label dim : ℕ) (old : Option SlotId) (p : PutOffLink) : Type 0 where
   pub from : ℕ
   pub some : 1 ≤ from
   pub early : from < dim
@@ -45,15 +45,15 @@ TellsShared slots node label None = link_of slots node (down label) ≡ None
 TellsShared slots node label (Some to) = link_of slots node (down label) ≡ Some (shared to.0)
 
 -- the list has one entry more, for the label's link
-pub record HasEntry (schema : Schema) (slots : List Slot) (part : List Point) (way : Way) (node label dim : ℕ) (before after : List Pending) : Type 0 where
-  pub entry : Pending
+pub record HasEntry (schema : Schema) (slots : List Slot) (part : List Point) (way : Way) (node label dim : ℕ) (before after : List PutOffLink) : Type 0 where
+  pub entry : PutOffLink
   pub is : after ≡ before ++ entry ∷ []
   pub old : Option SlotId
   pub held : TellsShared slots node label old
   pub turn : MayTurn schema slots part way node label dim old entry
 
 -- whether the link of a label has been put off, which is done at nodes alone that do not have one label
-abbrev pub TellsPut : Schema → List Slot → List Point → Way → ℕ → ℕ → ℕ → Bool → List Pending → List Pending → Bool → Type 0
+abbrev pub TellsPut : Schema → List Slot → List Point → Way → ℕ → ℕ → ℕ → Bool → List PutOffLink → List PutOffLink → Bool → Type 0
 TellsPut schema slots part way node label dim wide before after false = after ≡ before
 TellsPut schema slots part way node label dim wide before after true = (wide ≡ true) × HasEntry schema slots part way node label dim before after
 

@@ -6,7 +6,7 @@ use Rattle.node_arena.specs.declared.link.Link.{Link}
 use Rattle.proper_path.specs.Changes.{IsRelinked}
 use Rattle.group_insert.specs.Later.{PutOff}
 use Rattle.group_insert.specs.Ways.{way_from}
-use Rattle.group_insert.specs.declared.pending.Pending.{Pending}
+use Rattle.group_insert.specs.declared.put_off.PutOffLink.{PutOffLink}
 
 -- its steps from the base, the last one first
 abbrev pub finer_steps : PutOff → Walk
@@ -22,7 +22,7 @@ abbrev pub LeadInside : List Slot → Type 0
 LeadInside slots = (i : ℕ) (e : Step) (l : Link) → link_of slots i e ≡ Some l → target l < length slots
 
 -- what the entry of the list says in the words of walks
-abbrev pub entry_of : Pending → PutOff
+abbrev pub entry_of : PutOffLink → PutOff
 entry_of p = record { node = p.node.0; label = p.label; base = p.base.0; turn = p.turn; way = way_from p.values p.from p.between }
 
 -- the link of the entry was set to where its finer walk ends

@@ -23,10 +23,10 @@ pub record CanInsertAll (dims : ℕ) (g : List Weighted) (slots : List Slot) : T
   pub known : IsInsertableAll dims g slots homes points
 
 -- homes are known with which the slots have the shape over these points
-pub record HasAll (dims : ℕ) (h : List Weighted) (slots : List Slot) : Type 0 where
+pub record HasInserted (dims : ℕ) (h : List Weighted) (slots : List Slot) : Type 0 where
   pub homes : List Walk
   pub shape : HasShape dims slots homes h
 
 -- the new slots have the shape with the group, for all homes and points that fitted
 abbrev pub InsertsAll : ℕ → List Weighted → List Slot → List Slot → Type 0
-InsertsAll dims g old new = (homes : List Walk) (h : List Weighted) → IsInsertableAll dims g old homes h → HasAll dims (g ++ h) new
+InsertsAll dims g old new = (homes : List Walk) (h : List Weighted) → IsInsertableAll dims g old homes h → HasInserted dims (g ++ h) new

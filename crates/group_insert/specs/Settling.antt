@@ -9,10 +9,10 @@ use Rattle.group_insert.specs.FinerWalk.{entry_of}
 use Rattle.group_insert.specs.Halfway.{IsHalfwayAfter}
 use Rattle.group_insert.specs.Later.{PutOff}
 use Rattle.group_insert.specs.Visits.{ArePoints, PutsBelow}
-use Rattle.group_insert.specs.declared.pending.Pending.{Pending}
+use Rattle.group_insert.specs.declared.put_off.PutOffLink.{PutOffLink}
 
 -- the entries of a list, in the words of walks
-abbrev pub entries : List Pending → List PutOff
+abbrev pub entries : List PutOffLink → List PutOff
 entries items = map (λ p. entry_of p) items
 
 -- the visit of x, an address of space, has ended but for the entries that it put behind the others

@@ -19,7 +19,7 @@ use Rattle.group_insert.specs.Parts.{part_of}
 use Rattle.group_insert.specs.Settling.{entries}
 use Rattle.group_insert.specs.Visits.{ArePoints, HasVisitedAll, HasOneLabel, IsAmong}
 use Rattle.group_insert.specs.Ways.{value_gone, IsWayTo}
-use Rattle.group_insert.specs.declared.pending.Pending.{Pending}
+use Rattle.group_insert.specs.declared.put_off.PutOffLink.{PutOffLink}
 use Rattle.group_insert.specs.declared.visits.Place.{Place}
 use Rattle.group_insert.specs.declared.way.Way.{Way}
 use Rattle.proper_path.specs.Paths.{level_of, paths_of}
@@ -76,8 +76,8 @@ abbrev pub PassesContentAt : Schema → List Slot → List Slot → Way → List
 PassesContentAt schema old new way before after dim level i part = (group : List Point) (homes : List Walk) (h : List Weighted) → IsVisitableAt schema group old way before dim level i part homes h → IsAmong (time_dim schema) h (paths_of schema group) old homes i None 0 new before after
 
 -- all labels have been visited, for all of them that fitted
-abbrev pub PassesAllAt : Schema → List Slot → List Slot → Way → List PutOff → List PutOff → ℕ → ℕ → ℕ → List Point → Bool → Type 0
-PassesAllAt schema mid new way put after dim level i part wide = (from : ℕ) × PassesAt schema mid new way put after dim level i part wide 0 from × All (λ p. label_at schema dim (level + 1) p < from) part
+abbrev pub PassesLabelsAt : Schema → List Slot → List Slot → Way → List PutOff → List PutOff → ℕ → ℕ → ℕ → List Point → Bool → Type 0
+PassesLabelsAt schema mid new way put after dim level i part wide = (from : ℕ) × PassesAt schema mid new way put after dim level i part wide 0 from × All (λ p. label_at schema dim (level + 1) p < from) part
 
 -- the part of a place
 abbrev pub part_at : Place → List Point → List Point
@@ -88,27 +88,27 @@ abbrev pub root_of : SlotId → ℕ → Place
 root_of root end = record { dim = 1; level = 0; at = root; part = record { at = 0; end = end }; way = record { values = None ∷ None ∷ None ∷ None ∷ None ∷ None ∷ []; roots = root ∷ root ∷ root ∷ root ∷ root ∷ root ∷ []; level = 0 } }
 
 -- a place can be visited, with its part of the pile and the links that were put off before
-abbrev pub CanVisitPart : Schema → List Slot → Place → List Point → List Pending → Type 0
+abbrev pub CanVisitPart : Schema → List Slot → Place → List Point → List PutOffLink → Type 0
 CanVisitPart schema slots place pile put = CanVisitAt schema slots place.way (entries put) place.dim place.level place.at.0 (part_at place pile)
 
 -- its visit has ended, with the links that were put off before and those afterwards
-abbrev pub VisitsPart : Schema → List Slot → List Slot → Place → List Point → List Pending → List Pending → Type 0
+abbrev pub VisitsPart : Schema → List Slot → List Slot → Place → List Point → List PutOffLink → List PutOffLink → Type 0
 VisitsPart schema old new place pile before after = VisitsAt schema old new place.way (entries before) (entries after) place.dim place.level place.at.0 (part_at place pile)
 
 -- its visit has begun, and the labels below `from` have been visited
-abbrev pub CanPass : Schema → List Slot → Place → List Point → List Pending → Bool → ℕ → Type 0
+abbrev pub CanPass : Schema → List Slot → Place → List Point → List PutOffLink → Bool → ℕ → Type 0
 CanPass schema slots place pile put wide from = CanPassAt schema slots place.way (entries put) place.dim place.level place.at.0 (part_at place pile) wide from
 
 -- its content has been visited
-abbrev pub PassesContent : Schema → List Slot → List Slot → Place → List Point → List Pending → List Pending → Type 0
+abbrev pub PassesContent : Schema → List Slot → List Slot → Place → List Point → List PutOffLink → List PutOffLink → Type 0
 PassesContent schema old new place pile before after = PassesContentAt schema old new place.way (entries before) (entries after) place.dim place.level place.at.0 (part_at place pile)
 
 -- all its labels have been visited
-abbrev pub PassesAll : Schema → List Slot → List Slot → Place → List Point → List Pending → List Pending → Bool → Type 0
-PassesAll schema mid new place pile put after wide = PassesAllAt schema mid new place.way (entries put) (entries after) place.dim place.level place.at.0 (part_at place pile) wide
+abbrev pub PassesLabels : Schema → List Slot → List Slot → Place → List Point → List PutOffLink → List PutOffLink → Bool → Type 0
+PassesLabels schema mid new place pile put after wide = PassesLabelsAt schema mid new place.way (entries put) (entries after) place.dim place.level place.at.0 (part_at place pile) wide
 
 -- the labels from one on have been visited as far as the one named
-abbrev pub PassesTo : Schema → List Slot → List Slot → Place → List Point → List Pending → List Pending → Bool → ℕ → ℕ → Type 0
+abbrev pub PassesTo : Schema → List Slot → List Slot → Place → List Point → List PutOffLink → List PutOffLink → Bool → ℕ → ℕ → Type 0
 PassesTo schema mid new place pile put after wide from label = PassesAt schema mid new place.way (entries put) (entries after) place.dim place.level place.at.0 (part_at place pile) wide from (label + 1)
 
 -- all labels of a node have been visited that has one label
@@ -137,11 +137,11 @@ abbrev pub SharesOnly : List Slot → List Slot → ℕ → Type 0
 SharesOnly old new i = (label : ℕ) (k : Link) → HasOneChild old i label k → SharesOf old new i k
 
 -- the dimensions that entries name are those of ways
-abbrev pub AreEntries : List Pending → Type 0
+abbrev pub AreEntries : List PutOffLink → Type 0
 AreEntries put = All (λ p. p.from + p.between < 6) put
 
 -- a part stands in the pile, whose points are sound
-pub record HasPart (schema : Schema) (pile : List Point) (at end : ℕ) : Type 0 where
+pub record HasPartAt (schema : Schema) (pile : List Point) (at end : ℕ) : Type 0 where
   pub ordered : at ≤ end
   pub within : end ≤ length pile
   pub all_sound : All (λ p. IsTrue (sound schema p)) pile

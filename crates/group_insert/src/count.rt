@@ -80,6 +80,7 @@ fn gather_run(
     let mut place = from;
     let mut least = 0;
     for len in 0..run.len() {
+        // A table takes a run in rising bins alone.
         if place == part.len() || u64::from(part[place].spot.bin) < least {
             return (place, len);
         }
@@ -111,6 +112,7 @@ pub fn count_part(
     if part.len() == 1 {
         return count_point(work, schema, table, &part[0]);
     }
+    // On the stack, so that gathering takes no memory: 32 amounts are 512 bytes.
     let mut run = [(0u32, 0u64); 32];
     let mut from = 0;
     while from < part.len() {

@@ -7,7 +7,7 @@ ghost use Rattle.proper_path.specs.Paths.{paths_of};
 ghost use Rattle.group_insert.specs.InsertingAll.{CanInsertAll, InsertsAll};
 ghost use Rattle.group_insert.specs.Visiting.{root_of};
 
-use crate::pending::Pending;
+use crate::put_off::PutOffLink;
 use crate::visits::{Part, Place, visit};
 use crate::way::Way;
 use arena_undo::Work;
@@ -72,11 +72,12 @@ fn add_counted<L: Ledger>(
     ensures inserted { OnOk result (InsertsAll (time_dim schema.now) (paths_of schema.now points.now) work.old.slots work.new.slots) }
     ensures start { work.new.start ≡ work.old.start }
 {
+    // The points of a label are put behind these, and taken off when its child has been visited.
     let Ok(mut pile) = Vec::from_slice(alloc, points) else {
         return Err(NoMemory);
     };
-    let mut pending = Vec::<Pending>::new(alloc);
+    let mut put_off = Vec::<PutOffLink>::new(alloc);
     let place = root_place(root, points.len());
     let mut steps = Steps::<L>::new(blank);
-    visit(work, schema, &mut pile, &mut pending, &place, &mut steps)
+    visit(work, schema, &mut pile, &mut put_off, &place, &mut steps)
 }

@@ -2,13 +2,13 @@
 ghost use Rattle.std.specs.Prelude.{◌≡◌, ◌+◌, ◌<◌, ◌≤◌, Some, length, OnOk};
 ghost use Rattle.cube_view.specs.Places.{deepest, time_dim};
 ghost use Rattle.group_insert.specs.Labels.{TellsNextLabel};
-ghost use Rattle.group_insert.specs.Visiting.{part_at, CanVisitPart, VisitsPart, CanPass, PassesTo, PassesContent, PassesAll};
-ghost use Rattle.group_insert.specs.Visiting.{CanShare, SharesOnly, HasPart, AreEntries};
+ghost use Rattle.group_insert.specs.Visiting.{part_at, CanVisitPart, VisitsPart, CanPass, PassesTo, PassesContent, PassesLabels};
+ghost use Rattle.group_insert.specs.Visiting.{CanShare, SharesOnly, HasPartAt, AreEntries};
 
 use crate::count::count_part;
 use crate::node::{only_label, own_child, own_content};
 use crate::parts::{gather, next_label};
-use crate::pending::{Pending, settle_all};
+use crate::put_off::{PutOffLink, settle_all};
 use crate::way::{Way, below, on, put_later};
 use arena_undo::Work;
 use cube_view::{Point, Schema};
@@ -77,23 +77,24 @@ pub fn visit<L: Ledger>(
     work: &mut Work,
     schema: &Schema,
     pile: &mut Vec<Point>,
-    pending: &mut Vec<Pending>,
+    put_off: &mut Vec<PutOffLink>,
     place: &Place,
     steps: &mut Steps<L>,
 ) -> Result<(), NoMemory>
     requires dim { (1 ≤ place.now.dim) × (place.now.dim < time_dim schema.now) }
     requires level { place.now.level ≤ deepest schema.now place.now.dim }
-    requires part { HasPart schema.now pile.old.items place.now.part.at place.now.part.end × AreEntries pending.old.items }
-    requires known { ∥ CanVisitPart schema.now work.old.slots place.now pile.old.items pending.old.items ∥₁ }
-    ensures visited { OnOk result (VisitsPart schema.now work.old.slots work.new.slots place.now pile.old.items pending.old.items pending.new.items) }
-    ensures settled { OnOk result (place.now.dim ≡ 1 → length pending.new.items ≡ length pending.old.items) }
-    ensures pile { OnOk result ((pile.new.items ≡ pile.old.items) × AreEntries pending.new.items) }
+    requires part { HasPartAt schema.now pile.old.items place.now.part.at place.now.part.end × AreEntries put_off.old.items }
+    requires known { ∥ CanVisitPart schema.now work.old.slots place.now pile.old.items put_off.old.items ∥₁ }
+    ensures visited { OnOk result (VisitsPart schema.now work.old.slots work.new.slots place.now pile.old.items put_off.old.items put_off.new.items) }
+    ensures settled { OnOk result (place.now.dim ≡ 1 → length put_off.new.items ≡ length put_off.old.items) }
+    ensures pile { OnOk result ((pile.new.items ≡ pile.old.items) × AreEntries put_off.new.items) }
     ensures start { work.new.start ≡ work.old.start }
 {
-    let kept = pending.len();
-    visit_node(work, schema, pile, pending, place, steps)?;
+    let kept = put_off.len();
+    visit_node(work, schema, pile, put_off, place, steps)?;
+    // All that is finer in space has been visited by now, so each link that was put off below has its target.
     if place.dim == 1 {
-        return settle_all(work, pending, kept, steps);
+        return settle_all(work, put_off, kept, steps);
     }
     Ok(())
 }
@@ -104,31 +105,33 @@ fn visit_node<L: Ledger>(
     work: &mut Work,
     schema: &Schema,
     pile: &mut Vec<Point>,
-    pending: &mut Vec<Pending>,
+    put_off: &mut Vec<PutOffLink>,
     place: &Place,
     steps: &mut Steps<L>,
 ) -> Result<(), NoMemory>
     requires dim { (1 ≤ place.now.dim) × (place.now.dim < time_dim schema.now) }
     requires level { place.now.level ≤ deepest schema.now place.now.dim }
-    requires part { HasPart schema.now pile.old.items place.now.part.at place.now.part.end × AreEntries pending.old.items }
-    requires known { ∥ CanVisitPart schema.now work.old.slots place.now pile.old.items pending.old.items ∥₁ }
-    ensures visited { OnOk result (VisitsPart schema.now work.old.slots work.new.slots place.now pile.old.items pending.old.items pending.new.items) }
-    ensures pile { OnOk result ((pile.new.items ≡ pile.old.items) × AreEntries pending.new.items) }
+    requires part { HasPartAt schema.now pile.old.items place.now.part.at place.now.part.end × AreEntries put_off.old.items }
+    requires known { ∥ CanVisitPart schema.now work.old.slots place.now pile.old.items put_off.old.items ∥₁ }
+    ensures visited { OnOk result (VisitsPart schema.now work.old.slots work.new.slots place.now pile.old.items put_off.old.items put_off.new.items) }
+    ensures pile { OnOk result ((pile.new.items ≡ pile.old.items) × AreEntries put_off.new.items) }
     ensures start { work.new.start ≡ work.old.start }
 {
     if place.level == levels(schema, place.dim) {
-        return visit_content(work, schema, pile, pending, place, steps);
+        return visit_content(work, schema, pile, put_off, place, steps);
     }
     let below = one_below(schema, place.dim, place.level);
     let points = &pile[place.part.at..place.part.end];
     match only_label(work, schema, points, place.dim, below, place.at, steps) {
+        // Case 1: the child first, since its content is what the node shares.
         Some(_) => {
-            visit_labels(work, schema, pile, pending, place, false, steps)?;
+            visit_labels(work, schema, pile, put_off, place, false, steps)?;
             share_only(work, place.at, steps)
         }
+        // The content first: it is copied as it was before the group, and no set of updated contents is needed.
         None => {
-            visit_content(work, schema, pile, pending, place, steps)?;
-            visit_labels(work, schema, pile, pending, place, true, steps)
+            visit_content(work, schema, pile, put_off, place, steps)?;
+            visit_labels(work, schema, pile, put_off, place, true, steps)
         }
     }
 }
@@ -139,18 +142,19 @@ fn visit_content<L: Ledger>(
     work: &mut Work,
     schema: &Schema,
     pile: &mut Vec<Point>,
-    pending: &mut Vec<Pending>,
+    put_off: &mut Vec<PutOffLink>,
     place: &Place,
     steps: &mut Steps<L>,
 ) -> Result<(), NoMemory>
     requires dim { (1 ≤ place.now.dim) × (place.now.dim < time_dim schema.now) }
     requires level { place.now.level ≤ deepest schema.now place.now.dim }
-    requires part { HasPart schema.now pile.old.items place.now.part.at place.now.part.end × AreEntries pending.old.items }
-    requires known { ∥ CanVisitPart schema.now work.old.slots place.now pile.old.items pending.old.items ∥₁ }
-    ensures passed { OnOk result (PassesContent schema.now work.old.slots work.new.slots place.now pile.old.items pending.old.items pending.new.items) }
-    ensures pile { OnOk result ((pile.new.items ≡ pile.old.items) × AreEntries pending.new.items) }
+    requires part { HasPartAt schema.now pile.old.items place.now.part.at place.now.part.end × AreEntries put_off.old.items }
+    requires known { ∥ CanVisitPart schema.now work.old.slots place.now pile.old.items put_off.old.items ∥₁ }
+    ensures passed { OnOk result (PassesContent schema.now work.old.slots work.new.slots place.now pile.old.items put_off.old.items put_off.new.items) }
+    ensures pile { OnOk result ((pile.new.items ≡ pile.old.items) × AreEntries put_off.new.items) }
     ensures start { work.new.start ≡ work.old.start }
 {
+    // Cases 2 to 4. Case 5 does not come: a shared content lies at a finer address, whose turn is later.
     let content = own_content(work, schema, place.dim, place.at, steps)?;
     if is_time(schema, place.dim + 1) {
         return count_part(work, schema, content, &pile[place.part.at..place.part.end]);
@@ -162,7 +166,7 @@ fn visit_content<L: Ledger>(
         part: place.part,
         way: on(&place.way, place.dim, content),
     };
-    visit(work, schema, pile, pending, &next, steps)
+    visit(work, schema, pile, put_off, &next, steps)
 }
 
 /// Visits the children of all labels of a part, in their order. A `wide` node is one that does not have one label.
@@ -171,20 +175,21 @@ fn visit_labels<L: Ledger>(
     work: &mut Work,
     schema: &Schema,
     pile: &mut Vec<Point>,
-    pending: &mut Vec<Pending>,
+    put_off: &mut Vec<PutOffLink>,
     place: &Place,
     wide: bool,
     steps: &mut Steps<L>,
 ) -> Result<(), NoMemory>
     requires dim { (1 ≤ place.now.dim) × (place.now.dim < time_dim schema.now) }
     requires level { place.now.level < deepest schema.now place.now.dim }
-    requires part { HasPart schema.now pile.old.items place.now.part.at place.now.part.end × AreEntries pending.old.items }
-    requires known { ∥ CanPass schema.now work.old.slots place.now pile.old.items pending.old.items wide 0 ∥₁ }
-    ensures passed { OnOk result (PassesAll schema.now work.old.slots work.new.slots place.now pile.old.items pending.old.items pending.new.items wide) }
-    ensures pile { OnOk result ((pile.new.items ≡ pile.old.items) × AreEntries pending.new.items) }
+    requires part { HasPartAt schema.now pile.old.items place.now.part.at place.now.part.end × AreEntries put_off.old.items }
+    requires known { ∥ CanPass schema.now work.old.slots place.now pile.old.items put_off.old.items wide 0 ∥₁ }
+    ensures passed { OnOk result (PassesLabels schema.now work.old.slots work.new.slots place.now pile.old.items put_off.old.items put_off.new.items wide) }
+    ensures pile { OnOk result ((pile.new.items ≡ pile.old.items) × AreEntries put_off.new.items) }
     ensures start { work.new.start ≡ work.old.start }
 {
     let below = one_below(schema, place.dim, place.level);
+    // One more than the last of 256 labels is no byte.
     let mut from: u16 = 0;
     while let Some(label) = next_label(
         schema,
@@ -193,7 +198,7 @@ fn visit_labels<L: Ledger>(
         below,
         from,
     ) {
-        visit_label(work, schema, pile, pending, place, wide, from, label, steps)?;
+        visit_label(work, schema, pile, put_off, place, wide, from, label, steps)?;
         from = u16::from(label) + 1;
     }
     Ok(())
@@ -205,7 +210,7 @@ fn visit_label<L: Ledger>(
     work: &mut Work,
     schema: &Schema,
     pile: &mut Vec<Point>,
-    pending: &mut Vec<Pending>,
+    put_off: &mut Vec<PutOffLink>,
     place: &Place,
     wide: bool,
     from: u16,
@@ -214,14 +219,15 @@ fn visit_label<L: Ledger>(
 ) -> Result<(), NoMemory>
     requires dim { (1 ≤ place.now.dim) × (place.now.dim < time_dim schema.now) }
     requires level { place.now.level < deepest schema.now place.now.dim }
-    requires part { HasPart schema.now pile.old.items place.now.part.at place.now.part.end × AreEntries pending.old.items }
+    requires part { HasPartAt schema.now pile.old.items place.now.part.at place.now.part.end × AreEntries put_off.old.items }
     requires next { TellsNextLabel schema.now place.now.dim (place.now.level + 1) from (part_at place.now pile.old.items) (Some label) }
-    requires known { ∥ CanPass schema.now work.old.slots place.now pile.old.items pending.old.items wide from ∥₁ }
-    ensures passed { OnOk result (PassesTo schema.now work.old.slots work.new.slots place.now pile.old.items pending.old.items pending.new.items wide from label) }
-    ensures pile { OnOk result ((pile.new.items ≡ pile.old.items) × AreEntries pending.new.items) }
+    requires known { ∥ CanPass schema.now work.old.slots place.now pile.old.items put_off.old.items wide from ∥₁ }
+    ensures passed { OnOk result (PassesTo schema.now work.old.slots work.new.slots place.now pile.old.items put_off.old.items put_off.new.items wide from label) }
+    ensures pile { OnOk result ((pile.new.items ≡ pile.old.items) × AreEntries put_off.new.items) }
     ensures start { work.new.start ≡ work.old.start }
 {
     let level = one_below(schema, place.dim, place.level);
+    // The points of the label stand behind the pile while its child is visited.
     let top = pile.len();
     gather(
         schema,
@@ -238,12 +244,14 @@ fn visit_label<L: Ledger>(
     };
     let points = &pile[part.at..part.end];
     let later = put_later(
-        work, schema, points, pending, &place.way, place.at, label, place.dim, wide, steps,
+        work, schema, points, put_off, &place.way, place.at, label, place.dim, wide, steps,
     )?;
+    // A finer address has the same points. What lies there is made when its turn comes, and is then shared.
     if later {
         pile.truncate(top);
         return Ok(());
     }
+    // From here on no other node sees what is written below the child.
     let child = own_child(work, place.at, label, steps)?;
     let next = Place {
         dim: place.dim,
@@ -252,7 +260,7 @@ fn visit_label<L: Ledger>(
         part,
         way: below(&place.way, place.dim, level, label, child),
     };
-    visit(work, schema, pile, pending, &next, steps)?;
+    visit(work, schema, pile, put_off, &next, steps)?;
     pile.truncate(top);
     Ok(())
 }

@@ -9,7 +9,7 @@ ghost use Rattle.group_insert.specs.Visiting.{AreEntries};
 ghost use Rattle.group_insert.specs.Ways.{IsOpenIn};
 
 use crate::parts::one_label;
-use crate::pending::{Pending, finer};
+use crate::put_off::{PutOffLink, finer};
 use arena_undo::Work;
 use cube_view::{Point, Schema};
 use node_arena::SlotId;
@@ -57,7 +57,7 @@ pub fn turn_in<L: Ledger>(
     from: u8,
     old: Option<SlotId>,
     steps: &mut Steps<L>,
-) -> Option<Pending>
+) -> Option<PutOffLink>
     requires some { 0 < length part.now }
     requires sound { All (λ p. IsTrue (sound schema.now p)) part.now }
     requires dims { (1 ≤ from) × (from < dim) × (dim < time_dim schema.now) }
@@ -67,7 +67,7 @@ pub fn turn_in<L: Ledger>(
 {
     let level = open_level(schema, way, from)?;
     let turn = one_label(schema, part, from, level + 1)?;
-    let entry = Pending {
+    let entry = PutOffLink {
         node,
         base: way.roots[from as usize],
         label,
@@ -79,6 +79,7 @@ pub fn turn_in<L: Ledger>(
     let Some(to) = old else {
         return Some(entry);
     };
+    // An old link has to lead where the finer walk ends: then the old points go down the turn too.
     match finer(work, &entry, steps) {
         Some(end) => { if end.0 == to.0 { Some(entry) } else { None } }
         None => None,
@@ -86,7 +87,7 @@ pub fn turn_in<L: Ledger>(
 }
 
 /// The entry for a link, where it may be put off: its walk turns off in the first dimension in which that may be.
-pub fn put_off<L: Ledger>(
+pub fn first_turn<L: Ledger>(
     work: &Work,
     schema: &Schema,
     part: &[Point],
@@ -96,7 +97,7 @@ pub fn put_off<L: Ledger>(
     dim: u8,
     old: Option<SlotId>,
     steps: &mut Steps<L>,
-) -> Option<Pending>
+) -> Option<PutOffLink>
     requires some { 0 < length part.now }
     requires sound { All (λ p. IsTrue (sound schema.now p)) part.now }
     requires dim { dim < time_dim schema.now }
@@ -142,7 +143,7 @@ pub fn put_later<L: Ledger>(
     work: &Work,
     schema: &Schema,
     part: &[Point],
-    pending: &mut Vec<Pending>,
+    put_off: &mut Vec<PutOffLink>,
     way: &Way,
     node: SlotId,
     label: u8,
@@ -155,19 +156,20 @@ pub fn put_later<L: Ledger>(
     requires node { (node.0 < length work.now.slots) × IsNode (slot_of work.now.slots node.0) }
     requires roots { HasRoots work.now.slots way.now dim }
     requires inside { LeadInside work.now.slots }
-    requires within { AreEntries pending.old.items }
-    ensures put { IfOk result (λ x. TellsPut schema.now work.now.slots part.now way.now node.0 label dim wide pending.old.items pending.new.items x) }
-    ensures still { OnOk result (AreEntries pending.new.items) }
+    requires within { AreEntries put_off.old.items }
+    ensures put { IfOk result (λ x. TellsPut schema.now work.now.slots part.now way.now node.0 label dim wide put_off.old.items put_off.new.items x) }
+    ensures still { OnOk result (AreEntries put_off.new.items) }
 {
+    // A node of one label shares its child's content at once, so that content has to be there.
     if !wide {
         return Ok(false);
     }
     let Some(old) = not_own(work, node, label, steps) else {
         return Ok(false);
     };
-    match put_off(work, schema, part, way, node, label, dim, old, steps) {
+    match first_turn(work, schema, part, way, node, label, dim, old, steps) {
         Some(entry) => {
-            match pending.push(entry) {
+            match put_off.push(entry) {
                 Ok(()) => Ok(true),
                 Err(_) => Err(NoMemory),
             }

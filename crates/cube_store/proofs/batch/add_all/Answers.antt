@@ -4,7 +4,7 @@ use Rattle.cube_view.specs.Points.{Point}
 use Rattle.cube_store.specs.Counted.{AddsPoints}
 use Rattle.cube_store.proofs.Batches.{adds_none}
 use Rattle.cube_store.proofs.Groups.{can_insert_all, adds_group}
-use Rattle.cube_store.proofs.Listing.{root_of_points}
+use Rattle.cube_store.proofs.PointLists.{root_of_points}
 use Rattle.cube_store.proofs.batch.add_all.Goals as goal
 
 pub add_group-requires-clause-root : goal.add_group-requires-clause-root

@@ -1,6 +1,6 @@
 use Rattle.std.proofs.Common.{rules}
 use Rattle.std.proofs.lemmas.Result.{on_ok_weaker}
-use Rattle.cube_store.proofs.Rooting.{can_enter_root, inserts}
+use Rattle.cube_store.proofs.RootCalls.{can_enter_root, inserts}
 use Rattle.cube_store.proofs.cube.add_at_root.Goals as goal
 
 pub add-requires : goal.add-requires

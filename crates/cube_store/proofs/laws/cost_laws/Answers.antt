@@ -1,6 +1,6 @@
 use Rattle.cube_store.specs.Reading.{cube_costs}
-use Rattle.cube_store.proofs.Costing.{tells_costs, bounds_bag_costs}
-use Rattle.cube_store.proofs.WalkCosting.{address_cost-same}
+use Rattle.cube_store.proofs.Costs.{tells_costs, bounds_bag_costs}
+use Rattle.cube_store.proofs.WalkCosts.{address_cost-same}
 use Rattle.cube_store.proofs.laws.cost_laws.Goals as goal
 
 pub returns-clause-calls : goal.returns-clause-calls

@@ -5,8 +5,8 @@ use Rattle.proper_path.specs.Paths.{point_path}
 use Rattle.cube_store.specs.Counted.{HasPoints}
 use Rattle.cube_store.specs.Inserting.{CanInsert, Inserts}
 use Rattle.cube_store.proofs.Bagging.{IsBag-cube}
-use Rattle.cube_store.proofs.Listing.{can_insert, counts_joined, has_more, root_of_points}
-use Rattle.cube_store.proofs.Numbering.{OwnsAllButRoot-cube}
+use Rattle.cube_store.proofs.PointLists.{can_insert, counts_joined, has_more, root_of_points}
+use Rattle.cube_store.proofs.Numbers.{OwnsAllButRoot-cube}
 use Rattle.cube_store.proofs.cube.Cube.insert.Goals as goal
 
 pub insert_into-requires-clause-root : goal.insert_into-requires-clause-root

@@ -6,9 +6,9 @@ use Rattle.cube_view.specs.Validity.{sound}
 use Rattle.node_arena.specs.Slots.{Slot}
 use Rattle.cube_store.specs.Counted.{AddsPoints, HasPoints}
 use Rattle.cube_store.proofs.Bagging.{IsBag-cube}
-use Rattle.cube_store.proofs.Growing.{counts_one}
+use Rattle.cube_store.proofs.Growth.{counts_one}
 use Rattle.cube_store.proofs.Batches.{adds_permuted, has_added}
-use Rattle.cube_store.proofs.Numbering.{OwnsAllButRoot-cube}
+use Rattle.cube_store.proofs.Numbers.{OwnsAllButRoot-cube}
 use Rattle.cube_store.proofs.cube.Cube.insert_all.Goals as goal
 
 pub insert_group-requires-clause-sound : goal.insert_group-requires-clause-sound

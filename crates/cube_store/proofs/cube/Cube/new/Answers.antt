@@ -6,7 +6,7 @@ use Rattle.node_arena.specs.declared.link.SlotId.{SlotId}
 use Rattle.cube_store.specs.Counted.{CountsPoints, HasPoints}
 use Rattle.cube_store.proofs.Bagging.{Counts-points, IsBag-cube}
 use Rattle.cube_store.proofs.Empty.{counts_none}
-use Rattle.cube_store.proofs.Numbering.{OwnsAllButRoot-cube}
+use Rattle.cube_store.proofs.Numbers.{OwnsAllButRoot-cube}
 use Rattle.cube_store.proofs.cube.Cube.new.Goals as goal
 
 -- a root alone counts no points

@@ -1,5 +1,5 @@
 use Rattle.cube_store.proofs.Bagging.{IsBag-cube}
-use Rattle.cube_store.proofs.Numbering.{OwnsAllButRoot-cube}
+use Rattle.cube_store.proofs.Numbers.{OwnsAllButRoot-cube}
 use Rattle.cube_store.proofs.cube.Cube.of_slots.Goals as goal
 
 pub invariant_of-result : goal.invariant_of-result

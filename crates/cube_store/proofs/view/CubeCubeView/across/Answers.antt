@@ -1,5 +1,5 @@
 use Rattle.std.proofs.Common.{sym, ◌∙◌}
-use Rattle.cube_store.proofs.Standing.{slot_in_range, slot_before_time, finds_across, finds_none_across, stands_across}
+use Rattle.cube_store.proofs.Cursors.{slot_in_range, slot_before_time, finds_across, finds_none_across, stands_across}
 use Rattle.cube_store.proofs.view.CubeCubeView.across.Goals as goal
 
 pub content-requires-clause-in_range : goal.content-requires-clause-in_range

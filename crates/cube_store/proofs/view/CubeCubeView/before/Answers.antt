@@ -1,6 +1,6 @@
 use Rattle.std.proofs.Common.{◌∙◌, ap, arith}
 use Rattle.probe_core.specs.Bits.{bits}
-use Rattle.cube_store.proofs.Standing.{slot_in_range, slot_at_time, finds_total, bins-here}
+use Rattle.cube_store.proofs.Cursors.{slot_in_range, slot_at_time, finds_total, bins-here}
 use Rattle.cube_store.proofs.view.CubeCubeView.before.Goals as goal
 
 pub table-table-requires-clause-in_range : goal.table-table-requires-clause-in_range

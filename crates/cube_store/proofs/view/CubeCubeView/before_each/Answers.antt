@@ -2,7 +2,7 @@ use Rattle.std.proofs.Common.{ℕ, length, ap, ◌∙◌, arith}
 use Rattle.cube_view.proofs.Ends.{totals-alike}
 use Rattle.time_table.specs.Counts.{count_before}
 use Rattle.time_table.specs.Series.{each_cost}
-use Rattle.cube_store.proofs.Standing.{slot_in_range, slot_at_time, finds_total, bins-here}
+use Rattle.cube_store.proofs.Cursors.{slot_in_range, slot_at_time, finds_total, bins-here}
 use Rattle.cube_store.proofs.view.CubeCubeView.before_each.Goals as goal
 
 pub table-table-requires-clause-in_range : goal.table-table-requires-clause-in_range

@@ -1,5 +1,5 @@
 use Rattle.std.proofs.Common.{sym, ◌∙◌, arith}
-use Rattle.cube_store.proofs.Standing.{slot_in_range, slot_above, finds_below, finds_none_below, is_quadrant, stands_below, down_cost-here}
+use Rattle.cube_store.proofs.Cursors.{slot_in_range, slot_above, finds_below, finds_none_below, is_quadrant, stands_below, down_cost-here}
 use Rattle.cube_store.proofs.view.CubeCubeView.down.Goals as goal
 
 pub child-requires-clause-in_range : goal.child-requires-clause-in_range

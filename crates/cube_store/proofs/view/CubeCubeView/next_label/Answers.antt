@@ -1,5 +1,5 @@
 use Rattle.std.proofs.Common.{sym, ◌∙◌, arith}
-use Rattle.cube_store.proofs.Standing.{slot_in_range, slot_above, finds_next, finds_no_next, down_cost-here}
+use Rattle.cube_store.proofs.Cursors.{slot_in_range, slot_above, finds_next, finds_no_next, down_cost-here}
 use Rattle.cube_store.proofs.view.CubeCubeView.next_label.Goals as goal
 
 pub next_child-requires-clause-in_range : goal.next_child-requires-clause-in_range

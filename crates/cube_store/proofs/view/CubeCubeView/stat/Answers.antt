@@ -1,5 +1,5 @@
 use Rattle.std.proofs.Common.{◌<◌, ◌^◌, length, sym, ◌∙◌, arith}
-use Rattle.cube_store.proofs.Numbering.{numbers_in_memory}
+use Rattle.cube_store.proofs.Numbers.{numbers_in_memory}
 use Rattle.cube_store.proofs.view.CubeCubeView.stat.Goals as goal
 
 pub returns : goal.returns

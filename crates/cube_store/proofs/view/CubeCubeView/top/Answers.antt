@@ -2,8 +2,8 @@ use Rattle.std.proofs.Common.{ap, sym, subst, Some}
 use Rattle.cube_view.specs.Places.{top_address}
 use Rattle.cube_view.specs.declared.address.Address.{Address}
 use Rattle.cube_store.specs.Reading.{StandsAt}
-use Rattle.cube_store.proofs.Listing.{root_of_points}
-use Rattle.cube_store.proofs.Placing.{walked-top}
+use Rattle.cube_store.proofs.PointLists.{root_of_points}
+use Rattle.cube_store.proofs.AddressSteps.{walked-top}
 use Rattle.cube_store.proofs.view.CubeCubeView.top.Goals as goal
 
 pub returns-clause-stands : goal.returns-clause-stands

@@ -1,4 +1,4 @@
-use Rattle.cube_store.proofs.Growing.{counts_grown}
+use Rattle.cube_store.proofs.Growth.{counts_grown}
 use Rattle.cube_store.proofs.view.CubeGrow.insert.Goals as goal
 
 pub returns-clause-counted : goal.returns-clause-counted

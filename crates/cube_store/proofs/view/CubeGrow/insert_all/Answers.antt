@@ -1,4 +1,4 @@
-use Rattle.cube_store.proofs.Growing.{all_grown, counts_kept}
+use Rattle.cube_store.proofs.Growth.{all_grown, counts_kept}
 use Rattle.cube_store.proofs.view.CubeGrow.insert_all.Goals as goal
 
 pub returns-clause-counted : goal.returns-clause-counted

@@ -9,8 +9,8 @@ use Rattle.proper_path.specs.Changes.{IsRelinked}
 use Rattle.proper_path.proofs.Homes.{IsFree}
 use Rattle.group_insert.specs.Halfway.{LeadsRight, IsHalfway}
 use Rattle.group_insert.specs.Later.{PutOff, IsPut}
-use Rattle.group_insert.proofs.Putting.{puts_relinked}
-use Rattle.group_insert.proofs.Sharing.{IsTurnOf, shares_relinked_by}
+use Rattle.group_insert.proofs.LinksPutOff.{puts_relinked}
+use Rattle.group_insert.proofs.SharedContent.{IsTurnOf, shares_relinked_by}
 
 -- the link of node i may lead to u as a shared one
 pub record MayLead (slots : List Slot) (homes : List Walk) (h g : List Weighted) (i u : ℕ) (e : Step) : Type 0 where

@@ -18,7 +18,7 @@ use std::sync::ledger::Ledger;
 /// The link of a label at a node that is put off. Its target is found from the base, a slot of dimension `from`: down the
 /// turn, and then across so many dimensions, down the value of each if there is one, and at last down the label.
 #[derive(Clone, Copy)]
-pub struct Pending {
+pub struct PutOffLink {
     pub node: SlotId,
     pub base: SlotId,
     pub label: u8,
@@ -73,7 +73,12 @@ fn value_at<L: Ledger>(
 }
 
 // Where the finer walk of a link stands after so many dimensions.
-fn way_end<L: Ledger>(work: &Work, p: &Pending, between: u8, steps: &mut Steps<L>) -> Option<SlotId>
+fn way_end<L: Ledger>(
+    work: &Work,
+    p: &PutOffLink,
+    between: u8,
+    steps: &mut Steps<L>,
+) -> Option<SlotId>
     requires base { p.now.base.0 < length work.now.slots }
     requires inside { LeadInside work.now.slots }
     requires within { p.now.from + between < 6 }
@@ -89,7 +94,7 @@ fn way_end<L: Ledger>(work: &Work, p: &Pending, between: u8, steps: &mut Steps<L
 }
 
 /// Where the finer walk of a link that is put off ends.
-pub fn finer<L: Ledger>(work: &Work, p: &Pending, steps: &mut Steps<L>) -> Option<SlotId>
+pub fn finer<L: Ledger>(work: &Work, p: &PutOffLink, steps: &mut Steps<L>) -> Option<SlotId>
     requires base { p.now.base.0 < length work.now.slots }
     requires inside { LeadInside work.now.slots }
     requires within { p.now.from + p.now.between < 6 }
@@ -100,7 +105,11 @@ pub fn finer<L: Ledger>(work: &Work, p: &Pending, steps: &mut Steps<L>) -> Optio
 }
 
 /// Sets a link that is put off to where its finer walk ends.
-pub fn settle<L: Ledger>(work: &mut Work, p: &Pending, steps: &mut Steps<L>) -> Result<(), NoMemory>
+pub fn settle<L: Ledger>(
+    work: &mut Work,
+    p: &PutOffLink,
+    steps: &mut Steps<L>,
+) -> Result<(), NoMemory>
     requires in_range { p.now.node.0 < length work.old.slots }
     requires is_node { IsNode (slot_of work.old.slots p.now.node.0) }
     requires base { p.now.base.0 < length work.old.slots }
@@ -118,6 +127,7 @@ pub fn settle<L: Ledger>(work: &mut Work, p: &Pending, steps: &mut Steps<L>) -> 
     let link = Link::proper(to).shared();
     match work.child(p.node, p.label, steps) {
         Some(old) => {
+            // A link that leads there already is no change to undo.
             if old.is_proper() || old.to.0 != to.0 {
                 work.set_child(p.node, p.label, link);
             }
@@ -130,19 +140,20 @@ pub fn settle<L: Ledger>(work: &mut Work, p: &Pending, steps: &mut Steps<L>) -> 
 /// Settles the links that were put off since there were so many, the last one first.
 pub fn settle_all<L: Ledger>(
     work: &mut Work,
-    pending: &mut Vec<Pending>,
+    put_off: &mut Vec<PutOffLink>,
     kept: usize,
     steps: &mut Steps<L>,
 ) -> Result<(), NoMemory>
-    requires kept { kept ≤ length pending.old.items }
-    requires within { AreEntries pending.old.items }
-    requires known { ∥ CanSettle work.old.slots (entries pending.old.items) kept ∥₁ }
-    ensures settled { OnOk result (SettlesTo kept work.old.slots work.new.slots (entries pending.old.items) (entries pending.new.items)) }
-    ensures left { OnOk result ((length pending.new.items ≡ kept) × AreEntries pending.new.items) }
+    requires kept { kept ≤ length put_off.old.items }
+    requires within { AreEntries put_off.old.items }
+    requires known { ∥ CanSettle work.old.slots (entries put_off.old.items) kept ∥₁ }
+    ensures settled { OnOk result (SettlesTo kept work.old.slots work.new.slots (entries put_off.old.items) (entries put_off.new.items)) }
+    ensures left { OnOk result ((length put_off.new.items ≡ kept) × AreEntries put_off.new.items) }
     ensures start { work.new.start ≡ work.old.start }
 {
-    while pending.len() > kept {
-        let Some(p) = pending.pop() else {
+    // The last first: a finer walk may go over links that were put off later, and over none that were put off before.
+    while put_off.len() > kept {
+        let Some(p) = put_off.pop() else {
             return Ok(());
         };
         settle(work, &p, steps)?;

@@ -28,8 +28,8 @@ use Rattle.group_insert.specs.FinerWalk.{entry_of, LeadInside}
 use Rattle.group_insert.specs.Later.{PutOff}
 use Rattle.group_insert.specs.Settling.{entries, CanSettle, SettlesTo}
 use Rattle.group_insert.specs.Turns.{EndedBefore, IsOpenAbove}
-use Rattle.group_insert.specs.Visiting.{IsVisitableAt, CanVisitAt, VisitsAt, CanPassAt, PassesAt, PassesContentAt, PassesAllAt, CanShare, SharesOnly, HasPart}
-use Rattle.group_insert.specs.declared.pending.Pending.{Pending}
+use Rattle.group_insert.specs.Visiting.{IsVisitableAt, CanVisitAt, VisitsAt, CanPassAt, PassesAt, PassesContentAt, PassesLabelsAt, CanShare, SharesOnly, HasPartAt}
+use Rattle.group_insert.specs.declared.put_off.PutOffLink.{PutOffLink}
 use Rattle.group_insert.specs.declared.way.Way.{Way}
 use Rattle.node_arena.specs.declared.link.SlotId.{SlotId}
 use Rattle.node_arena.proofs.Reaching.{target-lt}
@@ -38,9 +38,9 @@ use Rattle.std.proofs.lemmas.List.{map-append}
 use Rattle.group_insert.specs.Visits.{HasTwoLabels, HasOneLabel, IsAmong}
 use Rattle.group_insert.proofs.Among.{among_one, among_next, among_put, among_ends}
 use Rattle.group_insert.proofs.LastChild.{child, alone, child_content, among_shares}
-use Rattle.group_insert.proofs.Passing.{IsMadeBy, stepped_makes, filled_makes, part_node, part_spot, content_visitable, content_passed, some_kept, category_depth, first_level, label_goes, none_before, label_part, way_by_then, child_visitable}
+use Rattle.group_insert.proofs.VisitSteps.{IsMadeBy, stepped_makes, filled_makes, part_node, part_spot, content_visitable, content_passed, some_kept, category_depth, first_level, label_goes, none_before, label_part, way_by_then, child_visitable}
 use Rattle.group_insert.proofs.Routes.{on_way_kept, has_roots, entry_is, entry_may}
-use Rattle.group_insert.proofs.Visiting.{none_from, none_at_leaf, two_in_part, one_and_other, one_alone, table_has_room, table_part}
+use Rattle.group_insert.proofs.PartPoints.{none_from, none_at_leaf, two_in_part, one_and_other, one_alone, table_has_room, table_part}
 use Rattle.proper_path.specs.Paths.{level_of, paths_of}
 
 module _ (z : Schema) (way : Way) (dim level i : ℕ) (part : List Point) (some : 1 ≤ dim) (early : dim < time_dim z) where
@@ -66,7 +66,7 @@ module _ (z : Schema) (way : Way) (dim level i : ℕ) (part : List Point) (some 
     two_labels group old put homes h K (inr (l, m, T, k, n)) = one_and_other z group old homes i l m (less_at group old put homes h K) (subst (λ x. 0 < length x) K.part_is K.some) (one_at group old put homes h (Some l) K T) k n
 
     -- a node that does not have one label: its content, then its labels
-    pub wide_part : (old mid new : List Slot) (put by_then after : List PutOff) → TellsOnlyLabel z dim (level + 1) part old i None → PassesContentAt z old mid way put by_then dim level i part → PassesAllAt z mid new way by_then after dim level i part true → VisitsAt z old new way put after dim level i part
+    pub wide_part : (old mid new : List Slot) (put by_then after : List PutOff) → TellsOnlyLabel z dim (level + 1) part old i None → PassesContentAt z old mid way put by_then dim level i part → PassesLabelsAt z mid new way by_then after dim level i part true → VisitsAt z old new way put after dim level i part
     wide_part old mid new put by_then after T C L group homes h K =
         among_ends (time_dim z) h (paths_of z group) old new homes put after i L.0 K.points K.in_range (part_node z group old way put dim level i part homes h early K) (part_spot z group old way put dim level i part homes h K) (inl (two_labels group old put homes h K T))
         (L.1 old put group homes h None K (λ e. refl) (C group homes h K)) (none_left group old put homes h L.0 K L.2)
@@ -78,7 +78,7 @@ module _ (z : Schema) (way : Way) (dim level i : ℕ) (part : List Point) (some 
     begins group old put homes h l K T = among_one (time_dim z) h (paths_of z group) old homes put i l K.points K.in_range (part_spot z group old way put dim level i part homes h K) (has_one group old put homes h l K T) K.halfway
 
     -- a node of one label: its label, and then it shares its child's content
-    pub narrow_part : (old mid new : List Slot) (put after : List PutOff) (l : ℕ) → TellsOnlyLabel z dim (level + 1) part old i (Some l) → PassesAllAt z old mid way put after dim level i part false → SharesOnly mid new i → VisitsAt z old new way put after dim level i part
+    pub narrow_part : (old mid new : List Slot) (put after : List PutOff) (l : ℕ) → TellsOnlyLabel z dim (level + 1) part old i (Some l) → PassesLabelsAt z old mid way put after dim level i part false → SharesOnly mid new i → VisitsAt z old new way put after dim level i part
     narrow_part old mid new put after l T L S group homes h K = among_shares (time_dim z) h (paths_of z group) old mid homes put after i l L.0 K.points K.in_range nd w one A none new c.link c.is relinked
       where
         nd : is_table (slot_of old i) ≡ false
@@ -108,7 +108,7 @@ module _ (z : Schema) (way : Way) (dim level i : ℕ) (part : List Point) (some 
         relinked : IsRelinked mid new i across (shared (target c.link))
         relinked = subst (λ x. IsRelinked mid x i across (shared (target c.link))) (sym (S l (proper j.0) O c.link c.is)) (relink_content mid i (target c.link) (let a = A.keeps.size in let b = K.in_range in omega (arith, a, b)) (A.keeps.kinds i K.in_range ∙ nd))
 
-    pub can_share : (old mid : List Slot) (put after : List PutOff) (l : ℕ) → TellsOnlyLabel z dim (level + 1) part old i (Some l) → PassesAllAt z old mid way put after dim level i part false → ∥ CanVisitAt z old way put dim level i part ∥₁ → ∥ CanShare mid i ∥₁
+    pub can_share : (old mid : List Slot) (put after : List PutOff) (l : ℕ) → TellsOnlyLabel z dim (level + 1) part old i (Some l) → PassesLabelsAt z old mid way put after dim level i part false → ∥ CanVisitAt z old way put dim level i part ∥₁ → ∥ CanShare mid i ∥₁
     can_share old mid put after l T L R = ∥∥₁_map R (λ C. record {
       schema = z;
       way = way;
@@ -171,7 +171,7 @@ module _ (z : Schema) (way : Way) (dim level i : ℕ) (part : List Point) (some 
     pass_leads mid put wide from R j e l is = ∥∥₁_elim R le_prop (λ C. target-lt mid C.among.homes' C.among.halfway.has_homes j e l is)
 
     -- a label whose link was put off is passed
-    pub passes_put : (mid : List Slot) (before after : List Pending) (from l : ℕ) (part' : List Point) (wide : Bool) → wide ≡ true → IsLeastFrom z dim (level + 1) from l part → part' ≡ points_at z dim (level + 1) l part → HasEntry z mid part' way i l dim before after → PassesAt z mid mid way (entries before) (entries after) dim level i part wide from (l + 1)
+    pub passes_put : (mid : List Slot) (before after : List PutOffLink) (from l : ℕ) (part' : List Point) (wide : Bool) → wide ≡ true → IsLeastFrom z dim (level + 1) from l part → part' ≡ points_at z dim (level + 1) l part → HasEntry z mid part' way i l dim before after → PassesAt z mid mid way (entries before) (entries after) dim level i part wide from (l + 1)
     passes_put mid before after from l part' wide is_wide N e E old at_first group homes h only K may A = subst (λ o. IsAmong (time_dim z) h (paths_of z group) old homes i o (l + 1) mid at_first (entries after)) (sym (may is_wide))
         (go (subst (λ o. IsAmong (time_dim z) h (paths_of z group) old homes i o from mid at_first (entries before)) (may is_wide) A))
       where
@@ -267,11 +267,11 @@ module _ (z : Schema) (way : Way) (dim level i : ℕ) (part : List Point) (some 
       record { homes' = v.homes'; halfway = s.0.halfway; keeps = keeps-trans v.keeps s.1; puts = s.0.puts }
 
 -- what was told of a label's link
-pub told_put : (z : Schema) (slots : List Slot) (part : List Point) (way : Way) (node label dim : ℕ) (wide : Bool) (before after : List Pending) (put : Bool) → put ≡ true → TellsPut z slots part way node label dim wide before after put → (wide ≡ true) × HasEntry z slots part way node label dim before after
+pub told_put : (z : Schema) (slots : List Slot) (part : List Point) (way : Way) (node label dim : ℕ) (wide : Bool) (before after : List PutOffLink) (put : Bool) → put ≡ true → TellsPut z slots part way node label dim wide before after put → (wide ≡ true) × HasEntry z slots part way node label dim before after
 told_put z slots part way node label dim wide before after true e T = T
 told_put z slots part way node label dim wide before after false e T = absurd (true≢false (sym e))
 
-pub told_kept : (z : Schema) (slots : List Slot) (part : List Point) (way : Way) (node label dim : ℕ) (wide : Bool) (before after : List Pending) (put : Bool) → put ≡ false → TellsPut z slots part way node label dim wide before after put → after ≡ before
+pub told_kept : (z : Schema) (slots : List Slot) (part : List Point) (way : Way) (node label dim : ℕ) (wide : Bool) (before after : List PutOffLink) (put : Bool) → put ≡ false → TellsPut z slots part way node label dim wide before after put → after ≡ before
 told_kept z slots part way node label dim wide before after true e T = absurd (true≢false e)
 told_kept z slots part way node label dim wide before after false e T = T
 
@@ -286,7 +286,7 @@ pub rank_across : (z : Schema) (dim level : ℕ) → 1 ≤ dim → dim < time_di
 rank_across z dim level some less = let d = category_depth z (dim + 1) (λ e. omega (arith, e, some)) in omega (arith, d, less)
 
 -- the points of a part are sound
-pub part_sound : (z : Schema) (pile : List Point) (at end : ℕ) → HasPart z pile at end → All (λ p. IsTrue (sound z p)) (slice_range pile at end)
+pub part_sound : (z : Schema) (pile : List Point) (at end : ℕ) → HasPartAt z pile at end → All (λ p. IsTrue (sound z p)) (slice_range pile at end)
 part_sound z pile at end H = All-take (λ p. IsTrue (sound z p)) (end - at) (drop at pile) (All-drop (λ p. IsTrue (sound z p)) at pile H.all_sound)
 
 -- a table that can be visited has room for the part

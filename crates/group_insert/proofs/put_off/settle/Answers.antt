@@ -2,8 +2,8 @@ use Rattle.std.proofs.Common.{sym, ap, ◌∙◌}
 use Rattle.std.proofs.lemmas.Result.{on_ok_weaker}
 use Rattle.node_arena.specs.Slots.{shared, target}
 use Rattle.group_insert.specs.FinerWalk.{entry_of}
-use Rattle.group_insert.proofs.Settling.{set_settles, put_settles}
-use Rattle.group_insert.proofs.pending.settle.Goals as goal
+use Rattle.group_insert.proofs.LastLink.{set_settles, put_settles}
+use Rattle.group_insert.proofs.put_off.settle.Goals as goal
 
 pub returns-then-is_proper-clause-set : goal.returns-then-is_proper-clause-set
 returns-then-is_proper-clause-set g c =

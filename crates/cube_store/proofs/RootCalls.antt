@@ -13,7 +13,7 @@ use Rattle.point_insert.specs.Known.{IsEnterable, CanEnter}
 use Rattle.point_insert.specs.Visited.{VisitsAll}
 use Rattle.point_insert.proofs.Entering.{enters_root}
 use Rattle.cube_store.specs.Inserting.{IsInsertable, CanInsert, Inserts}
-use Rattle.cube_store.proofs.Inserted.{at_start, shape_after}
+use Rattle.cube_store.proofs.RootShape.{at_start, shape_after}
 
 at_top : (paths : List (List ℕ)) → 0 < length paths → (c : Cursor) → after_across paths ≡ Some c → c.rest ≡ get_or paths 0 []
 at_top [] l c e = absurd (omega arith)

@@ -26,9 +26,10 @@ use Rattle.cube_store.specs.Reading.{IsWalkAddress, StandsAt, spot_weight}
 use Rattle.cube_store.proofs.Bagging.{points_of_schema, Counts-points}
 use Rattle.node_arena.proofs.Labelled.{link_down, IsFirstFrom, child_from-none}
 use Rattle.proper_path.proofs.Leaving.{under-down, under-across, under-top}
-use Rattle.cube_store.proofs.Listed.{amount-contained, amount-failing, point_of_path, path_of_point, All-contained}
-use Rattle.cube_store.proofs.Placing.{dimension-steps_of, level-steps_of}
-use Rattle.cube_store.proofs.Telling.{IsOfSchema}
+use Rattle.group_insert.proofs.GroupParts.{spot_is_of, spot_of_point}
+use Rattle.cube_store.proofs.ListAmounts.{amount-contained, amount-failing, All-contained}
+use Rattle.cube_store.proofs.AddressSteps.{dimension-steps_of, level-steps_of}
+use Rattle.cube_store.proofs.SpotPaths.{IsOfSchema}
 use Rattle.proper_path.specs.Paths.{level_of, paths_of}
 
 -- a step from an address that is reached
@@ -73,12 +74,12 @@ module _ (z : Schema) (slots : List Slot) (root size : ℕ) (k : List Point) (C 
   pub point_there : (e : Step) (w : Walk) (j : ℕ) → walk_end slots 0 (e ∷ w) ≡ Some j → (p : Point) × Contains k p × Under (spot_path z (spot_of p)) (e ∷ w)
   point_there e w j at =
       let has = walk_only (time_dim z) slots C.homes (paths_of z k) shaped w e j at in
-      let p = point_of_path z k has.spot has.is_in in
+      let p = spot_is_of z k has.spot has.is_in in
       (p.0, p.1, ap (λ q. under q (e ∷ w)) p.2 ∙ has.lies)
 
   -- where a point lies the walk is reached
   pub reached_there : (w : Walk) (p : Point) → Contains k p → Under (spot_path z (spot_of p)) w → (j : ℕ) × (walk_end slots 0 w ≡ Some j)
-  reached_there w p c u = walk_reaches (time_dim z) slots C.homes (paths_of z k) shaped w (record { spot = spot_path z (spot_of p); is_in = path_of_point z k p c; lies = u })
+  reached_there w p c u = walk_reaches (time_dim z) slots C.homes (paths_of z k) shaped w (record { spot = spot_path z (spot_of p); is_in = spot_of_point z k p c; lies = u })
 
   -- where a walk is reached and there is a point, a point lies
   pub point_at_walk : (w : Walk) (i : ℕ) → walk_end slots 0 w ≡ Some i → (p : Point) → Contains k p → (r : Point) × Contains k r × Under (spot_path z (spot_of r)) w

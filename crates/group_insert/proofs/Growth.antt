@@ -18,9 +18,9 @@ use Rattle.proper_path.proofs.Homes.{IsFree, homes_grown, grown_homes, grown_hom
 use Rattle.group_insert.specs.Halfway.{LeadsRight, IsVisitedBy, CountsWithin, IsHalfway, IsHalfwayBefore}
 use Rattle.group_insert.specs.Later.{PutOff, IsPut}
 use Rattle.group_insert.specs.Turns.{EndedBefore, IsOpenAbove}
-use Rattle.group_insert.proofs.Putting.{puts_grown}
-use Rattle.group_insert.proofs.Sharing.{IsTurnOf, IsFresh, turn_before, fresh_before, shares_grown_by}
-use Rattle.group_insert.proofs.Standing.{StandsIn, shared_free, copy_stands_in, empty_stands_in}
+use Rattle.group_insert.proofs.LinksPutOff.{puts_grown}
+use Rattle.group_insert.proofs.SharedContent.{IsTurnOf, IsFresh, turn_before, fresh_before, shares_grown_by}
+use Rattle.group_insert.proofs.NewSlots.{StandsIn, shared_free, copy_stands_in, empty_stands_in}
 
 -- a spot of the group is one of all
 pub spot_of_group : (g h : List Weighted) (a : Walk) → HasSpot (spots_in g) a → HasSpot (spots_in (g ++ h)) a

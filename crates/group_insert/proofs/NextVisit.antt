@@ -11,7 +11,7 @@ use Rattle.proper_path.proofs.Order.{above-length}
 use Rattle.proper_path.proofs.Steps.{none_below}
 use Rattle.group_insert.specs.Turns.{IsEarlier, EndedBefore, EndedAfter, IsOpenAbove}
 use Rattle.group_insert.proofs.Earlier.{earlier_below, earlier_across, EarlierDown, outside, in_content, in_lesser, earlier_down, content_earlier, lesser_earlier, open_step}
-use Rattle.group_insert.proofs.Keeping.{IsSameTurn}
+use Rattle.group_insert.proofs.SameState.{IsSameTurn}
 
 below_longer : {e : Step} {a b : Walk} → IsAbove b a → b ≡ e ∷ a → ⊥
 below_longer f x = let l = above-length f in let s = ap length x in omega (arith, l, s)

@@ -16,7 +16,7 @@ use Rattle.group_insert.specs.Later.{PutOff, link_address, IsPutOff, IsPut}
 use Rattle.group_insert.specs.Turns.{EndedBefore, EndedAfter, IsOpenAbove}
 use Rattle.group_insert.specs.Visits.{ArePoints, HasVisitedAll}
 use Rattle.group_insert.proofs.Earlier.{earlier-irreflexive}
-use Rattle.group_insert.proofs.Ending.{IsLast, last_table}
+use Rattle.group_insert.proofs.VisitEnd.{IsLast, last_table}
 use Rattle.group_insert.proofs.PutBelow.{no_more}
 use Rattle.group_insert.proofs.StartEnd.{amount_under-both}
 

@@ -18,9 +18,9 @@ use Rattle.time_table.proofs.Summed.{gathered, count_of-gathered, AllCounted-gat
 use Rattle.node_arena.specs.Amounts.{Weighted, amount_under}
 use Rattle.proper_path.specs.Paths.{point_path, paths_of}
 use Rattle.cube_store.specs.Reading.{IsWalkAddress}
-use Rattle.cube_store.proofs.Finding.{under-steps}
+use Rattle.cube_store.proofs.LinkMeaning.{under-steps}
 use Rattle.proper_path.proofs.Leaving.{turned}
-use Rattle.cube_store.proofs.Telling.{IsOfSchema}
+use Rattle.cube_store.proofs.SpotPaths.{IsOfSchema}
 
 -- the spot lies under the address in the bin
 abbrev pub is_under_at : Schema → Address → ℕ → Spot → Bool

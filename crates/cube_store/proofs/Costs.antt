@@ -22,11 +22,11 @@ use Rattle.cube_store.specs.Counted.{CountsPoints}
 use Rattle.cube_store.specs.Holding.{TellsCosts, BoundsBagCosts}
 use Rattle.cube_store.specs.Reading.{IsWalkAddress, slot_under, children_in, counts_in, label_count, bin_count, spot_weight}
 use Rattle.cube_store.proofs.Bagging.{points_of_schema}
-use Rattle.cube_store.proofs.Differing.{distinct_count-same, distinct_count-below, below-kept, member-weighing, member-children, member-bins}
-use Rattle.cube_store.proofs.Finding.{same_amount, under-steps, fits-contained, reached_there, counts_here, below_some, below_none}
+use Rattle.cube_store.proofs.DistinctNumbers.{distinct_count-same, distinct_count-below, below-kept, member-weighing, member-children, member-bins}
+use Rattle.cube_store.proofs.LinkMeaning.{same_amount, under-steps, fits-contained, reached_there, counts_here, below_some, below_none}
 use Rattle.node_arena.proofs.Labelled.{link_down}
-use Rattle.cube_store.proofs.Listed.{amount-failing}
-use Rattle.cube_store.proofs.Totalling.{is_under_at, amount_steps}
+use Rattle.cube_store.proofs.ListAmounts.{amount-failing}
+use Rattle.cube_store.proofs.TableTotals.{is_under_at, amount_steps}
 
 module _ (z : Schema) (slots : List Slot) (root size : ℕ) (k : List Point) (C : CountsPoints z slots root size k) (h : List Point) (counts : Counts (spot_weight z slots) size h) (a : Address) (W : IsWalkAddress z a) where
   -- where the address isn't reached no spot lies

@@ -16,7 +16,7 @@ use Rattle.proper_path.proofs.Homes.{IsFree, FitsUnder, home_free}
 use Rattle.proper_path.proofs.Links.{proper≢shared, link-copied, share-some, count-copied, is_table-copied}
 use Rattle.group_insert.specs.Halfway.{IsHalfway}
 use Rattle.group_insert.specs.Later.{PutOff}
-use Rattle.group_insert.proofs.Sharing.{IsFresh, StandsShared, copy_shares, empty_shares}
+use Rattle.group_insert.proofs.SharedContent.{IsFresh, StandsShared, copy_shares, empty_shares}
 
 -- what the added slot has to be at the address of the link that leads to it
 pub record StandsIn (dims : ℕ) (slots : List Slot) (homes : List Walk) (i : ℕ) (e : Step) (s : Slot) (h g : List Weighted) : Type 0 where

@@ -22,7 +22,8 @@ use Rattle.proper_path.specs.Paths.{point_path, paths_of}
 use Rattle.proper_path.proofs.Labels.{spot_of_schema, shape-point_path}
 use Rattle.point_insert.specs.Known.{total_weight}
 use Rattle.cube_store.specs.Counted.{CountsPoints, HasPoints}
-use Rattle.cube_store.specs.Inserting.{IsInsertable, CanInsert, HasInserted, Inserts}
+use Rattle.group_insert.specs.InsertingAll.{HasInserted}
+use Rattle.cube_store.specs.Inserting.{IsInsertable, CanInsert, Inserts}
 
 -- a shape over a list is one over each list of the same points
 pub shape_same : (dims : ℕ) (slots : List Slot) (homes : List Walk) (h k : List Weighted) → ((q : SpotPath) → Contains (spots_in h) q → Contains (spots_in k) q) → ((q : SpotPath) → Contains (spots_in k) q → Contains (spots_in h) q) → ((a : Walk) (bin : ℕ) → amount_under h a bin ≡ amount_under k a bin) → HasShape dims slots homes h → HasShape dims slots homes k

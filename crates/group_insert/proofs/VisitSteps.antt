@@ -36,9 +36,9 @@ use Rattle.group_insert.proofs.Among.{content_at, among_content, label_at_child}
 use Rattle.proper_path.proofs.Leaving.{under-top}
 use Rattle.group_insert.proofs.Routes.{on_way_kept, on_way_across, on_way_down}
 use Rattle.group_insert.proofs.Ways.{way_in_space}
-use Rattle.group_insert.proofs.Parting.{part_down, part_across, spot_is_of}
+use Rattle.group_insert.proofs.GroupParts.{part_down, part_across, spot_is_of}
 use Rattle.group_insert.proofs.StartEnd.{halfway_starts, shape_with}
-use Rattle.group_insert.proofs.Visiting.{spot_in_part, spot_at_label, none_between}
+use Rattle.group_insert.proofs.PartPoints.{spot_in_part, spot_at_label, none_between}
 
 -- what the calls leave is one of the changes that the invariant knows
 pub record IsMadeBy (dims : ℕ) (old new : List Slot) (homes : List Walk) (i : ℕ) (e : Step) (j : ℕ) : Type 0 where

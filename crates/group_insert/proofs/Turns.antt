@@ -22,8 +22,8 @@ use Rattle.group_insert.specs.Later.{PutOff, IsPutOff}
 use Rattle.group_insert.specs.Parts.{part_of}
 use Rattle.group_insert.specs.Ways.{value_gone, way_from, IsOpenIn, IsWayTo}
 use Rattle.group_insert.proofs.FinerWalk.{base_above, turns_before}
-use Rattle.group_insert.proofs.Parting.{in_part, spot_is_of}
-use Rattle.group_insert.proofs.Standing.{shared_free}
+use Rattle.group_insert.proofs.GroupParts.{in_part, spot_is_of}
+use Rattle.group_insert.proofs.NewSlots.{shared_free}
 use Rattle.group_insert.proofs.StartEnd.{group_spot}
 use Rattle.group_insert.proofs.Ways.{way_leads}
 

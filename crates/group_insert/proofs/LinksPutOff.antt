@@ -10,7 +10,7 @@ use Rattle.proper_path.proofs.Homes.{grown_homes, KeepsHomes, keeps_homes}
 use Rattle.proper_path.proofs.Links.{same_place, proper≢shared}
 use Rattle.group_insert.specs.Halfway.{PutsOff}
 use Rattle.group_insert.specs.Later.{PutOff, link_address, IsPutOff}
-use Rattle.group_insert.proofs.Sharing.{two_grown, two_relinked}
+use Rattle.group_insert.proofs.SharedContent.{two_grown, two_relinked}
 
 -- where no link is put off
 pub none_put : (slots : List Slot) (homes : List Walk) (h g : List Weighted) (done : Walk → Type 0) → PutsOff slots homes h g done []

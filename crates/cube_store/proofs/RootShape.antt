@@ -15,6 +15,7 @@ use Rattle.proper_path.proofs.Steps.{Between}
 use Rattle.point_insert.specs.Visited.{IsEntered}
 use Rattle.proper_path.proofs.Links.{proper≢shared}
 use Rattle.node_arena.specs.Amounts.{Weighted, spots_in}
+use Rattle.group_insert.proofs.StartEnd.{below_top}
 
 -- among children there is one label alone or there are two
 pub data OneOrMore (slots : List Slot) (i label : ℕ) : Type 0 where
@@ -78,10 +79,6 @@ none_first p b d = go d.1.goes_across refl
     go : {x y : Walk} → IsAbove (across ∷ x) y → y ≡ [] → ⊥
     go itself e = cc
     go (further f) e = cc
-
-pub below_top : (b : Walk) → IsAbove [] b
-below_top [] = itself
-below_top (e ∷ b) = further (below_top b)
 
 -- the invariant before the root's first visit
 pub at_start : (dims : ℕ) (h : List Weighted) (p : Weighted) (a : State) → HasShape dims a.slots a.homes h → AllOfShape (spots_in h) p.spot → a.updated ≡ [] → Between dims h p (DoneBefore p (home a 0)) a

@@ -24,10 +24,10 @@ use Rattle.group_insert.specs.Later.{PutOff}
 use Rattle.group_insert.specs.Visiting.{IsVisitableAt, VisitsAt}
 use Rattle.group_insert.specs.declared.way.Way.{Way}
 use Rattle.group_insert.specs.Visits.{HasTwoLabels, HasOneLabel}
-use Rattle.group_insert.proofs.Counting.{table_visited}
+use Rattle.group_insert.proofs.GroupTable.{table_visited}
 use Rattle.group_insert.proofs.Earlier.{earlier-irreflexive}
 use Rattle.proper_path.proofs.Leaving.{left, under-down, went_down}
-use Rattle.group_insert.proofs.Parting.{of_part, in_part, spot_is_of, spot_of_point}
+use Rattle.group_insert.proofs.GroupParts.{of_part, in_part, spot_is_of, spot_of_point}
 
 -- a spot of the group that goes down a label is that of a point of the part with that label ..
 pub record IsPointAt (z : Schema) (group : List Point) (a : Walk) (n : ℕ) (q : SpotPath) : Type 0 where

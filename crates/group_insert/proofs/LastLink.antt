@@ -22,9 +22,9 @@ use Rattle.group_insert.specs.Later.{PutOff, link_address, IsPutOff, IsPut}
 use Rattle.group_insert.specs.Turns.{EndedAfter, IsOpenAbove}
 use Rattle.group_insert.proofs.Entries.{last_of, halfway_less}
 use Rattle.group_insert.proofs.FinerEnd.{HoldsAll, Settles, new_spot, settled}
-use Rattle.group_insert.proofs.Grown.{spot_of_group}
-use Rattle.group_insert.proofs.Putting.{puts_relinked}
-use Rattle.group_insert.proofs.Sharing.{two_relinked}
+use Rattle.group_insert.proofs.Growth.{spot_of_group}
+use Rattle.group_insert.proofs.LinksPutOff.{puts_relinked}
+use Rattle.group_insert.proofs.SharedContent.{two_relinked}
 use Rattle.group_insert.proofs.StartEnd.{old_spot}
 use Rattle.group_insert.proofs.Ways.{tail_of}
 

@@ -15,7 +15,7 @@ use Rattle.cube_view.proofs.SchemaBounds.{few_categories}
 use Rattle.cube_view.proofs.TileWays.{tile_at-own}
 use Rattle.cube_store.specs.BagCosts.{AreBagCosts, bag_costs}
 use Rattle.cube_store.specs.Reading.{IsWalkAddress}
-use Rattle.cube_store.proofs.Placing.{open_at, walked-longer, walked-next}
+use Rattle.cube_store.proofs.AddressSteps.{open_at, walked-longer, walked-next}
 
 module _ (z : Schema) (costs : ViewCosts) (h : List Point) (same : AreBagCosts z costs h) where
   -- space
