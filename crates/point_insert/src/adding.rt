@@ -85,8 +85,10 @@ fn add_in<L: Ledger>(
     ensures all { OnOk result (VisitsAll (time_dim schema.now) (point_path schema.now point.now) work.old.slots work.new.slots updated.old updated.new dim root.0) }
     ensures changes { KeepsRoom (5 * visits_from schema.now dim) work.old work.new }
 {
+    // The whole trail is made first: what the visits write is then seen from this root alone.
     let mut stack = List::new(alloc);
     trail(work, schema, point, dim, root, &mut stack)?;
+    // The finest node first, so that a node that shares its only child's content finds that content updated.
     while let Some(at) = stack.pop() {
         visit(alloc, work, schema, point, dim, at, updated, steps)?;
     }
@@ -112,12 +114,15 @@ fn visit<L: Ledger>(
     ensures visited { OnOk result (Visits (time_dim schema.now) (point_path schema.now point.now) work.old.slots work.new.slots updated.old updated.new dim at.0) }
     ensures changes { KeepsRoom (3 + 5 * visits_from schema.now (dim + 1)) work.old work.new }
 {
+    // Case 1: what lies below the node lies below its child too, so their contents count the same.
     if let Some(child) = only_child(work, at) {
         share_content(work, at, child, steps);
         return Ok(());
     }
     match own_content(work, schema, dim, at, updated, steps)? {
+        // Cases 2 to 4: the content is the node's own by now, and does not count the point yet.
         Some(content) => update(alloc, work, schema, point, dim + 1, content, updated, steps),
+        // Case 5: the content counts the point already.
         None => Ok(()),
     }
 }
@@ -139,6 +144,7 @@ fn update<L: Ledger>(
     ensures changes { KeepsRoom (allowance schema.now dim) work.old work.new }
 {
     fill(alloc, work, schema, point, dim, slot, updated, steps)?;
+    // Only then: a content that is in the set counts the point.
     updated.put(slot)
 }
 

@@ -41,6 +41,7 @@ pub fn share_content<L: Ledger>(work: &mut Work, at: SlotId, child: Link, steps:
     ensures shared { SharesOf work.old.slots work.new.slots at.0 child }
     ensures changes { KeepsRoom 1 work.old work.new }
 {
+    // The child was visited before, so it has a content.
     if let Some(content) = work.content(child.to, steps) {
         work.set_content(at, Some(content.shared()));
     }
@@ -106,16 +107,20 @@ pub fn own_content<L: Ledger>(
     ensures filled { IfOk result (λ content. IsFilled (time_dim schema.now) (dim + 1) updated.now work.old.slots at.0 work.new.slots (place_of content)) }
     ensures changes { KeepsRoom 2 work.old work.new }
 {
+    // Case 2: the node is new.
     let Some(link) = work.content(at, steps) else {
         let made = make_content(work, schema, dim, at)?;
         return Ok(Some(made));
     };
+    // Case 4.
     if link.is_proper() {
         return Ok(Some(link.to));
     }
+    // Case 5: it is the content of a finer node, which was visited before, and the point was added to it then.
     if updated.has(link.to) {
         return Ok(None);
     }
+    // Case 3: its home does not hold the point, so what is counted there stays as it is.
     let copy = copy_content(work, at, link.to)?;
     Ok(Some(copy))
 }
