@@ -316,6 +316,7 @@ impl Arena {
         ensures added { OnOk result (self.new ≡ with_slot self.old (slot_from slot)) }
         ensures unchanged { OnErr result (self.new ≡ self.old) }
     {
+        // A slot's place has 32 bits, so that three children lie in a slot.
         let Ok(place) = u32::try_from(self.slots.len()) else {
             return Err(NoMemory);
         };

@@ -66,6 +66,7 @@ pub fn with_fourth(
     ensures { IfOk result (λ form. form_children form ≡ insert (a ∷ b ∷ c ∷ []) i child) }
 {
     let mut rows = Rows::new(alloc);
+    // A node of space has no more than four.
     rows.reserve(4)?;
     rows.insert(0, a)?;
     rows.insert(1, b)?;
