@@ -4,11 +4,12 @@ use Rattle.std.specs.Prelude.{not, filter, ◌||◌, ◌&&◌}
 use Rattle.std.specs.List.{list_all}
 use Rattle.std.specs.Str.{bytes_eq}
 use Rattle.std.proofs.Math.Bool.{or-true}
-use Rattle.std.proofs.lemmas.Bool.{false≢true}
+use Rattle.std.proofs.lemmas.Bool.{false≢true, and_parts, and_from}
 use Rattle.std.proofs.lemmas.List.{append_cancel_right}
 use Rattle.std.proofs.lemmas.Slice.Eq.{bytes_eq-Decides}
-use Rattle.query_syntax.specs.Words.{quote}
-use Rattle.query_syntax.specs.Items.{is_quote, bare, in_quotes, is_well_quoted}
+use Rattle.outer_io.specs.Lines.{onto_first}
+use Rattle.query_syntax.specs.Words.{quote, bar, cut_pieces, pieces_from, cuts, quoted_after}
+use Rattle.query_syntax.specs.Items.{is_quote, bare, in_quotes, is_well_quoted, are_well_quoted}
 
 abbrev pub no_quote : ℕ → Bool
 no_quote b = not (is_quote b)
@@ -99,3 +100,34 @@ quotes_test piece text u =
       | inr n ↦ well_quoted_plain piece (let same : bare piece ≡ piece = filter_same no_quote piece (ap (list_all no_quote) (sym n.0) ∙ h) in sym same)
     ])
     (λ h. none_from_bare text (let e : text ≡ bare piece = text_is_bare piece text u h in e ∙ sym (filter_same no_quote (bare piece) (filter_passes no_quote piece)) ∙ ap bare (sym e)))
+
+-- a text without quotes is cut into pieces without quotes
+
+no_quotes_before_first : (b : ℕ) (pieces : List (List ℕ)) → no_quote b ≡ true → list_all (list_all no_quote) pieces ≡ true → list_all (list_all no_quote) (onto_first b pieces) ≡ true
+no_quotes_before_first b [] h k = and_from (no_quote b && true) true (and_from (no_quote b) true h refl) refl
+no_quotes_before_first b (piece ∷ pieces) h k =
+    let parts = and_parts (list_all no_quote piece) (list_all (list_all no_quote) pieces) k in
+    and_from (no_quote b && list_all no_quote piece) (list_all (list_all no_quote) pieces) (and_from (no_quote b) (list_all no_quote piece) h parts.0) parts.1
+
+no_quotes_in_pieces : (mark : ℕ) (quoted : Bool) (text : List ℕ) → list_all no_quote text ≡ true → list_all (list_all no_quote) (pieces_from mark quoted text) ≡ true
+no_quotes_in_pieces mark quoted [] h = refl
+no_quotes_in_pieces mark quoted (b ∷ bytes) h =
+    let parts = and_parts (no_quote b) (list_all no_quote bytes) h in
+    elim (cuts mark quoted b) as (λ v. list_all (list_all no_quote) (cond v ([] ∷ pieces_from mark false bytes) (onto_first b (pieces_from mark (quoted_after quoted b) bytes))) ≡ true) [
+      | true ↦ no_quotes_in_pieces mark false bytes parts.1
+      | false ↦ no_quotes_before_first b (pieces_from mark (quoted_after quoted b) bytes) parts.0 (no_quotes_in_pieces mark (quoted_after quoted b) bytes parts.1)
+    ]
+
+well_quoted_without : (piece : List ℕ) → list_all no_quote piece ≡ true → is_well_quoted piece ≡ true
+well_quoted_without piece h = well_quoted_plain piece (sym (filter_same no_quote piece h))
+
+well_quoted_all : (pieces : List (List ℕ)) → list_all (list_all no_quote) pieces ≡ true → list_all is_well_quoted pieces ≡ true
+well_quoted_all [] h = refl
+well_quoted_all (piece ∷ pieces) h =
+    let parts = and_parts (list_all no_quote piece) (list_all (list_all no_quote) pieces) h in
+    and_from (is_well_quoted piece) (list_all is_well_quoted pieces) (well_quoted_without piece parts.0) (well_quoted_all pieces parts.1)
+
+-- so each of its pieces is well quoted
+pub unquoted_is_well_quoted : (text : List ℕ) → list_all no_quote text ≡ true → are_well_quoted text ≡ true
+unfolding are_well_quoted cut_pieces
+unquoted_is_well_quoted text h = well_quoted_all (pieces_from bar false text) (no_quotes_in_pieces bar false text h)

@@ -53,11 +53,14 @@ fn is_quote_count_even(item: &[u8]) -> bool
     item.iter().filter(|b| **b == b'"').count() % 2 == 0
 }
 
-/// Whether each piece between bars is well quoted.
+/// Whether each piece between bars is well quoted. A text without quotes is not cut for that.
 #[tactic(auto, unfolding(crate::specs::Items::are_well_quoted))]
 fn is_text_well_quoted(text: &[u8]) -> bool
     ensures { result ≡ are_well_quoted text.now }
 {
+    if has_no_quote(text) {
+        return true;
+    }
     let mut rest = text;
     loop {
         let (piece, after) = next_piece(rest, b'|');

@@ -7,8 +7,8 @@ ghost use Rattle.query_syntax.specs.Words.{cut_pieces, pieces_from, pieces_after
 
 use crate::fault::{QueryFault, WordFault};
 
-/// Where the first of the pieces ends that the mark cuts outside quotes.
-fn piece_len(bytes: &[u8], mark: u8) -> usize
+/// The same as [`piece_len`], of bytes that may have quotes.
+fn quoted_piece_len(bytes: &[u8], mark: u8) -> usize
     ensures within { result ≤ length bytes.now }
     ensures whole { result ≡ length bytes.now → cut_pieces mark bytes.now ≡ bytes.now ∷ [] }
     ensures cut { result < length bytes.now → cut_pieces mark bytes.now ≡ take result bytes.now ∷ cut_pieces mark (drop (result + 1) bytes.now) }
@@ -20,6 +20,24 @@ fn piece_len(bytes: &[u8], mark: u8) -> usize
         }
         if b == b'"' {
             quoted = !quoted;
+        }
+    }
+    bytes.len()
+}
+
+/// Where the first of the pieces ends that the mark cuts outside quotes. Most pieces have no quote: up to the first one
+/// each byte takes a single test.
+fn piece_len(bytes: &[u8], mark: u8) -> usize
+    ensures within { result ≤ length bytes.now }
+    ensures whole { result ≡ length bytes.now → cut_pieces mark bytes.now ≡ bytes.now ∷ [] }
+    ensures cut { result < length bytes.now → cut_pieces mark bytes.now ≡ take result bytes.now ∷ cut_pieces mark (drop (result + 1) bytes.now) }
+{
+    for (i, &b) in bytes.iter().enumerate() {
+        if b == mark {
+            return i;
+        }
+        if b == b'"' {
+            return quoted_piece_len(bytes, mark);
         }
     }
     bytes.len()

@@ -4,4 +4,4 @@ use Rattle.query_syntax.proofs.Cutting.{pieces_at}
 use Rattle.query_syntax.proofs.words.piece_len.Given as goal
 
 abbrev pub invariant-loop-i : goal.invariant-loop-i
-invariant-loop-i l = pieces_at l.mark l.quoted l.bytes l.i ≡ pieces_from l.mark false l.bytes
+invariant-loop-i l = pieces_at l.mark false l.bytes l.i ≡ pieces_from l.mark false l.bytes
