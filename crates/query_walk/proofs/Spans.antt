@@ -1,7 +1,8 @@
 -- An interval of bins.
 use Rattle.std.proofs.Common.{◌≡◌, ℕ, ◌+◌, ◌≤◌, Bool, true, false, ◌&&◌, List, ltb, leb, refl, sym, arith}
+use Rattle.std.proofs.lemmas.Bool.Decides.{nat_tests}
 use Rattle.std.proofs.lemmas.Bool.{ltb-true, ltb-false, lt-ltb, le-leb, lt-leb}
-use Rattle.cube_view.proofs.Amounts.{amount-split}
+use Rattle.cube_view.proofs.Amounts.{amount-none, amount-split}
 use Rattle.cube_view.proofs.OneWeight.{one_if}
 use Rattle.cube_view.specs.Bag.{amount}
 use Rattle.cube_view.specs.Places.{is_under, is_before}
@@ -25,3 +26,11 @@ span true b from to le = elim (ltb b from) as (λ t. ltb b from ≡ t → one_if
 -- what stands before a span's end stands before its start or in it
 pub before_end : (z : Schema) (a : Address) (t : Span) (h : List Point) → t.from ≤ t.to → amount (is_before z a t.to) h ≡ amount (is_before z a t.from) h + amount (is_under_in z a t) h
 before_end z a t h le = amount-split (is_before z a t.to) (is_before z a t.from) (is_under_in z a t) (λ s. span (is_under z a s) s.bin t.from t.to le) h
+
+no_bin_below : (u : Bool) (b : ℕ) → (u && ltb b 0) ≡ false
+no_bin_below false b = refl
+no_bin_below true b = grind (arith, nat_tests)
+
+-- nothing stands before the first bin
+pub none_before : (z : Schema) (a : Address) (bin_end : ℕ) (h : List Point) → bin_end ≡ 0 → 0 ≡ amount (is_before z a bin_end) h
+none_before z a bin_end h e = rw e (sym (amount-none (is_before z a 0) (λ s. no_bin_below (is_under z a s) s.bin) h))
