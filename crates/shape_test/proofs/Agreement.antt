@@ -12,7 +12,7 @@ use Rattle.image_shape.specs.Ways.{Way, count_below, Merges}
 use Rattle.node_arena.proofs.Labelled.{link_down}
 use Rattle.image_shape.proofs.Core.{no_step, step_first}
 use Rattle.image_shape.proofs.OnlyChild.{table_link, alone, has_one}
-use Rattle.shape_test.specs.Agreeing.{content_below, AgreesAs, Agrees, CountedAgree, AllAgree, CoversPart, CoversParts, MergesOver}
+use Rattle.shape_test.specs.Agreeing.{content_below, HasCount, AgreesAs, Agrees, CountedAgree, AllAgree, CoversPart, CoversParts, MergesOver}
 use Rattle.shape_test.specs.Homes.{step_of, way_of}
 use Rattle.shape_test.specs.declared.home.Move.{Move}
 use Rattle.shape_test.specs.declared.home.Move.TheVariants.{Down, Across}
@@ -30,8 +30,8 @@ longer_way w v l e = ap way_of e ∙ map-append step_of w (Down l ∷ Across ∷
 
 module _ (slots : List Slot) (side : Side) (before : Way) (i : ℕ) where
   -- what is asked at a way's end, at another way and count
-  moved : (way again : Way) (bin n m : ℕ) → way ≡ again → n ≡ m → Agrees slots side way bin n → Agrees slots side again bin m
-  moved way again bin n m e f a = subst (λ (z : ℕ). Agrees slots side again bin z) f (subst (λ (w : Way). Agrees slots side w bin n) e a)
+  moved : (way again : Way) (n m : ℕ) → way ≡ again → n ≡ m → Agrees slots side way n → Agrees slots side again m
+  moved way again n m e f a = subst (λ (z : ℕ). Agrees slots side again z) f (subst (λ (w : Way). Agrees slots side w n) e a)
 
   -- without a content nothing is counted
   pub none_counted : (n : ℕ) → link_of slots i across ≡ None → CountedAgree slots side before i n
@@ -39,15 +39,15 @@ module _ (slots : List Slot) (side : Side) (before : Way) (i : ℕ) where
 
   module _ (c : Link) (there : link_of slots i across ≡ Some c) where
     -- without a category the content itself is looked at
-    pub at_end : ((bin : ℕ) → 0 < count (slot_of slots (target c)) bin → Agrees slots side before bin (count (slot_of slots (target c)) bin)) → CountedAgree slots side before i 0
+    pub at_end : ((bin : ℕ) → 0 < count (slot_of slots (target c)) bin → Agrees slots side before (count (slot_of slots (target c)) bin)) → CountedAgree slots side before i 0
     at_end H way o bin some =
         let e = over_none way o in
         let f : content_below slots i way bin ≡ count (slot_of slots (target c)) bin = ap (λ (w : Way). content_below slots i w bin) e ∙ step_first slots i across c [] bin there in
-        moved before (before ++ way) bin (count (slot_of slots (target c)) bin) (content_below slots i way bin) (sym (append-nil before) ∙ ap (λ (w : Way). before ++ w) (sym e)) (sym f) (H bin (omega (arith, f, some)))
+        moved before (before ++ way) (count (slot_of slots (target c)) bin) (content_below slots i way bin) (sym (append-nil before) ∙ ap (λ (w : Way). before ++ w) (sym e)) (sym f) (H bin (omega (arith, f, some)))
 
-    pub end_agrees : AllAgree slots side before i 0 → (bin : ℕ) → Agrees slots side before bin (count (slot_of slots (target c)) bin)
+    pub end_agrees : AllAgree slots side before i 0 → (bin : ℕ) → Agrees slots side before (count (slot_of slots (target c)) bin)
     end_agrees A bin =
-        moved (before ++ []) before bin (content_below slots i [] bin) (count (slot_of slots (target c)) bin) (append-nil before) (step_first slots i across c [] bin there) (A [] (refl, refl) bin)
+        moved (before ++ []) before (content_below slots i [] bin) (count (slot_of slots (target c)) bin) (append-nil before) (step_first slots i across c [] bin there) (A [] (refl, refl) bin)
 
     -- a table counts nothing behind a category
     pub past_table : (n : ℕ) → IsTable (slot_of slots (target c)) → CountedAgree slots side before i (suc n)
@@ -67,7 +67,7 @@ module _ (slots : List Slot) (side : Side) (before : Way) (i : ℕ) where
         whole : content_below slots i way bin ≡ content_below slots i (down (over_one n way o).label ∷ across ∷ (over_one n way o).rest) bin
         whole = ap (λ (w : Way). content_below slots i w bin) (over_one n way o).is
 
-        go : (k : Option Link) → link_of slots (target c) (down (over_one n way o).label) ≡ k → Agrees slots side (before ++ way) bin (content_below slots i way bin)
+        go : (k : Option Link) → link_of slots (target c) (down (over_one n way o).label) ≡ k → Agrees slots side (before ++ way) (content_below slots i way bin)
         go None e =
             let b = over_one n way o in
             let f = whole ∙ (step_first slots i across c (down b.label ∷ across ∷ b.rest) bin there ∙ no_step slots (target c) (down b.label) (across ∷ b.rest) bin e) in
@@ -75,11 +75,11 @@ module _ (slots : List Slot) (side : Side) (before : Way) (i : ℕ) where
         go (Some k) e =
             let b = over_one n way o in
             let f = whole ∙ below b.label k b.rest bin e in
-            moved ((before ++ down b.label ∷ across ∷ []) ++ b.rest) (before ++ way) bin (content_below slots (target k) b.rest bin) (content_below slots i way bin) (append_assoc before (down b.label ∷ across ∷ []) b.rest ∙ ap (λ (w : Way). before ++ w) (sym b.is)) (sym f) (H b.label k e b.rest b.over bin (omega (arith, f, some)))
+            moved ((before ++ down b.label ∷ across ∷ []) ++ b.rest) (before ++ way) (content_below slots (target k) b.rest bin) (content_below slots i way bin) (append_assoc before (down b.label ∷ across ∷ []) b.rest ∙ ap (λ (w : Way). before ++ w) (sym b.is)) (sym f) (H b.label k e b.rest b.over bin (omega (arith, f, some)))
 
     pub child_agrees : (n m : ℕ) (k : Link) → link_of slots (target c) (down m) ≡ Some k → AllAgree slots side before i (suc n) → AllAgree slots side (before ++ down m ∷ across ∷ []) (target k) n
     child_agrees n m k e A way o bin =
-        moved (before ++ (down m ∷ across ∷ way)) ((before ++ down m ∷ across ∷ []) ++ way) bin (content_below slots i (down m ∷ across ∷ way) bin) (content_below slots (target k) way bin) (sym (append_assoc before (down m ∷ across ∷ []) way)) (below m k way bin e) (A (down m ∷ across ∷ way) (over_more n m way o) bin)
+        moved (before ++ (down m ∷ across ∷ way)) ((before ++ down m ∷ across ∷ []) ++ way) (content_below slots i (down m ∷ across ∷ way) bin) (content_below slots (target k) way bin) (sym (append_assoc before (down m ∷ across ∷ []) way)) (below m k way bin e) (A (down m ∷ across ∷ way) (over_more n m way o) bin)
 
 -- sums over children
 zero_sum : (f : ℕ → ℕ) (children : Children) → ((l : ℕ) → f l ≡ 0) → sum_by (λ (k : ℕ × Link). f k.0) children ≡ 0
@@ -104,44 +104,67 @@ part_of_sum f (x ∷ xs) l k e = go (eqb x.0 l) refl e (λ g. part_of_sum f xs l
         let r = rest g in
         omega (arith, a, r)
 
+-- each number of a sum is 0, or something holds
+zero_or : (f : ℕ → ℕ) (children : Children) (Q : Type 0) → ((l : ℕ) → (f l ≡ 0) ⊎ Q) → (sum_by (λ (k : ℕ × Link). f k.0) children ≡ 0) ⊎ Q
+zero_or f [] Q z = inl refl
+zero_or f (x ∷ xs) Q z = go (z x.0) (zero_or f xs Q z)
+  where
+    go : (f x.0 ≡ 0) ⊎ Q → (sum_by (λ (k : ℕ × Link). f k.0) xs ≡ 0) ⊎ Q → (sum_by (λ (k : ℕ × Link). f k.0) (x ∷ xs) ≡ 0) ⊎ Q
+    go (inr q) r = inr q
+    go (inl h) (inr q) = inr q
+    go (inl h) (inl r) = let a = sum_by-cons (λ (k : ℕ × Link). f k.0) x xs in inl (omega (arith, a, h, r))
+
 module _ (slots : List Slot) (i : ℕ) where
   -- what a part is asked covers it
   pub part_covered : (s : Side) (n : ℕ) (l : Link) → s.role ≡ Part → s.node.0 ≡ i → CountedAgree slots s [] (target l) n → CoversPart slots i n l
-  part_covered s n l role node C way o bin = go (cases_lt 0 (content_below slots (target l) way bin))
-    where
-      go : (0 < content_below slots (target l) way bin) ⊎ (content_below slots (target l) way bin ≤ 0) → content_below slots (target l) way bin ≤ content_below slots i way bin
-      go (inl x) = subst (λ (j : ℕ). content_below slots (target l) way bin ≤ content_below slots j way bin) node (subst (λ r. AgreesAs r slots s.node.0 way bin (content_below slots (target l) way bin)) role (C way o bin x))
-      go (inr x) = omega (arith, x)
+  part_covered s n l role node C way o bin some =
+      let a : AgreesAs Part slots s.node.0 way (content_below slots (target l) way bin) = subst (λ r. AgreesAs r slots s.node.0 way (content_below slots (target l) way bin)) role (C way o bin some) in
+      subst (λ (j : ℕ). HasCount slots j way) node (a some)
 
   pub cover_agrees : (s : Side) (n : ℕ) (l : Link) → s.role ≡ Part → s.node.0 ≡ i → CoversPart slots i n l → AllAgree slots s [] (target l) n
   cover_agrees s n l role node C way o bin =
-      subst (λ r. AgreesAs r slots s.node.0 way bin (content_below slots (target l) way bin)) (sym role) (subst (λ (j : ℕ). content_below slots (target l) way bin ≤ content_below slots j way bin) (sym node) (C way o bin))
+      let a : AgreesAs Part slots s.node.0 way (content_below slots (target l) way bin) = λ some. subst (λ (j : ℕ). HasCount slots j way) (sym node) (C way o bin some) in
+      subst (λ r. AgreesAs r slots s.node.0 way (content_below slots (target l) way bin)) (sym role) a
 
-  -- the content is the sum of its parts where it counts something, and elsewhere covers them
+  -- the content is the sum of its parts where it counts something, and it counts something where they do
   pub merged_by : (s : Side) (n : ℕ) → s.role ≡ Whole → s.node.0 ≡ i → CountedAgree slots s [] i n → CoversParts slots i n → MergesOver slots i n
   merged_by s n role node C P way o bin = go (cases_lt 0 (content_below slots i way bin))
     where
-      go : (0 < content_below slots i way bin) ⊎ (content_below slots i way bin ≤ 0) → Merges slots i way bin
-      go (inl x) = subst (λ (j : ℕ). Merges slots j way bin) node (subst (λ r. AgreesAs r slots s.node.0 way bin (content_below slots i way bin)) role (C way o bin x))
-      go (inr x) = let z = zero_sum (λ (l : ℕ). count_below slots i (down l ∷ across ∷ way) bin) (children_of (slot_of slots i)) none in omega (arith, x, z)
+      by_count : HasCount slots i way → Merges slots i way bin
+      by_count h =
+          let a : AgreesAs Whole slots s.node.0 way (content_below slots i way h.bin) = subst (λ r. AgreesAs r slots s.node.0 way (content_below slots i way h.bin)) role (C way o h.bin h.some) in
+          subst (λ (j : ℕ). Merges slots j way bin) node (a bin)
+
+      part_none : (l : ℕ) → (count_below slots i (down l ∷ across ∷ way) bin ≡ 0) ⊎ Merges slots i way bin
+      part_none l = pick (link_of slots i (down l)) refl
         where
-          none : (l : ℕ) → count_below slots i (down l ∷ across ∷ way) bin ≡ 0
-          none l = pick (link_of slots i (down l)) refl
+          pick : (k : Option Link) → link_of slots i (down l) ≡ k → (count_below slots i (down l ∷ across ∷ way) bin ≡ 0) ⊎ Merges slots i way bin
+          pick None e = inl (no_step slots i (down l) (across ∷ way) bin e)
+          pick (Some k) e = some_or (cases_lt 0 (content_below slots (target k) way bin))
             where
-              pick : (k : Option Link) → link_of slots i (down l) ≡ k → count_below slots i (down l ∷ across ∷ way) bin ≡ 0
-              pick None e = no_step slots i (down l) (across ∷ way) bin e
-              pick (Some k) e = let s = step_first slots i (down l) k (across ∷ way) bin e in let p = P l k e way o bin in omega (arith, s, p, x)
+              some_or : (0 < content_below slots (target k) way bin) ⊎ (content_below slots (target k) way bin ≤ 0) → (count_below slots i (down l ∷ across ∷ way) bin ≡ 0) ⊎ Merges slots i way bin
+              some_or (inl x) = inr (by_count (P l k e way o bin x))
+              some_or (inr x) = let s = step_first slots i (down l) k (across ∷ way) bin e in inl (omega (arith, s, x))
+
+      go : (0 < content_below slots i way bin) ⊎ (content_below slots i way bin ≤ 0) → Merges slots i way bin
+      go (inl x) = by_count (record { bin = bin; some = x })
+      go (inr x) = end (zero_or (λ (l : ℕ). count_below slots i (down l ∷ across ∷ way) bin) (children_of (slot_of slots i)) (Merges slots i way bin) part_none)
+        where
+          end : (sum_by (λ (k : ℕ × Link). count_below slots i (down k.0 ∷ across ∷ way) bin) (children_of (slot_of slots i)) ≡ 0) ⊎ Merges slots i way bin → Merges slots i way bin
+          end (inl z) = omega (arith, x, z)
+          end (inr m) = m
 
   pub merges_agree : (s : Side) (n : ℕ) → s.role ≡ Whole → s.node.0 ≡ i → MergesOver slots i n → AllAgree slots s [] i n
   merges_agree s n role node M way o bin =
-      subst (λ r. AgreesAs r slots s.node.0 way bin (content_below slots i way bin)) (sym role) (subst (λ (j : ℕ). Merges slots j way bin) (sym node) (M way o bin))
+      let a : AgreesAs Whole slots s.node.0 way (content_below slots i way bin) = λ b. subst (λ (j : ℕ). Merges slots j way b) (sym node) (M way o b) in
+      subst (λ r. AgreesAs r slots s.node.0 way (content_below slots i way bin)) (sym role) a
 
   pub merges_cover : (n : ℕ) → MergesOver slots i n → CoversParts slots i n
-  merges_cover n M l k e way o bin =
+  merges_cover n M l k e way o bin some =
       let m = M way o bin in
       let s = step_first slots i (down l) k (across ∷ way) bin e in
       let p = part_of_sum (λ (l : ℕ). count_below slots i (down l ∷ across ∷ way) bin) (children_of (slot_of slots i)) l k (sym (link_down (slot_of slots i) l) ∙ e) in
-      omega (arith, m, s, p)
+      record { bin = bin; some = omega (arith, m, s, p, some) }
 
   -- a table has no content, and no children
   pub table_merges : (n : ℕ) → IsTable (slot_of slots i) → MergesOver slots i n

@@ -1,6 +1,6 @@
 -- What is left of rows once those of others are taken off.
 use Rattle.std.proofs.Common.{◌≡◌, ◌↔◌, inl, inr, ℕ, suc, ◌+◌, ◌-◌, ◌<◌, ◌≤◌, Bool, cond, eqb, eq-eqb, ne_eqb, nat_cmp, T, List, [], ◌∷◌, ◌++◌, length, map, take, drop, get_or, set, All, Option, Some, None, refl, sym, ap, ◌∙◌, subst, arith}
-use Rattle.std.specs.FinMap.{empty, entries, entries_sorted}
+use Rattle.std.specs.FinMap.{empty, empty_of_len, entries, entries_sorted, len-entries}
 use Rattle.std.specs.Prelude.{IfOk, IsTrue, Result, Ok, Err}
 use Rattle.std.specs.FinMap.Entries.{is_sorted, below_all}
 use Rattle.std.proofs.Math.Seq.{drop-cons}
@@ -226,6 +226,20 @@ entries_orderly m counted = record {
   rises = sorted_rises (entries m) (entries_sorted m);
   counted = λ k d within. subst (λ n. 0 < n) (get_or-map (λ (e : ℕ × ℕ). e.1) (entries m) k d 0 within) (counted k 0 (omega (arith, length-map (entries m) (λ (e : ℕ × ℕ). e.1))));
 }
+
+-- a table that isn't empty has a row
+pub some_row : (m : BinCounts) → AllCounted m → (m ≡ empty → ⊥) → (b : ℕ) × (0 < count_of m b)
+some_row m counted other = pick (entries m) refl
+  where
+    pick : (es : List (ℕ × ℕ)) → entries m ≡ es → (b : ℕ) × (0 < count_of m b)
+    pick [] e = absurd (other (empty_of_len m (len-entries m ∙ ap length e)))
+    pick (x ∷ es) e =
+        let n = ap length e in
+        let within : 0 < length (entries m) = omega (arith, n) in
+        let some = (entries_orderly m counted).counted 0 x within in
+        let least = amount_least (entries m) 0 x within in
+        let all = amount-entries m (get_or (entries m) 0 x).0 in
+        ((get_or (entries m) 0 x).0, omega (arith, some, least, all))
 
 pub none_orderly : AreOrderly []
 none_orderly = record {

@@ -18,7 +18,6 @@ use Rattle.shape_test.specs.Merging.{NoRowFrom, IsFirstRow}
 use Rattle.shape_test.specs.Sizes.{capped_size, table_size, size_of}
 use Rattle.shape_test.specs.declared.size.BagSize.{BagSize}
 use Rattle.shape_test.proofs.Adding.{counted_in, counted_out}
-use Rattle.shape_test.proofs.Counting.{one_more}
 
 -- sums that are capped can be added before or after
 pub capped_plus : (a b : ℕ) → capped (capped a + capped b) ≡ capped (a + b)
@@ -41,6 +40,9 @@ in_cons f n e es = sum_by-cons (λ (e : ℕ × ℕ). cond {A = ℕ} (eqb e.0 n) 
 upto_zero : (f : ℕ → ℕ) (es : List (ℕ × ℕ)) → rows_upto f 0 es ≡ 0
 upto_zero f [] = refl
 upto_zero f (e ∷ es) = let a = upto_cons f 0 e es in let b = counted_out e.0 0 (f e.1) (omega arith) in let r = upto_zero f es in omega (arith, a, b, r)
+
+one_more : (k n v : ℕ) → cond {A = ℕ} (nat_lt k (n + 1)) v 0 ≡ cond {A = ℕ} (nat_lt k n) v 0 + cond {A = ℕ} (eqb k n) v 0
+one_more k n v = grind arith
 
 upto_suc : (f : ℕ → ℕ) (n : ℕ) (es : List (ℕ × ℕ)) → rows_upto f (n + 1) es ≡ rows_upto f n es + rows_in f n es
 upto_suc f n [] = refl

@@ -1,7 +1,7 @@
 //! Single looks at a slot: whether a table has a row, and where a step leads.
 ghost use Rattle.std.specs.Prelude.{◌≡◌, ◌↔◌, ◌<◌, length, IsTrue};
 ghost use Rattle.node_arena.specs.Slots.{IsTable, link_of, slot_of};
-ghost use Rattle.shape_test.specs.Filled.{HasRow, HasSmallBins};
+ghost use Rattle.shape_test.specs.Filled.{HasRow};
 ghost use Rattle.shape_test.specs.Homes.{step_of};
 
 use crate::home::Move;
@@ -13,10 +13,20 @@ use std::sync::ledger::Ledger;
 pub fn has_row<L: Ledger>(arena: &Arena, id: SlotId, steps: &mut Steps<L>) -> bool
     requires in_range { id.0 < length arena.now }
     requires is_table { IsTable (slot_of arena.now id.0) }
-    requires bins { HasSmallBins arena.now }
     ensures { IsTrue result ↔ HasRow arena.now id.0 }
 {
-    arena.table(id, steps).before(1 << 32, steps) > 0
+    !arena.table(id, steps).is_empty()
+}
+
+/// Whether a slot is a table that has a row.
+pub fn counts_any<L: Ledger>(arena: &Arena, id: SlotId, steps: &mut Steps<L>) -> bool
+    requires { id.0 < length arena.now }
+    ensures { IsTrue result ↔ HasRow arena.now id.0 }
+{
+    if !arena.is_table(id) {
+        return false;
+    }
+    has_row(arena, id, steps)
 }
 
 /// The link that a step goes along.

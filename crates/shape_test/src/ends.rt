@@ -1,5 +1,5 @@
 //! The slots to which a way leads from the contents of a node and of its children.
-ghost use Rattle.std.specs.Prelude.{◌≡◌, ℕ, ◌<◌, ◌∷◌, ◌++◌, length, option_to_list, IfOk, OnOk};
+ghost use Rattle.std.specs.Prelude.{◌≡◌, ℕ, ◌<◌, ◌∷◌, ◌++◌, length, option_to_list, OnOk};
 ghost use Rattle.cube_view.specs.Walks.{across};
 ghost use Rattle.node_arena.specs.Slots.{IsNode, slot_of};
 ghost use Rattle.image_shape.specs.Sharing.{LeadsWithin};
@@ -13,9 +13,8 @@ use crate::children::first_child;
 use crate::counts::link_along;
 use crate::home::Move;
 use node_arena::{Arena, SlotId};
-use outer_io::{List, NoMemory};
+use outer_io::NoMemory;
 use probe_core::Steps;
-use std::alloc::Global;
 use std::sync::ledger::Ledger;
 
 /// The slot at the end of a way from a slot, if it leads to one.
@@ -58,36 +57,39 @@ pub fn content_end<L: Ledger>(
 }
 
 /// Adds a slot at the end, if there is one.
-fn add_end(ends: &mut List<SlotId>, end: Option<SlotId>) -> Result<(), NoMemory>
-    ensures { OnOk result (ends.new ≡ ends.old ++ option_to_list end) }
+fn add_end(ends: &mut Vec<SlotId>, end: Option<SlotId>) -> Result<(), NoMemory>
+    ensures { OnOk result (ends.new.items ≡ ends.old.items ++ option_to_list end) }
 {
-    match end {
-        Some(end) => ends.add(end),
-        None => Ok(()),
+    let Some(end) = end else {
+        return Ok(());
+    };
+    match ends.push(end) {
+        Ok(()) => Ok(()),
+        Err(_) => Err(NoMemory),
     }
 }
 
-/// The slots at the ends of a way from the contents of a node's children.
+/// The slots at the ends of a way from the contents of a node's children, in place of what a list had.
 pub fn part_ends<L: Ledger>(
-    alloc: Global,
+    ends: &mut Vec<SlotId>,
     arena: &Arena,
     id: SlotId,
     way: &[Move],
     steps: &mut Steps<L>,
-) -> Result<List<SlotId>, NoMemory>
+) -> Result<(), NoMemory>
     requires in_range { id.0 < length arena.now }
     requires is_node { IsNode (slot_of arena.now id.0) }
     requires linked { AreLinked arena.now }
-    ensures counted { IfOk result (λ ends. (bin : ℕ) → ends_count arena.now ends bin ≡ parts_count arena.now id.0 (way_of way.now) bin) }
-    ensures in_range { IfOk result (λ ends. AreEnds arena.now ends) }
+    ensures counted { OnOk result ((bin : ℕ) → ends_count arena.now ends.new.items bin ≡ parts_count arena.now id.0 (way_of way.now) bin) }
+    ensures in_range { OnOk result (AreEnds arena.now ends.new.items) }
 {
-    let mut ends = List::new(alloc);
+    ends.clear();
     let mut i = 0;
     let mut from = 0;
     while let Some((label, link)) = first_child(arena, id, i, from) {
-        add_end(&mut ends, content_end(arena, link.to, way, steps))?;
+        add_end(ends, content_end(arena, link.to, way, steps))?;
         i += 1;
         from = u16::from(label) + 1;
     }
-    Ok(ends)
+    Ok(())
 }

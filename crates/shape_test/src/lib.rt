@@ -43,6 +43,6 @@ pub use merging::node_merges;
 pub use owner::Owner;
 pub use place::{Place, place_of};
 pub use places::places_of;
-pub use rows::rows_merge;
+pub use rows::{Room, rows_merge};
 pub use size::{size_fits, size_laws};
 pub use standing::slots_fit;

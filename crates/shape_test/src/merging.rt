@@ -8,17 +8,15 @@ ghost use Rattle.shape_test.specs.Places.{IsSchemaPlace};
 ghost use Rattle.shape_test.specs.Testable.{AreReadable};
 
 use crate::children::first_child;
-use crate::counts::link_along;
+use crate::counts::{counts_any, link_along};
 use crate::ends::content_end;
 use crate::home::Move;
 use crate::place::{Place, deepest, time_dim};
-use crate::remainder::end_covers;
-use crate::rows::rows_merge;
+use crate::rows::{Room, rows_merge};
 use cube_view::Schema;
 use node_arena::{Arena, SlotId};
 use outer_io::{List, NoMemory};
 use probe_core::Steps;
-use std::alloc::Global;
 use std::sync::ledger::Ledger;
 
 /// Which contents tables are reached from: a node's own, or those of its children.
@@ -35,26 +33,31 @@ pub struct Side {
     pub role: Role,
 }
 
-/// Whether a node's content counts along a way at least what a table counts, in each bin.
+/// Whether a node's content counts a record along a way, if a slot has a row. Where it does, the way was tested with the
+/// rows of the content.
 fn is_covered<L: Ledger>(
-    alloc: Global,
     arena: &Arena,
     id: SlotId,
-    table: SlotId,
+    at: SlotId,
     way: &[Move],
     steps: &mut Steps<L>,
-) -> Result<bool, NoMemory>
-    requires in_range { (id.0 < length arena.now) × (table.0 < length arena.now) }
+) -> bool
+    requires in_range { (id.0 < length arena.now) × (at.0 < length arena.now) }
     requires within { LeadsWithin arena.now }
-    ensures { IfOk result (λ r. IsTrue r ↔ Covers arena.now id.0 (way_of way.now) table.0) }
+    ensures { IsTrue result ↔ Covers arena.now id.0 (way_of way.now) at.0 }
 {
-    let whole = content_end(arena, id, way, steps);
-    end_covers(alloc, arena, whole, table, steps)
+    if !counts_any(arena, at, steps) {
+        return true;
+    }
+    match content_end(arena, id, way, steps) {
+        Some(end) => counts_any(arena, end, steps),
+        None => false,
+    }
 }
 
 /// Whether what a slot counts at the end of a way agrees. It says no only where it doesn't in some bin.
 fn slot_agrees<L: Ledger>(
-    alloc: Global,
+    room: &mut Room,
     arena: &Arena,
     side: Side,
     at: SlotId,
@@ -71,8 +74,8 @@ fn slot_agrees<L: Ledger>(
         return Ok(true);
     }
     match side.role {
-        Role::Whole => rows_merge(alloc, arena, side.node, way, steps),
-        Role::Part => is_covered(alloc, arena, side.node, at, way, steps),
+        Role::Whole => rows_merge(room, arena, side.node, way, steps),
+        Role::Part => Ok(is_covered(arena, side.node, at, way, steps)),
     }
 }
 
@@ -95,7 +98,7 @@ fn drop_value(way: &mut List<Move>)
 /// Whether all tables agree that ways lead to from the content of a slot, through the categories that are left. The slot
 /// stands at the end of a way. It says no only where some table doesn't agree.
 fn content_agrees<L: Ledger>(
-    alloc: Global,
+    room: &mut Room,
     arena: &Arena,
     side: Side,
     of: SlotId,
@@ -114,7 +117,7 @@ fn content_agrees<L: Ledger>(
         return Ok(true);
     };
     if left == 0 {
-        return slot_agrees(alloc, arena, side, content.to, way.as_slice(), steps);
+        return slot_agrees(room, arena, side, content.to, way.as_slice(), steps);
     }
     if arena.is_table(content.to) {
         return Ok(true);
@@ -123,7 +126,7 @@ fn content_agrees<L: Ledger>(
     let mut from = 0;
     while let Some((label, child)) = first_child(arena, content.to, i, from) {
         add_value(way, label)?;
-        let agrees = content_agrees(alloc, arena, side, child.to, left - 1, way, steps)?;
+        let agrees = content_agrees(room, arena, side, child.to, left - 1, way, steps)?;
         drop_value(way);
         if !agrees {
             return Ok(false);
@@ -136,7 +139,7 @@ fn content_agrees<L: Ledger>(
 
 /// Whether the contents of a node's children count, through the categories that are left, at most what its own counts.
 fn parts_agree<L: Ledger>(
-    alloc: Global,
+    room: &mut Room,
     arena: &Arena,
     id: SlotId,
     left: u8,
@@ -156,7 +159,7 @@ fn parts_agree<L: Ledger>(
     let mut i = 0;
     let mut from = 0;
     while let Some((label, child)) = first_child(arena, id, i, from) {
-        if !content_agrees(alloc, arena, side, child.to, left, way, steps)? {
+        if !content_agrees(room, arena, side, child.to, left, way, steps)? {
             return Ok(false);
         }
         i += 1;
@@ -168,7 +171,7 @@ fn parts_agree<L: Ledger>(
 /// Whether the content of a node counts, through the categories that are left, what the contents of its children count
 /// together. The content of an only child is the node's own, so nothing is counted there.
 fn contents_merge<L: Ledger>(
-    alloc: Global,
+    room: &mut Room,
     arena: &Arena,
     id: SlotId,
     left: u8,
@@ -186,17 +189,17 @@ fn contents_merge<L: Ledger>(
         node: id,
         role: Role::Whole,
     };
-    let mut way = List::new(alloc);
-    if !content_agrees(alloc, arena, whole, id, left, &mut way, steps)? {
+    let mut way = List::new(room.alloc);
+    if !content_agrees(room, arena, whole, id, left, &mut way, steps)? {
         return Ok(false);
     }
-    parts_agree(alloc, arena, id, left, &mut way, steps)
+    parts_agree(room, arena, id, left, &mut way, steps)
 }
 
 /// Whether along each finest way from a node at a place its content counts what the contents of its children count
 /// together.
 pub fn node_merges<L: Ledger>(
-    alloc: Global,
+    room: &mut Room,
     schema: &Schema,
     arena: &Arena,
     id: SlotId,
@@ -212,5 +215,5 @@ pub fn node_merges<L: Ledger>(
     if place.level >= deepest(schema, place.dim) {
         return Ok(true);
     }
-    contents_merge(alloc, arena, id, time_dim(schema) - place.dim - 1, steps)
+    contents_merge(room, arena, id, time_dim(schema) - place.dim - 1, steps)
 }

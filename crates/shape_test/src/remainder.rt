@@ -1,15 +1,13 @@
 //! What is left of a slot's rows once those of others are taken off, by one pass over the rows of both.
-ghost use Rattle.std.specs.Prelude.{◌≡◌, ℕ, ◌↔◌, ◌+◌, ◌<◌, ◌≤◌, ◌^◌, length, IsTrue, IfOk};
+ghost use Rattle.std.specs.Prelude.{◌≡◌, ℕ, ◌↔◌, ◌+◌, ◌<◌, ◌≤◌, ◌^◌, length, IsTrue, IfOk, OnOk};
 ghost use Rattle.probe_core.specs.Places.{RisesBy};
 ghost use Rattle.time_table.specs.Counts.{amount_at};
-ghost use Rattle.node_arena.specs.Slots.{count, slot_of};
 ghost use Rattle.shape_test.specs.Ends.{end_count, ends_count, IsEnd, AreEnds};
 ghost use Rattle.shape_test.specs.Remainder.{AreOrderly, FitIn, IsRemainder, row_key, end_rows, slot_rows};
 
 use node_arena::{Arena, SlotId};
 use outer_io::NoMemory;
 use probe_core::Steps;
-use std::alloc::Global;
 use std::sync::ledger::Ledger;
 
 /// Takes rows off others, bin by bin. It says no only where they count more than these in some bin.
@@ -49,46 +47,48 @@ fn are_spent(rows: &[(u32, u64)]) -> bool
     true
 }
 
-/// The rows of a slot in rising order of bin: a node has none.
-fn rows_of<L: Ledger>(
-    alloc: Global,
+/// The rows of a slot in rising order of bin, in place of what a list had: a node has none.
+fn read_rows<L: Ledger>(
+    rows: &mut Vec<(u32, u64)>,
     arena: &Arena,
     id: SlotId,
     steps: &mut Steps<L>,
-) -> Result<Vec<(u32, u64)>, NoMemory>
+) -> Result<(), NoMemory>
     requires { id.0 < length arena.now }
-    ensures rows { IfOk result (λ rows. rows.items ≡ slot_rows arena.now id.0) }
+    ensures rows { OnOk result (rows.new.items ≡ slot_rows arena.now id.0) }
     ensures orderly { AreOrderly (slot_rows arena.now id.0) }
 {
-    let mut rows = Vec::new(alloc);
+    rows.clear();
     if arena.is_table(id) {
-        arena.table(id, steps).put_rows(&mut rows, steps)?;
+        arena.table(id, steps).put_rows(rows, steps)?;
     }
-    Ok(rows)
+    Ok(())
 }
 
-/// The rows of a slot, if there is one.
-fn rows_at_end<L: Ledger>(
-    alloc: Global,
+/// The rows of a slot, if there is one, in place of what a list had.
+fn read_end<L: Ledger>(
+    rows: &mut Vec<(u32, u64)>,
     arena: &Arena,
     end: Option<SlotId>,
     steps: &mut Steps<L>,
-) -> Result<Vec<(u32, u64)>, NoMemory>
+) -> Result<(), NoMemory>
     requires { IsEnd arena.now end }
-    ensures rows { IfOk result (λ rows. rows.items ≡ end_rows arena.now end) }
+    ensures rows { OnOk result (rows.new.items ≡ end_rows arena.now end) }
     ensures orderly { AreOrderly (end_rows arena.now end) }
 {
-    match end {
-        Some(id) => rows_of(alloc, arena, id, steps),
-        None => Ok(Vec::new(alloc)),
-    }
+    let Some(id) = end else {
+        rows.clear();
+        return Ok(());
+    };
+    read_rows(rows, arena, id, steps)
 }
 
-/// Takes the rows of slots off others. It says no only where they count more than these in some bin.
+/// Takes the rows of slots off others. It says no only where they count more than these in some bin. Rows are read into a
+/// list that is there.
 fn take_ends<L: Ledger>(
-    alloc: Global,
-    arena: &Arena,
     left: &mut [(u32, u64)],
+    rows: &mut Vec<(u32, u64)>,
+    arena: &Arena,
     ends: &[SlotId],
     steps: &mut Steps<L>,
 ) -> Result<bool, NoMemory>
@@ -98,7 +98,7 @@ fn take_ends<L: Ledger>(
     ensures all { ((bin : ℕ) → ends_count arena.now ends.now bin ≤ amount_at bin left.old) → IfOk result (λ r. IsTrue r) }
 {
     for end in ends {
-        let rows = rows_of(alloc, arena, *end, steps)?;
+        read_rows(rows, arena, *end, steps)?;
         if !take_off(left, rows.as_slice()) {
             return Ok(false);
         }
@@ -106,9 +106,11 @@ fn take_ends<L: Ledger>(
     Ok(true)
 }
 
-/// Whether a slot, if there is one, has in each bin as many records as others have together.
+/// Whether a slot, if there is one, has in each bin as many records as others have together. Rows are read into lists
+/// that are there.
 pub fn ends_merge<L: Ledger>(
-    alloc: Global,
+    left: &mut Vec<(u32, u64)>,
+    rows: &mut Vec<(u32, u64)>,
     arena: &Arena,
     whole: Option<SlotId>,
     parts: &[SlotId],
@@ -118,27 +120,10 @@ pub fn ends_merge<L: Ledger>(
     requires parts { AreEnds arena.now parts.now }
     ensures { IfOk result (λ r. IsTrue r ↔ ((bin : ℕ) → end_count arena.now whole bin ≡ ends_count arena.now parts.now bin)) }
 {
-    let mut rows = rows_at_end(alloc, arena, whole, steps)?;
-    let left = rows.as_mut_slice();
-    if !take_ends(alloc, arena, left, parts, steps)? {
+    read_end(left, arena, whole, steps)?;
+    let left = left.as_mut_slice();
+    if !take_ends(left, rows, arena, parts, steps)? {
         return Ok(false);
     }
     Ok(are_spent(left))
-}
-
-/// Whether a slot, if there is one, has in each bin at least as many records as another.
-pub fn end_covers<L: Ledger>(
-    alloc: Global,
-    arena: &Arena,
-    whole: Option<SlotId>,
-    part: SlotId,
-    steps: &mut Steps<L>,
-) -> Result<bool, NoMemory>
-    requires whole { IsEnd arena.now whole }
-    requires part { part.0 < length arena.now }
-    ensures { IfOk result (λ r. IsTrue r ↔ ((bin : ℕ) → count (slot_of arena.now part.0) bin ≤ end_count arena.now whole bin)) }
-{
-    let mut left = rows_at_end(alloc, arena, whole, steps)?;
-    let rows = rows_of(alloc, arena, part, steps)?;
-    Ok(take_off(left.as_mut_slice(), rows.as_slice()))
 }

@@ -33,10 +33,31 @@ pub fn first_row<L: Ledger>(
     }
 }
 
+/// Lists for the rows of tables and for the ends of ways, kept from test to test so that no test takes memory of its own.
+#[derive(Drop)]
+pub struct Room {
+    pub alloc: Global,
+    left: Vec<(u32, u64)>,
+    rows: Vec<(u32, u64)>,
+    ends: Vec<SlotId>,
+}
+
+impl Room {
+    /// Lists without items.
+    pub fn new(alloc: Global) -> Room {
+        Room {
+            alloc,
+            left: Vec::new(alloc),
+            rows: Vec::new(alloc),
+            ends: Vec::new(alloc),
+        }
+    }
+}
+
 /// Whether a node's content counts along a way what its children's contents count together, in each bin. The way is
-/// gone once for all bins, and the rows of each table are looked at once.
+/// gone once for all bins, and the rows of each table are read once.
 pub fn rows_merge<L: Ledger>(
-    alloc: Global,
+    room: &mut Room,
     arena: &Arena,
     id: SlotId,
     way: &[Move],
@@ -47,7 +68,13 @@ pub fn rows_merge<L: Ledger>(
     requires readable { AreReadable arena.now }
     ensures { IfOk result (λ r. IsTrue r ↔ ((bin : ℕ) → Merges arena.now id.0 (way_of way.now) bin)) }
 {
+    let Room {
+        alloc: _,
+        left,
+        rows,
+        ends,
+    } = room;
     let whole = content_end(arena, id, way, steps);
-    let parts = part_ends(alloc, arena, id, way, steps)?;
-    ends_merge(alloc, arena, whole, parts.as_slice(), steps)
+    part_ends(ends, arena, id, way, steps)?;
+    ends_merge(left, rows, arena, whole, ends.as_slice(), steps)
 }

@@ -4,7 +4,6 @@ ghost use Rattle.node_arena.specs.Shape.{HasProperLinks, home_of};
 ghost use Rattle.node_arena.specs.Slots.{IsNode, IsTable, slot_of};
 ghost use Rattle.node_arena.specs.Stats.{AllRising};
 ghost use Rattle.image_shape.specs.Laws.{AllTablesCounted};
-ghost use Rattle.shape_test.specs.Filled.{HasSmallBins};
 ghost use Rattle.shape_test.specs.Fits.{IsSchemaLocal};
 ghost use Rattle.shape_test.specs.Homes.{walks_of};
 ghost use Rattle.shape_test.specs.Standing.{TableStands, NodeStands, SuitsPlace, SlotStands, AllStand, AllMerge};
@@ -17,6 +16,7 @@ use crate::home::Move;
 use crate::links::links_fit;
 use crate::merging::node_merges;
 use crate::place::{Place, deepest, time_dim};
+use crate::rows::Room;
 use cube_view::Schema;
 use image_shape::shares_only;
 use node_arena::{Arena, SlotId};
@@ -35,7 +35,6 @@ fn table_stands<L: Ledger>(
 ) -> bool
     requires in_range { id.0 < length arena.now }
     requires is_table { IsTable (slot_of arena.now id.0) }
-    requires bins { HasSmallBins arena.now }
     ensures { IsTrue result ↔ TableStands schema.now arena.now id.0 place }
 {
     if place.dim != time_dim(schema) {
@@ -146,9 +145,10 @@ fn all_merge<L: Ledger>(
     requires readable { AreReadable arena.now }
     ensures { IfOk result (λ r. IsTrue r ↔ AllMerge schema.now arena.now (walks_of homes.now)) }
 {
+    let mut room = Room::new(alloc);
     for i in 0..arena.len() {
         let place = *places.get(i);
-        if !node_merges(alloc, schema, arena, SlotId(i as u32), place, steps)? {
+        if !node_merges(&mut room, schema, arena, SlotId(i as u32), place, steps)? {
             return Ok(false);
         }
     }

@@ -1,6 +1,5 @@
-use Rattle.std.proofs.Common.{nat_lt, ap}
 use Rattle.shape_test.proofs.Counting.{row_test}
 use Rattle.shape_test.proofs.counts.has_row.Goals as goal
 
 pub returns : goal.returns
-returns g c = row_test c.args.arena.now c.args.id.0 4294967296 c.table.result.now (nat_lt 0 c.before-2.result) (c.requires.bins c.args.id.0) c.table.ensures.counts (ap (nat_lt 0) c.before-2.ensures.sum)
+returns g c = row_test c.args.arena.now c.args.id.0 c.table.result.now c.is_empty.result c.table.ensures.counts c.is_empty.ensures.counted c.is_empty.ensures.empty

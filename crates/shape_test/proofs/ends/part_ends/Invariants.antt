@@ -13,8 +13,8 @@ invariant-loop-label g l = record {
   last : l.from ≤ 256;
   few : l.i ≤ l.from;
   place : IsPlace child_label l.from (children_of (slot_of l.arena l.id.0)) l.i;
-  counted : (bin : ℕ) → ends_count l.arena l.ends bin ≡ sum_upto (λ (n : ℕ). count_below l.arena l.id.0 (down n ∷ across ∷ way_of l.way) bin) l.from (children_of (slot_of l.arena l.id.0));
-  within : AreEnds l.arena l.ends;
+  counted : (bin : ℕ) → ends_count l.arena l.ends.items bin ≡ sum_upto (λ (n : ℕ). count_below l.arena l.id.0 (down n ∷ across ∷ way_of l.way) bin) l.from (children_of (slot_of l.arena l.id.0));
+  within : AreEnds l.arena l.ends.items;
 }
 
 abbrev pub decreases-loop-label : goal.decreases-loop-label

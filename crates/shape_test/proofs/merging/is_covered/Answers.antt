@@ -1,16 +1,35 @@
-use Rattle.std.proofs.Common.{◌≤◌, ℕ, arith}
-use Rattle.node_arena.specs.Slots.{count, slot_of}
-use Rattle.shape_test.specs.Agreeing.{Covers}
-use Rattle.shape_test.specs.Ends.{end_count}
-use Rattle.shape_test.specs.Homes.{way_of}
-use Rattle.shape_test.proofs.Remaining.{decides_same}
+use Rattle.std.proofs.Common.{refl, arith}
 use Rattle.shape_test.proofs.merging.is_covered.Goals as goal
 
-pub returns : goal.returns
-returns g c =
-    decides_same c.end_covers.result
-    ((bin : ℕ) → count (slot_of c.args.arena.now c.args.table.0) bin ≤ end_count c.args.arena.now c.content_end-whole.result bin)
-    (Covers c.args.arena.now c.args.id.0 (way_of c.args.way.now) c.args.table.0)
-    (λ fit bin. let f = fit bin in let e = c.content_end-whole.ensures.counted bin in omega (arith, f, e))
-    (λ fit bin. let f = fit bin in let e = c.content_end-whole.ensures.counted bin in omega (arith, f, e))
-    c.end_covers.ensures
+pub returns-then-not-counts_any : goal.returns-then-not-counts_any
+returns-then-not-counts_any g c = (
+  λ y h.
+      let yes = c.counts_any.ensures.1 h in
+      let no = c.if-not-counts_any.true in
+      absurd cc,
+  λ f. refl,
+)
+
+pub returns-in-Some : goal.returns-in-Some
+returns-in-Some g c = (
+  λ y h.
+      let some = c.counts_any-in-Some.ensures.0 y in
+      let n = some.some in
+      let e = c.in-Some.ensures.counted some.bin in
+      record { bin = some.bin; some = omega (arith, n, e) },
+  λ f.
+      let here = f (c.counts_any.ensures.0 c.if-not-counts_any.false) in
+      let n = here.some in
+      let e = c.in-Some.ensures.counted here.bin in
+      c.counts_any-in-Some.ensures.1 (record { bin = here.bin; some = omega (arith, n, e) }),
+)
+
+pub returns-in-None : goal.returns-in-None
+returns-in-None g c = (
+  λ y. absurd cc,
+  λ f.
+      let here = f (c.counts_any.ensures.0 c.if-not-counts_any.false) in
+      let n = here.some in
+      let e = c.in-None.ensures.counted here.bin in
+      absurd (omega (arith, n, e)),
+)

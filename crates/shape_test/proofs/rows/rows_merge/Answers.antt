@@ -11,6 +11,6 @@ returns g c =
     decides_same c.ends_merge.result
     ((bin : ℕ) → end_count c.args.arena.now c.content_end-whole.result bin ≡ ends_count c.args.arena.now c.as_slice.result.now bin)
     ((bin : ℕ) → Merges c.args.arena.now c.args.id.0 (way_of c.args.way.now) bin)
-    (λ same bin. sym (c.content_end-whole.ensures.counted bin) ∙ (same bin ∙ (ap (λ (es : List SlotId). ends_count c.args.arena.now es bin) c.as_slice.ensures ∙ c.in_ok-parts.ensures.counted bin)))
-    (λ all bin. c.content_end-whole.ensures.counted bin ∙ (all bin ∙ sym (ap (λ (es : List SlotId). ends_count c.args.arena.now es bin) c.as_slice.ensures ∙ c.in_ok-parts.ensures.counted bin)))
+    (λ same bin. sym (c.content_end-whole.ensures.counted bin) ∙ (same bin ∙ (ap (λ (es : List SlotId). ends_count c.args.arena.now es bin) c.as_slice.ensures.value ∙ c.in_ok-part_ends.ensures.counted bin)))
+    (λ all bin. c.content_end-whole.ensures.counted bin ∙ (all bin ∙ sym (ap (λ (es : List SlotId). ends_count c.args.arena.now es bin) c.as_slice.ensures.value ∙ c.in_ok-part_ends.ensures.counted bin)))
     c.ends_merge.ensures
