@@ -1,7 +1,8 @@
 -- How many bytes links, slots and images have.
-use Rattle.std.proofs.Common.{◌≡◌, ℕ, ◌+◌, ◌*◌, Bool, true, false, cond, ltb, List, [], ◌∷◌, ◌++◌, length, map, true≢false, Option, Some, None, sum_by, refl, sym, ap, ◌∙◌, arith, length-append}
+use Rattle.std.proofs.Common.{◌≡◌, ℕ, suc, ◌+◌, ◌*◌, ◌≤◌, Bool, true, false, cond, ltb, List, [], ◌∷◌, ◌++◌, length, map, true≢false, Option, Some, None, sum_by, refl, sym, ap, ◌∙◌, arith, length-append}
 use Rattle.std.proofs.lemmas.List.{length-map}
 use Rattle.std.proofs.lemmas.List.Sums.{sum_by-cons}
+use Rattle.std.specs.FinMap.{entries, len, len-entries}
 use Rattle.std.specs.Int.{to_be_bytes, w16, w64}
 use Rattle.std.specs.List.{flat_map}
 use Rattle.node_arena.specs.declared.link.Link.{Link}
@@ -11,7 +12,7 @@ use Rattle.node_arena.specs.Slots.{Children, Slot, node, table, slot_of, IsNode,
 use Rattle.cube_image.specs.Bytes.{child_bytes, content_bytes, row_bytes, table_bytes, node_bytes, slot_bytes, head_bytes, image_bytes}
 use Rattle.cube_image.specs.Image.{image_length}
 use Rattle.cube_image.specs.Order.{moved, moved_child, moved_content, in_order}
-use Rattle.cube_image.specs.Rest.{byte_children, word_rows}
+use Rattle.cube_image.specs.Rest.{below_number, byte_children, word_rows}
 
 length-children : (children : Children) → length (flat_map child_bytes children) ≡ 10 * length children
 length-children [] = refl
@@ -101,3 +102,22 @@ table_len (table counts) n m is at count =
     let a = length-table (word_rows counts) in
     let e : length (word_rows m) ≡ length (word_rows counts) = ap (λ (k : BinCounts). length (word_rows k)) at in
     omega arith
+
+-- no more pairs are below a number than there are
+length-below : (m : ℕ) (rows : List (ℕ × ℕ)) → length (below_number m rows) ≤ length rows
+length-below m [] = omega arith
+length-below m (e ∷ rows) =
+    let r = length-below m rows in
+    elim (ltb e.0 m) as (λ (b : Bool). length (cond b (e ∷ below_number m rows) (below_number m rows)) ≤ suc (length rows)) [
+      | true ↦ omega (arith, r)
+      | false ↦ omega (arith, r)
+    ]
+
+-- at most how many bytes a time table has
+pub table_bound : (s : Slot) (n : ℕ) (m : BinCounts) → IsTable s → m ≡ counts_of s → n ≡ len m → length (slot_bytes s) ≤ 9 + 12 * n
+table_bound (node children content) n m is at count = absurd (true≢false (sym is))
+table_bound (table counts) n m is at count =
+    let a = length-table (word_rows counts) in
+    let few = length-below 4294967296 (entries counts) in
+    let e : n ≡ length (entries counts) = count ∙ (len-entries m ∙ ap (λ (k : BinCounts). length (entries k)) at) in
+    omega (arith, a, few, e)

@@ -3,7 +3,7 @@ use Rattle.std.proofs.Common.{◌≡◌, ℕ, ◌+◌, ◌<◌, ◌≤◌, List,
 use Rattle.std.specs.Coded.{le_prop}
 use Rattle.std.proofs.Math.Logic.{∥∥₁_elim}
 use Rattle.std.proofs.lemmas.List.{length-map, get_or-map}
-use Rattle.std.proofs.lemmas.List.Sums.{sum_by_more_le}
+use Rattle.std.proofs.lemmas.List.Sums.{sum_by_more, sum_by_more_le}
 use Rattle.std.proofs.lemmas.List.Folds.{flat_map-map}
 use Rattle.std.specs.Int.{to_be_bytes, w16}
 use Rattle.std.specs.List.{flat_map}
@@ -78,6 +78,12 @@ pub length-more : (slots : List Slot) (places : List ℕ) (i len n : ℕ) → i 
 length-more slots places i len n lt is one more =
     let most = sum_by_more_le (λ (k : ℕ). length (slot_bytes (slot_of slots k))) places i 0 lt in
     omega (arith, is, one, more, most)
+
+-- with one slot more there is room for it too
+pub bound-more : (slots : List Slot) (places : List ℕ) (i len n : ℕ) → i < length places → 24 + sum_by (λ k. length (slot_bytes (slot_of slots k))) (take i places) ≤ len → length (slot_bytes (slot_of slots (get_or places i 0))) ≤ n → 24 + sum_by (λ k. length (slot_bytes (slot_of slots k))) (take (i + 1) places) ≤ len + n
+bound-more slots places i len n lt enough one =
+    let more = sum_by_more (λ (k : ℕ). length (slot_bytes (slot_of slots k))) places i 0 lt in
+    omega (arith, more, enough, one)
 
 -- the head and the slots are put into a list that was empty
 pub image_put : (slots : List Slot) (size n : ℕ) (places out a b bytes : List ℕ) → out ≡ [] → a ≡ out ++ head_bytes size n → n ≡ length places → b ≡ a ++ flat_map slot_bytes (in_order slots places) → bytes ≡ b → bytes ≡ image_bytes size (in_order slots places)

@@ -1,5 +1,5 @@
 //! How many bytes an image has.
-ghost use Rattle.std.specs.Prelude.{◌≡◌, ◌+◌, ◌<◌, ◌≤◌, ◌^◌, length, All, IfOk, Err};
+ghost use Rattle.std.specs.Prelude.{◌≡◌, ◌+◌, ◌<◌, ◌≤◌, ◌^◌, length, All, IfOk, IfSome, Err};
 ghost use Rattle.node_arena.specs.Slots.{IsNode, slot_of};
 ghost use Rattle.cube_image.specs.Bytes.{slot_bytes};
 ghost use Rattle.cube_image.specs.Image.{most_bytes, image_length};
@@ -16,9 +16,58 @@ use std::sync::ledger::Ledger;
 /// The most bytes that an image has.
 pub const MOST_BYTES: u64 = 1 << 30;
 
+/// Room for the image of the slots in an order: as many bytes as it has, or more. `TooLong` comes exactly where it has more
+/// than 2^30, unless memory was wanted before. Rows are counted, and read only where there are so many that it may be too
+/// long.
+pub fn image_room<L: Ledger>(
+    alloc: Global,
+    arena: &Arena,
+    places: &[u32],
+    steps: &mut Steps<L>,
+) -> Result<u64, SaveFault>
+    requires { All (λ i. i < length arena.now) places.now }
+    ensures enough { IfOk result (λ n. image_length arena.now places.now ≤ n) }
+    ensures fits { IfOk result (λ n. n ≤ most_bytes) }
+    ensures too_long { result ≡ Err SaveFault.TooLong → most_bytes < image_length arena.now places.now }
+{
+    match len_bound(arena, places, steps) {
+        Some(len) => Ok(len),
+        None => image_len(alloc, arena, places, steps),
+    }
+}
+
+/// At most how many bytes the image of the slots in an order has. None comes where that is more than 2^30.
+fn len_bound<L: Ledger>(arena: &Arena, places: &[u32], steps: &mut Steps<L>) -> Option<u64>
+    requires { All (λ i. i < length arena.now) places.now }
+    ensures enough { IfSome result (λ n. image_length arena.now places.now ≤ n) }
+    ensures fits { IfSome result (λ n. n ≤ most_bytes) }
+{
+    let mut len = 24;
+    for place in places {
+        len += slot_bound(arena, SlotId(*place), steps);
+        if MOST_BYTES < len {
+            return None;
+        }
+    }
+    Some(len)
+}
+
+/// At most how many bytes a slot takes. No more rows are written than there are bins.
+fn slot_bound<L: Ledger>(arena: &Arena, id: SlotId, steps: &mut Steps<L>) -> u64
+    requires { id.0 < length arena.now }
+    ensures enough { length (slot_bytes (slot_of arena.now id.0)) ≤ result }
+    ensures few { result ≤ 2 ^ 36 }
+{
+    if arena.is_table(id) {
+        9 + 12 * arena.table(id, steps).len()
+    } else {
+        node_len(arena, id, steps)
+    }
+}
+
 /// How many bytes the image of the slots in an order has. `TooLong` comes exactly where they are more than 2^30, unless
 /// memory was wanted before.
-pub fn image_len<L: Ledger>(
+fn image_len<L: Ledger>(
     alloc: Global,
     arena: &Arena,
     places: &[u32],

@@ -8,7 +8,7 @@ ghost use Rattle.cube_image.specs.Image.{IsWritten, HasLongImage};
 
 use crate::bytes::{put, put_number};
 use crate::fault::SaveFault;
-use crate::length::image_len;
+use crate::length::image_room;
 use crate::order::order_of;
 use crate::print::put_slots;
 use node_arena::{Arena, SlotId};
@@ -53,7 +53,7 @@ fn write_in<L: Ledger>(
     let mut steps = Steps::<L>::new(blank);
     tell_order(arena);
     let order = order_of(alloc, arena, root, &mut steps)?;
-    let len = image_len(alloc, arena, order.places.as_slice(), &mut steps)?;
+    let len = image_room(alloc, arena, order.places.as_slice(), &mut steps)?;
     let mut out = room_for(alloc, len)?;
     put_head(&mut out, size, order.places.len() as u64)?;
     put_slots(alloc, &mut out, arena, &order, &mut steps)?;

@@ -22,7 +22,7 @@ returns-in_err-len-clause-too_long g c = λ is.
 
 pub returns-clause-written : goal.returns-clause-written
 returns-clause-written g c =
-    let fits : image_length c.args.arena.now c.as_slice.result.now ≤ most_bytes = omega (arith, c.in_ok-len.ensures.len, c.in_ok-len.ensures.fits) in
+    let fits : image_length c.args.arena.now c.as_slice.result.now ≤ most_bytes = omega (arith, c.in_ok-len.ensures.enough, c.in_ok-len.ensures.fits) in
     image_written c.args.arena.now c.args.size c.in_ok-order.order.places c.from_vec.result c.in_ok-order.ensures.order
     (subst (λ (ps : List ℕ). image_length c.args.arena.now ps ≤ most_bytes) c.as_slice.ensures fits)
     (image_put c.args.arena.now c.args.size c.len.result c.in_ok-order.order.places c.in_ok-out.out.items c.put_head.new.out.items c.put_slots.new.out.items c.from_vec.result c.in_ok-out.ensures c.in_ok-put_head.ensures c.len.ensures c.in_ok-put_slots.ensures c.from_vec.ensures)
