@@ -1,0 +1,9 @@
+mod Chains
+mod Feeders
+mod Hearing
+mod Lanes
+mod Openings
+mod SessionSteps
+mod StepLaws
+mod Takings
+mod Works

@@ -1,0 +1,6 @@
+pub mod Moves
+pub mod RunLaws
+pub mod Standing
+pub mod Steps
+pub mod Views
+pub mod Works

@@ -1,0 +1,14 @@
+//! What holds of whole runs, as laws of the definitions.
+ghost use Rattle.run_law.specs.RunLaws.{OpeningStands, StepIsItsEvent, RunIsOfTheMachine};
+ghost use Rattle.run_law.specs.Works.{WorkIsSteps};
+
+/// Where all is opened the machine's first world stands where the run does. Each step leads from a world that stands there
+/// to one that does, by its event or by none, and each such event is possible. So the world that the events of all steps
+/// make, with none skipped, stands where the run does then. Each step of the builder's work is such steps: a draw, a take,
+/// and a tell and a put for each mailbox where its builder's answer asks for it. It does nothing when run.
+pub fn run_laws()
+    ensures opening { OpeningStands }
+    ensures step { StepIsItsEvent }
+    ensures run { RunIsOfTheMachine }
+    ensures work { WorkIsSteps }
+{}

@@ -1,0 +1,20 @@
+//! The law of whole runs: what the ends of a run do, step by step, is what the loading machine does, event by event.
+//!
+//! A run is seen as its ends show it at one moment (`specs/Views.antt`): what each feeder has sent, what is queued and
+//! drawn, the builder, and what each session was shown and told. `specs/Moves.antt` says what each step changes, by the
+//! relations that the calls of `feed_queue`, `builder_core`, `published_pair` and `mailbox` ensure, and `specs/Steps.antt`
+//! which event of the machine it is, or that it is none. [`run_laws`] has the law as its contract: the world that these events
+//! make stands where the run does (`specs/Standing.antt`). The crate stands on those crates and on `world_core`. Which
+//! steps a run takes, and in which order, is left to the threads.
+//!
+//! ```text
+//! [SendEntry(1), DrawEntry, Publish, Tell(0), Look(0, count)]  // the builder's batch is 1
+//! [Push(1), Pop, Publish, Tell(0), Look(0, count)]             // the events of these steps
+//! ```
+#![tactic(auto)]
+
+mod laws;
+mod step;
+
+pub use laws::run_laws;
+pub use step::Step;
