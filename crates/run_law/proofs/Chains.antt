@@ -1,19 +1,18 @@
 -- Each step is its event or none, and so a run of steps is a run of the machine.
-use Rattle.std.proofs.Common.{◌≡◌, ℕ, ◌+◌, ◌≤◌, List, [], ◌∷◌, ◌++◌, length, refl, sym, ap, ◌∙◌, subst, arith}
+use Rattle.std.proofs.Common.{◌≡◌, ℕ, ◌+◌, ◌≤◌, List, [], ◌∷◌, ◌++◌, length, refl, sym, ap, ◌∙◌, subst}
 use Rattle.std.proofs.lemmas.List.{append-nil}
 use Rattle.cube_view.specs.Points.{Point}
 use Rattle.cube_view.specs.declared.schema.Schema.{Schema}
 use Rattle.feed_queue.specs.Ends.{FeedState, having_sent}
-use Rattle.feed_queue.specs.Items.{entries_in}
 use Rattle.feed_queue.specs.declared.item.Item.{Item}
 use Rattle.feed_queue.specs.declared.item.Item.TheVariants as item
 use Rattle.feed_queue.proofs.SentLists.{length-new_feeds}
 use Rattle.world_core.specs.Machine.{first_world, after_events}
 use Rattle.world_core.specs.declared.world.World.{World}
 use Rattle.world_core.proofs.Worlds.{IsPrefix-then, after_events-append}
-use Rattle.run_law.specs.Moves.{Sends, Takes}
+use Rattle.run_law.specs.Moves.{Sends}
 use Rattle.run_law.specs.RunLaws.{StepIsItsEvent, RunIsOfTheMachine}
-use Rattle.run_law.specs.Standing.{GoOnFrom, StandsAt, sent_of}
+use Rattle.run_law.specs.Standing.{GoOnFrom, StandsAt}
 use Rattle.run_law.specs.Steps.{IsStep, IsRun, event_of, events_of}
 use Rattle.run_law.specs.Views.{RunView}
 use Rattle.run_law.specs.declared.step.Step.{Step}

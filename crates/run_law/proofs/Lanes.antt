@@ -1,12 +1,12 @@
 -- Entries of feeders, where one is sent or drawn.
-use Rattle.std.proofs.Common.{◌≡◌, ◌≢◌, ℕ, suc, ◌+◌, ◌≤◌, List, [], ◌∷◌, ◌++◌, length, refl, sym, ap, ◌∙◌, arith, append_assoc}
+use Rattle.std.proofs.Common.{◌≡◌, ◌≢◌, ℕ, ◌+◌, ◌≤◌, List, [], ◌∷◌, ◌++◌, length, sym, ap, ◌∙◌, arith, append_assoc}
 use Rattle.std.proofs.lemmas.List.{append-nil}
 use Rattle.cube_view.specs.Points.{Point}
 use Rattle.feed_queue.specs.Items.{entries_in}
 use Rattle.feed_queue.specs.declared.item.Item.{Item}
 use Rattle.feed_queue.specs.declared.item.Item.TheVariants.{One, End}
 use Rattle.feed_queue.proofs.ItemOrder.{entries_append}
-use Rattle.world_core.specs.Interleaving.{entry, numbered, entries_of}
+use Rattle.world_core.specs.Interleaving.{numbered, entries_of}
 use Rattle.world_core.specs.declared.entry.Entry.{Entry}
 use Rattle.world_core.proofs.Entries.{entries_of-append, numbered-append, entries_of-numbered, entries_of-numbered_other}
 

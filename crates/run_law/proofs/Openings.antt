@@ -1,5 +1,5 @@
 -- Where all is opened, the machine's first world stands there.
-use Rattle.std.proofs.Common.{◌≡◌, ℕ, zero, suc, ◌+◌, ◌-◌, ◌≤◌, ◌<◌, false, List, [], ◌∷◌, ◌++◌, All, length, map, get_or, replicate, refl, sym, ap, ◌∙◌, subst, arith}
+use Rattle.std.proofs.Common.{◌≡◌, ℕ, zero, suc, ◌+◌, ◌-◌, ◌≤◌, false, List, [], ◌∷◌, ◌++◌, All, length, map, get_or, replicate, refl, sym, ap, ◌∙◌, subst, arith}
 use Rattle.std.proofs.lemmas.List.{map-append}
 use Rattle.std.proofs.lemmas.List.Elements.{All-nil, All-tail, All-weaker}
 use Rattle.atomic_table.specs.Seated.{TableId}
@@ -7,13 +7,11 @@ use Rattle.cube_view.specs.Points.{Point}
 use Rattle.cube_view.specs.declared.schema.Schema.{Schema}
 use Rattle.feed_queue.specs.Ends.{FeedState, DrawState, feed_state, new_feeds, sent_lists}
 use Rattle.feed_queue.specs.Items.{entries_in}
-use Rattle.feed_queue.specs.declared.item.Item.{Item}
 use Rattle.feed_queue.proofs.SentLists.{length-new_feeds}
 use Rattle.published_pair.specs.Rules.{Known}
 use Rattle.published_pair.specs.declared.told.Told.{Told}
 use Rattle.world_core.specs.Interleaving.{numbered, entries_of, entry_points, list_of}
 use Rattle.world_core.specs.Machine.{first_world}
-use Rattle.world_core.specs.declared.entry.Entry.{Entry}
 use Rattle.run_law.specs.RunLaws.{OpeningStands}
 use Rattle.run_law.specs.Standing.{HasHeard, KeepsRun, StandsAt, sent_of}
 use Rattle.run_law.specs.Views.{IsNewSession, IsOpened, RunView, SessionView, last_length, seen_by, told_to}

@@ -1,5 +1,5 @@
 -- Each step of a session is its event, or none.
-use Rattle.std.proofs.Common.{◌≡◌, ℕ, ◌≤◌, ◌<◌, Bool, true, false, ◌&&◌, leb, ltb, if◌then◌else◌, List, [], ◌∷◌, ◌++◌, All, length, map, get_or, set, Some, refl, sym, ap, ◌∙◌, subst, arith}
+use Rattle.std.proofs.Common.{◌≡◌, ℕ, ◌<◌, true, false, ◌&&◌, leb, ltb, if◌then◌else◌, List, [], ◌∷◌, ◌++◌, length, map, set, Some, refl, sym, ap, ◌∙◌, subst, arith}
 use Rattle.std.specs.Prelude.{slice_get}
 use Rattle.std.proofs.Math.Seq.{map-set_same}
 use Rattle.std.proofs.lemmas.Bool.Decides.{nat_tests}
@@ -8,7 +8,7 @@ use Rattle.std.proofs.lemmas.Option.{get_or_from_slice_get, same_Some, slice_get
 use Rattle.cube_view.specs.Points.{Point}
 use Rattle.cube_view.specs.declared.category.Category.{Category}
 use Rattle.cube_view.specs.declared.schema.Schema.{Schema}
-use Rattle.published_pair.specs.Pair.{Sees, names}
+use Rattle.published_pair.specs.Pair.{names}
 use Rattle.published_pair.specs.Rules.{Known}
 use Rattle.published_pair.specs.declared.names.Names.{Names}
 use Rattle.query_syntax.specs.Queries.{is_valid_query, are_choices, is_span, all_bins, filters_fit_verb}
@@ -21,7 +21,7 @@ use Rattle.world_core.specs.declared.event.Event.TheVariants as event
 use Rattle.world_core.specs.declared.world.World.{World}
 use Rattle.run_law.specs.Moves.{Tells, Puts, Asks, Learns, Looks, LearnsEnd, with_session, having_looked, count_all, looked}
 use Rattle.run_law.specs.Standing.{HasHeard, KeepsRun, StandsAt}
-use Rattle.run_law.specs.Views.{RunView, SessionView, last_length, seen_by, told_to}
+use Rattle.run_law.specs.Views.{RunView, SessionView, seen_by, told_to}
 use Rattle.run_law.proofs.Hearing.{last_length-push, heard_told, heard_learned, heard_shown, heard_put, heard_asked, taken_last_few, heard_at, heard_set}
 use Rattle.run_law.proofs.StepLaws.{occurs, count_points}
 

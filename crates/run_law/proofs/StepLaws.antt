@@ -1,28 +1,27 @@
 -- Each step of the lane and the builder is its event, or none.
-use Rattle.std.proofs.Common.{◌≡◌, ◌≢◌, ℕ, suc, ◌+◌, ◌-◌, ◌≤◌, ◌<◌, Bool, true, false, ◌&&◌, ltb, if◌then◌else◌, List, [], ◌∷◌, ◌++◌, All, length, length-append, map, take, drop, set, Some, refl, sym, ap, ◌∙◌, subst, arith, append_assoc}
+use Rattle.std.proofs.Common.{◌≡◌, ◌≢◌, ℕ, ◌-◌, ◌≤◌, ◌<◌, Bool, true, false, ◌&&◌, ltb, if◌then◌else◌, List, [], ◌∷◌, ◌++◌, length, length-append, take, drop, set, Some, refl, sym, ap, ◌∙◌, subst, arith, append_assoc}
 use Rattle.std.specs.Prelude.{slice_get}
 use Rattle.std.proofs.lemmas.Bool.Decides.{nat_tests}
 use Rattle.std.proofs.lemmas.List.{append-nil, append_cancel_left, length-map, length-set}
-use Rattle.builder_core.specs.Builder.{BuilderState, KeepsJournal}
+use Rattle.builder_core.specs.Builder.{BuilderState}
 use Rattle.cube_view.specs.Points.{Point}
 use Rattle.cube_view.specs.declared.schema.Schema.{Schema}
-use Rattle.feed_queue.specs.Ends.{FeedState, DrawState, MaySend, having_sent, having_drawn, sent_lists}
+use Rattle.feed_queue.specs.Ends.{FeedState, MaySend, having_sent, having_drawn, sent_lists}
 use Rattle.feed_queue.specs.Items.{entries_in}
 use Rattle.feed_queue.specs.declared.item.Item.{Item}
 use Rattle.feed_queue.specs.declared.item.Item.TheVariants.{One, End}
 use Rattle.feed_queue.proofs.ItemOrder.{entries_append}
-use Rattle.published_pair.specs.Rules.{Known}
-use Rattle.world_core.specs.Interleaving.{entry, numbered, entries_of, entry_points, list_of}
+use Rattle.world_core.specs.Interleaving.{numbered, entries_of, entry_points, list_of}
 use Rattle.world_core.specs.Machine.{pushed, next_entry, has_rest, is_possible, happens, after_skip, after_events}
 use Rattle.world_core.specs.declared.entry.Entry.{Entry}
 use Rattle.world_core.specs.declared.event.Event.{Event}
 use Rattle.world_core.specs.declared.event.Event.TheVariants as event
 use Rattle.world_core.specs.declared.world.World.{World}
 use Rattle.world_core.proofs.Entries.{length-numbered}
-use Rattle.run_law.specs.Moves.{Sends, Draws, Takes, Ends, having_ended}
+use Rattle.run_law.specs.Moves.{Takes, Ends, having_ended}
 use Rattle.run_law.specs.Standing.{sent_of, GoOnFrom, KeepsRun, StandsAt}
 use Rattle.run_law.specs.Steps.{DroppedNone}
-use Rattle.run_law.specs.Views.{RunView, SessionView}
+use Rattle.run_law.specs.Views.{RunView}
 use Rattle.run_law.proofs.Feeders.{set_own, set_other, each_feeder, feeder_high, sent_at, sent_own, sent_other, sent_same}
 use Rattle.run_law.proofs.Hearing.{all_heard_more}
 use Rattle.run_law.proofs.Lanes.{own_entry, lane_own, lane_other, drawn_moves, sent_comes_last, entries_few}

@@ -1,11 +1,11 @@
 -- What a builder's take leaves of its journal.
-use Rattle.std.proofs.Common.{◌≡◌, ℕ, ◌+◌, ◌≤◌, ◌<◌, Bool, true, false, true≢false, not, ◌&&◌, ltb, if◌then◌else◌, List, [], ◌∷◌, ◌++◌, length, refl, sym, ap, ◌∙◌, subst, arith, ⊎_elim}
+use Rattle.std.proofs.Common.{◌≡◌, ℕ, Bool, true, false, true≢false, not, ◌&&◌, ltb, if◌then◌else◌, List, [], ◌∷◌, ◌++◌, length, refl, sym, ap, ◌∙◌, arith, ⊎_elim}
 use Rattle.std.specs.Prelude.{Result, Ok, Err}
 use Rattle.std.proofs.lemmas.Bool.{and_parts}
 use Rattle.std.proofs.lemmas.Bool.Decides.{nat_tests}
 use Rattle.std.proofs.lemmas.List.{append-nil, nil_from_length}
 use Rattle.builder_core.specs.Builder.{BuilderState, KeepsJournal}
-use Rattle.builder_core.specs.Taking.{having_appended, having_published, having_spent, having_lists, having_taken, fills_batch, is_last_end, wants_memory, IsUnpublished, IsTaking}
+use Rattle.builder_core.specs.Taking.{having_appended, having_published, having_spent, having_taken, fills_batch, is_last_end, IsUnpublished, IsTaking}
 use Rattle.builder_core.specs.declared.taken.Taken.{Taken}
 use Rattle.feed_queue.specs.Items.{entries_in}
 use Rattle.feed_queue.specs.declared.item.Item.{Item}

@@ -22,7 +22,6 @@ use Rattle.query_syntax.specs.declared.query.Query.{Query}
 use Rattle.query_syntax.specs.declared.query.Verb.TheVariants.{Count}
 use Rattle.world_core.specs.Interleaving.{entry_points}
 use Rattle.world_core.specs.PairFact.{IsPrefix}
-use Rattle.world_core.specs.declared.entry.Entry.{Entry}
 use Rattle.run_law.specs.Views.{RunView, SessionView}
 
 -- Feeder f sends the item, where the queue has room
