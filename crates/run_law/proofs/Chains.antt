@@ -12,8 +12,8 @@ use Rattle.world_core.specs.declared.world.World.{World}
 use Rattle.world_core.proofs.Worlds.{IsPrefix-then, after_events-append}
 use Rattle.run_law.specs.Moves.{Sends}
 use Rattle.run_law.specs.RunLaws.{StepIsItsEvent, RunIsOfTheMachine}
-use Rattle.run_law.specs.Standing.{GoOnFrom, StandsAt}
-use Rattle.run_law.specs.Steps.{IsStep, IsRun, event_of, events_of}
+use Rattle.run_law.specs.Standing.{GoOnFrom, StandsWith}
+use Rattle.run_law.specs.Steps.{IsRunStep, AreRunSteps, event_of, events_of}
 use Rattle.run_law.specs.Views.{RunView}
 use Rattle.run_law.specs.declared.step.Step.{Step}
 use Rattle.run_law.specs.declared.step.Step.TheVariants as step
@@ -31,7 +31,7 @@ sends_once room f i more a b sends gains =
 abbrev feeds_of : RunView → List FeedState
 feeds_of run = run.feeds
 
-step_sends : (schema : Schema) (room : ℕ) (a b : RunView) (s : Step) → IsStep schema room a s b → SendsOn a.feeds b.feeds
+step_sends : (schema : Schema) (room : ℕ) (a b : RunView) (s : Step) → IsRunStep schema room a s b → SendsOn a.feeds b.feeds
 step_sends schema room a b (step.SendEntry f) is = sends_once room f (item.One is.0) (is.0.point ∷ []) a b is.1 refl
 step_sends schema room a b (step.SendEnd f) is = sends_once room f (item.End f is.0) [] a b is.1 (sym (append-nil is.1.end.points))
 step_sends schema room a b step.DrawEntry is = SendsOn-none a.feeds b.feeds (ap feeds_of is.1.after)
@@ -54,7 +54,7 @@ SendsOn-then a b c first next = record {
   each = λ f low high. IsPrefix-then _ _ _ (first.each f low high) (next.each f low (subst (λ n. f ≤ n) (sym first.count) high));
 }
 
-run_sends : (schema : Schema) (room : ℕ) (a b : RunView) (steps : List Step) → IsRun schema room a steps b → SendsOn a.feeds b.feeds
+run_sends : (schema : Schema) (room : ℕ) (a b : RunView) (steps : List Step) → AreRunSteps schema room a steps b → SendsOn a.feeds b.feeds
 run_sends schema room a b [] is = SendsOn-none a.feeds b.feeds (ap feeds_of is)
 run_sends schema room a b (s ∷ steps) is = SendsOn-then a.feeds is.0.feeds b.feeds (step_sends schema room a is.0 s is.1) (run_sends schema room is.0 b steps is.2)
 
@@ -70,15 +70,15 @@ go_on_before a b lists on go = record {
 pub step_is_its_event : StepIsItsEvent
 step_is_its_event schema room a b (step.SendEntry f) lists n w stands is go =
     let sends = is.1 in
-    subst (λ (x : RunView). StandsAt lists x (after_events schema room n w (event_of (step.SendEntry f)))) (sym sends.after)
+    subst (λ (x : RunView). StandsWith lists x (after_events schema room n w (event_of (step.SendEntry f)))) (sym sends.after)
     (entry_sent lists a w stands f sends.end is.0 sends.at sends.number.0 sends.number.1 sends.may (subst (λ (x : RunView). GoOnFrom x lists) sends.after go) schema room n sends.fits)
 step_is_its_event schema room a b (step.SendEnd f) lists n w stands is go =
     let sends = is.1 in
-    subst (λ (x : RunView). StandsAt lists x w) (sym sends.after) (end_sent lists a w stands f f is.0 sends.end sends.at sends.number.0)
+    subst (λ (x : RunView). StandsWith lists x w) (sym sends.after) (end_sent lists a w stands f f is.0 sends.end sends.at sends.number.0)
 step_is_its_event schema room a b step.DrawEntry lists n w stands is go =
-    subst (λ (x : RunView). StandsAt lists x (after_events schema room n w (event_of step.DrawEntry))) (sym is.1.after) (entry_drawn lists a w stands is.1.rest is.0 is.1.front schema room n)
+    subst (λ (x : RunView). StandsWith lists x (after_events schema room n w (event_of step.DrawEntry))) (sym is.1.after) (entry_drawn lists a w stands is.1.rest is.0 is.1.front schema room n)
 step_is_its_event schema room a b step.DrawEnd lists n w stands is go =
-    subst (λ (x : RunView). StandsAt lists x w) (sym is.2.after) (end_drawn lists a w stands is.2.rest is.0 is.1 is.2.front)
+    subst (λ (x : RunView). StandsWith lists x w) (sym is.2.after) (end_drawn lists a w stands is.2.rest is.0 is.1 is.2.front)
 step_is_its_event schema room a b step.Keep lists n w stands is go = kept lists a w stands b is
 step_is_its_event schema room a b step.Publish lists n w stands is go = published lists a w stands b is schema room n
 step_is_its_event schema room a b (step.Tell s) lists n w stands is go = tells lists a b w stands s is schema room n
@@ -89,18 +89,18 @@ step_is_its_event schema room a b (step.Look s q) lists n w stands is go = looks
 step_is_its_event schema room a b step.EndPublishing lists n w stands is go = ended_publishing lists a w stands b is.1 is.0 schema room n
 step_is_its_event schema room a b step.End lists n w stands is go = ended lists a w stands b is.1 is.0
 step_is_its_event schema room a b (step.LearnEnd s) lists n w stands is go = learns_end lists a b w stands s is schema room n
-step_is_its_event schema room a b step.Rest lists n w stands is go = subst (λ (x : RunView). StandsAt lists x w) (sym is) stands
+step_is_its_event schema room a b step.Rest lists n w stands is go = subst (λ (x : RunView). StandsWith lists x w) (sym is) stands
 
 -- A run of steps is a run of the machine
 
 chain : (schema : Schema) (room : ℕ) (lists : List (List Point)) (a b : RunView) (steps : List Step) (n : ℕ) (w : World)
-    → StandsAt lists a w → IsRun schema room a steps b → GoOnFrom b lists → StandsAt lists b (after_events schema room n w (events_of steps))
-chain schema room lists a b [] n w stands is go = subst (λ (x : RunView). StandsAt lists x w) (sym is) stands
+    → StandsWith lists a w → AreRunSteps schema room a steps b → GoOnFrom b lists → StandsWith lists b (after_events schema room n w (events_of steps))
+chain schema room lists a b [] n w stands is go = subst (λ (x : RunView). StandsWith lists x w) (sym is) stands
 chain schema room lists a b (s ∷ steps) n w stands is go =
     let go_mid = go_on_before is.0 b lists (run_sends schema room is.0 b steps is.2) go in
     let here = step_is_its_event schema room a is.0 s lists n w stands is.1 go_mid in
     let later = chain schema room lists is.0 b steps (n + length (event_of s)) (after_events schema room n w (event_of s)) here is.2 go in
-    subst (StandsAt lists b) (sym (after_events-append schema room n w (event_of s) (events_of steps))) later
+    subst (StandsWith lists b) (sym (after_events-append schema room n w (event_of s) (events_of steps))) later
 
 pub run_is_of_the_machine : RunIsOfTheMachine
 run_is_of_the_machine schema room feeders sessions a b steps lists opened is go =

@@ -13,7 +13,7 @@ use Rattle.published_pair.specs.declared.told.Told.{Told}
 use Rattle.world_core.specs.Interleaving.{numbered, entries_of, entry_points, list_of}
 use Rattle.world_core.specs.Machine.{first_world}
 use Rattle.run_law.specs.RunLaws.{OpeningStands}
-use Rattle.run_law.specs.Standing.{HasHeard, KeepsRun, StandsAt, sent_of}
+use Rattle.run_law.specs.Standing.{HasHeard, KeepsRun, StandsWith, sent_of}
 use Rattle.run_law.specs.Views.{IsNewSession, IsOpened, RunView, SessionView, last_length, seen_by, told_to}
 use Rattle.run_law.proofs.Feeders.{points_of}
 
@@ -79,7 +79,7 @@ module _ (schema : Schema) (feeders sessions : ℕ) (run : RunView) (opened : Is
     heard = All-weaker (IsNewSession list) (HasHeard list) (λ session new. new_heard list session opened.published new) run.sessions opened.each.1;
   }
 
-  stands_first : (lists : List (List Point)) → length lists ≡ feeders → StandsAt lists run (first_world lists sessions)
+  stands_first : (lists : List (List Point)) → length lists ≡ feeders → StandsWith lists run (first_world lists sessions)
   stands_first lists size = record {
     count = size ∙ sym (ap length opened.feeds ∙ length-new_feeds run.draws.lane schema feeders);
     rest = λ f low high. ap (λ (points : List Point). points ++ list_of lists f) (sym (sent_none f));

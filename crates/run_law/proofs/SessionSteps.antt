@@ -19,8 +19,8 @@ use Rattle.world_core.specs.Interleaving.{entry_points}
 use Rattle.world_core.specs.Machine.{is_possible, after_events}
 use Rattle.world_core.specs.declared.event.Event.TheVariants as event
 use Rattle.world_core.specs.declared.world.World.{World}
-use Rattle.run_law.specs.Moves.{Tells, Puts, Asks, Learns, Looks, LearnsEnd, with_session, having_looked, count_all, looked}
-use Rattle.run_law.specs.Standing.{HasHeard, KeepsRun, StandsAt}
+use Rattle.run_law.specs.Moves.{TellsSession, PutsMail, Asks, Learns, Looks, LearnsEnd, with_session, having_looked, count_all, looked}
+use Rattle.run_law.specs.Standing.{HasHeard, KeepsRun, StandsWith}
 use Rattle.run_law.specs.Views.{RunView, SessionView, seen_by, told_to}
 use Rattle.run_law.proofs.Hearing.{last_length-push, heard_told, heard_learned, heard_shown, heard_put, heard_asked, taken_last_few, heard_at, heard_set}
 use Rattle.run_law.proofs.StepLaws.{occurs, count_points}
@@ -49,7 +49,7 @@ looked_valid schema q valid =
       | false ↦ λ drill. (count_all_valid schema, refl)
     ] refl
 
-module _ (lists : List (List Point)) (a : RunView) (w : World) (stands : StandsAt lists a w) (s : ℕ) (session : SessionView) (at : slice_get a.sessions s ≡ Some session) where
+module _ (lists : List (List Point)) (a : RunView) (w : World) (stands : StandsWith lists a w) (s : ℕ) (session : SessionView) (at : slice_get a.sessions s ≡ Some session) where
   within_told : s < length w.told
   within_told =
       let l = ap length stands.told ∙ length-map a.sessions told_to in
@@ -77,7 +77,7 @@ module _ (lists : List (List Point)) (a : RunView) (w : World) (stands : StandsA
   }
 
   -- where it has seen and was told of as much
-  pub stays : (now : SessionView) → HasHeard a.builder.published now → seen_by now ≡ seen_by session → told_to now ≡ told_to session → StandsAt lists (with_session a s now) w
+  pub stays : (now : SessionView) → HasHeard a.builder.published now → seen_by now ≡ seen_by session → told_to now ≡ told_to session → StandsWith lists (with_session a s now) w
   stays now heard seen told = record {
     count = stands.count;
     rest = stands.rest;
@@ -96,12 +96,12 @@ module _ (lists : List (List Point)) (a : RunView) (w : World) (stands : StandsA
 
   -- where it is told of all that is published
   pub told_all : (now : SessionView) → HasHeard a.builder.published now → seen_by now ≡ seen_by session → told_to now ≡ length a.builder.published.points
-      → (schema : Schema) (room n : ℕ) → StandsAt lists (with_session a s now) (after_events schema room n w (event.Tell s ∷ []))
+      → (schema : Schema) (room n : ℕ) → StandsWith lists (with_session a s now) (after_events schema room n w (event.Tell s ∷ []))
   told_all now heard seen all schema room n =
       let known = within_told in
       let possible : is_possible schema room w (event.Tell s) ≡ true = grind (arith, nat_tests, known) in
       let size : length w.journal ≡ told_to now = sym (all ∙ journal_size) in
-      subst (StandsAt lists (with_session a s now)) (sym (occurs schema room n w (event.Tell s) possible)) (record {
+      subst (StandsWith lists (with_session a s now)) (sym (occurs schema room n w (event.Tell s) possible)) (record {
         count = stands.count;
         rest = stands.rest;
         queue = stands.queue;
@@ -116,7 +116,7 @@ module _ (lists : List (List Point)) (a : RunView) (w : World) (stands : StandsA
 
   -- where it looks
   pub looks : (schema : Schema) (room n : ℕ) (q : Query) (shown : Known) → is_valid_query schema q ≡ true → shown.points ≡ a.builder.published.points
-      → StandsAt lists (having_looked schema a s session (looked q) shown) (after_events schema room n w (event.Look s (looked q) ∷ []))
+      → StandsWith lists (having_looked schema a s session (looked q) shown) (after_events schema room n w (event.Look s (looked q) ∷ []))
   looks schema room n q shown valid is =
       let now = record session { shown = shown } in
       let kept = keeps_with now (heard_shown a.builder.published session old shown) in
@@ -127,7 +127,7 @@ module _ (lists : List (List Point)) (a : RunView) (w : World) (stands : StandsA
       let points : entry_points w.journal ≡ shown.points = ap entry_points stands.journal ∙ sym (is ∙ stands.keeps.published) in
       let size : length w.journal ≡ length shown.points = sym (ap length is ∙ journal_size) in
       subst
-      (StandsAt lists (having_looked schema a s session (looked q) shown))
+      (StandsWith lists (having_looked schema a s session (looked q) shown))
       (sym (occurs schema room n w (event.Look s (looked q)) possible))
       (record {
         count = stands.count;
@@ -142,47 +142,47 @@ module _ (lists : List (List Point)) (a : RunView) (w : World) (stands : StandsA
         keeps = record { lane = kept.lane; published = kept.published; heard = kept.heard };
       })
 
-module _ (lists : List (List Point)) (a b : RunView) (w : World) (stands : StandsAt lists a w) (s : ℕ) where
-  pub tells : Tells s a b → (schema : Schema) (room n : ℕ) → StandsAt lists b (after_events schema room n w (event.Tell s ∷ []))
+module _ (lists : List (List Point)) (a b : RunView) (w : World) (stands : StandsWith lists a w) (s : ℕ) where
+  pub tells : TellsSession s a b → (schema : Schema) (room n : ℕ) → StandsWith lists b (after_events schema room n w (event.Tell s ∷ []))
   tells step schema room n =
       let was = old lists a w stands s step.session step.at in
       let size : length step.told.front.points ≡ length a.builder.published.points = ap (λ (list : Known). length list.points) step.list in
-      subst (λ (x : RunView). StandsAt lists x (after_events schema room n w (event.Tell s ∷ []))) (sym step.after)
+      subst (λ (x : RunView). StandsWith lists x (after_events schema room n w (event.Tell s ∷ []))) (sym step.after)
       (told_all lists a w stands s step.session step.at (record step.session { told = step.session.told ++ step.told.front ∷ [] })
       (heard_told a.builder.published step.session was step.told.front size) refl (last_length-push 0 step.session.told step.told.front ∙ size) schema room n)
 
-  pub learns_end : LearnsEnd s a b → (schema : Schema) (room n : ℕ) → StandsAt lists b (after_events schema room n w (event.Tell s ∷ []))
+  pub learns_end : LearnsEnd s a b → (schema : Schema) (room n : ℕ) → StandsWith lists b (after_events schema room n w (event.Tell s ∷ []))
   learns_end step schema room n =
       let was = old lists a w stands s step.session step.at in
       let size : length step.last.points ≡ length a.builder.published.points = ap (λ (list : Known). length list.points) step.list in
       let told = record step.session { told = step.session.told ++ step.last ∷ [] } in
       let last = last_length-push 0 step.session.told step.last in
-      subst (λ (x : RunView). StandsAt lists x (after_events schema room n w (event.Tell s ∷ []))) (sym step.after)
+      subst (λ (x : RunView). StandsWith lists x (after_events schema room n w (event.Tell s ∷ []))) (sym step.after)
       (told_all lists a w stands s step.session step.at (record told { learned = step.last })
       (heard_learned a.builder.published told (heard_told a.builder.published step.session was step.last size) step.last (omega (arith, last))) refl (last ∙ size) schema room n)
 
-  pub puts : Puts s a b → StandsAt lists b w
+  pub puts : PutsMail s a b → StandsWith lists b w
   puts step =
       let was = old lists a w stands s step.session step.at in
-      subst (λ (x : RunView). StandsAt lists x w) (sym step.after)
+      subst (λ (x : RunView). StandsWith lists x w) (sym step.after)
       (stays lists a w stands s step.session step.at _ (heard_put a.builder.published step.session was step.earlier step.told.front step.last) refl refl)
 
-  pub asks : Asks s a b → StandsAt lists b w
+  pub asks : Asks s a b → StandsWith lists b w
   asks step =
       let was = old lists a w stands s step.session step.at in
-      subst (λ (x : RunView). StandsAt lists x w) (sym step.after)
+      subst (λ (x : RunView). StandsWith lists x w) (sym step.after)
       (stays lists a w stands s step.session step.at _ (heard_asked a.builder.published step.session was step.told step.of) refl refl)
 
-  pub learns : Learns s a b → StandsAt lists b w
+  pub learns : Learns s a b → StandsWith lists b w
   learns step =
       let was = old lists a w stands s step.session step.at in
       let few = taken_last_few a.builder.published step.session was step.earlier step.told (length step.learned.points) step.last step.longer.greatest in
-      subst (λ (x : RunView). StandsAt lists x w) (sym step.after)
+      subst (λ (x : RunView). StandsWith lists x w) (sym step.after)
       (stays lists a w stands s step.session step.at _ (heard_learned a.builder.published step.session was step.learned few) refl refl)
 
-  pub looks_on : (schema : Schema) (q : Query) → Looks schema s q a b → (room n : ℕ) → StandsAt lists b (after_events schema room n w (event.Look s (looked q) ∷ []))
+  pub looks_on : (schema : Schema) (q : Query) → Looks schema s q a b → (room n : ℕ) → StandsWith lists b (after_events schema room n w (event.Look s (looked q) ∷ []))
   looks_on schema q step room n =
       let shown : step.shown.points ≡ a.builder.published.points =
       ap (λ (n : Names). n.seen) (same_Some (names step.shown.book schema step.shown.points) (names a.builder.published.book schema a.builder.published.points) step.sees.after) in
-      subst (λ (x : RunView). StandsAt lists x (after_events schema room n w (event.Look s (looked q) ∷ []))) (sym step.after)
+      subst (λ (x : RunView). StandsWith lists x (after_events schema room n w (event.Look s (looked q) ∷ []))) (sym step.after)
       (looks lists a w stands s step.session step.at schema room n q step.shown step.valid shown)

@@ -18,8 +18,8 @@ use Rattle.world_core.specs.declared.event.Event.{Event}
 use Rattle.world_core.specs.declared.event.Event.TheVariants as event
 use Rattle.world_core.specs.declared.world.World.{World}
 use Rattle.world_core.proofs.Entries.{length-numbered}
-use Rattle.run_law.specs.Moves.{Takes, Ends, having_ended}
-use Rattle.run_law.specs.Standing.{sent_of, GoOnFrom, KeepsRun, StandsAt}
+use Rattle.run_law.specs.Moves.{TakesItem, EndsPair, having_ended_pair}
+use Rattle.run_law.specs.Standing.{sent_of, GoOnFrom, KeepsRun, StandsWith}
 use Rattle.run_law.specs.Steps.{DroppedNone}
 use Rattle.run_law.specs.Views.{RunView}
 use Rattle.run_law.proofs.Feeders.{set_own, set_other, each_feeder, feeder_high, sent_at, sent_own, sent_other, sent_same}
@@ -41,7 +41,7 @@ after_sending a f end i = record a { feeds = set a.feeds (f - 1) (having_sent en
 abbrev after_drawing : RunView → List Item → Item → RunView
 after_drawing a rest i = record a { queue = rest; draws = having_drawn a.draws i }
 
-module _ (lists : List (List Point)) (a : RunView) (w : World) (stands : StandsAt lists a w) where
+module _ (lists : List (List Point)) (a : RunView) (w : World) (stands : StandsWith lists a w) where
   -- a feeder sends an entry
 
   module _ (f : ℕ) (end : FeedState) (e : Entry) (at : slice_get a.feeds (f - 1) ≡ Some end) (low : 1 ≤ f) (number : end.feeder ≡ f) (may : MaySend end (One e)) (go : GoOnFrom (after_sending a f end (One e)) lists) where
@@ -139,8 +139,8 @@ module _ (lists : List (List Point)) (a : RunView) (w : World) (stands : StandsA
         ∙ ap (λ points. points ++ list_of w.rest g) (sym (sent_other a.feeds f end (having_sent end (One e)) at low g l apart))
         ∙ ap (λ points. sent_of b g ++ points) (sym (set_other w.rest f g left_over low l apart))
 
-    pub entry_sent : (schema : Schema) (room n : ℕ) → length a.queue < room → StandsAt lists b (after_events schema room n w (event.Push f ∷ []))
-    entry_sent schema room n fits = subst (StandsAt lists b) (sym (occurs schema room n w (event.Push f) (possible schema room fits))) (record {
+    pub entry_sent : (schema : Schema) (room n : ℕ) → length a.queue < room → StandsWith lists b (after_events schema room n w (event.Push f ∷ []))
+    entry_sent schema room n fits = subst (StandsWith lists b) (sym (occurs schema room n w (event.Push f) (possible schema room fits))) (record {
       count = length-set w.rest (f - 1) left_over ∙ stands.count ∙ sym as_many;
       rest = each_feeder (λ k. 1 ≤ k → k ≤ length b.feeds → list_of lists k ≡ sent_of b k ++ list_of (set w.rest (f - 1) left_over) k) f (λ _ _. rest_here) (λ k apart. rest_there k apart);
       queue = (λ i. stands.queue i ++ next i) ∙ sym (entries_append a.queue (One e ∷ []));
@@ -167,7 +167,7 @@ module _ (lists : List (List Point)) (a : RunView) (w : World) (stands : StandsA
     same_queue : entries_in (a.queue ++ End m k ∷ []) ≡ entries_in a.queue
     same_queue = entries_append a.queue (End m k ∷ []) ∙ append-nil (entries_in a.queue)
 
-    pub end_sent : StandsAt lists after_end w
+    pub end_sent : StandsWith lists after_end w
     end_sent = record {
       count = stands.count ∙ sym same_count;
       rest = λ g l h. stands.rest g l (let m = same_count in omega (arith, m, h)) ∙ ap (λ sents. list_of sents g ++ list_of w.rest g) (sym same_sent);
@@ -196,11 +196,11 @@ module _ (lists : List (List Point)) (a : RunView) (w : World) (stands : StandsA
     heard = stands.keeps.heard;
   }
 
-  pub entry_drawn : (rest : List Item) (e : Entry) → a.queue ≡ One e ∷ rest → (schema : Schema) (room n : ℕ) → StandsAt lists (after_drawing a rest (One e)) (after_events schema room n w (event.Pop ∷ []))
+  pub entry_drawn : (rest : List Item) (e : Entry) → a.queue ≡ One e ∷ rest → (schema : Schema) (room n : ℕ) → StandsWith lists (after_drawing a rest (One e)) (after_events schema room n w (event.Pop ∷ []))
   entry_drawn rest e front schema room n =
       let q : w.queue ≡ e ∷ entries_in rest = stands.queue ∙ ap entries_in front in
       let possible : is_possible schema room w event.Pop ≡ true = let l = ap length q in grind (arith, nat_tests, l) in
-      subst (StandsAt lists (after_drawing a rest (One e))) (sym (occurs schema room n w event.Pop possible)) (record {
+      subst (StandsWith lists (after_drawing a rest (One e))) (sym (occurs schema room n w event.Pop possible)) (record {
         count = stands.count;
         rest = stands.rest;
         queue = ap (drop 1) q;
@@ -213,7 +213,7 @@ module _ (lists : List (List Point)) (a : RunView) (w : World) (stands : StandsA
         keeps = keeps_drawn rest (One e) front;
       })
 
-  pub end_drawn : (rest : List Item) (f k : ℕ) → a.queue ≡ End f k ∷ rest → StandsAt lists (after_drawing a rest (End f k)) w
+  pub end_drawn : (rest : List Item) (f k : ℕ) → a.queue ≡ End f k ∷ rest → StandsWith lists (after_drawing a rest (End f k)) w
   end_drawn rest f k front = record {
     count = stands.count;
     rest = stands.rest;
@@ -244,7 +244,7 @@ module _ (lists : List (List Point)) (a : RunView) (w : World) (stands : StandsA
   }
 
   -- with the same journal
-  pub built_quietly : (left : BuilderState) → left.published.points ≡ entry_points left.journal → left.journal ≡ a.builder.journal → StandsAt lists (record a { builder = left }) w
+  pub built_quietly : (left : BuilderState) → left.published.points ≡ entry_points left.journal → left.journal ≡ a.builder.journal → StandsWith lists (record a { builder = left }) w
   built_quietly left is same = record {
     count = stands.count;
     rest = stands.rest;
@@ -260,7 +260,7 @@ module _ (lists : List (List Point)) (a : RunView) (w : World) (stands : StandsA
 
   -- with all that was drawn in its journal
   pub built_publishing : (left : BuilderState) → left.published.points ≡ entry_points left.journal → left.journal ≡ entries_in a.draws.drawn
-      → (schema : Schema) (room n : ℕ) → StandsAt lists (record a { builder = left }) (after_events schema room n w (event.Publish ∷ []))
+      → (schema : Schema) (room n : ℕ) → StandsWith lists (record a { builder = left }) (after_events schema room n w (event.Publish ∷ []))
   built_publishing left is all schema room n =
       let whole : w.journal ++ w.pending ≡ left.journal = stands.drawn ∙ sym all in
       let more : length a.builder.journal ≤ length left.journal =
@@ -283,27 +283,27 @@ module _ (lists : List (List Point)) (a : RunView) (w : World) (stands : StandsA
 
   -- the builder takes an item
   module _ (b : RunView) where
-    took : (published : Bool) (takes : Takes published a b) → takes.left.taken ≡ a.draws.drawn
+    took : (published : Bool) (takes : TakesItem published a b) → takes.left.taken ≡ a.draws.drawn
     took published takes = takes.taking.counted ∙ sym takes.drawn
 
-    pub kept : Takes false a b → StandsAt lists b w
+    pub kept : TakesItem false a b → StandsWith lists b w
     kept takes =
-        subst (λ (x : RunView). StandsAt lists x w) (sym takes.after)
+        subst (λ (x : RunView). StandsWith lists x w) (sym takes.after)
         (built_quietly takes.left takes.keeps.published (take_keeps a.builder takes.left takes.item takes.answer takes.taking takes.is))
 
-    pub published : Takes true a b → (schema : Schema) (room n : ℕ) → StandsAt lists b (after_events schema room n w (event.Publish ∷ []))
+    pub published : TakesItem true a b → (schema : Schema) (room n : ℕ) → StandsWith lists b (after_events schema room n w (event.Publish ∷ []))
     published takes schema room n =
         let all = take_publishes a.builder takes.left takes.item takes.answer takes.taking takes.keeps takes.is in
-        subst (λ (x : RunView). StandsAt lists x (after_events schema room n w (event.Publish ∷ []))) (sym takes.after)
+        subst (λ (x : RunView). StandsWith lists x (after_events schema room n w (event.Publish ∷ []))) (sym takes.after)
         (built_publishing takes.left takes.keeps.published (all ∙ ap entries_in (took true takes)) schema room n)
 
     -- the publisher ends
-    pub ended : Ends a b → a.builder.pending ≡ [] → StandsAt lists b w
+    pub ended : EndsPair a b → a.builder.pending ≡ [] → StandsWith lists b w
     ended ends none =
-        subst (λ (x : RunView). StandsAt lists x w) (sym ends.after)
-        (built_quietly (having_ended a.builder ends.ended) ends.points (ap (λ l. a.builder.journal ++ l) none ∙ append-nil a.builder.journal))
+        subst (λ (x : RunView). StandsWith lists x w) (sym ends.after)
+        (built_quietly (having_ended_pair a.builder ends.ended) ends.points (ap (λ l. a.builder.journal ++ l) none ∙ append-nil a.builder.journal))
 
-    pub ended_publishing : Ends a b → DroppedNone a → (schema : Schema) (room n : ℕ) → StandsAt lists b (after_events schema room n w (event.Publish ∷ []))
+    pub ended_publishing : EndsPair a b → DroppedNone a → (schema : Schema) (room n : ℕ) → StandsWith lists b (after_events schema room n w (event.Publish ∷ []))
     ended_publishing ends whole schema room n =
-        subst (λ (x : RunView). StandsAt lists x (after_events schema room n w (event.Publish ∷ []))) (sym ends.after)
-        (built_publishing (having_ended a.builder ends.ended) ends.points whole schema room n)
+        subst (λ (x : RunView). StandsWith lists x (after_events schema room n w (event.Publish ∷ []))) (sym ends.after)
+        (built_publishing (having_ended_pair a.builder ends.ended) ends.points whole schema room n)

@@ -1,7 +1,7 @@
 -- What a builder's take leaves of its journal.
 use Rattle.std.proofs.Common.{◌≡◌, ℕ, Bool, true, false, true≢false, not, ◌&&◌, ltb, if◌then◌else◌, List, [], ◌∷◌, ◌++◌, length, refl, sym, ap, ◌∙◌, arith, ⊎_elim}
 use Rattle.std.specs.Prelude.{Result, Ok, Err}
-use Rattle.std.proofs.lemmas.Bool.{and_parts}
+use Rattle.std.proofs.lemmas.Bool.{and_parts, not-true}
 use Rattle.std.proofs.lemmas.Bool.Decides.{nat_tests}
 use Rattle.std.proofs.lemmas.List.{append-nil, nil_from_length}
 use Rattle.builder_core.specs.Builder.{BuilderState, KeepsJournal}
@@ -25,10 +25,6 @@ by_test t P yes_then no_then = elim t as (λ b. t ≡ b → P) [ true ↦ yes_th
 all_is_journal : (left : BuilderState) → KeepsJournal left → left.spent ≡ false → left.pending ≡ [] → left.journal ≡ entries_in left.taken
 all_is_journal left keeps found none = sym (append-nil left.journal) ∙ ap (λ l. left.journal ++ l) (sym none) ∙ keeps.whole found
 
-not_spent : (spent : Bool) → not spent ≡ true → spent ≡ false
-not_spent true e = absurd (true≢false (sym e))
-not_spent false e = refl
-
 -- what taking leaves where an entry fills the batch
 entry_filled : (b : BuilderState) (e : Entry) → fills_batch b ≡ true → having_taken b (One e) ≡ counting (having_published (having_appended b e)) b (One e)
 entry_filled b e fills = ap (λ (t : Bool). counting (if t then having_published (having_appended b e) else having_appended b e) b (One e)) fills
@@ -50,12 +46,12 @@ end_kept b f n last = ap (λ (t : Bool). counting (if t then having_published b 
 published_taken : (b left : BuilderState) (i : Item) → left ≡ having_taken b i → KeepsJournal left → may_publish b i ≡ true → left.journal ≡ entries_in left.taken
 published_taken b left (One e) is keeps fills =
     let to = is ∙ entry_filled b e fills in
-    let open_ = not_spent b.spent (and_parts (not b.spent) _ fills).0 in
+    let open_ = not-true b.spent (and_parts (not b.spent) _ fills).0 in
     all_is_journal left keeps (ap (λ (s : BuilderState). s.spent) to ∙ open_) (ap (λ (s : BuilderState). s.pending) to)
 published_taken b left (End f n) is keeps wants =
     let last = (and_parts (ends_unspent b f n) _ wants).0 in
     let to = is ∙ end_published b f n last in
-    let open_ = not_spent b.spent (and_parts (not b.spent) _ last).0 in
+    let open_ = not-true b.spent (and_parts (not b.spent) _ last).0 in
     all_is_journal left keeps (ap (λ (s : BuilderState). s.spent) to ∙ open_) (ap (λ (s : BuilderState). s.pending) to)
 
 -- nothing is pending where memory is not wanted for the last End

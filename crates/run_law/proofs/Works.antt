@@ -16,8 +16,8 @@ use Rattle.feed_queue.specs.declared.item.Item.TheVariants.{One, End}
 use Rattle.mailbox.specs.Ends.{InEnd}
 use Rattle.published_pair.specs.Rules.{Known}
 use Rattle.published_pair.specs.declared.told.Told.{Told}
-use Rattle.run_law.specs.Moves.{Takes, Tells, Puts, publishes, with_session, having_posted}
-use Rattle.run_law.specs.Steps.{IsStep, IsRun}
+use Rattle.run_law.specs.Moves.{TakesItem, TellsSession, PutsMail, publishes, with_session, having_posted}
+use Rattle.run_law.specs.Steps.{IsRunStep, AreRunSteps}
 use Rattle.run_law.specs.Views.{RunView, SessionView}
 use Rattle.run_law.specs.Works.{HasMail, ShowsWork, draw_step, take_step, tell_steps, answer_steps, work_steps, WorkIsSteps}
 
@@ -51,7 +51,7 @@ module _ (schema : Schema) (room : ℕ) (told : Told) where
 
   -- a run in which they are told
   record IsTelling (k : ℕ) (mails : List InEnd) (a b : RunView) : Type 0 where
-    is : IsRun schema room a (tell_steps k mails) b
+    is : AreRunSteps schema room a (tell_steps k mails) b
     draws : b.draws ≡ a.draws
     builder : b.builder ≡ a.builder
     put : HaveMails b k (map (having_put size) mails)
@@ -79,10 +79,10 @@ module _ (schema : Schema) (room : ℕ) (told : Told) where
     others : (i : ℕ) → i ≢ k → slice_get end.sessions i ≡ slice_get a.sessions i
     others i apart = set_at_other mid.sessions k i posted apart ∙ set_at_other a.sessions k i heard apart
 
-    is_told : Tells k a mid
+    is_told : TellsSession k a mid
     is_told = record { session = session; at = at; told = told; list = list; after = refl }
 
-    is_put : Puts k mid end
+    is_put : PutsMail k mid end
     is_put = record { session = heard; at = at_mid; told = told; earlier = session.told; last = refl; after = refl }
 
   telling : (mails : List InEnd) (k : ℕ) (a : RunView) → told.front ≡ a.builder.published → HaveMails a k mails → (b : RunView) × IsTelling k mails a b
@@ -107,7 +107,7 @@ module _ (schema : Schema) (room : ℕ) (told : Told) where
       )
 
   -- what the answer asks for is told
-  telling_all : (a : RunView) (w : BuilderWorkState) → ShowsWork a w → told.front ≡ w.builder.published → (b : RunView) × IsRun schema room a (tell_steps 0 w.mails) b × ShowsWork b (having_told w)
+  telling_all : (a : RunView) (w : BuilderWorkState) → ShowsWork a w → told.front ≡ w.builder.published → (b : RunView) × AreRunSteps schema room a (tell_steps 0 w.mails) b × ShowsWork b (having_told w)
   telling_all a w shows list =
       let told_run = telling w.mails 0 a (list ∙ ap (λ (x : BuilderState). x.published) (sym shows.builder)) (λ j i mail e found. shows.mails i mail (let at : j ≡ i = omega (arith, e) in subst (λ n. slice_get w.mails n ≡ Some mail) at found)) in (
         told_run.0,
@@ -120,18 +120,18 @@ module _ (schema : Schema) (room : ℕ) (told : Told) where
       )
 
   answering : {E : Type 0} (a : RunView) (w : BuilderWorkState) (answer : Result Taken E) → ShowsWork a w → told.front ≡ w.builder.published
-      → (b : RunView) × IsRun schema room a (answer_steps answer w.mails) b × ShowsWork b (having_answered answer w)
+      → (b : RunView) × AreRunSteps schema room a (answer_steps answer w.mails) b × ShowsWork b (having_answered answer w)
   answering a w (Ok Kept) shows list = (a, refl, shows)
   answering a w (Ok (Published n)) shows list = telling_all a w shows list
   answering a w (Ok (LastEnd n)) shows list = telling_all a w shows list
   answering a w (Err e) shows list = (a, refl, shows)
 
 module _ (schema : Schema) (room : ℕ) where
-  draw_is_step : (a : RunView) (rest : List Item) (i : Item) → a.queue ≡ i ∷ rest → IsStep schema room a (draw_step i) (record a { queue = rest; draws = having_drawn a.draws i })
+  draw_is_step : (a : RunView) (rest : List Item) (i : Item) → a.queue ≡ i ∷ rest → IsRunStep schema room a (draw_step i) (record a { queue = rest; draws = having_drawn a.draws i })
   draw_is_step a rest (One e) front = (e, record { rest = rest; front = front; after = refl })
   draw_is_step a rest (End f n) front = (f, n, record { rest = rest; front = front; after = refl })
 
-  take_is_step : (published : Bool) (a b : RunView) → Takes published a b → IsStep schema room a (take_step published) b
+  take_is_step : (published : Bool) (a b : RunView) → TakesItem published a b → IsRunStep schema room a (take_step published) b
   take_is_step true a b takes = takes
   take_is_step false a b takes = takes
 
@@ -145,7 +145,7 @@ module _ (schema : Schema) (room : ℕ) where
     abbrev taken : RunView
     taken = record drawn { builder = s.next.builder }
 
-    takes : Takes (publishes before.builder item s.answer) drawn taken
+    takes : TakesItem (publishes before.builder item s.answer) drawn taken
     takes = record {
       item = item;
       drawn = ap (λ l. l ++ item ∷ []) (ap (λ (d : DrawState). d.drawn) shows.draws ∙ sym draws.taken ∙ ap (λ (x : BuilderState). x.taken) (sym shows.builder));
@@ -164,12 +164,12 @@ module _ (schema : Schema) (room : ℕ) where
       mails = λ k mail found. shows.mails k mail (ap (λ (mails : List InEnd). slice_get mails k) (sym s.takes.mails) ∙ found);
     }
 
-    work_runs : a.queue ≡ item ∷ rest → (told : Told) → told.front ≡ s.next.builder.published → (b : RunView) × IsRun schema room a (work_steps before item s.answer) b × ShowsWork b after
+    work_runs : a.queue ≡ item ∷ rest → (told : Told) → told.front ≡ s.next.builder.published → (b : RunView) × AreRunSteps schema room a (work_steps before item s.answer) b × ShowsWork b after
     work_runs front told list =
         let told_run = answering schema room told taken s.next s.answer shows_taken list in
         let same : answer_steps s.answer s.next.mails ≡ answer_steps s.answer before.mails = ap (answer_steps s.answer) s.takes.mails in (
           told_run.0,
-          (drawn, draw_is_step a rest item front, (taken, take_is_step (publishes before.builder item s.answer) drawn taken takes, subst (λ steps. IsRun schema room taken steps told_run.0) same told_run.1)),
+          (drawn, draw_is_step a rest item front, (taken, take_is_step (publishes before.builder item s.answer) drawn taken takes, subst (λ steps. AreRunSteps schema room taken steps told_run.0) same told_run.1)),
           subst (ShowsWork told_run.0) (sym s.tells) told_run.2,
         )
 

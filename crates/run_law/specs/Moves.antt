@@ -56,7 +56,7 @@ publishes b item (Ok taken) = may_publish b item
 publishes b item (Err fault) = false
 
 -- The builder takes an item, and has published by it or not
-pub record Takes (published : Bool) (a b : RunView) : Type 0 where
+pub record TakesItem (published : Bool) (a b : RunView) : Type 0 where
   -- the item was drawn last, and what was drawn before is taken
   pub item : Item
   pub drawn : a.draws.drawn ≡ a.builder.taken ++ item ∷ []
@@ -75,7 +75,7 @@ abbrev pub with_session : RunView → ℕ → SessionView → RunView
 with_session a s session = record a { sessions = slice_set a.sessions s session }
 
 -- Session s is told of the published list
-pub record Tells (s : ℕ) (a b : RunView) : Type 0 where
+pub record TellsSession (s : ℕ) (a b : RunView) : Type 0 where
   pub session : SessionView
   pub at : slice_get a.sessions s ≡ Some session
   -- what it is told
@@ -92,7 +92,7 @@ abbrev pub having_asked : SessionView → Option Told → SessionView
 having_asked session told = let t = session.taken in record session { taken = mail_out t.mailbox t.pair (next_count t.takes) (and_taken t.taken told) }
 
 -- What was told to session s last is put into its mailbox
-pub record Puts (s : ℕ) (a b : RunView) : Type 0 where
+pub record PutsMail (s : ℕ) (a b : RunView) : Type 0 where
   pub session : SessionView
   pub at : slice_get a.sessions s ≡ Some session
   -- it was told last
@@ -167,15 +167,15 @@ pub record Looks (schema : Schema) (s : ℕ) (q : Query) (a b : RunView) : Type 
   pub after : b ≡ having_looked schema a s session (looked q) shown
 
 -- what is left of the builder once its pair has ended: what was pending is published, and the ended list is what is shown
-abbrev pub having_ended : BuilderState → Known → BuilderState
-having_ended b ended = record b { journal = b.journal ++ b.pending; pending = []; published = ended }
+abbrev pub having_ended_pair : BuilderState → Known → BuilderState
+having_ended_pair b ended = record b { journal = b.journal ++ b.pending; pending = []; published = ended }
 
 -- The publisher ends
-pub record Ends (a b : RunView) : Type 0 where
+pub record EndsPair (a b : RunView) : Type 0 where
   -- the ended list has the points of the journal and of what was pending
   pub ended : Known
   pub points : ended.points ≡ entry_points (a.builder.journal ++ a.builder.pending)
-  pub after : b ≡ record a { builder = having_ended a.builder ended }
+  pub after : b ≡ record a { builder = having_ended_pair a.builder ended }
 
 -- Session s learns of the end: that the published list is the ended one
 pub record LearnsEnd (s : ℕ) (a b : RunView) : Type 0 where

@@ -45,7 +45,7 @@ pub record KeepsRun (run : RunView) : Type 0 where
   pub heard : All (HasHeard run.builder.published) run.sessions
 
 -- A world of the machine over these lists stands where the run does
-pub record StandsAt (lists : List (List Point)) (run : RunView) (w : World) : Type 0 where
+pub record StandsWith (lists : List (List Point)) (run : RunView) (w : World) : Type 0 where
   -- each list is what its feeder has sent, and then its rest
   pub count : length w.rest ≡ length run.feeds
   pub rest : (f : ℕ) → 1 ≤ f → f ≤ length run.feeds → list_of lists f ≡ sent_of run f ++ list_of w.rest f

@@ -6,7 +6,7 @@ use Rattle.feed_queue.specs.declared.item.Item.TheVariants as item
 use Rattle.world_core.specs.declared.entry.Entry.{Entry}
 use Rattle.world_core.specs.declared.event.Event.{Event}
 use Rattle.world_core.specs.declared.event.Event.TheVariants as event
-use Rattle.run_law.specs.Moves.{Sends, Draws, Takes, Tells, Puts, Asks, Learns, Looks, Ends, LearnsEnd, looked}
+use Rattle.run_law.specs.Moves.{Sends, Draws, TakesItem, TellsSession, PutsMail, Asks, Learns, Looks, EndsPair, LearnsEnd, looked}
 use Rattle.run_law.specs.Views.{RunView}
 use Rattle.run_law.specs.declared.step.Step.{Step}
 use Rattle.run_law.specs.declared.step.Step.TheVariants as step
@@ -41,24 +41,24 @@ DroppedNone a = a.builder.journal ++ a.builder.pending ≡ entries_in a.draws.dr
 -- of a run of that schema, in whose queue there is so much room
 module _ (schema : Schema) (room : ℕ) where
   -- the step leads from the one moment to the other
-  abbrev pub IsStep : RunView → Step → RunView → Type 0
-  IsStep a (step.SendEntry f) b = (e : Entry) × Sends room f (item.One e) a b
-  IsStep a (step.SendEnd f) b = (n : ℕ) × Sends room f (item.End f n) a b
-  IsStep a step.DrawEntry b = (e : Entry) × Draws (item.One e) a b
-  IsStep a step.DrawEnd b = (f : ℕ) × (n : ℕ) × Draws (item.End f n) a b
-  IsStep a step.Keep b = Takes false a b
-  IsStep a step.Publish b = Takes true a b
-  IsStep a (step.Tell s) b = Tells s a b
-  IsStep a (step.PutMail s) b = Puts s a b
-  IsStep a (step.TakeMail s) b = Asks s a b
-  IsStep a (step.Learn s) b = Learns s a b
-  IsStep a (step.Look s q) b = Looks schema s q a b
-  IsStep a step.EndPublishing b = DroppedNone a × Ends a b
-  IsStep a step.End b = (a.builder.pending ≡ []) × Ends a b
-  IsStep a (step.LearnEnd s) b = LearnsEnd s a b
-  IsStep a step.Rest b = b ≡ a
+  abbrev pub IsRunStep : RunView → Step → RunView → Type 0
+  IsRunStep a (step.SendEntry f) b = (e : Entry) × Sends room f (item.One e) a b
+  IsRunStep a (step.SendEnd f) b = (n : ℕ) × Sends room f (item.End f n) a b
+  IsRunStep a step.DrawEntry b = (e : Entry) × Draws (item.One e) a b
+  IsRunStep a step.DrawEnd b = (f : ℕ) × (n : ℕ) × Draws (item.End f n) a b
+  IsRunStep a step.Keep b = TakesItem false a b
+  IsRunStep a step.Publish b = TakesItem true a b
+  IsRunStep a (step.Tell s) b = TellsSession s a b
+  IsRunStep a (step.PutMail s) b = PutsMail s a b
+  IsRunStep a (step.TakeMail s) b = Asks s a b
+  IsRunStep a (step.Learn s) b = Learns s a b
+  IsRunStep a (step.Look s q) b = Looks schema s q a b
+  IsRunStep a step.EndPublishing b = DroppedNone a × EndsPair a b
+  IsRunStep a step.End b = (a.builder.pending ≡ []) × EndsPair a b
+  IsRunStep a (step.LearnEnd s) b = LearnsEnd s a b
+  IsRunStep a step.Rest b = b ≡ a
 
   -- the steps lead from the one moment to the other, one after another
-  abbrev pub IsRun : RunView → List Step → RunView → Type 0
-  IsRun a [] b = b ≡ a
-  IsRun a (s ∷ steps) b = (mid : RunView) × IsStep a s mid × IsRun mid steps b
+  abbrev pub AreRunSteps : RunView → List Step → RunView → Type 0
+  AreRunSteps a [] b = b ≡ a
+  AreRunSteps a (s ∷ steps) b = (mid : RunView) × IsRunStep a s mid × AreRunSteps mid steps b

@@ -10,7 +10,7 @@ use Rattle.feed_queue.specs.declared.item.Item.TheVariants.{One, End}
 use Rattle.mailbox.specs.Ends.{InEnd}
 use Rattle.published_pair.specs.declared.told.Told.{Told}
 use Rattle.run_law.specs.Moves.{publishes}
-use Rattle.run_law.specs.Steps.{IsRun}
+use Rattle.run_law.specs.Steps.{AreRunSteps}
 use Rattle.run_law.specs.Views.{RunView, SessionView}
 use Rattle.run_law.specs.declared.step.Step.{Step}
 use Rattle.run_law.specs.declared.step.Step.TheVariants as step
@@ -58,4 +58,4 @@ work_steps work item answer = draw_step item ∷ take_step (publishes work.build
 abbrev pub WorkIsSteps : Type 0
 WorkIsSteps = (schema : Schema) (room : ℕ) (a : RunView) (before after : BuilderWorkState) → ShowsWork a before → DrawsFor before.draws before.builder
     → (s : work.IsStep before after) (rest : List Item) → a.queue ≡ s.takes.item ∷ rest → (told : Told) → told.front ≡ s.next.builder.published
-    → (b : RunView) × IsRun schema room a (work_steps before s.takes.item s.answer) b × ShowsWork b after
+    → (b : RunView) × AreRunSteps schema room a (work_steps before s.takes.item s.answer) b × ShowsWork b after
