@@ -1,7 +1,7 @@
 //! Cubes and images that the tests of several crates share.
 //!
 //! The crate stands on `cube_image`, `cube_store`, `example_cubes`, `cube_view` and `outer_io`. Nothing but tests uses
-//! it. Its own are of what `cube_image` writes, by these images. What the other tests do with an image is left to them.
+//! it. What `cube_image` writes, and what becomes of an image, is tested in `image_callers`.
 //!
 //! ```text
 //! let cube = cube_of(alloc, schema_of_kinds(alloc)?, &[point(0, 0, 0, 0)])?;
@@ -12,9 +12,6 @@
 ghost use Rattle.std.specs.Prelude.{◌≡◌, IfOk};
 ghost use Rattle.cube_image.specs.Image.{IsWritten};
 ghost use Rattle.cube_store.specs.Holding.{CubeCounts};
-
-#[cfg(test)]
-mod tests;
 
 use cube_image::{SaveFault, image_laws, write_image};
 use cube_store::Cube;

@@ -15,8 +15,6 @@
 
 mod load;
 mod save;
-#[cfg(test)]
-mod tests;
 
 pub use load::load_cube;
 pub use save::save_cube;

@@ -12,8 +12,6 @@
 
 mod fault;
 mod read;
-#[cfg(test)]
-mod tests;
 
 pub use fault::ImageFault;
 pub use read::read_image;

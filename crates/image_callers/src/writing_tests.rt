@@ -1,6 +1,6 @@
 //! Images of cubes of no points, of one and of three, of the schema that is built in.
-use crate::{EMPTY, ONE_RECORD, cube_of, image_of};
 use cube_view::Point;
+use example_images::{EMPTY, ONE_RECORD, cube_of, image_of};
 use example_schemas::{point, schema_of_kinds};
 use outer_io::List;
 use std::alloc::Global;

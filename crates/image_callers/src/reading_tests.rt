@@ -1,11 +1,11 @@
 //! Images of cubes that are read back, and bytes near to them.
 ghost use Rattle.std.specs.Prelude.{◌<◌, length};
 
-use crate::{ImageFault, read_image};
 use cube_image::write_image;
 use cube_view::{Point, Schema, Spot};
 use example_images::{cube_of, image_of};
 use example_schemas::{point, schema_of_kinds, schema_of_two_categories};
+use image_read::{ImageFault, read_image};
 use outer_io::{List, NoMemory, Text};
 use std::alloc::{AllocError, Global};
 use std::process::Abort;

@@ -1,10 +1,10 @@
 //! Cubes that are saved and loaded again.
-use crate::{load_cube, save_cube};
 use cube_image::SaveFault;
 use cube_view::{CubeView, Point, Schema};
 use example_cubes::NoCube;
 use example_images::cube_of;
 use example_schemas::{point, schema_of_kinds};
+use image_cube::{load_cube, save_cube};
 use image_read::ImageFault;
 use outer_io::{List, NoMemory};
 use std::alloc::Global;
