@@ -19,21 +19,15 @@
 //! ```
 #![tactic(auto)]
 
-#[cfg(test)]
-mod carrying_tests;
 mod draw;
 mod feed;
 mod item;
-#[cfg(test)]
-mod journal_tests;
 mod laws;
 mod line;
 mod open;
 mod printing;
 mod reading;
 mod steps;
-#[cfg(test)]
-mod tests;
 
 pub use draw::{DrawEnd, Drawn};
 pub use feed::{Ended, FeedEnd};

@@ -1,12 +1,12 @@
 use Rattle.std.proofs.Common.{◌≡◌, ap, sym, subst, ◌∙◌, length, map, List, All, rules}
 use Rattle.feed_queue.specs.Ends.{FeedState, AreInTurn, sent_lists}
 use Rattle.feed_queue.specs.Items.{entries_in}
-use Rattle.feed_queue.specs.declared.carrying_tests.Seat.{Seat}
+use Rattle.feed_queue_tests.specs.declared.carrying_tests.Seat.{Seat}
 use Rattle.feed_queue.proofs.EndCounts.{ends_by_count}
 use Rattle.feed_queue.proofs.InTurn.{ends_in_turn}
 use Rattle.feed_queue.proofs.SentLists.{length-new_feeds, may_send_each, lanes_stay, turn_stays, lists_sent}
 use Rattle.world_core.specs.Interleaving.{IsInterleaving, list_of}
-use Rattle.feed_queue.proofs.carrying_tests.carry.Goals as goal
+use Rattle.feed_queue_tests.proofs.carrying_tests.carry.Goals as goal
 
 pub seats_of-requires : goal.seats_of-requires
 seats_of-requires g c = ap length c.in_ok-ends.ensures.feeds ∙ length-new_feeds _ _ _ ∙ c.len-feeders.ensures

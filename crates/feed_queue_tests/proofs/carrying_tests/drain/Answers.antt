@@ -2,7 +2,7 @@ use Rattle.std.proofs.Common.{ap, ◌∙◌, arith, rules}
 use Rattle.feed_queue.specs.Ends.{DrawState}
 use Rattle.feed_queue.proofs.EndCounts.{count_ends-entry, count_ends-end}
 use Rattle.feed_queue.proofs.ItemOrder.{entries_in-entry, entries_in-end}
-use Rattle.feed_queue.proofs.carrying_tests.drain.Goals as goal
+use Rattle.feed_queue_tests.proofs.carrying_tests.drain.Goals as goal
 
 pub loop-preserved-in-One : goal.loop-preserved-in-One
 loop-preserved-in-One g c =

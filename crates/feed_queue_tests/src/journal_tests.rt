@@ -2,9 +2,9 @@
 ghost use Rattle.std.specs.Prelude.{◌≡◌, ◌∷◌, [], IfOk, codes};
 ghost use Rattle.example_schemas.specs.Examples.{named_category};
 
-use crate::{print_entry, read_entry};
 use cube_view::{Category, Point, Schema, Spot};
 use example_schemas::{point, schema_of_kinds};
+use feed_queue::{print_entry, read_entry};
 use outer_io::{List, NoMemory, Text};
 use std::alloc::Global;
 use std::test::Fail;

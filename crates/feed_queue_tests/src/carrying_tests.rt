@@ -2,13 +2,13 @@
 //! contracts of the ends alone.
 ghost use Rattle.std.specs.Prelude.{◌≡◌, ◌≤◌, [], true, length, map, All, IfOk, IsTrue};
 ghost use Rattle.cube_view.specs.Validity.{valid};
-ghost use Rattle.feed_queue.specs.Carrying.{MayBeFed, HaveSent, HasDrained};
+ghost use Rattle.feed_queue_tests.specs.Carrying.{MayBeFed, HaveSent, HasDrained};
 ghost use Rattle.feed_queue.specs.Ends.{MaySendAll, having_sent_all};
 ghost use Rattle.world_core.specs.Interleaving.{IsInterleaving, list_of};
 
-use crate::{DrawEnd, Ended, FeedEnd, Item, open_lane};
 use cube_view::{Point, Schema, is_valid};
 use example_schemas::{point, schema_of_kinds};
+use feed_queue::{DrawEnd, Ended, FeedEnd, Item, open_lane};
 use outer_io::{List, NoMemory};
 use std::alloc::Global;
 use std::process::Abort;

@@ -4,9 +4,9 @@ ghost use Rattle.cube_view.specs.Validity.{valid};
 ghost use Rattle.feed_queue.specs.Ends.{having_sent_all, IsDrawn};
 ghost use Rattle.feed_queue.specs.Items.{count_ends};
 
-use crate::{DrawEnd, Ended, FeedEnd, Item, open_lane};
 use cube_view::Point;
 use example_schemas::{point, schema_of_kinds};
+use feed_queue::{DrawEnd, Ended, FeedEnd, Item, open_lane};
 use outer_io::{List, NoMemory};
 use std::alloc::Global;
 use std::process::Abort;
