@@ -19,11 +19,7 @@ mod entry;
 mod event;
 mod laws;
 mod machine;
-#[cfg(test)]
-mod random_tests;
 mod runs;
-#[cfg(test)]
-mod tests;
 mod world;
 
 pub use entry::Entry;

@@ -3,7 +3,6 @@ ghost use Rattle.std.specs.Prelude.{◌≡◌, ◌^◌, ◌<◌, ◌&&◌, nat_l
 ghost use Rattle.std.specs.List.{list_all};
 ghost use Rattle.cube_view.specs.Validity.{valid};
 
-use crate::{Entry, Event, Shot, World, run};
 use cube_view::{Point, Schema, Tile, is_valid};
 use example_schemas::{point, schema_of_kinds};
 use outer_io::{List, NoMemory};
@@ -11,6 +10,7 @@ use query_syntax::{Choice, Query, Rect, RowOut, Span, ValueSet, Verb};
 use std::alloc::Global;
 use std::process::Abort;
 use std::test::Fail;
+use world_core::{Entry, Event, Shot, World, run};
 
 fn are_valid(schema: &Schema, points: &[Point]) -> bool
     ensures { result ≡ list_all (valid schema.now) points.now }

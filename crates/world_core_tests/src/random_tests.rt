@@ -1,8 +1,7 @@
 //! Random schedules against a straight program over plain lists.
 ghost use Rattle.std.specs.Prelude.{◌<◌};
 
-use crate::tests::{CountShot, Plan, are_shots, count, counted, entry, query, world_of};
-use crate::{Entry, Event};
+use crate::machine_tests::{CountShot, Plan, are_shots, count, counted, entry, query, world_of};
 use cube_view::{Point, Tile};
 use example_schemas::point;
 use outer_io::{List, NoMemory};
@@ -10,6 +9,7 @@ use query_syntax::{Query, Verb};
 use std::alloc::Global;
 use std::process::Abort;
 use std::test::Fail;
+use world_core::{Entry, Event};
 
 /// Numbers that look random, always the same ones.
 #[derive(Drop)]
