@@ -15,8 +15,6 @@
 mod best;
 mod cross;
 mod laws;
-#[cfg(test)]
-mod tests;
 
 pub use best::best_answer;
 pub use cross::cross_answer;

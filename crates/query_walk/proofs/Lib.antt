@@ -4,7 +4,6 @@ pub mod Costing
 pub mod Descends
 pub mod Drilling
 pub mod MapCosts
-pub mod Numbers
 pub mod OneValue
 pub mod Regions
 pub mod Sets

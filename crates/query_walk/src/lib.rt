@@ -23,8 +23,6 @@ mod categories;
 mod region;
 mod search;
 mod span;
-#[cfg(test)]
-mod tests;
 mod tile;
 mod value;
 

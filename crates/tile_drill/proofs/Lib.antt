@@ -1,5 +1,4 @@
 pub mod Gaining
 pub mod Growing
-pub mod Numbers
 pub mod Paying
 pub mod Rows

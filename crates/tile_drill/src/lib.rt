@@ -13,8 +13,6 @@
 mod bins;
 mod sums;
 mod table;
-#[cfg(test)]
-mod tests;
 mod values;
 
 pub use table::answer;

@@ -2,7 +2,6 @@ pub mod Counting
 pub mod Fewest
 pub mod Filtering
 pub mod FromTile
-pub mod Numbers
 pub mod Order
 pub mod Quadrants
 pub mod Sharing

@@ -16,8 +16,6 @@
 
 mod largest;
 mod rect;
-#[cfg(test)]
-mod tests;
 mod window;
 
 pub use largest::cover;
