@@ -18,8 +18,6 @@
 mod batch;
 mod cube;
 mod laws;
-#[cfg(test)]
-mod tests;
 mod view;
 
 pub use cube::Cube;

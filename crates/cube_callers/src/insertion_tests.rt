@@ -2,7 +2,7 @@
 ghost use Rattle.std.specs.Prelude.{◌≡◌, codes, IfOk};
 ghost use Rattle.example_schemas.specs.Examples.{named_category};
 
-use crate::Cube;
+use cube_store::Cube;
 use cube_view::{Category, CubeView, Point, Schema, Spot, Stat, are_sound, is_sound};
 use example_schemas::{point, schema_of_kinds, schema_of_two_categories};
 use outer_io::{List, NoMemory, Text};
