@@ -21,8 +21,6 @@
 mod job;
 mod laws;
 mod refusal;
-#[cfg(test)]
-mod tests;
 mod work;
 
 pub use job::{FeedDone, FeedJob};

@@ -3,7 +3,7 @@ ghost use Rattle.std.specs.Prelude.{◌≡◌, [], false, IfOk};
 ghost use Rattle.feed_queue.specs.Ends.{feed_state};
 ghost use Rattle.outer_io.specs.Progress.{IsGoing};
 
-use crate::{FeedDone, FeedJob, FeedWork, FirstRefusals, Refusal};
+use crew_feeder::{FeedDone, FeedJob, FeedWork, FirstRefusals, Refusal};
 use cube_view::{Point, Schema};
 use example_schemas::{point, schema_of_kinds};
 use feed_maker::Endless;
