@@ -7,7 +7,7 @@ instructions a line where `valgrind` is installed, as the difference of 5,000 li
 import argparse, json, os, re, shutil, subprocess, tempfile
 
 from pipes import plan_of
-from run_times import timed
+from runs import timed
 
 LATE = 1 << 60
 

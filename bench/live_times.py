@@ -1,7 +1,7 @@
 """Usage: live_times.py idle PROGRAM.. [--seconds S]
        live_times.py latency PROGRAM.. [--seconds S] [--batches 1,64] [--rates 1,10000,100000] [--asks 1,8] [--records city]
        live_times.py memory PROGRAM.. [--counts 3600,100000,1000000] [--records city]
-       live_times.py city PROGRAM.. [--counts 1000000] [--rounds 3] [--processors 4,2] [--pipes]
+       live_times.py city PROGRAM.. [--counts 1000000] [--batches 64] [--rounds 3] [--processors 4,2] [--pipes]
 
 Times live runs over pipes, of each PROGRAM in turn, so that the figures of one run of this script compare with each other.
 
@@ -11,7 +11,7 @@ asks are answered one line after the other: median and 99th percentile over S se
 of all asks, and how many records a second were taken, where these are fewer than were to come. A record that is timed comes by a
 second feed, and at batch 64 is published with records of the other.
 memory: the most memory of a run with so many records, which is an hour of them at that number over 3,600 a second.
-city: a run of so many records of a city's export from 8 feeds at batch 64, by the clock and in processor time, on so many processors
+city: a run of so many records of a city's export from 8 feeds at each batch, by the clock and in processor time, on so many processors
 (`taskset`), and beside it what reading and two insertions of each record take on one thread, which is measured on `save`.
 
 Records are those of a town of 8 by 8 places in 744 hours, or with `--records city` those of 64 by 64 places at depth 16 with two
@@ -253,25 +253,25 @@ def read_alone(program, folder):
         child.wait()
 
 
-def parts(program, count):
+def parts(program, count, batch):
     """The processor seconds of reading alone, and of reading and one insertion."""
     took = []
     for known in (False, True):
         with tempfile.TemporaryDirectory() as folder:
             write_city(folder, count, known)
             with open(os.path.join(folder, "plan.json"), "w") as it:
-                json.dump(plan_over("city", 8, 0, 64), it)
+                json.dump(plan_over("city", 8, 0, batch), it)
             took.append(read_alone(program, folder))
     return took
 
 
-def city_run(program, source, processors, count, piped):
+def city_run(program, source, processors, count, batch, piped):
     """By the clock, and in processor seconds, a run over the feeds of a folder: the files themselves, or pipes that are written from them."""
     names = [f"feed{feed}.csv" for feed in range(8)]
     run, words = None, ["taskset", "-c", f"0-{processors - 1}"]
     try:
         files = [(name, open(os.path.join(source, name)).read()) for name in names]
-        run = Run(program, plan_over("city", 8, 0, 64), 3600, finals=() if piped else files, words=words, piped=names if piped else [])
+        run = Run(program, plan_over("city", 8, 0, batch), 3600, finals=() if piped else files, words=words, piped=names if piped else [])
         children = []
         if piped:
             header = header_of("city")
@@ -291,16 +291,16 @@ def city_run(program, source, processors, count, piped):
             run.close()
 
 
-def city(programs, count, rounds, processors, piped):
+def city(programs, count, batch, rounds, processors, piped):
     with tempfile.TemporaryDirectory() as source:
         write_city(source, count)
         for _ in range(rounds):
             for program in programs:
-                reading, inserting = parts(program, count)
+                reading, inserting = parts(program, count, batch)
                 alone = 2 * inserting - reading
-                print(f"{program}: reading {reading:.2f} s, with one insertion {inserting:.2f}, so with two {alone:.2f}", flush=True)
+                print(f"{program}: batch {batch}: reading {reading:.2f} s, with one insertion {inserting:.2f}, so with two {alone:.2f}", flush=True)
                 for number in processors:
-                    seconds, busy, most = city_run(program, source, number, count, piped)
+                    seconds, busy, most = city_run(program, source, number, count, batch, piped)
                     print(f"{program}: {count} records from 8 {'pipes' if piped else 'files'} on {number} processors: {seconds:.2f} s, "
                           f"{busy:.2f} of processors, {busy / alone:.2f} times reading and two insertions, {most:.0f} MB", flush=True)
 
@@ -314,7 +314,7 @@ def main():
     words.add_argument("what", choices=["idle", "latency", "memory", "city"])
     words.add_argument("programs", nargs="+", metavar="PROGRAM")
     words.add_argument("--seconds", type=float, default=10)
-    words.add_argument("--batches", type=numbers, default=[1, 64])
+    words.add_argument("--batches", type=numbers)
     words.add_argument("--rates", type=numbers, default=[1, 10_000, 100_000])
     words.add_argument("--asks", type=numbers, default=[1, 8])
     words.add_argument("--counts", type=numbers)
@@ -326,7 +326,8 @@ def main():
     signal.signal(signal.SIGPIPE, signal.SIG_IGN)
     programs = [os.path.abspath(program) for program in given.programs]
     if given.what == "city":
-        city(programs, (given.counts or [1_000_000])[0], given.rounds, given.processors, given.pipes)
+        for batch in given.batches or [64]:
+            city(programs, (given.counts or [1_000_000])[0], batch, given.rounds, given.processors, given.pipes)
     elif given.what == "idle":
         for program in programs:
             idle(program, given.seconds)
@@ -335,7 +336,7 @@ def main():
             for program in programs:
                 memory(program, given.records, count)
     else:
-        for batch in given.batches:
+        for batch in given.batches or [1, 64]:
             for rate in given.rates:
                 for asks in given.asks:
                     for program in programs:

@@ -4,72 +4,10 @@
 For each kind of records and each batch: `save` (reading, one cube, and its image), and `run` with so many feeds (two copies), in
 seconds by the clock and of processors, records a second, and MB at most. GROUPS is the program of bench/groups.rs, which inserts
 the same records one by one and in groups of the same sizes in plain Rust. `count` has to be the same of every form, and `stat` of an
-image is printed.
+image is printed. runs.py says what the kinds of records are."""
+import argparse, json, os, subprocess, tempfile
 
-generated: depth 10, one category of four values, 1,024 bins, as bench/nanocube.rs has them.
-city: a month of incidents at depth 16, 64 by 64 places, two categories, hours.
-checkins: depth 15, hour and weekday, 170,000 places round 400 towns, of which few are visited often, in rising order of time."""
-import argparse, json, os, random, subprocess, tempfile
-
-from pipes import plan_of
-from run_times import step, timed
-
-
-class Kind:
-    """A schema, and how its records are made: x, y, the numbers of its values, and the time."""
-
-    def __init__(self, depth, categories, width, start, make):
-        self.depth, self.categories, self.width, self.start, self.make = depth, categories, width, start, make
-
-    def plan(self, feeds, batch):
-        return plan_of(feeds, 0, batch, self.depth, self.categories, self.width, self.start, ["final.txt"])
-
-    def write(self, folder, records, feeds):
-        """The records as so many feeds, in turn, and as the numbers that bench/groups.rs reads."""
-        names = ",".join(name for name, _ in self.categories)
-        files = [open(os.path.join(folder, f"feed{f}.csv"), "w") for f in range(feeds)]
-        with open(os.path.join(folder, "numbers.txt"), "w") as numbers:
-            for file in files:
-                file.write(f"x,y,{names},time\n")
-            for i, (x, y, values, time) in enumerate(self.make(records)):
-                texts = ",".join(of[value] for (_, of), value in zip(self.categories, values))
-                files[i % feeds].write(f"{x},{y},{texts},{time}\n")
-                numbers.write(f"{x},{y},{','.join(map(str, values))},{(time - self.start) // self.width}\n")
-        for file in files:
-            file.close()
-
-
-def generated(records):
-    s = 1
-    for _ in range(records):
-        s = step(s)
-        yield s >> 54, (s >> 44) % 1024, [(s >> 42) % 4], (s >> 32) % 1024
-
-
-def city(records):
-    s = 1
-    for i in range(records):
-        s = step(s)
-        yield 16800 + (s >> 58), 24300 + (s >> 50) % 64, [(s >> 40) % 3, (s >> 33) % 2], 1357016400 + i * 2678400 // records
-
-
-def checkins(records):
-    rng, time = random.Random(5), 0
-    towns = [(rng.randrange(1 << 20), rng.randrange(1 << 20)) for _ in range(400)]
-    places = []
-    for _ in range(170_000):
-        town = towns[min(int(rng.paretovariate(0.9)) - 1, 399)]
-        places.append(tuple((at + int(rng.gauss(0, 900))) % (1 << 20) >> 5 for at in town))
-    for _ in range(records):
-        time += rng.randrange(1, 160)
-        often = rng.random() < 0.7
-        x, y = places[min(int(rng.paretovariate(0.35)) - 1, 169_999) if often else rng.randrange(170_000)]
-        yield x, y, [time // 3600 % 24, time // 86400 % 7], time
-
-
-KINDS = {"generated": Kind(10, [("kind", list("abcd"))], 1, 0, generated),
-         "city": Kind(16, [("type", ["THEFT", "MOTOR VEHICLE THEFT", "BATTERY"]), ("district", ["001", "002"])], 3600, 1357016400, city),
-         "checkins": Kind(15, [("hour", [str(n) for n in range(24)]), ("day", [str(n) for n in range(7)])], 3600, 0, checkins)}
+from runs import KINDS, timed
 
 
 def told(records, seconds, busy, most):

@@ -9,8 +9,7 @@ image: of `load` with no line, and of the functions that write the image.
 Records are those of load_times.py: generated (one category) for all lines but `cross`, which is asked of a city's."""
 import argparse, json, os, re, shutil, subprocess, tempfile
 
-from load_times import KINDS
-from run_times import step, timed
+from runs import KINDS, step, timed
 
 
 def tiles(level, count, text):
