@@ -1,8 +1,8 @@
 -- Homes from owners: where owners lead back from each slot to the root, the steps are the homes.
-use Rattle.std.proofs.Common.{◌≡◌, ◌↔◌, ◌⊎◌, inl, inr, ℕ, zero, suc, ◌<◌, ◌≤◌, List, [], ◌∷◌, ◌++◌, length, get_or, Bool, true, false, Option, Some, None, MatchOption, Result, Ok, Err, IfOk, length-append, refl, sym, ap, ap₂, ◌∙◌, subst, arith}
+use Rattle.std.proofs.Common.{◌≡◌, ◌↔◌, ◌⊎◌, inl, inr, ℕ, zero, suc, ◌+◌, ◌<◌, ◌≤◌, List, [], ◌∷◌, ◌++◌, length, get_or, Bool, true, false, Option, Some, None, MatchOption, Result, Ok, Err, IfOk, length-append, refl, sym, ap, ap₂, ◌∙◌, subst, arith}
 use Rattle.std.proofs.Math.ListN.{get_or-eq_default}
 use Rattle.std.proofs.lemmas.Bool.{cases_lt}
-use Rattle.std.proofs.lemmas.List.{length-map}
+use Rattle.std.proofs.lemmas.List.{get_or_append_left, get_or_push, length-map}
 use Rattle.outer_io.specs.declared.fault.NoMemory.{NoMemory}
 use Rattle.cube_view.specs.Walks.{Step, Walk}
 use Rattle.cube_view.specs.declared.schema.Schema.{Schema}
@@ -11,7 +11,7 @@ use Rattle.node_arena.specs.Slots.{proper, target, Slot, link_of}
 use Rattle.node_arena.proofs.Linked.{linked-lt}
 use Rattle.shape_test.specs.Homes.{step_of, walk_of, walks_of}
 use Rattle.shape_test.specs.declared.home.Move.{Move}
-use Rattle.shape_test.specs.Owners.{Owners, owner_of, owner_at, IsOwner, HasOwners, IsHomeOf, LeadsBack, OwnersWithin, HasLost, LeadHome, AreShortHomes, AreHomesIn, HasNoHomesIn, most_steps}
+use Rattle.shape_test.specs.Owners.{Owners, owner_of, owner_at, IsOwner, HasOwners, IsHomeOf, AddsHome, LeadsBack, OwnersWithin, HasLost, LeadHome, AreShortHomes, AreHomesIn, HasNoHomesIn, most_steps}
 use Rattle.shape_test.specs.declared.owner.Owner.{Owner}
 
 -- one step further back
@@ -19,9 +19,19 @@ pub back_more : (owners : Owners) (j : ℕ) (moves : List Move) (i k : ℕ) (m :
 back_more owners j [] i k m b o = (k, ap (owner_at owners) b ∙ o, refl)
 back_more owners j (n ∷ moves) i k m b o = (b.0, b.1, back_more owners b.0 moves i k m b.2 o)
 
--- the steps of an owner with one more
-pub home_more : (owners : Owners) (most j : ℕ) (o : Owner) (above : List Move) → owner_at owners j ≡ Some o → IsHomeOf owners most o.by.0 above → length above < most → IsHomeOf owners most j (o.step ∷ above)
-home_more owners most j o above e H l = record { back = (o.by.0, e, H.back); short = omega (arith, l) }
+-- homes with one more
+pub homes_more : (owners : Owners) (most j : ℕ) (old new : List (List Move)) → length old ≡ j → ((i : ℕ) → i < j → IsHomeOf owners most i (get_or old i [])) → AddsHome owners most j old new
+    → (length new ≡ j + 1) × ((i : ℕ) → i < j + 1 → IsHomeOf owners most i (get_or new i []))
+homes_more owners most j old new size each A = (let n = ap length A.added in let m = length-append old (A.home ∷ []) in omega (arith, n, m, size), λ i l. go i l (cases_lt i j))
+  where
+    read : (i : ℕ) → get_or new i [] ≡ get_or (old ++ A.home ∷ []) i []
+    read i = ap (λ (homes : List (List Move)). get_or homes i []) A.added
+
+    go : (i : ℕ) → i < j + 1 → (i < j) ⊎ (j ≤ i) → IsHomeOf owners most i (get_or new i [])
+    go i l (inl x) = subst (IsHomeOf owners most i) (sym (read i ∙ get_or_append_left old (A.home ∷ []) [] i (omega (arith, x, size)))) (each i x)
+    go i l (inr x) =
+        let e : j ≡ i = omega (arith, l, x) in
+        subst (IsHomeOf owners most i) (sym (read i ∙ get_or_push old A.home [] i (size ∙ e))) (subst (λ (k : ℕ). IsHomeOf owners most k A.home) e A.leads)
 
 -- a slot with an owner is one of the slots
 pub owner_in : (owners : Owners) (j : ℕ) (o : Owner) → owner_at owners j ≡ Some o → j < length owners

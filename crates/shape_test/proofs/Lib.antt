@@ -23,6 +23,7 @@ pub mod Pointed
 pub mod Remaining
 pub mod Rowwise
 pub mod Sizing
+pub mod Spans
 pub mod Spotting
 pub mod Spreading
 pub mod Stepping

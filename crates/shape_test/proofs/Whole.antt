@@ -1,5 +1,5 @@
 -- What is told of single homes, rows and slots on the way to a size.
-use Rattle.std.proofs.Common.{◌≡◌, ℕ, zero, suc, ◌+◌, ◌-◌, ◌<◌, true, false, eqb, nat_le, List, [], ◌∷◌, length, get_or, Option, Some, None, refl, sym, ap, ap₂, ◌∙◌, arith}
+use Rattle.std.proofs.Common.{◌≡◌, ℕ, suc, ◌+◌, ◌-◌, true, false, eqb, nat_le, List, Option, Some, None, refl, sym, ap, ap₂, ◌∙◌, arith}
 use Rattle.std.specs.FinMap.{entries}
 use Rattle.cube_view.specs.Places.{deepest}
 use Rattle.cube_view.specs.Walks.{Walk}
@@ -11,12 +11,10 @@ use Rattle.node_arena.specs.Stats.{capped}
 use Rattle.image_shape.specs.Levels.{Levels, left}
 use Rattle.image_shape.specs.Wholes.{is_deepest, rows_at, spelled_rows}
 use Rattle.shape_test.specs.Fits.{least_points}
-use Rattle.shape_test.specs.Homes.{walk_of, walks_of}
 use Rattle.shape_test.specs.Labels.{schema_levels, labels_fit}
 use Rattle.shape_test.specs.Merging.{NoRowFrom, IsFirstRow}
 use Rattle.shape_test.specs.Places.{IsPlaceOf, IsOutside}
 use Rattle.shape_test.specs.Sizes.{table_size, size_of}
-use Rattle.shape_test.specs.declared.home.Move.{Move}
 use Rattle.shape_test.specs.declared.place.Place.{Place}
 use Rattle.shape_test.specs.declared.size.BagSize.{BagSize}
 use Rattle.shape_test.proofs.Sizing.{rows_upto, row_added, rows_added, size_plus}
@@ -53,9 +51,3 @@ slot_added levels slots homes i home size own r S H O sum least =
     let o : own ≡ size_of (rows_at levels (home_of homes i) (slot_of slots i)) = O ∙ ap (λ (a : Walk). size_of (rows_at levels a (slot_of slots i))) H in
     let n : suc i ≡ i + 1 = omega arith in
     size_plus (spelled_rows levels slots homes i) (rows_at levels (home_of homes i) (slot_of slots i)) r (sum ∙ ap₂ (λ (a b : BagSize). capped (a.sum + b.sum)) S o) (least ∙ ap₂ (λ (a b : BagSize). capped (a.least + b.least)) S o) ∙ ap (λ (k : ℕ). size_of (spelled_rows levels slots homes k)) n
-
--- a home that was read is that of the slot
-pub home_read : (homes : List (List Move)) (i : ℕ) (x y : List Move) → i < length homes → x ≡ get_or homes i x → y ≡ x → walk_of y ≡ home_of (walks_of homes) i
-home_read [] i x y l e f = absurd (omega (arith, l))
-home_read (h ∷ homes) zero x y l e f = ap walk_of (f ∙ e)
-home_read (h ∷ homes) (suc i) x y l e f = home_read homes i x y (omega (arith, l)) e f

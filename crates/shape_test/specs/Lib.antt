@@ -11,5 +11,6 @@ pub mod Owners
 pub mod Places
 pub mod Remainder
 pub mod Sizes
+pub mod Spans
 pub mod Standing
 pub mod Testable

@@ -1,5 +1,5 @@
 -- The owners of slots, and the homes to which owners lead back.
-use Rattle.std.specs.Prelude.{◌≡◌, ℕ, ◌+◌, ◌*◌, ◌<◌, ◌≤◌, ◌⊎◌, if◌then◌else◌, IsTrue, List, [], ◌∷◌, length, slice_index_or, slice_set, Option, Some, None}
+use Rattle.std.specs.Prelude.{◌≡◌, ℕ, ◌+◌, ◌*◌, ◌<◌, ◌≤◌, ◌⊎◌, if◌then◌else◌, IsTrue, List, [], ◌∷◌, ◌++◌, length, slice_index_or, slice_set, Option, Some, None}
 use Rattle.cube_view.specs.Walks.{Step, down, across, Walk}
 use Rattle.cube_view.specs.declared.schema.Schema.{Schema}
 use Rattle.node_arena.specs.declared.link.Link.{Link}
@@ -105,6 +105,18 @@ pub record HasLost (owners : Owners) (most : ℕ) : Type 0 where
 -- the homes of the first slots are those to which owners lead back
 abbrev pub AreHomesOf : Owners → ℕ → List (List Move) → Type 0
 AreHomesOf owners most homes = (j : ℕ) → j < length homes → IsHomeOf owners most j (slice_index_or homes j [])
+
+-- the owner of a slot is one of the first slots, and its home has room for one step more
+pub record IsNearOwner (owners : Owners) (homes : List (List Move)) (most j : ℕ) (o : Owner) : Type 0 where
+  pub noted : owner_at owners j ≡ Some o
+  pub first : o.by.0 < length homes
+  pub room : length (slice_index_or homes o.by.0 []) < most
+
+-- the home of a slot was added behind others
+pub record AddsHome (owners : Owners) (most j : ℕ) (old new : List (List Move)) : Type 0 where
+  pub home : List Move
+  pub added : new ≡ old ++ home ∷ []
+  pub leads : IsHomeOf owners most j home
 
 -- the homes of all slots are those to which owners lead back
 pub record LeadHome (owners : Owners) (most : ℕ) (homes : List (List Move)) : Type 0 where

@@ -6,7 +6,7 @@ ghost use Rattle.shape_test.specs.Owners.{AreHomesIn, HasOwners};
 ghost use Rattle.shape_test.specs.Places.{ArePlaces};
 ghost use Rattle.shape_test.specs.Testable.{AreTestable};
 
-use crate::home::Move;
+use crate::home_list::HomeList;
 use crate::homes::{Homed, homes_of};
 use crate::place::Place;
 use crate::places::places_of;
@@ -24,7 +24,7 @@ fn fits_at<L: Ledger>(
     alloc: Global,
     schema: &Schema,
     arena: &Arena,
-    homes: &List<List<Move>>,
+    homes: &HomeList,
     places: &List<Place>,
     size: u64,
     steps: &mut Steps<L>,

@@ -21,7 +21,7 @@ fn leads_across(step: Move) -> bool
 }
 
 /// Whether two steps are one.
-fn is_same(a: Move, b: Move) -> bool
+pub fn is_same(a: Move, b: Move) -> bool
     ensures { IsTrue result ↔ (a ≡ b) }
 {
     match (a, b) {

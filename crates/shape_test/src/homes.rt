@@ -1,9 +1,10 @@
 //! The homes of all slots, found from their owners.
-ghost use Rattle.std.specs.Prelude.{◌≡◌, ◌<◌, ◌≤◌, ◌^◌, ◌∷◌, length, IfOk, IfSome, OnOk, MatchOption};
+ghost use Rattle.std.specs.Prelude.{◌≡◌, ◌<◌, ◌≤◌, ◌^◌, ◌∷◌, length, IfOk, IfSome, OnOk, MatchBool, MatchOption};
 ghost use Rattle.shape_test.specs.Links.{HasSmallLabels};
-ghost use Rattle.shape_test.specs.Owners.{AreHomesIn, AreHomesOf, HasLost, HasNoHomesIn, HasOwners, IsHomeOf, IsLost, LeadHome, OwnersWithin, TellsShort, most_steps};
+ghost use Rattle.shape_test.specs.Owners.{AddsHome, AreHomesIn, AreHomesOf, HasLost, HasNoHomesIn, HasOwners, IsHomeOf, IsLost, IsNearOwner, LeadHome, OwnersWithin, TellsShort, most_steps};
 
 use crate::home::Move;
+use crate::home_list::HomeList;
 use crate::owner::{Owner, owners_of};
 use cube_view::Schema;
 use node_arena::Arena;
@@ -38,69 +39,48 @@ fn home_back(
     Ok(Some(home))
 }
 
-/// The steps with one more before them.
-fn step_more(alloc: Global, step: Move, above: &[Move]) -> Result<List<Move>, NoMemory>
-    requires { length above.now < 2 ^ 62 }
-    ensures { IfOk result (λ home. home ≡ step ∷ above.now) }
-{
-    let Ok(mut home) = Vec::with_capacity(alloc, above.len() + 1) else {
-        return Err(NoMemory);
-    };
-    let Ok(()) = home.push(step) else {
-        return Err(NoMemory);
-    };
-    let Ok(()) = home.extend_from_slice(above) else {
-        return Err(NoMemory);
-    };
-    Ok(List::from_vec(home))
-}
-
-/// The steps back from a slot by those of its owner. None comes where they are not known, or have no room for one more.
-fn home_after(
-    alloc: Global,
-    owners: &[Option<Owner>],
-    homes: &List<List<Move>>,
-    slot: usize,
-    most: usize,
-) -> Result<Option<List<Move>>, NoMemory>
+/// The owner of a slot, if its home is known and has room for one step more.
+fn near_owner(owners: &[Option<Owner>], homes: &HomeList, slot: usize, most: usize) -> Option<Owner>
     requires in_range { slot < length owners.now }
     requires within { OwnersWithin owners.now }
-    requires known { AreHomesOf owners.now most homes.now }
-    requires few { most < 2 ^ 62 }
-    ensures { IfOk result (λ o. IfSome o (IsHomeOf owners.now most slot)) }
+    ensures { IfSome result (IsNearOwner owners.now homes.now most slot) }
 {
     let Some(owner) = owners[slot] else {
-        return Ok(None);
+        return None;
     };
     let by = owner.by.0 as usize;
     if by >= homes.len() {
-        return Ok(None);
+        return None;
     }
-    let above = homes.get(by).as_slice();
-    if above.len() >= most {
-        return Ok(None);
+    if homes.get(by).len() >= most {
+        return None;
     }
-    Ok(Some(step_more(alloc, owner.step, above)?))
+    Some(owner)
 }
 
-/// The steps from a slot back to the root, by its owner's where these are known.
-fn next_home(
+/// Adds the home of a slot behind those of the slots before it, by its owner's where that is known. It says no where the
+/// slot has none.
+fn add_home(
     alloc: Global,
+    homes: &mut HomeList,
     owners: &[Option<Owner>],
-    homes: &List<List<Move>>,
     slot: usize,
     most: usize,
-) -> Result<Option<List<Move>>, NoMemory>
+) -> Result<bool, NoMemory>
     requires in_range { slot < length owners.now }
     requires within { OwnersWithin owners.now }
-    requires known { AreHomesOf owners.now most homes.now }
-    requires few { most < 2 ^ 62 }
-    ensures { IfOk result (λ o. MatchOption o (IsLost owners.now most slot) (IsHomeOf owners.now most slot)) }
+    requires known { AreHomesOf owners.now most homes.old }
+    ensures { IfOk result (λ r. MatchBool r (AddsHome owners.now most slot homes.old homes.new) (IsLost owners.now most slot)) }
 {
-    match home_after(alloc, owners, homes, slot, most)? {
-        Some(home) => Ok(Some(home)),
-        None => home_back(alloc, owners, slot, most),
+    if let Some(owner) = near_owner(owners, homes, slot, most) {
+        homes.add_step(owner.step, owner.by.0 as usize)?;
+        return Ok(true);
     }
+    let Some(home) = home_back(alloc, owners, slot, most)? else {
+        return Ok(false);
+    };
+    homes.add(home.as_slice())?;
+    Ok(true)
 }
 
 /// The homes of all slots by their owners. None comes where a slot has none.
@@ -108,18 +88,16 @@ fn homes_back(
     alloc: Global,
     owners: &[Option<Owner>],
     most: usize,
-) -> Result<Option<List<List<Move>>>, NoMemory>
-    requires within { OwnersWithin owners.now }
-    requires few { most < 2 ^ 62 }
+) -> Result<Option<HomeList>, NoMemory>
+    requires { OwnersWithin owners.now }
     ensures { IfOk result (λ o. MatchOption o (HasLost owners.now most) (LeadHome owners.now most)) }
 {
-    let mut homes = List::new(alloc);
+    let mut homes = HomeList::new(alloc);
     homes.reserve(owners.len())?;
     for slot in 0..owners.len() {
-        let Some(home) = next_home(alloc, owners, &homes, slot, most)? else {
+        if !add_home(alloc, &mut homes, owners, slot, most)? {
             return Ok(None);
-        };
-        homes.add(home)?;
+        }
     }
     Ok(Some(homes))
 }
@@ -135,7 +113,7 @@ pub fn most_steps_of(schema: &Schema) -> usize
 /// The homes of all slots, and the owners from which they were found.
 #[derive(Drop)]
 pub struct Homed {
-    pub homes: List<List<Move>>,
+    pub homes: HomeList,
     pub owners: Vec<Option<Owner>>,
 }
 

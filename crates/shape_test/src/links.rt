@@ -6,15 +6,15 @@ ghost use Rattle.shape_test.specs.Links.{HasSmallLabels, LinkFits, LinksFit, Chi
 
 use crate::children::first_child;
 use crate::home::{Move, is_coarser_after};
+use crate::home_list::HomeList;
 use node_arena::{Arena, Link, SlotId};
-use outer_io::List;
 use probe_core::Steps;
 use std::sync::ledger::Ledger;
 
 /// Whether each link of a slot leads to a slot whose home is the link's address or finer.
 pub fn links_fit<L: Ledger>(
     arena: &Arena,
-    homes: &List<List<Move>>,
+    homes: &HomeList,
     id: SlotId,
     steps: &mut Steps<L>,
 ) -> bool
@@ -36,7 +36,7 @@ pub fn links_fit<L: Ledger>(
 }
 
 /// Whether each child of a node is one whose home is the link's address or finer.
-fn children_fit(arena: &Arena, homes: &List<List<Move>>, id: SlotId) -> bool
+fn children_fit(arena: &Arena, homes: &HomeList, id: SlotId) -> bool
     requires in_range { id.0 < length arena.now }
     requires is_node { IsNode (slot_of arena.now id.0) }
     requires homes { length homes.now ≡ length arena.now }
@@ -56,7 +56,7 @@ fn children_fit(arena: &Arena, homes: &List<List<Move>>, id: SlotId) -> bool
 }
 
 /// Whether a link of a slot leads to a slot whose home is the link's address or finer.
-fn link_fits(homes: &List<List<Move>>, id: SlotId, step: Move, link: Link) -> bool
+fn link_fits(homes: &HomeList, id: SlotId, step: Move, link: Link) -> bool
     requires { id.0 < length homes.now }
     ensures { IsTrue result ↔ LinkFits (walks_of homes.now) id.0 (step_of step) link }
 {
@@ -64,6 +64,10 @@ fn link_fits(homes: &List<List<Move>>, id: SlotId, step: Move, link: Link) -> bo
     if to >= homes.len() {
         return false;
     }
-    let home = homes.get(id.0 as usize);
-    is_coarser_after(step, home.as_slice(), homes.get(to).as_slice())
+    let by = id.0 as usize;
+    // The home of a proper link's target was made of the slot's, so it is seldom compared.
+    if homes.is_after(to, step, by) {
+        return true;
+    }
+    is_coarser_after(step, homes.get(by), homes.get(to))
 }

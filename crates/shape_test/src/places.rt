@@ -5,7 +5,7 @@ ghost use Rattle.shape_test.specs.Homes.{walks_of};
 ghost use Rattle.shape_test.specs.Owners.{HasOwners};
 ghost use Rattle.shape_test.specs.Places.{place_at, AreFirstPlaces, ArePlaces, HasOutside};
 
-use crate::home::Move;
+use crate::home_list::HomeList;
 use crate::owner::Owner;
 use crate::place::{Place, next_place, place_of};
 use cube_view::Schema;
@@ -18,7 +18,7 @@ fn place_after(
     schema: &Schema,
     arena: &Arena,
     owners: &[Option<Owner>],
-    homes: &List<List<Move>>,
+    homes: &HomeList,
     places: &List<Place>,
     slot: usize,
 ) -> Option<Place>
@@ -29,11 +29,11 @@ fn place_after(
     ensures { result ≡ place_at schema.now (home_of (walks_of homes.now) slot) }
 {
     let Some(owner) = owners[slot] else {
-        return place_of(schema, homes.get(slot).as_slice());
+        return place_of(schema, homes.get(slot));
     };
     let by = owner.by.0 as usize;
     if by >= places.len() {
-        return place_of(schema, homes.get(slot).as_slice());
+        return place_of(schema, homes.get(slot));
     }
     next_place(schema, *places.get(by), owner.step)
 }
@@ -45,7 +45,7 @@ pub fn places_of(
     schema: &Schema,
     arena: &Arena,
     owners: &[Option<Owner>],
-    homes: &List<List<Move>>,
+    homes: &HomeList,
 ) -> Result<Option<List<Place>>, NoMemory>
     requires owners { HasOwners arena.now owners.now }
     requires homes { HasProperLinks arena.now (walks_of homes.now) }

@@ -14,6 +14,7 @@ ghost use Rattle.shape_test.specs.Places.{ArePlaces, place_at};
 ghost use Rattle.shape_test.specs.Sizes.{HasLabels, TellsLight, TellsPoints, size_of, table_size};
 
 use crate::home::Move;
+use crate::home_list::HomeList;
 use crate::homes::most_steps_of;
 use crate::place::{Place, deepest, place_of, time_dim};
 use crate::rows::first_row;
@@ -150,7 +151,7 @@ fn slot_size<L: Ledger>(
 fn bag_size<L: Ledger>(
     schema: &Schema,
     arena: &Arena,
-    homes: &List<List<Move>>,
+    homes: &HomeList,
     places: &List<Place>,
     steps: &mut Steps<L>,
 ) -> BagSize
@@ -163,7 +164,7 @@ fn bag_size<L: Ledger>(
 {
     let mut size = NOTHING;
     for i in 0..arena.len() {
-        let home = homes.get(i).as_slice();
+        let home = homes.get(i);
         let place = *places.get(i);
         let own = slot_size(schema, arena, home, place, SlotId(i as u32), steps);
         size = both(size, own);
@@ -192,7 +193,7 @@ fn is_size(schema: &Schema, bag: BagSize, size: u64) -> bool
 pub fn size_fits<L: Ledger>(
     schema: &Schema,
     arena: &Arena,
-    homes: &List<List<Move>>,
+    homes: &HomeList,
     places: &List<Place>,
     size: u64,
     steps: &mut Steps<L>,

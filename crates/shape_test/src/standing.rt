@@ -12,7 +12,7 @@ ghost use Rattle.shape_test.specs.Testable.{AreLinked, AreReadable};
 
 use crate::counts::has_row;
 use crate::filled::is_filled;
-use crate::home::Move;
+use crate::home_list::HomeList;
 use crate::links::links_fit;
 use crate::merging::node_merges;
 use crate::place::{Place, deepest, time_dim};
@@ -89,7 +89,7 @@ fn suits_place<L: Ledger>(
 fn slot_stands<L: Ledger>(
     schema: &Schema,
     arena: &Arena,
-    homes: &List<List<Move>>,
+    homes: &HomeList,
     id: SlotId,
     place: Place,
     steps: &mut Steps<L>,
@@ -110,7 +110,7 @@ fn slot_stands<L: Ledger>(
 fn all_stand<L: Ledger>(
     schema: &Schema,
     arena: &Arena,
-    homes: &List<List<Move>>,
+    homes: &HomeList,
     places: &List<Place>,
     steps: &mut Steps<L>,
 ) -> bool
@@ -134,7 +134,7 @@ fn all_merge<L: Ledger>(
     alloc: Global,
     schema: &Schema,
     arena: &Arena,
-    homes: &List<List<Move>>,
+    homes: &HomeList,
     places: &List<Place>,
     steps: &mut Steps<L>,
 ) -> Result<bool, NoMemory>
@@ -161,7 +161,7 @@ pub fn slots_fit<L: Ledger>(
     alloc: Global,
     schema: &Schema,
     arena: &Arena,
-    homes: &List<List<Move>>,
+    homes: &HomeList,
     places: &List<Place>,
     steps: &mut Steps<L>,
 ) -> Result<bool, NoMemory>

@@ -1,4 +1,4 @@
-use Rattle.std.proofs.Common.{Some, None, Ok, sym, subst, arith}
+use Rattle.std.proofs.Common.{Some, None, Ok, sym, subst}
 use Rattle.std.proofs.lemmas.Option.{MatchOption-at_none, MatchOption-at_some}
 use Rattle.shape_test.specs.Owners.{HasOwners}
 use Rattle.shape_test.proofs.Climbing.{owners_within, homes_told, some_slots}
@@ -7,10 +7,7 @@ use Rattle.shape_test.proofs.homes.homes_of.Goals as goal
 pub homes_back-requires : goal.homes_back-requires
 homes_back-requires g c =
     let A = MatchOption-at_some _ _ c.in-Some.owners c.in-Some.is c.in_ok-owners.ensures.owners in
-    record {
-      within = owners_within c.args.arena.now c.as_slice.result.now (subst (HasOwners c.args.arena.now) (sym c.as_slice.ensures.value) A);
-      few = let f = c.most_steps_of.ensures.few in omega (arith, f);
-    }
+    owners_within c.args.arena.now c.as_slice.result.now (subst (HasOwners c.args.arena.now) (sym c.as_slice.ensures.value) A)
 
 pub returns-in-Some-2-clause-homes : goal.returns-in-Some-2-clause-homes
 returns-in-Some-2-clause-homes g c =
