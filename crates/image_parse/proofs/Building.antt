@@ -1,5 +1,5 @@
 -- Slots that an arena builds at its end.
-use Rattle.std.proofs.Common.{◌≡◌, ℕ, ◌^◌, ◌≤◌, List, [], ◌∷◌, ◌++◌, Option, Some, None, sym, ap, ◌∙◌, arith}
+use Rattle.std.proofs.Common.{◌≡◌, ℕ, ◌^◌, ◌≤◌, Bool, true, false, MatchBool, List, [], ◌∷◌, ◌++◌, Option, Some, None, sym, ap, ◌∙◌, arith}
 use Rattle.std.specs.FinMap.{from_sorted}
 use Rattle.time_table.specs.Counts.{total_count}
 use Rattle.time_table.proofs.AddLaws.{total_count-empty}
@@ -9,7 +9,7 @@ use Rattle.node_arena.specs.Calls.{with_slot}
 use Rattle.time_table.specs.Rows.{AreRows, row_total}
 use Rattle.time_table.proofs.RowLists.{total_of_rows}
 use Rattle.image_parse.specs.Images.{AllLight}
-use Rattle.image_parse.specs.Views.{KeepsLight}
+use Rattle.image_parse.specs.Views.{IsLightTable, KeepsLight, kept_if}
 
 light_more : (slots : List Slot) (s : Slot) → AllLight slots → total_count (counts_of s) ≤ 2 ^ 63 → AllLight (slots ++ s ∷ [])
 light_more [] s all light = (light, tt)
@@ -41,3 +41,12 @@ keeps_heavy slots s heavy = λ all. heavy (light_last slots s all)
 -- a table of rows counts what they do
 pub table_weighs : (rows : List (ℕ × ℕ)) (s : Slot) → AreRows 0 rows → table (from_sorted rows) ≡ s → total_count (counts_of s) ≡ row_total rows
 table_weighs rows s fit is = ap (λ (t : Slot). total_count (counts_of t)) (sym is) ∙ total_of_rows 0 rows fit
+
+-- what an arena keeps with a table more
+pub keeps_table : (arena now slots : List Slot) (rows : List (ℕ × ℕ)) (s : Slot) (added : Bool) → AreRows 0 rows → table (from_sorted rows) ≡ s → KeepsLight (Some arena) slots
+    → MatchBool added (IsLightTable arena now rows) (¬ (row_total rows ≤ 2 ^ 63)) → KeepsLight (kept_if added now) (slots ++ s ∷ [])
+keeps_table arena now slots rows s true fit is K T =
+    let total = table_weighs rows s fit is in
+    let light = T.light in
+    keeps_light arena now slots s K (T.put ∙ ap (with_slot arena) is) (omega (arith, total, light))
+keeps_table arena now slots rows s false fit is K heavy = keeps_heavy slots s (λ le. heavy (let total = table_weighs rows s fit is in omega (arith, total, le)))

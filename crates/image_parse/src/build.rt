@@ -1,39 +1,48 @@
 //! Slots put into an arena.
-ghost use Rattle.std.specs.Prelude.{◌≡◌, ◌<◌, ◌≤◌, ◌^◌, ◌↔◌, ◌++◌, ◌∷◌, [], ℕ, List, take, IsTrue, OnOk, IfOk, MatchBool};
-ghost use Rattle.time_table.specs.Rows.{row_total};
-ghost use Rattle.node_arena.specs.Slots.{Slot};
-ghost use Rattle.image_parse.specs.Views.{IsParsed, KeepsLight, slot_parsed};
+ghost use Rattle.std.specs.Prelude.{◌≡◌, ◌<◌, ◌≤◌, ◌^◌, ◌↔◌, take, IsTrue, OnOk, IfOk, MatchBool};
+ghost use Rattle.time_table.specs.Rows.{AreRows, row_total};
+ghost use Rattle.image_parse.specs.Views.{KeepsOneMore, IsLightTable, IsParsed, kept_if, slot_parsed};
 
-use crate::slots::ParsedSlot;
+use crate::slots::{ParsedSlot, Room};
 use node_arena::Arena;
 use outer_io::NoMemory;
 
 /// The most records that a table holds.
 const MOST_RECORDS: u64 = 1 << 63;
 
-/// The arena with a slot more at its end. None comes exactly where there was none, or the slot is a table that counts
-/// more records than one can hold.
-pub fn add_slot(kept: Option<Arena>, slot: &ParsedSlot) -> Result<Option<Arena>, NoMemory>
-    requires { IsParsed slot.now }
-    ensures { IfOk result (λ now. (slots : List Slot) → KeepsLight kept slots → KeepsLight now (slots ++ slot_parsed slot.now ∷ [])) }
+/// Adds a slot at the end of an arena, if it is one of light slots. It says whether all of them are with this one: no
+/// comes exactly where they weren't before, or the slot is a table that counts more records than one can hold.
+pub fn add_slot(
+    arena: &mut Arena,
+    are_light: bool,
+    room: &Room,
+    slot: ParsedSlot,
+) -> Result<bool, NoMemory>
+    requires { IsParsed room.now slot }
+    ensures { IfOk result (λ now_light. KeepsOneMore (kept_if are_light arena.old) (kept_if now_light arena.new) (slot_parsed room.now slot)) }
 {
-    let Some(mut arena) = kept else {
-        return Ok(None);
-    };
-    match slot {
-        ParsedSlot::Node(children, content) => {
-            arena.put_node(children.as_slice(), *content)?;
-            Ok(Some(arena))
-        }
-        ParsedSlot::Table(rows) => {
-            let rows = rows.as_slice();
-            if !is_light(rows) {
-                return Ok(None);
-            }
-            arena.put_table(rows)?;
-            Ok(Some(arena))
-        }
+    if !are_light {
+        return Ok(false);
     }
+    match slot {
+        ParsedSlot::Node(content) => {
+            arena.put_node(room.children.as_slice(), content)?;
+            Ok(true)
+        }
+        ParsedSlot::Table => add_table(arena, room.rows.as_slice()),
+    }
+}
+
+/// Adds a table of rows at the end of an arena, if one can hold them. It says whether it did.
+fn add_table(arena: &mut Arena, rows: &[(u32, u64)]) -> Result<bool, NoMemory>
+    requires { AreRows 0 rows.now }
+    ensures { IfOk result (λ added. MatchBool added (IsLightTable arena.old arena.new rows.now) (¬ (row_total rows.now ≤ 2 ^ 63))) }
+{
+    if !is_light(rows) {
+        return Ok(false);
+    }
+    arena.put_table(rows)?;
+    Ok(true)
 }
 
 /// Whether a table can hold rows.

@@ -7,7 +7,7 @@ ghost use Rattle.image_parse.specs.Views.{Gives, Fails, HasSlots, HasImage};
 use crate::build::add_slot;
 use crate::fault::ImageParseFault;
 use crate::numbers::take_u64;
-use crate::slots::take_slot;
+use crate::slots::{Room, take_slot};
 use node_arena::Arena;
 use std::alloc::Global;
 
@@ -52,14 +52,23 @@ fn take_slots<'a>(
 ) -> Result<(Option<Arena>, &'a [u8]), ImageParseFault>
     ensures { let read = slots_at slots slots next.old bytes.now in MatchResult result (λ x. HasSlots read x.0 next.new x.1.now) (λ fault. Fails fault read) }
 {
-    let mut kept = Some(Arena::new(alloc));
+    let mut arena = Arena::new(alloc);
+    let mut room = Room {
+        children: Vec::new(alloc),
+        rows: Vec::new(alloc),
+    };
+    let mut are_light = true;
     let mut rest = bytes;
     for _ in 0..slots {
-        let (slot, after) = take_slot(alloc, rest, slots, next)?;
-        kept = add_slot(kept, &slot)?;
+        let (slot, after) = take_slot(&mut room, rest, slots, next)?;
+        are_light = add_slot(&mut arena, are_light, &room, slot)?;
         rest = after;
     }
-    Ok((kept, rest))
+    if are_light {
+        Ok((Some(arena), rest))
+    } else {
+        Ok((None, rest))
+    }
 }
 
 /// The slots behind the head of an image, up to its end.

@@ -1,5 +1,5 @@
 //! Slots at the front of bytes.
-ghost use Rattle.std.specs.Prelude.{◌≡◌, ◌<◌, ◌≤◌, IfOk};
+ghost use Rattle.std.specs.Prelude.{◌≡◌, ◌<◌, ◌≤◌, IfOk, OnOk};
 ghost use Rattle.std.specs.FinMap.{from_sorted};
 ghost use Rattle.time_table.specs.Rows.{AreRows};
 ghost use Rattle.node_arena.specs.Slots.{node, table};
@@ -10,28 +10,34 @@ use crate::fault::ImageParseFault;
 use crate::links::{take_child, take_content};
 use crate::numbers::{take_byte, take_u16, take_u32, take_u64};
 use node_arena::Link;
-use std::alloc::Global;
 
-/// A slot: a node with its children in rising order of label and its content, or a table with its rows in rising order
-/// of bin.
+/// Lists for the children and the rows of a slot, kept from slot to slot so that no slot takes memory for what is read.
 #[derive(Drop)]
-pub enum ParsedSlot {
-    Node(Vec<(u8, Link)>, Option<Link>),
-    Table(Vec<(u32, u64)>),
+pub struct Room {
+    pub children: Vec<(u8, Link)>,
+    pub rows: Vec<(u32, u64)>,
 }
 
-/// So many children, in rising order of label.
+/// A slot: a node with its content, or a table. Its children in rising order of label, or its rows in rising order of
+/// bin, are in a room.
+#[derive(Clone, Copy)]
+pub enum ParsedSlot {
+    Node(Option<Link>),
+    Table,
+}
+
+/// So many children, in rising order of label, in place of what a list had.
 fn take_children<'a>(
-    alloc: Global,
+    children: &mut Vec<(u8, Link)>,
     bytes: &'a [u8],
     slots: u32,
     next: &mut u32,
     count: u16,
-) -> Result<(Vec<(u8, Link)>, &'a [u8]), ImageParseFault>
-    ensures read { Gives (λ x. (x.0.items, next.new, x.1.now)) result (children_at count slots 0 next.old bytes.now) }
-    ensures fits { IfOk result (λ x. AreImageChildren x.0.items) }
+) -> Result<&'a [u8], ImageParseFault>
+    ensures read { Gives (λ x. (children.new.items, next.new, x.now)) result (children_at count slots 0 next.old bytes.now) }
+    ensures fits { OnOk result (AreImageChildren children.new.items) }
 {
-    let mut children = Vec::new(alloc);
+    children.clear();
     let mut rest = bytes;
     let mut from = 0;
     for _ in 0..count {
@@ -40,24 +46,23 @@ fn take_children<'a>(
         from = u16::from(child.0) + 1;
         rest = after;
     }
-    Ok((children, rest))
+    Ok(rest)
 }
 
-/// A node, whose kind was taken.
+/// The content of a node, whose kind was taken, and its children in place of what a list had.
 #[tactic(auto, unfolding(crate::specs::Reading::node_at))]
 fn take_node<'a>(
-    alloc: Global,
+    children: &mut Vec<(u8, Link)>,
     bytes: &'a [u8],
     slots: u32,
     next: &mut u32,
-) -> Result<(ParsedSlot, &'a [u8]), ImageParseFault>
-    ensures read { Gives (λ x. (slot_parsed x.0, next.new, x.1.now)) result (node_at slots next.old bytes.now) }
-    ensures fits { IfOk result (λ x. IsParsed x.0) }
+) -> Result<(Option<Link>, &'a [u8]), ImageParseFault>
+    ensures read { Gives (λ x. (node children.new.items x.0, next.new, x.1.now)) result (node_at slots next.old bytes.now) }
+    ensures fits { OnOk result (AreImageChildren children.new.items) }
 {
     let (count, rest) = take_u16(bytes)?;
-    let (children, rest) = take_children(alloc, rest, slots, next, count)?;
-    let (content, rest) = take_content(rest, slots, next)?;
-    Ok((ParsedSlot::Node(children, content), rest))
+    let rest = take_children(children, rest, slots, next, count)?;
+    take_content(rest, slots, next)
 }
 
 /// A row whose bin is `from` or later, and whose count isn't 0.
@@ -73,16 +78,16 @@ fn take_row(bytes: &[u8], from: u64) -> Result<((u32, u64), &[u8]), ImageParseFa
     Ok(((bin, count), rest))
 }
 
-/// So many rows, in rising order of bin.
-fn take_rows(
-    alloc: Global,
-    bytes: &[u8],
+/// So many rows, in rising order of bin, in place of what a list had.
+fn take_rows<'a>(
+    rows: &mut Vec<(u32, u64)>,
+    bytes: &'a [u8],
     count: u64,
-) -> Result<(Vec<(u32, u64)>, &[u8]), ImageParseFault>
-    ensures read { Gives (λ x. (x.0.items, x.1.now)) result (table_rows_at count 0 bytes.now) }
-    ensures fits { IfOk result (λ x. AreRows 0 x.0.items) }
+) -> Result<&'a [u8], ImageParseFault>
+    ensures read { Gives (λ x. (rows.new.items, x.now)) result (table_rows_at count 0 bytes.now) }
+    ensures fits { OnOk result (AreRows 0 rows.new.items) }
 {
-    let mut rows = Vec::new(alloc);
+    rows.clear();
     let mut rest = bytes;
     let mut from = 0;
     for _ in 0..count {
@@ -91,35 +96,40 @@ fn take_rows(
         from = u64::from(row.0) + 1;
         rest = after;
     }
-    Ok((rows, rest))
+    Ok(rest)
 }
 
-/// A table, whose kind was taken.
+/// The rows of a table, whose kind was taken, in place of what a list had.
 #[tactic(auto, unfolding(crate::specs::Reading::table_at))]
-fn take_table(alloc: Global, bytes: &[u8]) -> Result<(ParsedSlot, &[u8]), ImageParseFault>
-    ensures read { Gives (λ x. (slot_parsed x.0, x.1.now)) result (table_at bytes.now) }
-    ensures fits { IfOk result (λ x. IsParsed x.0) }
+fn take_table<'a>(rows: &mut Vec<(u32, u64)>, bytes: &'a [u8]) -> Result<&'a [u8], ImageParseFault>
+    ensures read { Gives (λ x. (table (from_sorted rows.new.items), x.now)) result (table_at bytes.now) }
+    ensures fits { OnOk result (AreRows 0 rows.new.items) }
 {
     let (count, rest) = take_u64(bytes)?;
-    let (rows, rest) = take_rows(alloc, rest, count)?;
-    Ok((ParsedSlot::Table(rows), rest))
+    take_rows(rows, rest, count)
 }
 
 /// A slot.
 #[tactic(auto, unfolding(crate::specs::Reading::slot_at))]
 pub fn take_slot<'a>(
-    alloc: Global,
+    room: &mut Room,
     bytes: &'a [u8],
     slots: u32,
     next: &mut u32,
 ) -> Result<(ParsedSlot, &'a [u8]), ImageParseFault>
-    ensures read { Gives (λ x. (slot_parsed x.0, next.new, x.1.now)) result (slot_at slots next.old bytes.now) }
-    ensures fits { IfOk result (λ x. IsParsed x.0) }
+    ensures read { Gives (λ x. (slot_parsed room.new x.0, next.new, x.1.now)) result (slot_at slots next.old bytes.now) }
+    ensures fits { IfOk result (λ x. IsParsed room.new x.0) }
 {
     let (kind, rest) = take_byte(bytes)?;
     match kind {
-        1 => take_node(alloc, rest, slots, next),
-        2 => take_table(alloc, rest),
+        1 => {
+            let (content, rest) = take_node(&mut room.children, rest, slots, next)?;
+            Ok((ParsedSlot::Node(content), rest))
+        }
+        2 => {
+            let rest = take_table(&mut room.rows, rest)?;
+            Ok((ParsedSlot::Table, rest))
+        }
         _ => Err(ImageParseFault::NotImage),
     }
 }
