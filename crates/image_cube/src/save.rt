@@ -49,7 +49,6 @@ fn tell_table<L: Ledger>(arena: &Arena, id: SlotId, steps: &mut Steps<L>)
     ensures { AllCounted (counts_of (slot_of arena.now id.0)) }
 {
     if arena.is_table(id) {
-        let table = arena.table(id, steps);
-        let _ = table.before(0, steps);
+        let _ = arena.table(id, steps).is_empty();
     }
 }
