@@ -6,7 +6,7 @@ use Rattle.std.proofs.lemmas.List.Elements.{All-push}
 use Rattle.std.proofs.lemmas.List.Sums.{sum_by_push, sum_by_more, sum_by-take-le}
 use Rattle.node_arena.specs.declared.link.SlotId.{SlotId}
 use Rattle.node_arena.specs.Slots.{Slot, slot_of, count}
-use Rattle.shape_test.specs.Ends.{end_count, ends_count, IsEnd, AreEnds}
+use Rattle.shape_test.specs.Ends.{end_count, ends_count, IsEndIn, AreEnds}
 
 module _ (slots : List Slot) (ends : List SlotId) where
   -- one slot more, if there is one
@@ -14,7 +14,7 @@ module _ (slots : List Slot) (ends : List SlotId) where
   ends_more None bin = let e = ap (λ (es : List SlotId). ends_count slots es bin) (append-nil ends) in omega (arith, e)
   ends_more (Some e) bin = sum_by_push (λ (s : SlotId). count (slot_of slots s.0) bin) ends e
 
-  pub ends_within : (o : Option SlotId) → AreEnds slots ends → IsEnd slots o → AreEnds slots (ends ++ option_to_list o)
+  pub ends_within : (o : Option SlotId) → AreEnds slots ends → IsEndIn slots o → AreEnds slots (ends ++ option_to_list o)
   ends_within None A x = subst (AreEnds slots) (sym (append-nil ends)) A
   ends_within (Some e) A x = All-push (λ (s : SlotId). s.0 < length slots) ends e A x
 

@@ -13,8 +13,8 @@ abbrev pub ends_count : List Slot → List SlotId → ℕ → ℕ
 ends_count slots ends bin = sum_by (λ e. count (slot_of slots e.0) bin) ends
 
 -- the slot is one of the arena's, if there is one
-abbrev pub IsEnd : List Slot → Option SlotId → Type 0
-IsEnd slots end = IfSome end (λ e. e.0 < length slots)
+abbrev pub IsEndIn : List Slot → Option SlotId → Type 0
+IsEndIn slots end = IfSome end (λ e. e.0 < length slots)
 
 -- the slots are the arena's
 abbrev pub AreEnds : List Slot → List SlotId → Type 0

@@ -4,7 +4,7 @@ ghost use Rattle.cube_view.specs.Walks.{across};
 ghost use Rattle.node_arena.specs.Slots.{IsNode, slot_of};
 ghost use Rattle.image_shape.specs.Sharing.{LeadsWithin};
 ghost use Rattle.image_shape.specs.Ways.{count_below};
-ghost use Rattle.shape_test.specs.Ends.{end_count, ends_count, IsEnd, AreEnds};
+ghost use Rattle.shape_test.specs.Ends.{end_count, ends_count, IsEndIn, AreEnds};
 ghost use Rattle.shape_test.specs.Homes.{way_of};
 ghost use Rattle.shape_test.specs.Merging.{parts_count};
 ghost use Rattle.shape_test.specs.Testable.{AreLinked};
@@ -27,7 +27,7 @@ fn end_of<L: Ledger>(
     requires in_range { id.0 < length arena.now }
     requires within { LeadsWithin arena.now }
     ensures counted { (bin : ℕ) → end_count arena.now result bin ≡ count_below arena.now id.0 (way_of way.now) bin }
-    ensures in_range { IsEnd arena.now result }
+    ensures in_range { IsEndIn arena.now result }
 {
     let [step, rest @ ..] = way else {
         return Some(id);
@@ -48,7 +48,7 @@ pub fn content_end<L: Ledger>(
     requires in_range { id.0 < length arena.now }
     requires within { LeadsWithin arena.now }
     ensures counted { (bin : ℕ) → end_count arena.now result bin ≡ count_below arena.now id.0 (across ∷ way_of way.now) bin }
-    ensures in_range { IsEnd arena.now result }
+    ensures in_range { IsEndIn arena.now result }
 {
     match link_along(arena, id, Move::Across, steps) {
         Some(link) => end_of(arena, link.to, way, steps),

@@ -2,7 +2,7 @@
 ghost use Rattle.std.specs.Prelude.{◌≡◌, ℕ, ◌↔◌, ◌+◌, ◌<◌, ◌≤◌, ◌^◌, length, IsTrue, IfOk, OnOk};
 ghost use Rattle.probe_core.specs.Places.{RisesBy};
 ghost use Rattle.time_table.specs.Counts.{amount_at};
-ghost use Rattle.shape_test.specs.Ends.{end_count, ends_count, IsEnd, AreEnds};
+ghost use Rattle.shape_test.specs.Ends.{end_count, ends_count, IsEndIn, AreEnds};
 ghost use Rattle.shape_test.specs.Remainder.{AreOrderly, FitIn, IsRemainder, row_key, end_rows, slot_rows};
 
 use node_arena::{Arena, SlotId};
@@ -72,7 +72,7 @@ fn read_end<L: Ledger>(
     end: Option<SlotId>,
     steps: &mut Steps<L>,
 ) -> Result<(), NoMemory>
-    requires { IsEnd arena.now end }
+    requires { IsEndIn arena.now end }
     ensures rows { OnOk result (rows.new.items ≡ end_rows arena.now end) }
     ensures orderly { AreOrderly (end_rows arena.now end) }
 {
@@ -116,7 +116,7 @@ pub fn ends_merge<L: Ledger>(
     parts: &[SlotId],
     steps: &mut Steps<L>,
 ) -> Result<bool, NoMemory>
-    requires whole { IsEnd arena.now whole }
+    requires whole { IsEndIn arena.now whole }
     requires parts { AreEnds arena.now parts.now }
     ensures { IfOk result (λ r. IsTrue r ↔ ((bin : ℕ) → end_count arena.now whole bin ≡ ends_count arena.now parts.now bin)) }
 {
