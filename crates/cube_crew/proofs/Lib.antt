@@ -1,4 +1,5 @@
 pub mod Zips
+mod Making
 mod Feeding
 mod Answering
 mod Closing

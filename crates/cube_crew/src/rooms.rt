@@ -1,22 +1,21 @@
 //! Room for all that a run gives back.
 ghost use Rattle.std.specs.Prelude.{◌≡◌, ◌≤◌, [], All, IfOk, OnOk, vec_len, vec_capacity};
 
-use crew_feeder::{FeedDone, FeedWork, FirstRefusals};
-use crew_session::{SessionDone, SessionWork};
-use cube_view::Grow;
+use crew_feeder::FirstRefusals;
 use feed_queue::Ended;
-use outer_io::{NoMemory, Sink, Source};
+use outer_io::NoMemory;
 use std::alloc::{AllocError, Global};
 
-/// Empty lists.
-pub(crate) struct Rooms<V: Grow, I: Source, O: Sink> {
-    pub works: Vec<FeedWork<I>>,
-    pub dones: Vec<FeedDone<I>>,
+/// Empty lists: of feeders' works, of what feeds give back, of sessions' works and of what sessions give back. They name no
+/// view, source or sink, so that their proofs are short.
+pub(crate) struct Rooms<W, F, S, D> {
+    pub works: Vec<W>,
+    pub dones: Vec<F>,
     pub ended: Vec<Ended>,
-    pub asks: Vec<SessionWork<V, I, O>>,
-    pub finals: Vec<SessionWork<V, I, O>>,
-    pub answered: Vec<SessionDone<I, O>>,
-    pub final_answered: Vec<SessionDone<I, O>>,
+    pub asks: Vec<S>,
+    pub finals: Vec<S>,
+    pub answered: Vec<D>,
+    pub final_answered: Vec<D>,
     ghost works_empty: { works.items ≡ [] },
     ghost dones_empty: { dones.items ≡ [] },
     ghost ended_empty: { ended.items ≡ [] },
@@ -26,8 +25,8 @@ pub(crate) struct Rooms<V: Grow, I: Source, O: Sink> {
     ghost final_answered_empty: { final_answered.items ≡ [] },
 }
 
-impl<V: Grow, I: Source, O: Sink> Rooms<V, I, O> {
-    pub(crate) fn new(alloc: Global) -> Rooms<V, I, O> {
+impl<W, F, S, D> Rooms<W, F, S, D> {
+    pub(crate) fn new(alloc: Global) -> Rooms<W, F, S, D> {
         Rooms {
             works: Vec::new(alloc),
             dones: Vec::new(alloc),

@@ -59,7 +59,7 @@ pub fn run_crew<R: Threads + Wait + Sync, V: Grow + Send + Sync, I: Source + Sen
 fn run_opened<R: Threads + Wait + Sync, V: Grow + Send + Sync, I: Source + Send, O: Sink + Send>(
     rt: &R,
     alloc: Global,
-    rooms: Rooms<V, I, O>,
+    rooms: Rooms<FeedWork<I>, FeedDone<I>, SessionWork<V, I, O>, SessionDone<I, O>>,
     opened: Opened<Publisher<V>, Viewer<V>>,
     jobs: Jobs<I, O>,
 ) -> Crewed<I, O>

@@ -1,5 +1,6 @@
 //! The feeders, the builder and the asks side by side.
 ghost use Rattle.std.specs.Prelude.{true, All};
+ghost use Rattle.std.specs.Fork.{AcceptsAt, ChangesAt};
 ghost use Rattle.std.specs.List.{AllZip};
 ghost use Rattle.crew_builder.specs.Built.{IsNewWork, IsBuilt};
 ghost use Rattle.crew_feeder.specs.Leaving.{HasFed};
@@ -26,34 +27,53 @@ pub(crate) struct Later<B, A> {
     pub asks: Vec<A>,
 }
 
-/// Runs the builder and the asks side by side. Where no thread can be made, the builder runs first: the asks need nothing
-/// of it to end, but answer then over all that it published.
-fn build_and_ask<R: Threads + Wait + Sync, V: Grow + Send + Sync, I: Source + Send, O: Sink + Send>(
+/// Does the work of the asks and that of the builder side by side. Where no thread can be made, the builder goes first: the
+/// asks need nothing of it to end, but answer then over all that it published. It names no view, so its proof is short.
+fn run_later<R: Threads, B, A: Send, F: Fn(usize, &mut Vec<A>) + Sync, G: Fn(usize, &mut B)>(
     rt: &R,
-    alloc: Global,
-    building: &mut BuilderWork<V>,
-    asks: &mut Vec<SessionWork<V, I, O>>,
+    later: &mut Later<B, A>,
+    ask: &F,
+    build: &G,
 )
-    requires { AreUnrun building.old asks.old.items }
-    ensures { HaveRun I.left I.faults O.held O.faults O.name V.is_stat building.old asks.old.items building.new asks.new.items }
+    requires asks { AcceptsAt F.Fn ask.now 0 later.old.asks }
+    requires building { AcceptsAt G.Fn build.now 1 later.old.building }
+    ensures asks { ChangesAt F.Fn ask.now 0 later.old.asks later.new.asks }
+    ensures building { ChangesAt G.Fn build.now 1 later.old.building later.new.building }
+{
+    run_both(rt, ask, &mut later.asks, build, &mut later.building);
+}
+
+/// Does both and the work of the feeds side by side. Where no thread can be made the feeds go first, so that a run whose
+/// items all have room in the lane still ends: the feeders wait for nobody then, and the builder finds every End.
+fn run_three<
+    R: Threads + Sync,
+    B: Send,
+    A: Send,
+    C,
+    F: Fn(usize, &mut Vec<A>) + Sync,
+    G: Fn(usize, &mut B) + Sync,
+    H: Fn(usize, &mut C),
+>(rt: &R, later: &mut Later<B, A>, ask: &F, build: &G, feeds: &mut C, feed: &H)
+    requires asks { AcceptsAt F.Fn ask.now 0 later.old.asks }
+    requires building { AcceptsAt G.Fn build.now 1 later.old.building }
+    requires feeds { AcceptsAt H.Fn feed.now 1 feeds.old }
+    ensures asks { ChangesAt F.Fn ask.now 0 later.old.asks later.new.asks }
+    ensures building { ChangesAt G.Fn build.now 1 later.old.building later.new.building }
+    ensures feeds { ChangesAt H.Fn feed.now 1 feeds.old feeds.new }
 {
     run_both(
         rt,
-        &|_: usize, asks: &mut Vec<SessionWork<V, I, O>>|
-            requires { All (λ w. HadNoTurn w.session) asks.old.items }
-            ensures { AllZip (LeavesSession I.left I.faults O.held O.faults O.name V.is_stat) asks.old.items asks.new.items }
-        { run_sessions(rt, alloc, asks.as_mut_slice()) },
-        asks,
-        &|_: usize, building: &mut BuilderWork<V>|
-            requires { IsNewWork building.old }
-            ensures { IsBuilt building.old building.new }
-        { building.run(rt) },
-        building,
+        &|_: usize, later: &mut Later<B, A>|
+            requires { AcceptsAt F.Fn ask.now 0 later.old.asks × AcceptsAt G.Fn build.now 1 later.old.building }
+            ensures { ChangesAt F.Fn ask.entry.now 0 later.old.asks later.new.asks × ChangesAt G.Fn build.entry.now 1 later.old.building later.new.building }
+        { run_later(rt, later, ask, build) },
+        later,
+        feed,
+        feeds,
     );
 }
 
-/// Runs the feeders, the builder and the asks side by side. Where no thread can be made they run in this order, so that a
-/// run whose items all have room in the lane still ends: the feeders wait for nobody then, and the builder finds every End.
+/// Runs the feeders, the builder and the asks side by side. Where no thread can be made they run in this order.
 pub(crate) fn run_together<
     R: Threads + Wait + Sync,
     V: Grow + Send + Sync,
@@ -71,17 +91,21 @@ pub(crate) fn run_together<
     ensures feeds { AllZip (HasFed I.left I.faults true) feeds.old.items feeds.new.items }
     ensures later { HaveRun I.left I.faults O.held O.faults O.name V.is_stat later.old.building later.old.asks.items later.new.building later.new.asks.items }
 {
-    run_both(
+    run_three(
         rt,
-        &|_: usize, later: &mut Later<BuilderWork<V>, SessionWork<V, I, O>>|
-            requires { AreUnrun later.old.building later.old.asks.items }
-            ensures { HaveRun I.left I.faults O.held O.faults O.name V.is_stat later.old.building later.old.asks.items later.new.building later.new.asks.items }
-        { build_and_ask(rt, alloc, &mut later.building, &mut later.asks) },
         later,
+        &|_: usize, asks: &mut Vec<SessionWork<V, I, O>>|
+            requires { All (λ w. HadNoTurn w.session) asks.old.items }
+            ensures { AllZip (LeavesSession I.left I.faults O.held O.faults O.name V.is_stat) asks.old.items asks.new.items }
+        { run_sessions(rt, alloc, asks.as_mut_slice()) },
+        &|_: usize, building: &mut BuilderWork<V>|
+            requires { IsNewWork building.old }
+            ensures { IsBuilt building.old building.new }
+        { building.run(rt) },
+        feeds,
         &|_: usize, feeds: &mut Vec<FeedWork<I>>|
             requires { All (IsReady schema.now) feeds.old.items }
             ensures { AllZip (HasFed I.left I.faults true) feeds.old.items feeds.new.items }
         { run_feeds(rt, alloc, schema, feeds.as_mut_slice()) },
-        feeds,
     );
 }

@@ -1,5 +1,7 @@
 use Rattle.std.proofs.Common.{rules, ◌≡◌, Option, IfSome, IsSome, sym, subst}
+use Rattle.crew_session.specs.Work.{done_of}
 use Rattle.published_pair.specs.Rules.{Known}
+use Rattle.cube_crew.proofs.Making.{map-last}
 use Rattle.cube_crew.proofs.Zips.{All-and, All-init, All-last}
 use Rattle.published_pair.specs.Pair.{Fresh}
 use Rattle.cube_crew.proofs.sessions.+close_sessions.Goals as goal
@@ -23,3 +25,7 @@ returns-clause-within g t c =
     let one : IfSome c.in-Some.work.last (λ l. Fresh c.in-Some.work.shown.points c.in-Some.work.learned.points l.points) =
     closed viewer.shown c.in-Some.work.shown viewer.learned c.in-Some.work.learned viewer.last c.in-Some.work.last is.0 is.1 is.2 c.close.ensures.within in
     All-and (λ w. IfSome w.last (λ l. Fresh w.shown.points w.learned.points l.points)) c.args.works.items c.pop.new.self.items c.in-Some.work c.in-Some.ensures.items c.close_sessions-dones.ensures.within one
+
+pub returns-clause-dones : goal.returns-clause-dones
+returns-clause-dones g t c =
+    map-last done_of c.args.works.items c.pop.new.self.items c.in-Some.work c.close_sessions-dones.result.items c.push_reserved.new.self.items c.finish-done.result.0 c.in-Some.ensures.items c.close_sessions-dones.ensures.dones c.finish-done.ensures.done c.push_reserved.ensures.items
