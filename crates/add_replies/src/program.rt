@@ -1,6 +1,6 @@
 //! The top call.
 ghost use Rattle.std.specs.Prelude.{◌≡◌, ◌↔◌, None, map, option_map, string_bytes};
-ghost use Rattle.run_files.specs.Outside.{seen_place, seen_sink};
+ghost use Rattle.run_files.specs.Outside.{of_place, of_sink};
 ghost use Rattle.share_replies.specs.Ends.{given_names};
 ghost use Rattle.add_replies.specs.Statuses.{EndsByLaw, EndsInSink, EndsSaying, EndsWithCause, IfForm, OpensBy, share_names};
 
@@ -37,10 +37,10 @@ pub fn add_replies<P: Place, O: Sink>(
     out: &mut O,
 ) -> Status
     ensures law { IfForm (map string_bytes words.now) (EndsByLaw (P.files place.old) (O.held out.old) (O.held out.new) result) }
-    ensures says { IfForm (map string_bytes words.now) (EndsSaying (seen_sink O.held O.faults O.name) out.old out.new (P.files place.old) result) }
+    ensures says { IfForm (map string_bytes words.now) (EndsSaying (of_sink O.Sink) out.old out.new (P.files place.old) result) }
     ensures causes { IfForm (map string_bytes words.now) (EndsWithCause (P.files place.old) result) }
-    ensures opens { IfForm (map string_bytes words.now) (OpensBy (seen_place P.files P.read_faults P.write_faults P.opened P.created) place.old place.new result) }
-    ensures sink { IfForm (map string_bytes words.now) (EndsInSink (seen_sink O.held O.faults O.name) out.old out.new (P.files place.old) result) }
+    ensures opens { IfForm (map string_bytes words.now) (OpensBy (of_place P.Place) place.old place.new result) }
+    ensures sink { IfForm (map string_bytes words.now) (EndsInSink (of_sink O.Sink) out.old out.new (P.files place.old) result) }
     ensures usage { (result ≡ Status.Usage) ↔ (share_names (map string_bytes words.now) ≡ None) }
     ensures silent { result ≡ Status.Usage → (place.new ≡ place.old) × (out.new ≡ out.old) }
     ensures files { P.files place.new ≡ P.files place.old }

@@ -2,14 +2,14 @@
 ghost use Rattle.std.specs.Prelude.{◌≡◌, ◌≤◌, IfOk};
 ghost use Rattle.big_run.specs.Ends.{BigEnds};
 ghost use Rattle.big_run.specs.Text.{big_text};
-ghost use Rattle.run_files.specs.Outside.{seen_sink};
+ghost use Rattle.run_files.specs.Outside.{of_sink};
 
 use crate::built_in::empty_cube;
 use crate::jobs::{jobs_of, let_go};
 use crate::printing::print_run;
 use cube_crew::run_crew;
-use outer_io::{IoFault, List, NoMemory, Sink};
-use run_files::Stop;
+use outer_io::{List, NoMemory, Sink};
+use run_files::{Stop, put_text};
 use std::alloc::Global;
 use std::sync::Wait;
 use std::thread::Threads;
@@ -46,14 +46,10 @@ pub fn run_big<R: Threads + Wait + Sync, O: Sink>(
     out: &mut O,
 ) -> Result<(), Stop>
     requires { rows ≤ 100000 }
-    ensures { BigEnds (seen_sink O.held O.faults O.name) out.old out.new rows result }
+    ensures { BigEnds (of_sink O.Sink) out.old out.new rows result }
 {
     let Ok(text) = big_text(rt, alloc, rows) else {
         return Err(Stop::NoMemory);
     };
-    match out.put(text.as_slice()) {
-        Ok(()) => Ok(()),
-        Err(IoFault::NoMemory) => Err(Stop::NoMemory),
-        Err(IoFault::Failed) => Err(Stop::WriteFault),
-    }
+    put_text(text.as_slice(), out)
 }

@@ -1,6 +1,7 @@
 -- A script that was opened, answered and given back, and one that was not opened.
 use Rattle.std.proofs.Common.{◌≡◌, ◌≢◌, ℕ, Bool, true, false, List, [], ◌∷◌, ◌++◌, take, length, Option, Some, Result, Ok, Err, refl, sym, ◌∙◌, subst, OnOk, IsErrOf}
-use Rattle.image_run.specs.Answering.{answers_end, lacking_end, script_end, may_lack_memory, AnswersFile}
+use Rattle.image_run.specs.Answering.{answers_end, lacking_end, script_end, AnswersFile}
+use Rattle.image_run.specs.Views.{seen_view}
 use Rattle.run_files.specs.Outside.{PlaceSeen, SinkSeen}
 use Rattle.cube_view.specs.Bag.{Counts, EachCounted}
 use Rattle.cube_view.specs.Points.{Point}
@@ -14,7 +15,7 @@ use Rattle.outer_io.specs.Lines.{lines}
 use Rattle.outer_io.specs.Told.{Told}
 use Rattle.query_syntax.specs.declared.query.Parsed.{Parsed}
 use Rattle.run_files.proofs.Lists.{not_grown}
-use Rattle.run_files.specs.Stops.{joined_ends}
+use Rattle.run_files.specs.Stops.{is_lacking, joined_ends}
 use Rattle.run_files.specs.declared.stop.Stop.{Stop}
 use Rattle.run_files.specs.declared.stop.Stop.TheVariants as stop
 use Rattle.session_core.proofs.Transcripts.{transcript_lacking, transcript_weaker}
@@ -75,20 +76,20 @@ module _ {P O : Type 0} (p : PlaceSeen P) (s : SinkSeen O) (place place' : P) (o
       abbrev End : Type 0
       End = Result (Unit {0}) Stop
 
-      file_with : (result : End) → result ≢ Err stop.PlanRefused → (result ≡ Ok tt → Told left (Answered false false)) → (result ≡ Err stop.FeedRefused → Told left (Answered false true)) → Told left (Begun (may_lack_memory result)) → AnswersFile p s place place' out out' schema is_stat (Counts at n) name result
+      file_with : (result : End) → result ≢ Err stop.PlanRefused → (result ≡ Ok tt → Told left (Answered false false)) → (result ≡ Err stop.FeedRefused → Told left (Answered false true)) → Told left (Begun (is_lacking result)) → AnswersFile p s place place' out out' (seen_view schema is_stat (Counts at n)) name result
       file_with result form done refused part =
           record {
             form = form;
             done = λ fs told_fs e. replies_at false (done e) fs told_fs;
             refused = λ fs told_fs e. replies_at true (refused e) fs told_fs;
-            part = front_at (may_lack_memory result) part;
+            part = front_at (is_lacking result) part;
             opened_once = (1, opened);
             opened_it = λ e. opened;
             untouched = λ same. absurd (not_grown (p.opened place) (p.opened place') name opened same);
           }
 
       -- by the end of its answers
-      ended_file : (lacked : Bool) (r : Result (Unit {0}) SessionFault) → OnOk r (Told left (Answered lacked false)) → (IsErrOf r fault.TooMuch → Told left (Answered lacked true)) → Told left (Begun lacked) → AnswersFile p s place place' out out' schema is_stat (Counts at n) name (joined_ends (lacking_end lacked) (answers_end r))
+      ended_file : (lacked : Bool) (r : Result (Unit {0}) SessionFault) → OnOk r (Told left (Answered lacked false)) → (IsErrOf r fault.TooMuch → Told left (Answered lacked true)) → Told left (Begun lacked) → AnswersFile p s place place' out out' (seen_view schema is_stat (Counts at n)) name (joined_ends (lacking_end lacked) (answers_end r))
       ended_file true (Ok x) done refused part = file_with (Err stop.NoMemory) (λ e. cc) (λ e. cc) (λ e. cc) part
       ended_file true (Err fault.TooMuch) done refused part = file_with (Err stop.NoMemory) (λ e. cc) (λ e. cc) (λ e. cc) part
       ended_file true (Err fault.Read) done refused part = file_with (Err stop.NoMemory) (λ e. cc) (λ e. cc) (λ e. cc) part
@@ -103,17 +104,17 @@ module _ {P O : Type 0} (p : PlaceSeen P) (s : SinkSeen O) (place place' : P) (o
           lacking_front : Told left (Begun false) → Told left (Begun true)
           lacking_front told_front = Told-each left (Begun false) (Begun true) (λ q each h counts. front_lacking schema IsIts h told (s.held out) (s.held out') (asked schema (lines q)) (each h counts)) told_front
 
-      pub answered_file : (e : ScriptEnd) → OnOk e.end (Told left (Answered e.lacked false)) → (IsErrOf e.end fault.TooMuch → Told left (Answered e.lacked true)) → Told left (Begun e.lacked) → AnswersFile p s place place' out out' schema is_stat (Counts at n) name (script_end e)
+      pub answered_file : (e : ScriptEnd) → OnOk e.end (Told left (Answered e.lacked false)) → (IsErrOf e.end fault.TooMuch → Told left (Answered e.lacked true)) → Told left (Begun e.lacked) → AnswersFile p s place place' out out' (seen_view schema is_stat (Counts at n)) name (script_end e)
       answered_file e done refused part = ended_file e.lacked e.end done refused part
 
 -- a script that was not answered, with what its opening noted
-pub unopened_file : {P O : Type 0} (p : PlaceSeen P) (s : SinkSeen O) (place place' : P) (out : O) (schema : Schema) (is_stat : Stat → Type 0) (counts : List Point → Type 0) (name : List ℕ) (result : Result (Unit {0}) Stop) → result ≢ Err stop.PlanRefused → result ≢ Ok tt → result ≢ Err stop.FeedRefused → (k : ℕ) × (p.opened place' ≡ p.opened place ++ take k (name ∷ [])) → AnswersFile p s place place' out out schema is_stat counts name result
+pub unopened_file : {P O : Type 0} (p : PlaceSeen P) (s : SinkSeen O) (place place' : P) (out : O) (schema : Schema) (is_stat : Stat → Type 0) (counts : List Point → Type 0) (name : List ℕ) (result : Result (Unit {0}) Stop) → result ≢ Err stop.PlanRefused → result ≢ Ok tt → result ≢ Err stop.FeedRefused → (k : ℕ) × (p.opened place' ≡ p.opened place ++ take k (name ∷ [])) → AnswersFile p s place place' out out (seen_view schema is_stat counts) name result
 unopened_file p s place place' out schema is_stat counts name result form not_done not_refused opened =
     record {
       form = form;
       done = λ fs told_fs e. absurd (not_done e);
       refused = λ fs told_fs e. absurd (not_refused e);
-      part = λ fs told_fs h c. nothing_gained schema is_stat h (length h) (may_lack_memory result) (s.held out) (asked schema (lines (file_or_empty fs name)));
+      part = λ fs told_fs h c. nothing_gained schema is_stat h (length h) (is_lacking result) (s.held out) (asked schema (lines (file_or_empty fs name)));
       opened_once = opened;
       opened_it = λ e. absurd (not_done e);
       untouched = λ same. refl;

@@ -1,7 +1,5 @@
 -- How a load ends, by how its stages ended.
 use Rattle.std.proofs.Common.{◌≡◌, ◌≢◌, ◌⊎◌, ℕ, suc, ◌+◌, ◌<◌, ◌≤◌, ◌^◌, true, false, List, [], ◌∷◌, ◌++◌, length, take, Option, Some, None, Result, Ok, Err, inl, inr, refl, sym, ◌∙◌, ap, subst, arith, append_assoc, length-append}
-use Rattle.std.proofs.lemmas.Bool.{cases_lt}
-use Rattle.std.proofs.lemmas.List.{length-take-le, take_all}
 use Rattle.std.proofs.Math.Logic.{∥∥₁_elim, ∥∥₁_map}
 use Rattle.cube_schema.specs.declared.plan.Plan.{Plan}
 use Rattle.cube_store.specs.Holding.{CubeCounts}
@@ -22,24 +20,28 @@ use Rattle.outer_io.specs.Faults.{Rose}
 use Rattle.outer_io.specs.Files.{Files, file_or_empty}
 use Rattle.outer_io.specs.Lines.{lines}
 use Rattle.outer_io.specs.Told.{Told}
-use Rattle.run_files.proofs.Apart.{err_is, ok_not_err, same_stop}
+use Rattle.run_files.proofs.Apart.{err_is, ok_not_err, same_stop, stopped as ended_so}
+use Rattle.run_files.proofs.Fronts.{front_long, front_whole}
 use Rattle.run_files.proofs.PlanReads.{plan_end, says_plan}
 use Rattle.run_files.proofs.Putting.{fails_after, puts_after, silent_after}
 use Rattle.run_files.proofs.Stages.{all_opened, leaves_ended, leaves_more, leaves_then, nothing_made, opened_front, same_created, same_files}
 use Rattle.run_files.specs.Leaving.{LeavesPlace}
-use Rattle.run_files.specs.Outside.{FailsToPut, file_of, PlaceSeen, Puts, Silent, SinkSeen}
+use Rattle.run_files.specs.Outside.{FailsToPut, file_of, PlaceSeen, Puts, PutsOrFails, Silent, SinkSeen}
 use Rattle.run_files.specs.Planned.{ReadsPlan}
+use Rattle.run_files.specs.Stops.{is_lacking, IsOrLacks}
 use Rattle.run_files.specs.declared.stop.Stop.{Stop}
 use Rattle.run_files.specs.declared.stop.Stop.TheVariants as stop
 use Rattle.session_core.specs.Answered.{GainsReplies, GainsFront}
 use Rattle.session_core.specs.Asked.{asked}
 use Rattle.session_core.specs.Scripts.{is_script_refused}
 use Rattle.shape_test.specs.Fits.{Fits}
-use Rattle.image_run.specs.Answering.{AnswersFile, may_lack_memory}
-use Rattle.image_run.specs.Ends.{lacks, IsAcceptedImage, IsRefusedFor, IsOrLacks, GainsImageAnswers, GainsSomeImageAnswers, LoadEnds, SaysFault, SaysOfLoad}
+use Rattle.image_run.specs.Answering.{AnswersFile}
+use Rattle.image_run.specs.Ends.{IsAcceptedImage, IsRefusedFor, GainsImageAnswers, GainsSomeImageAnswers, LoadEnds, SaysFault, SaysOfLoad}
 use Rattle.image_run.specs.Faults.{HasLoadFaults}
 use Rattle.image_run.specs.Lines.{image_line}
+use Rattle.image_run.specs.Names.{ImageNames}
 use Rattle.image_run.specs.Taking.{RefusesImage, TakesImage}
+use Rattle.image_run.specs.Views.{seen_view}
 use Rattle.image_run.specs.declared.end.ImageEnd.{ImageEnd}
 use Rattle.image_run.specs.declared.end.ImageEnd.TheVariants.{Done, Refused}
 
@@ -48,27 +50,11 @@ End = Result ImageEnd Stop
 
 -- ---- the front of a file as an image
 
-same_front : (all bytes : List ℕ) → bytes ≡ take (2 ^ 30 + 1) all → length bytes ≤ 2 ^ 30 → bytes ≡ all
-same_front all bytes front short =
-    elim (cases_lt (2 ^ 30) (length all)) [
-      | inl long ↦
-          let size = ap length front ∙ length-take-le (2 ^ 30 + 1) all (omega (arith, long)) in
-          absurd (omega (arith, size, short))
-      | inr few ↦ front ∙ take_all (2 ^ 30 + 1) all (omega (arith, few))
-    ]
-
-long_front : (all bytes : List ℕ) → bytes ≡ take (2 ^ 30 + 1) all → 2 ^ 30 < length bytes → 2 ^ 30 < length all
-long_front all bytes front long =
-    elim (cases_lt (2 ^ 30) (length all)) [
-      | inl more ↦ more
-      | inr few ↦ let size = ap length (front ∙ take_all (2 ^ 30 + 1) all (omega (arith, few))) in omega (arith, size, long)
-    ]
-
 -- the file is refused where its front is
 refused_whole : (schema : Schema) (all bytes : List ℕ) (fault : ImageFault) → bytes ≡ take (2 ^ 30 + 1) all → fault ≢ image.NoMemory → Refuses schema bytes fault → Refuses schema all fault
-refused_whole schema all bytes image.TooLong front other R = long_front all bytes front R
-refused_whole schema all bytes image.NotImage front other R = subst (λ (b : List ℕ). Refuses schema b image.NotImage) (same_front all bytes front R.0) R
-refused_whole schema all bytes image.NotShape front other R = subst (λ (b : List ℕ). Refuses schema b image.NotShape) (same_front all bytes front R.short) R
+refused_whole schema all bytes image.TooLong front other R = front_long (2 ^ 30) all bytes front R
+refused_whole schema all bytes image.NotImage front other R = subst (λ (b : List ℕ). Refuses schema b image.NotImage) (front_whole (2 ^ 30) all bytes front R.0) R
+refused_whole schema all bytes image.NotShape front other R = subst (λ (b : List ℕ). Refuses schema b image.NotShape) (front_whole (2 ^ 30) all bytes front R.short) R
 refused_whole schema all bytes image.NoMemory front other R = absurd (other refl)
 
 -- no image that fits is refused
@@ -119,18 +105,18 @@ module _ {P O : Type 0} (p : PlaceSeen P) (s : SinkSeen O) where
     abbrev Two : List (List ℕ)
     Two = name ∷ image ∷ []
 
+    abbrev Named : ImageNames
+    Named = record { plan = name; image = image; script = script }
+
     abbrev Ends : P → P → O → O → End → Type 0
-    Ends a b out out' result = LoadEnds p s a b out out' name image script result
+    Ends a b out out' result = LoadEnds p s a b out out' Named result
 
     -- the plan was refused, or was not read
     pub ended_by_plan : (a b : P) (out out' : O) (k : Stop) → LeavesPlace p a b (name ∷ []) [] (Some k) → ReadsPlan s out out' (file_of (p.files a) name) (Err k) → Ends a b out out' (Err k)
     ended_by_plan a b out out' k leaves reads =
         let all : LeavesPlace p a b (name ∷ image ∷ script ∷ []) [] (Some k) = leaves_more p a b (name ∷ []) (image ∷ script ∷ []) [] k leaves in
         record {
-          plan = None;
-          plan_is = tt;
-          unplanned = λ e. plan_end k reads.ends;
-          refused_plan = λ e. (refl, reads.refused (ap (λ l. Err l) (err_is k stop.PlanRefused e)));
+          planned = record { plan = None; plan_is = tt; unplanned = λ e. plan_end k reads.ends; refused_plan = λ e. (refl, reads.refused (ap (λ l. Err l) (err_is k stop.PlanRefused e))) };
           done = λ e. absurd (not_err Done k e);
           refused_image = λ e. absurd (not_err Refused k e);
           refused = λ e. absurd (reads.ends.1 (err_is k stop.FeedRefused e));
@@ -145,7 +131,7 @@ module _ {P O : Type 0} (p : PlaceSeen P) (s : SinkSeen O) where
         plan_is : {k : Stop} → ◌≡◌ {A = Result Plan Stop} (Err k) (Err stop.PlanRefused) → k ≡ stop.PlanRefused
         plan_is e = cc
 
-        said_name : (line : List ℕ) → Puts s out out' line ⊎ FailsToPut s out out' line → s.name out' ≡ s.name out
+        said_name : (line : List ℕ) → PutsOrFails s out out' line → s.name out' ≡ s.name out
         said_name line (inl x) = x.name
         said_name line (inr x) = x.name
 
@@ -175,13 +161,10 @@ module _ {P O : Type 0} (p : PlaceSeen P) (s : SinkSeen O) where
       read_end stop.FeedRefused ends read e = absurd (ends.2 refl)
 
       -- it ends by a stop before the script is answered
-      stopped : (out' : O) (k : Stop) → (k ≢ stop.PlanRefused) × (k ≢ stop.FeedRefused) → (opens : List (List ℕ)) × (p.opened c ≡ p.opened a ++ opens) × (length opens ≤ 2) → (n : ℕ) × (p.opened c ≡ p.opened a ++ take n (name ∷ image ∷ script ∷ [])) → SaysOfLoad p s a c out out' name image script (Some pl) (Err k)
+      stopped : (out' : O) (k : Stop) → (k ≢ stop.PlanRefused) × (k ≢ stop.FeedRefused) → (opens : List (List ℕ)) × (p.opened c ≡ p.opened a ++ opens) × (length opens ≤ 2) → (n : ℕ) × (p.opened c ≡ p.opened a ++ take n (name ∷ image ∷ script ∷ [])) → SaysOfLoad p s a c out out' Named (Some pl) (Err k)
           → HasLoadFaults {T = ImageEnd} p s a c out out' (Err k) → (¬ Rose (p.read_faults a) (p.read_faults c) → ¬ Rose (s.faults out) (s.faults out') → (e : ImageEnd) → IsOrLacks e (Err k)) → Ends a c out out' (Err k)
       stopped out' k other few opened said faults complete = record {
-        plan = Some pl;
-        plan_is = reads.plan;
-        unplanned = λ e. cc;
-        refused_plan = λ e. absurd (other.0 (err_is k stop.PlanRefused e));
+        planned = record { plan = Some pl; plan_is = reads.plan; unplanned = λ e. cc; refused_plan = λ e. absurd (other.0 (err_is k stop.PlanRefused e)) };
         done = λ e. absurd (not_err Done k e);
         refused_image = λ e. absurd (not_err Refused k e);
         refused = λ e. absurd (other.1 (err_is k stop.FeedRefused e));
@@ -213,7 +196,7 @@ module _ {P O : Type 0} (p : PlaceSeen P) (s : SinkSeen O) where
         opened_two = both.opened ∙ ap (λ ns. p.opened a ++ ns) (sym (all_opened p a c Two [] both))
 
         -- it is refused, of which this was said
-        refused_for : (out' : O) (Says : List ℕ → Type 0) (More : List ℕ → Type 0) → ((line : List ℕ) → Says line → More line) → RefusesImage s mid out' pl.schema bytes Says → SaysFault p s a c out out' name image script pl.schema More
+        refused_for : (out' : O) (Says : List ℕ → Type 0) (More : List ℕ → Type 0) → ((line : List ℕ) → Says line → More line) → RefusesImage s mid out' pl.schema bytes Says → SaysFault p s a c out out' Named pl.schema More
         refused_for out' Says More on R = record {
           fault = R.fault;
           refuses = λ files is. (R.of_bytes, refused_whole pl.schema (file_or_empty files image) bytes R.fault (of_file files is) R.of_bytes R.refuses);
@@ -224,10 +207,7 @@ module _ {P O : Type 0} (p : PlaceSeen P) (s : SinkSeen O) where
         ended_by_refusal out' R =
             let F = refused_for out' (Puts s mid out') (Puts s out out') (puts_after s out mid out' quiet) R in
             record {
-              plan = Some pl;
-              plan_is = reads.plan;
-              unplanned = λ e. cc;
-              refused_plan = λ e. absurd (ok_not_err Refused stop.PlanRefused e);
+              planned = record { plan = Some pl; plan_is = reads.plan; unplanned = λ e. cc; refused_plan = λ e. absurd (ok_not_err Refused stop.PlanRefused e) };
               done = λ e. cc;
               refused_image = λ e. (pl, refl, F, opened_two);
               refused = λ e. absurd (ok_not_err Refused stop.FeedRefused e);
@@ -286,7 +266,7 @@ module _ {P O : Type 0} (p : PlaceSeen P) (s : SinkSeen O) where
           told files is = same_files p a c Two None both ∙ is
 
           all_of : (files : Files) → p.files a ≡ Some files → bytes ≡ file_or_empty files image
-          all_of files is = same_front (file_or_empty files image) bytes (of_file files is) K.fit.short
+          all_of files is = front_whole (2 ^ 30) (file_or_empty files image) bytes (of_file files is) K.fit.short
 
           accepted : (files : Files) → p.files a ≡ Some files → IsAcceptedImage pl.schema (file_or_empty files image)
           accepted files is = subst (IsAcceptedImage pl.schema) (all_of files is) (∥∥₁_map cube.counted (λ (h : (h : List Point) × CubeCounts cube h). (h.0, (K.counts h.0).0 h.1)))
@@ -294,17 +274,17 @@ module _ {P O : Type 0} (p : PlaceSeen P) (s : SinkSeen O) where
           counts_it : (files : Files) → p.files a ≡ Some files → (h : List Point) → IsCubeImage pl.schema (file_or_empty files image) h → counted h
           counts_it files is h I = Counts-points cube.schema cube.arena cube.root.0 cube.size h ((K.counts h).1 (subst (λ (b : List ℕ). IsCubeImage pl.schema b h) (sym (all_of files is)) I))
 
-          module _ (result : Result (Unit {0}) Stop) (answers : AnswersFile p s c d then out' pl.schema OwnsAllButRoot counted script result) (faults : HasLoadFaults p s c d then out' result) where
+          module _ (result : Result (Unit {0}) Stop) (answers : AnswersFile p s c d then out' (seen_view pl.schema OwnsAllButRoot counted) script result) (faults : HasLoadFaults p s c d then out' result) where
             all_replies : (files : Files) → p.files a ≡ Some files → ((h : List Point) → counted h → GainsReplies pl.schema OwnsAllButRoot h (length h) false (s.held then) (s.held out') (asked pl.schema (lines (file_or_empty files script)))) → GainsImageAnswers s out out' pl.schema (file_or_empty files image) (file_or_empty files script)
             all_replies files is each = record {
               accepted = accepted files is;
               gains = λ h I. subst (λ (o : Option (List ℕ)). GainsReplies pl.schema OwnsAllButRoot h (length h) false o (s.held out') (asked pl.schema (lines (file_or_empty files script)))) still.held (each h (counts_it files is h I));
             }
 
-            some_replies : (files : Files) → p.files a ≡ Some files → GainsSomeImageAnswers s out out' pl.schema (file_or_empty files image) (file_or_empty files script) (may_lack_memory result)
+            some_replies : (files : Files) → p.files a ≡ Some files → GainsSomeImageAnswers s out out' pl.schema (file_or_empty files image) (file_or_empty files script) (is_lacking result)
             some_replies files is = record {
               accepted = accepted files is;
-              gains = λ h I. subst (λ (o : Option (List ℕ)). GainsFront pl.schema OwnsAllButRoot h (length h) (may_lack_memory result) o (s.held out') (asked pl.schema (lines (file_or_empty files script)))) still.held (answers.part files (told files is) h (counts_it files is h I));
+              gains = λ h I. subst (λ (o : Option (List ℕ)). GainsFront pl.schema OwnsAllButRoot h (length h) (is_lacking result) o (s.held out') (asked pl.schema (lines (file_or_empty files script)))) still.held (answers.part files (told files is) h (counts_it files is h I));
             }
 
             opened_three : (k : ℕ) × (p.opened d ≡ p.opened a ++ take k (name ∷ image ∷ script ∷ []))
@@ -331,12 +311,9 @@ module _ {P O : Type 0} (p : PlaceSeen P) (s : SinkSeen O) where
               write_faults = faults.write_faults ∙ both.unwritten (nothing_made p a c Two None both);
             }
 
-          ended_by_answers : (x : Unit {0}) → AnswersFile p s c d then out' pl.schema OwnsAllButRoot counted script (Ok x) → HasLoadFaults p s c d then out' (Ok x) → Ends a d out out' (Ok Done)
+          ended_by_answers : (x : Unit {0}) → AnswersFile p s c d then out' (seen_view pl.schema OwnsAllButRoot counted) script (Ok x) → HasLoadFaults p s c d then out' (Ok x) → Ends a d out out' (Ok Done)
           ended_by_answers x answers faults = record {
-            plan = Some pl;
-            plan_is = reads.plan;
-            unplanned = λ e. cc;
-            refused_plan = λ e. absurd (ok_not_err Done stop.PlanRefused e);
+            planned = record { plan = Some pl; plan_is = reads.plan; unplanned = λ e. cc; refused_plan = λ e. absurd (ok_not_err Done stop.PlanRefused e) };
             done = λ e. (pl, refl, λ files is. let w = answers.done files (told files is) refl in (all_replies (Ok x) answers faults files is w.0, w.1));
             refused_image = λ e. cc;
             refused = λ e. absurd (ok_not_err Done stop.FeedRefused e);
@@ -348,26 +325,23 @@ module _ {P O : Type 0} (p : PlaceSeen P) (s : SinkSeen O) where
             complete = λ r w files is. (λ y z. inl refl, λ fault y. no_refusal (Ok x) answers faults fault files is Refused (Ok Done) y);
           }
 
-          ended_well : (k : Stop) (answers : AnswersFile p s c d then out' pl.schema OwnsAllButRoot counted script (Err k)) (faults : HasLoadFaults {T = Unit {0}} p s c d then out' (Err k)) → ¬ Rose (p.read_faults a) (p.read_faults d) → ¬ Rose (s.faults out) (s.faults out') → (files : Files) → p.files a ≡ Some files → is_script_refused pl.schema (file_or_empty files script) ≡ false → IsOrLacks Done (Err k)
+          ended_well : (k : Stop) (answers : AnswersFile p s c d then out' (seen_view pl.schema OwnsAllButRoot counted) script (Err k)) (faults : HasLoadFaults {T = Unit {0}} p s c d then out' (Err k)) → ¬ Rose (p.read_faults a) (p.read_faults d) → ¬ Rose (s.faults out) (s.faults out') → (files : Files) → p.files a ≡ Some files → is_script_refused pl.schema (file_or_empty files script) ≡ false → IsOrLacks Done (Err k)
           ended_well stop.NoMemory answers faults r w files is good = inr refl
           ended_well stop.PlanRefused answers faults r w files is good = absurd (answers.form refl)
           ended_well stop.ReadFault answers faults r w files is good = absurd (r (read_at_first (Err stop.ReadFault) answers faults (faults.read refl)))
           ended_well stop.WriteFault answers faults r w files is good = absurd (w (write_at_first (Err stop.WriteFault) answers faults (faults.write refl)))
           ended_well stop.FeedRefused answers faults r w files is good = let bad = (answers.refused files (told files is) refl).1 in let z : true ≡ false = sym bad ∙ good in absurd cc
 
-          same_lack : (k : Stop) → may_lack_memory (Err k) ≡ lacks (Err k)
+          same_lack : (k : Stop) → is_lacking (ended_so (Unit {0}) k) ≡ is_lacking (ended_so ImageEnd k)
           same_lack stop.NoMemory = refl
           same_lack stop.PlanRefused = refl
           same_lack stop.ReadFault = refl
           same_lack stop.WriteFault = refl
           same_lack stop.FeedRefused = refl
 
-          ended_answering : (k : Stop) → AnswersFile p s c d then out' pl.schema OwnsAllButRoot counted script (Err k) → HasLoadFaults {T = Unit {0}} p s c d then out' (Err k) → Ends a d out out' (Err k)
+          ended_answering : (k : Stop) → AnswersFile p s c d then out' (seen_view pl.schema OwnsAllButRoot counted) script (Err k) → HasLoadFaults {T = Unit {0}} p s c d then out' (Err k) → Ends a d out out' (Err k)
           ended_answering k answers faults = record {
-            plan = Some pl;
-            plan_is = reads.plan;
-            unplanned = λ e. cc;
-            refused_plan = λ e. absurd (answers.form (ap (λ l. Err l) (err_is k stop.PlanRefused e)));
+            planned = record { plan = Some pl; plan_is = reads.plan; unplanned = λ e. cc; refused_plan = λ e. absurd (answers.form (ap (λ l. Err l) (err_is k stop.PlanRefused e))) };
             done = λ e. absurd (not_err Done k e);
             refused_image = λ e. absurd (not_err Refused k e);
             refused = λ e. (pl, refl, λ files is. let w = answers.refused files (told files is) (ap (λ l. Err l) (err_is k stop.FeedRefused e)) in (all_replies (Err k) answers faults files is w.0, w.1));
@@ -380,8 +354,8 @@ module _ {P O : Type 0} (p : PlaceSeen P) (s : SinkSeen O) where
           }
 
           -- as the cube's schema says it, which is the plan's
-          pub ended_with : (x : Unit {0}) → AnswersFile p s c d then out' cube.schema OwnsAllButRoot counted script (Ok x) → HasLoadFaults {T = Unit {0}} p s c d then out' (Ok x) → Ends a d out out' (Ok Done)
-          ended_with x answers faults = ended_by_answers x (subst (λ (z : Schema). AnswersFile p s c d then out' z OwnsAllButRoot counted script (Ok x)) K.of_schema answers) faults
+          pub ended_with : (x : Unit {0}) → AnswersFile p s c d then out' (seen_view cube.schema OwnsAllButRoot counted) script (Ok x) → HasLoadFaults {T = Unit {0}} p s c d then out' (Ok x) → Ends a d out out' (Ok Done)
+          ended_with x answers faults = ended_by_answers x (subst (λ (z : Schema). AnswersFile p s c d then out' (seen_view z OwnsAllButRoot counted) script (Ok x)) K.of_schema answers) faults
 
-          pub ended_without : (k : Stop) → AnswersFile p s c d then out' cube.schema OwnsAllButRoot counted script (Err k) → HasLoadFaults {T = Unit {0}} p s c d then out' (Err k) → Ends a d out out' (Err k)
-          ended_without k answers faults = ended_answering k (subst (λ (z : Schema). AnswersFile p s c d then out' z OwnsAllButRoot counted script (Err k)) K.of_schema answers) faults
+          pub ended_without : (k : Stop) → AnswersFile p s c d then out' (seen_view cube.schema OwnsAllButRoot counted) script (Err k) → HasLoadFaults {T = Unit {0}} p s c d then out' (Err k) → Ends a d out out' (Err k)
+          ended_without k answers faults = ended_answering k (subst (λ (z : Schema). AnswersFile p s c d then out' (seen_view z OwnsAllButRoot counted) script (Err k)) K.of_schema answers) faults

@@ -1,12 +1,11 @@
 -- What answering a script over a view leaves.
 use Rattle.std.specs.Prelude.{◌≡◌, ◌≢◌, ℕ, Bool, true, false, List, [], ◌∷◌, ◌++◌, length, take, Some, Result, Ok, Err}
 use Rattle.cube_view.specs.Points.{Point}
-use Rattle.cube_view.specs.declared.schema.Schema.{Schema}
-use Rattle.cube_view.specs.declared.stat.Stat.{Stat}
+use Rattle.image_run.specs.Views.{ViewSeen}
 use Rattle.outer_io.specs.Files.{Files, file_or_empty}
 use Rattle.outer_io.specs.Lines.{lines}
 use Rattle.run_files.specs.Outside.{PlaceSeen, SinkSeen}
-use Rattle.run_files.specs.Stops.{joined_ends, stop_of_session}
+use Rattle.run_files.specs.Stops.{is_lacking, joined_ends, stop_of_session}
 use Rattle.run_files.specs.declared.stop.Stop.{Stop}
 use Rattle.run_files.specs.declared.stop.Stop.TheVariants as stop
 use Rattle.session_core.specs.Answered.{GainsReplies, GainsFront}
@@ -29,28 +28,26 @@ lacking_end false = Ok tt
 abbrev pub script_end : ScriptEnd → Result (Unit {0}) Stop
 script_end e = joined_ends (lacking_end e.lacked) (answers_end e.end)
 
--- a reply may be the line for want of memory where memory was wanted
-abbrev pub may_lack_memory : Result (Unit {0}) Stop → Bool
-may_lack_memory (Ok done) = false
-may_lack_memory (Err stop.NoMemory) = true
-may_lack_memory (Err stop.PlanRefused) = false
-may_lack_memory (Err stop.ReadFault) = false
-may_lack_memory (Err stop.WriteFault) = false
-may_lack_memory (Err stop.FeedRefused) = false
+-- what a sink gains of the answers to a script over a view
+module _ {O : Type 0} (s : SinkSeen O) (out out' : O) (view : ViewSeen) where
+  -- all of them, over each list of points that the view counts
+  abbrev pub GainsAllOver : List ℕ → Type 0
+  GainsAllOver script = (h : List Point) → view.counts h → GainsReplies view.schema view.is_stat h (length h) false (s.held out) (s.held out') (asked view.schema (lines script))
 
--- What answering the named script leaves of a place and a sink, over a view of a schema that counts these lists of
--- points, each point of which was told, and whose structure's numbers meet the test
-pub record AnswersFile {P O : Type 0} (p : PlaceSeen P) (s : SinkSeen O) (place place' : P) (out out' : O) (schema : Schema) (is_stat : Stat → Type 0) (counts : List Point → Type 0) (name : List ℕ) (result : Result (Unit {0}) Stop) : Type 0 where
+  -- some, from the front; one may be the line for want of memory, or may not
+  abbrev pub GainsSomeOver : Bool → List ℕ → Type 0
+  GainsSomeOver lacking script = (h : List Point) → view.counts h → GainsFront view.schema view.is_stat h (length h) lacking (s.held out) (s.held out') (asked view.schema (lines script))
+
+-- What answering the named script leaves of a place and a sink, over a view, each point of which was told
+pub record AnswersFile {P O : Type 0} (p : PlaceSeen P) (s : SinkSeen O) (place place' : P) (out out' : O) (view : ViewSeen) (name : List ℕ) (result : Result (Unit {0}) Stop) : Type 0 where
   -- no plan is refused
   pub form : result ≢ Err stop.PlanRefused
   -- with Ok the sink gained all answers, and the script is not refused
-  pub done : (files : Files) → p.files place ≡ Some files → result ≡ Ok tt
-      → ((h : List Point) → counts h → GainsReplies schema is_stat h (length h) false (s.held out) (s.held out') (asked schema (lines (file_or_empty files name)))) × (is_script_refused schema (file_or_empty files name) ≡ false)
+  pub done : (files : Files) → p.files place ≡ Some files → result ≡ Ok tt → GainsAllOver s out out' view (file_or_empty files name) × (is_script_refused view.schema (file_or_empty files name) ≡ false)
   -- and so it did where the script is refused
-  pub refused : (files : Files) → p.files place ≡ Some files → result ≡ Err stop.FeedRefused
-      → ((h : List Point) → counts h → GainsReplies schema is_stat h (length h) false (s.held out) (s.held out') (asked schema (lines (file_or_empty files name)))) × (is_script_refused schema (file_or_empty files name) ≡ true)
+  pub refused : (files : Files) → p.files place ≡ Some files → result ≡ Err stop.FeedRefused → GainsAllOver s out out' view (file_or_empty files name) × (is_script_refused view.schema (file_or_empty files name) ≡ true)
   -- with any end it gained some of them
-  pub part : (files : Files) → p.files place ≡ Some files → (h : List Point) → counts h → GainsFront schema is_stat h (length h) (may_lack_memory result) (s.held out) (s.held out') (asked schema (lines (file_or_empty files name)))
+  pub part : (files : Files) → p.files place ≡ Some files → GainsSomeOver s out out' view (is_lacking result) (file_or_empty files name)
   -- the script was opened, once at most, and with Ok it was
   pub opened_once : (k : ℕ) × (p.opened place' ≡ p.opened place ++ take k (name ∷ []))
   pub opened_it : result ≡ Ok tt → p.opened place' ≡ p.opened place ++ name ∷ []

@@ -1,9 +1,9 @@
 //! A script answered over a view.
 ghost use Rattle.std.specs.Prelude.{◌≡◌};
-ghost use Rattle.cube_view.specs.Bag.{Counts};
 ghost use Rattle.image_run.specs.Answering.{answers_end, lacking_end, script_end, AnswersFile};
 ghost use Rattle.image_run.specs.Faults.{HasLoadFaults};
-ghost use Rattle.run_files.specs.Outside.{seen_place, seen_sink};
+ghost use Rattle.image_run.specs.Views.{of_view};
+ghost use Rattle.run_files.specs.Outside.{of_place, of_sink};
 
 use cube_view::CubeView;
 use outer_io::{IoFault, Place, Sink};
@@ -43,8 +43,8 @@ pub fn answer_file<V: CubeView, P: Place, O: Sink>(
     place: &mut P,
     out: &mut O,
 ) -> Result<(), Stop>
-    ensures answers { AnswersFile (seen_place P.files P.read_faults P.write_faults P.opened P.created) (seen_sink O.held O.faults O.name) place.old place.new out.old out.new (V.schema view.now) V.is_stat (Counts (V.weight_at view.now) (V.seen view.now)) script.now result }
-    ensures faults { HasLoadFaults (seen_place P.files P.read_faults P.write_faults P.opened P.created) (seen_sink O.held O.faults O.name) place.old place.new out.old out.new result }
+    ensures answers { AnswersFile (of_place P.Place) (of_sink O.Sink) place.old place.new out.old out.new (of_view V.CubeView view.now) script.now result }
+    ensures faults { HasLoadFaults (of_place P.Place) (of_sink O.Sink) place.old place.new out.old out.new result }
 {
     match place.open(script) {
         Ok(source) => {

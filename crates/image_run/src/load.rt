@@ -1,6 +1,7 @@
 //! A script answered over the cube of an image, from files.
-ghost use Rattle.run_files.specs.Outside.{seen_place, seen_sink};
+ghost use Rattle.run_files.specs.Outside.{of_place, of_sink};
 ghost use Rattle.image_run.specs.Ends.{LoadEnds};
+ghost use Rattle.image_run.specs.Names.{image_names};
 
 use crate::ImageEnd;
 use crate::answering::answer_file;
@@ -27,7 +28,7 @@ pub fn load_files<P: Place, O: Sink>(
     place: &mut P,
     out: &mut O,
 ) -> Result<ImageEnd, Stop>
-    ensures { LoadEnds (seen_place P.files P.read_faults P.write_faults P.opened P.created) (seen_sink O.held O.faults O.name) place.old place.new out.old out.new names.now.plan.now names.now.image.now names.now.script.now result }
+    ensures { LoadEnds (of_place P.Place) (of_sink O.Sink) place.old place.new out.old out.new (image_names names.now) result }
 {
     let plan = load_plan(alloc, names.plan, place, out)?;
     let bytes = read_file(alloc, names.image, MOST_BYTES as usize, place)?;

@@ -27,9 +27,10 @@ use Rattle.plan_run.proofs.Ranked.{rank_end, session_lacking, session_read}
 use Rattle.plan_run.proofs.Refused.{large_script}
 use Rattle.plan_run.proofs.Replied.{answered_length}
 use Rattle.plan_run.specs.Completed.{output_of}
-use Rattle.plan_run.specs.Interrupted.{AnswersInFile, StopsScript, is_lacking}
+use Rattle.plan_run.specs.Interrupted.{AnswersInFile, StopsScript}
 use Rattle.plan_run.specs.Seen.{PartSeen}
 use Rattle.run_files.specs.Outside.{SinkSeen}
+use Rattle.run_files.specs.Stops.{is_lacking}
 use Rattle.run_files.specs.declared.stop.Stop.{Stop}
 use Rattle.run_files.specs.declared.stop.Stop.TheVariants.{NoMemory, PlanRefused}
 use Rattle.run_opening.specs.Ready.{IsSessionOf}

@@ -49,6 +49,7 @@ use Rattle.run_files.specs.Headed.{HasHeader}
 use Rattle.run_files.specs.Leaving.{FailsAtLast, KeepsOthers, LeavesPlace}
 use Rattle.run_files.specs.Outside.{file_of, PlaceSeen, Puts as Said, PutsOrFails, Silent, SinkSeen}
 use Rattle.run_files.specs.Planned.{IsPlanOf, RefusesPlan}
+use Rattle.run_files.specs.Saying.{SaysText}
 use Rattle.run_files.specs.Stops.{write_end}
 use Rattle.run_files.specs.declared.stop.Stop.{Stop}
 use Rattle.run_files.specs.declared.stop.Stop.TheVariants.{NoMemory, PlanRefused, ReadFault, WriteFault, FeedRefused}
@@ -57,7 +58,6 @@ use Rattle.run_opening.specs.Ready.{IsJobOf, IsSessionOf}
 use Rattle.run_opening.specs.declared.parts.RunParts.{RunParts}
 use Rattle.run_stages.specs.Closing.{ClosesRun, run_text, threads_end}
 use Rattle.run_stages.specs.Ends.{feed_end, feeds_end, session_end, sessions_end, starved_end}
-use Rattle.run_stages.specs.Said.{SaysText}
 use Rattle.run_stages.specs.declared.done.RunDone.{RunDone}
 use Rattle.session_core.proofs.WholeScripts.{told_by}
 use Rattle.session_core.specs.Scripts.{is_script_refused}
@@ -129,14 +129,14 @@ module _ {P T : Type 0} (p : PlaceSeen P) (t : SinkSeen T) where
 
   pub ended_by_opening : (place mid : P) (out out1 : T) (name : List ℕ) (stop : Stop) → OpensRun p t place mid out out1 name None (Some stop) → RunEnds p t place mid out out1 name (Err stop)
   ended_by_opening place mid out out1 name stop opens = record {
-    stage = opening_stage place mid out out1 name stop opens.plan opens.leaves opens.plan_is opens.unplanned opens.first opens.order opens.refused_plan opens.silent;
-    counts = opening_counts place mid out out1 name stop opens.plan (name ∷ inputs_of opens.plan) (outputs_of opens.plan) opens.leaves opens.leaves.opens opens.leaves.makes opens.unplanned opens.order;
+    stage = opening_stage place mid out out1 name stop opens.planned.plan opens.leaves opens.planned.plan_is opens.planned.unplanned opens.first opens.order opens.planned.refused_plan opens.silent;
+    counts = opening_counts place mid out out1 name stop opens.planned.plan (name ∷ inputs_of opens.planned.plan) (outputs_of opens.planned.plan) opens.leaves opens.leaves.opens opens.leaves.makes opens.planned.unplanned opens.order;
   }
 
   -- ---- a run that went on
 
   module _ (place mid place' : P) (out out1 out' : T) (name : List ℕ) (plan : Plan) (opens : OpensRun p t place mid out out1 name (Some plan) None) (plan_is : IsPlanOf (file_of (p.files place) name) plan) where
-    its_plan : opens.plan ≡ Some plan
+    its_plan : opens.planned.plan ≡ Some plan
     its_plan = opens.goes_on
 
     leaves : LeavesPlace p place mid (name ∷ input_names plan) (output_names plan) None
@@ -146,7 +146,7 @@ module _ {P T : Type 0} (p : PlaceSeen P) (t : SinkSeen T) where
     silent = opens.silent (λ e. cc e) (λ e. cc e) (λ e. cc e)
 
     headed : All (λ feed. HasHeader plan.schema (file_of (p.files place) feed)) plan.feeds
-    headed = opening_headed p t place mid out out1 name opens.plan plan opens.leaves.opens opens.leaves.makes its_plan opens.order
+    headed = opening_headed p t place mid out out1 name opens.planned.plan plan opens.leaves.opens opens.leaves.makes its_plan opens.order
 
     -- what the threads began from
     began : (place' : P) → p.opened place' ≡ p.opened mid → p.created place' ≡ p.created mid → KeepsOthers (p.files mid) (p.files place') (output_names plan) → HasBegun p t place place' out out' name plan

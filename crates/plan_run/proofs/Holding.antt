@@ -12,8 +12,9 @@ use Rattle.outer_io.specs.Lines.{lines}
 use Rattle.plan_run.proofs.Joined.{End}
 use Rattle.plan_run.proofs.Taken.{points_all}
 use Rattle.plan_run.specs.Completed.{HasTranscript}
-use Rattle.plan_run.specs.Interrupted.{AnswersInFile, HoldsAll, IsReadOrLacking, StopsScript, ReportsFeed, accepted_lists, is_lacking}
+use Rattle.plan_run.specs.Interrupted.{AnswersInFile, HoldsAll, IsReadOrLacking, StopsScript, ReportsFeed, accepted_lists}
 use Rattle.reply_json.specs.declared.reply.Reply.{Reply}
+use Rattle.run_files.specs.Stops.{is_lacking}
 use Rattle.run_files.specs.declared.stop.Stop.{Stop}
 use Rattle.run_files.specs.declared.stop.Stop.TheVariants.{NoMemory, PlanRefused, ReadFault, WriteFault, FeedRefused}
 use Rattle.run_report.specs.Reports.{FeedRows}

@@ -17,9 +17,3 @@ module _ {P A : Type 0} (p : PlaceSeen P) (count : A → ℕ) where
   returned_last a b c items before last n is same so_far rose quiet files opened writing =
       subst (TakesSources p a c) (ap (λ k. map count before ++ k ∷ []) same ∙ sym (ap (map count) is ∙ map-append count before (last ∷ [])))
       (takes_more p a b c (map count before) n so_far rose quiet files opened writing)
-
--- the sinks of two lists after each other, in a list that was empty
-pub sinks_of_both : {A O : Type 0} (f : A → O) (room one both : List O) (xs ys asks finals : List A) → room ≡ [] → xs ≡ asks → ys ≡ finals → one ≡ room ++ map f xs → both ≡ one ++ map f ys → both ≡ map f asks ++ map f finals
-sinks_of_both f room one both xs ys asks finals none first second e1 e2 =
-    let one_is : one ≡ map f asks = e1 ∙ (ap (λ (r : List _). r ++ map f xs) none ∙ ap (map f) first) in
-    e2 ∙ (ap (λ (o : List _). o ++ map f ys) one_is ∙ ap (λ (y : List _). map f asks ++ map f y) second)

@@ -16,8 +16,9 @@ use Rattle.outer_io.specs.declared.cutter.CutFault.{CutFault}
 use Rattle.outer_io.specs.declared.cutter.CutFault.TheVariants as cut
 use Rattle.plan_run.specs.Completed.{HasTranscript, output_of}
 use Rattle.reply_json.specs.declared.reply.Reply.{Reply}
+use Rattle.run_files.specs.Stops.{is_lacking}
 use Rattle.run_files.specs.declared.stop.Stop.{Stop}
-use Rattle.run_files.specs.declared.stop.Stop.TheVariants.{NoMemory, PlanRefused, ReadFault, WriteFault, FeedRefused}
+use Rattle.run_files.specs.declared.stop.Stop.TheVariants.{NoMemory, ReadFault}
 use Rattle.run_report.specs.Reports.{FeedRows, report_text}
 use Rattle.run_report.specs.declared.counts.ScriptCounts.{ScriptCounts}
 use Rattle.session_core.specs.Asked.{asked}
@@ -64,15 +65,6 @@ is_script_unread (Some fault.NoMemory) = false
 abbrev pub read_stops : Account → ℕ
 read_stops account =
     count_by (λ (feed : FeedRows). is_unread feed.fault) account.feeds + count_by (λ (ask : ScriptCounts). is_script_unread ask.fault) account.asks + count_by (λ (final : ScriptCounts). is_script_unread final.fault) account.finals
-
--- the run ended for want of memory
-abbrev pub is_lacking : Result (Unit {0}) Stop → Bool
-is_lacking (Ok x) = false
-is_lacking (Err NoMemory) = true
-is_lacking (Err PlanRefused) = false
-is_lacking (Err ReadFault) = false
-is_lacking (Err WriteFault) = false
-is_lacking (Err FeedRefused) = false
 
 -- the run ended by a read fault, or for want of memory
 abbrev pub IsReadOrLacking : Result (Unit {0}) Stop → Type 0

@@ -1,9 +1,9 @@
 //! The parts of a run that could not begin, given back as they were.
 ghost use Rattle.std.specs.Prelude.{◌≡◌, ◌+◌, ◌≤◌, ◌++◌, [], map, length, vec_len, vec_capacity};
 ghost use Rattle.plan_run.specs.Parts.{GivesBack};
-ghost use Rattle.plan_run.specs.Seen.{seen_part};
+ghost use Rattle.plan_run.specs.Seen.{of_source};
 ghost use Rattle.run_files.specs.GivingBack.{TakesSources};
-ghost use Rattle.run_files.specs.Outside.{seen_place, seen_sink};
+ghost use Rattle.run_files.specs.Outside.{of_place, of_sink};
 ghost use Rattle.run_stages.specs.Closing.{ReturnsSink};
 
 use crew_feeder::FeedJob;
@@ -14,7 +14,7 @@ use run_opening::RunParts;
 
 /// Gives the sources of feeds back.
 fn give_back_jobs<P: Place>(place: &mut P, mut feeds: Vec<FeedJob<P::In>>)
-    ensures { TakesSources (seen_place P.files P.read_faults P.write_faults P.opened P.created) place.old place.new (map (λ job. P.In.faults job.cutter.source) feeds.items) }
+    ensures { TakesSources (of_place P.Place) place.old place.new (map (λ job. P.In.faults job.cutter.source) feeds.items) }
 {
     let Some(last) = feeds.pop() else {
         feeds.destroy_empty();
@@ -32,7 +32,7 @@ fn give_back_sessions<P: Place>(
     sinks: Vec<P::Out>,
 ) -> Vec<P::Out>
     requires { vec_len sinks + vec_len sessions ≤ vec_capacity sinks }
-    ensures back { TakesSources (seen_place P.files P.read_faults P.write_faults P.opened P.created) place.old place.new (map (λ session. P.In.faults session.source.source) sessions.items) }
+    ensures back { TakesSources (of_place P.Place) place.old place.new (map (λ session. P.In.faults session.source.source) sessions.items) }
     ensures sinks { result.items ≡ sinks.items ++ map (λ session. session.sink) sessions.items }
     ensures room { (vec_len result ≡ vec_len sinks + vec_len sessions) × (vec_capacity sinks ≤ vec_capacity result) }
 {
@@ -49,7 +49,7 @@ fn give_back_sessions<P: Place>(
 
 /// Gives the journal's sink back.
 fn give_back_journal<P: Place>(place: &mut P, sink: P::Out) -> Result<(), IoFault>
-    ensures { ReturnsSink (seen_place P.files P.read_faults P.write_faults P.opened P.created) (seen_sink P.Out.held P.Out.faults P.Out.name) place.old place.new sink result }
+    ensures { ReturnsSink (of_place P.Place) (of_sink P.Out.Sink) place.old place.new sink result }
 {
     place.give_back_out(sink)
 }
@@ -59,7 +59,7 @@ fn give_back_journal<P: Place>(place: &mut P, sink: P::Out) -> Result<(), IoFaul
 pub(crate) fn give_back_parts<P: Place>(place: &mut P, parts: RunParts<P::In, P::Out>)
     requires empty { (parts.room.items ≡ []) × (vec_len parts.room ≡ 0) }
     requires room { length parts.asks + length parts.finals ≤ vec_capacity parts.room }
-    ensures { GivesBack (seen_place P.files P.read_faults P.write_faults P.opened P.created) (seen_part P.In.left P.In.faults) (seen_sink P.Out.held P.Out.faults P.Out.name) parts place.old place.new }
+    ensures { GivesBack (of_place P.Place) (of_source P.In.Source) (of_sink P.Out.Sink) parts place.old place.new }
 {
     let RunParts {
         feeds,

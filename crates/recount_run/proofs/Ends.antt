@@ -8,17 +8,21 @@ use Rattle.outer_io.specs.Files.{Files, file_or_empty}
 use Rattle.outer_io.specs.Lines.{input_limit}
 use Rattle.recount.specs.declared.verdict.Verdict.{Verdict}
 use Rattle.run_files.proofs.Apart.{err_is, ok_not_err, same_stop, stopped}
+use Rattle.run_files.proofs.Fronts.{no_fault}
+use Rattle.run_files.proofs.PlanReads.{plan_end}
 use Rattle.run_files.proofs.Putting.{fails_after, puts_after, silent_after}
 use Rattle.run_files.proofs.Stages.{leaves_ended, leaves_more, leaves_then, nothing_made, same_created, same_files}
 use Rattle.run_files.specs.Leaving.{LeavesPlace}
-use Rattle.run_files.specs.Outside.{file_of, PlaceSeen, Silent, SinkSeen}
+use Rattle.run_files.specs.Outside.{FailsToPut, file_of, PlaceSeen, Silent, SinkSeen}
 use Rattle.run_files.specs.Planned.{IsPlanOf, ReadsPlan}
 use Rattle.run_files.specs.declared.stop.Stop.{Stop}
 use Rattle.run_files.specs.declared.stop.Stop.TheVariants.{NoMemory, PlanRefused, ReadFault, WriteFault, FeedRefused}
 use Rattle.recount_run.proofs.Reading.{told_of}
-use Rattle.recount_run.specs.Ends.{HasNoPlan, HasNoTexts, IsVerdictOf, RecountEnds}
+use Rattle.recount_run.specs.Ends.{HasNoTexts, IsVerdictOf, RecountEnds}
+use Rattle.recount_run.specs.Lines.{verdict_line}
+use Rattle.recount_run.specs.Names.{AuditNames}
 use Rattle.recount_run.specs.Reading.{AreShort, IsOneLong, ReadsTexts}
-use Rattle.recount_run.specs.Said.{HasVerdictUnder, SaysVerdict}
+use Rattle.recount_run.specs.Said.{AuditsTexts, HasVerdictUnder, SaysVerdict}
 use Rattle.recount_run.specs.declared.audit.Audit.{Audit}
 use Rattle.recount_run.specs.declared.texts.Texts.{Texts}
 
@@ -28,23 +32,9 @@ not_both j q r short (inl long) = omega (arith, short.0, long)
 not_both j q r short (inr (inl long)) = omega (arith, short.1, long)
 not_both j q r short (inr (inr long)) = omega (arith, short.2, long)
 
--- bytes that are a plan have no fault
-no_fault : (bytes : List ℕ) (fault : PlanFault) → IsOk (plan_meaning bytes) → plan_meaning bytes ≡ Err fault → ⊥
-no_fault bytes fault good bad = apart (sym good ∙ ap is_ok bad)
-  where
-    apart : true ≡ false → ⊥
-    apart e = cc
-
-ended_plan : (stop : Stop) → (stop ≢ WriteFault) × (stop ≢ FeedRefused) → HasNoPlan (Err stop)
-ended_plan NoMemory ends = inr (inr refl)
-ended_plan PlanRefused ends = inl refl
-ended_plan ReadFault ends = inr (inl refl)
-ended_plan WriteFault ends = absurd (ends.0 refl)
-ended_plan FeedRefused ends = absurd (ends.1 refl)
-
 ended_texts : (stop : Stop) → stop ≢ WriteFault → HasNoTexts (Err stop)
-ended_texts NoMemory other = inr (inr (inr refl))
-ended_texts PlanRefused other = inr (inl refl)
+ended_texts NoMemory other = inr (inl refl)
+ended_texts PlanRefused other = inr (inr (inr refl))
 ended_texts ReadFault other = inr (inr (inl refl))
 ended_texts WriteFault other = absurd (other refl)
 ended_texts FeedRefused other = inl refl
@@ -69,18 +59,21 @@ module _ {P O : Type 0} (p : PlaceSeen P) (s : SinkSeen O) (plan journal script 
   abbrev Names : List (List ℕ)
   Names = plan ∷ journal ∷ script ∷ replies ∷ []
 
+  abbrev Named : AuditNames
+  Named = record { plan = plan; journal = journal; script = script; replies = replies }
+
   same_writes : (a b : P) (stop : Option Stop) → LeavesPlace p a b Names [] stop → p.write_faults b ≡ p.write_faults a
   same_writes a b stop stage = stage.unwritten (nothing_made p a b Names stop stage)
 
   -- the plan was refused, or was not read
-  pub ended_by_plan : (a b : P) (out out' : O) (stop : Stop) → LeavesPlace p a b (plan ∷ []) [] (Some stop) → ReadsPlan s out out' (file_of (p.files a) plan) (Err stop) → RecountEnds p s a b out out' plan journal script replies (Err stop)
+  pub ended_by_plan : (a b : P) (out out' : O) (stop : Stop) → LeavesPlace p a b (plan ∷ []) [] (Some stop) → ReadsPlan s out out' (file_of (p.files a) plan) (Err stop) → RecountEnds p s a b out out' Named (Err stop)
   ended_by_plan a b out out' stop leaves reads =
       let all : LeavesPlace p a b Names [] (Some stop) = leaves_more p a b (plan ∷ []) (journal ∷ script ∷ replies ∷ []) [] stop leaves in
       record {
         done = tt;
         unsaid = λ e. absurd (reads.ends.0 (err_is stop WriteFault e));
         refused_plan = λ e. reads.refused (ap (λ k. Err k) (err_is stop PlanRefused e));
-        no_plan = λ files is fault bad. ended_plan stop reads.ends;
+        no_plan = λ files is fault bad. plan_end stop reads.ends;
         refused = λ e. absurd (reads.ends.1 (err_is stop FeedRefused e));
         no_texts = λ files is long. ended_texts stop reads.ends.0;
         silent = λ other e not_plan not_write. reads.silent (λ refused. not_plan (sym (err_is stop other e) ∙ err_is stop PlanRefused refused));
@@ -111,7 +104,7 @@ module _ {P O : Type 0} (p : PlaceSeen P) (s : SinkSeen O) (plan journal script 
     plan_good files is fault bad = no_fault (file_or_empty files plan) fault (ap is_ok (is_plan files is).meaning) bad
 
     -- a text was refused, or was not read
-    pub ended_by_texts : (stop : Stop) → ReadsTexts p b c journal script replies (Err stop) → RecountEnds p s a c out mid plan journal script replies (Err stop)
+    pub ended_by_texts : (stop : Stop) → ReadsTexts p b c journal script replies (Err stop) → RecountEnds p s a c out mid Named (Err stop)
     ended_by_texts stop texts =
         let all = whole (Some stop) texts.leaves in
         record {
@@ -147,11 +140,11 @@ module _ {P O : Type 0} (p : PlaceSeen P) (s : SinkSeen O) (plan journal script 
           (subst (λ (n : ℕ). n ≤ input_limit) (ap length are.0) read.short.0, subst (λ (n : ℕ). n ≤ input_limit) (ap length are.1) read.short.1, subst (λ (n : ℕ). n ≤ input_limit) (ap length are.2) read.short.2) long
 
       -- so it was said
-      pub ended_by_saying : (out' : O) (result : Result Audit Stop) → SaysVerdict s mid out' pl texts result → RecountEnds p s a c out out' plan journal script replies result
-      ended_by_saying out' (Ok audit) says =
+      said_of_files : (out' : O) (audit : Audit) → SaysVerdict s mid out' pl texts (Ok audit) → RecountEnds p s a c out out' Named (Ok audit)
+      said_of_files out' audit says =
           let all = whole None read.leaves in
           record {
-            done = record { verdict = says.says.0; of_files = on_files says.says.0 says.says.1; puts = puts_after s out mid out' quiet _ says.says.3; audit_is = says.says.2 };
+            done = record { verdict = says.verdict; of_files = on_files says.verdict says.has; puts = puts_after s out mid out' quiet _ says.says.puts; audit_is = says.audit_is };
             unsaid = λ e. absurd (ok_not_err audit WriteFault e);
             refused_plan = λ e. absurd (ok_not_err audit PlanRefused e);
             no_plan = λ files is fault bad. absurd (plan_good files is fault bad);
@@ -164,20 +157,32 @@ module _ {P O : Type 0} (p : PlaceSeen P) (s : SinkSeen O) (plan journal script 
             write_faults = same_writes a c None all;
             files = same_files p a c Names None all;
           }
-      ended_by_saying out' (Err stop) says =
-          let all : LeavesPlace p a c Names [] (Some stop) = leaves_ended p a c Names (Some stop) (λ e. says.ends.1 (ap (λ k. Err k) (same_stop stop ReadFault e))) (whole None read.leaves) in
+
+      -- or it was not, where memory was wanted or the put failed
+      unsaid_of_files : (out' : O) (stop : Stop) → (stopped Audit stop ≢ Err PlanRefused) × (stopped Audit stop ≢ Err ReadFault) × (stopped Audit stop ≢ Err FeedRefused)
+          → (stopped Audit stop ≡ Err WriteFault → (v : Verdict) × HasVerdictUnder pl texts.journal texts.script texts.replies v × FailsToPut s mid out' (verdict_line v)) → (stopped Audit stop ≡ Err NoMemory → Silent s mid out')
+          → RecountEnds p s a c out out' Named (Err stop)
+      unsaid_of_files out' stop ends part silent =
+          let all : LeavesPlace p a c Names [] (Some stop) = leaves_ended p a c Names (Some stop) (λ e. ends.1 (ap (λ k. Err k) (same_stop stop ReadFault e))) (whole None read.leaves) in
           record {
             done = tt;
-            unsaid = λ e. let fails = says.fails e in record { verdict = fails.0; of_files = on_files fails.0 fails.1; part = fails_after s out mid out' quiet _ fails.2 };
-            refused_plan = λ e. absurd (says.ends.0 e);
+            unsaid = λ e. let fails = part e in record { verdict = fails.0; of_files = on_files fails.0 fails.1; part = fails_after s out mid out' quiet _ fails.2 };
+            refused_plan = λ e. absurd (ends.0 e);
             no_plan = λ files is fault bad. absurd (plan_good files is fault bad);
-            refused = λ e. absurd (says.ends.2 e);
+            refused = λ e. absurd (ends.2 e);
             no_texts = λ files is long. absurd (not_long files is long);
-            silent = λ other e not_plan not_write. silent_after s out mid out' quiet (says.silent (ap (λ k. Err k) (only_memory stop says.ends (λ w. not_write (sym (err_is stop other e) ∙ w)))));
-            complete = λ files is good short no_read no_write. ended_well stop (λ e. says.ends.0 (ap (λ k. Err k) e)) (λ e. says.ends.1 (ap (λ k. Err k) e))
-                (λ e. no_write (fails_after s out mid out' quiet _ (says.fails (ap (λ k. Err k) e)).2).faults) (λ e. says.ends.2 (ap (λ k. Err k) e));
+            silent = λ other e not_plan not_write. silent_after s out mid out' quiet (silent (ap (λ k. Err k) (only_memory stop ends (λ w. not_write (sym (err_is stop other e) ∙ w)))));
+            complete = λ files is good short no_read no_write. ended_well stop (λ e. ends.0 (ap (λ k. Err k) e)) (λ e. ends.1 (ap (λ k. Err k) e))
+                (λ e. no_write (fails_after s out mid out' quiet _ (part (ap (λ k. Err k) e)).2).faults) (λ e. ends.2 (ap (λ k. Err k) e));
             leaves = all;
             created = same_created p a c Names (Some stop) all;
             write_faults = same_writes a c (Some stop) all;
             files = same_files p a c Names (Some stop) all;
           }
+
+      pub ended_by_saying : (out' : O) (result : Result Audit Stop) → AuditsTexts s mid out' pl texts result → RecountEnds p s a c out out' Named result
+      ended_by_saying out' (Ok audit) (inl says) = said_of_files out' audit says
+      ended_by_saying out' (Ok audit) (inr lacks) = absurd (ok_not_err audit NoMemory lacks.0)
+      ended_by_saying out' (Err stop) (inl says) = unsaid_of_files out' stop says.says.ends (λ e. (says.verdict, says.has, says.says.fails e)) says.says.silent
+      ended_by_saying out' (Err stop) (inr lacks) =
+          subst (λ (k : Stop). RecountEnds p s a c out out' Named (Err k)) (sym (err_is stop NoMemory lacks.0)) (unsaid_of_files out' NoMemory (λ e. cc, λ e. cc, λ e. cc) (λ e. cc) (λ e. lacks.1))

@@ -1,11 +1,10 @@
 -- Texts that were read whole.
 use Rattle.std.proofs.Common.{◌≡◌, ◌≢◌, ℕ, ◌+◌, ◌≤◌, ◌<◌, List, [], ◌∷◌, length, take, Option, Some, None, Ok, Err, inl, inr, ◌∙◌, ap, subst, arith}
-use Rattle.std.proofs.lemmas.Bool.{cases_lt}
-use Rattle.std.proofs.lemmas.List.{length-take-le, take_all}
 use Rattle.outer_io.specs.Files.{Files, file_or_empty}
 use Rattle.outer_io.specs.Lines.{input_limit}
 use Rattle.outer_io.specs.Told.{Told}
 use Rattle.run_files.proofs.Apart.{err_is, ok_not_err, stopped}
+use Rattle.run_files.proofs.Fronts.{told_long, told_whole}
 use Rattle.run_files.proofs.Stages.{leaves_ended, leaves_more, leaves_then, same_files}
 use Rattle.run_files.specs.Leaving.{LeavesPlace}
 use Rattle.run_files.specs.Outside.{file_of, PlaceSeen}
@@ -17,32 +16,6 @@ use Rattle.recount_run.specs.declared.texts.Texts.{Texts}
 -- what holds of a file that is told holds of its bytes
 pub told_of : (o : Option Files) (files : Files) (name : List ℕ) (Q : List ℕ → Type 0) → o ≡ Some files → Told (file_of o name) Q → Q (file_or_empty files name)
 told_of o files name Q is told = subst (λ (f : Option Files). Told (file_of f name) Q) is told
-
--- the front of a file, one byte longer than a text may be, is the file where it is no longer than a text may be
-front_whole : (all bytes : List ℕ) → bytes ≡ take (input_limit + 1) all → length bytes ≤ input_limit → bytes ≡ all
-front_whole all bytes front short =
-    elim (cases_lt input_limit (length all)) [
-      | inl long ↦
-          let size = ap length front ∙ length-take-le (input_limit + 1) all (omega (arith, long)) in
-          absurd (omega (arith, size, short))
-      | inr few ↦ front ∙ take_all (input_limit + 1) all (omega (arith, few))
-    ]
-
--- and the file is longer where the front is
-front_long : (all bytes : List ℕ) → bytes ≡ take (input_limit + 1) all → input_limit < length bytes → input_limit < length all
-front_long all bytes front long =
-    elim (cases_lt input_limit (length all)) [
-      | inl more ↦ more
-      | inr few ↦ let size = ap length (front ∙ take_all (input_limit + 1) all (omega (arith, few))) in omega (arith, size, long)
-    ]
-
-told_whole : (file : Option (List ℕ)) (bytes : List ℕ) → Told file (λ all. bytes ≡ take (input_limit + 1) all) → length bytes ≤ input_limit → Told file (λ all. bytes ≡ all)
-told_whole None bytes front short = tt
-told_whole (Some all) bytes front short = front_whole all bytes front short
-
-told_long : (file : Option (List ℕ)) (bytes : List ℕ) → Told file (λ all. bytes ≡ take (input_limit + 1) all) → input_limit < length bytes → Told file (λ all. input_limit < length all)
-told_long None bytes front long = tt
-told_long (Some all) bytes front long = front_long all bytes front long
 
 module _ {P : Type 0} (p : PlaceSeen P) where
   -- a file that was not read
@@ -59,7 +32,7 @@ module _ {P : Type 0} (p : PlaceSeen P) where
   text_refused a b name bytes leaves front long = record {
     leaves = leaves_ended p a b (name ∷ []) (Some FeedRefused) (λ e. cc) leaves;
     whole = tt;
-    long = λ e. told_long (file_of (p.files a) name) bytes front long;
+    long = λ e. told_long input_limit (file_of (p.files a) name) bytes front long;
     ends = (λ e. cc, λ e. cc);
   }
 
@@ -67,7 +40,7 @@ module _ {P : Type 0} (p : PlaceSeen P) where
   pub text_read : (a b : P) (name bytes : List ℕ) → LeavesPlace p a b (name ∷ []) [] None → Told (file_of (p.files a) name) (λ all. bytes ≡ take (input_limit + 1) all) → length bytes ≤ input_limit → ReadsText p a b name (Ok bytes)
   text_read a b name bytes leaves front short = record {
     leaves = leaves;
-    whole = (told_whole (file_of (p.files a) name) bytes front short, short);
+    whole = (told_whole input_limit (file_of (p.files a) name) bytes front short, short);
     long = λ e. absurd (ok_not_err bytes FeedRefused e);
     ends = (λ e. ok_not_err bytes PlanRefused e, λ e. ok_not_err bytes WriteFault e);
   }

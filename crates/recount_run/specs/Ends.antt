@@ -9,11 +9,13 @@ use Rattle.outer_io.specs.Files.{Files, file_or_empty}
 use Rattle.recount.specs.declared.verdict.Verdict.{Verdict}
 use Rattle.run_files.specs.Leaving.{LeavesPlace}
 use Rattle.run_files.specs.Outside.{FailsToPut, file_of, PlaceSeen, Puts, Silent, SinkSeen}
-use Rattle.run_files.specs.Planned.{IsPlanOf, RefusesPlan}
+use Rattle.run_files.specs.Planned.{HasNoPlan, IsPlanOf, RefusesPlan}
+use Rattle.run_files.specs.Stops.{IsDoneOrLacks}
 use Rattle.run_files.specs.declared.stop.Stop.{Stop}
-use Rattle.run_files.specs.declared.stop.Stop.TheVariants.{NoMemory, PlanRefused, ReadFault, WriteFault, FeedRefused}
+use Rattle.run_files.specs.declared.stop.Stop.TheVariants.{PlanRefused, WriteFault, FeedRefused}
 use Rattle.recount_run.specs.Audits.{audit_of}
 use Rattle.recount_run.specs.Lines.{verdict_line}
+use Rattle.recount_run.specs.Names.{AuditNames}
 use Rattle.recount_run.specs.Reading.{AreShort, IsOneLong}
 use Rattle.recount_run.specs.Said.{HasVerdictUnder}
 use Rattle.recount_run.specs.declared.audit.Audit.{Audit}
@@ -28,19 +30,15 @@ pub record IsVerdictOf (text journal script replies : List ℕ) (v : Verdict) : 
   -- and the verdict is theirs under it
   pub verdict : HasVerdictUnder plan journal script replies v
 
--- the plan is refused, or was not read, or memory ran out
-abbrev pub HasNoPlan : Result Audit Stop → Type 0
-HasNoPlan result = (result ≡ Err PlanRefused) ⊎ (result ≡ Err ReadFault) ⊎ (result ≡ Err NoMemory)
-
--- and else a text is refused
+-- a text is refused, or the audit ends as one without a plan does
 abbrev pub HasNoTexts : Result Audit Stop → Type 0
-HasNoTexts result = (result ≡ Err FeedRefused) ⊎ HasNoPlan result
+HasNoTexts result = (result ≡ Err FeedRefused) ⊎ HasNoPlan (λ end. result ≡ Err end)
 
 -- what an audit of the named files leaves of a place and a sink
-module _ {P O : Type 0} (p : PlaceSeen P) (s : SinkSeen O) (place place' : P) (out out' : O) (plan journal script replies : List ℕ) where
+module _ {P O : Type 0} (p : PlaceSeen P) (s : SinkSeen O) (place place' : P) (out out' : O) (names : AuditNames) where
   -- the claim holds of the bytes of the four files, where the place tells its files
   abbrev pub OfFiles : (List ℕ → List ℕ → List ℕ → List ℕ → Type 0) → Type 0
-  OfFiles Claim = (files : Files) → p.files place ≡ Some files → Claim (file_or_empty files plan) (file_or_empty files journal) (file_or_empty files script) (file_or_empty files replies)
+  OfFiles Claim = (files : Files) → p.files place ≡ Some files → Claim (file_or_empty files names.plan) (file_or_empty files names.journal) (file_or_empty files names.script) (file_or_empty files names.replies)
 
   -- The line of a verdict was put, and this was answered
   pub record SaysAudit (audit : Audit) : Type 0 where
@@ -67,9 +65,9 @@ module _ {P O : Type 0} (p : PlaceSeen P) (s : SinkSeen O) (place place' : P) (o
     -- a write fault comes only where that put failed
     pub unsaid : result ≡ Err WriteFault → FailsToSay
     -- a plan is refused only where the bytes are none, which is said ..
-    pub refused_plan : result ≡ Err PlanRefused → RefusesPlan s out out' (file_of (p.files place) plan)
+    pub refused_plan : result ≡ Err PlanRefused → RefusesPlan s out out' (file_of (p.files place) names.plan)
     -- .. and where they are none it is, unless it is not read
-    pub no_plan : OfFiles (λ t j q r. (fault : PlanFault) → plan_meaning t ≡ Err fault → HasNoPlan result)
+    pub no_plan : OfFiles (λ t j q r. (fault : PlanFault) → plan_meaning t ≡ Err fault → HasNoPlan (λ end. result ≡ Err end))
     -- a text is refused only where one has more than 2^30 bytes ..
     pub refused : result ≡ Err FeedRefused → OfFiles (λ t j q r. IsOneLong j q r)
     -- .. and where one has, it is, or something before it ends the audit
@@ -77,9 +75,9 @@ module _ {P O : Type 0} (p : PlaceSeen P) (s : SinkSeen O) (place place' : P) (o
     -- with every other end nothing is put
     pub silent : (stop : Stop) → result ≡ Err stop → stop ≢ PlanRefused → stop ≢ WriteFault → Silent s out out'
     -- with a plan, texts that are short and no count risen the audit is done, or memory was wanted
-    pub complete : OfFiles (λ t j q r. IsOk (plan_meaning t) → AreShort j q r → ¬ Rose (p.read_faults place) (p.read_faults place') → ¬ Rose (s.faults out) (s.faults out') → IsOk result ⊎ (result ≡ Err NoMemory))
+    pub complete : OfFiles (λ t j q r. IsOk (plan_meaning t) → AreShort j q r → ¬ Rose (p.read_faults place) (p.read_faults place') → ¬ Rose (s.faults out) (s.faults out') → IsDoneOrLacks result)
     -- the files are opened in order, all where the audit is done, and a read fault comes only where the count of reading rose
-    pub leaves : LeavesPlace p place place' (plan ∷ journal ∷ script ∷ replies ∷ []) [] (result_err result)
+    pub leaves : LeavesPlace p place place' (names.plan ∷ names.journal ∷ names.script ∷ names.replies ∷ []) [] (result_err result)
     -- nothing is created or written
     pub created : p.created place' ≡ p.created place
     pub write_faults : p.write_faults place' ≡ p.write_faults place

@@ -1,3 +1,4 @@
+pub mod Names
 pub mod Audits
 pub mod Lines
 pub mod Said

@@ -1,12 +1,13 @@
 -- What is put of a verdict.
-use Rattle.std.specs.Prelude.{◌≡◌, ◌≢◌, ◌↔◌, ℕ, List, length, Result, Err, IfOk}
+use Rattle.std.specs.Prelude.{◌≡◌, ◌⊎◌, ◌↔◌, ℕ, List, length, Result, Err, IfOk}
 use Rattle.cube_schema.specs.declared.plan.Plan.{Plan}
 use Rattle.recount.specs.Agreement.{IsAgreement}
 use Rattle.recount.specs.Verdicts.{HasVerdict, IsAgree}
 use Rattle.recount.specs.declared.verdict.Verdict.{Verdict}
-use Rattle.run_files.specs.Outside.{FailsToPut, Puts, Silent, SinkSeen}
+use Rattle.run_files.specs.Outside.{Silent, SinkSeen}
+use Rattle.run_files.specs.Saying.{SaysText}
 use Rattle.run_files.specs.declared.stop.Stop.{Stop}
-use Rattle.run_files.specs.declared.stop.Stop.TheVariants.{NoMemory, PlanRefused, ReadFault, WriteFault, FeedRefused}
+use Rattle.run_files.specs.declared.stop.Stop.TheVariants.{NoMemory}
 use Rattle.recount_run.specs.Audits.{audit_of}
 use Rattle.recount_run.specs.Lines.{verdict_line}
 use Rattle.recount_run.specs.declared.audit.Audit.{Audit}
@@ -21,26 +22,16 @@ pub record HasVerdictUnder (plan : Plan) (journal script replies : List ℕ) (v 
   -- it is that they agree exactly where they do
   pub agrees : IsAgree v ↔ IsAgreement plan.schema (length plan.feeds) journal script replies
 
--- what saying it leaves of a sink, and answers
-module _ {O : Type 0} (s : SinkSeen O) (out out' : O) where
-  -- The line of the verdict was put in one put, or how that ends the audit
-  pub record PutsVerdict (v : Verdict) (result : Result Audit Stop) : Type 0 where
-    -- with Ok the sink has gained it, and the answer says whether they agree
-    pub puts : IfOk result (λ audit. (audit ≡ audit_of v) × Puts s out out' (verdict_line v))
-    -- with a write fault a part of it from the front, and its count rose
-    pub fails : result ≡ Err WriteFault → FailsToPut s out out' (verdict_line v)
-    -- where memory ran out nothing was put
-    pub silent : result ≡ Err NoMemory → Silent s out out'
-    -- no other end comes
-    pub ends : (result ≢ Err PlanRefused) × (result ≢ Err ReadFault) × (result ≢ Err FeedRefused)
-
+-- what auditing texts under a plan leaves of a sink, and answers
+module _ {O : Type 0} (s : SinkSeen O) (out out' : O) (plan : Plan) (texts : Texts) (result : Result Audit Stop) where
   -- The line of their verdict was put, or how that ends the audit
-  pub record SaysVerdict (plan : Plan) (texts : Texts) (result : Result Audit Stop) : Type 0 where
-    -- with Ok the sink has gained it, and the answer says whether they agree
-    pub says : IfOk result (λ audit. (v : Verdict) × HasVerdictUnder plan texts.journal texts.script texts.replies v × (audit ≡ audit_of v) × Puts s out out' (verdict_line v))
-    -- with a write fault a part of it from the front, and its count rose
-    pub fails : result ≡ Err WriteFault → (v : Verdict) × HasVerdictUnder plan texts.journal texts.script texts.replies v × FailsToPut s out out' (verdict_line v)
-    -- where memory ran out nothing was put
-    pub silent : result ≡ Err NoMemory → Silent s out out'
-    -- no other end comes
-    pub ends : (result ≢ Err PlanRefused) × (result ≢ Err ReadFault) × (result ≢ Err FeedRefused)
+  pub record SaysVerdict : Type 0 where
+    pub verdict : Verdict
+    pub has : HasVerdictUnder plan texts.journal texts.script texts.replies verdict
+    pub says : SaysText s out out' (verdict_line verdict) result
+    -- with Ok the answer says whether they agree
+    pub audit_is : IfOk result (λ audit. audit ≡ audit_of verdict)
+
+  -- so it was, or memory was wanted before, and nothing was put
+  abbrev pub AuditsTexts : Type 0
+  AuditsTexts = SaysVerdict ⊎ ((result ≡ Err NoMemory) × Silent s out out')

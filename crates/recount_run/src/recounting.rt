@@ -1,10 +1,12 @@
 //! The audit of a session's transcript, from files.
 ghost use Rattle.std.specs.Prelude.{◌≤◌, length};
-ghost use Rattle.run_files.specs.Outside.{seen_place, seen_sink};
+ghost use Rattle.run_files.specs.Outside.{of_place, of_sink};
 ghost use Rattle.recount_run.specs.Ends.{RecountEnds};
+ghost use Rattle.recount_run.specs.Names.{audit_names};
 ghost use Rattle.recount_run.specs.Reading.{AreShort};
-ghost use Rattle.recount_run.specs.Said.{SaysVerdict};
+ghost use Rattle.recount_run.specs.Said.{AuditsTexts};
 
+use crate::audit::audit_of;
 use crate::saying::say_verdict;
 use crate::texts::{Texts, read_texts};
 use crate::{Audit, RecountNames};
@@ -23,7 +25,7 @@ fn audit_texts<O: Sink>(
 ) -> Result<Audit, Stop>
     requires feeds { length plan.now.feeds ≤ 8 }
     requires short { AreShort texts.now.journal texts.now.script texts.now.replies }
-    ensures { SaysVerdict (seen_sink O.held O.faults O.name) out.old out.new plan.now texts.now result }
+    ensures { AuditsTexts (of_sink O.Sink) out.old out.new plan.now texts.now result }
 {
     let feeders = plan.feeds.len() as u8;
     let (journal, script) = (texts.journal.as_slice(), texts.script.as_slice());
@@ -35,7 +37,10 @@ fn audit_texts<O: Sink>(
         script,
         texts.replies.as_slice(),
     ) {
-        Ok(verdict) => say_verdict(alloc, verdict, out),
+        Ok(verdict) => {
+            say_verdict(alloc, verdict, out)?;
+            Ok(audit_of(verdict))
+        }
         Err(NoMemory) => Err(Stop::NoMemory),
     }
 }
@@ -49,7 +54,7 @@ pub fn recount_files<P: Place, O: Sink>(
     place: &mut P,
     out: &mut O,
 ) -> Result<Audit, Stop>
-    ensures { RecountEnds (seen_place P.files P.read_faults P.write_faults P.opened P.created) (seen_sink O.held O.faults O.name) place.old place.new out.old out.new names.now.plan.now names.now.journal.now names.now.script.now names.now.replies.now result }
+    ensures { RecountEnds (of_place P.Place) (of_sink O.Sink) place.old place.new out.old out.new (audit_names names.now) result }
 {
     let plan = load_plan(alloc, names.plan, place, out)?;
     let texts = read_texts(alloc, names, place)?;

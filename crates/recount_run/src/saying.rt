@@ -1,29 +1,20 @@
 //! What is said of a verdict.
-ghost use Rattle.run_files.specs.Outside.{seen_sink};
-ghost use Rattle.recount_run.specs.Said.{PutsVerdict};
+ghost use Rattle.run_files.specs.Outside.{of_sink};
+ghost use Rattle.run_files.specs.Saying.{SaysText};
+ghost use Rattle.recount_run.specs.Lines.{verdict_line};
 
-use crate::Audit;
-use crate::audit::audit_of;
 use crate::lines::verdict_line;
-use outer_io::{IoFault, Sink};
+use outer_io::Sink;
 use recount::Verdict;
-use run_files::Stop;
+use run_files::{Stop, put_text};
 use std::alloc::Global;
 
-/// Puts the line of the verdict in one put.
-pub(crate) fn say_verdict<O: Sink>(
-    alloc: Global,
-    verdict: Verdict,
-    out: &mut O,
-) -> Result<Audit, Stop>
-    ensures { PutsVerdict (seen_sink O.held O.faults O.name) out.old out.new verdict result }
+/// Puts the line of the verdict in one put, and says how the audit ends where that fails.
+pub(crate) fn say_verdict<O: Sink>(alloc: Global, verdict: Verdict, out: &mut O) -> Result<(), Stop>
+    ensures { SaysText (of_sink O.Sink) out.old out.new (verdict_line verdict) result }
 {
     let Ok(line) = verdict_line(alloc, verdict) else {
         return Err(Stop::NoMemory);
     };
-    match out.put(line.as_slice()) {
-        Ok(()) => Ok(audit_of(verdict)),
-        Err(IoFault::Failed) => Err(Stop::WriteFault),
-        Err(IoFault::NoMemory) => Err(Stop::NoMemory),
-    }
+    put_text(line.as_slice(), out)
 }

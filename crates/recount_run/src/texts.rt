@@ -1,5 +1,5 @@
 //! The three texts of an audit, read whole.
-ghost use Rattle.run_files.specs.Outside.{seen_place};
+ghost use Rattle.run_files.specs.Outside.{of_place};
 ghost use Rattle.recount_run.specs.Reading.{ReadsText, ReadsTexts};
 
 use outer_io::{List, Place};
@@ -28,7 +28,7 @@ pub(crate) struct Texts {
 
 /// The bytes of the named file, or how the audit ends. More than 2^30 bytes are refused.
 fn read_text<P: Place>(alloc: Global, name: &str, place: &mut P) -> Result<List<u8>, Stop>
-    ensures { ReadsText (seen_place P.files P.read_faults P.write_faults P.opened P.created) place.old place.new name.now result }
+    ensures { ReadsText (of_place P.Place) place.old place.new name.now result }
 {
     let bytes = read_file(alloc, name, LONGEST_TEXT, place)?;
     if bytes.len() > LONGEST_TEXT {
@@ -43,7 +43,7 @@ pub(crate) fn read_texts<P: Place>(
     names: &RecountNames<'_>,
     place: &mut P,
 ) -> Result<Texts, Stop>
-    ensures { ReadsTexts (seen_place P.files P.read_faults P.write_faults P.opened P.created) place.old place.new names.now.journal.now names.now.script.now names.now.replies.now result }
+    ensures { ReadsTexts (of_place P.Place) place.old place.new names.now.journal.now names.now.script.now names.now.replies.now result }
 {
     let journal = read_text(alloc, names.journal, place)?;
     let script = read_text(alloc, names.script, place)?;

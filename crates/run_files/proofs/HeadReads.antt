@@ -25,16 +25,15 @@ use Rattle.outer_io.specs.Files.{Files, file_or_empty}
 use Rattle.run_files.proofs.Putting.{fails_after, puts_after, silent_after, silent_itself}
 use Rattle.run_files.proofs.Returning.{leaves_given_back}
 use Rattle.run_files.proofs.Stages.{fails_at, fails_on, leaves_reading, leaves_then, leaves_more, nothing_made, all_opened}
-use Rattle.run_report.specs.Lines.{head_line}
 use Rattle.run_files.specs.GivingBack.{TakesSources}
 use Rattle.run_files.specs.Leaving.{FailsAtLast, LeavesPlace}
-use Rattle.run_files.specs.Headed.{HasHeader, IsHeaded, OpensFeeds, RefusesHead, RefusesLast}
+use Rattle.run_files.specs.Headed.{HasHeader, IsHeaded, MeetsHeadFault, OpensFeeds, RefusesHead, RefusesLast, SaysHeadFault}
 use Rattle.run_files.specs.Outside.{FailsToPut, file_of, PlaceSeen, Puts, Silent, SinkSeen}
 use Rattle.run_files.specs.declared.stop.Stop.{Stop}
 use Rattle.run_files.specs.declared.stop.Stop.TheVariants.{NoMemory, PlanRefused, ReadFault, WriteFault, FeedRefused}
 
 -- a header that is refused by the cutter's next line is that of the source's bytes
-pub refused_feed : {S : Type 0} (left : S → Option (List ℕ)) (schema : Schema) (source : S) (c : Cutter S) (fault : HeadFault) → IsNew source c → IsHeadRefused left schema c fault → Told (left source) (λ feed. feed_head schema feed ≡ Err fault)
+pub refused_feed : {S : Type 0} (left : S → Option (List ℕ)) (schema : Schema) (source : S) (c : Cutter S) (fault : HeadFault) → IsNew source c → IsHeadRefused left schema c fault → MeetsHeadFault schema (left source) fault
 unfolding feed_head
 refused_feed left schema source c fault new refused =
     Told-each (left source) (λ x. left source ≡ Some x) _ (λ bytes is. of_lines left source c bytes (λ all. head_of_lines schema all ≡ Err fault) new is refused) (Told-same (left source))
@@ -42,10 +41,7 @@ refused_feed left schema source c fault new refused =
 pub start_new : {S : Type 0} (source : S) (c : Cutter S) → IsNew source c → IsAtStart c
 start_new source c new = (ap (λ (k : Cutter _). k.taken) new, ap (λ (k : Cutter _). k.given) new)
 
-abbrev RefusesIn : Schema → Option Files → List ℕ → HeadFault → Type 0
-RefusesIn schema files name fault = Told (file_of files name) (λ feed. feed_head schema feed ≡ Err fault)
-
-in_file : (schema : Schema) (files : Option Files) (told : Option (List ℕ)) (name : List ℕ) (fault : HeadFault) → Told files (λ fs. told ≡ Some (file_or_empty fs name)) → Told told (λ feed. feed_head schema feed ≡ Err fault) → RefusesIn schema files name fault
+in_file : (schema : Schema) (files : Option Files) (told : Option (List ℕ)) (name : List ℕ) (fault : HeadFault) → Told files (λ fs. told ≡ Some (file_or_empty fs name)) → MeetsHeadFault schema told fault → MeetsHeadFault schema (file_of files name) fault
 in_file schema None told name fault left refused = tt
 in_file schema (Some files) told name fault left refused = Told-some told (file_or_empty files name) (λ feed. feed_head schema feed ≡ Err fault) left refused
 
@@ -58,15 +54,15 @@ refuses_on schema before now first names Says Says' same step last = record {
   refuses = record {
     fault = last.refuses.fault;
     of_line = last.refuses.of_line;
-    refused = subst (λ (files : Option Files). RefusesIn schema files last.name last.refuses.fault) same last.refuses.refused;
+    refused = subst (λ (files : Option Files). MeetsHeadFault schema (file_of files last.name) last.refuses.fault) same last.refuses.refused;
     says = step _ last.refuses.says;
   };
 }
 
 -- a feed whose source was read, and whose first line is no header, is refused
 pub refuses_head : {O : Type 0} (s : SinkSeen O) (schema : Schema) (files : Option Files) (told : Option (List ℕ)) (name : List ℕ) (met : NoHeader) (Says : List ℕ → Type 0)
-    → Told files (λ fs. told ≡ Some (file_or_empty fs name)) → met ≢ Refused head.NoMemory → ((fault : HeadFault) → met ≡ Refused fault → Told told (λ feed. feed_head schema feed ≡ Err fault))
-    → (fault : HeadFault) × (met ≡ Refused fault) × Says (head_line schema name fault) → RefusesHead schema (file_of files name) name Says
+    → Told files (λ fs. told ≡ Some (file_or_empty fs name)) → met ≢ Refused head.NoMemory → ((fault : HeadFault) → met ≡ Refused fault → MeetsHeadFault schema told fault)
+    → SaysHeadFault schema name met Says → RefusesHead schema (file_of files name) name Says
 refuses_head s schema files told name met Says left of_line refused said = record {
   fault = said.0;
   of_line = λ e. of_line (said.1 ∙ ap (λ f. Refused f) e);
@@ -79,7 +75,7 @@ head_in schema places bytes None h = absurd h
 head_in schema places bytes (Some rest) h = subst (λ r. IsOk r) (sym h.0) refl
 
 -- a feed whose header was read has one
-has_header : {S : Type 0} (left : S → Option (List ℕ)) (faults : S → ℕ) (schema : Schema) (file : Option (List ℕ)) (feed : HeadedFeed (Cutter S)) → IsHeaded left faults schema file feed → HasHeader schema file
+pub has_header : {S : Type 0} (left : S → Option (List ℕ)) (faults : S → ℕ) (schema : Schema) (file : Option (List ℕ)) (feed : HeadedFeed (Cutter S)) → IsHeaded left faults schema file feed → HasHeader schema file
 has_header left faults schema None feed h = tt
 has_header left faults schema (Some bytes) feed h =
     head_in schema feed.header.places bytes (lines_left left feed.cutter)

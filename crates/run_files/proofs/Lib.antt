@@ -2,11 +2,12 @@ pub mod Apart
 pub mod Counts
 pub mod Lists
 pub mod Emptied
+pub mod Fronts
 pub mod Stages
 pub mod Returning
 pub mod PlanReads
 pub mod Putting
-mod HeadReads
+pub mod HeadReads
 mod ScriptReads
 mod SinkReturns
 mod ScriptStages

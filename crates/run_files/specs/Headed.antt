@@ -1,11 +1,15 @@
 -- Feeds whose headers were read, and what opening them answers and puts.
 use Rattle.std.specs.Prelude.{◌≡◌, ◌≢◌, ℕ, ◌+◌, ◌<◌, List, [], ◌∷◌, ◌++◌, get_or, length, Option, Some, Err, IsOk}
+use Rattle.std.specs.List.{AllZip}
 use Rattle.cube_view.specs.declared.schema.Schema.{Schema}
 use Rattle.feed_reader.specs.Feeds.{feed_head}
 use Rattle.feed_reader.specs.Reading.{LeavesAccepted, ReadsHeader}
+use Rattle.feed_reader.specs.declared.feed.NoHeader.{NoHeader}
+use Rattle.feed_reader.specs.declared.feed.NoHeader.TheVariants.{Refused}
 use Rattle.feed_reader.specs.declared.header.HeadFault.{HeadFault}
 use Rattle.feed_reader.specs.declared.header.HeadFault.TheVariants as head
 use Rattle.outer_io.specs.Cutting.{Cutter, IsNew}
+use Rattle.outer_io.specs.Files.{Files}
 use Rattle.outer_io.specs.Told.{Told}
 use Rattle.run_report.specs.Lines.{head_line}
 use Rattle.run_files.specs.Leaving.{FailsAtLast, LeavesPlace}
@@ -30,11 +34,23 @@ module _ {S : Type 0} (left : S → Option (List ℕ)) (faults : S → ℕ) (sch
     pub fresh : faults source ≡ 0
     pub reads : ReadsHead source feed
 
+  -- and so is each of these feeds, of the file of its name
+  abbrev pub AreHeaded : Option Files → List (List ℕ) → List (HeadedFeed (Cutter S)) → Type 0
+  AreHeaded files names feeds = AllZip (λ name. IsHeaded (file_of files name)) names feeds
+
+-- the first line of the feed meets this fault, where it is told
+abbrev pub MeetsHeadFault : Schema → Option (List ℕ) → HeadFault → Type 0
+MeetsHeadFault schema file fault = Told file (λ feed. feed_head schema feed ≡ Err fault)
+
+-- the feed of that name has no header since its first line is refused, of which this is said
+abbrev pub SaysHeadFault : Schema → List ℕ → NoHeader → (List ℕ → Type 0) → Type 0
+SaysHeadFault schema name met Says = (fault : HeadFault) × (met ≡ Refused fault) × Says (head_line schema name fault)
+
 -- the first line of the feed is no header, for a fault other than want of memory, of which this is said
 pub record RefusesHead (schema : Schema) (file : Option (List ℕ)) (name : List ℕ) (Says : List ℕ → Type 0) : Type 0 where
   pub fault : HeadFault
   pub of_line : fault ≢ head.NoMemory
-  pub refused : Told file (λ feed. feed_head schema feed ≡ Err fault)
+  pub refused : MeetsHeadFault schema file fault
   pub says : Says (head_line schema name fault)
 
 -- of these feeds the last is refused

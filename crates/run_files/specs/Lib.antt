@@ -1,5 +1,6 @@
 pub mod Stops
 pub mod Outside
+pub mod Saying
 pub mod Counts
 pub mod Leaving
 pub mod GivingBack

@@ -3,6 +3,8 @@ use Rattle.std.specs.Prelude.{◌≡◌, ◌⊎◌, ℕ, List, Option, option_ma
 use Rattle.outer_io.specs.Bytes.{Gains, GainsPart}
 use Rattle.outer_io.specs.Faults.{Rose}
 use Rattle.outer_io.specs.Files.{Files, file_or_empty}
+use Rattle.outer_io.specs.declared.place.Place as Place
+use Rattle.outer_io.specs.declared.sink.Sink as Sink
 
 -- what contracts see of a place
 pub record PlaceSeen (P : Type 0) : Type 0 where
@@ -27,12 +29,12 @@ pub record SinkSeen (O : Type 0) : Type 0 where
   pub faults : O → ℕ
   pub name : O → List ℕ
 
--- a place with these meanings, and a sink
-abbrev pub seen_place : {P : Type 0} → (P → Option Files) → (P → ℕ) → (P → ℕ) → (P → List (List ℕ)) → (P → List (List ℕ)) → PlaceSeen P
-seen_place files read_faults write_faults opened created = record { files = files; read_faults = read_faults; write_faults = write_faults; opened = opened; created = created }
+-- a place as the members of its trait see it, and a sink
+abbrev pub of_place : {P I O : Type 0} → Place.Ghosts P I O → PlaceSeen P
+of_place place = record { files = place.files; read_faults = place.read_faults; write_faults = place.write_faults; opened = place.opened; created = place.created }
 
-abbrev pub seen_sink : {O : Type 0} → (O → Option (List ℕ)) → (O → ℕ) → (O → List ℕ) → SinkSeen O
-seen_sink held faults name = record { held = held; faults = faults; name = name }
+abbrev pub of_sink : {O : Type 0} → Sink.Ghosts O → SinkSeen O
+of_sink sink = record { held = sink.held; faults = sink.faults; name = sink.name }
 
 module _ {O : Type 0} (s : SinkSeen O) (before after : O) where
   -- nothing was put into the sink, and no put failed

@@ -1,5 +1,5 @@
 -- What reading a run's plan answers and puts.
-use Rattle.std.specs.Prelude.{◌≡◌, ◌≢◌, ℕ, List, Option, Result, Ok, Err, IfOk, IfErr, IsErrOf, ◌⊎◌}
+use Rattle.std.specs.Prelude.{◌≡◌, ◌≢◌, ◌⊎◌, ℕ, List, Option, None, IfSome, Result, Ok, Err, IfOk, IfErr, IsErrOf}
 use Rattle.cube_schema.specs.Drafts.{draft_of}
 use Rattle.cube_schema.specs.Files.{NamesFiles}
 use Rattle.cube_schema.specs.Meaning.{plan_meaning, IsPrintable}
@@ -8,7 +8,7 @@ use Rattle.cube_schema.specs.declared.fault.PlanFault.TheVariants as plan
 use Rattle.cube_schema.specs.declared.plan.Plan.{Plan}
 use Rattle.outer_io.specs.Told.{Told}
 use Rattle.run_report.specs.Lines.{plan_line}
-use Rattle.run_files.specs.Outside.{FailsToPut, Puts, Silent, SinkSeen}
+use Rattle.run_files.specs.Outside.{PutsOrFails, Silent, SinkSeen}
 use Rattle.run_files.specs.declared.stop.Stop.{Stop}
 use Rattle.run_files.specs.declared.stop.Stop.TheVariants as stop
 
@@ -23,7 +23,7 @@ pub record RefusesPlan {O : Type 0} (s : SinkSeen O) (out out' : O) (file : Opti
   pub fault : PlanFault
   pub of_bytes : fault ≢ plan.NoMemory
   pub meaning : Told file (λ bytes. plan_meaning bytes ≡ Err fault)
-  pub says : Puts s out out' (plan_line fault) ⊎ FailsToPut s out out' (plan_line fault)
+  pub says : PutsOrFails s out out' (plan_line fault)
 
 -- What a run's first stage answers, which reads these bytes as its plan, and what it puts into a sink
 pub record ReadsPlan {O : Type 0} (s : SinkSeen O) (out out' : O) (file : Option (List ℕ)) (result : Result Plan Stop) : Type 0 where
@@ -35,3 +35,16 @@ pub record ReadsPlan {O : Type 0} (s : SinkSeen O) (out out' : O) (file : Option
   pub silent : result ≢ Err stop.PlanRefused → Silent s out out'
   -- and what ends the run is else a read fault or want of memory
   pub ends : IfErr result (λ end. (end ≢ stop.WriteFault) × (end ≢ stop.FeedRefused))
+
+-- a run without a plan is ended by want of memory, by a read fault or by the plan's refusal; the test says what ends it
+abbrev pub HasNoPlan : (Stop → Type 0) → Type 0
+HasNoPlan EndsBy = EndsBy stop.NoMemory ⊎ EndsBy stop.ReadFault ⊎ EndsBy stop.PlanRefused
+
+-- The plan of a run, where the file with these bytes was read and is one; the test says what ends the run
+pub record MayHavePlan {O : Type 0} (s : SinkSeen O) (out out' : O) (file : Option (List ℕ)) (EndsBy : Stop → Type 0) : Type 0 where
+  pub plan : Option Plan
+  pub plan_is : IfSome plan (IsPlanOf file)
+  -- where it is none the run ends so
+  pub unplanned : plan ≡ None → HasNoPlan EndsBy
+  -- a refused plan is said, and comes only where its bytes meet a fault
+  pub refused_plan : EndsBy stop.PlanRefused → (plan ≡ None) × RefusesPlan s out out' file

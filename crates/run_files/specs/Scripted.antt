@@ -19,6 +19,10 @@ pub record IsScript {S : Type 0} (left : S → Option (List ℕ)) (faults : S �
   pub left_is : Told file (λ bytes. left cutter.source ≡ Some bytes)
   pub fresh : faults cutter.source ≡ 0
 
+-- so is each of these, over the file of its name
+abbrev pub AreScripts : {S : Type 0} → (S → Option (List ℕ)) → (S → ℕ) → Option Files → List (List ℕ) → List (Cutter S) → Type 0
+AreScripts left faults files names scripts = AllZip (λ name. IsScript left faults (file_of files name)) names scripts
+
 -- a sink of that name that met no fault and holds nothing, where the place tells its files
 pub record IsOutput {O : Type 0} (s : SinkSeen O) (files : Option Files) (name : List ℕ) (sink : O) : Type 0 where
   pub name_is : s.name sink ≡ name
@@ -37,8 +41,8 @@ pub record OpensScripts {P : Type 0} (p : PlaceSeen P) (before after : P) (input
 
 -- The parts are those of the plan's scripts, each over its file, and the sinks for their replies and for its journal
 pub record ArePartsOf {S O : Type 0} (left : S → Option (List ℕ)) (faults : S → ℕ) (s : SinkSeen O) (files : Option Files) (plan : Plan) (parts : ScriptParts (Cutter S) O) : Type 0 where
-  pub asks : AllZip (λ name. IsScript left faults (file_of files name)) plan.asks parts.asks
-  pub finals : AllZip (λ name. IsScript left faults (file_of files name)) plan.finals parts.finals
+  pub asks : AreScripts left faults files plan.asks parts.asks
+  pub finals : AreScripts left faults files plan.finals parts.finals
   pub ask_outputs : AllZip (IsOutput s files) (outputs plan.asks) parts.ask_outputs
   pub final_outputs : AllZip (IsOutput s files) (outputs plan.finals) parts.final_outputs
   pub journal : IsOutput s files plan.journal parts.journal

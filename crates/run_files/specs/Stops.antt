@@ -1,5 +1,5 @@
 -- Why a run ends, and which cause is answered where several hold.
-use Rattle.std.specs.Prelude.{ℕ, nat_lt, if◌then◌else◌, Result, Ok, Err}
+use Rattle.std.specs.Prelude.{◌≡◌, ◌⊎◌, ℕ, nat_lt, Bool, true, false, if◌then◌else◌, Result, Ok, Err, IsOk}
 use Rattle.outer_io.specs.declared.cutter.CutFault.{CutFault}
 use Rattle.outer_io.specs.declared.cutter.CutFault.TheVariants as cut
 use Rattle.outer_io.specs.declared.fault.IoFault.{IoFault}
@@ -51,3 +51,21 @@ stop_of_session session.Read = ReadFault
 stop_of_session session.Write = WriteFault
 stop_of_session session.TooMuch = FeedRefused
 stop_of_session session.NoMemory = NoMemory
+
+module _ {T : Type 0} where
+  -- the run ended so, or memory was wanted
+  abbrev pub IsOrLacks : T → Result T Stop → Type 0
+  IsOrLacks end result = (result ≡ Ok end) ⊎ (result ≡ Err NoMemory)
+
+  -- it was done, or memory was wanted
+  abbrev pub IsDoneOrLacks : Result T Stop → Type 0
+  IsDoneOrLacks result = IsOk result ⊎ (result ≡ Err NoMemory)
+
+  -- it ended for want of memory, so that a reply may be the line that says so
+  abbrev pub is_lacking : Result T Stop → Bool
+  is_lacking (Ok end) = false
+  is_lacking (Err NoMemory) = true
+  is_lacking (Err PlanRefused) = false
+  is_lacking (Err ReadFault) = false
+  is_lacking (Err WriteFault) = false
+  is_lacking (Err FeedRefused) = false

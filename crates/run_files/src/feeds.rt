@@ -1,17 +1,16 @@
 //! The feeds of a run: opened in order, and the header of each one read before the next is opened.
-ghost use Rattle.std.specs.Prelude.{◌≡◌, ◌≢◌, ◌+◌, ◌≤◌, ◌⊎◌, [], ◌∷◌, Err, Some, None, All, IfOk, IfErr, OnOk, length, vec_len, vec_capacity};
+ghost use Rattle.std.specs.Prelude.{◌≡◌, ◌≢◌, ◌+◌, ◌≤◌, [], ◌∷◌, Err, Some, None, All, IfOk, IfErr, OnOk, length, vec_len, vec_capacity};
 ghost use Rattle.std.specs.Result.{result_err};
-ghost use Rattle.std.specs.List.{AllZip};
-ghost use Rattle.feed_reader.specs.Feeds.{feed_head};
 ghost use Rattle.outer_io.specs.Faults.{Rose};
-ghost use Rattle.outer_io.specs.Told.{Told};
 ghost use Rattle.run_report.specs.Lines.{head_line};
-ghost use Rattle.run_files.specs.Headed.{IsHeaded, OpensFeeds, ReadsHead, RefusesHead};
+ghost use Rattle.run_files.specs.Headed.{AreHeaded, IsHeaded, MeetsHeadFault, OpensFeeds, ReadsHead, SaysHeadFault};
 ghost use Rattle.run_files.specs.Leaving.{LeavesPlace};
-ghost use Rattle.run_files.specs.Outside.{FailsToPut, file_of, Puts, seen_place, seen_sink, Silent};
+ghost use Rattle.run_files.specs.Outside.{FailsToPut, file_of, of_place, of_sink, Puts, Silent};
+ghost use Rattle.run_files.specs.Saying.{SaysText};
 
 use crate::Stop;
 use crate::giving_back::give_back_feeds;
+use crate::saying::put_text;
 use cube_view::Schema;
 use feed_reader::{HeadFault, Header, NoHeader, read_header};
 use outer_io::{IoFault, LineCutter, List, Place, Sink, Source, Text};
@@ -33,7 +32,7 @@ fn read_head<S: Source>(
     ensures head { IfOk result (ReadsHead S.left S.faults schema.now source) }
     ensures quiet { IfOk result (λ feed. S.faults feed.cutter.source ≡ S.faults source) }
     ensures of_line { IfErr result (λ e. e.1 ≢ NoHeader.Refused HeadFault.NoMemory) }
-    ensures refused { IfErr result (λ e. (fault : HeadFault) → e.1 ≡ NoHeader.Refused fault → Told (S.left source) (λ feed. feed_head schema.now feed ≡ Err fault)) }
+    ensures refused { IfErr result (λ e. (fault : HeadFault) → e.1 ≡ NoHeader.Refused fault → MeetsHeadFault schema.now (S.left source) fault) }
     ensures read { IfErr result (λ e. e.1 ≡ NoHeader.Read → Rose (S.faults source) (S.faults e.0)) }
     ensures else_quiet { IfErr result (λ e. e.1 ≢ NoHeader.Read → S.faults e.0 ≡ S.faults source) }
 {
@@ -47,27 +46,20 @@ fn read_head<S: Source>(
     }
 }
 
-// Puts the line of a feed that is refused, and says how the run ends.
-fn refuse_feed<O: Sink>(
+// Puts the line of a feed that is refused, and says how the run ends where that fails.
+fn say_header<O: Sink>(
     alloc: Global,
     schema: &Schema,
     name: &str,
     fault: HeadFault,
     out: &mut O,
-) -> Stop
-    ensures refused { result ≡ Stop.FeedRefused → Puts (seen_sink O.held O.faults O.name) out.old out.new (head_line schema.now name.now fault) }
-    ensures unsaid { result ≡ Stop.WriteFault → FailsToPut (seen_sink O.held O.faults O.name) out.old out.new (head_line schema.now name.now fault) }
-    ensures silent { result ≡ Stop.NoMemory → Silent (seen_sink O.held O.faults O.name) out.old out.new }
-    ensures ends { (result ≡ Stop.FeedRefused) ⊎ (result ≡ Stop.WriteFault) ⊎ (result ≡ Stop.NoMemory) }
+) -> Result<(), Stop>
+    ensures { SaysText (of_sink O.Sink) out.old out.new (head_line schema.now name.now fault) result }
 {
     let Ok(line) = header_refused(alloc, schema, name, fault) else {
-        return Stop::NoMemory;
+        return Err(Stop::NoMemory);
     };
-    match out.put(line.as_slice()) {
-        Ok(()) => Stop::FeedRefused,
-        Err(IoFault::Failed) => Stop::WriteFault,
-        Err(IoFault::NoMemory) => Stop::NoMemory,
-    }
+    put_text(line.as_slice(), out)
 }
 
 // How the run ends where the feed of that name has no header, which is said where it is refused.
@@ -78,14 +70,17 @@ fn end_of_head<O: Sink>(
     fault: NoHeader,
     out: &mut O,
 ) -> Stop
-    ensures refused { result ≡ Stop.FeedRefused → (f : HeadFault) × (fault ≡ NoHeader.Refused f) × Puts (seen_sink O.held O.faults O.name) out.old out.new (head_line schema.now name.now f) }
-    ensures unsaid { result ≡ Stop.WriteFault → (f : HeadFault) × (fault ≡ NoHeader.Refused f) × FailsToPut (seen_sink O.held O.faults O.name) out.old out.new (head_line schema.now name.now f) }
+    ensures refused { result ≡ Stop.FeedRefused → SaysHeadFault schema.now name.now fault (Puts (of_sink O.Sink) out.old out.new) }
+    ensures unsaid { result ≡ Stop.WriteFault → SaysHeadFault schema.now name.now fault (FailsToPut (of_sink O.Sink) out.old out.new) }
     ensures read { (result ≡ Stop.ReadFault → fault ≡ NoHeader.Read) × (fault ≡ NoHeader.Read → result ≡ Stop.ReadFault) }
-    ensures silent { result ≢ Stop.FeedRefused → result ≢ Stop.WriteFault → Silent (seen_sink O.held O.faults O.name) out.old out.new }
+    ensures silent { result ≢ Stop.FeedRefused → result ≢ Stop.WriteFault → Silent (of_sink O.Sink) out.old out.new }
     ensures ends { result ≢ Stop.PlanRefused }
 {
     match fault {
-        NoHeader::Refused(fault) => refuse_feed(alloc, schema, name, fault, out),
+        NoHeader::Refused(fault) => match say_header(alloc, schema, name, fault, out) {
+            Ok(()) => Stop::FeedRefused,
+            Err(stop) => stop,
+        },
         NoHeader::Read => Stop::ReadFault,
         NoHeader::NoMemory => Stop::NoMemory,
     }
@@ -99,7 +94,7 @@ fn open_feed<P: Place, O: Sink>(
     place: &mut P,
     out: &mut O,
 ) -> Result<HeadedFeed<LineCutter<P::In>>, Stop>
-    ensures opens { OpensFeeds (seen_place P.files P.read_faults P.write_faults P.opened P.created) (seen_sink O.held O.faults O.name) schema.now place.old place.new out.old out.new (name.now ∷ []) (result_err result) }
+    ensures opens { OpensFeeds (of_place P.Place) (of_sink O.Sink) schema.now place.old place.new out.old out.new (name.now ∷ []) (result_err result) }
     ensures feed { IfOk result (IsHeaded P.In.left P.In.faults schema.now (file_of (P.files place.old) name.now)) }
     ensures quiet { IfOk result (λ feed. P.In.faults feed.cutter.source ≡ 0) }
 {
@@ -127,8 +122,8 @@ fn open_each<P: Place, O: Sink>(
 ) -> Result<(), Stop>
     requires empty { (feeds.old.items ≡ []) × (vec_len feeds.old ≡ 0) }
     requires room { length names.now ≤ vec_capacity feeds.old }
-    ensures opens { OpensFeeds (seen_place P.files P.read_faults P.write_faults P.opened P.created) (seen_sink O.held O.faults O.name) schema.now place.old place.new out.old out.new names.now (result_err result) }
-    ensures feeds { OnOk result (AllZip (λ name. IsHeaded P.In.left P.In.faults schema.now (file_of (P.files place.old) name)) names.now feeds.new.items) }
+    ensures opens { OpensFeeds (of_place P.Place) (of_sink O.Sink) schema.now place.old place.new out.old out.new names.now (result_err result) }
+    ensures feeds { OnOk result (AreHeaded P.In.left P.In.faults schema.now (P.files place.old) names.now feeds.new.items) }
     ensures quiet { All (λ feed. P.In.faults feed.cutter.source ≡ 0) feeds.new.items }
 {
     for name in names {
@@ -147,8 +142,8 @@ pub fn open_feeds<P: Place, O: Sink>(
     place: &mut P,
     out: &mut O,
 ) -> Result<List<HeadedFeed<LineCutter<P::In>>>, Stop>
-    ensures opens { OpensFeeds (seen_place P.files P.read_faults P.write_faults P.opened P.created) (seen_sink O.held O.faults O.name) schema.now place.old place.new out.old out.new names.now (result_err result) }
-    ensures feeds { IfOk result (AllZip (λ name. IsHeaded P.In.left P.In.faults schema.now (file_of (P.files place.old) name)) names.now) }
+    ensures opens { OpensFeeds (of_place P.Place) (of_sink O.Sink) schema.now place.old place.new out.old out.new names.now (result_err result) }
+    ensures feeds { IfOk result (AreHeaded P.In.left P.In.faults schema.now (P.files place.old) names.now) }
     ensures quiet { IfOk result (All (λ feed. P.In.faults feed.cutter.source ≡ 0)) }
 {
     let Ok(mut feeds) = Vec::with_capacity(alloc, names.len()) else {

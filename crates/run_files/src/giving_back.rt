@@ -1,7 +1,7 @@
 //! Parts given back to their place, in the order in which they were made. A failure stops none of the later ones.
 ghost use Rattle.std.specs.Prelude.{map};
 ghost use Rattle.run_files.specs.GivingBack.{TakesSinks, TakesSources};
-ghost use Rattle.run_files.specs.Outside.{seen_place, seen_sink};
+ghost use Rattle.run_files.specs.Outside.{of_place, of_sink};
 
 use crate::stop::write_end;
 use crate::{HeadedFeed, Stop, joined_ends};
@@ -9,7 +9,7 @@ use outer_io::{LineCutter, Place};
 
 /// Gives sources back.
 pub fn give_back_sources<P: Place>(place: &mut P, mut sources: Vec<P::In>)
-    ensures { TakesSources (seen_place P.files P.read_faults P.write_faults P.opened P.created) place.old place.new (map P.In.faults sources.items) }
+    ensures { TakesSources (of_place P.Place) place.old place.new (map P.In.faults sources.items) }
 {
     let Some(last) = sources.pop() else {
         sources.destroy_empty();
@@ -21,7 +21,7 @@ pub fn give_back_sources<P: Place>(place: &mut P, mut sources: Vec<P::In>)
 
 /// Gives the sources of cutters back.
 pub fn give_back_cutters<P: Place>(place: &mut P, mut cutters: Vec<LineCutter<P::In>>)
-    ensures { TakesSources (seen_place P.files P.read_faults P.write_faults P.opened P.created) place.old place.new (map (λ c. P.In.faults c.source) cutters.items) }
+    ensures { TakesSources (of_place P.Place) place.old place.new (map (λ c. P.In.faults c.source) cutters.items) }
 {
     let Some(last) = cutters.pop() else {
         cutters.destroy_empty();
@@ -33,7 +33,7 @@ pub fn give_back_cutters<P: Place>(place: &mut P, mut cutters: Vec<LineCutter<P:
 
 /// Gives the sources of feeds back.
 pub fn give_back_feeds<P: Place>(place: &mut P, mut feeds: Vec<HeadedFeed<LineCutter<P::In>>>)
-    ensures { TakesSources (seen_place P.files P.read_faults P.write_faults P.opened P.created) place.old place.new (map (λ f. P.In.faults f.cutter.source) feeds.items) }
+    ensures { TakesSources (of_place P.Place) place.old place.new (map (λ f. P.In.faults f.cutter.source) feeds.items) }
 {
     let Some(last) = feeds.pop() else {
         feeds.destroy_empty();
@@ -46,7 +46,7 @@ pub fn give_back_feeds<P: Place>(place: &mut P, mut feeds: Vec<HeadedFeed<LineCu
 
 /// Gives sinks back, and says how that ended: by what comes first in the order of what went wrong.
 pub fn give_back_sinks<P: Place>(place: &mut P, mut sinks: Vec<P::Out>) -> Result<(), Stop>
-    ensures { TakesSinks (seen_place P.files P.read_faults P.write_faults P.opened P.created) (seen_sink P.Out.held P.Out.faults P.Out.name) place.old place.new sinks.items result }
+    ensures { TakesSinks (of_place P.Place) (of_sink P.Out.Sink) place.old place.new sinks.items result }
 {
     let Some(last) = sinks.pop() else {
         sinks.destroy_empty();

@@ -5,7 +5,8 @@
 //! gives back all that it made, and says by a [`Stop`] how the run ends. Afterwards the parts go back to their place by
 //! [`give_back_feeds`], [`give_back_cutters`], [`give_back_sources`] and [`give_back_sinks`], where a failure stops none of
 //! the later ones. What each stage leaves of the place is one record, `LeavesPlace` of `specs/Leaving.antt`, which two
-//! stages after each other meet together by the laws of `proofs/Stages.antt`.
+//! stages after each other meet together by the laws of `proofs/Stages.antt`. [`put_text`] puts what a run says: what that
+//! leaves of a sink, and how it ends a run, is `SaysText` of `specs/Saying.antt`.
 //!
 //! It stands on `outer_io` for places and their parts, `cube_schema` for plans, `feed_reader` for headers and
 //! `run_report` for the lines of what is refused. What runs between opening and giving back, what is written to the
@@ -21,11 +22,13 @@
 mod feeds;
 mod giving_back;
 mod loading;
+mod saying;
 mod scripts;
 mod stop;
 
 pub use feeds::{HeadedFeed, open_feeds};
 pub use giving_back::{give_back_cutters, give_back_feeds, give_back_sinks, give_back_sources};
 pub use loading::{load_plan, read_file};
+pub use saying::put_text;
 pub use scripts::{ScriptParts, create_file, open_scripts};
 pub use stop::{Stop, ended_after, joined_ends, read_end, stop_of_cut, stop_of_session, write_end};

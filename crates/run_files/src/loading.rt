@@ -4,7 +4,7 @@ ghost use Rattle.std.specs.Result.{result_err};
 ghost use Rattle.outer_io.specs.Told.{Told};
 ghost use Rattle.run_report.specs.Lines.{plan_line};
 ghost use Rattle.run_files.specs.Leaving.{LeavesPlace};
-ghost use Rattle.run_files.specs.Outside.{FailsToPut, file_of, Puts, seen_place, seen_sink, Silent};
+ghost use Rattle.run_files.specs.Outside.{file_of, of_place, of_sink, PutsOrFails, Silent};
 ghost use Rattle.run_files.specs.Planned.{ReadsPlan};
 
 use crate::Stop;
@@ -24,7 +24,7 @@ pub fn read_file<P: Place>(
     most: usize,
     place: &mut P,
 ) -> Result<List<u8>, Stop>
-    ensures leaves { LeavesPlace (seen_place P.files P.read_faults P.write_faults P.opened P.created) place.old place.new (name.now ∷ []) [] (result_err result) }
+    ensures leaves { LeavesPlace (of_place P.Place) place.old place.new (name.now ∷ []) [] (result_err result) }
     ensures read { result ≡ Err Stop.ReadFault → P.opened place.new ≡ P.opened place.old ++ name.now ∷ [] }
     ensures bytes { IfOk result (λ bytes. Told (file_of (P.files place.old) name.now) (λ all. bytes ≡ take (most + 1) all)) }
     ensures ends { IfErr result (λ end. (end ≢ Stop.PlanRefused) × (end ≢ Stop.WriteFault) × (end ≢ Stop.FeedRefused)) }
@@ -42,8 +42,8 @@ pub fn read_file<P: Place>(
 
 // Puts the line of a plan that is refused, and says how the run ends.
 fn refuse_plan<O: Sink>(alloc: Global, fault: &PlanFault, out: &mut O) -> Stop
-    ensures refused { result ≡ Stop.PlanRefused → Puts (seen_sink O.held O.faults O.name) out.old out.new (plan_line fault.now) ⊎ FailsToPut (seen_sink O.held O.faults O.name) out.old out.new (plan_line fault.now) }
-    ensures silent { result ≡ Stop.NoMemory → Silent (seen_sink O.held O.faults O.name) out.old out.new }
+    ensures refused { result ≡ Stop.PlanRefused → PutsOrFails (of_sink O.Sink) out.old out.new (plan_line fault.now) }
+    ensures silent { result ≡ Stop.NoMemory → Silent (of_sink O.Sink) out.old out.new }
     ensures ends { (result ≡ Stop.PlanRefused) ⊎ (result ≡ Stop.NoMemory) }
 {
     let Ok(line) = plan_refused(alloc, fault) else {
@@ -57,7 +57,7 @@ fn refuse_plan<O: Sink>(alloc: Global, fault: &PlanFault, out: &mut O) -> Stop
 
 // The plan that the bytes are, or how the run ends.
 fn plan_of<O: Sink>(alloc: Global, bytes: &[u8], out: &mut O) -> Result<Plan, Stop>
-    ensures plan { ReadsPlan (seen_sink O.held O.faults O.name) out.old out.new (Some bytes.now) result }
+    ensures plan { ReadsPlan (of_sink O.Sink) out.old out.new (Some bytes.now) result }
     ensures no_read { result ≢ Err Stop.ReadFault }
 {
     match read_plan(alloc, bytes) {
@@ -74,9 +74,9 @@ pub fn load_plan<P: Place, O: Sink>(
     place: &mut P,
     out: &mut O,
 ) -> Result<Plan, Stop>
-    ensures leaves { LeavesPlace (seen_place P.files P.read_faults P.write_faults P.opened P.created) place.old place.new (name.now ∷ []) [] (result_err result) }
+    ensures leaves { LeavesPlace (of_place P.Place) place.old place.new (name.now ∷ []) [] (result_err result) }
     ensures read { result ≡ Err Stop.ReadFault → P.opened place.new ≡ P.opened place.old ++ name.now ∷ [] }
-    ensures plan { ReadsPlan (seen_sink O.held O.faults O.name) out.old out.new (file_of (P.files place.old) name.now) result }
+    ensures plan { ReadsPlan (of_sink O.Sink) out.old out.new (file_of (P.files place.old) name.now) result }
 {
     let bytes = read_file(alloc, name, LONGEST_PLAN, place)?;
     plan_of(alloc, bytes.as_slice(), out)

@@ -5,8 +5,8 @@ ghost use Rattle.cube_schema.specs.Files.{output_names};
 ghost use Rattle.cube_schema.specs.Repeats.{outputs};
 ghost use Rattle.std.specs.List.{AllZip};
 ghost use Rattle.outer_io.specs.Files.{HasFile};
-ghost use Rattle.run_files.specs.Outside.{file_of, seen_place, seen_sink};
-ghost use Rattle.run_files.specs.Scripted.{ArePartsOf, IsOutput, IsScript, OpensScripts};
+ghost use Rattle.run_files.specs.Outside.{file_of, of_place, of_sink};
+ghost use Rattle.run_files.specs.Scripted.{ArePartsOf, AreScripts, IsOutput, IsScript, OpensScripts};
 
 use crate::giving_back::{give_back_cutters, give_back_sinks};
 use crate::{Stop, ended_after};
@@ -29,7 +29,7 @@ fn open_script<P: Place>(
     name: &str,
     place: &mut P,
 ) -> Result<LineCutter<P::In>, Stop>
-    ensures opens { OpensScripts (seen_place P.files P.read_faults P.write_faults P.opened P.created) place.old place.new (name.now ∷ []) [] (result_err result) }
+    ensures opens { OpensScripts (of_place P.Place) place.old place.new (name.now ∷ []) [] (result_err result) }
     ensures script { IfOk result (IsScript P.In.left P.In.faults (file_of (P.files place.old) name.now)) }
 {
     match place.open(name) {
@@ -54,8 +54,8 @@ fn open_each<P: Place>(
 ) -> Result<(), Stop>
     requires empty { (scripts.old.items ≡ []) × (vec_len scripts.old ≡ 0) }
     requires room { length names.now ≤ vec_capacity scripts.old }
-    ensures opens { OpensScripts (seen_place P.files P.read_faults P.write_faults P.opened P.created) place.old place.new names.now [] (result_err result) }
-    ensures scripts { OnOk result (AllZip (λ name. IsScript P.In.left P.In.faults (file_of (P.files place.old) name)) names.now scripts.new.items) }
+    ensures opens { OpensScripts (of_place P.Place) place.old place.new names.now [] (result_err result) }
+    ensures scripts { OnOk result (AreScripts P.In.left P.In.faults (P.files place.old) names.now scripts.new.items) }
     ensures quiet { All (λ script. P.In.faults script.source ≡ 0) scripts.new.items }
 {
     for name in names {
@@ -67,9 +67,9 @@ fn open_each<P: Place>(
 
 /// The sink of that name, created, or how the run ends.
 pub fn create_file<P: Place>(name: &str, place: &mut P) -> Result<P::Out, Stop>
-    ensures opens { OpensScripts (seen_place P.files P.read_faults P.write_faults P.opened P.created) place.old place.new [] (name.now ∷ []) (result_err result) }
+    ensures opens { OpensScripts (of_place P.Place) place.old place.new [] (name.now ∷ []) (result_err result) }
     ensures no_read { result ≢ Err Stop.ReadFault }
-    ensures output { IfOk result (IsOutput (seen_sink P.Out.held P.Out.faults P.Out.name) (P.files place.old) name.now) }
+    ensures output { IfOk result (IsOutput (of_sink P.Out.Sink) (P.files place.old) name.now) }
 {
     match place.create(name) {
         Ok(sink) => Ok(sink),
@@ -90,9 +90,9 @@ fn output_name(alloc: Global, name: &str) -> Result<Text, NoMemory>
 
 // The sink for the replies to the script of that name, created, or how the run ends.
 fn create_output<P: Place>(alloc: Global, script: &str, place: &mut P) -> Result<P::Out, Stop>
-    ensures opens { OpensScripts (seen_place P.files P.read_faults P.write_faults P.opened P.created) place.old place.new [] (outputs (script.now ∷ [])) (result_err result) }
+    ensures opens { OpensScripts (of_place P.Place) place.old place.new [] (outputs (script.now ∷ [])) (result_err result) }
     ensures no_read { result ≢ Err Stop.ReadFault }
-    ensures output { IfOk result (IsOutput (seen_sink P.Out.held P.Out.faults P.Out.name) (P.files place.old) (script.now ++ codes ".out")) }
+    ensures output { IfOk result (IsOutput (of_sink P.Out.Sink) (P.files place.old) (script.now ++ codes ".out")) }
 {
     match output_name(alloc, script) {
         Ok(name) => create_file(name.as_str(), place),
@@ -109,12 +109,12 @@ fn create_each<P: Place>(
 ) -> Result<(), Stop>
     requires empty { (sinks.old.items ≡ []) × (vec_len sinks.old ≡ 0) }
     requires room { length scripts.now ≤ vec_capacity sinks.old }
-    ensures opens { OpensScripts (seen_place P.files P.read_faults P.write_faults P.opened P.created) place.old place.new [] (outputs scripts.now) (result_err result) }
+    ensures opens { OpensScripts (of_place P.Place) place.old place.new [] (outputs scripts.now) (result_err result) }
     ensures no_read { result ≢ Err Stop.ReadFault }
     ensures hold_nothing { IsSome (P.files place.old) → All (λ sink. P.Out.held sink ≡ Some []) sinks.new.items }
     ensures names { (rest : List (List ℕ)) × (P.created place.new ≡ P.created place.old ++ (map P.Out.name sinks.new.items ++ rest)) }
     ensures quiet { All (λ sink. P.Out.faults sink ≡ 0) sinks.new.items }
-    ensures outputs { OnOk result (AllZip (IsOutput (seen_sink P.Out.held P.Out.faults P.Out.name) (P.files place.old)) (outputs scripts.now) sinks.new.items) }
+    ensures outputs { OnOk result (AllZip (IsOutput (of_sink P.Out.Sink) (P.files place.old)) (outputs scripts.now) sinks.new.items) }
 {
     for script in scripts {
         let sink = create_output(alloc, script.as_str(), place)?;
@@ -130,8 +130,8 @@ fn open_list<P: Place>(
     names: &[Text],
     place: &mut P,
 ) -> Result<List<LineCutter<P::In>>, Stop>
-    ensures opens { OpensScripts (seen_place P.files P.read_faults P.write_faults P.opened P.created) place.old place.new names.now [] (result_err result) }
-    ensures scripts { IfOk result (AllZip (λ name. IsScript P.In.left P.In.faults (file_of (P.files place.old) name)) names.now) }
+    ensures opens { OpensScripts (of_place P.Place) place.old place.new names.now [] (result_err result) }
+    ensures scripts { IfOk result (AreScripts P.In.left P.In.faults (P.files place.old) names.now) }
     ensures quiet { IfOk result (All (λ script. P.In.faults script.source ≡ 0)) }
 {
     let Ok(mut scripts) = Vec::with_capacity(alloc, names.len()) else {
@@ -153,9 +153,9 @@ fn create_list<P: Place>(
     scripts: &[Text],
     place: &mut P,
 ) -> Result<List<P::Out>, Stop>
-    ensures opens { OpensScripts (seen_place P.files P.read_faults P.write_faults P.opened P.created) place.old place.new [] (outputs scripts.now) (result_err result) }
+    ensures opens { OpensScripts (of_place P.Place) place.old place.new [] (outputs scripts.now) (result_err result) }
     ensures no_read { result ≢ Err Stop.ReadFault }
-    ensures outputs { IfOk result (AllZip (IsOutput (seen_sink P.Out.held P.Out.faults P.Out.name) (P.files place.old)) (outputs scripts.now)) }
+    ensures outputs { IfOk result (AllZip (IsOutput (of_sink P.Out.Sink) (P.files place.old)) (outputs scripts.now)) }
     ensures quiet { IfOk result (All (λ sink. P.Out.faults sink ≡ 0)) }
 {
     let Ok(mut sinks) = Vec::with_capacity(alloc, scripts.len()) else {
@@ -176,9 +176,9 @@ fn open_all<P: Place>(
     plan: &Plan,
     place: &mut P,
 ) -> Result<(List<LineCutter<P::In>>, List<LineCutter<P::In>>), Stop>
-    ensures opens { OpensScripts (seen_place P.files P.read_faults P.write_faults P.opened P.created) place.old place.new (plan.now.asks ++ plan.now.finals) [] (result_err result) }
-    ensures asks { IfOk result (λ lists. AllZip (λ name. IsScript P.In.left P.In.faults (file_of (P.files place.old) name)) plan.now.asks lists.0) }
-    ensures finals { IfOk result (λ lists. AllZip (λ name. IsScript P.In.left P.In.faults (file_of (P.files place.old) name)) plan.now.finals lists.1) }
+    ensures opens { OpensScripts (of_place P.Place) place.old place.new (plan.now.asks ++ plan.now.finals) [] (result_err result) }
+    ensures asks { IfOk result (λ lists. AreScripts P.In.left P.In.faults (P.files place.old) plan.now.asks lists.0) }
+    ensures finals { IfOk result (λ lists. AreScripts P.In.left P.In.faults (P.files place.old) plan.now.finals lists.1) }
     ensures quiet { IfOk result (λ lists. All (λ script. P.In.faults script.source ≡ 0) lists.0 × All (λ script. P.In.faults script.source ≡ 0) lists.1) }
 {
     let asks = open_list(alloc, plan.asks.as_slice(), place)?;
@@ -197,10 +197,10 @@ fn create_replies<P: Place>(
     plan: &Plan,
     place: &mut P,
 ) -> Result<(List<P::Out>, List<P::Out>), Stop>
-    ensures opens { OpensScripts (seen_place P.files P.read_faults P.write_faults P.opened P.created) place.old place.new [] (outputs plan.now.asks ++ outputs plan.now.finals) (result_err result) }
+    ensures opens { OpensScripts (of_place P.Place) place.old place.new [] (outputs plan.now.asks ++ outputs plan.now.finals) (result_err result) }
     ensures no_read { result ≢ Err Stop.ReadFault }
-    ensures asks { IfOk result (λ lists. AllZip (IsOutput (seen_sink P.Out.held P.Out.faults P.Out.name) (P.files place.old)) (outputs plan.now.asks) lists.0) }
-    ensures finals { IfOk result (λ lists. AllZip (IsOutput (seen_sink P.Out.held P.Out.faults P.Out.name) (P.files place.old)) (outputs plan.now.finals) lists.1) }
+    ensures asks { IfOk result (λ lists. AllZip (IsOutput (of_sink P.Out.Sink) (P.files place.old)) (outputs plan.now.asks) lists.0) }
+    ensures finals { IfOk result (λ lists. AllZip (IsOutput (of_sink P.Out.Sink) (P.files place.old)) (outputs plan.now.finals) lists.1) }
 {
     let asks = create_list(alloc, plan.asks.as_slice(), place)?;
     match create_list(alloc, plan.finals.as_slice(), place) {
@@ -218,11 +218,11 @@ fn create_all<P: Place>(
     plan: &Plan,
     place: &mut P,
 ) -> Result<(List<P::Out>, List<P::Out>, P::Out), Stop>
-    ensures opens { OpensScripts (seen_place P.files P.read_faults P.write_faults P.opened P.created) place.old place.new [] (output_names plan.now) (result_err result) }
+    ensures opens { OpensScripts (of_place P.Place) place.old place.new [] (output_names plan.now) (result_err result) }
     ensures no_read { result ≢ Err Stop.ReadFault }
-    ensures asks { IfOk result (λ made. AllZip (IsOutput (seen_sink P.Out.held P.Out.faults P.Out.name) (P.files place.old)) (outputs plan.now.asks) made.0) }
-    ensures finals { IfOk result (λ made. AllZip (IsOutput (seen_sink P.Out.held P.Out.faults P.Out.name) (P.files place.old)) (outputs plan.now.finals) made.1) }
-    ensures journal { IfOk result (λ made. IsOutput (seen_sink P.Out.held P.Out.faults P.Out.name) (P.files place.old) plan.now.journal made.2) }
+    ensures asks { IfOk result (λ made. AllZip (IsOutput (of_sink P.Out.Sink) (P.files place.old)) (outputs plan.now.asks) made.0) }
+    ensures finals { IfOk result (λ made. AllZip (IsOutput (of_sink P.Out.Sink) (P.files place.old)) (outputs plan.now.finals) made.1) }
+    ensures journal { IfOk result (λ made. IsOutput (of_sink P.Out.Sink) (P.files place.old) plan.now.journal made.2) }
 {
     let (asks, finals) = create_replies(alloc, plan, place)?;
     match create_file(plan.journal.as_str(), place) {
@@ -243,8 +243,8 @@ pub fn open_scripts<P: Place>(
     plan: &Plan,
     place: &mut P,
 ) -> Result<ScriptParts<LineCutter<P::In>, P::Out>, Stop>
-    ensures opens { OpensScripts (seen_place P.files P.read_faults P.write_faults P.opened P.created) place.old place.new (plan.now.asks ++ plan.now.finals) (output_names plan.now) (result_err result) }
-    ensures parts { IfOk result (ArePartsOf P.In.left P.In.faults (seen_sink P.Out.held P.Out.faults P.Out.name) (P.files place.old) plan.now) }
+    ensures opens { OpensScripts (of_place P.Place) place.old place.new (plan.now.asks ++ plan.now.finals) (output_names plan.now) (result_err result) }
+    ensures parts { IfOk result (ArePartsOf P.In.left P.In.faults (of_sink P.Out.Sink) (P.files place.old) plan.now) }
 {
     let (asks, finals) = open_all(alloc, plan, place)?;
     match create_all(alloc, plan, place) {

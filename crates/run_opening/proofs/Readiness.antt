@@ -4,7 +4,7 @@ use Rattle.std.proofs.lemmas.List.{length-map}
 use Rattle.std.proofs.lemmas.List.Elements.{All-cons, All-nil}
 use Rattle.std.proofs.lemmas.Slice.Zip.{AllZip-long}
 use Rattle.std.specs.List.{AllZip}
-use Rattle.std.specs.Prelude.{IsOk, codes, vec_capacity}
+use Rattle.std.specs.Prelude.{codes, vec_capacity}
 use Rattle.crew_feeder.specs.declared.job.FeedJob.{FeedJob}
 use Rattle.crew_session.specs.Work.{HadNoTurn}
 use Rattle.cube_schema.specs.Files.{NamesFiles}
@@ -12,16 +12,13 @@ use Rattle.cube_schema.specs.Repeats.{outputs}
 use Rattle.cube_schema.specs.declared.plan.Plan.{Plan}
 use Rattle.cube_view.specs.declared.schema.Schema.{Schema}
 use Rattle.feed_reader.proofs.FeedStart.{new_rest}
-use Rattle.feed_reader.specs.Feeds.{feed_head}
 use Rattle.feed_reader.specs.Reading.{AcceptsRows}
 use Rattle.outer_io.proofs.ToldLaws.{Told-some}
 use Rattle.outer_io.specs.Cutting.{Cutter, IsNew, lines_left, rest_of}
 use Rattle.outer_io.specs.Files.{Files}
-use Rattle.outer_io.specs.Lines.{Line}
 use Rattle.outer_io.specs.Progress.{IsGoing}
 use Rattle.outer_io.specs.Told.{Told}
-use Rattle.run_files.proofs.Lists.{AllZip-firsts}
-use Rattle.run_files.specs.Headed.{HasHeader, IsHeaded}
+use Rattle.run_files.specs.Headed.{IsHeaded}
 use Rattle.run_files.specs.Outside.{file_of, SinkSeen}
 use Rattle.run_files.specs.Scripted.{ArePartsOf, IsOutput, IsScript}
 use Rattle.run_files.specs.declared.feeds.HeadedFeed.{HeadedFeed}
@@ -47,16 +44,7 @@ module _ {I : Type 0} (left : I → Option (List ℕ)) (faults : I → ℕ) (sch
   rows_left (Some bytes) feed h =
       Told-some (rest_of left h.reads.before) bytes (λ b. IsSomeAnd (lines_left left feed.cutter) (AcceptsRows schema feed.header.places b)) (new_rest left h.reads.before h.source bytes h.reads.made h.left_is) h.reads.accepted
 
-  head_in : (places bytes : List ℕ) (o : Option (List Line)) → IsSomeAnd o (AcceptsRows schema places bytes) → IsOk (feed_head schema bytes)
-  head_in places bytes None h = absurd h
-  head_in places bytes (Some rest) h = subst (λ r. IsOk r) (sym h.0) refl
-
-  -- a feed whose header was read has one
-  has_header : (file : Option (List ℕ)) (feed : HeadedFeed (Cutter I)) → IsHeaded left faults schema file feed → HasHeader schema file
-  has_header None feed h = tt
-  has_header (Some bytes) feed h = head_in feed.header.places bytes (lines_left left feed.cutter) (rows_left (Some bytes) feed h)
-
-  -- and is a job that is ready
+  -- it is a job that is ready
   is_job : (file : Option (List ℕ)) (feed : HeadedFeed (Cutter I)) → IsHeaded left faults schema file feed → IsJobOf left faults schema file (job_of feed)
   is_job file feed h =
       let gives = h.reads.header.2 in record {
@@ -67,9 +55,6 @@ module _ {I : Type 0} (left : I → Option (List ℕ)) (faults : I → ℕ) (sch
       }
 
   module _ (files : Option Files) where
-    pub all_headed : (names : List (List ℕ)) (feeds : List (HeadedFeed (Cutter I))) → AllZip (λ name. IsHeaded left faults schema (file_of files name)) names feeds → All (λ name. HasHeader schema (file_of files name)) names
-    all_headed = AllZip-firsts (λ name. IsHeaded left faults schema (file_of files name)) (λ name. HasHeader schema (file_of files name)) (λ name feed. has_header (file_of files name) feed)
-
     are_jobs : (names : List (List ℕ)) (feeds : List (HeadedFeed (Cutter I))) → AllZip (λ name. IsHeaded left faults schema (file_of files name)) names feeds → AllZip (λ name. IsJobOf left faults schema (file_of files name)) names (map job_of feeds)
     are_jobs [] [] all = tt
     are_jobs [] (feed ∷ feeds) all = absurd all

@@ -107,14 +107,11 @@ module _ {P O : Type 0} (p : PlaceSeen P) (s : SinkSeen O) (name : List ℕ) whe
   -- a run without a plan
   pub run_ended : (a b : P) (o o' : O) (stop : Stop) → LeavesPlace p a b (name ∷ []) [] (Some stop) → (no_plan stop ≡ no_plan ReadFault → p.opened b ≡ p.opened a ++ name ∷ []) → ReadsPlan s o o' (file_of (p.files a) name) (Err stop) → OpensRun p s a b o o' name None (Some stop)
   run_ended a b o o' stop one opened reads = record {
-    plan = None;
-    plan_is = tt;
+    planned = record { plan = None; plan_is = tt; unplanned = λ _. plan_ends stop reads.ends; refused_plan = λ e. (refl, reads.refused (same_end stop PlanRefused e)) };
     goes_on = tt;
-    unplanned = λ _. plan_ends stop reads.ends;
     leaves = one;
     first = λ e. subst (FailsAtLast p a) (append_cancel_left (p.opened a) (name ∷ []) one.opens (sym (opened (same_end stop ReadFault e)) ∙ one.opened)) (fails_at p a name);
     order = tt;
-    refused_plan = λ e. (refl, reads.refused (same_end stop PlanRefused e));
     silent = λ other _ _. reads.silent (λ e. other (same_answer stop PlanRefused e));
   }
 
@@ -128,10 +125,13 @@ module _ {P O : Type 0} (p : PlaceSeen P) (s : SinkSeen O) (name : List ℕ) whe
       let quiet : Silent s o o' = reads.silent (λ e. cc) in
       let order = order_on s plan (p.files b) (p.write_faults b) (p.write_faults c) o o' o'' two.leaves.opens two.leaves.makes stop quiet two.order in
       record {
-        plan = Some plan;
-        plan_is = reads.plan;
+        planned = record {
+          plan = Some plan;
+          plan_is = reads.plan;
+          unplanned = λ e. absurd (cc);
+          refused_plan = λ e. absurd (order_not_plan s plan (p.files b) (p.write_faults b) (p.write_faults c) o' o'' two.leaves.opens two.leaves.makes stop two.order e);
+        };
         goes_on = goes_on;
-        unplanned = λ e. absurd (cc);
         leaves = leaves_then p a b c (name ∷ []) (input_names plan) (output_names plan) stop one two.leaves;
         first = λ e. fails_on p a b one.opens two.leaves.opens one.opened (one.read_quiet (λ e. cc)) (two.first e);
         order = (
@@ -140,7 +140,6 @@ module _ {P O : Type 0} (p : PlaceSeen P) (s : SinkSeen O) (name : List ℕ) whe
           subst (λ n. OpensInOrder s plan (p.files a) n (p.write_faults c) o o'' two.leaves.opens two.leaves.makes stop) (one.unwritten nothing)
               (subst (λ (files : Option Files). OpensInOrder s plan files (p.write_faults b) (p.write_faults c) o o'' two.leaves.opens two.leaves.makes stop) same order),
         );
-        refused_plan = λ e. absurd (order_not_plan s plan (p.files b) (p.write_faults b) (p.write_faults c) o' o'' two.leaves.opens two.leaves.makes stop two.order e);
         silent = λ _ e f. silent_after s o o' o'' quiet (order_silent s plan (p.files b) (p.write_faults b) (p.write_faults c) o' o'' two.leaves.opens two.leaves.makes stop two.order e f);
       }
 

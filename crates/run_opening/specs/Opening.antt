@@ -12,10 +12,10 @@ use Rattle.outer_io.specs.Progress.{IsGoing}
 use Rattle.run_files.specs.Headed.{HasHeader, RefusesLast}
 use Rattle.run_files.specs.Leaving.{FailsAtLast, LeavesPlace}
 use Rattle.run_files.specs.Outside.{FailsToPut, file_of, PlaceSeen, Puts, Silent, SinkSeen}
-use Rattle.run_files.specs.Planned.{IsPlanOf, RefusesPlan}
+use Rattle.run_files.specs.Planned.{MayHavePlan}
 use Rattle.run_files.specs.Scripted.{IsOutput}
 use Rattle.run_files.specs.declared.stop.Stop.{Stop}
-use Rattle.run_files.specs.declared.stop.Stop.TheVariants.{NoMemory, PlanRefused, ReadFault, WriteFault, FeedRefused}
+use Rattle.run_files.specs.declared.stop.Stop.TheVariants.{PlanRefused, ReadFault, WriteFault, FeedRefused}
 use Rattle.run_opening.specs.Ready.{IsJobOf, IsSessionOf}
 use Rattle.run_opening.specs.declared.parts.RunParts.{RunParts}
 
@@ -76,19 +76,14 @@ pub record OpensFiles {P O : Type 0} (p : PlaceSeen P) (s : SinkSeen O) (place p
 -- What opening a run leaves of a place and a sink, by the plan that it goes on with, or what ends it
 pub record OpensRun {P O : Type 0} (p : PlaceSeen P) (s : SinkSeen O) (place place' : P) (out out' : O) (name : List ℕ) (goes : Option Plan) (stop : Option Stop) : Type 0 where
   -- the plan, where the file of that name was read and is one
-  pub plan : Option Plan
-  pub plan_is : IfSome plan (IsPlanOf (file_of (p.files place) name))
-  pub goes_on : IfSome goes (λ it. plan ≡ Some it)
-  -- where it is none the run ends, by want of memory, a read fault or its refusal
-  pub unplanned : plan ≡ None → (stop ≡ Some NoMemory) ⊎ (stop ≡ Some ReadFault) ⊎ (stop ≡ Some PlanRefused)
+  pub planned : MayHavePlan s out out' (file_of (p.files place) name) (λ end. stop ≡ Some end)
+  pub goes_on : IfSome goes (λ it. planned.plan ≡ Some it)
   -- it was opened first, then the plan's inputs, and then its outputs were created
-  pub leaves : LeavesPlace p place place' (name ∷ inputs_of plan) (outputs_of plan) stop
+  pub leaves : LeavesPlace p place place' (name ∷ inputs_of planned.plan) (outputs_of planned.plan) stop
   -- a read fault ends the run at the file that was opened last
   pub first : stop ≡ Some ReadFault → FailsAtLast p place leaves.opens
   -- feeds come before scripts, and what ends the run there has its cause
-  pub order : IfSome plan (λ plan. (opens : List (List ℕ)) × (leaves.opens ≡ name ∷ opens) × OpensInOrder s plan (p.files place) (p.write_faults place) (p.write_faults place') out out' opens leaves.makes stop)
-  -- a refused plan is said, and comes only where its bytes meet a fault
-  pub refused_plan : stop ≡ Some PlanRefused → (plan ≡ None) × RefusesPlan s out out' (file_of (p.files place) name)
+  pub order : IfSome planned.plan (λ plan. (opens : List (List ℕ)) × (leaves.opens ≡ name ∷ opens) × OpensInOrder s plan (p.files place) (p.write_faults place) (p.write_faults place') out out' opens leaves.makes stop)
   -- nothing else is put but what is said of a refused feed
   pub silent : stop ≢ Some PlanRefused → stop ≢ Some FeedRefused → stop ≢ Some WriteFault → Silent s out out'
 

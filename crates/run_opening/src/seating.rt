@@ -1,7 +1,7 @@
 //! Opened files become jobs and sessions. Nothing here takes memory: the room was taken before.
 ghost use Rattle.std.specs.Prelude.{◌≡◌, ◌+◌, ◌≤◌, [], map, length, vec_len, vec_capacity, All};
 ghost use Rattle.outer_io.specs.Cutting.{IsNew};
-ghost use Rattle.run_opening.specs.Seated.{job_of, sessions_of};
+ghost use Rattle.run_opening.specs.Seated.{HasSeatsFor, job_of, sessions_of};
 
 use crate::parts::RunParts;
 use crate::rooms::Rooms;
@@ -67,7 +67,7 @@ pub(crate) fn seat_parts<I: Source, O: Sink>(
 ) -> RunParts<I, O>
     requires new { All (λ script. IsNew script.source script) scripts.asks × All (λ script. IsNew script.source script) scripts.finals }
     requires pairs { (length scripts.ask_outputs ≡ length scripts.asks) × (length scripts.final_outputs ≡ length scripts.finals) }
-    requires room { (length feeds ≤ vec_capacity rooms.feeds) × (length scripts.asks ≤ vec_capacity rooms.asks) × (length scripts.finals ≤ vec_capacity rooms.finals) }
+    requires room { HasSeatsFor rooms (length feeds) (length scripts.asks) (length scripts.finals) }
     ensures feeds { result.feeds ≡ map job_of feeds }
     ensures asks { result.asks ≡ sessions_of scripts.asks scripts.ask_outputs }
     ensures finals { result.finals ≡ sessions_of scripts.finals scripts.final_outputs }

@@ -1,2 +1,2 @@
-mod Returned
+pub mod Returned
 mod Closed

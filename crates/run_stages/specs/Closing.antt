@@ -9,6 +9,7 @@ use Rattle.outer_io.specs.Files.{ChangesOnly}
 use Rattle.outer_io.specs.declared.fault.IoFault.{IoFault}
 use Rattle.run_files.specs.GivingBack.{Lands, TakesSinks, TakesSources}
 use Rattle.run_files.specs.Outside.{PlaceSeen, SinkSeen}
+use Rattle.run_files.specs.Saying.{SaysText}
 use Rattle.run_files.specs.Stops.{joined_ends, write_end}
 use Rattle.run_files.specs.declared.stop.Stop.{Stop}
 use Rattle.run_files.specs.declared.stop.Stop.TheVariants.{NoMemory}
@@ -16,7 +17,6 @@ use Rattle.run_report.specs.Journals.{PutsJournal}
 use Rattle.run_report.specs.Reports.{counts_text}
 use Rattle.run_stages.specs.Counted.{feed_counts, script_counts}
 use Rattle.run_stages.specs.Ends.{all_ends, feeds_end, sessions_end, starved_end}
-use Rattle.run_stages.specs.Said.{SaysText}
 use Rattle.run_stages.specs.declared.done.RunDone.{RunDone}
 
 -- Feeds and scripts were given back: the sources in order, and then the sinks, with this end

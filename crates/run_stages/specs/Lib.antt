@@ -1,4 +1,3 @@
 pub mod Counted
 pub mod Ends
-pub mod Said
 pub mod Closing

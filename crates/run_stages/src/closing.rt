@@ -1,10 +1,9 @@
 //! The end of a run: its journal, its parts and its report.
 ghost use Rattle.std.specs.Prelude.{◌≡◌, ◌+◌, ◌≤◌, [], ℕ, List, map, length, IfOk, vec_len, vec_capacity};
-ghost use Rattle.run_files.specs.Outside.{seen_place, seen_sink};
-ghost use Rattle.run_report.specs.Reports.{counts_text};
+ghost use Rattle.run_files.specs.Outside.{of_place, of_sink};
+ghost use Rattle.run_files.specs.Saying.{SaysText};
 ghost use Rattle.run_stages.specs.Closing.{ClosesRun, ReturnsParts, ReturnsSink};
-ghost use Rattle.run_stages.specs.Counted.{feed_counts, script_counts};
-ghost use Rattle.run_stages.specs.Said.{SaysText};
+ghost use Rattle.run_stages.specs.Counted.{feed_counts, IsReportOf, script_counts};
 
 use crate::counts::{RunCounts, all_counts};
 use crate::done::RunDone;
@@ -31,7 +30,7 @@ fn give_back_parts<P: Place>(
 ) -> (Result<RunCounts, NoMemory>, Result<(), Stop>)
     requires empty { (room.items ≡ []) × (vec_len room ≡ 0) }
     requires room { length asks + length finals ≤ vec_capacity room }
-    ensures back { ReturnsParts (seen_place P.files P.read_faults P.write_faults P.opened P.created) (seen_sink P.Out.held P.Out.faults P.Out.name) P.In.faults place.old place.new feeds asks finals result.1 }
+    ensures back { ReturnsParts (of_place P.Place) (of_sink P.Out.Sink) P.In.faults place.old place.new feeds asks finals result.1 }
     ensures feeds { IfOk result.0 (λ counts. counts.feeds.items ≡ map feed_counts feeds) }
     ensures asks { IfOk result.0 (λ counts. counts.asks.items ≡ map script_counts asks) }
     ensures finals { IfOk result.0 (λ counts. counts.finals.items ≡ map script_counts finals) }
@@ -45,7 +44,7 @@ fn give_back_parts<P: Place>(
 
 /// Gives the journal's sink back.
 fn give_back_journal<P: Place>(place: &mut P, sink: P::Out) -> Result<(), IoFault>
-    ensures { ReturnsSink (seen_place P.files P.read_faults P.write_faults P.opened P.created) (seen_sink P.Out.held P.Out.faults P.Out.name) place.old place.new sink result }
+    ensures { ReturnsSink (of_place P.Place) (of_sink P.Out.Sink) place.old place.new sink result }
 {
     place.give_back_out(sink)
 }
@@ -60,7 +59,7 @@ fn say_run<O: Sink>(
     journal: Result<(), Stop>,
     out: &mut O,
 ) -> Result<(), Stop>
-    ensures said { (text : List ℕ) → IfOk counts (λ c. counts_text plan.now c.feeds.items c.asks.items c.finals.items closed count ≡ text) → SaysText (seen_sink O.held O.faults O.name) out.old out.new text result }
+    ensures said { (text : List ℕ) → IsReportOf plan.now closed count counts text → SaysText (of_sink O.Sink) out.old out.new text result }
     ensures unsaid { journal ≡ Err Stop.NoMemory → result ≡ Err Stop.NoMemory }
 {
     if let Err(Stop::NoMemory) = journal {
@@ -94,7 +93,7 @@ pub fn close_run<P: Place, O: Sink>(
 ) -> Result<(), Stop>
     requires empty { (room.items ≡ []) × (vec_len room ≡ 0) }
     requires room { length done.asks + length done.finals ≤ vec_capacity room }
-    ensures { ClosesRun plan.now done (seen_place P.files P.read_faults P.write_faults P.opened P.created) (seen_sink P.Out.held P.Out.faults P.Out.name) (seen_sink O.held O.faults O.name) P.In.faults place.old place.new out.old out.new result }
+    ensures { ClosesRun plan.now done (of_place P.Place) (of_sink P.Out.Sink) (of_sink O.Sink) P.In.faults place.old place.new out.old out.new result }
 {
     let threads = threads_end(&done);
     let RunDone {

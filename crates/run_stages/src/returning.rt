@@ -1,7 +1,7 @@
 //! The sources of feeds and scripts given back, with what was counted of them.
 ghost use Rattle.std.specs.Prelude.{◌≡◌, ◌+◌, ◌≤◌, ◌++◌, map, IfOk, vec_len, vec_capacity};
 ghost use Rattle.run_files.specs.GivingBack.{TakesSources};
-ghost use Rattle.run_files.specs.Outside.{seen_place};
+ghost use Rattle.run_files.specs.Outside.{of_place};
 ghost use Rattle.run_stages.specs.Counted.{feed_counts, script_counts};
 
 use crate::counts::with_one_more;
@@ -17,7 +17,7 @@ pub(crate) fn give_back_fed<P: Place>(
     place: &mut P,
     mut feeds: Vec<FeedDone<P::In>>,
 ) -> Result<Vec<FeedCounts>, NoMemory>
-    ensures back { TakesSources (seen_place P.files P.read_faults P.write_faults P.opened P.created) place.old place.new (map (λ f. P.In.faults f.source) feeds.items) }
+    ensures back { TakesSources (of_place P.Place) place.old place.new (map (λ f. P.In.faults f.source) feeds.items) }
     ensures counts { IfOk result (λ counts. counts.items ≡ map feed_counts feeds.items) }
 {
     let Some(last) = feeds.pop() else {
@@ -52,7 +52,7 @@ pub(crate) fn give_back_scripts<P: Place>(
     sinks: Vec<P::Out>,
 ) -> (Vec<P::Out>, Result<Vec<ScriptCounts>, NoMemory>)
     requires { vec_len sinks + vec_len sessions ≤ vec_capacity sinks }
-    ensures back { TakesSources (seen_place P.files P.read_faults P.write_faults P.opened P.created) place.old place.new (map (λ s. P.In.faults s.source) sessions.items) }
+    ensures back { TakesSources (of_place P.Place) place.old place.new (map (λ s. P.In.faults s.source) sessions.items) }
     ensures sinks { result.0.items ≡ sinks.items ++ map (λ s. s.sink) sessions.items }
     ensures counts { IfOk result.1 (λ counts. counts.items ≡ map script_counts sessions.items) }
     ensures room { (vec_len result.0 ≡ vec_len sinks + vec_len sessions) × (vec_capacity sinks ≤ vec_capacity result.0) }

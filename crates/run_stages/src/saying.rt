@@ -1,11 +1,11 @@
 //! The report of a run, put.
+ghost use Rattle.run_files.specs.Outside.{of_sink};
+ghost use Rattle.run_files.specs.Saying.{SaysText};
 ghost use Rattle.run_report.specs.Reports.{counts_text};
-ghost use Rattle.run_files.specs.Outside.{seen_sink};
-ghost use Rattle.run_stages.specs.Said.{SaysText};
 
 use cube_schema::Plan;
-use outer_io::{IoFault, Sink};
-use run_files::Stop;
+use outer_io::Sink;
+use run_files::{Stop, put_text};
 use run_report::{FeedCounts, ScriptCounts, report};
 use std::alloc::Global;
 
@@ -20,14 +20,10 @@ pub(crate) fn put_report<O: Sink>(
     count: u64,
     out: &mut O,
 ) -> Result<(), Stop>
-    ensures { SaysText (seen_sink O.held O.faults O.name) out.old out.new (counts_text plan.now feeds.now asks.now finals.now closed count) result }
+    ensures { SaysText (of_sink O.Sink) out.old out.new (counts_text plan.now feeds.now asks.now finals.now closed count) result }
 {
     let Ok(text) = report(alloc, plan, feeds, asks, finals, closed, count) else {
         return Err(Stop::NoMemory);
     };
-    match out.put(text.as_slice()) {
-        Ok(()) => Ok(()),
-        Err(IoFault::Failed) => Err(Stop::WriteFault),
-        Err(IoFault::NoMemory) => Err(Stop::NoMemory),
-    }
+    put_text(text.as_slice(), out)
 }

@@ -14,7 +14,6 @@ use Rattle.cube_view.specs.declared.schema.Schema.{Schema}
 use Rattle.feed_reader.proofs.FeedLaws.{headless_refused, refused_by_size}
 use Rattle.feed_reader.specs.Accepting.{AcceptsSound}
 use Rattle.feed_reader.specs.Feeds.{feed_head, is_feed_refused}
-use Rattle.image_run.specs.Ends.{IsOrLacks}
 use Rattle.image_run.specs.declared.end.ImageEnd.TheVariants.{Done, Refused}
 use Rattle.outer_io.specs.Cutting.{Cutter}
 use Rattle.outer_io.specs.Faults.{Rose}
@@ -34,7 +33,7 @@ use Rattle.run_files.specs.Headed.{IsHeaded, OpensFeeds, RefusesLast}
 use Rattle.run_files.specs.Leaving.{LeavesPlace}
 use Rattle.run_files.specs.Outside.{FailsToPut, file_of, PlaceSeen, Puts, PutsOrFails, Silent, SinkSeen}
 use Rattle.run_files.specs.Planned.{IsPlanOf, ReadsPlan, RefusesPlan}
-use Rattle.run_files.specs.Stops.{stop_of_cut}
+use Rattle.run_files.specs.Stops.{IsOrLacks, stop_of_cut}
 use Rattle.run_files.specs.declared.feeds.HeadedFeed.{HeadedFeed}
 use Rattle.run_files.specs.declared.stop.Stop.{Stop}
 use Rattle.run_files.specs.declared.stop.Stop.TheVariants as stop
@@ -43,6 +42,7 @@ use Rattle.save_run.proofs.Fed.{any_large, are_fed}
 use Rattle.save_run.proofs.Records.{are_records}
 use Rattle.save_run.proofs.Stood.{End, Stood}
 use Rattle.save_run.specs.Ends.{CreatesNone, feeds_of, AtEntry, SaveEnds, SaysHeader, SaysOfSave}
+use Rattle.save_run.specs.Names.{saving}
 use Rattle.save_run.specs.Reading.{taken_end, ReadsFeeds}
 use Rattle.save_run.specs.Saved.{AreTaken, HasLongFeed}
 
@@ -83,18 +83,15 @@ module _ {P O : Type 0} (p : PlaceSeen P) (s : SinkSeen O) where
     ended_early : (plan : Option Plan) (k : Stop) → LeavesPlace p a b (name ∷ feeds_of plan) [] (Some k) → IfSome plan (IsPlanOf (file_of (p.files a) name))
         → (plan ≡ None → (◌≡◌ {A = End} (Err k) (Err stop.NoMemory)) ⊎ (◌≡◌ {A = End} (Err k) (Err stop.ReadFault)) ⊎ (◌≡◌ {A = End} (Err k) (Err stop.PlanRefused)))
         → (k ≡ stop.PlanRefused → (plan ≡ None) × RefusesPlan s out out' (file_of (p.files a) name))
-        → (k ≡ stop.FeedRefused → (which : Plan) × (plan ≡ Some which) × CreatesNone p s a b out out' name image × (SaysHeader p s a b out out' name image which (Puts s out out') ⊎ (Silent s out out' × AtEntry p s a b out out' name image (HasLongFeed which))))
-        → SaysOfSave p s a b out out' name image plan
+        → (k ≡ stop.FeedRefused → (which : Plan) × (plan ≡ Some which) × CreatesNone p s a b out out' (saving name image) × (SaysHeader p s a b out out' (saving name image) which (Puts s out out') ⊎ (Silent s out out' × AtEntry p s a b out out' (saving name image) (HasLongFeed which))))
+        → SaysOfSave p s a b out out' (saving name image) plan
         → (k ≡ stop.WriteFault → Rose (s.faults out) (s.faults out'))
-        → (¬ Rose (p.read_faults a) (p.read_faults b) → ¬ Rose (s.faults out) (s.faults out') → IfSome plan (λ which. AtEntry p s a b out out' name image (λ files. AreTaken which files → IsOrLacks Done (Err k) ⊎ IsOrLacks Refused (Err k))))
-        → SaveEnds p s a b out out' name image (Err k)
+        → (¬ Rose (p.read_faults a) (p.read_faults b) → ¬ Rose (s.faults out) (s.faults out') → IfSome plan (λ which. AtEntry p s a b out out' (saving name image) (λ files. AreTaken which files → IsOrLacks Done (Err k) ⊎ IsOrLacks Refused (Err k))))
+        → SaveEnds p s a b out out' (saving name image) (Err k)
     ended_early plan k leaves plan_is unplanned refused_plan refused said write complete =
         let stays = same_created p a b (name ∷ feeds_of plan) (Some k) leaves in
         record {
-          plan = plan;
-          plan_is = plan_is;
-          unplanned = unplanned;
-          refused_plan = λ e. refused_plan (err_is k stop.PlanRefused e);
+          planned = record { plan = plan; plan_is = plan_is; unplanned = unplanned; refused_plan = λ e. refused_plan (err_is k stop.PlanRefused e) };
           done = λ e. cc;
           refused_image = λ e. cc;
           refused = λ e. refused (err_is k stop.FeedRefused e);
@@ -122,7 +119,7 @@ module _ {P O : Type 0} (p : PlaceSeen P) (s : SinkSeen O) where
 
     -- ---- the plan was refused, or was not read
 
-    pub ended_by_plan : (k : Stop) → LeavesPlace p a b (name ∷ []) [] (Some k) → ReadsPlan s out out' (file_of (p.files a) name) (Err k) → SaveEnds p s a b out out' name image (Err k)
+    pub ended_by_plan : (k : Stop) → LeavesPlace p a b (name ∷ []) [] (Some k) → ReadsPlan s out out' (file_of (p.files a) name) (Err k) → SaveEnds p s a b out out' (saving name image) (Err k)
     ended_by_plan k leaves reads =
         ended_early None k leaves tt (λ e. plan_end k reads.ends) (λ e. (refl, reads.refused (ap (λ l. Err l) e))) (λ e. absurd (reads.ends.1 e)) (says_plan s out out' (file_of (p.files a) name) k reads) (λ e. absurd (reads.ends.0 e)) (λ r u. tt)
 
@@ -153,7 +150,7 @@ module _ {P O : Type 0} (p : PlaceSeen P) (s : SinkSeen O) where
       at_first opens Says More step last = subst (λ (f : Option Files). RefusesLast pl.schema (file_of f) opens More) same (refuses_saying pl.schema (file_of (p.files b)) opens Says More step last)
 
       -- what is said where opening feeds ended so
-      says_head : (k : Stop) → OpensFeeds p s pl.schema b c mid out' pl.feeds (Some k) → SaysOfSave p s a c out out' name image (Some pl)
+      says_head : (k : Stop) → OpensFeeds p s pl.schema b c mid out' pl.feeds (Some k) → SaysOfSave p s a c out out' (saving name image) (Some pl)
       says_head stop.NoMemory O = inl (silent_after s out mid out' quiet (O.silent (λ e. cc) (λ e. cc)))
       says_head stop.PlanRefused O = inl (silent_after s out mid out' quiet (O.silent (λ e. cc) (λ e. cc)))
       says_head stop.ReadFault O = inl (silent_after s out mid out' quiet (O.silent (λ e. cc) (λ e. cc)))
@@ -177,7 +174,7 @@ module _ {P O : Type 0} (p : PlaceSeen P) (s : SinkSeen O) where
       head_end stop.WriteFault O r u files is taken = absurd (u (fails_after s out mid out' quiet _ (O.unsaid refl).refuses.says).faults)
       head_end stop.FeedRefused O r u files is taken = absurd (refused_none O.leaves.opens O.leaves.unopened (Puts s mid out') files (told files is) O.leaves.inputs_are (O.refused refl) taken)
 
-      pub ended_by_header : (k : Stop) → OpensFeeds p s pl.schema b c mid out' pl.feeds (Some k) → SaveEnds p s a c out out' name image (Err k)
+      pub ended_by_header : (k : Stop) → OpensFeeds p s pl.schema b c mid out' pl.feeds (Some k) → SaveEnds p s a c out out' (saving name image) (Err k)
       ended_by_header k O =
           let all : LeavesPlace p a c (name ∷ pl.feeds) [] (Some k) = leaves_then p a b c (name ∷ []) pl.feeds [] (Some k) leaves O.leaves in
           ended_early a c out out' name image (Some pl) k all reads.plan (λ e. cc) (λ e. absurd (O.ends (ap (λ l. Some l) e)))
@@ -244,7 +241,7 @@ module _ {P O : Type 0} (p : PlaceSeen P) (s : SinkSeen O) where
             not_both pl.schema (file_or_empty files long.0) (refused_by_size pl.schema (file_or_empty files long.0) long.2)
             (All-contains (λ n. is_feed_refused pl.schema (file_or_empty files n) ≡ false) pl.feeds long.0 taken long.1)
 
-        pub ended_by_feed : (f : CutFault) → EndsBy left faults feeds read f → SaveEnds p s a d out then name image (Err (stop_of_cut f))
+        pub ended_by_feed : (f : CutFault) → EndsBy left faults feeds read f → SaveEnds p s a d out then (saving name image) (Err (stop_of_cut f))
         ended_by_feed cut.Read E =
             ended_early a d out then name image (Some pl) stop.ReadFault (leaves_all stop.ReadFault (λ e. reads_rose E) (λ e. absurd (e refl))) reads.plan (λ e. cc) (λ e. cc) (λ e. cc) (inl still) (λ e. cc)
             (λ r u. absurd (r (reads_rose E)))
@@ -280,10 +277,10 @@ module _ {P O : Type 0} (p : PlaceSeen P) (s : SinkSeen O) where
         }
 
       -- by what reading them answered
-      pub ended_reading : (k : Stop) → ReadsFeeds p left faults pl.schema c d feeds (Err k) → SaveEnds p s a d out then name image (Err k)
+      pub ended_reading : (k : Stop) → ReadsFeeds p left faults pl.schema c d feeds (Err k) → SaveEnds p s a d out then (saving name image) (Err k)
       ended_reading k R =
           let met = fault_met k R.taken R.result_is in
-          subst (λ (l : Stop). SaveEnds p s a d out then name image (Err l)) (sym met.2) (ended_by_feed R.read R.back met.0 (subst (TakesFeeds left faults pl.schema feeds R.read) met.1 R.takes))
+          subst (λ (l : Stop). SaveEnds p s a d out then (saving name image) (Err l)) (sym met.2) (ended_by_feed R.read R.back met.0 (subst (TakesFeeds left faults pl.schema feeds R.read) met.1 R.takes))
 
       pub stood_reading : AcceptsSound → (taken : Cube × List FeedCounts) → ReadsFeeds p left faults pl.schema c d feeds (Ok taken) → Stood p s a d out then name pl taken.0 taken.1
       stood_reading sound taken R = stood_read R.read R.back sound taken.0 taken.1 (subst (TakesFeeds left faults pl.schema feeds R.read) (none_met taken R.taken R.result_is) R.takes)

@@ -45,15 +45,6 @@ module _ {P : Type 0} (p : PlaceSeen P) (before after : P) (name : List ℕ) whe
   WritesFile bytes (Err ReadFault) = ⊥
   WritesFile bytes (Err FeedRefused) = ⊥
 
--- the text was put in one put, or how that ends the run
-abbrev pub PutsText : {O : Type 0} → SinkSeen O → O → O → List ℕ → Result (Unit {0}) Stop → Type 0
-PutsText s out out' text (Ok done) = Puts s out out' text
-PutsText s out out' text (Err NoMemory) = Silent s out out'
-PutsText s out out' text (Err WriteFault) = FailsToPut s out out' text
-PutsText s out out' text (Err PlanRefused) = ⊥
-PutsText s out out' text (Err ReadFault) = ⊥
-PutsText s out out' text (Err FeedRefused) = ⊥
-
 module _ {P O : Type 0} (p : PlaceSeen P) (s : SinkSeen O) (place place' : P) (out out' : O) (plan : Plan) (cube : Cube) (counts : List FeedCounts) (image : List ℕ) where
   -- The image of the cube was written, of which this is said
   pub record SavesImage (Says : List ℕ → Type 0) : Type 0 where

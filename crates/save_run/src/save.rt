@@ -1,6 +1,7 @@
 //! A plan's feeds saved as an image.
-ghost use Rattle.run_files.specs.Outside.{seen_place, seen_sink};
+ghost use Rattle.run_files.specs.Outside.{of_place, of_sink};
 ghost use Rattle.save_run.specs.Ends.{SaveEnds};
+ghost use Rattle.save_run.specs.Names.{saving};
 ghost use Rattle.save_run.specs.Writing.{SavesCube};
 
 use crate::reading::read_feeds;
@@ -28,7 +29,7 @@ fn save_read<P: Place, O: Sink>(
     place: &mut P,
     out: &mut O,
 ) -> Result<ImageEnd, Stop>
-    ensures { SavesCube (seen_place P.files P.read_faults P.write_faults P.opened P.created) (seen_sink O.held O.faults O.name) place.old place.new out.old out.new plan.now cube.now counts.now image.now result }
+    ensures { SavesCube (of_place P.Place) (of_sink O.Sink) place.old place.new out.old out.new plan.now cube.now counts.now image.now result }
 {
     match save_cube(alloc, cube) {
         Ok(bytes) => {
@@ -55,7 +56,7 @@ pub fn save_files<P: Place, O: Sink>(
     place: &mut P,
     out: &mut O,
 ) -> Result<ImageEnd, Stop>
-    ensures { SaveEnds (seen_place P.files P.read_faults P.write_faults P.opened P.created) (seen_sink O.held O.faults O.name) place.old place.new out.old out.new plan.now image.now result }
+    ensures { SaveEnds (of_place P.Place) (of_sink O.Sink) place.old place.new out.old out.new (saving plan.now image.now) result }
 {
     accepted_laws();
     let plan = load_plan(alloc, plan, place, out)?;

@@ -1,12 +1,12 @@
 //! What is said of a saved image.
 ghost use Rattle.std.specs.Prelude.{◌≡◌, ◌++◌, string_bytes, IfOk, OnOk};
-ghost use Rattle.run_files.specs.Outside.{seen_sink};
+ghost use Rattle.run_files.specs.Outside.{of_sink};
+ghost use Rattle.run_files.specs.Saying.{SaysText};
 ghost use Rattle.save_run.specs.Lines.{saved_text, size_line};
-ghost use Rattle.save_run.specs.Writing.{PutsText};
 
 use cube_schema::Plan;
-use outer_io::{IoFault, Sink};
-use run_files::Stop;
+use outer_io::Sink;
+use run_files::{Stop, put_text};
 use run_report::{FeedCounts, feeds_report};
 use std::alloc::{AllocError, Global};
 
@@ -39,14 +39,10 @@ pub(crate) fn say_saved<O: Sink>(
     size: usize,
     out: &mut O,
 ) -> Result<(), Stop>
-    ensures { PutsText (seen_sink O.held O.faults O.name) out.old out.new (saved_text plan.now counts.now size) result }
+    ensures { SaysText (of_sink O.Sink) out.old out.new (saved_text plan.now counts.now size) result }
 {
     let Ok(text) = saved_text(alloc, plan, counts, size) else {
         return Err(Stop::NoMemory);
     };
-    match out.put(text.as_bytes()) {
-        Ok(()) => Ok(()),
-        Err(IoFault::Failed) => Err(Stop::WriteFault),
-        Err(IoFault::NoMemory) => Err(Stop::NoMemory),
-    }
+    put_text(text.as_bytes(), out)
 }

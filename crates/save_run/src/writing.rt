@@ -1,5 +1,5 @@
 //! A file, written.
-ghost use Rattle.run_files.specs.Outside.{seen_place};
+ghost use Rattle.run_files.specs.Outside.{of_place};
 ghost use Rattle.save_run.specs.Writing.{WritesFile};
 
 use outer_io::{Place, Sink};
@@ -7,7 +7,7 @@ use run_files::{Stop, create_file, joined_ends, write_end};
 
 /// Creates the named file and writes the bytes to it in one put. Its sink is given back in every case.
 pub(crate) fn write_file<P: Place>(name: &str, bytes: &[u8], place: &mut P) -> Result<(), Stop>
-    ensures { WritesFile (seen_place P.files P.read_faults P.write_faults P.opened P.created) place.old place.new name.now bytes.now result }
+    ensures { WritesFile (of_place P.Place) place.old place.new name.now bytes.now result }
 {
     let mut sink = create_file(name, place)?;
     let put = sink.put(bytes);

@@ -14,6 +14,7 @@ use Rattle.outer_io.specs.Files.{Files, file_or_empty}
 use Rattle.outer_io.specs.Lines.{input_limit}
 use Rattle.outer_io.specs.Told.{Told}
 use Rattle.run_files.proofs.Apart.{err_is, ok_not_err, same_stop, stopped}
+use Rattle.run_files.proofs.Fronts.{no_fault, told_long}
 use Rattle.run_files.proofs.Stages.{leaves_ended, leaves_reading, leaves_then, same_files}
 use Rattle.run_files.specs.Leaving.{LeavesPlace}
 use Rattle.run_files.specs.Outside.{file_of, PlaceSeen, Silent, SinkSeen}
@@ -59,18 +60,6 @@ told_file : (told : Option Files) (name : List ℕ) → Told (file_of told name)
 told_file None name long = tt
 told_file (Some files) name long = inl long
 
--- the front of a file is longer than may be read only where the file is
-long_file : (all bytes : List ℕ) → bytes ≡ take (input_limit + 1) all → input_limit < length bytes → input_limit < length all
-long_file all bytes front long =
-    elim (cases_lt input_limit (length all)) [
-      | inl more ↦ more
-      | inr few ↦ let size = ap length (front ∙ take_all (input_limit + 1) all (omega (arith, few))) in omega (arith, size, long)
-    ]
-
-told_long : (file : Option (List ℕ)) (bytes : List ℕ) → Told file (λ all. bytes ≡ take (input_limit + 1) all) → input_limit < length bytes → Told file (λ all. input_limit < length all)
-told_long None bytes front long = tt
-told_long (Some all) bytes front long = long_file all bytes front long
-
 module _ {P : Type 0} (p : PlaceSeen P) where
   -- a file that was not read
   pub text_ended : (a b : P) (name : List ℕ) (stop : Stop) → LeavesPlace p a b (name ∷ []) [] (Some stop) → (stop ≢ PlanRefused) × (stop ≢ WriteFault) × (stop ≢ FeedRefused) → ReadsFiles p a b (name ∷ []) (Some stop)
@@ -84,7 +73,7 @@ module _ {P : Type 0} (p : PlaceSeen P) where
   pub text_refused : (a b : P) (name bytes : List ℕ) → LeavesPlace p a b (name ∷ []) [] None → Told (file_of (p.files a) name) (λ all. bytes ≡ take (input_limit + 1) all) → input_limit < length bytes → ReadsFiles p a b (name ∷ []) (Some FeedRefused)
   text_refused a b name bytes leaves front long = record {
     leaves = leaves_ended p a b (name ∷ []) (Some FeedRefused) (λ e. cc) leaves;
-    long = λ e. told_file (p.files a) name (told_long (file_of (p.files a) name) bytes front long);
+    long = λ e. told_file (p.files a) name (told_long input_limit (file_of (p.files a) name) bytes front long);
     ends = (λ e. cc, λ e. cc);
   }
 
@@ -147,14 +136,7 @@ names_at g xs i x name item lt is =
 pub put_failed : {O : Type 0} (s : SinkSeen O) (a b : O) {T : Type 0} (stop : Stop) → IsPutEnd stop → HasCause (s.faults a) (s.faults b) (stopped T stop) WriteFault → PutsAfter s a b None (Err stop)
 put_failed s a b stop ends cause = (ends, record { rose = λ e. cause.rose (ap (λ k. Err k) (err_is stop WriteFault e)); quiet = λ other. cause.quiet (λ e. other (ap (λ k. Err k) (err_is stop WriteFault e))) })
 
--- bytes that are a plan have no fault
-no_fault : (bytes : List ℕ) (fault : PlanFault) → IsOk (plan_meaning bytes) → plan_meaning bytes ≡ Err fault → ⊥
-no_fault bytes fault good bad = apart (sym good ∙ ap is_ok bad)
-  where
-    apart : true ≡ false → ⊥
-    apart e = cc
-
--- so of a plan nothing more need be said
+-- of bytes that are a plan nothing more need be said
 plan_good : (told : Option Files) (name : List ℕ) (plan : Plan) (Q : Type 0) → Told (file_of told name) (λ bytes. plan_meaning bytes ≡ Ok (draft_of plan)) → Told told (λ files. (fault : PlanFault) → plan_meaning (file_or_empty files name) ≡ Err fault → Q)
 plan_good None name plan Q meaning = tt
 plan_good (Some files) name plan Q meaning = λ fault bad. absurd (no_fault (file_or_empty files name) fault (ap is_ok meaning) bad)

@@ -1,25 +1,10 @@
 -- The shares of files, one after another.
 use Rattle.std.proofs.Common.{◌≡◌, ℕ, ◌+◌, ◌≤◌, List, [], ◌∷◌, ◌++◌, length, map, take, drop, take_all, Option, Some, None, inl, inr, refl, sym, ◌∙◌, ap, subst, arith, append_assoc}
-use Rattle.std.proofs.lemmas.Bool.{cases_lt}
 use Rattle.std.proofs.lemmas.List.{append-nil, length-take-le, map-append, take-append-drop}
 use Rattle.cube_view.specs.declared.schema.Schema.{Schema}
 use Rattle.outer_io.specs.Told.{Told}
 use Rattle.query_syntax.specs.declared.query.Parsed.{Parsed}
 use Rattle.share_replies.specs.Shares.{AreShares, IsShare, Share, joined_shares, nothing, together}
-
--- the front of a file, one byte longer than it may be, is the file where it is no longer than it may be
-pub whole_front : (most : ℕ) (all bytes : List ℕ) → bytes ≡ take (most + 1) all → length bytes ≤ most → bytes ≡ all
-whole_front most all bytes front short =
-    elim (cases_lt most (length all)) [
-      | inl long ↦
-          let size = ap length front ∙ length-take-le (most + 1) all (omega (arith, long)) in
-          absurd (omega (arith, size, short))
-      | inr few ↦ front ∙ take_all (most + 1) all (omega (arith, few))
-    ]
-
-pub told_front : (most : ℕ) (file : Option (List ℕ)) (bytes : List ℕ) → Told file (λ all. bytes ≡ take (most + 1) all) → length bytes ≤ most → Told file (λ all. bytes ≡ all)
-told_front most None bytes front short = tt
-told_front most (Some all) bytes front short = whole_front most all bytes front short
 
 -- a file that is told is what was read of it
 pub told_is : (file : Option (List ℕ)) (bytes all : List ℕ) → Told file (λ own. bytes ≡ own) → file ≡ Some all → bytes ≡ all

@@ -3,7 +3,7 @@ ghost use Rattle.std.specs.Prelude.{◌≡◌, ℕ, ◌<◌, ◌++◌, ◌∷◌
 ghost use Rattle.outer_io.specs.Faults.{HasCause};
 ghost use Rattle.cube_view.specs.declared.schema.Schema.{Schema};
 ghost use Rattle.query_syntax.specs.declared.query.Parsed.{Parsed};
-ghost use Rattle.run_files.specs.Outside.{Puts, seen_place, seen_sink};
+ghost use Rattle.run_files.specs.Outside.{of_place, of_sink, Puts};
 ghost use Rattle.share_replies.specs.Causes.{EndsByFiles, IsPutEnd, LeavesSink, OpensShares, PutsAfter, ReadsShares, stop_in_shares, stop_of_shares};
 ghost use Rattle.share_replies.specs.Ends.{AddsUpFiles, AreSumsOver, OutcomeOver, SaysWrong, SaysShares, SaysSums, SumsOfFiles, given_names};
 ghost use Rattle.share_replies.specs.Refusals.{DecidesScript};
@@ -77,7 +77,7 @@ fn refuse<O: Sink>(
     out: &mut O,
 ) -> Result<Outcome, Stop>
     ensures outcome { IfOk result (λ outcome. outcome ≡ Outcome.Refused why) }
-    ensures puts { IfOk result (λ outcome. Puts (seen_sink O.held O.faults O.name) out.old out.new (wrong_line name.now line why)) }
+    ensures puts { IfOk result (λ outcome. Puts (of_sink O.Sink) out.old out.new (wrong_line name.now line why)) }
     ensures cause { HasCause (O.faults out.old) (O.faults out.new) result Stop.WriteFault }
     ensures ends { IfErr result IsPutEnd }
 {
@@ -98,7 +98,7 @@ fn sums_of<P: Place>(
     ensures law { SumsOfFiles schema.now (P.files place.old) (given_names names.now) result }
     ensures decides { DecidesScript schema.now (P.files place.old) names.now.script.now (map string_bytes names.now.replies.now) result }
     ensures share { (k line : ℕ) (why : WrongReply) → result ≡ Err (SharesFault.Wrong k line why) → k < length names.now.replies.now }
-    ensures stage { ReadsShares (seen_place P.files P.read_faults P.write_faults P.opened P.created) place.old place.new (given_names names.now) result }
+    ensures stage { ReadsShares (of_place P.Place) place.old place.new (given_names names.now) result }
     ensures files { P.files place.new ≡ P.files place.old }
 {
     let script = match read_text(alloc, names.script, place) {
@@ -122,8 +122,8 @@ fn say_fault<O: Sink>(
     out: &mut O,
 ) -> Result<Outcome, Stop>
     requires share { (k line : ℕ) (why : WrongReply) → fault ≡ SharesFault.Wrong k line why → k < length replies.now }
-    ensures says { IfOk result (SaysWrong (seen_sink O.held O.faults O.name) out.old out.new (map string_bytes replies.now) fault) }
-    ensures puts { PutsAfter (seen_sink O.held O.faults O.name) out.old out.new (stop_of_shares fault) result }
+    ensures says { IfOk result (SaysWrong (of_sink O.Sink) out.old out.new (map string_bytes replies.now) fault) }
+    ensures puts { PutsAfter (of_sink O.Sink) out.old out.new (stop_of_shares fault) result }
     ensures law { (z : Schema) (s : Share) (ps : List Parsed) → IsInnocentShares fault → IfOk result (OutcomeOver z ps s (O.held out.old) (O.held out.new)) }
 {
     match fault {
@@ -142,8 +142,8 @@ fn put_outcome<O: Sink>(
     out: &mut O,
 ) -> Result<Outcome, Stop>
     requires share { (k line : ℕ) (why : WrongReply) → sums ≡ Err (SharesFault.Wrong k line why) → k < length replies.now }
-    ensures says { IfOk result (SaysSums (seen_sink O.held O.faults O.name) out.old out.new (map string_bytes replies.now) sums) }
-    ensures puts { PutsAfter (seen_sink O.held O.faults O.name) out.old out.new (stop_in_shares sums) result }
+    ensures says { IfOk result (SaysSums (of_sink O.Sink) out.old out.new (map string_bytes replies.now) sums) }
+    ensures puts { PutsAfter (of_sink O.Sink) out.old out.new (stop_in_shares sums) result }
     ensures law { (z : Schema) (s : Share) (ps : List Parsed) → AreSumsOver z s ps sums → IfOk result (OutcomeOver z ps s (O.held out.old) (O.held out.new)) }
 {
     let sums = match sums {
@@ -168,10 +168,10 @@ pub fn add_shares<P: Place, O: Sink>(
     out: &mut O,
 ) -> Result<Outcome, Stop>
     ensures law { AddsUpFiles (P.files place.old) (given_names names.now) (O.held out.old) (O.held out.new) result }
-    ensures shares { IfOk result (SaysShares (seen_sink O.held O.faults O.name) out.old out.new (P.files place.old) (given_names names.now)) }
+    ensures shares { IfOk result (SaysShares (of_sink O.Sink) out.old out.new (P.files place.old) (given_names names.now)) }
     ensures causes { EndsByFiles (P.files place.old) (given_names names.now) result }
-    ensures opens { OpensShares (seen_place P.files P.read_faults P.write_faults P.opened P.created) place.old place.new (given_names names.now) result }
-    ensures sink { LeavesSink (seen_sink O.held O.faults O.name) out.old out.new (P.files place.old) (given_names names.now) result }
+    ensures opens { OpensShares (of_place P.Place) place.old place.new (given_names names.now) result }
+    ensures sink { LeavesSink (of_sink O.Sink) out.old out.new (P.files place.old) (given_names names.now) result }
     ensures files { P.files place.new ≡ P.files place.old }
 {
     let plan = load_plan(alloc, names.plan, place, out)?;

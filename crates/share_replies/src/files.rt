@@ -5,7 +5,7 @@ ghost use Rattle.cube_view.specs.declared.schema.Schema.{Schema};
 ghost use Rattle.outer_io.specs.Lines.{input_limit};
 ghost use Rattle.outer_io.specs.Told.{Told};
 ghost use Rattle.reply_sums.specs.Sums.{AsksShallow};
-ghost use Rattle.run_files.specs.Outside.{file_of, seen_place};
+ghost use Rattle.run_files.specs.Outside.{file_of, of_place};
 ghost use Rattle.run_files.specs.declared.stop.Stop.{Stop};
 ghost use Rattle.share_replies.specs.Causes.{ReadsFiles, ReadsReplies, stop_in_file, stop_of_file, stop_of_shares};
 ghost use Rattle.share_replies.specs.Refusals.{DecidesFile, DecidesFiles, totals_of};
@@ -32,7 +32,7 @@ pub(crate) fn read_text<P: Place>(
     ensures whole { IfOk result (λ bytes. Told (file_of (P.files place.old) name.now) (λ all. bytes ≡ all)) }
     ensures short { IfOk result (λ bytes. length bytes ≤ input_limit) }
     ensures files { P.files place.new ≡ P.files place.old }
-    ensures stage { ReadsFiles (seen_place P.files P.read_faults P.write_faults P.opened P.created) place.old place.new (name.now ∷ []) (result_err result) }
+    ensures stage { ReadsFiles (of_place P.Place) place.old place.new (name.now ∷ []) (result_err result) }
 {
     let bytes = read_file(alloc, name, LONGEST_TEXT, place)?;
     if bytes.len() > LONGEST_TEXT {
@@ -76,7 +76,7 @@ fn add_file<P: Place>(
     ensures law { (schema : Schema) → AddsFile schema asked.now sums.now (file_of (P.files place.old) name.now) result }
     ensures decides { DecidesFile (file_of (P.files place.old) name.now) asked.now sums.now result }
     ensures size { IfOk result (λ next. length next ≡ length asked.now) }
-    ensures stage { ReadsFiles (seen_place P.files P.read_faults P.write_faults P.opened P.created) place.old place.new (name.now ∷ []) (stop_in_file result) }
+    ensures stage { ReadsFiles (of_place P.Place) place.old place.new (name.now ∷ []) (stop_in_file result) }
     ensures files { P.files place.new ≡ P.files place.old }
 {
     let bytes = match read_text(alloc, name, place) {
@@ -102,7 +102,7 @@ pub(crate) fn add_files<P: Place>(
     ensures law { (schema : Schema) → AddsFiles schema asked.now first (P.files place.old) (map string_bytes names.now) result }
     ensures share { (k line : ℕ) (why : WrongReply) → result ≡ Err (SharesFault.Wrong k line why) → k < length names.now }
     ensures decides { DecidesFiles (P.files place.old) asked.now (totals_of first) (map string_bytes names.now) result }
-    ensures stage { ReadsReplies (seen_place P.files P.read_faults P.write_faults P.opened P.created) place.old place.new (map string_bytes names.now) result }
+    ensures stage { ReadsReplies (of_place P.Place) place.old place.new (map string_bytes names.now) result }
     ensures files { P.files place.new ≡ P.files place.old }
 {
     let mut sums = first;

@@ -8,7 +8,7 @@ ghost use Rattle.reply_json.specs.Types.{ReplyFits};
 ghost use Rattle.reply_json.specs.Validity.{is_valid_reply};
 ghost use Rattle.reply_sums.specs.Additive.{adds_up};
 ghost use Rattle.session_core.specs.Asked.{reply_line};
-ghost use Rattle.run_files.specs.Outside.{Puts, seen_sink};
+ghost use Rattle.run_files.specs.Outside.{of_sink, Puts};
 ghost use Rattle.share_replies.specs.Causes.{IsPutEnd};
 ghost use Rattle.share_replies.specs.Refusals.{total_of_sum, totals_of};
 ghost use Rattle.share_replies.specs.Shares.{Share};
@@ -45,7 +45,7 @@ fn reply_line(alloc: Global, reply: &Reply) -> Result<List<u8>, NoMemory>
 /// Puts the bytes in one put.
 pub(crate) fn put_bytes<O: Sink>(bytes: &[u8], out: &mut O) -> Result<(), Stop>
     ensures put { OnOk result (Gains (O.held out.old) (O.held out.new) bytes.now) }
-    ensures all { OnOk result (Puts (seen_sink O.held O.faults O.name) out.old out.new bytes.now) }
+    ensures all { OnOk result (Puts (of_sink O.Sink) out.old out.new bytes.now) }
     ensures cause { HasCause (O.faults out.old) (O.faults out.new) result Stop.WriteFault }
     ensures ends { IfErr result IsPutEnd }
 {
@@ -59,7 +59,7 @@ pub(crate) fn put_bytes<O: Sink>(bytes: &[u8], out: &mut O) -> Result<(), Stop>
 // Puts the line of a sum: that of its reply, or the one that says that replies do not add up.
 fn put_sum<O: Sink>(alloc: Global, sum: &Option<Summed>, out: &mut O) -> Result<(), Stop>
     ensures law { (z : Schema) (s : Share) (p : Parsed) → IsSumOver z s p sum.now → OnOk result (PutsSumLine z s p (O.held out.old) (O.held out.new)) }
-    ensures puts { OnOk result (Puts (seen_sink O.held O.faults O.name) out.old out.new (total_line (total_of_sum sum.now))) }
+    ensures puts { OnOk result (Puts (of_sink O.Sink) out.old out.new (total_line (total_of_sum sum.now))) }
     ensures cause { HasCause (O.faults out.old) (O.faults out.new) result Stop.WriteFault }
     ensures ends { IfErr result IsPutEnd }
 {
@@ -78,7 +78,7 @@ fn put_sum<O: Sink>(alloc: Global, sum: &Option<Summed>, out: &mut O) -> Result<
 /// does not add up.
 pub fn put_sums<O: Sink>(alloc: Global, sums: &[Option<Summed>], out: &mut O) -> Result<(), Stop>
     ensures law { (z : Schema) (s : Share) (ps : List Parsed) → SumsOver z s ps sums.now → OnOk result (PutsSums z s ps (O.held out.old) (O.held out.new)) }
-    ensures puts { OnOk result (Puts (seen_sink O.held O.faults O.name) out.old out.new (totals_text (totals_of sums.now))) }
+    ensures puts { OnOk result (Puts (of_sink O.Sink) out.old out.new (totals_text (totals_of sums.now))) }
     ensures cause { HasCause (O.faults out.old) (O.faults out.new) result Stop.WriteFault }
     ensures ends { IfErr result IsPutEnd }
 {

@@ -5,19 +5,22 @@ use Rattle.std.specs.Result.{result_err}
 use Rattle.big_run.specs.Ends.{BigEnds}
 use Rattle.big_run.specs.Text.{big_text}
 use Rattle.image_run.specs.Faults.{HasLoadFaults}
+use Rattle.image_run.specs.Names.{ImageNames}
 use Rattle.image_run.specs.declared.end.ImageEnd.{ImageEnd}
 use Rattle.image_run.specs.declared.end.ImageEnd.TheVariants as image
 use Rattle.recount_run.specs.Ends.{RecountEnds, SaysAudit}
+use Rattle.recount_run.specs.Names.{AuditNames}
 use Rattle.recount_run.specs.declared.audit.Audit.{Audit}
 use Rattle.recount_run.specs.declared.audit.Audit.TheVariants as audit
 use Rattle.run_files.specs.Counts.{CountsAt}
 use Rattle.run_files.specs.Outside.{PlaceSeen, Puts, SinkSeen}
 use Rattle.run_files.specs.declared.stop.Stop.{Stop}
 use Rattle.run_files.specs.declared.stop.Stop.TheVariants as stop
+use Rattle.save_run.specs.Names.{SaveNames}
 use Rattle.top_call.specs.Big.{BigRunEnds}
-use Rattle.top_call.specs.Demo.{DemoEnds}
+use Rattle.top_call.specs.Demo.{DemoNames, DemoRunEnds}
 use Rattle.top_call.specs.Load.{ImageLoadEnds}
-use Rattle.top_call.specs.Outside.{HasCauses, KeepsOutside}
+use Rattle.top_call.specs.Outside.{HasCauses}
 use Rattle.top_call.specs.Recount.{AuditEnds, status_of_audit}
 use Rattle.top_call.specs.Run.{PlanRunEnds}
 use Rattle.top_call.specs.Save.{ImageSaveEnds}
@@ -62,10 +65,10 @@ module _ {P O : Type 0} (p : PlaceSeen P) (s : SinkSeen O) (place place' : P) (o
   pub run_causes : (status : Status) (plan : List ℕ) → PlanRunEnds p s place place' out out' status plan → Causes status
   run_causes status plan run = of_end run.end status run.ends.counts (λ x e. let is : status ≡ Done = run.status_is ∙ ap status_of_end e in (λ r. cc (is, r), λ w. cc (is, w))) (λ k e. run.status_is ∙ ap status_of_end e)
 
-  pub save_causes : (status : Status) (plan image : List ℕ) → ImageSaveEnds p s place place' out out' status plan image → Causes status
-  save_causes status plan image save = of_end save.end status save.ends.counts (λ x e. fine_image x status (save.status_is ∙ ap status_of_image e)) (λ k e. save.status_is ∙ ap status_of_image e)
+  pub save_causes : (status : Status) (names : SaveNames) → ImageSaveEnds p s place place' out out' status names → Causes status
+  save_causes status names save = of_end save.end status save.ends.counts (λ x e. fine_image x status (save.status_is ∙ ap status_of_image e)) (λ k e. save.status_is ∙ ap status_of_image e)
 
-  load_counts : (end : Result ImageEnd Stop) → HasLoadFaults p s place place' out out' end → CountsAt p s place place' out out' end
+  load_counts : {E : Type 0} (end : Result E Stop) → HasLoadFaults p s place place' out out' end → CountsAt p s place place' out out' end
   load_counts end faults = record {
     done = λ x e. (faults.quiet_place (λ r. cc (e, r)) (λ m. cc (e, m)), faults.write_faults, faults.quiet_sink (λ w. cc (e, w)) (λ m. cc (e, m)) (λ l. cc (e, l)));
     refused = λ e. (faults.quiet_place (λ r. cc (e, r)) (λ m. cc (e, m)), faults.write_faults, faults.quiet_sink (λ w. cc (e, w)) (λ m. cc (e, m)) (λ l. cc (e, l)));
@@ -75,13 +78,13 @@ module _ {P O : Type 0} (p : PlaceSeen P) (s : SinkSeen O) (place place' : P) (o
     refused_plan = λ e. (faults.quiet_place (λ r. cc (e, r)) (λ m. cc (e, m)), faults.write_faults);
   }
 
-  pub load_causes : (status : Status) (plan image script : List ℕ) → ImageLoadEnds p s place place' out out' status plan image script → Causes status
-  load_causes status plan image script load =
+  pub load_causes : (status : Status) (names : ImageNames) → ImageLoadEnds p s place place' out out' status names → Causes status
+  load_causes status names load =
       of_end load.end status (load_counts load.end load.ends.faults) (λ x e. fine_image x status (load.status_is ∙ ap status_of_image e)) (λ k e. load.status_is ∙ ap status_of_image e)
 
-  audit_counts : (plan journal script replies : List ℕ) (end : Result Audit Stop) → RecountEnds p s place place' out out' plan journal script replies end → CountsAt p s place place' out out' end
-  audit_counts plan journal script replies end ends = record {
-    done = λ x e. (unread (Ok x) e (λ r. cc r), ends.write_faults, (subst (λ r. IfOk r (SaysAudit p s place place' out out' plan journal script replies)) e ends.done).puts.faults);
+  audit_counts : (names : AuditNames) (end : Result Audit Stop) → RecountEnds p s place place' out out' names end → CountsAt p s place place' out out' end
+  audit_counts names end ends = record {
+    done = λ x e. (unread (Ok x) e (λ r. cc r), ends.write_faults, (subst (λ r. IfOk r (SaysAudit p s place place' out out' names)) e ends.done).puts.faults);
     refused = λ e. (unread (Err stop.FeedRefused) e (λ r. cc r), ends.write_faults, (ends.silent stop.FeedRefused e (λ l. cc l) (λ w. cc w)).faults);
     unread = λ e. unread (Err stop.WriteFault) e (λ r. cc r);
     write = λ e. inr (ends.unsaid e).part.faults;
@@ -92,17 +95,13 @@ module _ {P O : Type 0} (p : PlaceSeen P) (s : SinkSeen O) (place place' : P) (o
       unread : (r : Result Audit Stop) → end ≡ r → ◌≢◌ (result_err r) (result_err {T = Audit} (Err stop.ReadFault)) → p.read_faults place' ≡ p.read_faults place
       unread r is other = ends.leaves.read_quiet (λ e. other (sym (ap result_err is) ∙ e))
 
-  pub audit_causes : (status : Status) (plan journal script replies : List ℕ) → AuditEnds p s place place' out out' status plan journal script replies → Causes status
-  audit_causes status plan journal script replies audit =
-      of_end audit.end status (audit_counts plan journal script replies audit.end audit.ends) (λ x e. fine_audit x status (audit.status_is ∙ ap status_of_audit e)) (λ k e. audit.status_is ∙ ap status_of_audit e)
+  pub audit_causes : (status : Status) (names : AuditNames) → AuditEnds p s place place' out out' status names → Causes status
+  audit_causes status names audit =
+      of_end audit.end status (audit_counts names audit.end audit.ends) (λ x e. fine_audit x status (audit.status_is ∙ ap status_of_audit e)) (λ k e. audit.status_is ∙ ap status_of_audit e)
 
-  pub demo_causes : (status : Status) (feed script : List ℕ) → DemoEnds p s place place' out out' status feed script → KeepsOutside p s place place' out out' status → Causes status
-  demo_causes status feed script ends keeps = record {
-    read = keeps.read;
-    write = λ e. inr (keeps.write e);
-    unread = λ e. keeps.quiet_place (λ r. cc (e, r)) (λ m. cc (e, m));
-    still = λ m l r w. (keeps.quiet_place r m, ends.no_file.write_faults, keeps.quiet_sink w m);
-  }
+  pub demo_causes : (status : Status) (names : DemoNames) → DemoRunEnds p s place place' out out' status names → Causes status
+  demo_causes status names demo =
+      of_end demo.end status (load_counts demo.end demo.ends.faults) (λ x e. let is : status ≡ Done = demo.status_is ∙ ap status_of_end e in (λ r. cc (is, r), λ w. cc (is, w))) (λ k e. demo.status_is ∙ ap status_of_end e)
 
   text_counts : (rows : ℕ) (end : Result (Unit {0}) Stop) → place' ≡ place → BigEnds s out out' rows end → CountsAt p s place place' out out' end
   text_counts rows end same says = record {

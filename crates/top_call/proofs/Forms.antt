@@ -3,8 +3,9 @@ use Rattle.std.proofs.Common.{◌≡◌, ◌∙◌, ◌&&◌, Bool, true, false,
 use Rattle.std.specs.Prelude.{get_or}
 use Rattle.std.proofs.lemmas.Bool.{false≢true}
 use Rattle.std.proofs.lemmas.Cmp.{nat_list_cmp_total, eq_by_cmp_equiv}
+use Rattle.save_run.specs.Names.{SaveNames}
 use Rattle.top_call.specs.Big.{big_rows}
-use Rattle.top_call.specs.Demo.{demo_names}
+use Rattle.top_call.specs.Demo.{demo_names, DemoNames}
 use Rattle.top_call.specs.Run.{run_name}
 use Rattle.top_call.specs.Save.{save_names}
 use Rattle.cube_view.specs.Limits.{same_text}
@@ -25,6 +26,6 @@ run_apart_big words plan rows run big =
     is_not_both (get_or words 0 []) (codes "run") (codes "big") refl (passed _ (same_text (get_or words 0 []) (codes "run")) _ plan run) (passed _ (same_text (get_or words 0 []) (codes "big")) _ rows big)
 
 -- words that ask to save a cube ask for no feed and script
-pub save_apart_demo : (words : List (List ℕ)) (saved loaded : List ℕ × List ℕ) → save_names words ≡ Some saved → demo_names words ≡ Some loaded → ⊥
+pub save_apart_demo : (words : List (List ℕ)) (saved : SaveNames) (loaded : DemoNames) → save_names words ≡ Some saved → demo_names words ≡ Some loaded → ⊥
 save_apart_demo words saved loaded save demo =
     is_not_both (get_or words 0 []) (codes "save") (codes "demo") refl (passed _ (same_text (get_or words 0 []) (codes "save")) _ saved save) (passed _ (same_text (get_or words 0 []) (codes "demo")) _ loaded demo)

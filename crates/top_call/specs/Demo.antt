@@ -1,28 +1,39 @@
 -- The form `demo FEED SCRIPT`: a feed is loaded, and then a script is answered over its points.
-use Rattle.std.specs.Prelude.{◌≡◌, ℕ, Bool, true, false, ◌||◌, ◌&&◌, ◌==◌, get_or, if◌then◌else◌, List, [], ◌∷◌, ◌++◌, length, take, Option, Some, None, codes}
+use Rattle.std.specs.Prelude.{◌≡◌, ◌≢◌, ◌⊎◌, ℕ, Bool, true, false, ◌||◌, ◌&&◌, ◌==◌, get_or, if◌then◌else◌, List, [], ◌∷◌, ◌++◌, length, take, Option, Some, None, Result, Ok, Err, codes}
 use Rattle.top_call.specs.BuiltIn.{built_in}
-use Rattle.top_call.specs.Outside.{KeepsOutside, WritesNoFile}
-use Rattle.run_files.specs.Outside.{PlaceSeen, SinkSeen}
-use Rattle.top_call.specs.Statuses.{IsDoneOrNoMemory, IsOfDemo, IsRefusedOrEarlier, may_lack}
+use Rattle.top_call.specs.Statuses.{status_of_end}
 use Rattle.top_call.specs.declared.status.Status.{Status}
-use Rattle.top_call.specs.declared.status.Status.TheVariants.{Done, FeedRefused}
 use Rattle.cube_store.specs.Numbers.{OwnsAllButRoot}
 use Rattle.cube_view.specs.Limits.{same_text}
 use Rattle.feed_reader.specs.Feeds.{accepted, is_feed_refused}
+use Rattle.image_run.specs.Faults.{HasLoadFaults}
 use Rattle.outer_io.specs.Faults.{Rose}
 use Rattle.outer_io.specs.Files.{Files, file_or_empty}
 use Rattle.outer_io.specs.Lines.{lines}
+use Rattle.run_files.specs.Outside.{PlaceSeen, SinkSeen}
+use Rattle.run_files.specs.Stops.{is_lacking, IsOrLacks}
+use Rattle.run_files.specs.declared.stop.Stop.{Stop}
+use Rattle.run_files.specs.declared.stop.Stop.TheVariants.{NoMemory, PlanRefused, ReadFault, WriteFault, FeedRefused}
 use Rattle.session_core.specs.Answered.{GainsReplies, GainsFront}
 use Rattle.session_core.specs.Asked.{asked}
 use Rattle.session_core.specs.Scripts.{is_script_refused}
 
--- the names of the feed and the script, where the words are of this form
-abbrev pub demo_names : List (List ℕ) → Option (List ℕ × List ℕ)
-demo_names words = if (length words == 3) && same_text (get_or words 0 []) (codes "demo") then Some (get_or words 1 [], get_or words 2 []) else None
+-- The names of the feed and the script
+pub record DemoNames : Type 0 where
+  pub feed : List ℕ
+  pub script : List ℕ
 
--- the claim holds of the feed and the script, where the words are of this form
-abbrev pub IfDemo : List (List ℕ) → (List ℕ → List ℕ → Type 0) → Type 0
-IfDemo words Claim = (feed script : List ℕ) → demo_names words ≡ Some (feed, script) → Claim feed script
+-- these two
+abbrev pub demo_of : List ℕ → List ℕ → DemoNames
+demo_of feed script = record { feed = feed; script = script }
+
+-- the names of the feed and the script, where the words are of this form
+abbrev pub demo_names : List (List ℕ) → Option DemoNames
+demo_names words = if (length words == 3) && same_text (get_or words 0 []) (codes "demo") then Some (demo_of (get_or words 1 []) (get_or words 2 [])) else None
+
+-- the claim holds of these names, where the words are of this form
+abbrev pub IfDemo : List (List ℕ) → (DemoNames → Type 0) → Type 0
+IfDemo words Claim = (names : DemoNames) → demo_names words ≡ Some names → Claim names
 
 -- the feed's header is refused, or the feed has more than 2^30 bytes, or the script, before a `quit` among its lines
 unfoldable pub is_refused : List ℕ → List ℕ → Bool
@@ -37,42 +48,49 @@ GainsAnswers before after feed script = let h = accepted built_in feed in GainsR
 abbrev pub GainsSomeAnswers : Bool → Option (List ℕ) → Option (List ℕ) → List ℕ → List ℕ → Type 0
 GainsSomeAnswers lacks before after feed script = let h = accepted built_in feed in GainsFront built_in OwnsAllButRoot h (length h) lacks before after (asked built_in (lines script))
 
--- what a run leaves of a place and a sink, by its status and the names of its feed and its script
-module _ {P O : Type 0} (p : PlaceSeen P) (s : SinkSeen O) (place place' : P) (out out' : O) (status : Status) (feed script : List ℕ) where
+-- a feed or a script is refused, or one of the causes ends the run that are answered before that
+abbrev pub IsRefusedOrEarlier : Result (Unit {0}) Stop → Type 0
+IsRefusedOrEarlier end = (end ≡ Err FeedRefused) ⊎ (end ≡ Err NoMemory) ⊎ (end ≡ Err ReadFault) ⊎ (end ≡ Err WriteFault)
+
+-- what loading a feed and answering a script over it leaves of a place and a sink
+module _ {P O : Type 0} (p : PlaceSeen P) (s : SinkSeen O) (place place' : P) (out out' : O) where
   -- the claim holds of the bytes of the feed and of the script, where the place tells its files
-  abbrev pub OfDemoFiles : (List ℕ → List ℕ → Type 0) → Type 0
-  OfDemoFiles Claim = (files : Files) → p.files place ≡ Some files → Claim (file_or_empty files feed) (file_or_empty files script)
+  abbrev pub OfDemoFiles : DemoNames → (List ℕ → List ℕ → Type 0) → Type 0
+  OfDemoFiles names Claim = (files : Files) → p.files place ≡ Some files → Claim (file_or_empty files names.feed) (file_or_empty files names.script)
 
-  -- How a run of this form ends
-  pub record DemoEnds : Type 0 where
-    -- the words are a form, no plan is read, nothing audited and no image read
-    pub form : IsOfDemo status
-    -- with status 0 the sink gained all answers, and nothing was refused
-    pub done : OfDemoFiles (λ f q. status ≡ Done → GainsAnswers (s.held out) (s.held out') f q × (is_refused f q ≡ false))
-    -- with any status it gained some of them, and nothing else; only for want of memory a reply may be the line that says so
-    pub part : OfDemoFiles (GainsSomeAnswers (may_lack status) (s.held out) (s.held out'))
+  -- How it ends
+  pub record DemoEnds (names : DemoNames) (end : Result (Unit {0}) Stop) : Type 0 where
+    -- no plan is refused
+    pub form : end ≢ Err PlanRefused
+    -- with Ok the sink gained all answers, and nothing was refused
+    pub done : OfDemoFiles names (λ f q. end ≡ Ok tt → GainsAnswers (s.held out) (s.held out') f q × (is_refused f q ≡ false))
+    -- with any end it gained some of them, and nothing else; only for want of memory a reply may be the line that says so
+    pub part : OfDemoFiles names (GainsSomeAnswers (is_lacking end) (s.held out) (s.held out'))
     -- all of them also where a script that is refused follows a feed that is not
-    pub all_before_too_much : OfDemoFiles (λ f q. status ≡ FeedRefused → is_feed_refused built_in f ≡ false → GainsAnswers (s.held out) (s.held out') f q)
-    -- status 7 comes only where the feed or the script is refused ..
-    pub refused : OfDemoFiles (λ f q. status ≡ FeedRefused → is_refused f q ≡ true)
-    -- .. and where one is, it comes or an earlier one
-    pub refused_or_earlier : OfDemoFiles (λ f q. is_refused f q ≡ true → IsRefusedOrEarlier status)
+    pub all_before_too_much : OfDemoFiles names (λ f q. end ≡ Err FeedRefused → is_feed_refused built_in f ≡ false → GainsAnswers (s.held out) (s.held out') f q)
+    -- it ends so only where the feed or the script is refused ..
+    pub refused : OfDemoFiles names (λ f q. end ≡ Err FeedRefused → is_refused f q ≡ true)
+    -- .. and where one is, it does, or by an earlier cause
+    pub refused_or_earlier : OfDemoFiles names (λ f q. is_refused f q ≡ true → IsRefusedOrEarlier end)
     -- a feed that is refused writes nothing
-    pub refused_feed : OfDemoFiles (λ f q. is_feed_refused built_in f ≡ true → out' ≡ out)
+    pub refused_feed : OfDemoFiles names (λ f q. is_feed_refused built_in f ≡ true → out' ≡ out)
     -- with nothing refused and no count risen the run is done, or memory was wanted
-    pub complete : OfDemoFiles (λ f q. is_refused f q ≡ false → ¬ Rose (p.read_faults place) (p.read_faults place') → ¬ Rose (s.faults out) (s.faults out') → IsDoneOrNoMemory status)
+    pub complete : OfDemoFiles names (λ f q. is_refused f q ≡ false → ¬ Rose (p.read_faults place) (p.read_faults place') → ¬ Rose (s.faults out) (s.faults out') → IsOrLacks tt end)
     -- what was opened is the feed and then the script, each once at most
-    pub opened : (k : ℕ) × (p.opened place' ≡ p.opened place ++ take k (feed ∷ script ∷ []))
-    -- both with status 0
-    pub opened_both : status ≡ Done → p.opened place' ≡ p.opened place ++ feed ∷ script ∷ []
+    pub opened : (k : ℕ) × (p.opened place' ≡ p.opened place ++ take k (names.feed ∷ names.script ∷ []))
+    -- both with Ok
+    pub opened_both : end ≡ Ok tt → p.opened place' ≡ p.opened place ++ names.feed ∷ names.script ∷ []
     -- the script only after a feed that is not refused
-    pub read_before : OfDemoFiles (λ f q. p.opened place' ≡ p.opened place ++ feed ∷ script ∷ [] → is_feed_refused built_in f ≡ false)
+    pub read_before : OfDemoFiles names (λ f q. p.opened place' ≡ p.opened place ++ names.feed ∷ names.script ∷ [] → is_feed_refused built_in f ≡ false)
     -- where the feed alone was opened, nothing was written
-    pub untouched : p.opened place' ≡ p.opened place ++ feed ∷ [] → out' ≡ out
-    -- no file is written
-    pub no_file : WritesNoFile p place place'
+    pub untouched : p.opened place' ≡ p.opened place ++ names.feed ∷ [] → out' ≡ out
+    -- each fault has its cause, no file is written, and the sink keeps its name
+    pub faults : HasLoadFaults p s place place' out out' end
 
-  -- How such a run ends, and what it keeps of the place and the sink
-  pub record DemoRunEnds : Type 0 where
-    pub ends : DemoEnds
-    pub keeps : KeepsOutside p s place place' out out' status
+  -- How a run of this form ends: as loading the feed and answering the script does, whose end the status is
+  pub record DemoRunEnds (status : Status) (names : DemoNames) : Type 0 where
+    -- how that ended
+    pub end : Result (Unit {0}) Stop
+    pub status_is : status ≡ status_of_end end
+    -- and what it left
+    pub ends : DemoEnds names end

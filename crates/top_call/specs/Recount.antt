@@ -5,18 +5,19 @@ use Rattle.top_call.specs.declared.status.Status.{Status}
 use Rattle.top_call.specs.declared.status.Status.TheVariants.{Done, Differs}
 use Rattle.cube_view.specs.Limits.{same_text}
 use Rattle.recount_run.specs.Ends.{RecountEnds}
+use Rattle.recount_run.specs.Names.{AuditNames}
 use Rattle.recount_run.specs.declared.audit.Audit.{Audit}
 use Rattle.recount_run.specs.declared.audit.Audit.TheVariants as audit
 use Rattle.run_files.specs.Outside.{PlaceSeen, SinkSeen}
 use Rattle.run_files.specs.declared.stop.Stop.{Stop}
 
 -- the names of the four files, where the words are of this form
-abbrev pub recount_names : List (List ℕ) → Option (List ℕ × List ℕ × List ℕ × List ℕ)
-recount_names words = if (length words == 5) && same_text (get_or words 0 []) (codes "recount") then Some (get_or words 1 [], get_or words 2 [], get_or words 3 [], get_or words 4 []) else None
+abbrev pub recount_names : List (List ℕ) → Option AuditNames
+recount_names words = if (length words == 5) && same_text (get_or words 0 []) (codes "recount") then Some (record { plan = get_or words 1 []; journal = get_or words 2 []; script = get_or words 3 []; replies = get_or words 4 [] }) else None
 
 -- the claim holds of these names, where the words are of this form
-abbrev pub IfRecount : List (List ℕ) → (List ℕ → List ℕ → List ℕ → List ℕ → Type 0) → Type 0
-IfRecount words Claim = (plan journal script replies : List ℕ) → recount_names words ≡ Some (plan, journal, script, replies) → Claim plan journal script replies
+abbrev pub IfRecount : List (List ℕ) → (AuditNames → Type 0) → Type 0
+IfRecount words Claim = (names : AuditNames) → recount_names words ≡ Some names → Claim names
 
 -- the status of an audit
 abbrev pub status_of_audit : Result Audit Stop → Status
@@ -25,9 +26,9 @@ status_of_audit (Ok audit.Differs) = Differs
 status_of_audit (Err stop) = status_of_stop stop
 
 -- How a run of this form ends: as the audit of the files does, whose end the status is
-pub record AuditEnds {P O : Type 0} (p : PlaceSeen P) (s : SinkSeen O) (place place' : P) (out out' : O) (status : Status) (plan journal script replies : List ℕ) : Type 0 where
+pub record AuditEnds {P O : Type 0} (p : PlaceSeen P) (s : SinkSeen O) (place place' : P) (out out' : O) (status : Status) (names : AuditNames) : Type 0 where
   -- how the audit ended
   pub end : Result Audit Stop
   pub status_is : status ≡ status_of_audit end
   -- and what it left
-  pub ends : RecountEnds p s place place' out out' plan journal script replies end
+  pub ends : RecountEnds p s place place' out out' names end

@@ -7,19 +7,20 @@ use Rattle.image_run.specs.declared.end.ImageEnd.{ImageEnd}
 use Rattle.run_files.specs.Outside.{PlaceSeen, SinkSeen}
 use Rattle.run_files.specs.declared.stop.Stop.{Stop}
 use Rattle.save_run.specs.Ends.{SaveEnds}
+use Rattle.save_run.specs.Names.{SaveNames, saving}
 
 -- the names of the plan and the image, where the words are of this form
-abbrev pub save_names : List (List ℕ) → Option (List ℕ × List ℕ)
-save_names words = if (length words == 3) && same_text (get_or words 0 []) (codes "save") then Some (get_or words 1 [], get_or words 2 []) else None
+abbrev pub save_names : List (List ℕ) → Option SaveNames
+save_names words = if (length words == 3) && same_text (get_or words 0 []) (codes "save") then Some (saving (get_or words 1 []) (get_or words 2 [])) else None
 
 -- the claim holds of these names, where the words are of this form
-abbrev pub IfSave : List (List ℕ) → (List ℕ → List ℕ → Type 0) → Type 0
-IfSave words Claim = (plan image : List ℕ) → save_names words ≡ Some (plan, image) → Claim plan image
+abbrev pub IfSave : List (List ℕ) → (SaveNames → Type 0) → Type 0
+IfSave words Claim = (names : SaveNames) → save_names words ≡ Some names → Claim names
 
 -- How a run of this form ends: as saving the cube of the feeds does, whose end the status is
-pub record ImageSaveEnds {P O : Type 0} (p : PlaceSeen P) (s : SinkSeen O) (place place' : P) (out out' : O) (status : Status) (plan image : List ℕ) : Type 0 where
+pub record ImageSaveEnds {P O : Type 0} (p : PlaceSeen P) (s : SinkSeen O) (place place' : P) (out out' : O) (status : Status) (names : SaveNames) : Type 0 where
   -- how saving ended
   pub end : Result ImageEnd Stop
   pub status_is : status ≡ status_of_image end
   -- and what it left
-  pub ends : SaveEnds p s place place' out out' plan image end
+  pub ends : SaveEnds p s place place' out out' names end

@@ -1,16 +1,19 @@
 //! The top call.
 ghost use Rattle.std.specs.Prelude.{◌≡◌, ◌≤◌, ◌↔◌, map, string_bytes};
 ghost use Rattle.top_call.specs.Big.{BigRunEnds, IfBig, most_generated_rows};
-ghost use Rattle.top_call.specs.Demo.{DemoRunEnds, IfDemo};
+ghost use Rattle.top_call.specs.Demo.{DemoRunEnds, IfDemo, demo_of};
 ghost use Rattle.top_call.specs.Load.{IfLoad, ImageLoadEnds};
 ghost use Rattle.top_call.specs.Outside.{HasCauses};
 ghost use Rattle.top_call.specs.Recount.{AuditEnds, IfRecount};
 ghost use Rattle.top_call.specs.Run.{IfRun, PlanRunEnds};
 ghost use Rattle.top_call.specs.Save.{IfSave, ImageSaveEnds};
 ghost use Rattle.top_call.specs.Words.{AreNoForm};
-ghost use Rattle.run_files.specs.Outside.{seen_place, seen_sink};
+ghost use Rattle.image_run.specs.Names.{image_names};
+ghost use Rattle.recount_run.specs.Names.{audit_names};
+ghost use Rattle.run_files.specs.Outside.{of_place, of_sink};
+ghost use Rattle.save_run.specs.Names.{saving};
 
-use crate::demo::demo;
+use crate::demo::run_demo;
 use crate::line_words::{big_rows, demo_files, load_names, recount_names, run_file, save_names};
 use crate::status::Status;
 use big_run::run_big;
@@ -23,6 +26,20 @@ use std::alloc::Global;
 use std::sync::Wait;
 use std::thread::Threads;
 
+// Loads the feed and answers the script over it, and says how that ended.
+fn demo<P: Place, O: Sink>(
+    alloc: Global,
+    feed: &str,
+    script: &str,
+    place: &mut P,
+    out: &mut O,
+) -> Status
+    ensures ends { DemoRunEnds (of_place P.Place) (of_sink O.Sink) place.old place.new out.old out.new result (demo_of feed.now script.now) }
+    ensures causes { HasCauses (of_place P.Place) (of_sink O.Sink) place.old place.new out.old out.new result }
+{
+    Status::of_end(run_demo(alloc, feed, script, place, out))
+}
+
 // Runs the named plan, and says how that ended.
 fn run<R: AllocGlobal + Threads + Wait + Sync, P: Place, O: Sink>(
     rt: &R,
@@ -30,8 +47,8 @@ fn run<R: AllocGlobal + Threads + Wait + Sync, P: Place, O: Sink>(
     place: &mut P,
     out: &mut O,
 ) -> Status
-    ensures ends { PlanRunEnds (seen_place P.files P.read_faults P.write_faults P.opened P.created) (seen_sink O.held O.faults O.name) place.old place.new out.old out.new result plan.now }
-    ensures causes { HasCauses (seen_place P.files P.read_faults P.write_faults P.opened P.created) (seen_sink O.held O.faults O.name) place.old place.new out.old out.new result }
+    ensures ends { PlanRunEnds (of_place P.Place) (of_sink O.Sink) place.old place.new out.old out.new result plan.now }
+    ensures causes { HasCauses (of_place P.Place) (of_sink O.Sink) place.old place.new out.old out.new result }
 {
     Status::of_end(run_plan(rt, rt.alloc(), plan, place, out))
 }
@@ -39,7 +56,7 @@ fn run<R: AllocGlobal + Threads + Wait + Sync, P: Place, O: Sink>(
 // Runs two generated feeds of so many rows, and says how that ended.
 fn big<R: AllocGlobal + Threads + Wait + Sync, O: Sink>(rt: &R, rows: u32, out: &mut O) -> Status
     requires rows { rows ≤ most_generated_rows }
-    ensures ends { BigRunEnds (seen_sink O.held O.faults O.name) out.old out.new result rows }
+    ensures ends { BigRunEnds (of_sink O.Sink) out.old out.new result rows }
 {
     Status::of_end(run_big(rt, rt.alloc(), rows, out))
 }
@@ -51,8 +68,8 @@ fn audit<P: Place, O: Sink>(
     place: &mut P,
     out: &mut O,
 ) -> Status
-    ensures ends { AuditEnds (seen_place P.files P.read_faults P.write_faults P.opened P.created) (seen_sink O.held O.faults O.name) place.old place.new out.old out.new result names.now.plan.now names.now.journal.now names.now.script.now names.now.replies.now }
-    ensures causes { HasCauses (seen_place P.files P.read_faults P.write_faults P.opened P.created) (seen_sink O.held O.faults O.name) place.old place.new out.old out.new result }
+    ensures ends { AuditEnds (of_place P.Place) (of_sink O.Sink) place.old place.new out.old out.new result (audit_names names.now) }
+    ensures causes { HasCauses (of_place P.Place) (of_sink O.Sink) place.old place.new out.old out.new result }
 {
     Status::of_audit(recount_files(alloc, names, place, out))
 }
@@ -65,8 +82,8 @@ fn save<P: Place, O: Sink>(
     place: &mut P,
     out: &mut O,
 ) -> Status
-    ensures ends { ImageSaveEnds (seen_place P.files P.read_faults P.write_faults P.opened P.created) (seen_sink O.held O.faults O.name) place.old place.new out.old out.new result plan.now image.now }
-    ensures causes { HasCauses (seen_place P.files P.read_faults P.write_faults P.opened P.created) (seen_sink O.held O.faults O.name) place.old place.new out.old out.new result }
+    ensures ends { ImageSaveEnds (of_place P.Place) (of_sink O.Sink) place.old place.new out.old out.new result (saving plan.now image.now) }
+    ensures causes { HasCauses (of_place P.Place) (of_sink O.Sink) place.old place.new out.old out.new result }
 {
     Status::of_image(save_files(alloc, plan, image, place, out))
 }
@@ -78,8 +95,8 @@ fn load<P: Place, O: Sink>(
     place: &mut P,
     out: &mut O,
 ) -> Status
-    ensures ends { ImageLoadEnds (seen_place P.files P.read_faults P.write_faults P.opened P.created) (seen_sink O.held O.faults O.name) place.old place.new out.old out.new result names.now.plan.now names.now.image.now names.now.script.now }
-    ensures causes { HasCauses (seen_place P.files P.read_faults P.write_faults P.opened P.created) (seen_sink O.held O.faults O.name) place.old place.new out.old out.new result }
+    ensures ends { ImageLoadEnds (of_place P.Place) (of_sink O.Sink) place.old place.new out.old out.new result (image_names names.now) }
+    ensures causes { HasCauses (of_place P.Place) (of_sink O.Sink) place.old place.new out.old out.new result }
 {
     Status::of_image(load_files(alloc, names, place, out))
 }
@@ -102,15 +119,15 @@ pub fn nanocube<R: AllocGlobal + Threads + Wait + Sync, P: Place, O: Sink>(
     ensures usage { ((result ≡ Status.Usage) ↔ AreNoForm (map string_bytes words.now)) × (result ≡ Status.Usage → (place.new ≡ place.old) × (out.new ≡ out.old)) }
 
     // How each form ends.
-    ensures demo { IfDemo (map string_bytes words.now) (DemoRunEnds (seen_place P.files P.read_faults P.write_faults P.opened P.created) (seen_sink O.held O.faults O.name) place.old place.new out.old out.new result) }
-    ensures run { IfRun (map string_bytes words.now) (PlanRunEnds (seen_place P.files P.read_faults P.write_faults P.opened P.created) (seen_sink O.held O.faults O.name) place.old place.new out.old out.new result) }
-    ensures big { IfBig (map string_bytes words.now) (λ rows. BigRunEnds (seen_sink O.held O.faults O.name) out.old out.new result rows × (place.new ≡ place.old)) }
-    ensures recount { IfRecount (map string_bytes words.now) (AuditEnds (seen_place P.files P.read_faults P.write_faults P.opened P.created) (seen_sink O.held O.faults O.name) place.old place.new out.old out.new result) }
-    ensures save { IfSave (map string_bytes words.now) (ImageSaveEnds (seen_place P.files P.read_faults P.write_faults P.opened P.created) (seen_sink O.held O.faults O.name) place.old place.new out.old out.new result) }
-    ensures load { IfLoad (map string_bytes words.now) (ImageLoadEnds (seen_place P.files P.read_faults P.write_faults P.opened P.created) (seen_sink O.held O.faults O.name) place.old place.new out.old out.new result) }
+    ensures demo { IfDemo (map string_bytes words.now) (DemoRunEnds (of_place P.Place) (of_sink O.Sink) place.old place.new out.old out.new result) }
+    ensures run { IfRun (map string_bytes words.now) (PlanRunEnds (of_place P.Place) (of_sink O.Sink) place.old place.new out.old out.new result) }
+    ensures big { IfBig (map string_bytes words.now) (λ rows. BigRunEnds (of_sink O.Sink) out.old out.new result rows × (place.new ≡ place.old)) }
+    ensures recount { IfRecount (map string_bytes words.now) (AuditEnds (of_place P.Place) (of_sink O.Sink) place.old place.new out.old out.new result) }
+    ensures save { IfSave (map string_bytes words.now) (ImageSaveEnds (of_place P.Place) (of_sink O.Sink) place.old place.new out.old out.new result) }
+    ensures load { IfLoad (map string_bytes words.now) (ImageLoadEnds (of_place P.Place) (of_sink O.Sink) place.old place.new out.old out.new result) }
 
     // The causes of faults, whatever the form.
-    ensures causes { HasCauses (seen_place P.files P.read_faults P.write_faults P.opened P.created) (seen_sink O.held O.faults O.name) place.old place.new out.old out.new result }
+    ensures causes { HasCauses (of_place P.Place) (of_sink O.Sink) place.old place.new out.old out.new result }
 {
     if let Some(names) = recount_names(words) {
         return audit(rt.alloc(), &names, place, out);

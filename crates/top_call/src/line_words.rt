@@ -1,7 +1,10 @@
 //! What the words of a command line ask for.
 ghost use Rattle.std.specs.Prelude.{◌≡◌, ◌≤◌, IfSome, map, option_map, string_bytes};
+ghost use Rattle.image_run.specs.Names.{image_names};
+ghost use Rattle.recount_run.specs.Names.{audit_names};
+ghost use Rattle.save_run.specs.Names.{saving};
 ghost use Rattle.top_call.specs.Big.{big_rows, most_generated_rows, generated_rows_of};
-ghost use Rattle.top_call.specs.Demo.{demo_names};
+ghost use Rattle.top_call.specs.Demo.{demo_names, demo_of};
 ghost use Rattle.top_call.specs.Load.{load_names};
 ghost use Rattle.top_call.specs.Recount.{recount_names};
 ghost use Rattle.top_call.specs.Run.{run_name};
@@ -17,7 +20,7 @@ const MOST_ROWS: u64 = 100_000;
 
 /// The names of the feed and the script, where the words are `demo FEED SCRIPT`.
 pub(crate) fn demo_files(words: &[String]) -> Option<(&str, &str)>
-    ensures { option_map (λ names. (names.0.now, names.1.now)) result ≡ demo_names (map string_bytes words.now) }
+    ensures { option_map (λ names. demo_of names.0.now names.1.now) result ≡ demo_names (map string_bytes words.now) }
 {
     if words.len() == 3 && is_same_text(words[0].as_str().as_bytes(), b"demo") {
         Some((words[1].as_str(), words[2].as_str()))
@@ -65,7 +68,7 @@ pub(crate) fn big_rows(words: &[String]) -> Option<u32>
 
 /// The names of the four files, where the words are `recount PLAN JOURNAL SCRIPT REPLIES`.
 pub(crate) fn recount_names(words: &[String]) -> Option<RecountNames<'_>>
-    ensures { option_map (λ names. (names.plan.now, names.journal.now, names.script.now, names.replies.now)) result ≡ recount_names (map string_bytes words.now) }
+    ensures { option_map audit_names result ≡ recount_names (map string_bytes words.now) }
 {
     if words.len() == 5 && is_same_text(words[0].as_str().as_bytes(), b"recount") {
         Some(RecountNames {
@@ -81,7 +84,7 @@ pub(crate) fn recount_names(words: &[String]) -> Option<RecountNames<'_>>
 
 /// The names of the three files, where the words are `load PLAN IMAGE SCRIPT`.
 pub(crate) fn load_names(words: &[String]) -> Option<LoadNames<'_>>
-    ensures { option_map (λ names. (names.plan.now, names.image.now, names.script.now)) result ≡ load_names (map string_bytes words.now) }
+    ensures { option_map image_names result ≡ load_names (map string_bytes words.now) }
 {
     if words.len() == 4 && is_same_text(words[0].as_str().as_bytes(), b"load") {
         Some(LoadNames {
@@ -96,7 +99,7 @@ pub(crate) fn load_names(words: &[String]) -> Option<LoadNames<'_>>
 
 /// The names of the plan and the image, where the words are `save PLAN IMAGE`.
 pub(crate) fn save_names(words: &[String]) -> Option<(&str, &str)>
-    ensures { option_map (λ names. (names.0.now, names.1.now)) result ≡ save_names (map string_bytes words.now) }
+    ensures { option_map (λ names. saving names.0.now names.1.now) result ≡ save_names (map string_bytes words.now) }
 {
     if words.len() == 3 && is_same_text(words[0].as_str().as_bytes(), b"save") {
         Some((words[1].as_str(), words[2].as_str()))

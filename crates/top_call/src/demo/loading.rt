@@ -1,8 +1,8 @@
 //! The points of a feed.
 ghost use Rattle.std.specs.Prelude.{◌≡◌, ◌+◌, ◌<◌, ◌≤◌, [], ◌∷◌, true, OnOk, IsErrOf};
 ghost use Rattle.top_call.specs.Loading.{KeepsRows, Loads, TakesFeed};
-ghost use Rattle.run_files.specs.Outside.{seen_place};
-ghost use Rattle.cube_view.specs.Bag.{most_points, Counts, CountsMore};
+ghost use Rattle.run_files.specs.Outside.{of_place};
+ghost use Rattle.cube_view.specs.Bag.{most_points, Counts, GrowsBy};
 ghost use Rattle.feed_reader.specs.Feeds.{is_feed_refused, points_in};
 ghost use Rattle.feed_reader.specs.Reading.{IsAtStart};
 ghost use Rattle.feed_reader.specs.Rows.{row_of_line, IsValidRow};
@@ -11,10 +11,10 @@ ghost use Rattle.outer_io.specs.Faults.{HasCause};
 ghost use Rattle.outer_io.specs.Progress.{IsGoing, IsTooLarge, PassesAll};
 ghost use Rattle.outer_io.specs.Told.{Told};
 
-use crate::status::Status;
 use cube_view::Grow;
 use feed_reader::{Header, NoHeader, Row, next_row, read_header};
 use outer_io::{CutFault, IoFault, LineCutter, NoMemory, Place, Source};
+use run_files::Stop;
 use std::alloc::Global;
 
 /// Why a feed is not loaded.
@@ -67,7 +67,7 @@ impl From<NoHeader> for LoadFault {
 fn keep_point<V: Grow>(cube: &mut V, row: Row) -> Result<(), NoMemory>
     requires valid { IsValidRow (V.schema cube.old) row }
     requires room { V.seen cube.old < most_points }
-    ensures kept { OnOk result (CountsMore (Counts (V.weight_at cube.old) (V.seen cube.old)) (Counts (V.weight_at cube.new) (V.seen cube.new)) (points_in (row ∷ []))) }
+    ensures kept { OnOk result (GrowsBy (V.weight_at cube.old) (V.seen cube.old) (V.weight_at cube.new) (V.seen cube.new) (points_in (row ∷ []))) }
     ensures schema { V.schema cube.new ≡ V.schema cube.old }
     ensures few { OnOk result (V.seen cube.new ≤ V.seen cube.old + 1) }
 {
@@ -88,7 +88,7 @@ fn keep_points<V: Grow, S: Source>(
     requires schema { header.now.schema ≡ V.schema cube.old }
     requires going { IsGoing cutter.old }
     requires few { V.seen cube.old ≤ cutter.old.given }
-    ensures points { OnOk result (KeepsRows S.left S.faults header.now.places (V.schema cube.old) cutter.old cutter.new (Counts (V.weight_at cube.old) (V.seen cube.old)) (Counts (V.weight_at cube.new) (V.seen cube.new))) }
+    ensures points { OnOk result (KeepsRows S.Source V.CubeView header.now.places cutter.old cutter.new cube.old cube.new) }
     ensures schema { V.schema cube.new ≡ V.schema cube.old }
     ensures refused { IsErrOf result LoadFault.Refused → IsTooLarge S.left cutter.old }
     ensures cause { HasCause (S.faults cutter.old.source) (S.faults cutter.new.source) result LoadFault.Read }
@@ -144,9 +144,9 @@ pub(crate) fn load<V: Grow, P: Place>(
     feed: &str,
     place: &mut P,
     cube: &mut V,
-) -> Result<(), Status>
+) -> Result<(), Stop>
     requires { Counts (V.weight_at cube.old) (V.seen cube.old) [] }
-    ensures loads { Loads (seen_place P.files P.read_faults P.write_faults P.opened P.created) place.old place.new feed.now (V.schema cube.old) (Counts (V.weight_at cube.new) (V.seen cube.new)) result }
+    ensures loads { Loads (of_place P.Place) place.old place.new feed.now (V.schema cube.old) (Counts (V.weight_at cube.new) (V.seen cube.new)) result }
     ensures schema { V.schema cube.new ≡ V.schema cube.old }
 {
     match place.open(feed) {
@@ -155,12 +155,12 @@ pub(crate) fn load<V: Grow, P: Place>(
             place.give_back_in(source);
             match loaded {
                 Ok(()) => Ok(()),
-                Err(LoadFault::NoMemory) => Err(Status::NoMemory),
-                Err(LoadFault::Read) => Err(Status::ReadFault),
-                Err(LoadFault::Refused) => Err(Status::FeedRefused),
+                Err(LoadFault::NoMemory) => Err(Stop::NoMemory),
+                Err(LoadFault::Read) => Err(Stop::ReadFault),
+                Err(LoadFault::Refused) => Err(Stop::FeedRefused),
             }
         }
-        Err(IoFault::Failed) => Err(Status::ReadFault),
-        Err(IoFault::NoMemory) => Err(Status::NoMemory),
+        Err(IoFault::Failed) => Err(Stop::ReadFault),
+        Err(IoFault::NoMemory) => Err(Stop::NoMemory),
     }
 }

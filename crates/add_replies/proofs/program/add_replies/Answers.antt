@@ -1,6 +1,6 @@
 use Rattle.std.proofs.Common.{map, refl, sym, ◌∙◌}
 use Rattle.std.specs.Prelude.{string_bytes}
-use Rattle.run_files.specs.Outside.{seen_place, seen_sink}
+use Rattle.run_files.specs.Outside.{of_place, of_sink}
 use Rattle.add_replies.specs.Statuses.{EndsByLaw, EndsInSink, EndsSaying, EndsWithCause, OpensBy}
 use Rattle.add_replies.specs.declared.status.Status.TheVariants.{Usage}
 use Rattle.add_replies.proofs.Forms.{claim_none, claim_of, form_none, form_some, no_usage}
@@ -15,7 +15,7 @@ returns-in-Some-clause-law g c =
 pub returns-in-Some-clause-says : goal.returns-in-Some-clause-says
 returns-in-Some-clause-says g c =
     claim_of (map string_bytes c.args.words.now) c.share_names.result c.share_names.ensures c.in-Some.names
-    (EndsSaying (seen_sink g.O.Sink.held g.O.Sink.faults g.O.Sink.name) c.args.out.now c.add_shares.new.out (g.P.Place.files c.args.place.now) c.of_outcome.result)
+    (EndsSaying (of_sink g.O.Sink) c.args.out.now c.add_shares.new.out (g.P.Place.files c.args.place.now) c.of_outcome.result)
     c.in-Some.is (c.add_shares.result, c.add_shares.ensures.shares, c.of_outcome.ensures)
 
 pub returns-in-Some-clause-causes : goal.returns-in-Some-clause-causes
@@ -27,29 +27,29 @@ returns-in-Some-clause-causes g c =
 pub returns-in-Some-clause-opens : goal.returns-in-Some-clause-opens
 returns-in-Some-clause-opens g c =
     claim_of (map string_bytes c.args.words.now) c.share_names.result c.share_names.ensures c.in-Some.names
-    (OpensBy (seen_place g.P.Place.files g.P.Place.read_faults g.P.Place.write_faults g.P.Place.opened g.P.Place.created) c.args.place.now c.add_shares.new.place c.of_outcome.result)
+    (OpensBy (of_place g.P.Place) c.args.place.now c.add_shares.new.place c.of_outcome.result)
     c.in-Some.is (c.add_shares.result, c.add_shares.ensures.opens, c.of_outcome.ensures)
 
 pub returns-in-Some-clause-sink : goal.returns-in-Some-clause-sink
 returns-in-Some-clause-sink g c =
     claim_of (map string_bytes c.args.words.now) c.share_names.result c.share_names.ensures c.in-Some.names
-    (EndsInSink (seen_sink g.O.Sink.held g.O.Sink.faults g.O.Sink.name) c.args.out.now c.add_shares.new.out (g.P.Place.files c.args.place.now) c.of_outcome.result)
+    (EndsInSink (of_sink g.O.Sink) c.args.out.now c.add_shares.new.out (g.P.Place.files c.args.place.now) c.of_outcome.result)
     c.in-Some.is (c.add_shares.result, c.add_shares.ensures.sink, c.of_outcome.ensures)
 
 pub returns-in-None-clause-law : goal.returns-in-None-clause-law
 returns-in-None-clause-law g c = claim_none (map string_bytes c.args.words.now) c.share_names.result c.share_names.ensures (EndsByLaw (g.P.Place.files c.args.place.now) (g.O.Sink.held c.args.out.now) (g.O.Sink.held c.args.out.now) Usage) c.in-None.is
 
 pub returns-in-None-clause-says : goal.returns-in-None-clause-says
-returns-in-None-clause-says g c = claim_none (map string_bytes c.args.words.now) c.share_names.result c.share_names.ensures (EndsSaying (seen_sink g.O.Sink.held g.O.Sink.faults g.O.Sink.name) c.args.out.now c.args.out.now (g.P.Place.files c.args.place.now) Usage) c.in-None.is
+returns-in-None-clause-says g c = claim_none (map string_bytes c.args.words.now) c.share_names.result c.share_names.ensures (EndsSaying (of_sink g.O.Sink) c.args.out.now c.args.out.now (g.P.Place.files c.args.place.now) Usage) c.in-None.is
 
 pub returns-in-None-clause-causes : goal.returns-in-None-clause-causes
 returns-in-None-clause-causes g c = claim_none (map string_bytes c.args.words.now) c.share_names.result c.share_names.ensures (EndsWithCause (g.P.Place.files c.args.place.now) Usage) c.in-None.is
 
 pub returns-in-None-clause-opens : goal.returns-in-None-clause-opens
-returns-in-None-clause-opens g c = claim_none (map string_bytes c.args.words.now) c.share_names.result c.share_names.ensures (OpensBy (seen_place g.P.Place.files g.P.Place.read_faults g.P.Place.write_faults g.P.Place.opened g.P.Place.created) c.args.place.now c.args.place.now Usage) c.in-None.is
+returns-in-None-clause-opens g c = claim_none (map string_bytes c.args.words.now) c.share_names.result c.share_names.ensures (OpensBy (of_place g.P.Place) c.args.place.now c.args.place.now Usage) c.in-None.is
 
 pub returns-in-None-clause-sink : goal.returns-in-None-clause-sink
-returns-in-None-clause-sink g c = claim_none (map string_bytes c.args.words.now) c.share_names.result c.share_names.ensures (EndsInSink (seen_sink g.O.Sink.held g.O.Sink.faults g.O.Sink.name) c.args.out.now c.args.out.now (g.P.Place.files c.args.place.now) Usage) c.in-None.is
+returns-in-None-clause-sink g c = claim_none (map string_bytes c.args.words.now) c.share_names.result c.share_names.ensures (EndsInSink (of_sink g.O.Sink) c.args.out.now c.args.out.now (g.P.Place.files c.args.place.now) Usage) c.in-None.is
 
 pub returns-in-Some-clause-usage : goal.returns-in-Some-clause-usage
 returns-in-Some-clause-usage g c =

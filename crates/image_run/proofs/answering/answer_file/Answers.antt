@@ -1,19 +1,19 @@
 use Rattle.std.proofs.Common.{◌∙◌, Result, sym, subst}
 use Rattle.std.proofs.lemmas.List.{append-nil}
-use Rattle.cube_view.specs.Bag.{Counts}
-use Rattle.run_files.specs.Outside.{seen_place, seen_sink}
+use Rattle.run_files.specs.Outside.{of_place, of_sink}
 use Rattle.run_files.specs.declared.stop.Stop.{Stop}
 use Rattle.image_run.specs.Answering.{AnswersFile}
+use Rattle.image_run.specs.Views.{of_view}
 use Rattle.image_run.proofs.Answered.{answered_file, unopened_file}
 use Rattle.image_run.proofs.answering.answer_file.Goals as goal
 
 pub returns-in-Ok-clause-answers : goal.returns-in-Ok-clause-answers
 returns-in-Ok-clause-answers g c =
-    let p = seen_place g.P.Place.files g.P.Place.read_faults g.P.Place.write_faults g.P.Place.opened g.P.Place.created in
-    let s = seen_sink g.O.Sink.held g.O.Sink.faults g.O.Sink.name in
+    let p = of_place g.P.Place in
+    let s = of_sink g.O.Sink in
     let at = g.V.CubeView.weight_at c.args.view.now in
     let n = g.V.CubeView.seen c.args.view.now in
-    subst (λ (result : Result (Unit {0}) Stop). AnswersFile p s c.args.place.now c.give_back_in.new.self c.args.out.now c.answer_script-source.new.out (g.V.CubeView.schema c.args.view.now) g.V.CubeView.is_stat (Counts at n) c.args.script.now result)
+    subst (λ (result : Result (Unit {0}) Stop). AnswersFile p s c.args.place.now c.give_back_in.new.self c.args.out.now c.answer_script-source.new.out (of_view g.V.CubeView c.args.view.now) c.args.script.now result)
     (sym c.script_end.ensures)
     (answered_file p s c.args.place.now c.give_back_in.new.self c.args.out.now c.answer_script-source.new.out (g.V.CubeView.schema c.args.view.now) g.V.CubeView.is_stat at n c.args.script.now
     (g.V.CubeView.numbers c.args.view.now) (g.met.V.CubeView.structure c.args.view.now) c.seen.result (g.P.In.Source.left c.in-Ok.source) c.seen.ensures c.in-Ok.ensures.left

@@ -1,15 +1,15 @@
 use Rattle.std.proofs.Common.{List, map, subst}
 use Rattle.crew_feeder.specs.declared.job.FeedJob.{FeedJob}
 use Rattle.live_session.specs.State.{SessionState}
-use Rattle.plan_run.proofs.Returned.{sinks_of_both}
+use Rattle.run_stages.proofs.Returned.{sinks_of_both}
 use Rattle.run_files.specs.GivingBack.{TakesSinks, TakesSources}
-use Rattle.run_files.specs.Outside.{seen_place, seen_sink}
+use Rattle.run_files.specs.Outside.{of_place, of_sink}
 use Rattle.plan_run.proofs.returning.give_back_parts.Goals as goal
 
 pub returns : goal.returns
 returns g c =
-    let p = seen_place g.P.Place.files g.P.Place.read_faults g.P.Place.write_faults g.P.Place.opened g.P.Place.created in
-    let s = seen_sink g.P.Out.Sink.held g.P.Out.Sink.faults g.P.Out.Sink.name in
+    let p = of_place g.P.Place in
+    let s = of_sink g.P.Out.Sink in
     let job = λ (j : FeedJob g.row.P-In.Denot). g.P.In.Source.faults j.cutter.source in
     let source = λ (k : SessionState g.row.P-In.Denot g.row.P-Out.Denot). g.P.In.Source.faults k.source.source in
     let sink = λ (k : SessionState g.row.P-In.Denot g.row.P-Out.Denot). k.sink in

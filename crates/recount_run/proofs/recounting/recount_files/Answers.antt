@@ -1,7 +1,8 @@
 use Rattle.std.proofs.Common.{Result, subst, sym}
-use Rattle.run_files.specs.Outside.{PlaceSeen, SinkSeen, seen_place, seen_sink}
+use Rattle.run_files.specs.Outside.{of_place, of_sink, PlaceSeen, SinkSeen}
 use Rattle.run_files.specs.declared.stop.Stop.{Stop}
 use Rattle.recount_run.specs.Ends.{RecountEnds}
+use Rattle.recount_run.specs.Names.{audit_names}
 use Rattle.recount_run.specs.declared.audit.Audit.{Audit}
 use Rattle.recount_run.proofs.Ends.{ended_by_plan, ended_by_saying, ended_by_texts}
 use Rattle.run_files.proofs.Apart.{residual_is}
@@ -10,11 +11,11 @@ use Rattle.recount_run.proofs.recounting.recount_files.Goals as goal
 
 -- what is seen of the place
 abbrev place_of : (g : Over) → PlaceSeen g.row.P.Denot
-place_of g = seen_place g.P.Place.files g.P.Place.read_faults g.P.Place.write_faults g.P.Place.opened g.P.Place.created
+place_of g = of_place g.P.Place
 
 -- and of the sink
 abbrev sink_of : (g : Over) → SinkSeen g.row.O.Denot
-sink_of g = seen_sink g.O.Sink.held g.O.Sink.faults g.O.Sink.name
+sink_of g = of_sink g.O.Sink
 
 pub audit_texts-requires-clause-feeds : goal.audit_texts-requires-clause-feeds
 audit_texts-requires-clause-feeds g c = c.in_ok-plan.ensures.plan.plan.files.feeds.1
@@ -24,12 +25,12 @@ audit_texts-requires-clause-short g c = c.in_ok-texts.ensures.short
 
 pub returns-in_err-plan : goal.returns-in_err-plan
 returns-in_err-plan g c =
-    subst (λ (r : Result Audit Stop). RecountEnds (place_of g) (sink_of g) c.args.place.now c.load_plan.new.place c.args.out.now c.load_plan.new.out c.args.names.now.plan.now c.args.names.now.journal.now c.args.names.now.script.now c.args.names.now.replies.now r) (sym (residual_is c.from_residual.result c.in_err-plan.field-0.0 c.from_residual.ensures.1))
+    subst (λ (r : Result Audit Stop). RecountEnds (place_of g) (sink_of g) c.args.place.now c.load_plan.new.place c.args.out.now c.load_plan.new.out (audit_names c.args.names.now) r) (sym (residual_is c.from_residual.result c.in_err-plan.field-0.0 c.from_residual.ensures.1))
     (ended_by_plan (place_of g) (sink_of g) c.args.names.now.plan.now c.args.names.now.journal.now c.args.names.now.script.now c.args.names.now.replies.now c.args.place.now c.load_plan.new.place c.args.out.now c.load_plan.new.out c.in_err-plan.field-0.0 c.in_err-plan.ensures.leaves c.in_err-plan.ensures.plan)
 
 pub returns-in_err-texts : goal.returns-in_err-texts
 returns-in_err-texts g c =
-    subst (λ (r : Result Audit Stop). RecountEnds (place_of g) (sink_of g) c.args.place.now c.read_texts.new.place c.args.out.now c.load_plan.new.out c.args.names.now.plan.now c.args.names.now.journal.now c.args.names.now.script.now c.args.names.now.replies.now r) (sym (residual_is c.from_residual-in_err-texts.result c.in_err-texts.field-0.0 c.from_residual-in_err-texts.ensures.1))
+    subst (λ (r : Result Audit Stop). RecountEnds (place_of g) (sink_of g) c.args.place.now c.read_texts.new.place c.args.out.now c.load_plan.new.out (audit_names c.args.names.now) r) (sym (residual_is c.from_residual-in_err-texts.result c.in_err-texts.field-0.0 c.from_residual-in_err-texts.ensures.1))
     (ended_by_texts (place_of g) (sink_of g) c.args.names.now.plan.now c.args.names.now.journal.now c.args.names.now.script.now c.args.names.now.replies.now c.args.place.now c.load_plan.new.place c.read_texts.new.place c.args.out.now c.load_plan.new.out c.in_ok-plan.plan c.in_ok-plan.ensures.leaves c.in_ok-plan.ensures.plan c.in_err-texts.field-0.0 c.in_err-texts.ensures)
 
 pub returns : goal.returns

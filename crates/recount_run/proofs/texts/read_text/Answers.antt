@@ -1,5 +1,5 @@
 use Rattle.std.proofs.Common.{List, Result, ℕ, subst, sym, arith}
-use Rattle.run_files.specs.Outside.{seen_place}
+use Rattle.run_files.specs.Outside.{of_place}
 use Rattle.run_files.specs.declared.stop.Stop.{Stop}
 use Rattle.recount_run.specs.Reading.{ReadsText}
 use Rattle.recount_run.proofs.Reading.{text_ended, text_read, text_refused}
@@ -8,16 +8,16 @@ use Rattle.recount_run.proofs.texts.read_text.Goals as goal
 
 pub returns-in_err-bytes : goal.returns-in_err-bytes
 returns-in_err-bytes g c =
-    let p = seen_place g.P.Place.files g.P.Place.read_faults g.P.Place.write_faults g.P.Place.opened g.P.Place.created in
+    let p = of_place g.P.Place in
     subst (λ (r : Result (List ℕ) Stop). ReadsText p c.args.place.now c.read_file.new.place c.args.name.now r) (sym (residual_is c.from_residual.result c.in_err-bytes.field-0.0 c.from_residual.ensures.1))
     (text_ended p c.args.place.now c.read_file.new.place c.args.name.now c.in_err-bytes.field-0.0 c.in_err-bytes.ensures.leaves c.in_err-bytes.ensures.ends)
 
 pub returns-then-len-gt-LONGEST_TEXT : goal.returns-then-len-gt-LONGEST_TEXT
 returns-then-len-gt-LONGEST_TEXT g c =
-    text_refused (seen_place g.P.Place.files g.P.Place.read_faults g.P.Place.write_faults g.P.Place.opened g.P.Place.created) c.args.place.now c.read_file.new.place c.args.name.now c.in_ok-bytes.bytes
+    text_refused (of_place g.P.Place) c.args.place.now c.read_file.new.place c.args.name.now c.in_ok-bytes.bytes
     c.in_ok-bytes.ensures.leaves c.in_ok-bytes.ensures.bytes (omega (arith, c.len.ensures, c.if-len-gt-LONGEST_TEXT.true))
 
 pub returns : goal.returns
 returns g c =
-    text_read (seen_place g.P.Place.files g.P.Place.read_faults g.P.Place.write_faults g.P.Place.opened g.P.Place.created) c.args.place.now c.read_file.new.place c.args.name.now c.in_ok-bytes.bytes
+    text_read (of_place g.P.Place) c.args.place.now c.read_file.new.place c.args.name.now c.in_ok-bytes.bytes
     c.in_ok-bytes.ensures.leaves c.in_ok-bytes.ensures.bytes (omega (arith, c.len.ensures, c.if-len-gt-LONGEST_TEXT.false))

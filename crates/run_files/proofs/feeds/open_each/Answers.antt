@@ -6,14 +6,14 @@ use Rattle.std.proofs.lemmas.List.Elements.{All-nil, All-push}
 use Rattle.outer_io.specs.declared.cutter.LineCutter.{LineCutter}
 use Rattle.run_files.proofs.HeadReads.{opens_none, opens_on, opens_residual, headed_more, all_headed, same_files}
 use Rattle.run_files.specs.Headed.{IsHeaded, OpensFeeds}
-use Rattle.run_files.specs.Outside.{file_of, seen_place, seen_sink}
+use Rattle.run_files.specs.Outside.{file_of, of_place, of_sink}
 use Rattle.run_files.specs.declared.feeds.HeadedFeed.{HeadedFeed}
 use Rattle.run_files.proofs.feeds.open_each.Goals as goal
 
 pub loop-name-init : goal.loop-name-init
 loop-name-init g c =
     let R = λ (name : List ℕ). IsHeaded g.P.In.Source.left g.P.In.Source.faults c.args.schema.now (file_of (g.P.Place.files c.args.place.now) name) in (
-      opens_none (seen_place g.P.Place.files g.P.Place.read_faults g.P.Place.write_faults g.P.Place.opened g.P.Place.created) (seen_sink g.O.Sink.held g.O.Sink.faults g.O.Sink.name) c.args.schema.now c.args.place.now c.args.out.now,
+      opens_none (of_place g.P.Place) (of_sink g.O.Sink) c.args.schema.now c.args.place.now c.args.out.now,
       subst (λ (items : List (HeadedFeed (LineCutter g.row.P-In.Denot))). AllZip R [] items) (sym c.requires.empty.0) tt,
       subst (λ (items : List (HeadedFeed (LineCutter g.row.P-In.Denot))). All (λ f. g.P.In.Source.faults f.cutter.source ≡ 0) items) (sym c.requires.empty.0) (All-nil _),
       c.requires.empty.1,
@@ -22,8 +22,8 @@ loop-name-init g c =
 
 pub loop-name-preserved : goal.loop-name-preserved
 loop-name-preserved g c =
-    let p = seen_place g.P.Place.files g.P.Place.read_faults g.P.Place.write_faults g.P.Place.opened g.P.Place.created in
-    let s = seen_sink g.O.Sink.held g.O.Sink.faults g.O.Sink.name in
+    let p = of_place g.P.Place in
+    let s = of_sink g.O.Sink in
     let R = λ (name : List ℕ). IsHeaded g.P.In.Source.left g.P.In.Source.faults c.args.schema.now (file_of (g.P.Place.files c.args.place.now) name) in
     let Q = λ (feed : HeadedFeed (LineCutter g.row.P-In.Denot)). g.P.In.Source.faults feed.cutter.source ≡ 0 in
     let first = take c.loop-name.name-index c.args.names.now in
@@ -44,8 +44,8 @@ loop-name-preserved g c =
 
 pub returns-in_err-feed-clause-opens : goal.returns-in_err-feed-clause-opens
 returns-in_err-feed-clause-opens g c =
-    let p = seen_place g.P.Place.files g.P.Place.read_faults g.P.Place.write_faults g.P.Place.opened g.P.Place.created in
-    let s = seen_sink g.O.Sink.held g.O.Sink.faults g.O.Sink.name in
+    let p = of_place g.P.Place in
+    let s = of_sink g.O.Sink in
     let first = take c.loop-name.name-index c.args.names.now in
     let name = c.as_str.result.now in
     let so_far = c.loop-name.invariant in
@@ -56,6 +56,6 @@ returns-in_err-feed-clause-opens g c =
 
 pub returns-clause-opens : goal.returns-clause-opens
 returns-clause-opens g c =
-    let p = seen_place g.P.Place.files g.P.Place.read_faults g.P.Place.write_faults g.P.Place.opened g.P.Place.created in
-    let s = seen_sink g.O.Sink.held g.O.Sink.faults g.O.Sink.name in
+    let p = of_place g.P.Place in
+    let s = of_sink g.O.Sink in
     subst (λ (names : List (List ℕ)). OpensFeeds p s c.args.schema.now c.args.place.now c.loop-name.place c.args.out.now c.loop-name.out names None) (take_all c.loop-name.name-index c.args.names.now c.loop-name-test.false) c.loop-name.invariant.0

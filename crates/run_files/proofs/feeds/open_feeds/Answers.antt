@@ -4,12 +4,12 @@ use Rattle.std.proofs.lemmas.List.Elements.{All-map}
 use Rattle.outer_io.specs.declared.cutter.LineCutter.{LineCutter}
 use Rattle.run_files.proofs.HeadReads.{opens_given_back, opens_nothing}
 use Rattle.run_files.specs.Headed.{IsHeaded}
-use Rattle.run_files.specs.Outside.{file_of, seen_place, seen_sink}
+use Rattle.run_files.specs.Outside.{file_of, of_place, of_sink}
 use Rattle.run_files.specs.declared.feeds.HeadedFeed.{HeadedFeed}
 use Rattle.run_files.proofs.feeds.open_feeds.Goals as goal
 
 pub returns-in_default-clause-opens : goal.returns-in_default-clause-opens
-returns-in_default-clause-opens g c = opens_nothing (seen_place g.P.Place.files g.P.Place.read_faults g.P.Place.write_faults g.P.Place.opened g.P.Place.created) (seen_sink g.O.Sink.held g.O.Sink.faults g.O.Sink.name) c.args.schema.now c.args.place.now c.args.out.now c.args.names.now
+returns-in_default-clause-opens g c = opens_nothing (of_place g.P.Place) (of_sink g.O.Sink) c.args.schema.now c.args.place.now c.args.out.now c.args.names.now
 
 pub returns-in-Ok-open_each-clause-feeds : goal.returns-in-Ok-open_each-clause-feeds
 returns-in-Ok-open_each-clause-feeds g c =
@@ -18,6 +18,6 @@ returns-in-Ok-open_each-clause-feeds g c =
 pub returns-in-Err-clause-opens : goal.returns-in-Err-clause-opens
 returns-in-Err-clause-opens g c =
     let F = λ (f : HeadedFeed (LineCutter g.row.P-In.Denot)). g.P.In.Source.faults f.cutter.source in
-    opens_given_back (seen_place g.P.Place.files g.P.Place.read_faults g.P.Place.write_faults g.P.Place.opened g.P.Place.created) (seen_sink g.O.Sink.held g.O.Sink.faults g.O.Sink.name)
+    opens_given_back (of_place g.P.Place) (of_sink g.O.Sink)
     c.args.schema.now c.args.place.now c.open_each.new.place c.give_back_feeds.new.place c.args.out.now c.open_each.new.out c.args.names.now (Some c.in-Err.stop) (map F c.open_each.new.feeds.items)
     c.in-Err.ensures.opens c.give_back_feeds.ensures (All-map (λ n. n ≡ 0) F c.open_each.new.feeds.items c.open_each.ensures.quiet)

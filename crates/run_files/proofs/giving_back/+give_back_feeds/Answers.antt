@@ -4,12 +4,12 @@ use Rattle.outer_io.specs.declared.cutter.LineCutter.{LineCutter}
 use Rattle.run_files.specs.declared.feeds.HeadedFeed.{HeadedFeed}
 use Rattle.run_files.proofs.Returning.{takes_more}
 use Rattle.run_files.specs.GivingBack.{TakesSources}
-use Rattle.run_files.specs.Outside.{seen_place}
+use Rattle.run_files.specs.Outside.{of_place}
 use Rattle.run_files.proofs.giving_back.+give_back_feeds.Goals as goal
 
 pub returns : goal.returns
 returns g t c =
-    let p = seen_place g.P.Place.files g.P.Place.read_faults g.P.Place.write_faults g.P.Place.opened g.P.Place.created in
+    let p = of_place g.P.Place in
     let e : map (λ (k : HeadedFeed (LineCutter g.row.P-In.Denot)). g.P.In.Source.faults k.cutter.source) c.args.feeds.items ≡ map (λ (k : HeadedFeed (LineCutter g.row.P-In.Denot)). g.P.In.Source.faults k.cutter.source) c.pop.new.self.items ++ g.P.In.Source.faults c.into_source.result ∷ [] =
     ap (map (λ (k : HeadedFeed (LineCutter g.row.P-In.Denot)). g.P.In.Source.faults k.cutter.source)) c.in-Some.ensures.items ∙ (map-append (λ (k : HeadedFeed (LineCutter g.row.P-In.Denot)). g.P.In.Source.faults k.cutter.source) c.pop.new.self.items (c.in-Some.last ∷ []) ∙ ap (λ n. map (λ (k : HeadedFeed (LineCutter g.row.P-In.Denot)). g.P.In.Source.faults k.cutter.source) c.pop.new.self.items ++ n ∷ []) (ap g.P.In.Source.faults (sym c.into_source.ensures))) in
     subst (λ counts. TakesSources p c.args.place.now c.give_back_in.new.self counts) (sym e)

@@ -2,15 +2,15 @@ use Rattle.std.proofs.Common.{◌≡◌, ◌-◌, ◌++◌, ◌∷◌, ◌∙◌
 use Rattle.std.proofs.lemmas.List.{append-nil}
 use Rattle.run_files.proofs.SinkReturns.{gives_more, gives_none, lands_one}
 use Rattle.run_files.specs.GivingBack.{TakesSinks}
-use Rattle.run_files.specs.Outside.{seen_place, seen_sink}
+use Rattle.run_files.specs.Outside.{of_place, of_sink}
 use Rattle.run_files.specs.Stops.{joined_ends}
 use Rattle.run_files.specs.declared.stop.Stop.{Stop}
 use Rattle.run_files.proofs.giving_back.+give_back_sinks.Goals as goal
 
 pub returns : goal.returns
 returns g t c =
-    let p = (seen_place g.P.Place.files g.P.Place.read_faults g.P.Place.write_faults g.P.Place.opened g.P.Place.created) in
-    let s = (seen_sink g.P.Out.Sink.held g.P.Out.Sink.faults g.P.Out.Sink.name) in
+    let p = (of_place g.P.Place) in
+    let s = (of_sink g.P.Out.Sink) in
     let r = c.give_back_out-end.result in
     subst (λ (sinks : List g.row.P-Out.Denot). TakesSinks p s c.args.place.now c.give_back_out-end.new.self sinks c.joined_ends.result) (sym c.in-Some.ensures.items)
     (subst (λ (e : Result (Unit {0}) Stop). TakesSinks p s c.args.place.now c.give_back_out-end.new.self (c.pop.new.self.items ++ c.in-Some.last ∷ []) e)
@@ -22,4 +22,4 @@ returns g t c =
 pub returns-in_default : goal.returns-in_default
 returns-in_default g t c =
     let none : c.args.sinks.items ≡ [] = c.in_default.ensures.items ∙ (append-nil _ ∙ (c.in_default.ensures.rest ∙ ap (λ n. take (n - 1) c.args.sinks.items) c.in_default.ensures.cases.0)) in
-    subst (λ (sinks : List g.row.P-Out.Denot). TakesSinks (seen_place g.P.Place.files g.P.Place.read_faults g.P.Place.write_faults g.P.Place.opened g.P.Place.created) (seen_sink g.P.Out.Sink.held g.P.Out.Sink.faults g.P.Out.Sink.name) c.args.place.now c.args.place.now sinks (Ok tt)) (sym none) (gives_none (seen_place g.P.Place.files g.P.Place.read_faults g.P.Place.write_faults g.P.Place.opened g.P.Place.created) (seen_sink g.P.Out.Sink.held g.P.Out.Sink.faults g.P.Out.Sink.name) c.args.place.now)
+    subst (λ (sinks : List g.row.P-Out.Denot). TakesSinks (of_place g.P.Place) (of_sink g.P.Out.Sink) c.args.place.now c.args.place.now sinks (Ok tt)) (sym none) (gives_none (of_place g.P.Place) (of_sink g.P.Out.Sink) c.args.place.now)

@@ -6,14 +6,14 @@ use Rattle.run_files.specs.Stops.{read_end}
 use Rattle.run_files.specs.declared.stop.Stop.{Stop}
 use Rattle.std.specs.Result.{result_err}
 use Rattle.run_files.proofs.Stages.{leaves_one, leaves_not}
-use Rattle.run_files.specs.Outside.{seen_place}
+use Rattle.run_files.specs.Outside.{of_place}
 use Rattle.run_files.proofs.loading.read_file.Goals as goal
 
 pub returns-in-Ok-clause-leaves : goal.returns-in-Ok-clause-leaves
 returns-in-Ok-clause-leaves g c =
     let read = c.read_up_to-read.result in
-    subst (λ (r : Result (List ℕ) Stop). LeavesPlace (seen_place g.P.Place.files g.P.Place.read_faults g.P.Place.write_faults g.P.Place.opened g.P.Place.created) c.args.place.now c.give_back_in.new.self (c.args.name.now ∷ []) [] (result_err r)) (sym c.read_end.ensures)
-    (leaves_one (seen_place g.P.Place.files g.P.Place.read_faults g.P.Place.write_faults g.P.Place.opened g.P.Place.created) c.args.place.now c.give_back_in.new.self c.args.name.now (result_err (read_end read))
+    subst (λ (r : Result (List ℕ) Stop). LeavesPlace (of_place g.P.Place) c.args.place.now c.give_back_in.new.self (c.args.name.now ∷ []) [] (result_err r)) (sym c.read_end.ensures)
+    (leaves_one (of_place g.P.Place) c.args.place.now c.give_back_in.new.self c.args.name.now (result_err (read_end read))
     (c.give_back_in.ensures.opened ∙ c.in-Ok.ensures.opened.noted (ok_not_err _ _)) (c.give_back_in.ensures.writing.1 ∙ c.in-Ok.ensures.writing.1)
     (c.give_back_in.ensures.writing.0 ∙ c.in-Ok.ensures.writing.0) (c.give_back_in.ensures.files ∙ c.in-Ok.ensures.files)
     (λ e. subst (λ n. Rose n (g.P.Place.read_faults c.give_back_in.new.self)) (c.in-Ok.ensures.cause.quiet (ok_not_err _ _))
@@ -22,5 +22,5 @@ returns-in-Ok-clause-leaves g c =
 
 pub returns-in-Err-NoMemory-clause-leaves : goal.returns-in-Err-NoMemory-clause-leaves
 returns-in-Err-NoMemory-clause-leaves g c =
-    leaves_not (seen_place g.P.Place.files g.P.Place.read_faults g.P.Place.write_faults g.P.Place.opened g.P.Place.created) c.args.place.now c.open.new.self c.args.name.now
+    leaves_not (of_place g.P.Place) c.args.place.now c.open.new.self c.args.name.now
     (c.in-Err-NoMemory.ensures.opened.unnoted (ap (λ f. Err f) c.in-Err-NoMemory.field-0-is)) c.in-Err-NoMemory.ensures.writing.1 c.in-Err-NoMemory.ensures.writing.0 c.in-Err-NoMemory.ensures.files (c.in-Err-NoMemory.ensures.cause.quiet (lacked_fault _ c.in-Err-NoMemory.field-0-is))

@@ -6,24 +6,24 @@ use Rattle.run_files.proofs.Apart.{none_not_some, same_stop}
 use Rattle.run_files.proofs.ScriptReads.{creates_residual, scripts_and_creates}
 use Rattle.run_files.proofs.ScriptStages.{created_both, ended_not_read, outputs_hold_nothing}
 use Rattle.run_files.proofs.SinkReturns.{creates_given_back}
-use Rattle.run_files.specs.Outside.{seen_place, seen_sink}
+use Rattle.run_files.specs.Outside.{of_place, of_sink}
 use Rattle.run_files.specs.Scripted.{IsOutput, OpensScripts}
 use Rattle.run_files.proofs.scripts.create_all.Goals as goal
 
 pub returns-in_err-asks-clause-opens : goal.returns-in_err-asks-clause-opens
 returns-in_err-asks-clause-opens g c =
-    creates_residual (seen_place g.P.Place.files g.P.Place.read_faults g.P.Place.write_faults g.P.Place.opened g.P.Place.created) c.args.place.now c.create_replies.new.place (output_names c.args.plan.now) (outputs c.args.plan.now.asks ++ outputs c.args.plan.now.finals) (c.args.plan.now.journal ∷ []) c.from_residual.result c.in_err-asks.field-0.0 refl c.from_residual.ensures.1 c.in_err-asks.ensures.opens
+    creates_residual (of_place g.P.Place) c.args.place.now c.create_replies.new.place (output_names c.args.plan.now) (outputs c.args.plan.now.asks ++ outputs c.args.plan.now.finals) (c.args.plan.now.journal ∷ []) c.from_residual.result c.in_err-asks.field-0.0 refl c.from_residual.ensures.1 c.in_err-asks.ensures.opens
 
 pub returns-in-Ok-clause-opens : goal.returns-in-Ok-clause-opens
 returns-in-Ok-clause-opens g c =
-    let p = (seen_place g.P.Place.files g.P.Place.read_faults g.P.Place.write_faults g.P.Place.opened g.P.Place.created) in
+    let p = (of_place g.P.Place) in
     scripts_and_creates p c.args.place.now c.create_replies.new.place c.create_file.new.place [] (outputs c.args.plan.now.asks ++ outputs c.args.plan.now.finals) (c.args.plan.now.journal ∷ []) None (none_not_some _) c.in_ok-asks.ensures.opens
     (subst (λ (n : List ℕ). OpensScripts p c.create_replies.new.place c.create_file.new.place [] (n ∷ []) None) c.as_str.ensures c.in-Ok.ensures.opens)
 
 pub returns-in-Err-clause-opens : goal.returns-in-Err-clause-opens
 returns-in-Err-clause-opens g c =
-    let p = (seen_place g.P.Place.files g.P.Place.read_faults g.P.Place.write_faults g.P.Place.opened g.P.Place.created) in
-    let s = (seen_sink g.P.Out.Sink.held g.P.Out.Sink.faults g.P.Out.Sink.name) in
+    let p = (of_place g.P.Place) in
+    let s = (of_sink g.P.Out.Sink) in
     let files = g.P.Place.files c.args.place.now in
     let xs = c.into_vec.result.items in
     let ys = c.into_vec-in-Err.result.items in

@@ -8,14 +8,14 @@ use Rattle.run_files.proofs.Apart.{none_not_some, same_stop}
 use Rattle.run_files.proofs.Lists.{AllZip-more, name_more, name_split}
 use Rattle.run_files.proofs.ScriptReads.{creates_residual, created_more, created_part, output_later, scripts_and_creates, scripts_none, still_told}
 use Rattle.run_files.proofs.ScriptStages.{outputs_hold_nothing}
-use Rattle.run_files.specs.Outside.{seen_place, seen_sink}
+use Rattle.run_files.specs.Outside.{of_place, of_sink}
 use Rattle.run_files.specs.Scripted.{IsOutput, OpensScripts}
 use Rattle.run_files.proofs.scripts.create_each.Goals as goal
 
 pub loop-script-init : goal.loop-script-init
 loop-script-init g c =
-    let s = seen_sink g.P.Out.Sink.held g.P.Out.Sink.faults g.P.Out.Sink.name in (
-      scripts_none (seen_place g.P.Place.files g.P.Place.read_faults g.P.Place.write_faults g.P.Place.opened g.P.Place.created) c.args.place.now,
+    let s = of_sink g.P.Out.Sink in (
+      scripts_none (of_place g.P.Place) c.args.place.now,
       subst (λ (items : List g.row.P-Out.Denot). AllZip (IsOutput s (g.P.Place.files c.args.place.now)) [] items) (sym c.requires.empty.0) tt,
       subst (λ (items : List g.row.P-Out.Denot). All (λ k. g.P.Out.Sink.faults k ≡ 0) items) (sym c.requires.empty.0) (All-nil _),
       subst (λ (items : List g.row.P-Out.Denot). g.P.Place.created c.args.place.now ≡ g.P.Place.created c.args.place.now ++ map g.P.Out.Sink.name items) (sym c.requires.empty.0) (sym (append-nil _)),
@@ -25,8 +25,8 @@ loop-script-init g c =
 
 pub loop-script-preserved : goal.loop-script-preserved
 loop-script-preserved g c =
-    let p = (seen_place g.P.Place.files g.P.Place.read_faults g.P.Place.write_faults g.P.Place.opened g.P.Place.created) in
-    let s = seen_sink g.P.Out.Sink.held g.P.Out.Sink.faults g.P.Out.Sink.name in
+    let p = (of_place g.P.Place) in
+    let s = of_sink g.P.Out.Sink in
     let Q = λ (sink : g.row.P-Out.Denot). g.P.Out.Sink.faults sink ≡ 0 in
     let first = take c.loop-script.script-index c.args.scripts.now in
     let script = c.as_str.result.now in
@@ -49,7 +49,7 @@ loop-script-preserved g c =
 
 pub returns-in_err-sink-clause-opens : goal.returns-in_err-sink-clause-opens
 returns-in_err-sink-clause-opens g c =
-    let p = (seen_place g.P.Place.files g.P.Place.read_faults g.P.Place.write_faults g.P.Place.opened g.P.Place.created) in
+    let p = (of_place g.P.Place) in
     let first = take c.loop-script.script-index c.args.scripts.now in
     let script = c.as_str.result.now in
     let name = script ++ codes ".out" in
@@ -61,13 +61,13 @@ returns-in_err-sink-clause-opens g c =
 
 pub returns-in_err-sink-clause-names : goal.returns-in_err-sink-clause-names
 returns-in_err-sink-clause-names g c =
-    created_part (seen_place g.P.Place.files g.P.Place.read_faults g.P.Place.write_faults g.P.Place.opened g.P.Place.created) (seen_sink g.P.Out.Sink.held g.P.Out.Sink.faults g.P.Out.Sink.name) c.args.place.now c.loop-script.place c.create_output.new.place c.loop-script.sinks.items _ _ c.loop-script.invariant.3 c.in_err-sink.ensures.opens
+    created_part (of_place g.P.Place) (of_sink g.P.Out.Sink) c.args.place.now c.loop-script.place c.create_output.new.place c.loop-script.sinks.items _ _ c.loop-script.invariant.3 c.in_err-sink.ensures.opens
 
 pub returns-clause-names : goal.returns-clause-names
 returns-clause-names g c = ([], c.loop-script.invariant.3 ∙ ap (λ names. g.P.Place.created c.args.place.now ++ names) (sym (append-nil _)))
 
 pub returns-in_err-sink-clause-hold_nothing : goal.returns-in_err-sink-clause-hold_nothing
-returns-in_err-sink-clause-hold_nothing g c = outputs_hold_nothing (seen_sink g.P.Out.Sink.held g.P.Out.Sink.faults g.P.Out.Sink.name) (g.P.Place.files c.args.place.now) (outputs (take c.loop-script.script-index c.args.scripts.now)) c.loop-script.sinks.items c.loop-script.invariant.1
+returns-in_err-sink-clause-hold_nothing g c = outputs_hold_nothing (of_sink g.P.Out.Sink) (g.P.Place.files c.args.place.now) (outputs (take c.loop-script.script-index c.args.scripts.now)) c.loop-script.sinks.items c.loop-script.invariant.1
 
 pub returns-clause-hold_nothing : goal.returns-clause-hold_nothing
-returns-clause-hold_nothing g c = outputs_hold_nothing (seen_sink g.P.Out.Sink.held g.P.Out.Sink.faults g.P.Out.Sink.name) (g.P.Place.files c.args.place.now) (outputs (take c.loop-script.script-index c.args.scripts.now)) c.loop-script.sinks.items c.loop-script.invariant.1
+returns-clause-hold_nothing g c = outputs_hold_nothing (of_sink g.P.Out.Sink) (g.P.Place.files c.args.place.now) (outputs (take c.loop-script.script-index c.args.scripts.now)) c.loop-script.sinks.items c.loop-script.invariant.1

@@ -4,19 +4,19 @@ use Rattle.std.proofs.lemmas.List.Elements.{All-map}
 use Rattle.outer_io.specs.Files.{Files}
 use Rattle.outer_io.specs.declared.cutter.LineCutter.{LineCutter}
 use Rattle.run_files.proofs.ScriptReads.{same_files, scripts_given_back, scripts_residual, scripts_then}
-use Rattle.run_files.specs.Outside.{file_of, seen_place}
+use Rattle.run_files.specs.Outside.{file_of, of_place}
 use Rattle.run_files.specs.Scripted.{IsScript, OpensScripts}
 use Rattle.run_files.proofs.scripts.open_all.Goals as goal
 
 pub returns-in_err-asks-clause-opens : goal.returns-in_err-asks-clause-opens
 returns-in_err-asks-clause-opens g c =
-    let p = (seen_place g.P.Place.files g.P.Place.read_faults g.P.Place.write_faults g.P.Place.opened g.P.Place.created) in
+    let p = (of_place g.P.Place) in
     scripts_residual p c.args.place.now c.open_list.new.place (c.args.plan.now.asks ++ c.args.plan.now.finals) c.args.plan.now.asks c.args.plan.now.finals [] c.from_residual.result c.in_err-asks.field-0.0 refl c.from_residual.ensures.1
     (subst (λ (ns : List (List ℕ)). OpensScripts p c.args.place.now c.open_list.new.place ns [] (Some c.in_err-asks.field-0.0)) c.as_slice.ensures c.in_err-asks.ensures.opens)
 
 pub returns-in-Ok-clause-opens : goal.returns-in-Ok-clause-opens
 returns-in-Ok-clause-opens g c =
-    let p = (seen_place g.P.Place.files g.P.Place.read_faults g.P.Place.write_faults g.P.Place.opened g.P.Place.created) in
+    let p = (of_place g.P.Place) in
     scripts_then p c.args.place.now c.open_list.new.place c.open_list-2.new.place c.args.plan.now.asks c.args.plan.now.finals [] None
     (subst (λ (ns : List (List ℕ)). OpensScripts p c.args.place.now c.open_list.new.place ns [] None) c.as_slice.ensures c.in_ok-asks.ensures.opens)
     (subst (λ (ns : List (List ℕ)). OpensScripts p c.open_list.new.place c.open_list-2.new.place ns [] None) c.as_slice-2.ensures c.in-Ok.ensures.opens)
@@ -28,12 +28,12 @@ returns-in-Ok-clause-asks g c =
 pub returns-in-Ok-clause-finals : goal.returns-in-Ok-clause-finals
 returns-in-Ok-clause-finals g c =
     subst (λ (fs : Option Files). AllZip (λ name. IsScript g.P.In.Source.left g.P.In.Source.faults (file_of fs name)) c.args.plan.now.finals c.in-Ok.finals)
-    (same_files (seen_place g.P.Place.files g.P.Place.read_faults g.P.Place.write_faults g.P.Place.opened g.P.Place.created) c.args.place.now c.open_list.new.place c.as_slice.result.now c.in_ok-asks.ensures.opens)
+    (same_files (of_place g.P.Place) c.args.place.now c.open_list.new.place c.as_slice.result.now c.in_ok-asks.ensures.opens)
     (subst (λ (ns : List (List ℕ)). AllZip (λ name. IsScript g.P.In.Source.left g.P.In.Source.faults (file_of (g.P.Place.files c.open_list.new.place) name)) ns c.in-Ok.finals) c.as_slice-2.ensures c.in-Ok.ensures.scripts)
 
 pub returns-in-Err-clause-opens : goal.returns-in-Err-clause-opens
 returns-in-Err-clause-opens g c =
-    let p = (seen_place g.P.Place.files g.P.Place.read_faults g.P.Place.write_faults g.P.Place.opened g.P.Place.created) in
+    let p = (of_place g.P.Place) in
     let F = λ (script : LineCutter g.row.P-In.Denot). g.P.In.Source.faults script.source in
     scripts_given_back p c.args.place.now c.open_list-2.new.place c.give_back_cutters.new.place (c.args.plan.now.asks ++ c.args.plan.now.finals) [] (Some c.in-Err.stop) (map F c.into_vec.result.items)
     (scripts_then p c.args.place.now c.open_list.new.place c.open_list-2.new.place c.args.plan.now.asks c.args.plan.now.finals [] (Some c.in-Err.stop)

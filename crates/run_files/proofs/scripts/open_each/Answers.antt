@@ -4,14 +4,14 @@ use Rattle.std.proofs.lemmas.List.Elements.{All-nil, All-push}
 use Rattle.outer_io.specs.declared.cutter.LineCutter.{LineCutter}
 use Rattle.run_files.proofs.Lists.{name_more, name_split}
 use Rattle.run_files.proofs.ScriptReads.{scripts_none, scripts_residual, scripts_then, scripted_more, same_files}
-use Rattle.run_files.specs.Outside.{file_of, seen_place}
+use Rattle.run_files.specs.Outside.{file_of, of_place}
 use Rattle.run_files.specs.Scripted.{IsScript, OpensScripts}
 use Rattle.run_files.proofs.scripts.open_each.Goals as goal
 
 pub loop-name-init : goal.loop-name-init
 loop-name-init g c =
     let R = λ (name : List ℕ). IsScript g.P.In.Source.left g.P.In.Source.faults (file_of (g.P.Place.files c.args.place.now) name) in (
-      scripts_none (seen_place g.P.Place.files g.P.Place.read_faults g.P.Place.write_faults g.P.Place.opened g.P.Place.created) c.args.place.now,
+      scripts_none (of_place g.P.Place) c.args.place.now,
       subst (λ (items : List (LineCutter g.row.P-In.Denot)). AllZip R [] items) (sym c.requires.empty.0) tt,
       subst (λ (items : List (LineCutter g.row.P-In.Denot)). All (λ k. g.P.In.Source.faults k.source ≡ 0) items) (sym c.requires.empty.0) (All-nil _),
       c.requires.empty.1,
@@ -20,7 +20,7 @@ loop-name-init g c =
 
 pub loop-name-preserved : goal.loop-name-preserved
 loop-name-preserved g c =
-    let p = (seen_place g.P.Place.files g.P.Place.read_faults g.P.Place.write_faults g.P.Place.opened g.P.Place.created) in
+    let p = (of_place g.P.Place) in
     let R = λ (name : List ℕ). IsScript g.P.In.Source.left g.P.In.Source.faults (file_of (g.P.Place.files c.args.place.now) name) in
     let Q = λ (script : LineCutter g.row.P-In.Denot). g.P.In.Source.faults script.source ≡ 0 in
     let first = take c.loop-name.name-index c.args.names.now in
@@ -40,7 +40,7 @@ loop-name-preserved g c =
 
 pub returns-in_err-script-clause-opens : goal.returns-in_err-script-clause-opens
 returns-in_err-script-clause-opens g c =
-    let p = (seen_place g.P.Place.files g.P.Place.read_faults g.P.Place.write_faults g.P.Place.opened g.P.Place.created) in
+    let p = (of_place g.P.Place) in
     let first = take c.loop-name.name-index c.args.names.now in
     let name = c.as_str.result.now in
     scripts_residual p c.args.place.now c.open_script.new.place c.args.names.now (first ++ name ∷ []) (drop (c.loop-name.name-index + 1) c.args.names.now) [] c.from_residual.result c.in_err-script.field-0.0

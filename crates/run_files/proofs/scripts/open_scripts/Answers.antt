@@ -5,21 +5,21 @@ use Rattle.cube_schema.specs.Files.{output_names}
 use Rattle.outer_io.specs.declared.cutter.LineCutter.{LineCutter}
 use Rattle.run_files.proofs.Apart.{none_not_some, same_stop}
 use Rattle.run_files.proofs.ScriptReads.{scripts_and_creates, scripts_given_back, scripts_residual}
-use Rattle.run_files.specs.Outside.{seen_place}
+use Rattle.run_files.specs.Outside.{of_place}
 use Rattle.run_files.proofs.scripts.open_scripts.Goals as goal
 
 pub returns-in_err-asks-clause-opens : goal.returns-in_err-asks-clause-opens
 returns-in_err-asks-clause-opens g c =
     let inputs = c.args.plan.now.asks ++ c.args.plan.now.finals in
-    scripts_residual (seen_place g.P.Place.files g.P.Place.read_faults g.P.Place.write_faults g.P.Place.opened g.P.Place.created) c.args.place.now c.open_all.new.place inputs inputs [] (output_names c.args.plan.now) c.from_residual.result c.in_err-asks.field-0.0 (sym (append-nil inputs)) c.from_residual.ensures.1 c.in_err-asks.ensures.opens
+    scripts_residual (of_place g.P.Place) c.args.place.now c.open_all.new.place inputs inputs [] (output_names c.args.plan.now) c.from_residual.result c.in_err-asks.field-0.0 (sym (append-nil inputs)) c.from_residual.ensures.1 c.in_err-asks.ensures.opens
 
 pub returns-in-Ok-clause-opens : goal.returns-in-Ok-clause-opens
 returns-in-Ok-clause-opens g c =
-    scripts_and_creates (seen_place g.P.Place.files g.P.Place.read_faults g.P.Place.write_faults g.P.Place.opened g.P.Place.created) c.args.place.now c.open_all.new.place c.create_all.new.place (c.args.plan.now.asks ++ c.args.plan.now.finals) [] (output_names c.args.plan.now) None (none_not_some _) c.in_ok-asks.ensures.opens c.in-Ok.ensures.opens
+    scripts_and_creates (of_place g.P.Place) c.args.place.now c.open_all.new.place c.create_all.new.place (c.args.plan.now.asks ++ c.args.plan.now.finals) [] (output_names c.args.plan.now) None (none_not_some _) c.in_ok-asks.ensures.opens c.in-Ok.ensures.opens
 
 pub returns-in-Err-clause-opens : goal.returns-in-Err-clause-opens
 returns-in-Err-clause-opens g c =
-    let p = (seen_place g.P.Place.files g.P.Place.read_faults g.P.Place.write_faults g.P.Place.opened g.P.Place.created) in
+    let p = (of_place g.P.Place) in
     let F = λ (script : LineCutter g.row.P-In.Denot). g.P.In.Source.faults script.source in
     let inputs = c.args.plan.now.asks ++ c.args.plan.now.finals in
     scripts_given_back p c.args.place.now c.give_back_cutters.new.place c.give_back_cutters-in-Err.new.place inputs (output_names c.args.plan.now) (Some c.in-Err.stop) (map F c.into_vec-in-Err.result.items)

@@ -3,19 +3,19 @@ use Rattle.std.specs.List.{AllZip}
 use Rattle.std.proofs.lemmas.List.Elements.{All-map}
 use Rattle.outer_io.specs.Files.{Files}
 use Rattle.outer_io.specs.declared.cutter.LineCutter.{LineCutter}
+use Rattle.run_files.proofs.HeadReads.{all_headed}
 use Rattle.run_files.proofs.Stages.{nothing_made}
 use Rattle.run_files.specs.Headed.{IsHeaded, OpensFeeds}
-use Rattle.run_files.specs.Outside.{file_of, seen_place, seen_sink}
+use Rattle.run_files.specs.Outside.{file_of, of_place, of_sink}
 use Rattle.run_files.specs.Scripted.{ArePartsOf}
 use Rattle.run_files.specs.declared.feeds.HeadedFeed.{HeadedFeed}
-use Rattle.run_opening.proofs.Readiness.{all_headed}
 use Rattle.run_opening.proofs.Stages.{feeds_end, files_given_back, files_residual, scripts_follow}
 use Rattle.run_opening.proofs.opening.open_files.Goals as goal
 
 pub returns-in_err-feeds-clause-opens : goal.returns-in_err-feeds-clause-opens
 returns-in_err-feeds-clause-opens g c =
-    let p = seen_place g.P.Place.files g.P.Place.read_faults g.P.Place.write_faults g.P.Place.opened g.P.Place.created in
-    let s = seen_sink g.O.Sink.held g.O.Sink.faults g.O.Sink.name in
+    let p = of_place g.P.Place in
+    let s = of_sink g.O.Sink in
     let plan = c.args.plan.now in
     files_residual p s plan c.args.place.now c.open_feeds.new.place c.args.out.now c.open_feeds.new.out c.from_residual.result c.in_err-feeds.field-0.0 c.from_residual.ensures.1
     (feeds_end p s plan c.args.place.now c.open_feeds.new.place c.args.out.now c.open_feeds.new.out c.in_err-feeds.field-0.0
@@ -23,8 +23,8 @@ returns-in_err-feeds-clause-opens g c =
 
 pub returns-in-Ok-clause-opens : goal.returns-in-Ok-clause-opens
 returns-in-Ok-clause-opens g c =
-    let p = seen_place g.P.Place.files g.P.Place.read_faults g.P.Place.write_faults g.P.Place.opened g.P.Place.created in
-    let s = seen_sink g.O.Sink.held g.O.Sink.faults g.O.Sink.name in
+    let p = of_place g.P.Place in
+    let s = of_sink g.O.Sink in
     let plan = c.args.plan.now in
     let files = g.P.Place.files c.args.place.now in
     let feeds = subst (λ (names : List (List ℕ)). AllZip (λ name. IsHeaded g.P.In.Source.left g.P.In.Source.faults plan.schema (file_of files name)) names c.in_ok-feeds.feeds) c.as_slice.ensures c.in_ok-feeds.ensures.feeds in
@@ -38,15 +38,15 @@ returns-in-Ok-clause-feeds g c =
 
 pub returns-in-Ok-clause-scripts : goal.returns-in-Ok-clause-scripts
 returns-in-Ok-clause-scripts g c =
-    let p = seen_place g.P.Place.files g.P.Place.read_faults g.P.Place.write_faults g.P.Place.opened g.P.Place.created in
+    let p = of_place g.P.Place in
     let leaves = c.in_ok-feeds.ensures.opens.leaves in
     let same : g.P.Place.files c.open_feeds.new.place ≡ g.P.Place.files c.args.place.now = leaves.untouched (nothing_made p c.args.place.now c.open_feeds.new.place c.as_slice.result.now None leaves) in
-    subst (λ (files : Option Files). ArePartsOf g.P.In.Source.left g.P.In.Source.faults (seen_sink g.P.Out.Sink.held g.P.Out.Sink.faults g.P.Out.Sink.name) files c.args.plan.now c.in-Ok.scripts) same c.in-Ok.ensures.parts
+    subst (λ (files : Option Files). ArePartsOf g.P.In.Source.left g.P.In.Source.faults (of_sink g.P.Out.Sink) files c.args.plan.now c.in-Ok.scripts) same c.in-Ok.ensures.parts
 
 pub returns-in-Err-clause-opens : goal.returns-in-Err-clause-opens
 returns-in-Err-clause-opens g c =
-    let p = seen_place g.P.Place.files g.P.Place.read_faults g.P.Place.write_faults g.P.Place.opened g.P.Place.created in
-    let s = seen_sink g.O.Sink.held g.O.Sink.faults g.O.Sink.name in
+    let p = of_place g.P.Place in
+    let s = of_sink g.O.Sink in
     let plan = c.args.plan.now in
     let files = g.P.Place.files c.args.place.now in
     let F = λ (feed : HeadedFeed (LineCutter g.row.P-In.Denot)). g.P.In.Source.faults feed.cutter.source in

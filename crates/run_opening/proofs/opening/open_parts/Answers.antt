@@ -2,7 +2,7 @@ use Rattle.std.proofs.Common.{◌∙◌, ℕ, Vec, Global, ap, arith, List}
 use Rattle.std.proofs.lemmas.Slice.Zip.{AllZip-long}
 use Rattle.std.specs.Prelude.{vec_capacity}
 use Rattle.run_files.specs.Headed.{IsHeaded}
-use Rattle.run_files.specs.Outside.{file_of, seen_place, seen_sink}
+use Rattle.run_files.specs.Outside.{file_of, of_place, of_sink}
 use Rattle.run_files.specs.Scripted.{IsScript}
 use Rattle.run_opening.proofs.Readiness.{are_fit, are_new, are_pairs, are_ready}
 use Rattle.run_opening.proofs.Stages.{nothing_opened}
@@ -10,11 +10,11 @@ use Rattle.run_opening.proofs.opening.open_parts.Goals as goal
 
 pub returns-in-Err-clause-opens : goal.returns-in-Err-clause-opens
 returns-in-Err-clause-opens g c =
-    nothing_opened (seen_place g.P.Place.files g.P.Place.read_faults g.P.Place.write_faults g.P.Place.opened g.P.Place.created) (seen_sink g.O.Sink.held g.O.Sink.faults g.O.Sink.name) c.args.plan.now c.args.place.now c.args.out.now
+    nothing_opened (of_place g.P.Place) (of_sink g.O.Sink) c.args.plan.now c.args.place.now c.args.out.now
 
 pub seat_parts-requires-clause-new : goal.seat_parts-requires-clause-new
 seat_parts-requires-clause-new g c =
-    let s = seen_sink g.P.Out.Sink.held g.P.Out.Sink.faults g.P.Out.Sink.name in
+    let s = of_sink g.P.Out.Sink in
     let files = g.P.Place.files c.args.place.now in
     let plan = c.args.plan.now in
     let are = c.in-Ok.ensures.scripts in
@@ -22,7 +22,7 @@ seat_parts-requires-clause-new g c =
 
 pub seat_parts-requires-clause-pairs : goal.seat_parts-requires-clause-pairs
 seat_parts-requires-clause-pairs g c =
-    let s = seen_sink g.P.Out.Sink.held g.P.Out.Sink.faults g.P.Out.Sink.name in
+    let s = of_sink g.P.Out.Sink in
     let files = g.P.Place.files c.args.place.now in
     let plan = c.args.plan.now in
     let scripts = c.in-Ok.scripts in
@@ -47,12 +47,12 @@ seat_parts-requires-clause-room g c =
 
 pub returns-in-Ok-clause-ready : goal.returns-in-Ok-clause-ready
 returns-in-Ok-clause-ready g c =
-    are_ready g.P.In.Source.left g.P.In.Source.faults (seen_sink g.P.Out.Sink.held g.P.Out.Sink.faults g.P.Out.Sink.name) (g.P.Place.files c.args.place.now) c.args.plan.now c.in-Ok.feeds c.in-Ok.scripts c.seat_parts.result
+    are_ready g.P.In.Source.left g.P.In.Source.faults (of_sink g.P.Out.Sink) (g.P.Place.files c.args.place.now) c.args.plan.now c.in-Ok.feeds c.in-Ok.scripts c.seat_parts.result
     c.in-Ok.ensures.feeds c.in-Ok.ensures.scripts c.seat_parts.ensures.feeds c.seat_parts.ensures.asks c.seat_parts.ensures.finals c.seat_parts.ensures.journal
 
 pub returns-in-Ok-clause-fit : goal.returns-in-Ok-clause-fit
 returns-in-Ok-clause-fit g c =
-    let s = seen_sink g.P.Out.Sink.held g.P.Out.Sink.faults g.P.Out.Sink.name in
+    let s = of_sink g.P.Out.Sink in
     let files = g.P.Place.files c.args.place.now in
     let plan = c.args.plan.now in
     let parts = c.seat_parts.result in

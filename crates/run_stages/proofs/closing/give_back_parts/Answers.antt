@@ -2,7 +2,7 @@ use Rattle.std.proofs.Common.{List, map, subst, Vec, Global}
 use Rattle.crew_feeder.specs.declared.job.FeedDone.{FeedDone}
 use Rattle.crew_session.specs.declared.done.SessionDone.{SessionDone}
 use Rattle.run_files.specs.GivingBack.{TakesSinks, TakesSources}
-use Rattle.run_files.specs.Outside.{seen_place, seen_sink}
+use Rattle.run_files.specs.Outside.{of_place, of_sink}
 use Rattle.run_report.specs.declared.counts.FeedCounts.{FeedCounts}
 use Rattle.run_report.specs.declared.counts.ScriptCounts.{ScriptCounts}
 use Rattle.run_stages.proofs.Returned.{counted_of, sinks_of_both}
@@ -12,8 +12,8 @@ use Rattle.run_stages.proofs.closing.give_back_parts.Goals as goal
 
 pub returns-clause-back : goal.returns-clause-back
 returns-clause-back g c =
-    let p = (seen_place g.P.Place.files g.P.Place.read_faults g.P.Place.write_faults g.P.Place.opened g.P.Place.created) in
-    let s = (seen_sink g.P.Out.Sink.held g.P.Out.Sink.faults g.P.Out.Sink.name) in
+    let p = (of_place g.P.Place) in
+    let s = (of_sink g.P.Out.Sink) in
     let feed = λ (f : FeedDone g.row.P-In.Denot). g.P.In.Source.faults f.source in
     let source = λ (k : SessionDone g.row.P-In.Denot g.row.P-Out.Denot). g.P.In.Source.faults k.source in
     let sink = λ (k : SessionDone g.row.P-In.Denot g.row.P-Out.Denot). k.sink in

@@ -1,6 +1,6 @@
 use Rattle.std.proofs.Common.{Vec, Global}
 use Rattle.crew_feeder.specs.declared.job.FeedDone.{FeedDone}
-use Rattle.run_files.specs.Outside.{seen_place}
+use Rattle.run_files.specs.Outside.{of_place}
 use Rattle.run_report.specs.declared.counts.FeedCounts.{FeedCounts}
 use Rattle.run_stages.proofs.Returned.{counted_more, returned_more}
 use Rattle.run_stages.specs.Counted.{feed_counts}
@@ -8,7 +8,7 @@ use Rattle.run_stages.proofs.returning.+give_back_fed.Goals as goal
 
 pub returns-clause-back : goal.returns-clause-back
 returns-clause-back g t c =
-    returned_more (seen_place g.P.Place.files g.P.Place.read_faults g.P.Place.write_faults g.P.Place.opened g.P.Place.created) (λ (f : FeedDone g.row.P-In.Denot). g.P.In.Source.faults f.source)
+    returned_more (of_place g.P.Place) (λ (f : FeedDone g.row.P-In.Denot). g.P.In.Source.faults f.source)
     c.args.place.now c.give_back_fed-counts.new.place c.give_back_in.new.self c.args.feeds.items c.pop.new.self.items c.in-Some.last c.in-Some.ensures.items c.give_back_fed-counts.ensures.back
     c.give_back_in.ensures.rose c.give_back_in.ensures.quiet c.give_back_in.ensures.files c.give_back_in.ensures.opened c.give_back_in.ensures.writing
 

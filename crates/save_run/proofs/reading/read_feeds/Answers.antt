@@ -2,14 +2,14 @@ use Rattle.std.proofs.Common.{◌≡◌, ◌++◌, List, ap, arith, drop, length
 use Rattle.cube_feeds.specs.Taking.{TakesFeeds}
 use Rattle.outer_io.specs.declared.cutter.LineCutter.{LineCutter}
 use Rattle.run_files.specs.GivingBack.{TakesSources}
-use Rattle.run_files.specs.Outside.{seen_place}
+use Rattle.run_files.specs.Outside.{of_place}
 use Rattle.run_files.specs.declared.feeds.HeadedFeed.{HeadedFeed}
 use Rattle.std.proofs.Math.Seq.{take-append_seam}
 use Rattle.save_run.proofs.reading.read_feeds.Goals as goal
 
 pub returns : goal.returns
 returns g c =
-    let p = seen_place g.P.Place.files g.P.Place.read_faults g.P.Place.write_faults g.P.Place.opened g.P.Place.created in
+    let p = of_place g.P.Place in
     let F = λ (f : HeadedFeed (LineCutter g.row.P-In.Denot)). g.P.In.Source.faults f.cutter.source in
     let items = c.into_vec-feeds.result.items in
     let read = c.cube_of_feeds-taken.new.feeds in

@@ -2,7 +2,7 @@ use Rattle.std.proofs.Common.{◌≤◌, List, length, None, Result, Some, subst
 use Rattle.std.specs.List.{AllZip}
 use Rattle.image_run.specs.declared.end.ImageEnd.{ImageEnd}
 use Rattle.run_files.specs.Headed.{IsHeaded, OpensFeeds}
-use Rattle.run_files.specs.Outside.{PlaceSeen, SinkSeen, file_of, seen_place, seen_sink}
+use Rattle.run_files.specs.Outside.{file_of, of_place, of_sink, PlaceSeen, SinkSeen}
 use Rattle.run_files.specs.declared.stop.Stop.{Stop}
 use Rattle.run_report.specs.declared.counts.FeedCounts.{FeedCounts}
 use Rattle.save_run.proofs.Ending.{ended_by_header, ended_by_plan, ended_reading, stood_reading}
@@ -10,6 +10,7 @@ use Rattle.run_files.proofs.Apart.{residual_is}
 use Rattle.save_run.proofs.Fed.{all_unread, few_feeds}
 use Rattle.save_run.proofs.Stood.{ended_by_cube}
 use Rattle.save_run.specs.Ends.{SaveEnds}
+use Rattle.save_run.specs.Names.{saving}
 use Rattle.save_run.specs.Writing.{SavesCube}
 use Rattle.save_run.proofs.save.save_files.Given.{Over}
 use Rattle.save_run.proofs.save.save_files.Goals.{After-read_feeds}
@@ -17,11 +18,11 @@ use Rattle.save_run.proofs.save.save_files.Goals as goal
 
 -- what is seen of the place
 abbrev place_of : (g : Over) → PlaceSeen g.row.P.Denot
-place_of g = seen_place g.P.Place.files g.P.Place.read_faults g.P.Place.write_faults g.P.Place.opened g.P.Place.created
+place_of g = of_place g.P.Place
 
 -- and of the sink
 abbrev sink_of : (g : Over) → SinkSeen g.row.O.Denot
-sink_of g = seen_sink g.O.Sink.held g.O.Sink.faults g.O.Sink.name
+sink_of g = of_sink g.O.Sink
 
 -- the feeds of the plan are opened
 feeds_open : (g : Over) (c : After-read_feeds g) → OpensFeeds (place_of g) (sink_of g) c.in_ok-plan.plan.schema c.load_plan.new.place c.open_feeds.new.place c.load_plan.new.out c.open_feeds.new.out c.in_ok-plan.plan.feeds None
@@ -35,7 +36,7 @@ pub returns-in_err-plan : goal.returns-in_err-plan
 returns-in_err-plan g c =
     let a = c.args in
     let k = c.in_err-plan.field-0.0 in
-    subst (λ (r : Result ImageEnd Stop). SaveEnds (place_of g) (sink_of g) a.place.now c.load_plan.new.place a.out.now c.load_plan.new.out a.plan.now a.image.now r) (sym (residual_is c.from_residual.result k c.from_residual.ensures.1))
+    subst (λ (r : Result ImageEnd Stop). SaveEnds (place_of g) (sink_of g) a.place.now c.load_plan.new.place a.out.now c.load_plan.new.out (saving a.plan.now a.image.now) r) (sym (residual_is c.from_residual.result k c.from_residual.ensures.1))
     (ended_by_plan (place_of g) (sink_of g) a.place.now c.load_plan.new.place a.out.now c.load_plan.new.out a.plan.now a.image.now k c.in_err-plan.ensures.leaves c.in_err-plan.ensures.plan)
 
 pub returns-in_err-feeds : goal.returns-in_err-feeds
@@ -44,7 +45,7 @@ returns-in_err-feeds g c =
     let k = c.in_err-feeds.field-0.0 in
     let plan = c.in_ok-plan.plan in
     let opens = subst (λ (names : List (List ℕ)). OpensFeeds (place_of g) (sink_of g) plan.schema c.load_plan.new.place c.open_feeds.new.place c.load_plan.new.out c.open_feeds.new.out names (Some k)) c.as_slice.ensures c.in_err-feeds.ensures.opens in
-    subst (λ (r : Result ImageEnd Stop). SaveEnds (place_of g) (sink_of g) a.place.now c.open_feeds.new.place a.out.now c.open_feeds.new.out a.plan.now a.image.now r) (sym (residual_is c.from_residual-in_err-feeds.result k c.from_residual-in_err-feeds.ensures.1))
+    subst (λ (r : Result ImageEnd Stop). SaveEnds (place_of g) (sink_of g) a.place.now c.open_feeds.new.place a.out.now c.open_feeds.new.out (saving a.plan.now a.image.now) r) (sym (residual_is c.from_residual-in_err-feeds.result k c.from_residual-in_err-feeds.ensures.1))
     (ended_by_header (place_of g) (sink_of g) a.place.now c.load_plan.new.place a.out.now c.load_plan.new.out a.plan.now a.image.now plan c.in_ok-plan.ensures.leaves c.in_ok-plan.ensures.plan c.open_feeds.new.place c.open_feeds.new.out k opens)
 
 pub read_feeds-requires-clause-few : goal.read_feeds-requires-clause-few
@@ -62,7 +63,7 @@ returns-in_err-cube g c =
     let k = c.in_err-cube.field-0.0 in
     let plan = c.in_ok-plan.plan in
     let at = (goal.at.returns-in_err-cube g c).After-read_feeds in
-    subst (λ (r : Result ImageEnd Stop). SaveEnds (place_of g) (sink_of g) a.place.now c.read_feeds.new.place a.out.now c.open_feeds.new.out a.plan.now a.image.now r) (sym (residual_is c.from_residual-in_err-cube.result k c.from_residual-in_err-cube.ensures.1))
+    subst (λ (r : Result ImageEnd Stop). SaveEnds (place_of g) (sink_of g) a.place.now c.read_feeds.new.place a.out.now c.open_feeds.new.out (saving a.plan.now a.image.now) r) (sym (residual_is c.from_residual-in_err-cube.result k c.from_residual-in_err-cube.ensures.1))
     (ended_reading (place_of g) (sink_of g) a.place.now c.load_plan.new.place a.out.now c.load_plan.new.out a.plan.now a.image.now plan c.in_ok-plan.ensures.leaves c.in_ok-plan.ensures.plan
     g.P.In.Source.left g.P.In.Source.faults c.open_feeds.new.place c.read_feeds.new.place c.open_feeds.new.out (feeds_open g at) c.in_ok-feeds.feeds (feeds_headed g at) k c.in_err-cube.ensures)
 

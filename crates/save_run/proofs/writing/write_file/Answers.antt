@@ -1,5 +1,5 @@
 use Rattle.std.proofs.Common.{Result, Err, sym, subst, ◌∙◌, ap, ap₂}
-use Rattle.run_files.specs.Outside.{seen_place, seen_sink}
+use Rattle.run_files.specs.Outside.{of_place, of_sink}
 use Rattle.run_files.specs.Stops.{joined_ends}
 use Rattle.run_files.specs.declared.stop.Stop.{Stop}
 use Rattle.save_run.specs.Writing.{WritesFile}
@@ -9,14 +9,14 @@ use Rattle.save_run.proofs.writing.write_file.Goals as goal
 
 pub returns-in_err-sink : goal.returns-in_err-sink
 returns-in_err-sink g c =
-    let p = seen_place g.P.Place.files g.P.Place.read_faults g.P.Place.write_faults g.P.Place.opened g.P.Place.created in
+    let p = of_place g.P.Place in
     subst (λ (r : Result (Unit {0}) Stop). WritesFile p c.args.place.now c.create_file.new.place c.args.name.now c.args.bytes.now r) (sym (residual_is c.from_residual.result c.in_err-sink.field-0.0 c.from_residual.ensures.1))
     (not_created p c.args.place.now c.create_file.new.place c.args.name.now c.args.bytes.now c.in_err-sink.field-0.0 c.in_err-sink.ensures.opens (λ e. c.in_err-sink.ensures.no_read (ap (λ k. Err k) e)))
 
 pub returns : goal.returns
 returns g c =
-    let p = seen_place g.P.Place.files g.P.Place.read_faults g.P.Place.write_faults g.P.Place.opened g.P.Place.created in
-    let s = seen_sink g.P.Out.Sink.held g.P.Out.Sink.faults g.P.Out.Sink.name in
+    let p = of_place g.P.Place in
+    let s = of_sink g.P.Out.Sink in
     let put = c.put-put.result in
     let kept = c.give_back_out-kept.result in
     subst (λ (r : Result (Unit {0}) Stop). WritesFile p c.args.place.now c.give_back_out-kept.new.self c.args.name.now c.args.bytes.now r)

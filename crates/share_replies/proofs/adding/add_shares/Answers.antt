@@ -3,7 +3,7 @@ use Rattle.std.specs.Prelude.{string_bytes}
 use Rattle.outer_io.specs.Files.{Files, file_or_empty}
 use Rattle.outer_io.specs.Lines.{lines}
 use Rattle.run_files.proofs.Stages.{same_files}
-use Rattle.run_files.specs.Outside.{file_of, seen_place, seen_sink}
+use Rattle.run_files.specs.Outside.{file_of, of_place, of_sink}
 use Rattle.run_files.specs.Planned.{IsPlanOf}
 use Rattle.session_core.specs.Asked.{asked}
 use Rattle.share_replies.specs.Ends.{OutcomeOver, given_names}
@@ -17,7 +17,7 @@ use Rattle.share_replies.proofs.adding.add_shares.Goals as goal
 
 pub returns-clause-law : goal.returns-clause-law
 returns-clause-law g c files told =
-    let p = seen_place g.P.Place.files g.P.Place.read_faults g.P.Place.write_faults g.P.Place.opened g.P.Place.created in
+    let p = of_place g.P.Place in
     let names = c.args.names.now in
     let plan = c.in_ok-plan.plan in
     let script = file_or_empty files names.script.now in
@@ -34,52 +34,52 @@ returns-clause-law g c files told =
 
 pub returns-clause-shares : goal.returns-clause-shares
 returns-clause-shares g c =
-    let p = seen_place g.P.Place.files g.P.Place.read_faults g.P.Place.write_faults g.P.Place.opened g.P.Place.created in
+    let p = of_place g.P.Place in
     let kept : g.P.Place.files c.load_plan.new.place ≡ g.P.Place.files c.args.place.now = same_files p c.args.place.now c.load_plan.new.place (c.args.names.now.plan.now ∷ []) None c.in_ok-plan.ensures.leaves in
-    says_shares (seen_sink g.O.Sink.held g.O.Sink.faults g.O.Sink.name) c.args.out.now c.load_plan.new.out c.put_outcome.new.out (g.P.Place.files c.args.place.now) (g.P.Place.files c.load_plan.new.place) (given_names c.args.names.now) c.in_ok-plan.plan
+    says_shares (of_sink g.O.Sink) c.args.out.now c.load_plan.new.out c.put_outcome.new.out (g.P.Place.files c.args.place.now) (g.P.Place.files c.load_plan.new.place) (given_names c.args.names.now) c.in_ok-plan.plan
     c.sums_of-sums.result c.put_outcome.result (c.in_ok-plan.ensures.plan.silent (λ e. cc)) kept c.in_ok-plan.ensures.plan.plan c.sums_of-sums.ensures.decides c.put_outcome.ensures.says
 
 pub returns-in_err-plan-clause-causes : goal.returns-in_err-plan-clause-causes
 returns-in_err-plan-clause-causes g c =
-    let p = seen_place g.P.Place.files g.P.Place.read_faults g.P.Place.write_faults g.P.Place.opened g.P.Place.created in
-    let s = seen_sink g.O.Sink.held g.O.Sink.faults g.O.Sink.name in
+    let p = of_place g.P.Place in
+    let s = of_sink g.O.Sink in
     let names = given_names c.args.names.now in
     subst (EndsByFiles (g.P.Place.files c.args.place.now) names) (sym (residual_is c.from_residual.result c.in_err-plan.field-0.0 c.from_residual.ensures.1))
     (ended_by_plan p s names c.args.place.now c.load_plan.new.place c.args.out.now c.load_plan.new.out c.in_err-plan.field-0.0 c.in_err-plan.ensures.leaves c.in_err-plan.ensures.plan).causes
 
 pub returns-clause-causes : goal.returns-clause-causes
 returns-clause-causes g c =
-    let p = seen_place g.P.Place.files g.P.Place.read_faults g.P.Place.write_faults g.P.Place.opened g.P.Place.created in
-    let s = seen_sink g.O.Sink.held g.O.Sink.faults g.O.Sink.name in
+    let p = of_place g.P.Place in
+    let s = of_sink g.O.Sink in
     (ended_after p s (given_names c.args.names.now) c.args.place.now c.load_plan.new.place c.sums_of-sums.new.place c.args.out.now c.load_plan.new.out c.put_outcome.new.out c.in_ok-plan.plan
     c.in_ok-plan.ensures.leaves c.in_ok-plan.ensures.plan _ c.put_outcome.result c.sums_of-sums.ensures.stage c.put_outcome.ensures.puts).causes
 
 pub returns-in_err-plan-clause-opens : goal.returns-in_err-plan-clause-opens
 returns-in_err-plan-clause-opens g c =
-    let p = seen_place g.P.Place.files g.P.Place.read_faults g.P.Place.write_faults g.P.Place.opened g.P.Place.created in
-    let s = seen_sink g.O.Sink.held g.O.Sink.faults g.O.Sink.name in
+    let p = of_place g.P.Place in
+    let s = of_sink g.O.Sink in
     let names = given_names c.args.names.now in
     subst (OpensShares p c.args.place.now c.load_plan.new.place names) (sym (residual_is c.from_residual.result c.in_err-plan.field-0.0 c.from_residual.ensures.1))
     (ended_by_plan p s names c.args.place.now c.load_plan.new.place c.args.out.now c.load_plan.new.out c.in_err-plan.field-0.0 c.in_err-plan.ensures.leaves c.in_err-plan.ensures.plan).opens
 
 pub returns-clause-opens : goal.returns-clause-opens
 returns-clause-opens g c =
-    let p = seen_place g.P.Place.files g.P.Place.read_faults g.P.Place.write_faults g.P.Place.opened g.P.Place.created in
-    let s = seen_sink g.O.Sink.held g.O.Sink.faults g.O.Sink.name in
+    let p = of_place g.P.Place in
+    let s = of_sink g.O.Sink in
     (ended_after p s (given_names c.args.names.now) c.args.place.now c.load_plan.new.place c.sums_of-sums.new.place c.args.out.now c.load_plan.new.out c.put_outcome.new.out c.in_ok-plan.plan
     c.in_ok-plan.ensures.leaves c.in_ok-plan.ensures.plan _ c.put_outcome.result c.sums_of-sums.ensures.stage c.put_outcome.ensures.puts).opens
 
 pub returns-in_err-plan-clause-sink : goal.returns-in_err-plan-clause-sink
 returns-in_err-plan-clause-sink g c =
-    let p = seen_place g.P.Place.files g.P.Place.read_faults g.P.Place.write_faults g.P.Place.opened g.P.Place.created in
-    let s = seen_sink g.O.Sink.held g.O.Sink.faults g.O.Sink.name in
+    let p = of_place g.P.Place in
+    let s = of_sink g.O.Sink in
     let names = given_names c.args.names.now in
     subst (LeavesSink s c.args.out.now c.load_plan.new.out (g.P.Place.files c.args.place.now) names) (sym (residual_is c.from_residual.result c.in_err-plan.field-0.0 c.from_residual.ensures.1))
     (ended_by_plan p s names c.args.place.now c.load_plan.new.place c.args.out.now c.load_plan.new.out c.in_err-plan.field-0.0 c.in_err-plan.ensures.leaves c.in_err-plan.ensures.plan).sink
 
 pub returns-clause-sink : goal.returns-clause-sink
 returns-clause-sink g c =
-    let p = seen_place g.P.Place.files g.P.Place.read_faults g.P.Place.write_faults g.P.Place.opened g.P.Place.created in
-    let s = seen_sink g.O.Sink.held g.O.Sink.faults g.O.Sink.name in
+    let p = of_place g.P.Place in
+    let s = of_sink g.O.Sink in
     (ended_after p s (given_names c.args.names.now) c.args.place.now c.load_plan.new.place c.sums_of-sums.new.place c.args.out.now c.load_plan.new.out c.put_outcome.new.out c.in_ok-plan.plan
     c.in_ok-plan.ensures.leaves c.in_ok-plan.ensures.plan _ c.put_outcome.result c.sums_of-sums.ensures.stage c.put_outcome.ensures.puts).sink

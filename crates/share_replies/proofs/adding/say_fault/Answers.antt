@@ -1,7 +1,7 @@
 use Rattle.std.proofs.Common.{◌≡◌, ℕ, List, [], Err, refl, map, get_or, IfOk, sym, ◌∙◌, ap, subst}
 use Rattle.std.specs.Prelude.{string_bytes}
 use Rattle.std.proofs.lemmas.List.{get_or-map}
-use Rattle.run_files.specs.Outside.{Puts, seen_sink}
+use Rattle.run_files.specs.Outside.{of_sink, Puts}
 use Rattle.share_replies.specs.Ends.{SaysWrong}
 use Rattle.share_replies.specs.Texts.{wrong_line}
 use Rattle.share_replies.specs.declared.adding.Outcome.TheVariants as outcome
@@ -13,7 +13,7 @@ use Rattle.share_replies.proofs.adding.say_fault.Goals as goal
 
 pub returns-in-Wrong-clause-says : goal.returns-in-Wrong-clause-says
 returns-in-Wrong-clause-says g c =
-    let seen = seen_sink g.O.Sink.held g.O.Sink.faults g.O.Sink.name in
+    let seen = of_sink g.O.Sink in
     let names = map string_bytes c.args.replies.now in
     let k = c.in-Wrong.share in
     let name = c.as_str.ensures.value ∙ (ap string_bytes c.index-replies-share.is ∙ sym (get_or-map string_bytes c.args.replies.now k c.index-replies-share.result [] (c.requires.share k c.in-Wrong.line c.in-Wrong.why c.in-Wrong.is))) in
@@ -23,10 +23,10 @@ returns-in-Wrong-clause-says g c =
 
 pub returns-in-Stopped-clause-puts : goal.returns-in-Stopped-clause-puts
 returns-in-Stopped-clause-puts g c =
-    let seen = seen_sink g.O.Sink.held g.O.Sink.faults g.O.Sink.name in
+    let seen = of_sink g.O.Sink in
     subst (λ (f : SharesFault). PutsAfter seen c.args.out.now c.args.out.now (stop_of_shares f) (Err c.in-Stopped.stop)) (sym c.in-Stopped.is) (refl, silent_itself seen c.args.out.now)
 
 pub returns-in-Wrong-clause-puts : goal.returns-in-Wrong-clause-puts
 returns-in-Wrong-clause-puts g c =
-    let seen = seen_sink g.O.Sink.held g.O.Sink.faults g.O.Sink.name in
+    let seen = of_sink g.O.Sink in
     subst (λ (f : SharesFault). PutsAfter seen c.args.out.now c.refuse.new.out (stop_of_shares f) c.refuse.result) (sym c.in-Wrong.is) (c.refuse.ensures.ends, c.refuse.ensures.cause)

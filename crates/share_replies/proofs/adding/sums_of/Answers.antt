@@ -4,7 +4,7 @@ use Rattle.outer_io.specs.Files.{Files, file_or_empty}
 use Rattle.outer_io.specs.Lines.{lines}
 use Rattle.query_syntax.specs.Meaning.{asks_valid}
 use Rattle.query_syntax.specs.declared.query.Parsed.{Parsed}
-use Rattle.run_files.specs.Outside.{file_of, seen_place}
+use Rattle.run_files.specs.Outside.{file_of, of_place}
 use Rattle.session_core.specs.Asked.{asked}
 use Rattle.share_replies.specs.Shares.{nothing}
 use Rattle.share_replies.specs.Sums.{SumsOver}
@@ -40,21 +40,21 @@ returns-clause-decides g c =
     c.in-Ok.ensures.files c.in-Ok.ensures.whole asks first c.add_files.ensures.decides
 
 pub returns-in-Err-clause-stage : goal.returns-in-Err-clause-stage
-returns-in-Err-clause-stage g c = front_one (seen_place g.P.Place.files g.P.Place.read_faults g.P.Place.write_faults g.P.Place.opened g.P.Place.created) c.args.place.now c.read_text.new.place c.args.names.now.script.now (map string_bytes c.args.names.now.replies.now) _ c.in-Err.ensures.stage
+returns-in-Err-clause-stage g c = front_one (of_place g.P.Place) c.args.place.now c.read_text.new.place c.args.names.now.script.now (map string_bytes c.args.names.now.replies.now) _ c.in-Err.ensures.stage
 
 pub returns-clause-stage : goal.returns-clause-stage
 returns-clause-stage g c =
-    front_then (seen_place g.P.Place.files g.P.Place.read_faults g.P.Place.write_faults g.P.Place.opened g.P.Place.created) c.args.place.now c.read_text.new.place c.add_files.new.place c.args.names.now.script.now (map string_bytes c.args.names.now.replies.now) _
+    front_then (of_place g.P.Place) c.args.place.now c.read_text.new.place c.add_files.new.place c.args.names.now.script.now (map string_bytes c.args.names.now.replies.now) _
     c.in-Ok.ensures.stage.leaves c.add_files.ensures.stage
 
 pub returns-in_default-clause-stage : goal.returns-in_default-clause-stage
 returns-in_default-clause-stage g c =
-    let p = seen_place g.P.Place.files g.P.Place.read_faults g.P.Place.write_faults g.P.Place.opened g.P.Place.created in
+    let p = of_place g.P.Place in
     let script = c.args.names.now.script.now in
     front_one p c.args.place.now c.read_text.new.place script (map string_bytes c.args.names.now.replies.now) _ (files_lacked p c.args.place.now c.read_text.new.place (script ∷ []) c.in-Ok.ensures.stage.leaves)
 
 pub returns-in_default-first_sums-clause-stage : goal.returns-in_default-first_sums-clause-stage
 returns-in_default-first_sums-clause-stage g c =
-    let p = seen_place g.P.Place.files g.P.Place.read_faults g.P.Place.write_faults g.P.Place.opened g.P.Place.created in
+    let p = of_place g.P.Place in
     let script = c.args.names.now.script.now in
     front_one p c.args.place.now c.read_text.new.place script (map string_bytes c.args.names.now.replies.now) _ (files_lacked p c.args.place.now c.read_text.new.place (script ∷ []) c.in-Ok.ensures.stage.leaves)

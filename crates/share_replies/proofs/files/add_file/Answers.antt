@@ -1,5 +1,5 @@
 use Rattle.std.proofs.Common.{Err, sym, ◌∙◌, ap, subst}
-use Rattle.run_files.specs.Outside.{file_of, seen_place}
+use Rattle.run_files.specs.Outside.{file_of, of_place}
 use Rattle.share_replies.specs.Shares.{IsShare}
 use Rattle.share_replies.specs.Refusals.{IsRight, IsWrongAt, totals_of}
 use Rattle.share_replies.proofs.FileSums.{told_is}
@@ -33,4 +33,4 @@ pub returns-in-Ok-add_text-clause-stage : goal.returns-in-Ok-add_text-clause-sta
 returns-in-Ok-add_text-clause-stage g c = c.in-Ok.ensures.stage
 
 pub returns-clause-stage : goal.returns-clause-stage
-returns-clause-stage g c = file_faulty (seen_place g.P.Place.files g.P.Place.read_faults g.P.Place.write_faults g.P.Place.opened g.P.Place.created) c.args.place.now c.read_text.new.place c.args.name.now c.fault_of_text.result c.fault_of_text.ensures.memory c.in-Ok.ensures.stage.leaves
+returns-clause-stage g c = file_faulty (of_place g.P.Place) c.args.place.now c.read_text.new.place c.args.name.now c.fault_of_text.result c.fault_of_text.ensures.memory c.in-Ok.ensures.stage.leaves

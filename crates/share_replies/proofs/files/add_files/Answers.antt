@@ -1,7 +1,7 @@
 use Rattle.std.proofs.Common.{◌≡◌, List, Option, Err, map, take, refl, sym, ◌∙◌, ap, subst, arith, Some}
 use Rattle.std.specs.Prelude.{string_bytes}
 use Rattle.outer_io.specs.Files.{file_or_empty}
-use Rattle.run_files.specs.Outside.{file_of, seen_place}
+use Rattle.run_files.specs.Outside.{file_of, of_place}
 use Rattle.outer_io.specs.Told.{Told}
 use Rattle.share_replies.specs.Refusals.{IsRight, IsWrongAt, totals_of}
 use Rattle.share_replies.specs.Shares.{Share, together}
@@ -20,7 +20,7 @@ loop-i-init g c = record {
   right = told_none (g.P.Place.files c.args.place.now) c.args.asked.now (totals_of c.args.first);
   size = c.requires.size;
   files = refl;
-  leaves = none_read (seen_place g.P.Place.files g.P.Place.read_faults g.P.Place.write_faults g.P.Place.opened g.P.Place.created) c.args.place.now;
+  leaves = none_read (of_place g.P.Place) c.args.place.now;
 }
 
 pub returns-in-Err-clause-law : goal.returns-in-Err-clause-law
@@ -66,7 +66,7 @@ loop-i-preserved g c = record {
       let i = c.loop-i.i in
       let name = c.as_str.result.now in
       let at = names_at string_bytes names i c.index-names-i.result name c.index-names-i.is (omega arith) c.as_str.ensures.value in
-      all_more (seen_place g.P.Place.files g.P.Place.read_faults g.P.Place.write_faults g.P.Place.opened g.P.Place.created) c.args.place.now c.loop-i.place c.add_file.new.place (map string_bytes names) i name at c.loop-i.invariant.leaves c.in-Ok.ensures.stage.leaves;
+      all_more (of_place g.P.Place) c.args.place.now c.loop-i.place c.add_file.new.place (map string_bytes names) i name at c.loop-i.invariant.leaves c.in-Ok.ensures.stage.leaves;
 }
 
 pub returns-in-Err-clause-decides : goal.returns-in-Err-clause-decides
@@ -93,7 +93,7 @@ returns-clause-decides g c = record {
 
 pub returns-in-Err-clause-stage : goal.returns-in-Err-clause-stage
 returns-in-Err-clause-stage g c =
-    let p = (seen_place g.P.Place.files g.P.Place.read_faults g.P.Place.write_faults g.P.Place.opened g.P.Place.created) in
+    let p = (of_place g.P.Place) in
     let names = c.args.names.now in
     let i = c.loop-i.i in
     let n = c.index-names-i.result in
@@ -106,4 +106,4 @@ returns-in-Err-clause-stage g c =
 pub returns-clause-stage : goal.returns-clause-stage
 returns-clause-stage g c =
     let all = map string_bytes c.args.names.now in
-    (c.loop-i.i, files_read (seen_place g.P.Place.files g.P.Place.read_faults g.P.Place.write_faults g.P.Place.opened g.P.Place.created) c.args.place.now c.loop-i.place (take c.loop-i.i all) c.loop-i.invariant.leaves)
+    (c.loop-i.i, files_read (of_place g.P.Place) c.args.place.now c.loop-i.place (take c.loop-i.i all) c.loop-i.invariant.leaves)

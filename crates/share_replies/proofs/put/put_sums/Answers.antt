@@ -1,6 +1,6 @@
 use Rattle.std.proofs.Common.{List, Option, sym, ◌∙◌, subst, take, take_all, arith}
 use Rattle.query_syntax.specs.declared.query.Parsed.{Parsed}
-use Rattle.run_files.specs.Outside.{Puts, seen_sink}
+use Rattle.run_files.specs.Outside.{of_sink, Puts}
 use Rattle.share_replies.specs.Refusals.{totals_of}
 use Rattle.share_replies.specs.declared.summed.Summed.{Summed}
 use Rattle.share_replies.specs.Sums.{IsSumOver}
@@ -21,7 +21,7 @@ loop-i-preserved g c = record {
       (puts_more schema s (take c.loop-i.i ps) at.asked a b d (c.loop-i.invariant.law schema s ps all) (c.in_ok-put_sum.ensures.law schema s at.asked here));
   quiet = c.in_ok-put_sum.ensures.cause.quiet (λ e. cc) ∙ c.loop-i.invariant.quiet;
   puts =
-      totals_more (seen_sink g.O.Sink.held g.O.Sink.faults g.O.Sink.name) c.args.out.now c.loop-i.out c.put_sum.new.out c.args.sums.now c.loop-i.i c.index-sums-i.result (take_at_item c.args.sums.now c.loop-i.i c.index-sums-i.result c.index-sums-i.is (omega arith))
+      totals_more (of_sink g.O.Sink) c.args.out.now c.loop-i.out c.put_sum.new.out c.args.sums.now c.loop-i.i c.index-sums-i.result (take_at_item c.args.sums.now c.loop-i.i c.index-sums-i.result c.index-sums-i.is (omega arith))
       c.loop-i.invariant.puts c.in_ok-put_sum.ensures.puts;
 }
 
@@ -32,4 +32,4 @@ returns-clause-law g c schema s ps all =
 
 pub returns-clause-puts : goal.returns-clause-puts
 returns-clause-puts g c =
-    subst (λ (sums : List (Option Summed)). Puts (seen_sink g.O.Sink.held g.O.Sink.faults g.O.Sink.name) c.args.out.now c.loop-i.out (totals_text (totals_of sums))) (take_all c.loop-i.i c.args.sums.now (omega arith)) c.loop-i.invariant.puts
+    subst (λ (sums : List (Option Summed)). Puts (of_sink g.O.Sink) c.args.out.now c.loop-i.out (totals_text (totals_of sums))) (take_all c.loop-i.i c.args.sums.now (omega arith)) c.loop-i.invariant.puts

@@ -4,9 +4,9 @@ use Rattle.top_call.specs.Run.{run_name}
 use Rattle.top_call.proofs.call.nanocube.Goals as goal
 
 pub returns-in-Some-save_names-clause-demo : goal.returns-in-Some-save_names-clause-demo
-returns-in-Some-save_names-clause-demo g c feed script is =
+returns-in-Some-save_names-clause-demo g c names is =
     let words : List (List ℕ) = map (string_bytes {Z = Global}) c.args.words.now in
-    absurd (save_apart_demo words _ (feed, script) (sym c.in-Some-save_names.ensures) is)
+    absurd (save_apart_demo words _ names (sym c.in-Some-save_names.ensures) is)
 
 pub returns-in-None-Some-default-clause-big : goal.returns-in-None-Some-default-clause-big
 returns-in-None-Some-default-clause-big g c rows is =

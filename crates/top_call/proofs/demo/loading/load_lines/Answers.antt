@@ -1,6 +1,5 @@
 use Rattle.std.proofs.Common.{ap, subst, Err}
 use Rattle.top_call.proofs.Loaded.{head_of_refused, taken}
-use Rattle.cube_view.specs.Bag.{Counts}
 use Rattle.cube_view.specs.declared.schema.Schema.{Schema}
 use Rattle.feed_reader.proofs.FeedLaws.{head_refused, too_large_refused}
 use Rattle.feed_reader.specs.Reading.{IsHeadRefused, LeavesAccepted, ReadsHeader}
@@ -14,7 +13,7 @@ returns-in_err-header-clause-refused g c bad =
 
 pub returns-clause-points : goal.returns-clause-points
 returns-clause-points g c =
-    taken g.S.Source.left g.S.Source.faults (g.V.CubeView.schema c.args.cube.now) c.in_ok-header.header.places c.args.cutter.now c.read_header.new.cutter c.keep_points.new.cutter c.keep_points.result (Counts (g.V.CubeView.weight_at c.args.cube.now) (g.V.CubeView.seen c.args.cube.now)) (Counts (g.V.CubeView.weight_at c.keep_points.new.cube) (g.V.CubeView.seen c.keep_points.new.cube))
+    taken g.S.Source g.V.CubeView c.in_ok-header.header.places c.args.cutter.now c.read_header.new.cutter c.keep_points.new.cutter c.keep_points.result c.args.cube.now c.keep_points.new.cube
     c.requires.start c.requires.empty
     (subst (λ (s : Schema). ReadsHeader g.S.Source.left g.S.Source.faults s c.args.cutter.now c.read_header.new.cutter c.in_ok-header.header.places) c.schema.ensures c.in_ok-header.ensures.header)
     (subst (λ (s : Schema). LeavesAccepted g.S.Source.left s c.in_ok-header.header.places c.args.cutter.now c.read_header.new.cutter) c.schema.ensures (c.in_ok-header.ensures.accepted c.requires.start))
