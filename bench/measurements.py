@@ -12,7 +12,7 @@ SECTIONS = {
     "feeds": ["python3 {bench}/feed_times.py {program} {feed_lines}"],
     "lists": ["{bench}/measure.sh table_times", "{tables}"],
     "cube": ["{bench}/measure.sh cube_times", "{nanocube}", "python3 {bench}/sqlite.py"],
-    "replies": ["python3 {bench}/reply_times.py {both}"],
+    "replies": ["python3 {bench}/reply_times.py {both} --peer {nanocube}"],
     "loading": ["python3 {bench}/load_times.py {both} --groups {groups}"],
     "large": ["python3 {bench}/load_times.py {both} --groups {groups} --records 2000000 --kinds generated,city --batches 1024,65536 --feeds 8",
               "python3 {bench}/load_times.py {both} --groups {groups} --records 1000000 --kinds checkins --batches 64,65536 --feeds 1"],
@@ -25,7 +25,7 @@ SECTIONS = {
               "python3 {bench}/short_runs.py three {program} --runs 10000 --beside 4", "python3 {bench}/short_runs.py judged {program} --runs 1000 --beside 4"],
     "scaling": ["python3 {bench}/scaling.py {program}"],
     "refused": ["python3 {bench}/judge_interrupted.py {program} {refuse}", "python3 {bench}/judge_interrupted.py {program} {refuse} 64", "python3 {bench}/judge_interrupted.py {program} {refuse} rows",
-                "python3 {bench}/judge_images.py {program} {refuse}"],
+                "python3 {bench}/judge_forms.py {program} {refuse}", "python3 {bench}/refused_tests.py {refuse}"],
     "least": ["python3 {bench}/judge_least.py {program}"],
 }
 MANIFEST = """[package]

@@ -1,9 +1,15 @@
 //! The same structure in plain Rust: nodes with shared links and time tables of running totals, filled point by point.
+//!
+//! Without arguments, or with a number of records, it makes records of two kinds and times insertion and replies.
+//! `nanocube DEPTH NUMBERS SCRIPT NAME=VALUE|VALUE..` inserts the lines of NUMBERS (x, y, the numbers of the values, the bin),
+//! then reads SCRIPT, prints the reply to each of its lines by one write, and tells on standard error how many nanoseconds
+//! of a processor that took.
 use std::collections::HashSet;
-use std::fmt::Write;
+use std::fmt::Write as _;
+use std::fs::{self, File};
+use std::io::{self, BufRead, BufReader, Write as _};
 use std::time::Instant;
 
-const DEPTH: usize = 10;
 const NONE: u32 = u32::MAX;
 
 #[derive(Clone, Copy)]
@@ -30,10 +36,10 @@ pub struct Point {
     pub bin: u32,
 }
 
-fn point(x: u32, y: u32, values: &[u8], bin: u32) -> Point {
-    let space = (0..DEPTH)
+fn point(depth: usize, x: u32, y: u32, values: &[u8], bin: u32) -> Point {
+    let space = (0..depth)
         .map(|level| {
-            let shift = DEPTH - 1 - level;
+            let shift = depth - 1 - level;
             (2 * (y >> shift & 1) + (x >> shift & 1)) as u8
         })
         .collect();
@@ -241,12 +247,12 @@ fn step(s: u64) -> u64 {
 }
 
 fn generated(s: u64) -> Point {
-    point((s >> 54) as u32, (s >> 44) as u32 % 1024, &[((s >> 42) % 4) as u8], ((s >> 32) % 1024) as u32)
+    point(10, (s >> 54) as u32, (s >> 44) as u32 % 1024, &[((s >> 42) % 4) as u8], ((s >> 32) % 1024) as u32)
 }
 
 fn city(s: u64) -> Point {
     let values = [((s >> 42) % 4) as u8, ((s >> 40) % 2) as u8];
-    point(300 + 2 * (s >> 59) as u32, 500 + 2 * ((s >> 44) % 32) as u32, &values, ((s >> 30) % 744) as u32)
+    point(10, 300 + 2 * (s >> 59) as u32, 500 + 2 * ((s >> 44) % 32) as u32, &values, ((s >> 30) % 744) as u32)
 }
 
 fn filled(name: &str, records: u32, made: fn(u64) -> Point) -> Cube {
@@ -268,7 +274,31 @@ fn filled(name: &str, records: u32, made: fn(u64) -> Point) -> Cube {
     cube
 }
 
-/// What a line asks for, and of which records.
+/// The names of the categories and of their values.
+struct Names(Vec<(String, Vec<String>)>);
+
+impl Names {
+    fn category(&self, name: &str) -> Option<usize> {
+        self.0.iter().position(|category| category.0 == name)
+    }
+
+    /// The values of a category, by its number.
+    fn values(&self, category: usize) -> &[String] {
+        self.0.get(category).map_or(&[], |it| &it.1)
+    }
+
+    /// Of `NAME=VALUE|VALUE..`.
+    fn of(words: impl Iterator<Item = String>) -> Names {
+        let category = |word: String| {
+            let (name, values) = word.split_once('=').unwrap();
+            (name.to_string(), values.split('|').map(str::to_string).collect())
+        };
+        Names(words.map(category).collect())
+    }
+}
+
+/// What a line asks for, and of which records: `kind` is a value of the first category, `Hist` lists that category's values,
+/// and `Cross` those of the first two.
 enum Verb {
     Count,
     Hist,
@@ -285,19 +315,15 @@ struct Query {
     to: u64,
 }
 
-fn value(text: &str) -> Option<u8> {
-    ["a", "b", "c", "d"].iter().position(|name| *name == text).map(|k| k as u8)
-}
-
 /// The query of a line of words, with the filters that the lines here have.
-fn read(line: &str) -> Option<Query> {
+fn read(names: &Names, line: &str) -> Option<Query> {
     let mut words = line.split_ascii_whitespace();
     let verb = match words.next()? {
         "count" => Verb::Count,
-        "hist" => words.next().filter(|name| *name == "kind").map(|_| Verb::Hist)?,
+        "hist" => (names.category(words.next()?)? == 0).then_some(Verb::Hist)?,
         "map" => Verb::Map(words.next()?.parse().ok()?),
         "series" => Verb::Series(words.next()?.parse().ok()?, words.next()?.parse().ok()?, words.next()?.parse().ok()?),
-        "cross" => words.nth(1).map(|_| Verb::Cross)?,
+        "cross" => ((names.category(words.next()?)?, names.category(words.next()?)?) == (0, 1)).then_some(Verb::Cross)?,
         _ => return None,
     };
     let mut query = Query { verb, tile: (0, 0, 0), kind: None, from: 0, to: 1 << 32 };
@@ -307,7 +333,11 @@ fn read(line: &str) -> Option<Query> {
                 let mut parts = words.next()?.split('/');
                 query.tile = (parts.next()?.parse().ok()?, parts.next()?.parse().ok()?, parts.next()?.parse().ok()?);
             }
-            "with" => query.kind = Some(value(words.next()?.strip_prefix("kind=")?)?),
+            "with" => {
+                let (name, value) = words.next()?.split_once('=')?;
+                let values = names.values(names.category(name).filter(|it| *it == 0)?);
+                query.kind = Some(values.iter().position(|it| it == value)? as u8);
+            }
             "time" => (query.from, query.to) = (words.next()?.parse().ok()?, words.next()?.parse().ok()?),
             _ => return None,
         }
@@ -316,7 +346,7 @@ fn read(line: &str) -> Option<Query> {
 }
 
 /// Answers a query into the text, which it empties first.
-fn answer(cube: &Cube, records: u32, query: &Query, text: &mut String) {
+fn answer(cube: &Cube, names: &Names, records: u32, query: &Query, text: &mut String) {
     let (z, x, y) = query.tile;
     let node = cube.tile(z, x, y);
     let total = |kind, from, to| node.map_or(0, |node| cube.total_at(node, kind, from, to));
@@ -329,7 +359,11 @@ fn answer(cube: &Cube, records: u32, query: &Query, text: &mut String) {
     };
     match query.verb {
         Verb::Count => row(text, format_args!("[{}]", total(query.kind, query.from, query.to))),
-        Verb::Hist => (0..4u8).for_each(|kind| row(text, format_args!("[\"{}\",{}]", (b'a' + kind) as char, total(Some(kind), query.from, query.to)))),
+        Verb::Hist => {
+            for (kind, name) in names.values(0).iter().enumerate() {
+                row(text, format_args!("[\"{name}\",{}]", total(Some(kind as u8), query.from, query.to)));
+            }
+        }
         Verb::Map(down) => {
             let mut rows = Vec::new();
             node.into_iter().for_each(|node| cube.map(node, down, z, x, y, &mut rows));
@@ -340,10 +374,10 @@ fn answer(cube: &Cube, records: u32, query: &Query, text: &mut String) {
             row(text, format_args!("[{start},{}]", total(query.kind, start, start + wide)));
         }),
         Verb::Cross => {
-            for kind in 0..4u8 {
-                for side in 0..2u8 {
-                    let n = node.map_or(0, |node| cube.total_of_pair(node, kind, side, query.from, query.to));
-                    row(text, format_args!("[\"{}\",\"{}\",{n}]", (b'a' + kind) as char, ["l", "r"][usize::from(side)]));
+            for (kind, name) in names.values(0).iter().enumerate() {
+                for (side, other) in names.values(1).iter().enumerate() {
+                    let n = node.map_or(0, |node| cube.total_of_pair(node, kind as u8, side as u8, query.from, query.to));
+                    row(text, format_args!("[\"{name}\",\"{other}\",{n}]"));
                 }
             }
         }
@@ -352,11 +386,11 @@ fn answer(cube: &Cube, records: u32, query: &Query, text: &mut String) {
 }
 
 /// Reads, answers and prints the lines.
-fn serve(name: &str, cube: &Cube, records: u32, lines: &[String]) {
+fn serve(name: &str, cube: &Cube, names: &Names, records: u32, lines: &[String]) {
     let (mut text, mut bytes) = (String::new(), 0);
     let start = Instant::now();
     for line in lines {
-        answer(cube, records, &read(line).unwrap(), &mut text);
+        answer(cube, names, records, &read(names, line).unwrap(), &mut text);
         bytes += text.len();
     }
     println!("{name}: {:.2} us each ({bytes})", start.elapsed().as_secs_f64() * 1e6 / lines.len() as f64);
@@ -372,9 +406,9 @@ fn count_lines() -> Vec<String> {
     (0..20_000).map(line).collect()
 }
 
-fn answers(cube: &Cube, records: u32) {
+fn answers(cube: &Cube, names: &Names, records: u32) {
     let lines = count_lines();
-    let queries: Vec<Query> = lines.iter().map(|line| read(line).unwrap()).collect();
+    let queries: Vec<Query> = lines.iter().map(|line| read(names, line).unwrap()).collect();
     let start = Instant::now();
     let mut sum = 0;
     for query in &queries {
@@ -382,18 +416,59 @@ fn answers(cube: &Cube, records: u32) {
         sum += cube.tile(z, x, y).map_or(0, |node| cube.total_at(node, query.kind, query.from, query.to));
     }
     println!("count without line and text: {:.0} ns each ({sum})", start.elapsed().as_secs_f64() * 1e9 / queries.len() as f64);
-    serve("count", cube, records, &lines);
-    serve("map 6", cube, records, &vec!["map 6".to_string(); 20]);
-    serve("series 0 1 1000", cube, records, &vec!["series 0 1 1000".to_string(); 20]);
-    serve("hist kind", cube, records, &vec!["hist kind".to_string(); 1000]);
+    serve("count", cube, names, records, &lines);
+    serve("map 6", cube, names, records, &vec!["map 6".to_string(); 20]);
+    serve("series 0 1 1000", cube, names, records, &vec!["series 0 1 1000".to_string(); 20]);
+    serve("hist kind", cube, names, records, &vec!["hist kind".to_string(); 1000]);
 }
 
-/// With a number of records as its argument only those are taken.
+/// How many nanoseconds this process was on a processor.
+fn processor_time() -> u64 {
+    let told = fs::read_to_string("/proc/self/schedstat").unwrap();
+    told.split(' ').next().unwrap().parse().unwrap()
+}
+
+/// The cube of the lines of a file of numbers.
+fn cube_of(depth: usize, numbers: &str) -> (Cube, u32) {
+    let (mut cube, mut records) = (Cube::new(), 0);
+    for line in BufReader::new(File::open(numbers).unwrap()).lines() {
+        let fields: Vec<u32> = line.unwrap().split(',').map(|it| it.parse().unwrap()).collect();
+        let values: Vec<u8> = fields[2..fields.len() - 1].iter().map(|it| *it as u8).collect();
+        cube.insert(&point(depth, fields[0], fields[1], &values, fields[fields.len() - 1]));
+        records += 1;
+    }
+    (cube, records)
+}
+
+/// Reads, answers and prints the lines of a script.
+fn run_script(cube: &Cube, names: &Names, records: u32, script: &str) -> io::Result<()> {
+    let (mut out, mut text) = (io::stdout().lock(), String::new());
+    for line in BufReader::new(File::open(script)?).lines() {
+        answer(cube, names, records, &read(names, &line?).unwrap(), &mut text);
+        out.write_all(text.as_bytes())?;
+    }
+    Ok(())
+}
+
+/// Records of two kinds: insertion and replies.
+fn run_kinds(records: u32) {
+    let kind = || "kind=a|b|c|d".to_string();
+    let names = Names::of([kind(), "side=l|r".to_string()].into_iter());
+    serve("cross kind side", &filled("city", records, city), &names, records, &vec!["cross kind side".to_string(); 1000]);
+    answers(&filled("generated", records, generated), &Names::of([kind()].into_iter()), records);
+}
+
 fn main() {
-    let only: Option<u32> = std::env::args().nth(1).and_then(|n| n.parse().ok());
-    for records in only.map_or(vec![20_000, 200_000], |n| vec![n]) {
-        serve("cross kind side", &filled("city", records, city), records, &vec!["cross kind side".to_string(); 1000]);
-        let cube = filled("generated", records, generated);
-        answers(&cube, records);
+    let mut words = std::env::args().skip(1);
+    let number = words.next().map(|n| n.parse().unwrap());
+    match (number, words.next(), words.next()) {
+        (Some(depth), Some(numbers), Some(script)) => {
+            let names = Names::of(words);
+            let (cube, records) = cube_of(depth as usize, &numbers);
+            let before = processor_time();
+            run_script(&cube, &names, records, &script).unwrap();
+            eprintln!("{}", processor_time() - before);
+        }
+        (records, ..) => records.map_or(vec![20_000, 200_000], |n| vec![n]).into_iter().for_each(run_kinds),
     }
 }

@@ -1,10 +1,13 @@
-"""reply_times.py PROGRAM.. [--records 50000] [--rounds 5] [--functions N]: what replies take, by `load` over one image.
+"""reply_times.py PROGRAM.. [--peer NANOCUBE] [--records 50000] [--rounds 5] [--functions N]: what replies take, by `load` over one image.
 
 For each kind of line, of each PROGRAM in turn: processor time a line, as the difference of a script of many such lines and of none
 (the least of so many rounds of each), and, where `valgrind` is installed, instructions a line over a smaller cube, as such a
 difference too. A line is read from the script, answered and printed; the output goes to no file. With `--functions N` the N
 functions that take most of a line's instructions are told besides. At the end, instructions a record of `load` and of `save`'s
 image: of `load` with no line, and of the functions that write the image.
+
+NANOCUBE is bench/nanocube.rs, built: plain Rust that inserts the same records, reads the same scripts, answers and prints, and
+measures that part of itself. It has no `told`, `best` and faults. What it prints has to be what the first PROGRAM prints.
 
 Records are those of load_times.py: generated (one category) for all lines but `cross`, which is asked of a city's."""
 import argparse, json, os, re, shutil, subprocess, tempfile
@@ -49,6 +52,8 @@ def make_image(program, folder, kind, records):
 
 
 LOAD = ["load", "plan.json", "cube.img", "script.txt"]
+# What plain Rust does not answer.
+NOT_PEER = ("told", "best 6 10", "sum 77 (a fault)")
 
 
 def seconds(program, folder, lines, rounds):
@@ -62,6 +67,26 @@ def seconds(program, folder, lines, rounds):
         assert status == 0, status
         least = min(least, usage.ru_utime + usage.ru_stime)
     return least
+
+
+def peer_words(kind):
+    """The words with which plain Rust answers the script over the records of this kind."""
+    return [str(KINDS[kind].depth), "numbers.txt", "script.txt", *(f"{name}={'|'.join(values)}" for name, values in KINDS[kind].categories)]
+
+
+def peer_seconds(peer, folder, kind, lines, rounds):
+    """The least processor seconds that plain Rust takes for these lines, as it tells them."""
+    write_script(folder, lines)
+    runs = [subprocess.run([peer, *peer_words(kind)], cwd=folder, check=True, stdout=subprocess.DEVNULL, stderr=subprocess.PIPE) for _ in range(rounds)]
+    return min(int(it.stderr) for it in runs) / 1e9
+
+
+def test_same(program, peer, folder, kind, lines):
+    """Whether both print the same replies."""
+    write_script(folder, lines)
+    one, other = (subprocess.run(words, cwd=folder, check=True, stdout=subprocess.PIPE, stderr=subprocess.DEVNULL).stdout
+                  for words in ([program, *LOAD], [peer, *peer_words(kind)]))
+    assert one == other, f"{program} and {peer} print other replies to {lines[0]}"
 
 
 def counted(program, folder, words):
@@ -78,27 +103,32 @@ def counted(program, folder, words):
     return found
 
 
-def instructions(program, folder, lines, most):
+def instructions(program, folder, words, lines, most):
     """The instructions that each of these lines takes, in all and of the functions that take most."""
     taken = []
     for some in ([], lines):
         write_script(folder, some)
-        taken.append(counted(program, folder, LOAD))
+        taken.append(counted(program, folder, words))
     each = {name: (there - taken[0].get(name, 0)) / len(lines) for name, there in taken[1].items()}
     return sum(each.values()), sorted(each.items(), key=lambda it: -it[1])[:most]
 
 
-def lines_of(programs, records, rounds, most):
+def lines_of(programs, peer, records, rounds, most):
     for name, (kind, count, make) in LINES.items():
+        beside = [] if name in NOT_PEER else peer
         with tempfile.TemporaryDirectory() as folder:
             make_image(programs[0], folder, kind, records)
-            told = [(seconds(it, folder, make(count), rounds) - seconds(it, folder, [], rounds)) / count for it in programs]
+            lines, few = make(count), make(max(20, count // 1_000))
+            told = [(seconds(it, folder, lines, rounds) - seconds(it, folder, [], rounds)) / count for it in programs]
+            told += [peer_seconds(it, folder, kind, lines, rounds) / count for it in beside]
             print(f"{name}: {', '.join(f'{1e6 * it:.2f}' for it in told)} us a line", flush=True)
+            for it in beside:
+                test_same(programs[0], it, folder, kind, few)
             if not shutil.which("valgrind"):
                 continue
             make_image(programs[0], folder, kind, 2_000)
-            for program in programs:
-                whole, functions = instructions(program, folder, make(max(20, count // 1_000)), most)
+            for program, words in [(it, LOAD) for it in programs] + [(it, peer_words(kind)) for it in beside]:
+                whole, functions = instructions(program, folder, words, few, most)
                 print(f"  {program}: {whole:,.0f} instructions a line" + "".join(f"\n    {it:>9,.0f}  {at}" for at, it in functions), flush=True)
 
 
@@ -125,6 +155,7 @@ def images_of(programs, most):
 def main():
     words = argparse.ArgumentParser(description=__doc__, formatter_class=argparse.RawDescriptionHelpFormatter)
     words.add_argument("programs", nargs="+", metavar="PROGRAM")
+    words.add_argument("--peer", type=os.path.abspath)
     words.add_argument("--records", type=int, default=50_000)
     words.add_argument("--rounds", type=int, default=5)
     words.add_argument("--functions", type=int, default=0, metavar="N")
@@ -132,7 +163,7 @@ def main():
     given = words.parse_args()
     programs = [os.path.abspath(it) for it in given.programs]
     if given.only != "images":
-        lines_of(programs, given.records, given.rounds, given.functions)
+        lines_of(programs, [given.peer] if given.peer else [], given.records, given.rounds, given.functions)
     if given.only != "lines" and shutil.which("valgrind"):
         images_of(programs, given.functions)
 

@@ -1,5 +1,6 @@
-"""judge_images.py PROGRAM REFUSE.SO: saves the cube of five records and answers a script over its image, with each allocation,
-opening, read, write and closing refused in turn, and judges the status, the output and the image of each run."""
+"""judge_forms.py PROGRAM REFUSE.SO: answers a script over three records by `demo`, saves the cube of five records and answers the
+script over its image, with each allocation, opening, read, write and closing refused in turn, and judges the status, the output
+and the image of each run."""
 import os, subprocess, sys, tempfile
 from collections import Counter
 
@@ -29,8 +30,9 @@ def judge(program, refuse, words, kind, number, whole, image):
     with tempfile.TemporaryDirectory() as folder:
         for name, text in FILES.items():
             open(os.path.join(folder, name), "w").write(text)
-        if words[0] == "load":
-            open(os.path.join(folder, "cube.img"), "wb").write(image)
+        kept = image if words[0] == "load" else None
+        if kept is not None:
+            open(os.path.join(folder, "cube.img"), "wb").write(kept)
         status, out = run(program, folder, words, {"LD_PRELOAD": refuse, kind: str(number)})
         path = os.path.join(folder, "cube.img")
         has = open(path, "rb").read() if os.path.exists(path) else None
@@ -44,7 +46,7 @@ def judge(program, refuse, words, kind, number, whole, image):
             assert not out or has == image, (words, kind, number, "said of no image")
             assert whole.startswith(out), (words, kind, number, out)
         else:
-            assert has == image and (status != 0 or out == whole), (words, kind, number, out)
+            assert has == kept and (status != 0 or out == whole), (words, kind, number, out)
             assert is_front(out, whole) and (status == 4 or LACKING not in out), (words, kind, number, out)
         return status, "all" if out == whole else "none" if not out else "a part"
 
@@ -55,7 +57,7 @@ def main():
         for name, text in FILES.items():
             open(os.path.join(folder, name), "w").write(text)
         runs = {}
-        for words in (["save", "plan.json", "cube.img"], ["load", "plan.json", "cube.img", "q.txt"]):
+        for words in (["demo", "a.csv", "q.txt"], ["save", "plan.json", "cube.img"], ["load", "plan.json", "cube.img", "q.txt"]):
             status, out = run(program, folder, words, {})
             assert status == 0, (words, status, out)
             runs[words[0]] = (words, out)
