@@ -2,11 +2,11 @@
 //!
 //! Without arguments, or with a number of records, it makes records of two kinds and times insertion and replies.
 //! `nanocube DEPTH NUMBERS SCRIPT NAME=VALUE|VALUE..` inserts the lines of NUMBERS (x, y, the numbers of the values, the bin),
-//! then reads SCRIPT, prints the reply to each of its lines by one write, and tells on standard error how many nanoseconds
-//! of a processor that took.
+//! then reads SCRIPT, prints the reply to each of its lines by one write, and tells on standard error how many seconds of a
+//! processor that took.
 use std::collections::HashSet;
 use std::fmt::Write as _;
-use std::fs::{self, File};
+use std::fs::File;
 use std::io::{self, BufRead, BufReader, Write as _};
 use std::time::Instant;
 
@@ -422,10 +422,21 @@ fn answers(cube: &Cube, names: &Names, records: u32) {
     serve("hist kind", cube, names, records, &vec!["hist kind".to_string(); 1000]);
 }
 
-/// How many nanoseconds this process was on a processor.
-fn processor_time() -> u64 {
-    let told = fs::read_to_string("/proc/self/schedstat").unwrap();
-    told.split(' ').next().unwrap().parse().unwrap()
+#[repr(C)]
+struct Moment {
+    seconds: i64,
+    nanoseconds: i64,
+}
+
+extern "C" {
+    fn clock_gettime(clock: i32, at: *mut Moment) -> i32;
+}
+
+/// Seconds of this thread's processor time.
+pub fn busy() -> f64 {
+    let mut at = Moment { seconds: 0, nanoseconds: 0 };
+    unsafe { clock_gettime(3, &mut at) };
+    at.seconds as f64 + at.nanoseconds as f64 * 1e-9
 }
 
 /// The cube of the lines of a file of numbers.
@@ -465,9 +476,9 @@ fn main() {
         (Some(depth), Some(numbers), Some(script)) => {
             let names = Names::of(words);
             let (cube, records) = cube_of(depth as usize, &numbers);
-            let before = processor_time();
+            let begun = busy();
             run_script(&cube, &names, records, &script).unwrap();
-            eprintln!("{}", processor_time() - before);
+            eprintln!("{}", busy() - begun);
         }
         (records, ..) => records.map_or(vec![20_000, 200_000], |n| vec![n]).into_iter().for_each(run_kinds),
     }

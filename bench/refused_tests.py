@@ -1,12 +1,14 @@
 """refused_tests.py REFUSE.SO [--folder CRATES] [NAME..]: runs tests of the repository with each of their allocations refused in turn.
 
 REFUSE.SO is bench/refuse.c, built. The tests are built where they are not yet (`rt test`), or stand in another checkout's folder
-CRATES. Each test has to pass, or to end because it was out of memory before what it tests began; a failed assertion stops
-this script. It prints how many allocations a test makes, and from which one on it passed whichever was refused."""
+CRATES. With each of the first allocations a test may end because it was out of memory before what it tests began; with every
+later one it has to pass, and any other end is wrong. It prints how many allocations a test makes, and how many are such first
+ones."""
 import argparse, os, re, subprocess, sys
-from collections import Counter
 
 TOP = os.path.dirname(os.path.dirname(os.path.realpath(__file__)))
+# The status of a test that passed, and of one whose result is that it was out of memory; an assertion ends a test by a signal.
+PASSED, STARVED = 0, 101
 # By crate: the test, and what it tests.
 TESTS = {
     "time_table_tests": ("keeps_its_counts_where_an_addition_is_refused", "1,000 additions to 300 bins"),
@@ -35,14 +37,14 @@ def judge(crate, test, what, folder, refuse):
         subprocess.run(["rt", "test", test], cwd=f"{folder}/{crate}", check=True, stdout=subprocess.DEVNULL)
     path = path_of(binary, test)
     status, told = run(binary, path, refuse, {"TELL_ALLOC": "1"})
-    assert status == 0, (crate, test, status, told)
+    assert status == PASSED, (crate, test, status, told)
     count = int(re.search(r"allocations (\d+)", told)[1])
     ends = [run(binary, path, refuse, {"FAIL_ALLOC": str(number)})[0] for number in range(1, count + 1)]
-    first = next((number for number in range(count, 0, -1) if ends[number - 1]), 0) + 1
-    seen = Counter(ends)
-    print(f"{crate}, {test} ({what}): {count} allocations; {seen.pop(0, 0)} runs passed, "
-          + "".join(f"{n} ended with status {it}, " for it, n in sorted(seen.items())) + f"all passed from allocation {first} on", flush=True)
-    return -6 not in ends and -11 not in ends
+    first = ends.count(STARVED)
+    right = ends == [STARVED] * first + [PASSED] * (count - first)
+    print(f"{crate}, {test} ({what}): {count} allocations; out of memory with each of the first {first}, passed with the others"
+          if right else f"{crate}, {test} ({what}): WRONG: {ends}", flush=True)
+    return right
 
 
 def main():

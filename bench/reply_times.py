@@ -52,8 +52,8 @@ def make_image(program, folder, kind, records):
 
 
 LOAD = ["load", "plan.json", "cube.img", "script.txt"]
-# What plain Rust does not answer.
-NOT_PEER = ("told", "best 6 10", "sum 77 (a fault)")
+# The verbs that plain Rust has.
+PEER_VERBS = ("count", "hist", "map", "series", "cross")
 
 
 def seconds(program, folder, lines, rounds):
@@ -78,7 +78,7 @@ def peer_seconds(peer, folder, kind, lines, rounds):
     """The least processor seconds that plain Rust takes for these lines, as it tells them."""
     write_script(folder, lines)
     runs = [subprocess.run([peer, *peer_words(kind)], cwd=folder, check=True, stdout=subprocess.DEVNULL, stderr=subprocess.PIPE) for _ in range(rounds)]
-    return min(int(it.stderr) for it in runs) / 1e9
+    return min(float(it.stderr) for it in runs)
 
 
 def test_same(program, peer, folder, kind, lines):
@@ -115,7 +115,7 @@ def instructions(program, folder, words, lines, most):
 
 def lines_of(programs, peer, records, rounds, most):
     for name, (kind, count, make) in LINES.items():
-        beside = [] if name in NOT_PEER else peer
+        beside = peer if name.split()[0] in PEER_VERBS else []
         with tempfile.TemporaryDirectory() as folder:
             make_image(programs[0], folder, kind, records)
             lines, few = make(count), make(max(20, count // 1_000))
