@@ -14,7 +14,7 @@ use Rattle.query_syntax.specs.Addresses.{members_below, asked_values, asked_list
 use Rattle.query_syntax.specs.declared.query.Choice.{Choice}
 use Rattle.query_syntax.specs.declared.query.Choice.TheVariants.{All, Only}
 use Rattle.query_syntax.specs.declared.query.Query.{Query}
-use Rattle.query_walk.specs.Costs.{sum_upto, sum_over, rest_cost, value_cost, choices_from, search_cost, region_cost, from_region_cost}
+use Rattle.query_walk.specs.Costs.{sum_upto, sum_over, rest_cost, choice_value_cost, choices_from, search_cost, region_cost, from_region_cost}
 use Rattle.query_walk.specs.Walks.{is_walkable, are_walkable, HasBox}
 
 abbrev pub Values : Type 0
@@ -159,7 +159,7 @@ module _ (costs : ViewCosts) (z : Schema) (h : List Point) where
       let later : AllHave cs = λ k more is. have (suc k) more is in
       let m = lists_more (each_cost c a) (Only set) cs in
       let s = members_sum G set (length set) in
-      let w = over_apart set c (value_cost costs z h cs a) (λ v. G (Some v)) (λ v. value_within cs later (rest_within cs later) c a v (has_spot z h (longer a v))) (have 0 set refl) in
+      let w = over_apart set c (choice_value_cost costs z h cs a) (λ v. G (Some v)) (λ v. value_within cs later (rest_within cs later) c a v (has_spot z h (longer a v))) (have 0 set refl) in
       omega (arith, m, s, w)
 
 -- Past the categories nothing is asked for

@@ -14,7 +14,7 @@ use Rattle.cube_view.specs.declared.schema.Schema.{Schema}
 use Rattle.query_syntax.specs.declared.query.Choice.{Choice}
 use Rattle.query_syntax.specs.declared.query.Choice.TheVariants.{All}
 use Rattle.query_syntax.specs.declared.query.Query.{Query}
-use Rattle.query_walk.specs.Costs.{choices_from, onward_cost, rest_cost, two_totals, value_cost, value_walk_cost, walk_cost}
+use Rattle.query_walk.specs.Costs.{choices_from, onward_cost, rest_cost, two_totals, choice_value_cost, value_walk_cost, walk_cost}
 use Rattle.query_walk.specs.Walks.{IsAtCategory}
 use Rattle.query_walk.proofs.Sets.{below_is_longer}
 
@@ -40,7 +40,7 @@ module _ (costs : ViewCosts) (z : Schema) (h : List Point) where
       ap (λ (n : ℕ). costs.down_cost a + n) (cost_if-true (has_spot z h (longer a v)) (1 + walk_cost costs z h end cs (next_dim (longer a v))) has)
 
   -- the same, of the walk of a total
-  pub value_is : (cs : List Choice) (a : Address) (k v : ℕ) → k < 4 → IsAtCategory a k → 0 < amount (is_below z a v) h → value_cost costs z h cs a v ≡ costs.down_cost a + (1 + rest_cost costs z h cs (next_dim (longer a v)))
+  pub value_is : (cs : List Choice) (a : Address) (k v : ℕ) → k < 4 → IsAtCategory a k → 0 < amount (is_below z a v) h → choice_value_cost costs z h cs a v ≡ costs.down_cost a + (1 + rest_cost costs z h cs (next_dim (longer a v)))
   value_is cs a k v lt free some = value_walk_is (two_totals costs z h) cs a k v lt free some
 
   -- the walk from a tile on, where the step across finds something

@@ -49,12 +49,20 @@ module _ (costs : ViewCosts) (schema : Schema) (h : List Point) where
   rest_cost choices a = walk_cost two_totals choices a
 
   -- the same by one value, with these choices after it
-  abbrev pub value_cost : List Choice → Address → ℕ → ℕ
-  value_cost choices a v = value_walk_cost two_totals choices a v
+  abbrev pub choice_value_cost : List Choice → Address → ℕ → ℕ
+  choice_value_cost choices a v = value_walk_cost two_totals choices a v
 
-  -- the same by each value of a set
-  abbrev pub set_cost : List Choice → Address → List Bool → ℕ
-  set_cost choices a set = sum_over set (value_cost choices a)
+  -- what is left of a query's walk at an address of category k, counted from 0, or of time
+  abbrev pub left_cost : Query → ℕ → Address → ℕ
+  left_cost q k a = rest_cost (choices_from schema q k) a
+
+  -- the same by one value of category k
+  abbrev pub value_cost : Query → ℕ → Address → ℕ → ℕ
+  value_cost q k a v = choice_value_cost (choices_from schema q (k + 1)) a v
+
+  -- the same by each value of a set of category k
+  abbrev pub set_cost : Query → ℕ → Address → List Bool → ℕ
+  set_cost q k a set = sum_over set (value_cost q k a)
 
   -- the cost of each of a query's addresses, together
   abbrev pub search_cost : Query → ℕ

@@ -1,3 +1,4 @@
 pub mod Areas
 pub mod Costs
+pub mod Views
 pub mod Walks

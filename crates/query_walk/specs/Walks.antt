@@ -3,7 +3,7 @@ use Rattle.std.specs.Prelude.{◌≡◌, ℕ, ◌+◌, ◌<◌, ◌≤◌, Bool,
 use Rattle.std.specs.List.{list_any}
 use Rattle.cube_view.specs.Bag.{amount, EachCounted}
 use Rattle.cube_view.specs.Costs.{is_found}
-use Rattle.cube_view.specs.Places.{is_under, region_address}
+use Rattle.cube_view.specs.Places.{is_under, longer, next_dim, region_address}
 use Rattle.cube_view.specs.Points.{Point}
 use Rattle.cube_view.specs.declared.address.Address.{Address}
 use Rattle.cube_view.specs.declared.category.Category.{Category}
@@ -40,6 +40,10 @@ is_left schema q address k s = is_under schema address s && meets_from q k s
 -- the same, where the set is that of category k
 abbrev pub is_left_in_set : Schema → Query → Address → ℕ → List Bool → Spot → Bool
 is_left_in_set schema q address k set s = is_under schema address s && (slice_index_or set (slice_index s.values k) false && meets_from q (k + 1) s)
+
+-- the same, of the spots with that value of category k
+abbrev pub is_left_at_value : Schema → Query → Address → ℕ → ℕ → Spot → Bool
+is_left_at_value schema q address k v = is_left schema q (next_dim (longer address v)) (k + 1)
 
 -- The address is at level 0 of category k, counted from 0, or of time, and has no value from there on.
 pub record IsAtCategory (address : Address) (k : ℕ) : Type 0 where

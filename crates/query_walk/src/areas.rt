@@ -1,10 +1,10 @@
 //! The rows of a map.
 ghost use Rattle.std.specs.Prelude.{◌≡◌, ℕ, ◌+◌, ◌*◌, ◌/◌, ◌%◌, ◌^◌, ◌<◌, ◌≤◌, ◌++◌, IfOk, OnOk};
-ghost use Rattle.cube_view.specs.Bag.{EachCounted};
 ghost use Rattle.cube_view.specs.Places.{longer_tile, region_address};
 ghost use Rattle.query_syntax.specs.Tables.{rows_of_verb};
 ghost use Rattle.query_walk.specs.Areas.{areas_inside};
 ghost use Rattle.query_walk.specs.Costs.{areas_cost, map_cost, onward_cost};
+ghost use Rattle.query_walk.specs.Views.{EachListOf, TakesUpTo};
 ghost use Rattle.query_walk.specs.Walks.{HasBox};
 
 use crate::region::region_cursor;
@@ -28,8 +28,8 @@ fn push_area<V: CubeView, L: Ledger>(
     requires has_box { HasBox (V.schema view.now) query.now }
     requires stands { V.stands view.now cursor }
     requires place { V.address view.now cursor ≡ region_address tile.now }
-    ensures rows { OnOk result (EachCounted (V.weight_at view.now) (V.seen view.now) (λ h. rows.new ≡ rows.old ++ areas_inside (V.schema view.now) query.now h 0 tile.now)) }
-    ensures cost { EachCounted (V.weight_at view.now) (V.seen view.now) (λ h. steps.new ≤ steps.old + onward_cost (V.costs view.now) (V.schema view.now) h query.now tile.now) }
+    ensures rows { OnOk result (EachListOf V.CubeView view.now (λ h. rows.new ≡ rows.old ++ areas_inside (V.schema view.now) query.now h 0 tile.now)) }
+    ensures cost { TakesUpTo V.CubeView view.now steps.old steps.new (λ costs schema h. onward_cost costs schema h query.now tile.now) }
 {
     let total = total_in_tile(view, query, tile, cursor, steps);
     if total == 0 {
@@ -53,8 +53,8 @@ fn drill<V: CubeView, L: Ledger>(
     requires within { (tile.now.x < 2 ^ tile.now.z) × (tile.now.y < 2 ^ tile.now.z) }
     requires stands { V.stands view.now cursor }
     requires place { V.address view.now cursor ≡ region_address tile.now }
-    ensures rows { OnOk result (EachCounted (V.weight_at view.now) (V.seen view.now) (λ h. rows.new ≡ rows.old ++ areas_inside (V.schema view.now) query.now h levels tile.now)) }
-    ensures cost { EachCounted (V.weight_at view.now) (V.seen view.now) (λ h. steps.new ≤ steps.old + areas_cost (V.costs view.now) (V.schema view.now) h query.now levels tile.now) }
+    ensures rows { OnOk result (EachListOf V.CubeView view.now (λ h. rows.new ≡ rows.old ++ areas_inside (V.schema view.now) query.now h levels tile.now)) }
+    ensures cost { TakesUpTo V.CubeView view.now steps.old steps.new (λ costs schema h. areas_cost costs schema h query.now levels tile.now) }
 {
     if levels == 0 {
         return push_area(view, query, tile, cursor, rows, steps);
@@ -79,8 +79,8 @@ pub fn area_rows<V: CubeView, L: Ledger>(
 ) -> Result<List<RowOut>, NoMemory>
     requires has_box { HasBox (V.schema view.now) query.now }
     requires deep { query.now.region.z + levels ≤ (V.schema view.now).depth }
-    ensures rows { IfOk result (λ rows. EachCounted (V.weight_at view.now) (V.seen view.now) (λ h. rows ≡ rows_of_verb (V.schema view.now) query.now h (Verb.Map levels))) }
-    ensures cost { EachCounted (V.weight_at view.now) (V.seen view.now) (λ h. steps.new ≤ steps.old + map_cost (V.costs view.now) (V.schema view.now) h query.now levels) }
+    ensures rows { IfOk result (λ rows. EachListOf V.CubeView view.now (λ h. rows ≡ rows_of_verb (V.schema view.now) query.now h (Verb.Map levels))) }
+    ensures cost { TakesUpTo V.CubeView view.now steps.old steps.new (λ costs schema h. map_cost costs schema h query.now levels) }
 {
     let mut rows = List::new(alloc);
     if view.seen() == 0 {

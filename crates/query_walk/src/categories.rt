@@ -1,9 +1,9 @@
 //! The walk through the categories.
 ghost use Rattle.std.specs.Prelude.{◌≡◌, ℕ, ◌+◌, ◌*◌, ◌-◌, ◌<◌, ◌≤◌, IsTrue, length, drop};
-ghost use Rattle.cube_view.specs.Bag.{amount, EachCounted};
-ghost use Rattle.cube_view.specs.Places.{longer, next_dim};
-ghost use Rattle.query_walk.specs.Costs.{choices_from, rest_cost, set_cost, value_cost};
-ghost use Rattle.query_walk.specs.Walks.{IsAtCategory, HasChoicesFrom, AsksAtCategory, are_walkable, is_left, is_left_in_set};
+ghost use Rattle.cube_view.specs.Bag.{amount};
+ghost use Rattle.query_walk.specs.Costs.{left_cost, set_cost, value_cost};
+ghost use Rattle.query_walk.specs.Views.{EachListOf, TakesUpTo};
+ghost use Rattle.query_walk.specs.Walks.{IsAtCategory, HasChoicesFrom, AsksAtCategory, are_walkable, is_left, is_left_at_value, is_left_in_set};
 
 use crate::span::total_in_span;
 use cube_view::CubeView;
@@ -24,8 +24,8 @@ pub fn total_from<V: CubeView, L: Ledger>(
     requires stands { V.stands view.now cursor }
     requires here { IsAtCategory (V.address view.now cursor) k }
     requires choices { HasChoicesFrom (V.schema view.now) query.now k }
-    ensures total { EachCounted (V.weight_at view.now) (V.seen view.now) (λ h. result ≡ amount (is_left (V.schema view.now) query.now (V.address view.now cursor) k) h) }
-    ensures cost { EachCounted (V.weight_at view.now) (V.seen view.now) (λ h. steps.new ≤ steps.old + rest_cost (V.costs view.now) (V.schema view.now) h (choices_from (V.schema view.now) query.now k) (V.address view.now cursor)) }
+    ensures total { EachListOf V.CubeView view.now (λ h. result ≡ amount (is_left (V.schema view.now) query.now (V.address view.now cursor) k) h) }
+    ensures cost { TakesUpTo V.CubeView view.now steps.old steps.new (λ costs schema h. left_cost costs schema h query.now k (V.address view.now cursor)) }
 {
     if k == view.schema().categories.len() {
         return total_in_span(view, &query.time, cursor, steps);
@@ -52,8 +52,8 @@ fn total_in_set<V: CubeView, L: Ledger>(
     requires stands { V.stands view.now cursor }
     requires walk { AsksAtCategory (V.schema view.now) query.now (V.address view.now cursor) k }
     requires wide { length set.now ≡ 256 }
-    ensures total { EachCounted (V.weight_at view.now) (V.seen view.now) (λ h. result ≡ amount (is_left_in_set (V.schema view.now) query.now (V.address view.now cursor) k set.now) h) }
-    ensures cost { EachCounted (V.weight_at view.now) (V.seen view.now) (λ h. steps.new ≤ steps.old + set_cost (V.costs view.now) (V.schema view.now) h (choices_from (V.schema view.now) query.now (k + 1)) (V.address view.now cursor) set.now) }
+    ensures total { EachListOf V.CubeView view.now (λ h. result ≡ amount (is_left_in_set (V.schema view.now) query.now (V.address view.now cursor) k set.now) h) }
+    ensures cost { TakesUpTo V.CubeView view.now steps.old steps.new (λ costs schema h. set_cost costs schema h query.now k (V.address view.now cursor) set.now) }
 {
     let mut sum = 0;
     for value in 0..set.end() {
@@ -77,8 +77,8 @@ fn total_at_value<V: CubeView, L: Ledger>(
 ) -> u64
     requires stands { V.stands view.now cursor }
     requires walk { AsksAtCategory (V.schema view.now) query.now (V.address view.now cursor) k }
-    ensures total { EachCounted (V.weight_at view.now) (V.seen view.now) (λ h. result ≡ amount (is_left (V.schema view.now) query.now (next_dim (longer (V.address view.now cursor) value)) (k + 1)) h) }
-    ensures cost { EachCounted (V.weight_at view.now) (V.seen view.now) (λ h. steps.new ≤ steps.old + value_cost (V.costs view.now) (V.schema view.now) h (choices_from (V.schema view.now) query.now (k + 1)) (V.address view.now cursor) value) }
+    ensures total { EachListOf V.CubeView view.now (λ h. result ≡ amount (is_left_at_value (V.schema view.now) query.now (V.address view.now cursor) k value) h) }
+    ensures cost { TakesUpTo V.CubeView view.now steps.old steps.new (λ costs schema h. value_cost costs schema h query.now k (V.address view.now cursor) value) }
 {
     let Some(deeper) = view.down(cursor, value, steps) else {
         return 0;

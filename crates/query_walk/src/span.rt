@@ -1,7 +1,8 @@
 //! The end of a walk: running totals at an address of time.
 ghost use Rattle.std.specs.Prelude.{◌≡◌, ℕ, ◌+◌, ◌*◌, ◌≤◌};
-ghost use Rattle.cube_view.specs.Bag.{amount, EachCounted};
+ghost use Rattle.cube_view.specs.Bag.{amount};
 ghost use Rattle.cube_view.specs.Places.{is_before, time_dim};
+ghost use Rattle.query_walk.specs.Views.{EachListOf};
 ghost use Rattle.query_walk.specs.Walks.{is_under_in};
 
 use cube_view::CubeView;
@@ -19,7 +20,7 @@ fn total_before<V: CubeView, L: Ledger>(
 ) -> u64
     requires stands { V.stands view.now cursor }
     requires time { (V.address view.now cursor).dim ≡ time_dim (V.schema view.now) }
-    ensures total { EachCounted (V.weight_at view.now) (V.seen view.now) (λ h. result ≡ amount (is_before (V.schema view.now) (V.address view.now cursor) end) h) }
+    ensures total { EachListOf V.CubeView view.now (λ h. result ≡ amount (is_before (V.schema view.now) (V.address view.now cursor) end) h) }
     ensures cost { steps.new ≤ steps.old + (V.costs view.now).before_cost (V.address view.now cursor) }
 {
     if end == 0 {
@@ -38,7 +39,7 @@ pub fn total_in_span<V: CubeView, L: Ledger>(
     requires stands { V.stands view.now cursor }
     requires time { (V.address view.now cursor).dim ≡ time_dim (V.schema view.now) }
     requires order { span.now.from ≤ span.now.to }
-    ensures total { EachCounted (V.weight_at view.now) (V.seen view.now) (λ h. result ≡ amount (is_under_in (V.schema view.now) (V.address view.now cursor) span.now) h) }
+    ensures total { EachListOf V.CubeView view.now (λ h. result ≡ amount (is_under_in (V.schema view.now) (V.address view.now cursor) span.now) h) }
     ensures cost { steps.new ≤ steps.old + 2 * (V.costs view.now).before_cost (V.address view.now cursor) }
 {
     let until_end = total_before(view, cursor, span.to, steps);

@@ -1,6 +1,6 @@
 -- What one walk counts for the rows of a series, and how many steps it takes at most.
 use Rattle.std.specs.Prelude.{◌≡◌, ℕ, ◌+◌, ◌*◌, ◌^◌, ◌<◌, ◌≤◌, Bool, List, length, slice_index}
-use Rattle.cube_view.specs.Bag.{amount, EachCounted}
+use Rattle.cube_view.specs.Bag.{amount}
 use Rattle.cube_view.specs.Costs.{ViewCosts}
 use Rattle.cube_view.specs.Places.{longer, next_dim}
 use Rattle.cube_view.specs.Points.{Point}
@@ -52,10 +52,10 @@ pub record HasSeriesRoom (s : Series) (ends sums : List ℕ) : Type 0 where
   pub summed : length sums ≡ s.rows
   pub small : s.first + s.wide * (s.rows + 1) < 2 ^ 64
 
--- the steps are those of the walk from the address on, by the choices from category k on
-abbrev pub Pays : ViewCosts → Schema → Series → Address → ℕ → ℕ → ℕ → List Point → Type 0
-Pays costs schema s address k old new h = new ≤ old + walk_cost costs schema h (ends_cost costs (s.rows + 1)) (choices_from schema s.query k) address
+-- at most how many steps the walk of a series takes from an address of category k on, or of time
+abbrev pub rows_cost : ViewCosts → Schema → List Point → Series → ℕ → Address → ℕ
+rows_cost costs schema h s k address = walk_cost costs schema h (ends_cost costs (s.rows + 1)) (choices_from schema s.query k) address
 
--- the same, by that value of category k, for each list that a view counts
-abbrev pub PaysAt : (Spot → ℕ) → ℕ → ViewCosts → Schema → Series → Address → ℕ → ℕ → ℕ → ℕ → Type 0
-PaysAt weight_at seen costs schema s address k v old new = EachCounted weight_at seen (λ h. new ≤ old + value_walk_cost costs schema h (ends_cost costs (s.rows + 1)) (choices_from schema s.query (k + 1)) address v)
+-- the same, by that value of category k
+abbrev pub row_cost_at : ViewCosts → Schema → List Point → Series → ℕ → Address → ℕ → ℕ
+row_cost_at costs schema h s k address v = value_walk_cost costs schema h (ends_cost costs (s.rows + 1)) (choices_from schema s.query (k + 1)) address v

@@ -1,8 +1,8 @@
 //! The rows of a series.
 ghost use Rattle.std.specs.Prelude.{◌≡◌, ℕ, ◌+◌, ◌*◌, ◌<◌, ◌≤◌, ◌^◌, IfOk, length, replicate};
-ghost use Rattle.cube_view.specs.Bag.{EachCounted};
 ghost use Rattle.query_syntax.specs.Tables.{rows_of_verb};
 ghost use Rattle.query_syntax.specs.Verbs.{bins, most_rows};
+ghost use Rattle.query_walk.specs.Views.{EachListOf, TakesUpTo};
 ghost use Rattle.query_walk.specs.Walks.{HasBox};
 ghost use Rattle.tile_drill.specs.Costs.{bins_cost};
 ghost use Rattle.tile_drill.specs.Series.{AreRowTotals, HasSeriesRoom};
@@ -37,8 +37,8 @@ fn add_all<V: CubeView, L: Ledger>(
     requires has_box { HasBox (V.schema view.now) series.now.query }
     requires room { HasSeriesRoom series.now ends.old sums.old }
     requires zeros { sums.old ≡ replicate (series.now.rows) 0 }
-    ensures totals { EachCounted (V.weight_at view.now) (V.seen view.now) (AreRowTotals (V.schema view.now) series.now sums.new) }
-    ensures cost { EachCounted (V.weight_at view.now) (V.seen view.now) (λ h. steps.new ≤ steps.old + bins_cost (V.costs view.now) (V.schema view.now) h series.now.query series.now.rows) }
+    ensures totals { EachListOf V.CubeView view.now (AreRowTotals (V.schema view.now) series.now sums.new) }
+    ensures cost { TakesUpTo V.CubeView view.now steps.old steps.new (λ costs schema h. bins_cost costs schema h series.now.query series.now.rows) }
 {
     let Some(region) = region_cursor(view, &series.query.region, steps) else {
         return;
@@ -59,9 +59,9 @@ fn row_totals<V: CubeView, L: Ledger>(
     requires has_box { HasBox (V.schema view.now) series.now.query }
     requires few { series.now.rows ≤ most_rows }
     requires small { series.now.first + series.now.wide * (series.now.rows + 1) < 2 ^ 64 }
-    ensures totals { IfOk result (λ totals. EachCounted (V.weight_at view.now) (V.seen view.now) (AreRowTotals (V.schema view.now) series.now totals)) }
+    ensures totals { IfOk result (λ totals. EachListOf V.CubeView view.now (AreRowTotals (V.schema view.now) series.now totals)) }
     ensures long { IfOk result (λ totals. length totals ≡ series.now.rows) }
-    ensures cost { EachCounted (V.weight_at view.now) (V.seen view.now) (λ h. steps.new ≤ steps.old + bins_cost (V.costs view.now) (V.schema view.now) h series.now.query series.now.rows) }
+    ensures cost { TakesUpTo V.CubeView view.now steps.old steps.new (λ costs schema h. bins_cost costs schema h series.now.query series.now.rows) }
 {
     let mut ends = zeros(alloc, series.rows + 1)?;
     let mut sums = zeros(alloc, series.rows)?;
@@ -85,8 +85,8 @@ pub fn bins_rows<V: CubeView, L: Ledger>(
     requires first { first < bins }
     requires wide { wide ≤ bins }
     requires count { count ≤ most_rows }
-    ensures rows { IfOk result (λ rows. EachCounted (V.weight_at view.now) (V.seen view.now) (λ h. rows ≡ rows_of_verb (V.schema view.now) query.now h (Verb.Series first wide count))) }
-    ensures cost { EachCounted (V.weight_at view.now) (V.seen view.now) (λ h. steps.new ≤ steps.old + bins_cost (V.costs view.now) (V.schema view.now) h query.now count) }
+    ensures rows { IfOk result (λ rows. EachListOf V.CubeView view.now (λ h. rows ≡ rows_of_verb (V.schema view.now) query.now h (Verb.Series first wide count))) }
+    ensures cost { TakesUpTo V.CubeView view.now steps.old steps.new (λ costs schema h. bins_cost costs schema h query.now count) }
 {
     let series = Series {
         query: *query,

@@ -1,11 +1,11 @@
 //! The one walk of a series.
 ghost use Rattle.std.specs.Prelude.{◌≡◌, ℕ, ◌+◌, ◌<◌, ◌≤◌, length, slice_index_or};
-ghost use Rattle.cube_view.specs.Bag.{EachCounted};
 ghost use Rattle.cube_view.specs.Places.{time_dim};
 ghost use Rattle.query_syntax.specs.declared.query.Choice.TheVariants as choice;
+ghost use Rattle.query_walk.specs.Views.{EachListOf, TakesUpTo};
 ghost use Rattle.query_walk.specs.Walks.{IsAtCategory, HasChoicesFrom, AsksAtCategory};
 ghost use Rattle.tile_drill.specs.Costs.{ends_cost};
-ghost use Rattle.tile_drill.specs.Series.{row_at_value, row_left, row_under, FitsEach, GainsEach, HasSeriesRoom, Pays, PaysAt};
+ghost use Rattle.tile_drill.specs.Series.{row_at_value, row_left, row_under, FitsEach, GainsEach, HasSeriesRoom, rows_cost, row_cost_at};
 
 use cube_view::CubeView;
 use probe_core::Steps;
@@ -35,8 +35,8 @@ fn add_rows<V: CubeView, L: Ledger>(
     requires stands { V.stands view.now cursor }
     requires time { (V.address view.now cursor).dim ≡ time_dim (V.schema view.now) }
     requires room { HasSeriesRoom series.now ends.old sums.old }
-    requires fits { EachCounted (V.weight_at view.now) (V.seen view.now) (FitsEach (row_under (V.schema view.now) series.now (V.address view.now cursor)) sums.old) }
-    ensures sums { EachCounted (V.weight_at view.now) (V.seen view.now) (GainsEach (row_under (V.schema view.now) series.now (V.address view.now cursor)) sums.old sums.new) }
+    requires fits { EachListOf V.CubeView view.now (FitsEach (row_under (V.schema view.now) series.now (V.address view.now cursor)) sums.old) }
+    ensures sums { EachListOf V.CubeView view.now (GainsEach (row_under (V.schema view.now) series.now (V.address view.now cursor)) sums.old sums.new) }
     ensures cost { steps.new ≤ steps.old + ends_cost (V.costs view.now) (series.now.rows + 1) (V.address view.now cursor) }
 {
     view.before_each(cursor, series.first, series.wide, ends, steps);
@@ -61,9 +61,9 @@ pub(crate) fn add_from<V: CubeView, L: Ledger>(
     requires here { IsAtCategory (V.address view.now cursor) k }
     requires choices { HasChoicesFrom (V.schema view.now) series.now.query k }
     requires room { HasSeriesRoom series.now ends.old sums.old }
-    requires fits { EachCounted (V.weight_at view.now) (V.seen view.now) (FitsEach (row_left (V.schema view.now) series.now (V.address view.now cursor) k) sums.old) }
-    ensures sums { EachCounted (V.weight_at view.now) (V.seen view.now) (GainsEach (row_left (V.schema view.now) series.now (V.address view.now cursor) k) sums.old sums.new) }
-    ensures cost { EachCounted (V.weight_at view.now) (V.seen view.now) (Pays (V.costs view.now) (V.schema view.now) series.now (V.address view.now cursor) k steps.old steps.new) }
+    requires fits { EachListOf V.CubeView view.now (FitsEach (row_left (V.schema view.now) series.now (V.address view.now cursor) k) sums.old) }
+    ensures sums { EachListOf V.CubeView view.now (GainsEach (row_left (V.schema view.now) series.now (V.address view.now cursor) k) sums.old sums.new) }
+    ensures cost { TakesUpTo V.CubeView view.now steps.old steps.new (λ costs schema h. rows_cost costs schema h series.now k (V.address view.now cursor)) }
 {
     if k == view.schema().categories.len() {
         return add_rows(view, series, cursor, ends, sums, steps);
@@ -94,9 +94,9 @@ fn add_in_set<V: CubeView, L: Ledger>(
     requires set { slice_index_or series.now.query.sets k choice.All ≡ choice.Only set.now }
     requires wide { length set.now ≡ 256 }
     requires room { HasSeriesRoom series.now ends.old sums.old }
-    requires fits { EachCounted (V.weight_at view.now) (V.seen view.now) (FitsEach (row_left (V.schema view.now) series.now (V.address view.now cursor) k) sums.old) }
-    ensures sums { EachCounted (V.weight_at view.now) (V.seen view.now) (GainsEach (row_left (V.schema view.now) series.now (V.address view.now cursor) k) sums.old sums.new) }
-    ensures cost { EachCounted (V.weight_at view.now) (V.seen view.now) (Pays (V.costs view.now) (V.schema view.now) series.now (V.address view.now cursor) k steps.old steps.new) }
+    requires fits { EachListOf V.CubeView view.now (FitsEach (row_left (V.schema view.now) series.now (V.address view.now cursor) k) sums.old) }
+    ensures sums { EachListOf V.CubeView view.now (GainsEach (row_left (V.schema view.now) series.now (V.address view.now cursor) k) sums.old sums.new) }
+    ensures cost { TakesUpTo V.CubeView view.now steps.old steps.new (λ costs schema h. rows_cost costs schema h series.now k (V.address view.now cursor)) }
 {
     for value in 0..set.end() {
         if set.has(value as u8) {
@@ -120,9 +120,9 @@ fn add_at_value<V: CubeView, L: Ledger>(
     requires stands { V.stands view.now cursor }
     requires walk { AsksAtCategory (V.schema view.now) series.now.query (V.address view.now cursor) k }
     requires room { HasSeriesRoom series.now ends.old sums.old }
-    requires fits { EachCounted (V.weight_at view.now) (V.seen view.now) (FitsEach (row_at_value (V.schema view.now) series.now (V.address view.now cursor) k value) sums.old) }
-    ensures sums { EachCounted (V.weight_at view.now) (V.seen view.now) (GainsEach (row_at_value (V.schema view.now) series.now (V.address view.now cursor) k value) sums.old sums.new) }
-    ensures cost { PaysAt (V.weight_at view.now) (V.seen view.now) (V.costs view.now) (V.schema view.now) series.now (V.address view.now cursor) k value steps.old steps.new }
+    requires fits { EachListOf V.CubeView view.now (FitsEach (row_at_value (V.schema view.now) series.now (V.address view.now cursor) k value) sums.old) }
+    ensures sums { EachListOf V.CubeView view.now (GainsEach (row_at_value (V.schema view.now) series.now (V.address view.now cursor) k value) sums.old sums.new) }
+    ensures cost { TakesUpTo V.CubeView view.now steps.old steps.new (λ costs schema h. row_cost_at costs schema h series.now k (V.address view.now cursor) value) }
 {
     let Some(deeper) = view.down(cursor, value, steps) else {
         return;

@@ -1,9 +1,9 @@
 //! The table of a query.
 ghost use Rattle.std.specs.Prelude.{◌≡◌, ℕ, ◌+◌, ◌≤◌, IsTrue, IfOk};
-ghost use Rattle.cube_view.specs.Bag.{EachCounted};
 ghost use Rattle.query_syntax.specs.Queries.{is_valid_query};
 ghost use Rattle.query_syntax.specs.Tables.{is_drill, table, rows_of_verb};
 ghost use Rattle.query_walk.specs.Costs.{search_cost};
+ghost use Rattle.query_walk.specs.Views.{EachListOf, TakesUpTo};
 ghost use Rattle.tile_drill.specs.Costs.{table_cost};
 
 use crate::bins::bins_rows;
@@ -24,8 +24,8 @@ fn total_row<V: CubeView, L: Ledger>(
     steps: &mut Steps<L>,
 ) -> Result<List<RowOut>, NoMemory>
     requires valid { IsTrue (is_valid_query (V.schema view.now) query.now) }
-    ensures rows { IfOk result (λ rows. EachCounted (V.weight_at view.now) (V.seen view.now) (λ h. rows ≡ rows_of_verb (V.schema view.now) query.now h Verb.Count)) }
-    ensures cost { EachCounted (V.weight_at view.now) (V.seen view.now) (λ h. steps.new ≤ steps.old + search_cost (V.costs view.now) (V.schema view.now) h query.now) }
+    ensures rows { IfOk result (λ rows. EachListOf V.CubeView view.now (λ h. rows ≡ rows_of_verb (V.schema view.now) query.now h Verb.Count)) }
+    ensures cost { TakesUpTo V.CubeView view.now steps.old steps.new (λ costs schema h. search_cost costs schema h query.now) }
 {
     let mut rows = List::new(alloc);
     rows.add(RowOut::One(total(view, query, steps)))?;
@@ -41,8 +41,8 @@ fn table_rows<V: CubeView, L: Ledger>(
 ) -> Result<List<RowOut>, NoMemory>
     requires valid { IsTrue (is_valid_query (V.schema view.now) query.now) }
     requires verb { IsTrue (is_drill query.now.verb) }
-    ensures rows { IfOk result (λ rows. EachCounted (V.weight_at view.now) (V.seen view.now) (λ h. rows ≡ rows_of_verb (V.schema view.now) query.now h query.now.verb)) }
-    ensures cost { EachCounted (V.weight_at view.now) (V.seen view.now) (λ h. steps.new ≤ steps.old + table_cost (V.costs view.now) (V.schema view.now) h query.now query.now.verb) }
+    ensures rows { IfOk result (λ rows. EachListOf V.CubeView view.now (λ h. rows ≡ rows_of_verb (V.schema view.now) query.now h query.now.verb)) }
+    ensures cost { TakesUpTo V.CubeView view.now steps.old steps.new (λ costs schema h. table_cost costs schema h query.now query.now.verb) }
 {
     match query.verb {
         Verb::Count => total_row(alloc, view, query, steps),
@@ -63,8 +63,8 @@ pub fn answer<V: CubeView, L: Ledger>(
 ) -> Result<Table, NoMemory>
     requires valid { IsTrue (is_valid_query (V.schema view.now) query.now) }
     requires verb { IsTrue (is_drill query.now.verb) }
-    ensures table { EachCounted (V.weight_at view.now) (V.seen view.now) (λ h. IfOk result (λ t. t ≡ table (V.schema view.now) query.now h)) }
-    ensures cost { EachCounted (V.weight_at view.now) (V.seen view.now) (λ h. steps.new ≤ steps.old + table_cost (V.costs view.now) (V.schema view.now) h query.now query.now.verb) }
+    ensures table { EachListOf V.CubeView view.now (λ h. IfOk result (λ t. t ≡ table (V.schema view.now) query.now h)) }
+    ensures cost { TakesUpTo V.CubeView view.now steps.old steps.new (λ costs schema h. table_cost costs schema h query.now query.now.verb) }
 {
     match table_rows(alloc, view, query, steps) {
         Ok(rows) => Ok(Table {

@@ -1,10 +1,10 @@
 //! The rows of a histogram.
 ghost use Rattle.std.specs.Prelude.{◌≡◌, ℕ, ◌<◌, ◌≤◌, IfOk, length, ◌+◌};
-ghost use Rattle.cube_view.specs.Bag.{EachCounted};
 ghost use Rattle.query_syntax.specs.Boxes.{box, total as total_of};
 ghost use Rattle.query_syntax.specs.Narrowing.{with_value};
 ghost use Rattle.query_syntax.specs.Tables.{value_row, rows_of_verb};
 ghost use Rattle.query_walk.specs.Costs.{from_region_cost, region_cost};
+ghost use Rattle.query_walk.specs.Views.{EachListOf, TakesUpTo};
 ghost use Rattle.query_walk.specs.Walks.{HasBox};
 ghost use Rattle.tile_drill.specs.Costs.{values_cost};
 
@@ -26,8 +26,8 @@ pub fn value_rows<V: CubeView, L: Ledger>(
 ) -> Result<List<RowOut>, NoMemory>
     requires has_box { HasBox (V.schema view.now) query.now }
     requires category { category < length (V.schema view.now).categories }
-    ensures rows { IfOk result (λ rows. EachCounted (V.weight_at view.now) (V.seen view.now) (λ h. rows ≡ rows_of_verb (V.schema view.now) query.now h (Verb.Hist category))) }
-    ensures cost { EachCounted (V.weight_at view.now) (V.seen view.now) (λ h. steps.new ≤ steps.old + values_cost (V.costs view.now) (V.schema view.now) h query.now category) }
+    ensures rows { IfOk result (λ rows. EachListOf V.CubeView view.now (λ h. rows ≡ rows_of_verb (V.schema view.now) query.now h (Verb.Hist category))) }
+    ensures cost { TakesUpTo V.CubeView view.now steps.old steps.new (λ costs schema h. values_cost costs schema h query.now category) }
 {
     let mut rows = List::new(alloc);
     let place = usize::from(category);

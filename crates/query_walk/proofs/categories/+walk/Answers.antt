@@ -10,7 +10,7 @@ use Rattle.cube_view.specs.declared.address.Address.{Address}
 use Rattle.cube_view.specs.declared.schema.Schema.{Schema}
 use Rattle.query_syntax.specs.Items.{HasNoneFrom}
 use Rattle.query_syntax.specs.declared.query.Choice.TheVariants.{All}
-use Rattle.query_walk.specs.Costs.{choices_from, rest_cost, value_cost}
+use Rattle.query_walk.specs.Costs.{choices_from, rest_cost, choice_value_cost}
 use Rattle.query_walk.proofs.Costing.{next_choice, no_choices, value_is}
 use Rattle.query_walk.proofs.Sums.{sum_upto-more, sum_upto-rises, sum_upto-same}
 use Rattle.query_walk.proofs.Sets as sets
@@ -137,7 +137,7 @@ total_in_set-loop-value-preserved g t c =
             | total_in_set-else-has w ↦ (let e = sets.below_no z c.args.query.now a c.args.k h c.args.set.now c.loop-value.value (sym c.has.ensures ∙ w.if-has.false) in omega (arith, e, b, w.sum-is))
           ];
       cost = λ h counts.
-          let cost = value_cost (g.V.CubeView.costs c.args.view.now) z h cs a in
+          let cost = choice_value_cost (g.V.CubeView.costs c.args.view.now) z h cs a in
           let m = sum_upto-more (λ (v : ℕ). cond (get_or c.args.set.now v false) (cost v) 0) c.loop-value.value in
           let so_far = c.loop-value.invariant.cost h counts in
           elim c.if-has.branch [
@@ -154,7 +154,7 @@ total_in_set-returns-clause-total g t c h counts =
 pub total_in_set-returns-clause-cost : goal.total_in_set-returns-clause-cost
 total_in_set-returns-clause-cost g t c h counts =
     let z = g.V.CubeView.schema c.args.view.now in
-    let cost = value_cost (g.V.CubeView.costs c.args.view.now) z h (choices_from z c.args.query.now (c.args.k + 1)) (g.V.CubeView.address c.args.view.now c.args.cursor) in
+    let cost = choice_value_cost (g.V.CubeView.costs c.args.view.now) z h (choices_from z c.args.query.now (c.args.k + 1)) (g.V.CubeView.address c.args.view.now c.args.cursor) in
     let of : ℕ → ℕ = λ v. cond (get_or c.args.set.now v false) (cost v) 0 in
     let at = c.loop-value.value in
     let more = sum_upto-rises of at (256 - at) in
