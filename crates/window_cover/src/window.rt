@@ -1,6 +1,6 @@
 //! What a window counts.
 ghost use Rattle.std.specs.Prelude.{◌≡◌, ℕ, ◌+◌, ◌≤◌, IsTrue, IfOk};
-ghost use Rattle.cube_view.specs.Bag.{amount, EachCounted};
+ghost use Rattle.cube_view.specs.Bag.{amount};
 ghost use Rattle.cube_view.specs.Costs.{is_found};
 ghost use Rattle.cube_view.specs.Places.{region_address};
 ghost use Rattle.query_syntax.specs.Queries.{is_valid_query};
@@ -8,6 +8,7 @@ ghost use Rattle.query_syntax.specs.Tables.{table};
 ghost use Rattle.query_syntax.specs.Tiles.{is_tile};
 ghost use Rattle.query_syntax.specs.Verbs.{is_window};
 ghost use Rattle.query_syntax.specs.Windows.{window_total as window_total_of};
+ghost use Rattle.query_walk.specs.Views.{EachListOf, TakesUpTo};
 ghost use Rattle.query_walk.specs.Walks.{HasBox};
 ghost use Rattle.window_cover.specs.Costs.{window_cost};
 ghost use Rattle.window_cover.specs.Ways.{HasComeTo, inside_cost, is_window_in};
@@ -33,8 +34,8 @@ fn total_inside<V: CubeView, L: Ledger>(
 ) -> u64
     requires stands { V.stands view.now cursor }
     requires walk { HasComeTo (V.weight_at view.now) (V.seen view.now) (V.schema view.now) query.now (V.address view.now cursor) tile.now }
-    ensures total { EachCounted (V.weight_at view.now) (V.seen view.now) (λ h. result ≡ amount (is_window_in (V.schema view.now).depth query.now rect.now tile.now) h) }
-    ensures cost { EachCounted (V.weight_at view.now) (V.seen view.now) (λ h. steps.new ≤ steps.old + inside_cost (V.costs view.now) (V.schema view.now) h query.now rect.now tile.now) }
+    ensures total { EachListOf V.CubeView view.now (λ h. result ≡ amount (is_window_in (V.schema view.now).depth query.now rect.now tile.now) h) }
+    ensures cost { TakesUpTo V.CubeView view.now steps.old steps.new (λ costs schema h. inside_cost costs schema h query.now rect.now tile.now) }
 {
     let depth = view.schema().depth;
     if has_tile(rect, depth, tile) {
@@ -57,8 +58,8 @@ fn total_inside<V: CubeView, L: Ledger>(
 pub fn window_total<V: CubeView, L: Ledger>(view: &V, query: &Query, steps: &mut Steps<L>) -> u64
     requires valid { IsTrue (is_valid_query (V.schema view.now) query.now) }
     requires verb { IsTrue (is_window query.now.verb) }
-    ensures total { EachCounted (V.weight_at view.now) (V.seen view.now) (λ h. result ≡ window_total_of query.now (rect_of_verb query.now.verb) h) }
-    ensures cost { EachCounted (V.weight_at view.now) (V.seen view.now) (λ h. steps.new ≤ steps.old + window_cost (V.costs view.now) (V.schema view.now) h query.now query.now.verb) }
+    ensures total { EachListOf V.CubeView view.now (λ h. result ≡ window_total_of query.now (rect_of_verb query.now.verb) h) }
+    ensures cost { TakesUpTo V.CubeView view.now steps.old steps.new (λ costs schema h. window_cost costs schema h query.now query.now.verb) }
 {
     let Verb::Window(rect) = query.verb else {
         unreachable!()
@@ -80,8 +81,8 @@ pub fn window_answer<V: CubeView, L: Ledger>(
 ) -> Result<Table, NoMemory>
     requires valid { IsTrue (is_valid_query (V.schema view.now) query.now) }
     requires verb { IsTrue (is_window query.now.verb) }
-    ensures table { EachCounted (V.weight_at view.now) (V.seen view.now) (λ h. IfOk result (λ t. t ≡ table (V.schema view.now) query.now h)) }
-    ensures cost { EachCounted (V.weight_at view.now) (V.seen view.now) (λ h. steps.new ≤ steps.old + window_cost (V.costs view.now) (V.schema view.now) h query.now query.now.verb) }
+    ensures table { EachListOf V.CubeView view.now (λ h. IfOk result (λ t. t ≡ table (V.schema view.now) query.now h)) }
+    ensures cost { TakesUpTo V.CubeView view.now steps.old steps.new (λ costs schema h. window_cost costs schema h query.now query.now.verb) }
 {
     let mut rows = List::new(alloc);
     rows.add(RowOut::One(window_total(view, query, steps)))?;
