@@ -1,5 +1,6 @@
 pub mod Costs
 pub mod Order
+pub mod Pairs
 pub mod Ranking
 pub mod Sums
 pub mod Values

@@ -1,11 +1,11 @@
 //! The best tiles.
 ghost use Rattle.std.specs.Prelude.{◌≡◌, ℕ, ◌+◌, ◌≤◌, IsTrue, IfOk, take};
-ghost use Rattle.cube_view.specs.Bag.{EachCounted};
 ghost use Rattle.cross_table.specs.Costs.{best_cost};
 ghost use Rattle.cross_table.specs.Ranking.{total_of_row, IsFirstByTotal};
 ghost use Rattle.cross_table.specs.Verbs.{is_best};
 ghost use Rattle.query_syntax.specs.Queries.{is_valid_query};
 ghost use Rattle.query_syntax.specs.Tables.{table};
+ghost use Rattle.query_walk.specs.Views.{EachListOf, TakesUpTo};
 
 use cube_view::CubeView;
 use outer_io::{List, NoMemory};
@@ -53,8 +53,8 @@ pub fn best_answer<V: CubeView, L: Ledger>(
 ) -> Result<Table, NoMemory>
     requires valid { IsTrue (is_valid_query (V.schema view.now) query.now) }
     requires verb { IsTrue (is_best query.now.verb) }
-    ensures table { EachCounted (V.weight_at view.now) (V.seen view.now) (λ h. IfOk result (λ t. t ≡ table (V.schema view.now) query.now h)) }
-    ensures cost { EachCounted (V.weight_at view.now) (V.seen view.now) (λ h. steps.new ≤ steps.old + best_cost (V.costs view.now) (V.schema view.now) h query.now query.now.verb) }
+    ensures table { EachListOf V.CubeView view.now (λ h. IfOk result (λ t. t ≡ table (V.schema view.now) query.now h)) }
+    ensures cost { TakesUpTo V.CubeView view.now steps.old steps.new (λ costs schema h. best_cost costs schema h query.now query.now.verb) }
 {
     let Verb::Best { depth, rows } = query.verb else {
         unreachable!()

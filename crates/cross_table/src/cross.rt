@@ -1,18 +1,19 @@
 //! Cross tables.
 ghost use Rattle.std.specs.Prelude.{◌≡◌, ℕ, ◌+◌, ◌<◌, ◌≤◌, ◌++◌, IsTrue, IfOk, OnOk, length};
 ghost use Rattle.std.specs.List.{flat_map, range_with_len};
-ghost use Rattle.cube_view.specs.Bag.{EachCounted};
-ghost use Rattle.cross_table.specs.Costs.{pair_cost, within_cost, pairs_cost, cross_cost};
+ghost use Rattle.cross_table.specs.Costs.{within_cost, pairs_cost, cross_cost};
+ghost use Rattle.cross_table.specs.Pairs.{cost_of_both, row_of_both, rows_within_value, total_of_both};
 ghost use Rattle.cross_table.specs.Values.{IsValue};
 ghost use Rattle.cross_table.specs.Verbs.{is_cross};
 ghost use Rattle.query_syntax.specs.Boxes.{box, total as total_of};
-ghost use Rattle.query_syntax.specs.CrossTables.{text_of_value, pair_total, pair_row, rows_within, cross_rows as cross_rows_of};
+ghost use Rattle.query_syntax.specs.CrossTables.{text_of_value, cross_rows as cross_rows_of};
 ghost use Rattle.query_syntax.specs.Items.{values_at};
 ghost use Rattle.query_syntax.specs.Parts.{with_one_value};
 ghost use Rattle.query_syntax.specs.Narrowing.{with_value};
 ghost use Rattle.query_syntax.specs.Queries.{is_valid_query};
 ghost use Rattle.query_syntax.specs.Tables.{table};
 ghost use Rattle.query_walk.specs.Costs.{from_region_cost, region_cost};
+ghost use Rattle.query_walk.specs.Views.{EachListOf, TakesUpTo};
 ghost use Rattle.query_walk.specs.Walks.{HasBox, HasWalked};
 
 use cube_view::{CubeView, Schema};
@@ -61,8 +62,8 @@ fn total_of_pair<V: CubeView, L: Ledger>(
     requires walk { HasWalked (V.weight_at view.now) (V.seen view.now) (V.schema view.now) query.now (V.stands view.now) (V.address view.now) region }
     requires first { IsValue (V.schema view.now) first.category first.value }
     requires second { IsValue (V.schema view.now) second.category second.value }
-    ensures total { EachCounted (V.weight_at view.now) (V.seen view.now) (λ h. result ≡ pair_total (V.schema view.now) query.now h first.category second.category first.value second.value) }
-    ensures cost { EachCounted (V.weight_at view.now) (V.seen view.now) (λ h. steps.new ≤ steps.old + pair_cost (V.costs view.now) (V.schema view.now) h query.now first.category second.category first.value second.value) }
+    ensures total { EachListOf V.CubeView view.now (λ h. result ≡ total_of_both (V.schema view.now) query.now h first second) }
+    ensures cost { TakesUpTo V.CubeView view.now steps.old steps.new (λ costs schema h. cost_of_both costs schema h query.now first second) }
 {
     if !query.sets[first.category].has(first.value) {
         return 0;
@@ -84,8 +85,8 @@ fn row_of_pair<V: CubeView, L: Ledger>(
     requires walk { HasWalked (V.weight_at view.now) (V.seen view.now) (V.schema view.now) query.now (V.stands view.now) (V.address view.now) region }
     requires first { IsValue (V.schema view.now) first.category first.value }
     requires second { IsValue (V.schema view.now) second.category second.value }
-    ensures row { IfOk result (λ row. EachCounted (V.weight_at view.now) (V.seen view.now) (λ h. row ≡ pair_row (V.schema view.now) query.now h first.category second.category first.value second.value)) }
-    ensures cost { EachCounted (V.weight_at view.now) (V.seen view.now) (λ h. steps.new ≤ steps.old + pair_cost (V.costs view.now) (V.schema view.now) h query.now first.category second.category first.value second.value) }
+    ensures row { IfOk result (λ row. EachListOf V.CubeView view.now (λ h. row ≡ row_of_both (V.schema view.now) query.now h first second)) }
+    ensures cost { TakesUpTo V.CubeView view.now steps.old steps.new (λ costs schema h. cost_of_both costs schema h query.now first second) }
 {
     let total = total_of_pair(view, query, first, second, region, steps);
     let first = text_of(alloc, view.schema(), first)?;
@@ -107,8 +108,8 @@ fn push_rows_within<V: CubeView, L: Ledger>(
     requires walk { HasWalked (V.weight_at view.now) (V.seen view.now) (V.schema view.now) query.now (V.stands view.now) (V.address view.now) region }
     requires first { IsValue (V.schema view.now) first.category first.value }
     requires second { second < length (V.schema view.now).categories }
-    ensures rows { OnOk result (EachCounted (V.weight_at view.now) (V.seen view.now) (λ h. rows.new ≡ rows.old ++ rows_within (V.schema view.now) query.now h first.category second first.value)) }
-    ensures cost { EachCounted (V.weight_at view.now) (V.seen view.now) (λ h. steps.new ≤ steps.old + within_cost (V.costs view.now) (V.schema view.now) h query.now first.category second first.value) }
+    ensures rows { OnOk result (EachListOf V.CubeView view.now (λ h. rows.new ≡ rows.old ++ rows_within_value (V.schema view.now) query.now h first second)) }
+    ensures cost { TakesUpTo V.CubeView view.now steps.old steps.new (λ costs schema h. within_cost costs schema h query.now first.category second first.value) }
 {
     for value in 0..value_texts(view.schema(), second).len() {
         let other = CategoryValue {
@@ -133,8 +134,8 @@ fn cross_rows<V: CubeView, L: Ledger>(
     requires has_box { HasBox (V.schema view.now) query.now }
     requires first { first < length (V.schema view.now).categories }
     requires second { second < length (V.schema view.now).categories }
-    ensures rows { IfOk result (λ rows. EachCounted (V.weight_at view.now) (V.seen view.now) (λ h. rows ≡ cross_rows_of (V.schema view.now) query.now h first second)) }
-    ensures cost { EachCounted (V.weight_at view.now) (V.seen view.now) (λ h. steps.new ≤ steps.old + pairs_cost (V.costs view.now) (V.schema view.now) h query.now first second) }
+    ensures rows { IfOk result (λ rows. EachListOf V.CubeView view.now (λ h. rows ≡ cross_rows_of (V.schema view.now) query.now h first second)) }
+    ensures cost { TakesUpTo V.CubeView view.now steps.old steps.new (λ costs schema h. pairs_cost costs schema h query.now first second) }
 {
     let mut rows = List::new(alloc);
     let region = region_cursor(view, &query.region, steps);
@@ -158,8 +159,8 @@ pub fn cross_answer<V: CubeView, L: Ledger>(
 ) -> Result<Table, NoMemory>
     requires valid { IsTrue (is_valid_query (V.schema view.now) query.now) }
     requires verb { IsTrue (is_cross query.now.verb) }
-    ensures table { EachCounted (V.weight_at view.now) (V.seen view.now) (λ h. IfOk result (λ t. t ≡ table (V.schema view.now) query.now h)) }
-    ensures cost { EachCounted (V.weight_at view.now) (V.seen view.now) (λ h. steps.new ≤ steps.old + cross_cost (V.costs view.now) (V.schema view.now) h query.now query.now.verb) }
+    ensures table { EachListOf V.CubeView view.now (λ h. IfOk result (λ t. t ≡ table (V.schema view.now) query.now h)) }
+    ensures cost { TakesUpTo V.CubeView view.now steps.old steps.new (λ costs schema h. cross_cost costs schema h query.now query.now.verb) }
 {
     let Verb::Cross(first, second) = query.verb else {
         unreachable!()
