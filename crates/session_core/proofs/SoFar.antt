@@ -2,9 +2,6 @@
 use Rattle.std.proofs.Common.{◌≡◌, ◌≢◌, ℕ, ◌≤◌, ◌<◌, Bool, true, false, List, [], ◌∷◌, ◌++◌, length, Option, Some, None, ◌⊎◌, inl, inr, refl, sym, ◌∙◌, ap, subst, arith, append-nil, append_assoc, IsSomeAnd, IsErrOf, Err}
 use Rattle.cube_view.specs.Bag.{Counts}
 use Rattle.cube_view.specs.Points.{Point}
-use Rattle.cube_view.specs.declared.schema.Schema.{Schema}
-use Rattle.cube_view.specs.declared.spot.Spot.{Spot}
-use Rattle.cube_view.specs.declared.stat.Stat.{Stat}
 use Rattle.outer_io.specs.Cutting.{Cutter, lines_left, input_size}
 use Rattle.outer_io.specs.Lines.{Line, input_limit}
 use Rattle.outer_io.specs.Progress.{Passes, IsTooLarge, IsWithinLimit}
@@ -12,7 +9,7 @@ use Rattle.outer_io.specs.Told.{Told}
 use Rattle.outer_io.proofs.ProgressLaws.{passes_none, passes_on}
 use Rattle.outer_io.proofs.ToldLaws.{Told-each}
 use Rattle.query_syntax.specs.declared.query.Parsed.{Parsed}
-use Rattle.session_core.specs.Answered.{GainsReplies, PutsSomeOf, PutsAll, PutsFront}
+use Rattle.session_core.specs.Answered.{GainsReplies, PutsSomeOf, PutsAll, PutsFront, ReplyBasis}
 use Rattle.session_core.specs.Asked.{asked}
 use Rattle.session_core.specs.Scripts.{has_quit, is_quit}
 use Rattle.session_core.specs.Turns.{GoesOn, Stops}
@@ -30,117 +27,117 @@ all_from None after xs P claim p = tt
 all_from (Some all) None xs P claim p = absurd p
 all_from (Some all) (Some rest) xs P claim p = subst P (sym p) (claim rest)
 
-module _ {V S : Type 0} (weight_at : V → Spot → ℕ) (seen : V → ℕ) (schema : V → Schema) (numbers : V → Stat) (view : V) (told : ℕ) (may_lack : Bool) (left : S → Option (List ℕ)) (faults : S → ℕ) where
+module _ {S : Type 0} (of : ReplyBasis) (may_lack : Bool) (left : S → Option (List ℕ)) (faults : S → ℕ) where
   abbrev GainsOf : List Point → Option (List ℕ) → Option (List ℕ) → List Parsed → Type 0
-  GainsOf h held now ps = GainsReplies (schema view) (λ s. s ≡ numbers view) h told may_lack held now ps
+  GainsOf h held now ps = GainsReplies of.schema (λ s. s ≡ of.numbers) h of.told may_lack held now ps
 
   -- the lines passed so far, and what was gained for them
   pub record Answered (before after : Cutter S) (held now : Option (List ℕ)) : Type 0 where
     pub lines : List Line
     pub passed : Passes left faults before after lines
-    pub no_quit : has_quit (schema view) lines ≡ false
-    pub gained : PutsAll weight_at seen schema numbers view told may_lack held now lines
+    pub no_quit : has_quit of.schema lines ≡ false
+    pub gained : PutsAll of may_lack held now lines
 
-  module _ (few : told ≤ seen view) where
-    few_of : (h : List Point) → Counts (weight_at view) (seen view) h → told ≤ length h
+  module _ (few : of.told ≤ of.seen) where
+    few_of : (h : List Point) → Counts of.weight_at of.seen h → of.told ≤ length h
     few_of h counts = omega (arith, few, counts.number)
 
     pub answered_none : (c : Cutter S) (held : Option (List ℕ)) → Answered c c held held
-    answered_none c held = record { lines = []; passed = passes_none left faults c; no_quit = refl; gained = λ h counts. gained_none (schema view) (numbers view) h told (few_of h counts) may_lack held }
+    answered_none c held = record { lines = []; passed = passes_none left faults c; no_quit = refl; gained = λ h counts. gained_none of.schema of.numbers h of.told (few_of h counts) may_lack held }
 
-    pub answered_on : (a b c : Cutter S) (held mid now : Option (List ℕ)) → Answered a b held mid → GoesOn left faults (schema view) b c (PutsAll weight_at seen schema numbers view told may_lack mid now) → Answered a c held now
+    pub answered_on : (a b c : Cutter S) (held mid now : Option (List ℕ)) → Answered a b held mid → GoesOn left faults of.schema b c (PutsAll of may_lack mid now) → Answered a c held now
     answered_on a b c held mid now s (line, on, no_quit, gained) =
         record {
           lines = s.lines ++ line ∷ [];
           passed = passes_on left faults a b c s.lines (line ∷ []) s.passed on.passed;
-          no_quit = has_quit-push (schema view) s.lines line s.no_quit no_quit;
+          no_quit = has_quit-push of.schema s.lines line s.no_quit no_quit;
           gained = λ h counts.
-              subst (λ ps. GainsOf h held now ps) (sym (asked-append (schema view) s.lines (line ∷ []) s.no_quit))
-              (gained_on (schema view) (numbers view) h told (few_of h counts) may_lack held mid now (asked (schema view) s.lines) (asked (schema view) (line ∷ [])) (s.gained h counts) (gained h counts));
+              subst (λ ps. GainsOf h held now ps) (sym (asked-append of.schema s.lines (line ∷ []) s.no_quit))
+              (gained_on of.schema of.numbers h of.told (few_of h counts) may_lack held mid now (asked of.schema s.lines) (asked of.schema (line ∷ [])) (s.gained h counts) (gained h counts));
         }
 
     pub answered_same : (a b : Cutter S) (held mid now : Option (List ℕ)) → Answered a b held mid → now ≡ mid → Answered a b held now
     answered_same a b held mid now s e = subst (λ (o : Option (List ℕ)). Answered a b held o) (sym e) s
 
     -- a part of all replies, wherever the turns end
-    pub part_so_far : (a b : Cutter S) (held now : Option (List ℕ)) → Answered a b held now → Told (lines_left left a) (PutsFront weight_at seen schema numbers view told may_lack held now)
+    pub part_so_far : (a b : Cutter S) (held now : Option (List ℕ)) → Answered a b held now → Told (lines_left left a) (PutsFront of may_lack held now)
     part_so_far a b held now s =
-        all_from (lines_left left a) (lines_left left b) s.lines (PutsFront weight_at seen schema numbers view told may_lack held now)
+        all_from (lines_left left a) (lines_left left b) s.lines (PutsFront of may_lack held now)
         (λ rest h counts.
-        front_of (schema view) (numbers view) h told (few_of h counts) may_lack held now (asked (schema view) (s.lines ++ rest)) (asked (schema view) s.lines) (asked (schema view) rest) (asked-append (schema view) s.lines rest s.no_quit)
-        (some_all (schema view) (numbers view) h told (few_of h counts) may_lack held now (asked (schema view) s.lines) (s.gained h counts)))
+        front_of of.schema of.numbers h of.told (few_of h counts) may_lack held now (asked of.schema (s.lines ++ rest)) (asked of.schema s.lines) (asked of.schema rest) (asked-append of.schema s.lines rest s.no_quit)
+        (some_all of.schema of.numbers h of.told (few_of h counts) may_lack held now (asked of.schema s.lines) (s.gained h counts)))
         s.passed.covers
 
-    part_of_next : (a b c : Cutter S) (held mid now : Option (List ℕ)) → Answered a b held mid → GoesOn left faults (schema view) b c (PutsSomeOf weight_at seen schema numbers view told may_lack mid now) → Told (lines_left left a) (PutsFront weight_at seen schema numbers view told may_lack held now)
+    part_of_next : (a b c : Cutter S) (held mid now : Option (List ℕ)) → Answered a b held mid → GoesOn left faults of.schema b c (PutsSomeOf of may_lack mid now) → Told (lines_left left a) (PutsFront of may_lack held now)
     part_of_next a b c held mid now s (line, on, no_quit, some) =
         let xs = s.lines ++ line ∷ [] in
-        let none = has_quit-push (schema view) s.lines line s.no_quit no_quit in
-        all_from (lines_left left a) (lines_left left c) xs (PutsFront weight_at seen schema numbers view told may_lack held now)
+        let none = has_quit-push of.schema s.lines line s.no_quit no_quit in
+        all_from (lines_left left a) (lines_left left c) xs (PutsFront of may_lack held now)
         (λ rest h counts.
-        front_of (schema view) (numbers view) h told (few_of h counts) may_lack held now (asked (schema view) (xs ++ rest)) (asked (schema view) s.lines ++ asked (schema view) (line ∷ [])) (asked (schema view) rest)
-        (asked-append (schema view) xs rest none ∙ ap (λ ps. ps ++ asked (schema view) rest) (asked-append (schema view) s.lines (line ∷ []) s.no_quit))
-        (some_on (schema view) (numbers view) h told (few_of h counts) may_lack held mid now (asked (schema view) s.lines) (asked (schema view) (line ∷ [])) (s.gained h counts) (some h counts)))
+        front_of of.schema of.numbers h of.told (few_of h counts) may_lack held now (asked of.schema (xs ++ rest)) (asked of.schema s.lines ++ asked of.schema (line ∷ [])) (asked of.schema rest)
+        (asked-append of.schema xs rest none ∙ ap (λ ps. ps ++ asked of.schema rest) (asked-append of.schema s.lines (line ∷ []) s.no_quit))
+        (some_on of.schema of.numbers h of.told (few_of h counts) may_lack held mid now (asked of.schema s.lines) (asked of.schema (line ∷ [])) (s.gained h counts) (some h counts)))
         (passes_on left faults a b c s.lines (line ∷ []) s.passed on.passed).covers
 
-    pub part_at_fault : (a b c : Cutter S) (held mid now : Option (List ℕ)) (f : SessionFault) → Answered a b held mid → (f ≡ fault.Write → GoesOn left faults (schema view) b c (PutsSomeOf weight_at seen schema numbers view told may_lack mid now)) → (f ≢ fault.Write → now ≡ mid) → Told (lines_left left a) (PutsFront weight_at seen schema numbers view told may_lack held now)
+    pub part_at_fault : (a b c : Cutter S) (held mid now : Option (List ℕ)) (f : SessionFault) → Answered a b held mid → (f ≡ fault.Write → GoesOn left faults of.schema b c (PutsSomeOf of may_lack mid now)) → (f ≢ fault.Write → now ≡ mid) → Told (lines_left left a) (PutsFront of may_lack held now)
     part_at_fault a b c held mid now fault.NoMemory s broken same = part_so_far a b held now (answered_same a b held mid now s (same (λ e. cc)))
     part_at_fault a b c held mid now fault.Read s broken same = part_so_far a b held now (answered_same a b held mid now s (same (λ e. cc)))
     part_at_fault a b c held mid now fault.Write s broken same = part_of_next a b c held mid now s (broken refl)
     part_at_fault a b c held mid now fault.TooMuch s broken same = part_so_far a b held now (answered_same a b held mid now s (same (λ e. cc)))
 
     -- all replies where no line is left
-    all_at_end : (a b : Cutter S) (held now : Option (List ℕ)) → Answered a b held now → Told (lines_left left b) (λ all. all ≡ []) → Told (lines_left left a) (λ all. PutsAll weight_at seen schema numbers view told may_lack held now all × (has_quit (schema view) all ≡ false))
+    all_at_end : (a b : Cutter S) (held now : Option (List ℕ)) → Answered a b held now → Told (lines_left left b) (λ all. all ≡ []) → Told (lines_left left a) (λ all. PutsAll of may_lack held now all × (has_quit of.schema all ≡ false))
     all_at_end a b held now s none = here (lines_left left a) (lines_left left b) s.passed.covers none
       where
-        here : (x y : Option (List Line)) → Told x (λ all. IsSomeAnd y (λ rest. all ≡ s.lines ++ rest)) → Told y (λ all. all ≡ []) → Told x (λ all. PutsAll weight_at seen schema numbers view told may_lack held now all × (has_quit (schema view) all ≡ false))
+        here : (x y : Option (List Line)) → Told x (λ all. IsSomeAnd y (λ rest. all ≡ s.lines ++ rest)) → Told y (λ all. all ≡ []) → Told x (λ all. PutsAll of may_lack held now all × (has_quit of.schema all ≡ false))
         here None y p e = tt
         here (Some all) None p e = absurd p
-        here (Some all) (Some rest) p e = subst (λ ls. PutsAll weight_at seen schema numbers view told may_lack held now ls × (has_quit (schema view) ls ≡ false)) (sym (p ∙ ap (λ ls. s.lines ++ ls) e ∙ append-nil s.lines)) (s.gained, s.no_quit)
+        here (Some all) (Some rest) p e = subst (λ ls. PutsAll of may_lack held now ls × (has_quit of.schema ls ≡ false)) (sym (p ∙ ap (λ ls. s.lines ++ ls) e ∙ append-nil s.lines)) (s.gained, s.no_quit)
 
     -- and at `quit`
-    all_at_quit : (a b c : Cutter S) (held now : Option (List ℕ)) (line : Line) → Answered a b held now → Passes left faults b c (line ∷ []) → is_quit (schema view) line ≡ true → Told (lines_left left a) (λ all. PutsAll weight_at seen schema numbers view told may_lack held now all × (has_quit (schema view) all ≡ true))
+    all_at_quit : (a b c : Cutter S) (held now : Option (List ℕ)) (line : Line) → Answered a b held now → Passes left faults b c (line ∷ []) → is_quit of.schema line ≡ true → Told (lines_left left a) (λ all. PutsAll of may_lack held now all × (has_quit of.schema all ≡ true))
     all_at_quit a b c held now line s on quit =
-        all_from (lines_left left a) (lines_left left c) (s.lines ++ line ∷ []) (λ all. PutsAll weight_at seen schema numbers view told may_lack held now all × (has_quit (schema view) all ≡ true))
+        all_from (lines_left left a) (lines_left left c) (s.lines ++ line ∷ []) (λ all. PutsAll of may_lack held now all × (has_quit of.schema all ≡ true))
         (λ rest.
         let is = append_assoc s.lines (line ∷ []) rest in
-        subst (λ ls. PutsAll weight_at seen schema numbers view told may_lack held now ls × (has_quit (schema view) ls ≡ true)) (sym is) (
-          λ h counts. subst (λ ps. GainsOf h held now ps) (sym (asked-quit (schema view) s.lines line rest s.no_quit quit)) (s.gained h counts),
-          has_quit-at (schema view) s.lines line rest quit,
+        subst (λ ls. PutsAll of may_lack held now ls × (has_quit of.schema ls ≡ true)) (sym is) (
+          λ h counts. subst (λ ps. GainsOf h held now ps) (sym (asked-quit of.schema s.lines line rest s.no_quit quit)) (s.gained h counts),
+          has_quit-at of.schema s.lines line rest quit,
         ))
         (passes_on left faults a b c s.lines (line ∷ []) s.passed on).covers
 
-    pub all_at_stop : (a b c : Cutter S) (held now : Option (List ℕ)) → Answered a b held now → Stops left faults (schema view) b c → Told (lines_left left a) (PutsAll weight_at seen schema numbers view told may_lack held now)
+    pub all_at_stop : (a b c : Cutter S) (held now : Option (List ℕ)) → Answered a b held now → Stops left faults of.schema b c → Told (lines_left left a) (PutsAll of may_lack held now)
     all_at_stop a b c held now s (inl e) = Told-each (lines_left left a) _ _ (λ all p. p.0) (all_at_end a b held now s e.covers)
     all_at_stop a b c held now s (inr (line, on, quit)) = Told-each (lines_left left a) _ _ (λ all p. p.0) (all_at_quit a b c held now line s on.passed quit)
 
-    pub ended_at_stop : (a b c : Cutter S) (held now : Option (List ℕ)) → Answered a b held now → Stops left faults (schema view) b c → IsWithinLimit left a ⊎ Told (lines_left left a) (λ all. has_quit (schema view) all ≡ true)
+    pub ended_at_stop : (a b c : Cutter S) (held now : Option (List ℕ)) → Answered a b held now → Stops left faults of.schema b c → IsWithinLimit left a ⊎ Told (lines_left left a) (λ all. has_quit of.schema all ≡ true)
     ended_at_stop a b c held now s (inl e) = inl (size_kept (input_size left a) (input_size left b) (λ n. n ≤ input_limit) s.passed.size e.size)
     ended_at_stop a b c held now s (inr (line, on, quit)) = inr (Told-each (lines_left left a) _ _ (λ all p. p.1) (all_at_quit a b c held now line s on.passed quit))
 
     pub large_at_start : (a b : Cutter S) (held now : Option (List ℕ)) → Answered a b held now → IsTooLarge left b → IsTooLarge left a
     large_at_start a b held now s large = size_kept (input_size left a) (input_size left b) (λ n. input_limit < n) s.passed.size large
 
-    pub puts_at_end : (a b : Cutter S) (held now : Option (List ℕ)) → Answered a b held now → Told (lines_left left b) (λ all. all ≡ []) → Told (lines_left left a) (PutsAll weight_at seen schema numbers view told may_lack held now)
+    pub puts_at_end : (a b : Cutter S) (held now : Option (List ℕ)) → Answered a b held now → Told (lines_left left b) (λ all. all ≡ []) → Told (lines_left left a) (PutsAll of may_lack held now)
     puts_at_end a b held now s none = Told-each (lines_left left a) _ _ (λ all p. p.0) (all_at_end a b held now s none)
 
-    pub no_quit_at_end : (a b : Cutter S) (held now : Option (List ℕ)) → Answered a b held now → Told (lines_left left b) (λ all. all ≡ []) → Told (lines_left left a) (λ all. has_quit (schema view) all ≡ false)
+    pub no_quit_at_end : (a b : Cutter S) (held now : Option (List ℕ)) → Answered a b held now → Told (lines_left left b) (λ all. all ≡ []) → Told (lines_left left a) (λ all. has_quit of.schema all ≡ false)
     no_quit_at_end a b held now s none = Told-each (lines_left left a) _ _ (λ all p. p.1) (all_at_end a b held now s none)
 
     -- nothing was answered
-    pub part_none : (held : Option (List ℕ)) (lines : List Line) → PutsFront weight_at seen schema numbers view told may_lack held held lines
+    pub part_none : (held : Option (List ℕ)) (lines : List Line) → PutsFront of may_lack held held lines
     part_none held lines h counts =
-        front_of (schema view) (numbers view) h told (few_of h counts) may_lack held held (asked (schema view) lines) [] (asked (schema view) lines) refl
-        (some_all (schema view) (numbers view) h told (few_of h counts) may_lack held held [] (gained_none (schema view) (numbers view) h told (few_of h counts) may_lack held))
+        front_of of.schema of.numbers h of.told (few_of h counts) may_lack held held (asked of.schema lines) [] (asked of.schema lines) refl
+        (some_all of.schema of.numbers h of.told (few_of h counts) may_lack held held [] (gained_none of.schema of.numbers h of.told (few_of h counts) may_lack held))
 
 -- where no reply may be the line for want of memory, one may be
-module _ {V S : Type 0} (weight_at : V → Spot → ℕ) (seen : V → ℕ) (schema : V → Schema) (numbers : V → Stat) (view : V) (told : ℕ) (l m : Bool) (may : l ≡ true → m ≡ true) (left : S → Option (List ℕ)) (faults : S → ℕ) (before after : Cutter S) (held now : Option (List ℕ)) where
-  pub answered_lacking : Answered weight_at seen schema numbers view told l left faults before after held now → Answered weight_at seen schema numbers view told m left faults before after held now
+module _ {S : Type 0} (of : ReplyBasis) (l m : Bool) (may : l ≡ true → m ≡ true) (left : S → Option (List ℕ)) (faults : S → ℕ) (before after : Cutter S) (held now : Option (List ℕ)) where
+  pub answered_lacking : Answered of l left faults before after held now → Answered of m left faults before after held now
   answered_lacking s =
       record {
         lines = s.lines;
         passed = s.passed;
         no_quit = s.no_quit;
-        gained = λ h counts. gained_lacking (schema view) (λ n. n ≡ numbers view) h told l m may held now (asked (schema view) s.lines) (s.gained h counts);
+        gained = λ h counts. gained_lacking of.schema (λ n. n ≡ of.numbers) h of.told l m may held now (asked of.schema s.lines) (s.gained h counts);
       }
 
 -- a fault is the one that it is said to be

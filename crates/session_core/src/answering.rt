@@ -1,20 +1,20 @@
 //! A script answered line by line.
 ghost use Rattle.std.specs.Prelude.{◌≡◌, ◌≢◌, ◌⊎◌, ◌≤◌, [], Ok, Err, true, false, IsTrue, IfOk, OnOk, OnErr, IsErrOf};
-ghost use Rattle.cube_view.specs.Bag.{EachCounted};
 ghost use Rattle.outer_io.specs.Bytes.{Gains, GainsPart};
 ghost use Rattle.outer_io.specs.Cuts.{IsTooMuch};
 ghost use Rattle.outer_io.specs.Cutting.{lines_left};
 ghost use Rattle.outer_io.specs.Faults.{HasCause};
 ghost use Rattle.outer_io.specs.Lines.{Line, lines};
-ghost use Rattle.outer_io.specs.Progress.{IsGoing, IsTooLarge, IsWithinLimit};
+ghost use Rattle.outer_io.specs.Progress.{IsGoing, IsWithinLimit};
 ghost use Rattle.outer_io.specs.Told.{Told};
 ghost use Rattle.probe_core.specs.Blanks.{IsBlankOf};
 ghost use Rattle.query_syntax.specs.Meaning.{asks_valid};
-ghost use Rattle.session_core.specs.Answered.{AnswersScript, PutsAll, PutsFront, PutsReplies, PutsSome, PutsSomeOf};
-ghost use Rattle.session_core.specs.Asked.{asked_then, asks_reply, asks_to_end};
+ghost use Rattle.session_core.specs.Answered.{AnswersScript, PutsAll, PutsAnswer, PutsFront, PutsSomeAnswer, RefusesScript, basis};
+ghost use Rattle.session_core.specs.Answering.{AnswersNext, AnswersPart, CountsFaults, OnTooMuch, OnWrite, RefusesLeft};
+ghost use Rattle.session_core.specs.Asked.{asks_reply, asks_to_end};
 ghost use Rattle.session_core.specs.Scripts.{has_quit};
-ghost use Rattle.session_core.specs.Serving.{Serves};
-ghost use Rattle.session_core.specs.Turns.{GoesOn, Stops};
+ghost use Rattle.session_core.specs.Serving.{ServesOver};
+ghost use Rattle.session_core.specs.Turns.{Stops};
 
 use crate::SessionFault;
 use crate::asking::next_asked;
@@ -47,7 +47,7 @@ fn serve_in<V: CubeView, L: Ledger>(
 ) -> Result<Served, NoMemory>
     requires blank { IsBlankOf L.name L.parts blank }
     requires valid { IsTrue (asks_valid (V.schema view.now) parsed.now) }
-    ensures served { EachCounted (V.weight_at view.now) (V.seen view.now) (λ h. IfOk result (Serves (V.numbers view.now) (V.schema view.now) h told parsed.now)) }
+    ensures served { ServesOver (basis V.CubeView view.now told) parsed.now result }
     ensures no_memory { OnErr result (asks_reply parsed.now ≡ true) }
 {
     let mut steps = Steps::<L>::new(blank);
@@ -82,9 +82,9 @@ fn put_answer<V: CubeView, O: Sink>(
     out: &mut O,
 ) -> Result<bool, SessionFault>
     requires { IsTrue (asks_valid (V.schema view.now) parsed.now) × (told ≤ V.seen view.now) }
-    ensures goes_on { result ≡ Ok true → (asks_to_end parsed.now ≡ false) × PutsReplies V.weight_at V.seen V.schema V.numbers view.now told lacked.new (O.held out.old) (O.held out.new) (asked_then parsed.now []) }
+    ensures goes_on { result ≡ Ok true → PutsAnswer (basis V.CubeView view.now told) lacked.new (O.held out.old) (O.held out.new) parsed.now }
     ensures stops { result ≡ Ok false → (asks_to_end parsed.now ≡ true) × (O.held out.new ≡ O.held out.old) }
-    ensures breaks_off { IsErrOf result SessionFault.Write → (asks_to_end parsed.now ≡ false) × PutsSome V.weight_at V.seen V.schema V.numbers view.now told lacked.new (O.held out.old) (O.held out.new) (asked_then parsed.now []) }
+    ensures breaks_off { OnWrite result (PutsSomeAnswer (basis V.CubeView view.now told) lacked.new (O.held out.old) (O.held out.new) parsed.now) }
     ensures nothing { (fault : SessionFault) → result ≡ Err fault → fault ≢ SessionFault.Write → O.held out.new ≡ O.held out.old }
     ensures write { HasCause (O.faults out.old) (O.faults out.new) result SessionFault.Write }
     ensures others { (result ≢ Err SessionFault.Read) × (result ≢ Err SessionFault.TooMuch) }
@@ -117,12 +117,12 @@ fn answer_next<V: CubeView, S: Source, O: Sink>(
     out: &mut O,
 ) -> Result<bool, SessionFault>
     requires { IsGoing cutter.old × (told ≤ V.seen view.now) }
-    ensures goes_on { result ≡ Ok true → GoesOn S.left S.faults (V.schema view.now) cutter.old cutter.new (PutsAll V.weight_at V.seen V.schema V.numbers view.now told lacked.new (O.held out.old) (O.held out.new)) }
+    ensures goes_on { result ≡ Ok true → AnswersNext (basis V.CubeView view.now told) lacked.new S.Source cutter.old cutter.new (O.held out.old) (O.held out.new) }
     ensures stops { result ≡ Ok false → Stops S.left S.faults (V.schema view.now) cutter.old cutter.new × (O.held out.new ≡ O.held out.old) }
-    ensures breaks_off { IsErrOf result SessionFault.Write → GoesOn S.left S.faults (V.schema view.now) cutter.old cutter.new (PutsSomeOf V.weight_at V.seen V.schema V.numbers view.now told lacked.new (O.held out.old) (O.held out.new)) }
+    ensures breaks_off { OnWrite result (AnswersPart (basis V.CubeView view.now told) lacked.new S.Source cutter.old cutter.new (O.held out.old) (O.held out.new)) }
     ensures nothing { (fault : SessionFault) → result ≡ Err fault → fault ≢ SessionFault.Write → O.held out.new ≡ O.held out.old }
     ensures too_much { IsErrOf result SessionFault.TooMuch → IsTooMuch S.left cutter.old }
-    ensures causes { HasCause (S.faults cutter.old.source) (S.faults cutter.new.source) result SessionFault.Read × HasCause (O.faults out.old) (O.faults out.new) result SessionFault.Write }
+    ensures causes { CountsFaults S.faults O.faults cutter.old cutter.new out.old out.new result }
     ensures stays { (O.name out.new ≡ O.name out.old) × (lacked.old ≡ true → lacked.new ≡ true) }
 {
     match next_asked(alloc, view.schema(), cutter) {
@@ -145,10 +145,10 @@ pub fn answer_lines<V: CubeView, S: Source, O: Sink>(
     out: &mut O,
 ) -> ScriptEnd
     requires { IsGoing cutter.old × (told ≤ V.seen view.now) }
-    ensures all { OnOk result.end (Told (lines_left S.left cutter.old) (PutsAll V.weight_at V.seen V.schema V.numbers view.now told result.lacked (O.held out.old) (O.held out.new))) }
+    ensures all { OnOk result.end (Told (lines_left S.left cutter.old) (PutsAll (basis V.CubeView view.now told) result.lacked (O.held out.old) (O.held out.new))) }
     ensures ended { OnOk result.end (IsWithinLimit S.left cutter.old ⊎ Told (lines_left S.left cutter.old) (λ all. has_quit (V.schema view.now) all ≡ true)) }
-    ensures part { Told (lines_left S.left cutter.old) (PutsFront V.weight_at V.seen V.schema V.numbers view.now told result.lacked (O.held out.old) (O.held out.new)) }
-    ensures too_much { IsErrOf result.end SessionFault.TooMuch → Told (lines_left S.left cutter.old) (PutsAll V.weight_at V.seen V.schema V.numbers view.now told result.lacked (O.held out.old) (O.held out.new)) × IsTooLarge S.left cutter.old × Told (lines_left S.left cutter.old) (λ all. has_quit (V.schema view.now) all ≡ false) }
+    ensures part { Told (lines_left S.left cutter.old) (PutsFront (basis V.CubeView view.now told) result.lacked (O.held out.old) (O.held out.new)) }
+    ensures too_much { OnTooMuch result.end (RefusesLeft (basis V.CubeView view.now told) result.lacked S.left cutter.old (O.held out.old) (O.held out.new)) }
     ensures read { HasCause (S.faults cutter.old.source) (S.faults cutter.new.source) result.end SessionFault.Read }
     ensures write { HasCause (O.faults out.old) (O.faults out.new) result.end SessionFault.Write }
     ensures name { O.name out.new ≡ O.name out.old }
@@ -183,9 +183,9 @@ pub fn answer_script<V: CubeView, S: Source, O: Sink>(
     out: &mut O,
 ) -> (S, ScriptEnd)
     requires { told ≤ V.seen view.now }
-    ensures all { OnOk result.1.end (Told (S.left source) (AnswersScript V.weight_at V.seen V.schema V.numbers view.now told result.1.lacked false (O.held out.old) (O.held out.new))) }
-    ensures part { Told (S.left source) (λ script. PutsFront V.weight_at V.seen V.schema V.numbers view.now told result.1.lacked (O.held out.old) (O.held out.new) (lines script)) }
-    ensures too_much { IsErrOf result.1.end SessionFault.TooMuch → Told (S.left source) (AnswersScript V.weight_at V.seen V.schema V.numbers view.now told result.1.lacked true (O.held out.old) (O.held out.new)) }
+    ensures all { OnOk result.1.end (AnswersScript (basis V.CubeView view.now told) result.1.lacked (S.left source) (O.held out.old) (O.held out.new)) }
+    ensures part { Told (S.left source) (λ script. PutsFront (basis V.CubeView view.now told) result.1.lacked (O.held out.old) (O.held out.new) (lines script)) }
+    ensures too_much { OnTooMuch result.1.end (RefusesScript (basis V.CubeView view.now told) result.1.lacked (S.left source) (O.held out.old) (O.held out.new)) }
     ensures read { HasCause (S.faults source) (S.faults result.0) result.1.end SessionFault.Read }
     ensures write { HasCause (O.faults out.old) (O.faults out.new) result.1.end SessionFault.Write }
     ensures name { O.name out.new ≡ O.name out.old }

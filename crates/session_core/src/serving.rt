@@ -9,8 +9,9 @@ ghost use Rattle.query_syntax.specs.Queries.{is_valid_query};
 ghost use Rattle.query_syntax.specs.Tables.{has_table, table};
 ghost use Rattle.reply_json.specs.Types.{ReplyFits};
 ghost use Rattle.reply_json.specs.Validity.{is_valid_reply};
+ghost use Rattle.session_core.specs.Answered.{basis};
 ghost use Rattle.session_core.specs.Asked.{asks_look, asks_reply, reply_line};
-ghost use Rattle.session_core.specs.Serving.{Serves, answer_cost, query_cost};
+ghost use Rattle.session_core.specs.Serving.{Serves, ServesOver, ServesWithin};
 
 use cross_table::{best_answer, cross_answer};
 use cube_view::CubeView;
@@ -54,7 +55,7 @@ fn table_in<V: CubeView, L: Ledger>(
     requires valid { IsTrue (is_valid_query (V.schema view.now) query.now) }
     requires verb { IsTrue (has_table query.now.verb) }
     ensures table { EachCounted (V.weight_at view.now) (V.seen view.now) (λ h. IfOk result (λ t. t ≡ table (V.schema view.now) query.now h)) }
-    ensures cost { EachCounted (V.weight_at view.now) (V.seen view.now) (λ h. steps.new ≤ steps.old + query_cost (V.costs view.now) (V.schema view.now) h query.now query.now.verb) }
+    ensures cost { ServesWithin V.CubeView view.now (Parsed.Ask query.now) steps.old steps.new }
 {
     match query.verb {
         Verb::Count | Verb::Hist(_) | Verb::Map(_) | Verb::Series { .. } => {
@@ -78,8 +79,8 @@ fn serve_table<V: CubeView, L: Ledger>(
 ) -> Result<Served, NoMemory>
     requires valid { IsTrue (is_valid_query (V.schema view.now) query.now) }
     requires verb { IsTrue (has_table query.now.verb) }
-    ensures served { EachCounted (V.weight_at view.now) (V.seen view.now) (λ h. IfOk result (Serves (V.numbers view.now) (V.schema view.now) h told (Parsed.Ask query.now))) }
-    ensures cost { EachCounted (V.weight_at view.now) (V.seen view.now) (λ h. steps.new ≤ steps.old + answer_cost (V.costs view.now) (V.schema view.now) (Parsed.Ask query.now) h) }
+    ensures served { ServesOver (basis V.CubeView view.now told) (Parsed.Ask query.now) result }
+    ensures cost { ServesWithin V.CubeView view.now (Parsed.Ask query.now) steps.old steps.new }
 {
     let table = table_in(alloc, view, query, steps)?;
     line_of(alloc, &Reply::Table(table), room)
@@ -129,8 +130,8 @@ fn serve_query<V: CubeView, L: Ledger>(
     room: &mut List<u8>,
 ) -> Result<Served, NoMemory>
     requires { IsTrue (is_valid_query (V.schema view.now) query.now) }
-    ensures served { EachCounted (V.weight_at view.now) (V.seen view.now) (λ h. IfOk result (Serves (V.numbers view.now) (V.schema view.now) h told (Parsed.Ask query.now))) }
-    ensures cost { EachCounted (V.weight_at view.now) (V.seen view.now) (λ h. steps.new ≤ steps.old + answer_cost (V.costs view.now) (V.schema view.now) (Parsed.Ask query.now) h) }
+    ensures served { ServesOver (basis V.CubeView view.now told) (Parsed.Ask query.now) result }
+    ensures cost { ServesWithin V.CubeView view.now (Parsed.Ask query.now) steps.old steps.new }
     ensures no_memory { OnErr result (asks_reply (Parsed.Ask query.now) ≡ true) }
 {
     match query.verb {
@@ -161,8 +162,8 @@ pub fn serve<V: CubeView, L: Ledger>(
     room: &mut List<u8>,
 ) -> Result<Served, NoMemory>
     requires valid { IsTrue (asks_valid (V.schema view.now) parsed.now) }
-    ensures served { EachCounted (V.weight_at view.now) (V.seen view.now) (λ h. IfOk result (Serves (V.numbers view.now) (V.schema view.now) h told parsed.now)) }
-    ensures cost { EachCounted (V.weight_at view.now) (V.seen view.now) (λ h. steps.new ≤ steps.old + answer_cost (V.costs view.now) (V.schema view.now) parsed.now h) }
+    ensures served { ServesOver (basis V.CubeView view.now told) parsed.now result }
+    ensures cost { ServesWithin V.CubeView view.now parsed.now steps.old steps.new }
     ensures no_memory { OnErr result (asks_reply parsed.now ≡ true) }
 {
     match parsed {
