@@ -1,5 +1,6 @@
 pub mod Adding
 pub mod Agreement
+pub mod Backed
 pub mod ChildPlaces
 pub mod Childwise
 pub mod Climbing

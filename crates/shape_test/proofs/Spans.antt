@@ -2,7 +2,7 @@
 use Rattle.std.proofs.Common.{◌≡◌, ◌⊎◌, inl, inr, ℕ, suc, ◌-◌, ◌<◌, ◌≤◌, List, [], ◌∷◌, ◌++◌, length, get_or, take, drop, All, refl, sym, ap, ap₂, subst, ◌∙◌, length-append, length-drop, arith}
 use Rattle.std.proofs.Math.Seq.{drop-append_seam}
 use Rattle.std.proofs.lemmas.Bool.{cases_lt}
-use Rattle.std.proofs.lemmas.List.{drop-append-le, take-append-le, take_at, append-nil, map-append, length-map, get_or_append_left, get_or_push}
+use Rattle.std.proofs.lemmas.List.{drop-append-le, take-append-le, take_at, append-nil, append_assoc, map-append, length-map, get_or-map, get_or_append_left, get_or_push}
 use Rattle.std.proofs.lemmas.List.Elements.{All-push}
 use Rattle.shape_test.specs.Spans.{span_moves, spanned, IsSpan, HasAbove, AreSpans}
 use Rattle.shape_test.specs.declared.home.Move.{Move}
@@ -69,3 +69,15 @@ module _ (moves home : List Move) (spans : List Span) (s : Span) (A : AreSpans m
     within = All-push (IsSpan (length (moves ++ home))) spans s (within_more moves home spans A.within) (let n = length-append moves home in omega (arith, n, start, end), let e = end in omega (arith, e));
     above = subst (λ (homes : List (List Move)). (i : ℕ) (d : Span) → i < length (spans ++ s ∷ []) → HasAbove homes i (get_or (spans ++ s ∷ []) i d)) (sym spanned_push) (above_push (spanned moves spans) spans home s (length-map spans (span_moves moves)) A.above named);
   }
+
+-- a home that is there, by its place
+span_there : (moves : List Move) (spans : List Span) (i : ℕ) (s : Span) → i < length spans → s ≡ get_or spans i s → span_moves moves s ≡ get_or (spanned moves spans) i []
+span_there moves spans i s lt e = ap (span_moves moves) e ∙ sym (get_or-map (span_moves moves) spans i s [] lt)
+
+-- a step and then the steps of a home that is there, behind all
+module _ (moves : List Move) (spans : List Span) (i : ℕ) (s : Span) (A : AreSpans moves spans) (lt : i < length spans) (e : s ≡ get_or spans i s) where
+  pub lies_there : IsSpan (length moves) s
+  lies_there = subst (IsSpan (length moves)) (sym e) (A.within i s lt)
+
+  pub step_put : (m : Move) → (moves ++ m ∷ []) ++ span_moves (moves ++ m ∷ []) s ≡ moves ++ m ∷ get_or (spanned moves spans) i []
+  step_put m = ap (λ (h : List Move). (moves ++ m ∷ []) ++ h) (span_more moves (m ∷ []) s lies_there ∙ span_there moves spans i s lt e) ∙ append_assoc moves (m ∷ []) (get_or (spanned moves spans) i [])

@@ -84,9 +84,10 @@ pub fn part_ends<L: Ledger>(
     ensures in_range { OnOk result (AreEnds arena.now ends.new.items) }
 {
     ends.clear();
+    let count = arena.child_count(id);
     let mut i = 0;
     let mut from = 0;
-    while let Some((label, link)) = first_child(arena, id, i, from) {
+    while let Some((label, link)) = first_child(arena, id, count, i, from) {
         add_end(ends, content_end(arena, link.to, way, steps))?;
         i += 1;
         from = u16::from(label) + 1;

@@ -35,7 +35,7 @@ fn has_child(arena: &Arena, id: SlotId) -> bool
     requires labels { HasSmallLabels arena.now }
     ensures { IsTrue result ↔ HasChild arena.now id.0 }
 {
-    match first_child(arena, id, 0, 0) {
+    match first_child(arena, id, arena.child_count(id), 0, 0) {
         Some(_) => true,
         None => false,
     }

@@ -11,7 +11,7 @@ pub enum Move {
 }
 
 /// Whether a step leads to a content.
-fn leads_across(step: Move) -> bool
+pub fn leads_across(step: Move) -> bool
     ensures { result ≡ is_across step }
 {
     match step {
@@ -42,7 +42,7 @@ fn begins_with(moves: &[Move], step: Move) -> bool
 }
 
 /// Whether a loose address may lack a step.
-fn may_go_down(loose: bool, step: Move) -> bool
+pub fn may_go_down(loose: bool, step: Move) -> bool
     ensures { result ≡ (loose && not (is_across step)) }
 {
     loose && !leads_across(step)
@@ -63,7 +63,7 @@ fn are_same(a: &[Move], b: &[Move]) -> bool
 
 /// Whether an address is another one's or coarser, the last step of each standing first. A loose address may have
 /// fewer labels in its last dimension. A coarser address has no more steps, and with as many it is the same.
-fn is_coarser(loose: bool, a: &[Move], b: &[Move]) -> bool
+pub fn is_coarser(loose: bool, a: &[Move], b: &[Move]) -> bool
     ensures { IsTrue result ↔ Finer loose (walk_of a.now) (walk_of b.now) }
 {
     if a.len() > b.len() {

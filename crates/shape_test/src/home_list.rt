@@ -1,8 +1,8 @@
 //! The homes of slots in one list of steps.
-ghost use Rattle.std.specs.Prelude.{◌≡◌, ◌<◌, ◌++◌, ◌∷◌, [], length, slice_index_or, IsTrue, OnOk};
+ghost use Rattle.std.specs.Prelude.{◌≡◌, ◌<◌, ◌++◌, ◌∷◌, [], length, slice_index_or, IfSome, OnOk};
 ghost use Rattle.shape_test.specs.Spans.{spanned, AreSpans};
 
-use crate::home::{Move, is_same};
+use crate::home::Move;
 use outer_io::NoMemory;
 use std::alloc::Global;
 use std::marker::Model;
@@ -23,7 +23,6 @@ pub struct Span {
 pub struct HomeList {
     moves: Vec<Move>,
     spans: Vec<Span>,
-    next: Vec<Move>,
 }
 
 impl Model for HomeList {
@@ -46,7 +45,6 @@ impl HomeList {
         HomeList {
             moves: Vec::new(alloc),
             spans: Vec::new(alloc),
-            next: Vec::new(alloc),
         }
     }
 
@@ -66,24 +64,25 @@ impl HomeList {
         &self.moves[span.start..span.end]
     }
 
-    /// Whether it is known that a home is another one with a step before it.
-    pub fn is_after(&self, i: usize, step: Move, by: usize) -> bool
+    /// The last step of a home, and the place of the earlier home behind it, where that is known.
+    pub fn last(&self, i: usize) -> Option<(Move, usize)>
         requires { i < length self.now }
-        ensures { IsTrue result → slice_index_or self.now i [] ≡ step ∷ slice_index_or self.now by [] }
+        ensures home { IfSome result (λ x. slice_index_or self.now i [] ≡ x.0 ∷ slice_index_or self.now x.1 []) }
+        ensures earlier { IfSome result (λ x. x.1 < i) }
     {
         let span = self.spans[i];
-        if by >= i || span.above != by {
-            return false;
+        if span.above < i {
+            Some((span.step, span.above))
+        } else {
+            None
         }
-        is_same(span.step, step)
     }
 
     /// Adds a home at the end.
     pub fn add(&mut self, home: &[Move]) -> Result<(), NoMemory>
         ensures { OnOk result (self.new ≡ self.old ++ home.now ∷ []) }
     {
-        let above = self.spans.len();
-        put_home(&mut self.moves, &mut self.spans, home, Move::Across, above)
+        put_home(&mut self.moves, &mut self.spans, home)
     }
 
     /// Adds a home with one more step before it.
@@ -91,15 +90,7 @@ impl HomeList {
         requires { by < length self.old }
         ensures { OnOk result (self.new ≡ self.old ++ (step ∷ slice_index_or self.old by []) ∷ []) }
     {
-        let span = self.spans[by];
-        step_more(&mut self.next, step, &self.moves[span.start..span.end])?;
-        put_home(
-            &mut self.moves,
-            &mut self.spans,
-            self.next.as_slice(),
-            step,
-            by,
-        )
+        put_step(&mut self.moves, &mut self.spans, step, by)
     }
 
     /// Makes room for so many homes. The homes are as before.
@@ -113,30 +104,41 @@ impl HomeList {
     }
 }
 
-/// The steps with one more before them, in place of what a list had.
-fn step_more(home: &mut Vec<Move>, step: Move, above: &[Move]) -> Result<(), NoMemory>
-    ensures { OnOk result (home.new.items ≡ step ∷ above.now) }
+/// Puts a home behind others, which is an earlier one of them with a step before it. Its steps are copied once.
+fn put_step(
+    moves: &mut Vec<Move>,
+    spans: &mut Vec<Span>,
+    step: Move,
+    above: usize,
+) -> Result<(), NoMemory>
+    requires spans { AreSpans moves.old.items spans.old.items }
+    requires earlier { above < length spans.old.items }
+    ensures spans { AreSpans moves.new.items spans.new.items }
+    ensures put { OnOk result (spanned moves.new.items spans.new.items ≡ spanned moves.old.items spans.old.items ++ (step ∷ slice_index_or (spanned moves.old.items spans.old.items) above []) ∷ []) }
 {
-    home.clear();
-    let Ok(()) = home.push(step) else {
+    let behind = spans[above];
+    let start = moves.len();
+    let Ok(()) = moves.push(step) else {
         return Err(NoMemory);
     };
-    let Ok(()) = home.extend_from_slice(above) else {
+    let Ok(()) = moves.extend_from_within(behind.start..behind.end) else {
+        return Err(NoMemory);
+    };
+    let span = Span {
+        start,
+        end: moves.len(),
+        step,
+        above,
+    };
+    let Ok(()) = spans.push(span) else {
         return Err(NoMemory);
     };
     Ok(())
 }
 
-/// Puts a home behind others, which is one of them with a step before it, if `above` names an earlier one.
-fn put_home(
-    moves: &mut Vec<Move>,
-    spans: &mut Vec<Span>,
-    home: &[Move],
-    step: Move,
-    above: usize,
-) -> Result<(), NoMemory>
+/// Puts a home behind others, of which none is named behind its first step.
+fn put_home(moves: &mut Vec<Move>, spans: &mut Vec<Span>, home: &[Move]) -> Result<(), NoMemory>
     requires spans { AreSpans moves.old.items spans.old.items }
-    requires above { above < length spans.old.items → home.now ≡ step ∷ slice_index_or (spanned moves.old.items spans.old.items) above [] }
     ensures spans { AreSpans moves.new.items spans.new.items }
     ensures put { OnOk result (spanned moves.new.items spans.new.items ≡ spanned moves.old.items spans.old.items ++ home.now ∷ []) }
 {
@@ -147,8 +149,8 @@ fn put_home(
     let span = Span {
         start,
         end: moves.len(),
-        step,
-        above,
+        step: Move::Across,
+        above: spans.len(),
     };
     let Ok(()) = spans.push(span) else {
         return Err(NoMemory);

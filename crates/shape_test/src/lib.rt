@@ -15,6 +15,7 @@
 #![tactic(auto)]
 
 mod children;
+mod climb;
 mod counts;
 mod ends;
 mod filled;

@@ -5,7 +5,8 @@ ghost use Rattle.shape_test.specs.Homes.{step_of, walk_of, walks_of};
 ghost use Rattle.shape_test.specs.Links.{HasSmallLabels, LinkFits, LinksFit, ChildrenFit};
 
 use crate::children::first_child;
-use crate::home::{Move, is_coarser_after};
+use crate::climb::is_coarser_home;
+use crate::home::{Move, is_coarser_after, is_same, leads_across};
 use crate::home_list::HomeList;
 use node_arena::{Arena, Link, SlotId};
 use probe_core::Steps;
@@ -43,9 +44,10 @@ fn children_fit(arena: &Arena, homes: &HomeList, id: SlotId) -> bool
     requires labels { HasSmallLabels arena.now }
     ensures { IsTrue result ↔ ChildrenFit arena.now (walks_of homes.now) id.0 }
 {
+    let count = arena.child_count(id);
     let mut i = 0;
     let mut from = 0;
-    while let Some((label, link)) = first_child(arena, id, i, from) {
+    while let Some((label, link)) = first_child(arena, id, count, i, from) {
         if !link_fits(homes, id, Move::Down(label), link) {
             return false;
         }
@@ -65,9 +67,15 @@ fn link_fits(homes: &HomeList, id: SlotId, step: Move, link: Link) -> bool
         return false;
     }
     let by = id.0 as usize;
+    let Some((last, above)) = homes.last(to) else {
+        return is_coarser_after(step, homes.get(by), homes.get(to));
+    };
+    if !is_same(step, last) {
+        return false;
+    }
     // The home of a proper link's target was made of the slot's, so it is seldom compared.
-    if homes.is_after(to, step, by) {
+    if above == by {
         return true;
     }
-    is_coarser_after(step, homes.get(by), homes.get(to))
+    is_coarser_home(homes, leads_across(step), by, above)
 }

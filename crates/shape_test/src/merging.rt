@@ -122,9 +122,10 @@ fn content_agrees<L: Ledger>(
     if arena.is_table(content.to) {
         return Ok(true);
     }
+    let count = arena.child_count(content.to);
     let mut i = 0;
     let mut from = 0;
-    while let Some((label, child)) = first_child(arena, content.to, i, from) {
+    while let Some((label, child)) = first_child(arena, content.to, count, i, from) {
         add_value(way, label)?;
         let agrees = content_agrees(room, arena, side, child.to, left - 1, way, steps)?;
         drop_value(way);
@@ -156,9 +157,10 @@ fn parts_agree<L: Ledger>(
         node: id,
         role: Role::Part,
     };
+    let count = arena.child_count(id);
     let mut i = 0;
     let mut from = 0;
-    while let Some((label, child)) = first_child(arena, id, i, from) {
+    while let Some((label, child)) = first_child(arena, id, count, i, from) {
         if !content_agrees(room, arena, side, child.to, left, way, steps)? {
             return Ok(false);
         }

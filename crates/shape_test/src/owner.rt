@@ -49,9 +49,10 @@ fn note_children(owners: &mut [Option<Owner>], arena: &Arena, id: SlotId) -> boo
     requires owners { AreOwners arena.now (Before id.0 0) owners.old }
     ensures { MatchBool result (AreOwners arena.now (Before id.0 256) owners.new) (HasNoHomes arena.now) }
 {
+    let count = arena.child_count(id);
     let mut i = 0;
     let mut from = 0;
-    while let Some((label, link)) = first_child(arena, id, i, from) {
+    while let Some((label, link)) = first_child(arena, id, count, i, from) {
         let owner = Owner {
             by: id,
             step: Move::Down(label),
