@@ -61,11 +61,15 @@ fn begun(place: &mut MemPlace, name: &str) -> Result<MemSink, IoFault> {
 fn write_two(place: &mut MemPlace, one: &str, other: &str, turned: bool) -> Result<(), IoFault> {
     let first = begun(place, one)?;
     let second = begun(place, other)?;
-    let (first, second) = if turned {
-        (second, first)
+    if turned {
+        give_back_two(place, second, first)
     } else {
-        (first, second)
-    };
+        give_back_two(place, first, second)
+    }
+}
+
+/// Gives both sinks back in this order.
+fn give_back_two(place: &mut MemPlace, first: MemSink, second: MemSink) -> Result<(), IoFault> {
     place.give_back_out(first)?;
     place.give_back_out(second)
 }
@@ -87,13 +91,18 @@ fn holds(place: &mut MemPlace, alloc: Global, step: Step) -> bool {
     }
 }
 
-/// The place of the first step that does not answer what it is to, of steps on a new place.
-pub(crate) fn first_missed(alloc: Global, steps: &[Step]) -> Option<usize> {
-    let mut place = MemPlace::new(alloc);
+/// The place of the first step that does not answer what it is to, of steps on this place.
+fn first_missed_at(place: &mut MemPlace, alloc: Global, steps: &[Step]) -> Option<usize> {
     for (at, step) in steps.iter().enumerate() {
-        if !holds(&mut place, alloc, *step) {
+        if !holds(place, alloc, *step) {
             return Some(at);
         }
     }
     None
+}
+
+/// The place of the first step that does not answer what it is to, of steps on a new place.
+pub(crate) fn first_missed(alloc: Global, steps: &[Step]) -> Option<usize> {
+    let mut place = MemPlace::new(alloc);
+    first_missed_at(&mut place, alloc, steps)
 }
