@@ -1,19 +1,14 @@
 -- What a run opens.
-use Rattle.std.specs.Prelude.{◌≡◌, ℕ, List, [], Option, None}
+use Rattle.std.specs.Prelude.{◌≡◌, ℕ, List, []}
 use Rattle.std.specs.List.{AllZip}
 use Rattle.cube_view.specs.declared.schema.Schema.{Schema}
 use Rattle.feed_queue.specs.Ends.{DrawState, FeedState, draw_state, new_feeds}
 use Rattle.logbook.specs.Pages.{Book}
 use Rattle.mailbox.specs.Ends.{InEnd, OutEnd, mail_in, mail_out}
-use Rattle.published_pair.specs.Rules.{Known}
 
 -- the ends are those of a new lane for so many feeds under the schema
 abbrev pub IsNewLane : Schema → ℕ → List FeedState → DrawState → Type 0
 IsNewLane schema feeds ends draws = (ends ≡ new_feeds draws.lane schema feeds) × (draws ≡ draw_state draws.lane schema feeds [])
-
--- what a new viewer of that schema is: it was shown this list and has learned no other, and no last one
-abbrev pub IsNewViewer : Schema → Known → Schema → Known → Known → Option Known → Type 0
-IsNewViewer schema front its_schema shown learned last = (its_schema ≡ schema) × (shown ≡ front) × (learned ≡ front) × (last ≡ None)
 
 -- the two ends are those of one new mailbox of the pair
 abbrev pub IsMail : Book → InEnd → OutEnd → Type 0

@@ -1,7 +1,8 @@
 //! What a run opens: a lane with an end for each feeder, a pair with a viewer for each session, and their mailboxes.
 ghost use Rattle.std.specs.Prelude.{◌≡◌, ◌≤◌, ◌+◌, [], All, IfOk, vec_len};
 ghost use Rattle.cube_crew.specs.Begins.{AreEmptyViews};
-ghost use Rattle.cube_crew.specs.Opened.{AreMails, IsNewLane, IsNewViewer, IsUntaken};
+ghost use Rattle.cube_crew.specs.Opened.{AreMails, IsNewLane, IsUntaken};
+ghost use Rattle.published_pair.specs.Pair.{IsNewViewer};
 
 use crate::rooms::first_refusals;
 use crew_feeder::FirstRefusals;

@@ -3,7 +3,8 @@ ghost use Rattle.std.specs.Prelude.{◌≡◌, ◌≤◌, ◌+◌, [], All, IfOk
 ghost use Rattle.cube_crew.specs.Begins.{AreEmptyViews, MayRun};
 ghost use Rattle.cube_crew.specs.Crewed.{IsCrewed};
 ghost use Rattle.cube_crew.specs.Ending.{EndsRun, IsRun};
-ghost use Rattle.cube_crew.specs.Opened.{AreMails, IsNewLane, IsNewViewer, IsUntaken};
+ghost use Rattle.cube_crew.specs.Opened.{AreMails, IsNewLane, IsUntaken};
+ghost use Rattle.published_pair.specs.Pair.{IsNewViewer};
 
 use crate::ending::{Answered, end_sessions};
 use crate::feeds::{end_feeds, seat_feeds};

@@ -3,9 +3,8 @@ ghost use Rattle.std.specs.Prelude.{◌≡◌, ◌≤◌, ◌+◌, [], map, leng
 ghost use Rattle.std.specs.List.{AllZip};
 ghost use Rattle.crew_session.specs.Leaves.{LeavesSession};
 ghost use Rattle.crew_session.specs.Work.{HadNoTurn, done_of};
-ghost use Rattle.cube_crew.specs.Opened.{IsNewViewer};
 ghost use Rattle.cube_crew.specs.Works.{HasLearned, session_works_of};
-ghost use Rattle.published_pair.specs.Pair.{Fresh};
+ghost use Rattle.published_pair.specs.Pair.{Fresh, IsNewViewer};
 
 use crew_session::{SessionDone, SessionWork};
 use cube_view::Grow;

@@ -1,5 +1,5 @@
 -- What a pair keeps.
-use Rattle.std.specs.Prelude.{◌≡◌, ℕ, Bool, if◌then◌else◌, ◌+◌, ◌&&◌, nat_le, List, ◌++◌, length, fold, Option, Some, IfSome}
+use Rattle.std.specs.Prelude.{◌≡◌, ℕ, Bool, if◌then◌else◌, ◌+◌, ◌&&◌, nat_le, List, ◌++◌, length, fold, Option, Some, None, IfSome}
 use Rattle.std.specs.List.{list_all}
 use mathlib.Core.Option.{some}
 use lib.ListN.{get_elem?}
@@ -57,17 +57,25 @@ pub record Sees (v : Option Names) (h : List Point) (f : Known) (z : Schema) (w 
   -- from now on it has seen the copy's list
   pub after : w ≡ Some (names f.book z h)
 
+-- once a copy that stands at s has taken in what was sent, it counts the noted list, and stands at it
+abbrev pub Pends : Standing → List Sent → Schema → Known → Type 0
+Pends s sent z noted = fold absorbed s sent ≡ standing noted.points noted z
+
 -- What a publisher has sent to its copies before it shows it: s is what the copy that is shown stands at, and viewers are to
 -- be shown the noted list in place of the published one
 pub record HasSent (s : Standing) (sent : List Sent) (z : Schema) (published noted : Known) : Type 0 where
   -- the copy that is shown counts the published list, and stands at it
   pub shown : s ≡ standing published.points published z
   -- once it has taken in what was sent, it counts the noted list, and stands at it
-  pub pends : fold absorbed s sent ≡ standing noted.points noted z
+  pub pends : Pends s sent z noted
   -- both lists are of one pair
   pub book : noted.book ≡ published.book
   -- what viewers are shown is a prefix of what is noted
   pub within : IsPrefix published.points noted.points
+
+-- what a new viewer of that schema is: it was shown this list and has learned no other, and no last one
+abbrev pub IsNewViewer : Schema → Known → Schema → Known → Known → Option Known → Type 0
+IsNewViewer schema front its_schema shown learned last = (its_schema ≡ schema) × (shown ≡ front) × (learned ≡ front) × (last ≡ None)
 
 -- the list is fresh for a viewer that was shown and told these lists last: both, and so all before, are prefixes of it
 abbrev pub Fresh : List Point → List Point → List Point → Type 0

@@ -1,9 +1,9 @@
 //! How a pair is opened.
-ghost use Rattle.std.specs.Prelude.{◌≡◌, ◌≤◌, ◌≢◌, ◌<◌, [], ◌∷◌, drop, length, All, Some, None, IfOk};
+ghost use Rattle.std.specs.Prelude.{◌≡◌, ◌≤◌, ◌≢◌, ◌<◌, [], ◌∷◌, drop, length, All, Some, IfOk};
 ghost use Rattle.cube_view.specs.Bag.{Counts};
 ghost use Rattle.left_right.specs.Sides.{view};
 ghost use Rattle.published_pair.specs.Rules.{first_word_of};
-ghost use Rattle.published_pair.specs.Pair.{names};
+ghost use Rattle.published_pair.specs.Pair.{names, IsNewViewer};
 
 use crate::book::{Front, open_book};
 use crate::looks::Looks;
@@ -26,8 +26,9 @@ fn make_viewer<V: Grow>(
     looks: &Arc<Looks>,
 ) -> Result<Viewer<V>, NoMemory>
     requires { view writer.old.desk.place ≡ Some (names front.now.book schema.now front.now.points) }
-    ensures writer { (writer.new.desk.shown ≡ writer.old.desk.shown) × (writer.new.log ≡ writer.old.log) × (writer.new.behind ≡ writer.old.behind) × (view writer.new.desk.place ≡ view writer.old.desk.place) }
-    ensures viewer { IfOk result (λ v. (v.schema ≡ schema.now) × (v.shown ≡ front.now) × (v.learned ≡ front.now) × (v.last ≡ None)) }
+    ensures writer { (writer.new.desk.shown ≡ writer.old.desk.shown) × (writer.new.log ≡ writer.old.log) × (writer.new.behind ≡ writer.old.behind) }
+    ensures named { view writer.new.desk.place ≡ view writer.old.desk.place }
+    ensures viewer { IfOk result (λ v. IsNewViewer schema.now front.now v.schema v.shown v.learned v.last) }
 {
     let schema = schema.copy(alloc)?;
     let Ok(looks) = Arc::try_clone(looks) else {
@@ -56,8 +57,9 @@ fn make_viewers<V: Grow>(
     viewers: u32,
 ) -> Result<List<Viewer<V>>, NoMemory>
     requires { view writer.old.desk.place ≡ Some (names front.now.book schema.now front.now.points) }
-    ensures writer { (writer.new.desk.shown ≡ writer.old.desk.shown) × (writer.new.log ≡ writer.old.log) × (writer.new.behind ≡ writer.old.behind) × (view writer.new.desk.place ≡ view writer.old.desk.place) }
-    ensures viewers { IfOk result (λ vs. (length vs ≡ viewers) × All (λ v. (v.schema ≡ schema.now) × (v.shown ≡ front.now) × (v.learned ≡ front.now) × (v.last ≡ None)) vs) }
+    ensures writer { (writer.new.desk.shown ≡ writer.old.desk.shown) × (writer.new.log ≡ writer.old.log) × (writer.new.behind ≡ writer.old.behind) }
+    ensures named { view writer.new.desk.place ≡ view writer.old.desk.place }
+    ensures viewers { IfOk result (λ vs. (length vs ≡ viewers) × All (λ v. IsNewViewer schema.now front.now v.schema v.shown v.learned v.last) vs) }
 {
     let mut all = List::new(alloc);
     for _ in 0..viewers {
@@ -91,7 +93,7 @@ pub fn open<V: Grow, R: Wait>(
     requires schema { V.schema again ≡ V.schema first }
     requires few { viewers ≤ 16 }
     ensures publisher { IfOk result (λ t. (t.0.published.points ≡ []) × (t.0.appended.items ≡ []) × (t.0.schema ≡ V.schema first) × (t.0.viewers ≡ viewers)) }
-    ensures viewers { IfOk result (λ t. (length t.1 ≡ viewers) × All (λ v. (v.schema ≡ V.schema first) × (v.shown ≡ t.0.published) × (v.learned ≡ t.0.published) × (v.last ≡ None)) t.1) }
+    ensures viewers { IfOk result (λ t. (length t.1 ≡ viewers) × All (λ v. IsNewViewer (V.schema first) t.0.published v.schema v.shown v.learned v.last) t.1) }
 {
     let looks = Looks::open(alloc)?;
     let schema = first.schema().copy(alloc)?;

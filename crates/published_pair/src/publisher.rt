@@ -5,7 +5,7 @@ ghost use Rattle.cube_view.specs.Validity.{sound};
 ghost use Rattle.left_right.specs.Sides.{view};
 ghost use Rattle.world_core.specs.PairFact.{IsPrefix};
 ghost use Rattle.published_pair.specs.Rules.{first_word_of};
-ghost use Rattle.published_pair.specs.Pair.{HasSent, standing, absorbed, names};
+ghost use Rattle.published_pair.specs.Pair.{HasSent, Pends, standing, names};
 
 use crate::book::{Front, Head};
 use crate::looks::Looks;
@@ -85,11 +85,13 @@ pub(crate) fn show<V: Grow, R: Wait>(
     published: &Front,
     noted: &Front,
 ) -> (PairWriter<V>, Result<(), NoMemory>)
-    requires { let x = writer.desk.shown.value in HasSent (standing x.history.items x.front (V.schema x.view)) (drop writer.behind writer.log.items) schema.now published.now noted.now }
-    ensures shown { OnOk result.1 (let x = result.0.desk.shown.value in standing x.history.items x.front (V.schema x.view) ≡ standing noted.now.points noted.now schema.now) }
+    requires { HasSent (⟦<Stand<V> as Absorb<Sent>>⟧.state writer.desk.shown.value) (drop writer.behind writer.log.items) schema.now published.now noted.now }
+    ensures shown { OnOk result.1 (⟦<Stand<V> as Absorb<Sent>>⟧.state result.0.desk.shown.value ≡ standing noted.now.points noted.now schema.now) }
     ensures pends { OnOk result.1 (drop result.0.behind result.0.log.items ≡ []) }
     ensures named { OnOk result.1 (view result.0.desk.place ≡ Some (names noted.now.book schema.now noted.now.points)) }
-    ensures unchanged { OnErr result.1 ((result.0.desk.shown.value ≡ writer.desk.shown.value) × (drop result.0.behind result.0.log.items ≡ drop writer.behind writer.log.items) × (view result.0.desk.place ≡ view writer.desk.place)) }
+    ensures unchanged { OnErr result.1 (result.0.desk.shown.value ≡ writer.desk.shown.value) }
+    ensures still_pends { OnErr result.1 (drop result.0.behind result.0.log.items ≡ drop writer.behind writer.log.items) }
+    ensures still_named { OnErr result.1 (view result.0.desk.place ≡ view writer.desk.place) }
 {
     let (after, outcome) = writer.publish_as::<Look<V>, R>(rt);
     match outcome {
@@ -117,11 +119,12 @@ impl<V: Grow> PublisherOf<Of<V>> {
     // Sends the copies all that was appended since, as one operation, notes it as published, and sends them the list that
     // they then stand at.
     pub(crate) fn note<R: Wait>(&mut self, rt: &R) -> Result<(), NoMemory>
-        ensures sent { OnOk result (let x = self.new.writer.desk.shown.value in fold absorbed (standing x.history.items x.front (V.schema x.view)) (drop self.new.writer.behind self.new.writer.log.items) ≡ standing self.new.noted.points self.new.noted self.new.schema) }
+        ensures sent { OnOk result (let w = self.new.writer in Pends (⟦<Stand<V> as Absorb<Sent>>⟧.state w.desk.shown.value) (drop w.behind w.log.items) self.new.schema self.new.noted) }
         ensures noted { OnOk result (self.new.noted.points ≡ self.new.appended.items) }
         ensures within { IsPrefix self.new.published.points self.new.noted.points }
         ensures book { self.new.noted.book ≡ self.new.published.book }
-        ensures same { (self.new.published ≡ self.old.published) × (self.new.appended ≡ self.old.appended) × (self.new.schema ≡ self.old.schema) × (self.new.viewers ≡ self.old.viewers) }
+        ensures same { (self.new.published ≡ self.old.published) × (self.new.appended ≡ self.old.appended) }
+        ensures pair { (self.new.schema ≡ self.old.schema) × (self.new.viewers ≡ self.old.viewers) }
     {
         let size = self.since.len() as u64;
         let batch = GhostList::new().with_all(self.since.as_slice());

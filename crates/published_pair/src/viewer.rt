@@ -1,5 +1,5 @@
 //! The ends that look.
-ghost use Rattle.std.specs.Prelude.{◌≡◌, ◌≤◌, ◌<◌, length, max, ◌∷◌, [], Some, IfSome, IsSome, MatchResult};
+ghost use Rattle.std.specs.Prelude.{◌≡◌, ◌≤◌, ◌<◌, length, max, ◌∷◌, [], Some, IfSome, IfOk, IfErr, IsSome, MatchResult};
 ghost use Rattle.std.proofs.Props.{props};
 ghost use Rattle.cube_view.specs.Bag.{Counts};
 ghost use Rattle.left_right.specs.Sides.{view};
@@ -61,10 +61,9 @@ fn cover(last: &Option<Whole>, front: &Front)
 impl<V: Grow> Viewer<V> {
     // Enters once. The viewer comes back where the publisher is gone, or where it learned of more than the copy has.
     fn enter(self) -> Result<Shown<V>, Viewer<V>>
-        ensures shown { MatchResult result (λ s. IsPrefix self.shown.points s.shown.points × IsPrefix self.learned.points s.shown.points) (λ v. IsPrefix self.shown.points v.shown.points) }
-        ensures same { MatchResult result
-            (λ s. (s.shown.book ≡ self.shown.book) × (s.learned ≡ self.learned) × (s.last ≡ self.last) × (s.schema ≡ self.schema))
-            (λ v. (v.shown.book ≡ self.shown.book) × (v.learned ≡ self.learned) × (v.last ≡ self.last) × (v.schema ≡ self.schema)) }
+        ensures shown { MatchResult result (λ s. Fresh self.shown.points self.learned.points s.shown.points) (λ v. IsPrefix self.shown.points v.shown.points) }
+        ensures same { IfOk result (λ s. (s.shown.book ≡ self.shown.book) × (s.learned ≡ self.learned) × (s.last ≡ self.last) × (s.schema ≡ self.schema)) }
+        ensures back { IfErr result (λ v. (v.shown.book ≡ self.shown.book) × (v.learned ≡ self.learned) × (v.last ≡ self.last) × (v.schema ≡ self.schema)) }
     {
         let Viewer {
             reader,

@@ -13,7 +13,7 @@ loop-preserved g c =
       shown = made.0 ∙ c.loop.invariant.shown;
       log = made.1 ∙ c.loop.invariant.log;
       behind = made.2 ∙ c.loop.invariant.behind;
-      named = made.3 ∙ c.loop.invariant.named;
+      named = c.make_viewer.ensures.named ∙ c.loop.invariant.named;
       count = ap length longer ∙ (length-append c.loop.all (c.in_ok-viewer.viewer ∷ []) ∙ ap (λ n. n + 1) c.loop.invariant.count);
       each = λ k d h. pushed c.loop.all c.in_ok-viewer.viewer c.add.new.self longer (λ v. v.schema) (λ v. v.shown) (λ v. v.learned) (λ v. v.last) _ _ _ _ c.loop.invariant.each c.in_ok-viewer.ensures.viewer k d h;
     }
