@@ -3,8 +3,7 @@
        live_times.py memory PROGRAM.. [--counts 3600,100000,1000000] [--records city]
        live_times.py city PROGRAM.. [--counts 1000000] [--batches 64] [--rounds 3] [--processors 4,2] [--pipes]
 
-Times live runs over pipes, of each PROGRAM in turn, so that the figures of one run of this script compare with each other. With
-`--yields LIBRARY`, which is `bench/yields.c` as a shared library, each PROGRAM is run a second time with it, so that no wait sleeps.
+Times live runs over pipes, of each PROGRAM in turn, so that the figures of one run of this script compare with each other.
 
 idle: the share of a processor that a run takes whose feeds and asks are open and silent for S seconds (10).
 latency: from a record written to the reply that counts it, while other records come from a feed of their own at each rate and the
@@ -310,16 +309,22 @@ def numbers(text):
     return [int(word) for word in text.split(",")]
 
 
-def yielding(program, library, folder):
-    """A program that is this one with the library loaded before it."""
-    path = os.path.join(folder, f"{os.path.basename(program)}-that-yields")
-    with open(path, "w") as it:
-        it.write(f'#!/bin/sh\nLD_PRELOAD={os.path.abspath(library)} exec {program} "$@"\n')
-    os.chmod(path, 0o755)
-    return path
-
-
-def measure(given, programs):
+def main():
+    words = argparse.ArgumentParser(description=__doc__, formatter_class=argparse.RawDescriptionHelpFormatter)
+    words.add_argument("what", choices=["idle", "latency", "memory", "city"])
+    words.add_argument("programs", nargs="+", metavar="PROGRAM")
+    words.add_argument("--seconds", type=float, default=10)
+    words.add_argument("--batches", type=numbers)
+    words.add_argument("--rates", type=numbers, default=[1, 10_000, 100_000])
+    words.add_argument("--asks", type=numbers, default=[1, 8])
+    words.add_argument("--counts", type=numbers)
+    words.add_argument("--records", choices=["town", "city"], default="town")
+    words.add_argument("--rounds", type=int, default=3)
+    words.add_argument("--processors", type=numbers, default=[4, 2])
+    words.add_argument("--pipes", action="store_true")
+    given = words.parse_args()
+    signal.signal(signal.SIGPIPE, signal.SIG_IGN)
+    programs = [os.path.abspath(program) for program in given.programs]
     if given.what == "city":
         for batch in given.batches or [64]:
             city(programs, (given.counts or [1_000_000])[0], batch, given.rounds, given.processors, given.pipes)
@@ -336,29 +341,6 @@ def measure(given, programs):
                 for asks in given.asks:
                     for program in programs:
                         latency(program, given.records, batch, rate, asks, given.seconds)
-
-
-def main():
-    words = argparse.ArgumentParser(description=__doc__, formatter_class=argparse.RawDescriptionHelpFormatter)
-    words.add_argument("what", choices=["idle", "latency", "memory", "city"])
-    words.add_argument("programs", nargs="+", metavar="PROGRAM")
-    words.add_argument("--seconds", type=float, default=10)
-    words.add_argument("--batches", type=numbers)
-    words.add_argument("--rates", type=numbers, default=[1, 10_000, 100_000])
-    words.add_argument("--asks", type=numbers, default=[1, 8])
-    words.add_argument("--counts", type=numbers)
-    words.add_argument("--records", choices=["town", "city"], default="town")
-    words.add_argument("--rounds", type=int, default=3)
-    words.add_argument("--processors", type=numbers, default=[4, 2])
-    words.add_argument("--pipes", action="store_true")
-    words.add_argument("--yields", metavar="LIBRARY")
-    given = words.parse_args()
-    signal.signal(signal.SIGPIPE, signal.SIG_IGN)
-    programs = [os.path.abspath(program) for program in given.programs]
-    with tempfile.TemporaryDirectory() as folder:
-        if given.yields:
-            programs = [it for program in programs for it in (program, yielding(program, given.yields, folder))]
-        measure(given, programs)
 
 
 if __name__ == "__main__":
