@@ -1,5 +1,5 @@
 -- The window of the tests, which is one of its schema.
-use Rattle.std.proofs.Common.{◌≡◌, ◌^◌, IsTrue, [], ◌∷◌, refl, sym, subst}
+use Rattle.std.proofs.Common.{◌≡◌, ◌^◌, IsTrue, refl, sym, subst}
 use Rattle.cube_view.specs.declared.schema.Schema.{Schema}
 use Rattle.example_schemas.specs.Examples.{kinds}
 use Rattle.query_syntax.specs.Queries.{is_valid_query}
@@ -7,12 +7,12 @@ use Rattle.query_syntax.specs.Verbs.{is_window}
 use Rattle.query_syntax.specs.declared.query.Choice.TheVariants.{All}
 use Rattle.query_syntax.specs.declared.query.Query.{Query}
 use Rattle.query_syntax.specs.declared.query.Span.{Span}
-use Rattle.query_syntax.specs.declared.query.Verb.TheVariants.{Window}
 use Rattle.query_syntax.specs.declared.rect.Rect.{Rect}
+use Rattle.table_callers.specs.Windows.{window_query}
 
 -- the window of all records in a span
 abbrev pub window_in : Span → Rect → Query
-window_in time rect = record { verb = Window rect; region = record { z = 0; x = 0; y = 0 }; sets = All ∷ All ∷ All ∷ All ∷ []; time = time }
+window_in time rect = window_query All time rect
 
 -- that of all columns but the first
 abbrev pub but_first : Query

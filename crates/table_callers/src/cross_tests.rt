@@ -1,6 +1,7 @@
 //! Cross tables and best tiles over plain cubes, against rows that were counted by hand.
-ghost use Rattle.std.specs.Prelude.{◌≡◌};
+ghost use Rattle.std.specs.Prelude.{◌≡◌, IsTrue};
 ghost use Rattle.probe_core.specs.Blanks.{IsBlankOf};
+ghost use Rattle.cross_table.specs.Verbs.{is_best};
 
 use cross_table::{best_answer, cross_answer};
 use cube_view::{CubeView, Point, Tile};
@@ -31,80 +32,74 @@ fn query_of(verb: Verb, region: Tile, sets: [Choice; 4]) -> Query
     }
 }
 
-/// A row of a cross table as the tests write it, each value by its one letter.
-#[derive(Clone, Copy)]
-struct WantedRow {
-    first: u8,
-    second: u8,
-    total: u64,
-}
+/// Two values, each by its one letter, and their total.
+type Row = (u8, u8, u64);
 
-fn row(first: u8, second: u8, total: u64) -> WantedRow {
-    WantedRow {
-        first,
-        second,
-        total,
-    }
-}
-
-fn is_row(row: &RowOut, want: &WantedRow) -> bool {
+fn is_row(row: &RowOut, want: &Row) -> bool {
     match row {
         RowOut::Pair(first, second, total) => {
-            first.as_str().as_bytes() == [want.first].as_slice()
-                && second.as_str().as_bytes() == [want.second].as_slice()
-                && *total == want.total
+            first.as_str().as_bytes() == [want.0].as_slice()
+                && second.as_str().as_bytes() == [want.1].as_slice()
+                && *total == want.2
         }
         _ => false,
     }
 }
 
-/// Sets of values, the two categories, and the rows.
-#[derive(Drop)]
-struct Cross<'a> {
-    of_first: Choice,
-    of_second: Choice,
-    first: u8,
-    second: u8,
-    rows: &'a [WantedRow],
+fn are_rows(rows: &[RowOut], wanted: &[Row]) -> bool {
+    for (row, want) in rows.iter().zip(wanted) {
+        if !is_row(row, want) {
+            return false;
+        }
+    }
+    rows.len() == wanted.len()
 }
 
-/// The table of all records.
-fn of_all<'a>(first: u8, second: u8, rows: &'a [WantedRow]) -> Cross<'a> {
-    Cross {
-        of_first: Choice::All,
-        of_second: Choice::All,
-        first,
-        second,
-        rows,
+/// The one value that is asked for, if not all are.
+fn choice_of(only: Option<u8>) -> Choice {
+    match only {
+        Some(value) => Choice::Only(ValueSet::one(value)),
+        None => Choice::All,
     }
 }
 
-fn check_rows(rt: &impl Abort, rows: &[RowOut], wanted: &[WantedRow]) {
-    assert_eq!(rt; rows.len(), wanted.len());
-    for (found, want) in rows.iter().zip(wanted) {
-        assert!(rt; is_row(found, want));
+/// The one value of the second category that is asked for, if any, the two categories, and the rows.
+type Cross = (Option<u8>, u8, u8, &'static [Row]);
+
+/// Whether the cross table has these rows.
+fn has_rows<L: Ledger>(
+    alloc: Global,
+    cube: &PlainCube,
+    case: &Cross,
+    steps: &mut Steps<L>,
+) -> bool {
+    let sets = [Choice::All, choice_of(case.0), Choice::All, Choice::All];
+    let query = query_of(Verb::Cross(case.1, case.2), tile(0, 0, 0), sets);
+    if !is_valid_query(cube.schema(), &query) {
+        return false;
+    }
+    match cross_answer(alloc, cube, &query, steps) {
+        Ok(table) => table.seen == cube.seen() && are_rows(table.rows.as_slice(), case.3),
+        Err(NoMemory) => false,
     }
 }
 
-fn check_cross_in<L: Ledger>(
-    rt: &impl Abort,
+/// The place of the first case that has other rows.
+fn first_missed_cross<L: Ledger>(
     alloc: Global,
     cube: &PlainCube,
     cases: &[Cross],
     blank: Blank,
-) -> Result<(), NoMemory>
+) -> Option<usize>
     requires { IsBlankOf L.name L.parts blank }
 {
     let mut steps = Steps::<L>::new(blank);
-    for case in cases {
-        let sets = [case.of_first, case.of_second, Choice::All, Choice::All];
-        let query = query_of(Verb::Cross(case.first, case.second), tile(0, 0, 0), sets);
-        assert!(rt; is_valid_query(cube.schema(), &query));
-        let table = cross_answer(alloc, cube, &query, &mut steps)?;
-        assert_eq!(rt; table.seen, cube.seen());
-        check_rows(rt, table.rows.as_slice(), case.rows);
+    for (at, case) in cases.iter().enumerate() {
+        if !has_rows(alloc, cube, case, &mut steps) {
+            return Some(at);
+        }
     }
-    Ok(())
+    None
 }
 
 fn check_cross(
@@ -114,47 +109,71 @@ fn check_cross(
     cases: &[Cross],
 ) -> Result<(), Fail> {
     let cube = cube_of(alloc, schema_of_two_categories(alloc)?, points)?;
-    check_cross_in::<Brand>(rt, alloc, &cube, cases, Blank::new(1))?;
+    let missed = first_missed_cross::<Brand>(alloc, &cube, cases, Blank::new(1));
+    assert_eq!(rt; missed, None);
     Ok(())
 }
+
+const EACH_WITH_EACH: [Cross; 2] = [
+    (
+        None,
+        0,
+        1,
+        &[
+            (b'a', b'c', 2),
+            (b'a', b'd', 1),
+            (b'b', b'c', 0),
+            (b'b', b'd', 0),
+        ],
+    ),
+    (
+        None,
+        1,
+        0,
+        &[
+            (b'c', b'a', 2),
+            (b'c', b'b', 0),
+            (b'd', b'a', 1),
+            (b'd', b'b', 0),
+        ],
+    ),
+];
 
 #[test]
 fn crosses_each_value_with_each(rt: HostRuntime) -> Result<(), Fail> {
     let points = [of_values(0, 0), of_values(0, 0), of_values(0, 1)];
-    let rows = [
-        row(b'a', b'c', 2),
-        row(b'a', b'd', 1),
-        row(b'b', b'c', 0),
-        row(b'b', b'd', 0),
-    ];
-    let other_way = [
-        row(b'c', b'a', 2),
-        row(b'c', b'b', 0),
-        row(b'd', b'a', 1),
-        row(b'd', b'b', 0),
-    ];
-    let cases = [of_all(0, 1, &rows), of_all(1, 0, &other_way)];
-    check_cross(&rt, rt.alloc(), &points, &cases)
+    check_cross(&rt, rt.alloc(), &points, &EACH_WITH_EACH)
 }
+
+const ONLY_D: Cross = (
+    Some(1),
+    0,
+    1,
+    &[
+        (b'a', b'c', 0),
+        (b'a', b'd', 1),
+        (b'b', b'c', 0),
+        (b'b', b'd', 0),
+    ],
+);
 
 #[test]
 fn keeps_the_rows_that_an_item_empties(rt: HostRuntime) -> Result<(), Fail> {
     let points = [of_values(0, 0), of_values(0, 0), of_values(0, 1)];
-    let rows = [
-        row(b'a', b'c', 0),
-        row(b'a', b'd', 1),
-        row(b'b', b'c', 0),
-        row(b'b', b'd', 0),
-    ];
-    let only_d = Cross {
-        of_first: Choice::All,
-        of_second: Choice::Only(ValueSet::one(1)),
-        first: 0,
-        second: 1,
-        rows: &rows,
-    };
-    check_cross(&rt, rt.alloc(), &points, &[only_d])
+    check_cross(&rt, rt.alloc(), &points, &[ONLY_D])
 }
+
+const WEIGHTS: Cross = (
+    None,
+    0,
+    1,
+    &[
+        (b'a', b'c', 5),
+        (b'a', b'd', 0),
+        (b'b', b'c', 0),
+        (b'b', b'd', 268_435_457),
+    ],
+);
 
 #[test]
 fn a_cross_table_adds_up_weights(rt: HostRuntime) -> Result<(), Fail> {
@@ -163,109 +182,149 @@ fn a_cross_table_adds_up_weights(rt: HostRuntime) -> Result<(), Fail> {
         weighing(of_values(1, 1), 2),
         weighing(of_values(1, 1), 268_435_455),
     ];
-    let rows = [
-        row(b'a', b'c', 5),
-        row(b'a', b'd', 0),
-        row(b'b', b'c', 0),
-        row(b'b', b'd', 268_435_457),
-    ];
-    check_cross(&rt, rt.alloc(), &points, &[of_all(0, 1, &rows)])
+    check_cross(&rt, rt.alloc(), &points, &[WEIGHTS])
 }
+
+const OF_NO_POINTS: Cross = (
+    None,
+    0,
+    1,
+    &[
+        (b'a', b'c', 0),
+        (b'a', b'd', 0),
+        (b'b', b'c', 0),
+        (b'b', b'd', 0),
+    ],
+);
 
 #[test]
 fn a_cross_table_of_no_points_has_all_rows(rt: HostRuntime) -> Result<(), Fail> {
-    let rows = [
-        row(b'a', b'c', 0),
-        row(b'a', b'd', 0),
-        row(b'b', b'c', 0),
-        row(b'b', b'd', 0),
-    ];
-    check_cross(&rt, rt.alloc(), &[], &[of_all(0, 1, &rows)])
+    check_cross(&rt, rt.alloc(), &[], &[OF_NO_POINTS])
 }
 
-/// A region and the kinds, how many levels down and how many rows, and the rows.
-#[derive(Drop)]
-struct BestCase<'a> {
-    region: Tile,
-    kind: Choice,
-    levels: u8,
-    rows: u32,
-    tiles: &'a [(Tile, u64)],
-}
+/// A tile as the tests write it: its level, column and row.
+type Place = (u8, u32, u32);
 
-/// The best tiles of all records.
-fn best<'a>(levels: u8, rows: u32, tiles: &'a [(Tile, u64)]) -> BestCase<'a> {
-    BestCase {
-        region: tile(0, 0, 0),
-        kind: Choice::All,
-        levels,
-        rows,
-        tiles,
-    }
-}
+/// A tile and its total.
+type Area = (Place, u64);
 
-fn is_area(row: &RowOut, want: &(Tile, u64)) -> bool {
+fn is_area(row: &RowOut, want: &Area) -> bool {
+    let ((z, x, y), wanted) = *want;
     match row {
-        RowOut::Area(tile, total) => *tile == want.0 && *total == want.1,
+        RowOut::Area(found, total) => *found == tile(z, x, y) && *total == wanted,
         _ => false,
     }
 }
 
-fn check_best_in<L: Ledger>(
-    rt: &impl Abort,
+fn are_areas(rows: &[RowOut], wanted: &[Area]) -> bool {
+    for (row, want) in rows.iter().zip(wanted) {
+        if !is_area(row, want) {
+            return false;
+        }
+    }
+    rows.len() == wanted.len()
+}
+
+/// A region, the one kind that is asked for, if any, how many levels down and how many rows, and the rows.
+type Best = (Place, Option<u8>, u8, u32, &'static [Area]);
+
+/// The query of a case.
+fn best_query(case: &Best) -> Query
+    ensures { IsTrue (is_best result.verb) }
+{
+    let (z, x, y) = case.0;
+    let sets = [choice_of(case.1), Choice::All, Choice::All, Choice::All];
+    let best = Verb::Best {
+        depth: case.2,
+        rows: case.3,
+    };
+    query_of(best, tile(z, x, y), sets)
+}
+
+/// Whether the best tiles are these.
+fn has_areas<L: Ledger>(
     alloc: Global,
     cube: &PlainCube,
-    cases: &[BestCase],
+    case: &Best,
+    steps: &mut Steps<L>,
+) -> bool {
+    let query = best_query(case);
+    if !is_valid_query(cube.schema(), &query) {
+        return false;
+    }
+    match best_answer(alloc, cube, &query, steps) {
+        Ok(table) => table.seen == cube.seen() && are_areas(table.rows.as_slice(), case.4),
+        Err(NoMemory) => false,
+    }
+}
+
+/// The place of the first case that has other rows.
+fn first_missed_best<L: Ledger>(
+    alloc: Global,
+    cube: &PlainCube,
+    cases: &[Best],
     blank: Blank,
-) -> Result<(), NoMemory>
+) -> Option<usize>
     requires { IsBlankOf L.name L.parts blank }
 {
     let mut steps = Steps::<L>::new(blank);
-    for case in cases {
-        let sets = [case.kind, Choice::All, Choice::All, Choice::All];
-        let best = Verb::Best {
-            depth: case.levels,
-            rows: case.rows,
-        };
-        let query = query_of(best, case.region, sets);
-        assert!(rt; is_valid_query(cube.schema(), &query));
-        let table = best_answer(alloc, cube, &query, &mut steps)?;
-        assert_eq!(rt; table.seen, cube.seen());
-        assert_eq!(rt; table.rows.len(), case.tiles.len());
-        for (found, want) in table.rows.as_slice().iter().zip(case.tiles) {
-            assert!(rt; is_area(found, want));
+    for (at, case) in cases.iter().enumerate() {
+        if !has_areas(alloc, cube, case, &mut steps) {
+            return Some(at);
         }
     }
-    Ok(())
+    None
 }
 
 fn check_best(
     rt: &impl Abort,
     alloc: Global,
     points: &[Point],
-    cases: &[BestCase],
+    cases: &[Best],
 ) -> Result<(), Fail> {
     let cube = cube_of(alloc, schema_of_kinds(alloc)?, points)?;
-    check_best_in::<Brand>(rt, alloc, &cube, cases, Blank::new(1))?;
+    let missed = first_missed_best::<Brand>(alloc, &cube, cases, Blank::new(1));
+    assert_eq!(rt; missed, None);
     Ok(())
 }
+
+const OF_MOST: [Best; 3] = [
+    ((0, 0, 0), None, 1, 1, &[((1, 0, 0), 2)]),
+    ((0, 0, 0), None, 3, 5, &[((3, 0, 0), 2), ((3, 7, 7), 1)]),
+    ((0, 0, 0), None, 0, 1, &[((0, 0, 0), 3)]),
+];
 
 #[test]
 fn the_best_tiles_are_those_of_most_records(rt: HostRuntime) -> Result<(), Fail> {
     let points = [point(0, 0, 0, 0), point(7, 7, 1, 1), point(0, 0, 0, 1)];
-    let quarter = [(tile(1, 0, 0), 2)];
-    let both = [(tile(3, 0, 0), 2), (tile(3, 7, 7), 1)];
-    let whole = [(tile(0, 0, 0), 3)];
-    let cases = [best(1, 1, &quarter), best(3, 5, &both), best(0, 1, &whole)];
-    check_best(&rt, rt.alloc(), &points, &cases)
+    check_best(&rt, rt.alloc(), &points, &OF_MOST)
 }
+
+const THE_EARLIER: [Best; 1] = [((0, 0, 0), None, 1, 1, &[((1, 0, 0), 1)])];
 
 #[test]
 fn of_two_equal_tiles_the_earlier_is_the_best_one(rt: HostRuntime) -> Result<(), Fail> {
     let points = [point(0, 0, 0, 0), point(7, 7, 1, 1)];
-    let earlier = [(tile(1, 0, 0), 1)];
-    check_best(&rt, rt.alloc(), &points, &[best(1, 1, &earlier)])
+    check_best(&rt, rt.alloc(), &points, &THE_EARLIER)
 }
+
+const IN_PATH_ORDER: [Best; 3] = [
+    ((0, 0, 0), None, 2, 2, &[((2, 3, 3), 2), ((2, 0, 1), 1)]),
+    (
+        (0, 0, 0),
+        None,
+        2,
+        3,
+        &[((2, 3, 3), 2), ((2, 0, 1), 1), ((2, 2, 0), 1)],
+    ),
+    (
+        (0, 0, 0),
+        None,
+        2,
+        1000,
+        &[((2, 3, 3), 2), ((2, 0, 1), 1), ((2, 2, 0), 1)],
+    ),
+];
 
 #[test]
 fn equal_tiles_stand_in_path_order(rt: HostRuntime) -> Result<(), Fail> {
@@ -275,11 +334,19 @@ fn equal_tiles_stand_in_path_order(rt: HostRuntime) -> Result<(), Fail> {
         point(0, 2, 0, 0),
         point(7, 7, 0, 0),
     ];
-    let two = [(tile(2, 3, 3), 2), (tile(2, 0, 1), 1)];
-    let all = [(tile(2, 3, 3), 2), (tile(2, 0, 1), 1), (tile(2, 2, 0), 1)];
-    let cases = [best(2, 2, &two), best(2, 3, &all), best(2, 1000, &all)];
-    check_best(&rt, rt.alloc(), &points, &cases)
+    check_best(&rt, rt.alloc(), &points, &IN_PATH_ORDER)
 }
+
+const OF_WEIGHTS: [Best; 2] = [
+    (
+        (0, 0, 0),
+        None,
+        1,
+        2,
+        &[((1, 1, 1), 268_435_455), ((1, 0, 1), 9)],
+    ),
+    ((0, 0, 0), None, 1, 1, &[((1, 1, 1), 268_435_455)]),
+];
 
 #[test]
 fn the_best_tiles_are_those_that_weigh_most(rt: HostRuntime) -> Result<(), Fail> {
@@ -288,11 +355,13 @@ fn the_best_tiles_are_those_that_weigh_most(rt: HostRuntime) -> Result<(), Fail>
         weighing(point(7, 7, 1, 1), 268_435_455),
         weighing(point(0, 7, 0, 1), 9),
     ];
-    let two = [(tile(1, 1, 1), 268_435_455), (tile(1, 0, 1), 9)];
-    let first = [(tile(1, 1, 1), 268_435_455)];
-    let cases = [best(1, 2, &two), best(1, 1, &first)];
-    check_best(&rt, rt.alloc(), &points, &cases)
+    check_best(&rt, rt.alloc(), &points, &OF_WEIGHTS)
 }
+
+const FILTERED: [Best; 2] = [
+    ((1, 0, 0), None, 2, 3, &[((3, 0, 0), 5)]),
+    ((0, 0, 0), Some(0), 1, 3, &[((1, 0, 1), 9), ((1, 0, 0), 5)]),
+];
 
 #[test]
 fn the_best_tiles_are_of_what_the_filters_ask_for(rt: HostRuntime) -> Result<(), Fail> {
@@ -301,28 +370,12 @@ fn the_best_tiles_are_of_what_the_filters_ask_for(rt: HostRuntime) -> Result<(),
         weighing(point(7, 7, 1, 1), 11),
         weighing(point(0, 7, 0, 1), 9),
     ];
-    let in_quarter = [(tile(3, 0, 0), 5)];
-    let of_kind = [(tile(1, 0, 1), 9), (tile(1, 0, 0), 5)];
-    let cases = [
-        BestCase {
-            region: tile(1, 0, 0),
-            kind: Choice::All,
-            levels: 2,
-            rows: 3,
-            tiles: &in_quarter,
-        },
-        BestCase {
-            region: tile(0, 0, 0),
-            kind: Choice::Only(ValueSet::one(0)),
-            levels: 1,
-            rows: 3,
-            tiles: &of_kind,
-        },
-    ];
-    check_best(&rt, rt.alloc(), &points, &cases)
+    check_best(&rt, rt.alloc(), &points, &FILTERED)
 }
+
+const NO_TILES: [Best; 1] = [((0, 0, 0), None, 2, 3, &[])];
 
 #[test]
 fn no_points_have_no_best_tiles(rt: HostRuntime) -> Result<(), Fail> {
-    check_best(&rt, rt.alloc(), &[], &[best(2, 3, &[])])
+    check_best(&rt, rt.alloc(), &[], &NO_TILES)
 }

@@ -2,7 +2,7 @@
 ghost use Rattle.std.specs.Prelude.{◌≡◌, ◌+◌, ◌≤◌};
 ghost use Rattle.probe_core.specs.Blanks.{IsBlankOf};
 
-use cube_view::{CubeView, Tile};
+use cube_view::{CubeView, Point, Tile};
 use example_cubes::{cube_of, of_all_records, three_records, tile, weighing};
 use example_schemas::{point, schema_of_kinds};
 use outer_io::NoMemory;
@@ -34,64 +34,100 @@ fn table_of_line<V: CubeView, L: Ledger>(
     }
 }
 
-/// A row as the tests write it.
+/// A row as the tests write it: a value by its one letter, a tile by its level, column and row.
 #[derive(Clone, Copy)]
 enum Row {
     One(u64),
     Value(u8, u64),
-    Area(Tile, u64),
+    Area(u8, u32, u32, u64),
     Bin(u64, u64),
 }
 
-/// Whether the row is as it is written; of a value by its one letter.
+/// Whether the row is as it is written.
 fn is_row(row: &RowOut, want: &Row) -> bool {
     match (row, want) {
         (RowOut::One(total), Row::One(other)) => total == other,
         (RowOut::Value(value, total), Row::Value(letter, other)) => {
             value.as_str().as_bytes() == [*letter].as_slice() && total == other
         }
-        (RowOut::Area(tile, total), Row::Area(place, other)) => tile == place && total == other,
+        (RowOut::Area(found, total), Row::Area(z, x, y, other)) => {
+            *found == tile(*z, *x, *y) && total == other
+        }
         (RowOut::Bin(first, total), Row::Bin(from, other)) => first == from && total == other,
         _ => false,
     }
 }
 
-fn check_in<L: Ledger>(
-    rt: &impl Abort,
+/// Whether the rows are as they are written.
+fn are_rows(rows: &[RowOut], wanted: &[Row]) -> bool {
+    for (row, want) in rows.iter().zip(wanted) {
+        if !is_row(row, want) {
+            return false;
+        }
+    }
+    rows.len() == wanted.len()
+}
+
+/// A line, and the rows of the table that it asks for.
+type Case = (&'static str, &'static [Row]);
+
+/// Whether the line asks for a table of so many points, with its rows.
+fn holds<L: Ledger>(
     alloc: Global,
     cube: &PlainCube,
     seen: u64,
-    tables: &[(&str, &[Row])],
+    case: &Case,
+    steps: &mut Steps<L>,
+) -> bool {
+    match table_of_line(alloc, cube, case.0, steps) {
+        Ok(Some(table)) => table.seen == seen && are_rows(table.rows.as_slice(), case.1),
+        _ => false,
+    }
+}
+
+/// The place of the first line whose table is another one.
+fn first_missed_in<L: Ledger>(
+    alloc: Global,
+    cube: &PlainCube,
+    seen: u64,
+    cases: &[Case],
     blank: Blank,
-) -> Result<(), NoMemory>
+) -> Option<usize>
     requires { IsBlankOf L.name L.parts blank }
 {
     let mut steps = Steps::<L>::new(blank);
-    for (line, rows) in tables {
-        let table = table_of_line(alloc, cube, line, &mut steps)?.expect(rt, "a table");
-        assert_eq!(rt; table.seen, seen, "at {line}");
-        assert_eq!(rt; table.rows.len(), rows.len(), "at {line}");
-        for (found, want) in table.rows.as_slice().iter().zip(*rows) {
-            assert!(rt; is_row(found, want), "at {line}");
+    for (at, case) in cases.iter().enumerate() {
+        if !holds(alloc, cube, seen, case, &mut steps) {
+            return Some(at);
         }
     }
+    None
+}
+
+fn first_missed(alloc: Global, cube: &PlainCube, seen: u64, cases: &[Case]) -> Option<usize> {
+    first_missed_in::<Brand>(alloc, cube, seen, cases, Blank::new(1))
+}
+
+/// Over a cube of these points each line has its rows.
+fn check(rt: &impl Abort, alloc: Global, points: &[Point], cases: &[Case]) -> Result<(), Fail> {
+    let cube = cube_of(alloc, schema_of_kinds(alloc)?, points)?;
+    assert_eq!(rt;
+        first_missed(alloc, &cube, points.len() as u64, cases),
+        None
+    );
     Ok(())
 }
 
-/// Each line has its rows, and the view is of so many points.
-fn check(
-    rt: &impl Abort,
-    alloc: Global,
-    cube: &PlainCube,
-    seen: u64,
-    tables: &[(&str, &[Row])],
-) -> Result<(), NoMemory> {
-    check_in::<Brand>(rt, alloc, cube, seen, tables, Blank::new(1))
-}
-
-fn area(z: u8, x: u32, y: u32, total: u64) -> Row {
-    Row::Area(tile(z, x, y), total)
-}
+const OF_TWO: [Case; 5] = [
+    ("count", &[Row::One(7)]),
+    ("count in 1/0/0", &[Row::One(5)]),
+    ("hist kind", &[Row::Value(b'a', 5), Row::Value(b'b', 2)]),
+    ("map 1", &[Row::Area(1, 0, 0, 5), Row::Area(1, 1, 1, 2)]),
+    (
+        "series 0 1 3",
+        &[Row::Bin(0, 5), Row::Bin(1, 2), Row::Bin(2, 0)],
+    ),
+];
 
 #[test]
 fn each_verb_has_its_rows(rt: HostRuntime) -> Result<(), Fail> {
@@ -99,48 +135,34 @@ fn each_verb_has_its_rows(rt: HostRuntime) -> Result<(), Fail> {
         weighing(point(0, 0, 0, 0), 5),
         weighing(point(7, 7, 1, 1), 2),
     ];
-    let cube = cube_of(rt.alloc(), schema_of_kinds(rt.alloc())?, &points)?;
-    let tables: [(&str, &[Row]); 5] = [
-        ("count", &[Row::One(7)]),
-        ("count in 1/0/0", &[Row::One(5)]),
-        ("hist kind", &[Row::Value(b'a', 5), Row::Value(b'b', 2)]),
-        ("map 1", &[area(1, 0, 0, 5), area(1, 1, 1, 2)]),
-        (
-            "series 0 1 3",
-            &[Row::Bin(0, 5), Row::Bin(1, 2), Row::Bin(2, 0)],
-        ),
-    ];
-    check(&rt, rt.alloc(), &cube, 2, &tables)?;
-    Ok(())
+    check(&rt, rt.alloc(), &points, &OF_TWO)
 }
+
+const OF_NONE: [Case; 4] = [
+    ("count", &[Row::One(0)]),
+    ("hist kind", &[Row::Value(b'a', 0), Row::Value(b'b', 0)]),
+    ("map 2", &[]),
+    ("series 3 2 1", &[Row::Bin(3, 0)]),
+];
 
 #[test]
 fn an_empty_view_has_empty_rows(rt: HostRuntime) -> Result<(), Fail> {
-    let cube = PlainCube::new(rt.alloc(), schema_of_kinds(rt.alloc())?);
-    let tables: [(&str, &[Row]); 4] = [
-        ("count", &[Row::One(0)]),
-        ("hist kind", &[Row::Value(b'a', 0), Row::Value(b'b', 0)]),
-        ("map 2", &[]),
-        ("series 3 2 1", &[Row::Bin(3, 0)]),
-    ];
-    check(&rt, rt.alloc(), &cube, 0, &tables)?;
-    Ok(())
+    check(&rt, rt.alloc(), &[], &OF_NONE)
 }
+
+const OF_HEAVY: [Case; 3] = [
+    ("count", &[Row::One(4_563_402_735)]),
+    ("map 1", &[Row::Area(1, 0, 0, 4_563_402_735)]),
+    (
+        "series 0 1 2",
+        &[Row::Bin(0, 4_563_402_735), Row::Bin(1, 0)],
+    ),
+];
 
 #[test]
 fn sums_are_wider_than_32_bits(rt: HostRuntime) -> Result<(), Fail> {
     let points = [weighing(point(0, 0, 0, 0), 268_435_455); 17];
-    let cube = cube_of(rt.alloc(), schema_of_kinds(rt.alloc())?, &points)?;
-    let tables: [(&str, &[Row]); 3] = [
-        ("count", &[Row::One(4_563_402_735)]),
-        ("map 1", &[area(1, 0, 0, 4_563_402_735)]),
-        (
-            "series 0 1 2",
-            &[Row::Bin(0, 4_563_402_735), Row::Bin(1, 0)],
-        ),
-    ];
-    check(&rt, rt.alloc(), &cube, 17, &tables)?;
-    Ok(())
+    check(&rt, rt.alloc(), &points, &OF_HEAVY)
 }
 
 /// Each of three points is looked at once: the down to the region finds nothing.

@@ -6,7 +6,7 @@
 //!
 //! ```text
 //! let totals = [("count", 3), ("count in 1/0/0", 2)];
-//! check(rt, alloc, &three_records(alloc)?, &totals)?;
+//! assert_eq!(rt; first_missed(alloc, &three_records(alloc)?, &totals), None);
 //! ```
 #![tactic(auto)]
 

@@ -2,7 +2,7 @@
 ghost use Rattle.std.specs.Prelude.{◌≡◌, ◌+◌, ◌≤◌};
 ghost use Rattle.probe_core.specs.Blanks.{IsBlankOf};
 
-use cube_view::{CubeView, Tile};
+use cube_view::{CubeView, Point, Schema, Tile};
 use example_cubes::{cube_of, of_all_records, three_records, weighing};
 use example_schemas::{point, schema_of_kinds, schema_of_two_categories};
 use outer_io::NoMemory;
@@ -29,48 +29,76 @@ fn total_of_line<V: CubeView, L: Ledger>(
     }
 }
 
-fn check_in<L: Ledger>(
-    rt: &impl Abort,
+/// A line, and the total that it asks for.
+type Case = (&'static str, u64);
+
+/// Whether the line asks for a total, which is this.
+fn holds<L: Ledger>(alloc: Global, cube: &PlainCube, case: &Case, steps: &mut Steps<L>) -> bool {
+    match total_of_line(alloc, cube, case.0, steps) {
+        Ok(Some(total)) => total == case.1,
+        _ => false,
+    }
+}
+
+/// The place of the first line whose total is another one.
+fn first_missed_in<L: Ledger>(
     alloc: Global,
     cube: &PlainCube,
-    totals: &[(&str, u64)],
+    cases: &[Case],
     blank: Blank,
-) -> Result<(), NoMemory>
+) -> Option<usize>
     requires { IsBlankOf L.name L.parts blank }
 {
     let mut steps = Steps::<L>::new(blank);
-    for (line, want) in totals {
-        let got = total_of_line(alloc, cube, line, &mut steps)?;
-        assert_eq!(rt; got, Some(*want), "at {line}");
+    for (at, case) in cases.iter().enumerate() {
+        if !holds(alloc, cube, case, &mut steps) {
+            return Some(at);
+        }
     }
-    Ok(())
+    None
 }
 
+fn first_missed(alloc: Global, cube: &PlainCube, cases: &[Case]) -> Option<usize> {
+    first_missed_in::<Brand>(alloc, cube, cases, Blank::new(1))
+}
+
+/// Over a cube of these points each line has its total.
 fn check(
     rt: &impl Abort,
     alloc: Global,
-    cube: &PlainCube,
-    totals: &[(&str, u64)],
-) -> Result<(), NoMemory> {
-    check_in::<Brand>(rt, alloc, cube, totals, Blank::new(1))
+    schema: Schema,
+    points: &[Point],
+    cases: &[Case],
+) -> Result<(), Fail> {
+    let cube = cube_of(alloc, schema, points)?;
+    assert_eq!(rt; first_missed(alloc, &cube, cases), None);
+    Ok(())
 }
+
+const OF_THREE: [Case; 8] = [
+    ("count", 3),
+    ("count in 1/0/0", 2),
+    ("count in 3/7/7", 1),
+    ("count in 1/1/0", 0),
+    ("count with kind=a|b time 0 1", 1),
+    ("count with kind=b", 1),
+    ("count in 1/0/0 with kind=b", 0),
+    ("count with kind=a time 1 2", 1),
+];
 
 #[test]
 fn counts_three_records(rt: HostRuntime) -> Result<(), Fail> {
     let cube = three_records(rt.alloc())?;
-    let totals = [
-        ("count", 3),
-        ("count in 1/0/0", 2),
-        ("count in 3/7/7", 1),
-        ("count in 1/1/0", 0),
-        ("count with kind=a|b time 0 1", 1),
-        ("count with kind=b", 1),
-        ("count in 1/0/0 with kind=b", 0),
-        ("count with kind=a time 1 2", 1),
-    ];
-    check(&rt, rt.alloc(), &cube, &totals)?;
+    assert_eq!(rt; first_missed(rt.alloc(), &cube, &OF_THREE), None);
     Ok(())
 }
+
+const OF_TWO_CATEGORIES: [Case; 4] = [
+    ("count with m=c", 2),
+    ("count with k=a with m=d", 1),
+    ("count with k=b", 0),
+    ("count in 1/1/0 with m=d", 1),
+];
 
 #[test]
 fn counts_by_two_categories(rt: HostRuntime) -> Result<(), Fail> {
@@ -78,16 +106,14 @@ fn counts_by_two_categories(rt: HostRuntime) -> Result<(), Fail> {
     second.spot.values[1] = 1;
     let points = [point(0, 0, 0, 0), second, point(0, 0, 0, 0)];
     let schema = schema_of_two_categories(rt.alloc())?;
-    let cube = cube_of(rt.alloc(), schema, &points)?;
-    let totals = [
-        ("count with m=c", 2),
-        ("count with k=a with m=d", 1),
-        ("count with k=b", 0),
-        ("count in 1/1/0 with m=d", 1),
-    ];
-    check(&rt, rt.alloc(), &cube, &totals)?;
-    Ok(())
+    check(&rt, rt.alloc(), schema, &points, &OF_TWO_CATEGORIES)
 }
+
+const OF_WEIGHTS: [Case; 3] = [
+    ("count", 7),
+    ("count in 1/0/0", 5),
+    ("count with kind=b", 2),
+];
 
 #[test]
 fn a_total_is_the_sum_of_weights(rt: HostRuntime) -> Result<(), Fail> {
@@ -95,22 +121,16 @@ fn a_total_is_the_sum_of_weights(rt: HostRuntime) -> Result<(), Fail> {
         weighing(point(0, 0, 0, 0), 5),
         weighing(point(7, 7, 1, 1), 2),
     ];
-    let cube = cube_of(rt.alloc(), schema_of_kinds(rt.alloc())?, &points)?;
-    let totals = [
-        ("count", 7),
-        ("count in 1/0/0", 5),
-        ("count with kind=b", 2),
-    ];
-    check(&rt, rt.alloc(), &cube, &totals)?;
-    Ok(())
+    let schema = schema_of_kinds(rt.alloc())?;
+    check(&rt, rt.alloc(), schema, &points, &OF_WEIGHTS)
 }
+
+const OF_NONE: [Case; 2] = [("count", 0), ("count in 3/0/0 with kind=a", 0)];
 
 #[test]
 fn a_cube_of_no_points_has_no_total(rt: HostRuntime) -> Result<(), Fail> {
-    let cube = PlainCube::new(rt.alloc(), schema_of_kinds(rt.alloc())?);
-    let totals = [("count", 0), ("count in 3/0/0 with kind=a", 0)];
-    check(&rt, rt.alloc(), &cube, &totals)?;
-    Ok(())
+    let schema = schema_of_kinds(rt.alloc())?;
+    check(&rt, rt.alloc(), schema, &[], &OF_NONE)
 }
 
 /// Each of three points is looked at once: the first down of the way to the tile finds nothing.
@@ -135,8 +155,9 @@ fn few_steps<L: Ledger>(rt: &impl Abort, alloc: Global, blank: Blank) -> Result<
     requires { IsBlankOf L.name L.parts blank }
 {
     let mut steps = Steps::<L>::new(blank);
-    assert_eq!(rt; counts_a_corner(alloc, &mut steps)?, 0);
-    assert_eq!(rt; counts_no_points(alloc, &mut steps)?, 0);
+    let corner = counts_a_corner(alloc, &mut steps)?;
+    let none = counts_no_points(alloc, &mut steps)?;
+    assert_eq!(rt; (corner, none), (0, 0));
     Ok(())
 }
 

@@ -1,6 +1,8 @@
 //! Covers that were drawn by hand, and windows over plain cubes against numbers that were counted by hand.
-ghost use Rattle.std.specs.Prelude.{◌≡◌, ◌^◌, ◌≤◌, ◌∷◌, []};
+ghost use Rattle.std.specs.Prelude.{◌≡◌, ◌^◌, ◌≤◌, ◌∷◌, [], IsTrue};
 ghost use Rattle.probe_core.specs.Blanks.{IsBlankOf};
+ghost use Rattle.query_syntax.specs.Verbs.{is_window};
+ghost use Rattle.table_callers.specs.Windows.{window_query};
 
 use cube_view::{CubeView, Schema, Tile};
 use example_cubes::{cube_of, three_records, tile, weighing};
@@ -8,7 +10,7 @@ use example_schemas::{point, schema_of_kinds};
 use outer_io::{List, NoMemory};
 use plain_cube::PlainCube;
 use probe_core::Steps;
-use query_syntax::{Choice, Query, Rect, RowOut, Span, ValueSet, Verb, is_valid_query};
+use query_syntax::{Choice, Query, Rect, RowOut, Span, Table, ValueSet, Verb, is_valid_query};
 use std::alloc::Global;
 use std::marker::Brand;
 use std::process::Abort;
@@ -22,58 +24,90 @@ fn rect(x0: u32, y0: u32, x1: u32, y1: u32) -> Rect
     Rect { x0, y0, x1, y1 }
 }
 
+/// How many tiles cover the rectangle, and the first and the last of them.
+fn ends_of(
+    alloc: Global,
+    schema: &Schema,
+    rect: Rect,
+) -> Result<(usize, Option<Tile>, Option<Tile>), NoMemory> {
+    let tiles = cover(alloc, schema, &rect)?;
+    let tiles = tiles.as_slice();
+    Ok((tiles.len(), tiles.first().copied(), tiles.last().copied()))
+}
+
 #[test]
 fn covers_all_but_the_first_column(rt: HostRuntime) -> Result<(), Fail> {
     let schema = schema_of_kinds(rt.alloc())?;
-    let tiles = cover(rt.alloc(), &schema, &rect(1, 0, 8, 8))?;
-    assert_eq!(rt; tiles.len(), 14);
-    assert_eq!(rt; tiles.as_slice().first(), Some(&tile(3, 1, 0)));
-    assert_eq!(rt; tiles.as_slice().last(), Some(&tile(1, 1, 1)));
+    let ends = ends_of(rt.alloc(), &schema, rect(1, 0, 8, 8));
+    assert_eq!(rt; ends, Ok((14, Some(tile(3, 1, 0)), Some(tile(1, 1, 1)))));
     Ok(())
+}
+
+/// Whether these tiles cover the rectangle, in this order.
+fn is_covered(alloc: Global, schema: &Schema, rect: Rect, wanted: &[Tile]) -> bool {
+    match cover(alloc, schema, &rect) {
+        Ok(tiles) => tiles.as_slice() == wanted,
+        Err(NoMemory) => false,
+    }
 }
 
 #[test]
 fn covers_in_path_order(rt: HostRuntime) -> Result<(), Fail> {
     let schema = schema_of_kinds(rt.alloc())?;
-    let tiles = cover(rt.alloc(), &schema, &rect(3, 2, 8, 4))?;
     let want = [tile(3, 3, 2), tile(3, 3, 3), tile(2, 2, 1), tile(2, 3, 1)];
-    assert_eq!(rt; tiles.as_slice(), want.as_slice());
+    assert!(rt; is_covered(rt.alloc(), &schema, rect(3, 2, 8, 4), &want));
     Ok(())
 }
 
 #[test]
 fn covers_the_world_by_one_tile(rt: HostRuntime) -> Result<(), Fail> {
     let schema = schema_of_kinds(rt.alloc())?;
-    let tiles = cover(rt.alloc(), &schema, &rect(0, 0, 8, 8))?;
-    assert_eq!(rt; tiles.as_slice(), [tile(0, 0, 0)].as_slice());
+    assert!(rt; is_covered(rt.alloc(), &schema, rect(0, 0, 8, 8), &[tile(0, 0, 0)]));
     Ok(())
+}
+
+/// Whether no tile is in the cover of each of three rectangles.
+fn cover_nothing(alloc: Global, schema: &Schema) -> [bool; 3] {
+    [
+        is_covered(alloc, schema, rect(3, 0, 3, 8), &[]),
+        is_covered(alloc, schema, rect(0, 8, 8, 8), &[]),
+        is_covered(alloc, schema, rect(5, 5, 5, 5), &[]),
+    ]
 }
 
 #[test]
 fn covers_no_area_by_no_tile(rt: HostRuntime) -> Result<(), Fail> {
     let schema = schema_of_kinds(rt.alloc())?;
-    for none in [rect(3, 0, 3, 8), rect(0, 8, 8, 8), rect(5, 5, 5, 5)] {
-        assert!(rt; cover(rt.alloc(), &schema, &none)?.is_empty());
-    }
+    assert_eq!(rt; cover_nothing(rt.alloc(), &schema), [true; 3]);
     Ok(())
 }
 
+/// A half of the deepest level's columns, and its last one.
+const HALF: u32 = 1 << 19;
+
+const LAST: u32 = (1 << 20) - 1;
+
+/// Whether the corner, the world and its right half have these covers.
+fn cover_deepest(alloc: Global, schema: &Schema) -> [bool; 3] {
+    let corner = rect(LAST, LAST, LAST + 1, LAST + 1);
+    let world = rect(0, 0, LAST + 1, LAST + 1);
+    let half = rect(HALF, 0, LAST + 1, LAST + 1);
+    [
+        is_covered(alloc, schema, corner, &[tile(20, LAST, LAST)]),
+        is_covered(alloc, schema, world, &[tile(0, 0, 0)]),
+        is_covered(alloc, schema, half, &[tile(1, 1, 0), tile(1, 1, 1)]),
+    ]
+}
+
 #[test]
-fn covers_at_the_deepest_level(rt: HostRuntime) -> Result<(), Fail> {
+fn covers_at_the_deepest_level(rt: HostRuntime) {
     let schema = Schema::new(20, List::new(rt.alloc()), 0, 1, 1, None);
-    let last = (1 << 20) - 1;
-    let corner = cover(rt.alloc(), &schema, &rect(last, last, last + 1, last + 1))?;
-    assert_eq!(rt; corner.as_slice(), [tile(20, last, last)].as_slice());
-    let world = cover(rt.alloc(), &schema, &rect(0, 0, last + 1, last + 1))?;
-    assert_eq!(rt; world.as_slice(), [tile(0, 0, 0)].as_slice());
-    let half = cover(rt.alloc(), &schema, &rect(1 << 19, 0, last + 1, last + 1))?;
-    assert_eq!(rt; half.as_slice(), [tile(1, 1, 0), tile(1, 1, 1)].as_slice());
-    Ok(())
+    assert_eq!(rt; cover_deepest(rt.alloc(), &schema), [true; 3]);
 }
 
 /// The window of the records of these kinds, in the bins of the span.
 fn window_of(kind: Choice, time: Span, rect: Rect) -> Query
-    ensures { result ≡ record { verb = Verb.Window rect; region = record { z = 0; x = 0; y = 0 }; sets = kind ∷ Choice.All ∷ Choice.All ∷ Choice.All ∷ []; time = time } }
+    ensures { result ≡ window_query kind time rect }
 {
     Query {
         verb: Verb::Window(rect),
@@ -92,123 +126,138 @@ fn all_bins() -> Span
     }
 }
 
-/// The kinds and the span of a query, a rectangle, and the total.
+/// Which records a window is of: of all, of a value, or of a span of bins.
 #[derive(Clone, Copy)]
-struct Case {
-    kind: Choice,
-    time: Span,
-    rect: Rect,
-    total: u64,
+enum Of {
+    All,
+    Kind(u8),
+    Bins(u64, u64),
 }
 
-/// A window of all records.
-fn window(rect: Rect, total: u64) -> Case {
-    Case {
-        kind: Choice::All,
-        time: all_bins(),
-        rect,
-        total,
+/// Which kinds and which span these are.
+fn filters_of(of: Of) -> (Choice, Span) {
+    match of {
+        Of::All => (Choice::All, all_bins()),
+        Of::Kind(value) => (Choice::Only(ValueSet::one(value)), all_bins()),
+        Of::Bins(from, to) => (Choice::All, Span { from, to }),
     }
 }
 
-/// A window of the records of this kind.
-fn of_kind(value: u8, rect: Rect, total: u64) -> Case {
-    Case {
-        kind: Choice::Only(ValueSet::one(value)),
-        time: all_bins(),
-        rect,
-        total,
+/// The records, x0, y0, x1 and y1 of the rectangle, and the total.
+type Case = (Of, [u32; 4], u64);
+
+/// The query of a case.
+fn query_of(case: &Case) -> Query
+    ensures { IsTrue (is_window result.verb) }
+{
+    let (kind, time) = filters_of(case.0);
+    let [x0, y0, x1, y1] = case.1;
+    window_of(kind, time, Rect { x0, y0, x1, y1 })
+}
+
+/// Whether the table's one row is the total.
+fn is_total(table: &Table, total: u64) -> bool {
+    match table.rows.as_slice() {
+        [RowOut::One(found)] => *found == total,
+        _ => false,
     }
 }
 
-/// A window of the records in these bins.
-fn in_bins(from: u64, to: u64, rect: Rect, total: u64) -> Case {
-    Case {
-        kind: Choice::All,
-        time: Span { from, to },
-        rect,
-        total,
+/// Whether the window is valid, and has the total.
+fn holds<L: Ledger>(alloc: Global, cube: &PlainCube, case: &Case, steps: &mut Steps<L>) -> bool {
+    let query = query_of(case);
+    if !is_valid_query(cube.schema(), &query) {
+        return false;
+    }
+    match window_answer(alloc, cube, &query, steps) {
+        Ok(table) => table.seen == cube.seen() && is_total(&table, case.2),
+        Err(NoMemory) => false,
     }
 }
 
-fn check_in<L: Ledger>(
-    rt: &impl Abort,
+/// The place of the first window that has another total.
+fn first_missed_in<L: Ledger>(
     alloc: Global,
     cube: &PlainCube,
     cases: &[Case],
     blank: Blank,
-) -> Result<(), NoMemory>
+) -> Option<usize>
     requires { IsBlankOf L.name L.parts blank }
 {
     let mut steps = Steps::<L>::new(blank);
-    for case in cases {
-        let query = window_of(case.kind, case.time, case.rect);
-        assert!(rt; is_valid_query(cube.schema(), &query));
-        let table = window_answer(alloc, cube, &query, &mut steps)?;
-        assert_eq!(rt; table.seen, cube.seen());
-        let one_row = matches!(table.rows.as_slice(), [RowOut::One(total)] if *total == case.total);
-        assert!(rt; one_row, "of {:?}", case.rect);
+    for (at, case) in cases.iter().enumerate() {
+        if !holds(alloc, cube, case, &mut steps) {
+            return Some(at);
+        }
     }
-    Ok(())
+    None
 }
 
-fn check(rt: &impl Abort, alloc: Global, cube: &PlainCube, cases: &[Case]) -> Result<(), NoMemory> {
-    check_in::<Brand>(rt, alloc, cube, cases, Blank::new(1))
+fn first_missed(alloc: Global, cube: &PlainCube, cases: &[Case]) -> Option<usize> {
+    first_missed_in::<Brand>(alloc, cube, cases, Blank::new(1))
 }
+
+const OF_THREE: [Case; 8] = [
+    (Of::All, [0, 0, 4, 4], 2),
+    (Of::All, [1, 0, 8, 8], 1),
+    (Of::All, [2, 2, 2, 8], 0),
+    (Of::All, [0, 0, 8, 8], 3),
+    (Of::All, [0, 0, 1, 1], 2),
+    (Of::All, [7, 7, 8, 8], 1),
+    (Of::All, [0, 0, 7, 8], 2),
+    (Of::All, [0, 1, 8, 8], 1),
+];
 
 #[test]
 fn counts_windows_of_three_records(rt: HostRuntime) -> Result<(), Fail> {
     let cube = three_records(rt.alloc())?;
-    let cases = [
-        window(rect(0, 0, 4, 4), 2),
-        window(rect(1, 0, 8, 8), 1),
-        window(rect(2, 2, 2, 8), 0),
-        window(rect(0, 0, 8, 8), 3),
-        window(rect(0, 0, 1, 1), 2),
-        window(rect(7, 7, 8, 8), 1),
-        window(rect(0, 0, 7, 8), 2),
-        window(rect(0, 1, 8, 8), 1),
-    ];
-    check(&rt, rt.alloc(), &cube, &cases)?;
+    assert_eq!(rt; first_missed(rt.alloc(), &cube, &OF_THREE), None);
     Ok(())
 }
 
+const OF_DEEPEST: [Case; 7] = [
+    (Of::All, [0, 0, LAST + 1, LAST + 1], 3),
+    (Of::All, [1, 0, LAST + 1, LAST + 1], 2),
+    (Of::All, [1, 1, LAST, LAST], 1),
+    (Of::All, [HALF, 0, LAST + 1, LAST + 1], 1),
+    (Of::All, [LAST, LAST, LAST + 1, LAST + 1], 1),
+    (Of::All, [HALF - 1, HALF, HALF, HALF + 1], 1),
+    (Of::All, [LAST, LAST, LAST, LAST + 1], 0),
+];
+
 #[test]
 fn counts_windows_at_the_deepest_level(rt: HostRuntime) -> Result<(), Fail> {
-    let (half, last) = (1 << 19, (1 << 20) - 1);
     let points = [
         point(0, 0, 0, 0),
-        point(last, last, 0, 0),
-        point(half - 1, half, 0, 0),
+        point(LAST, LAST, 0, 0),
+        point(HALF - 1, HALF, 0, 0),
     ];
     let schema = Schema::new(20, List::new(rt.alloc()), 0, 1, 1, None);
     let cube = cube_of(rt.alloc(), schema, &points)?;
-    let cases = [
-        window(rect(0, 0, last + 1, last + 1), 3),
-        window(rect(1, 0, last + 1, last + 1), 2),
-        window(rect(1, 1, last, last), 1),
-        window(rect(half, 0, last + 1, last + 1), 1),
-        window(rect(last, last, last + 1, last + 1), 1),
-        window(rect(half - 1, half, half, half + 1), 1),
-        window(rect(last, last, last, last + 1), 0),
-    ];
-    check(&rt, rt.alloc(), &cube, &cases)?;
+    assert_eq!(rt; first_missed(rt.alloc(), &cube, &OF_DEEPEST), None);
     Ok(())
 }
+
+const FILTERED: [Case; 5] = [
+    (Of::Kind(0), [0, 0, 8, 8], 2),
+    (Of::Kind(1), [0, 0, 7, 7], 0),
+    (Of::Kind(1), [1, 1, 8, 8], 1),
+    (Of::Bins(1, 2), [0, 0, 4, 4], 1),
+    (Of::Bins(1, 2), [0, 0, 8, 8], 2),
+];
 
 #[test]
 fn counts_what_the_filters_ask_for(rt: HostRuntime) -> Result<(), Fail> {
     let cube = three_records(rt.alloc())?;
-    let cases = [
-        of_kind(0, rect(0, 0, 8, 8), 2),
-        of_kind(1, rect(0, 0, 7, 7), 0),
-        of_kind(1, rect(1, 1, 8, 8), 1),
-        in_bins(1, 2, rect(0, 0, 4, 4), 1),
-        in_bins(1, 2, rect(0, 0, 8, 8), 2),
-    ];
-    check(&rt, rt.alloc(), &cube, &cases)?;
+    assert_eq!(rt; first_missed(rt.alloc(), &cube, &FILTERED), None);
     Ok(())
 }
+
+const OF_WEIGHTS: [Case; 3] = [
+    (Of::All, [0, 0, 8, 8], 7),
+    (Of::All, [0, 0, 7, 7], 5),
+    (Of::All, [1, 1, 8, 8], 2),
+];
 
 #[test]
 fn a_window_is_the_sum_of_weights(rt: HostRuntime) -> Result<(), Fail> {
@@ -217,20 +266,16 @@ fn a_window_is_the_sum_of_weights(rt: HostRuntime) -> Result<(), Fail> {
         weighing(point(7, 7, 1, 1), 2),
     ];
     let cube = cube_of(rt.alloc(), schema_of_kinds(rt.alloc())?, &points)?;
-    let cases = [
-        window(rect(0, 0, 8, 8), 7),
-        window(rect(0, 0, 7, 7), 5),
-        window(rect(1, 1, 8, 8), 2),
-    ];
-    check(&rt, rt.alloc(), &cube, &cases)?;
+    assert_eq!(rt; first_missed(rt.alloc(), &cube, &OF_WEIGHTS), None);
     Ok(())
 }
+
+const OF_NONE: [Case; 2] = [(Of::All, [0, 0, 8, 8], 0), (Of::Kind(0), [1, 0, 8, 8], 0)];
 
 #[test]
 fn a_cube_of_no_points_has_empty_windows(rt: HostRuntime) -> Result<(), Fail> {
     let cube = PlainCube::new(rt.alloc(), schema_of_kinds(rt.alloc())?);
-    let cases = [window(rect(0, 0, 8, 8), 0), of_kind(0, rect(1, 0, 8, 8), 0)];
-    check(&rt, rt.alloc(), &cube, &cases)?;
+    assert_eq!(rt; first_missed(rt.alloc(), &cube, &OF_NONE), None);
     Ok(())
 }
 
