@@ -4,4 +4,4 @@ pub mod Printed
 pub mod Reading
 pub mod Meaning
 pub mod ValidTables
-pub mod Tokens
+pub mod Plain

@@ -1,22 +1,20 @@
-//! A reply as text, written token by token into one buffer.
-ghost use Rattle.std.specs.Prelude.{◌≡◌, ◌∷◌, [], ◌++◌, decimal, IfOk, OnOk, IsTrue};
+//! A reply as text, put piece by piece at the end of one buffer.
+ghost use Rattle.std.specs.Prelude.{◌≡◌, ◌∷◌, [], ◌++◌, decimal, false, map, IfOk, OnOk, IsTrue};
 ghost use Rattle.std.specs.List.{All};
-ghost use Rattle.json.specs.Token.{end_array, key, number};
-ghost use Rattle.json.specs.Tree.{items_tokens};
 ghost use Rattle.serde_json.specs.View.{items_of};
-ghost use Rattle.serde_json.specs.Written.{items_outline};
+ghost use Rattle.serde_json.specs.Written.{comma_if, compact_text, items_text};
+ghost use Rattle.query_syntax.specs.declared.table.RowOut.{RowOut};
 ghost use Rattle.reply_json.specs.declared.reply.Reply.{Reply};
-ghost use Rattle.reply_json.specs.Printed.{fault_name, row_items, row_value, rows_value, reply_value, reply_text};
-ghost use Rattle.reply_json.specs.Tokens.{Appends, value_tokens};
+ghost use Rattle.reply_json.specs.Printed.{fault_name, row_items, row_value, reply_value, reply_text};
 ghost use Rattle.reply_json.specs.Validity.{is_valid_reply};
 ghost use Rattle.reply_json.specs.Types.{IsCount, RowFits, ReplyFits};
 
 use crate::Reply;
-use cube_view::Stat;
-use json::Writer;
+use crate::put::{digits_before, item_before, put, put_byte, put_number, put_text};
+use cube_view::{Stat, Tile};
 use outer_io::{List, NoMemory};
 use query_syntax::{QueryFault, RowOut, Table};
-use std::alloc::{AllocError, Global};
+use std::alloc::Global;
 
 /// The line of the reply that memory ran out, with its line feed.
 pub const NO_MEMORY_LINE: &str = "{\"fault\":\"NoMemory\"}\n";
@@ -52,143 +50,146 @@ pub(crate) fn fault_name(fault: QueryFault) -> &'static str
     }
 }
 
-// Writes a row's total and its closing bracket.
-fn put_total(out: &mut Writer, total: u64) -> Result<(), AllocError>
-    ensures text { OnOk result (Appends out.old out.new (number (decimal total) ∷ end_array ∷ [])) }
+// Puts a total and the closing bracket of its row.
+fn put_total(out: &mut Vec<u8>, total: u64) -> Result<(), NoMemory>
+    ensures text { OnOk result (out.new.items ≡ out.old.items ++ (decimal total ++ 93 ∷ [])) }
     ensures fits { IsCount total }
 {
-    out.u64(total)?;
-    out.end_array()
+    // The last byte is the closing bracket.
+    let mut end = [b']'; 96];
+    let at = digits_before(&mut end, 95, total);
+    put(out, &end[at..])
 }
 
-// Writes what stands in a row, and its closing bracket.
-fn put_items(out: &mut Writer, row: &RowOut) -> Result<(), AllocError>
-    ensures text { OnOk result (Appends out.old out.new (items_tokens (items_outline (items_of (row_items row.now))))) }
+// Puts the first bin of a row, its total and its closing bracket.
+fn put_bin(out: &mut Vec<u8>, start: u64, total: u64) -> Result<(), NoMemory>
+    ensures text { OnOk result (out.new.items ≡ out.old.items ++ (decimal start ++ 44 ∷ (decimal total ++ 93 ∷ []))) }
+    ensures fits { IsCount start × IsCount total }
+{
+    let mut end = [b']'; 96];
+    let at = digits_before(&mut end, 95, total);
+    let at = item_before(&mut end, at, start);
+    put(out, &end[at..])
+}
+
+// Puts the tile of a row, its total and its closing bracket.
+fn put_area(out: &mut Vec<u8>, tile: Tile, total: u64) -> Result<(), NoMemory>
+    ensures text { OnOk result (out.new.items ≡ out.old.items ++ (decimal tile.z ++ 44 ∷ (decimal tile.x ++ 44 ∷ (decimal tile.y ++ 44 ∷ (decimal total ++ 93 ∷ []))))) }
+    ensures fits { RowFits (RowOut.Area tile total) }
+{
+    let mut end = [b']'; 96];
+    let at = digits_before(&mut end, 95, total);
+    let at = item_before(&mut end, at, u64::from(tile.y));
+    let at = item_before(&mut end, at, u64::from(tile.x));
+    let at = item_before(&mut end, at, u64::from(tile.z));
+    put(out, &end[at..])
+}
+
+// Puts what stands in a row, and its closing bracket.
+fn put_items(out: &mut Vec<u8>, row: &RowOut) -> Result<(), NoMemory>
+    ensures text { OnOk result (out.new.items ≡ out.old.items ++ items_text false (items_of (row_items row.now))) }
     ensures fits { OnOk result (RowFits row.now) }
 {
     match row {
         RowOut::One(total) => put_total(out, *total),
         RowOut::Value(text, total) => {
-            out.string(text.as_str())?;
+            put_text(out, text.as_str())?;
+            put_byte(out, b',')?;
             put_total(out, *total)
         }
-        RowOut::Area(tile, total) => {
-            out.u64(u64::from(tile.z))?;
-            out.u64(u64::from(tile.x))?;
-            out.u64(u64::from(tile.y))?;
-            put_total(out, *total)
-        }
-        RowOut::Bin(start, total) => {
-            out.u64(*start)?;
-            put_total(out, *total)
-        }
+        RowOut::Area(tile, total) => put_area(out, *tile, *total),
+        RowOut::Bin(start, total) => put_bin(out, *start, *total),
         RowOut::Pair(first, second, total) => {
-            out.string(first.as_str())?;
-            out.string(second.as_str())?;
+            put_text(out, first.as_str())?;
+            put_byte(out, b',')?;
+            put_text(out, second.as_str())?;
+            put_byte(out, b',')?;
             put_total(out, *total)
         }
     }
 }
 
-// Writes a row after what is there.
-fn put_row(out: &mut Writer, row: &RowOut) -> Result<(), AllocError>
-    ensures text { OnOk result (Appends out.old out.new (value_tokens (row_value row.now))) }
+// Puts a row, after a comma where it is a later one.
+fn put_row(out: &mut Vec<u8>, later: bool, row: &RowOut) -> Result<(), NoMemory>
+    ensures text { OnOk result (out.new.items ≡ out.old.items ++ (comma_if later ++ compact_text (row_value row.now))) }
     ensures fits { OnOk result (RowFits row.now) }
 {
-    out.begin_array()?;
+    if later {
+        put_byte(out, b',')?;
+    }
+    put_byte(out, b'[')?;
     put_items(out, row)
 }
 
-// Writes the rows after what is there. The buffer grows as they come, by doubling: it is kept from reply to reply, and
+// Puts all rows and the closing bracket. The buffer grows as they come, by doubling: it is kept from reply to reply, and
 // a bound of bytes a row would take far more of it than most rows need.
-fn put_rows(out: &mut Writer, rows: &[RowOut]) -> Result<(), AllocError>
-    ensures text { OnOk result (Appends out.old out.new (value_tokens (rows_value rows.now))) }
+fn put_rows(out: &mut Vec<u8>, rows: &[RowOut]) -> Result<(), NoMemory>
+    ensures text { OnOk result (out.new.items ≡ out.old.items ++ items_text false (items_of (map row_value rows.now))) }
     ensures fits { OnOk result (All RowFits rows.now) }
 {
-    out.begin_array()?;
+    let mut later = false;
     for row in rows {
-        put_row(out, row)?;
+        put_row(out, later, row)?;
+        later = true;
     }
-    out.end_array()?;
+    put_byte(out, b']')?;
     Ok(())
 }
 
-// Writes a member that is a number.
-fn put_count(out: &mut Writer, name: &str, count: u64) -> Result<(), AllocError>
-    ensures text { OnOk result (Appends out.old out.new (key name.now ∷ number (decimal count) ∷ [])) }
-    ensures fits { IsCount count }
-{
-    out.key(name)?;
-    out.u64(count)?;
-    Ok(())
-}
-
-#[tactic(auto, unfolding(crate::specs::Printed::reply_value, crate::specs::Types::ReplyFits))]
-fn put_table(out: &mut Writer, table: &Table) -> Result<(), AllocError>
-    ensures text { OnOk result (Appends out.old out.new (value_tokens (reply_value (Reply.Table table.now)))) }
+#[tactic(auto, unfolding(crate::specs::Printed::reply_value, crate::specs::Types::ReplyFits, json::specs::Print::escape_byte))]
+fn put_table(out: &mut Vec<u8>, table: &Table) -> Result<(), NoMemory>
+    ensures text { OnOk result (out.new.items ≡ out.old.items ++ compact_text (reply_value (Reply.Table table.now))) }
     ensures fits { OnOk result (ReplyFits (Reply.Table table.now)) }
 {
-    out.begin_object()?;
-    out.key("rows")?;
+    put(out, b"{\"rows\":[")?;
     put_rows(out, table.rows.as_slice())?;
-    put_count(out, "seen", table.seen)?;
-    out.end_object()?;
-    Ok(())
+    put_number(out, b",\"seen\":", table.seen)?;
+    put_byte(out, b'}')
 }
 
-#[tactic(auto, unfolding(crate::specs::Printed::reply_value, crate::specs::Types::ReplyFits))]
-fn put_stat(out: &mut Writer, stat: &Stat, seen: u64) -> Result<(), AllocError>
-    ensures text { OnOk result (Appends out.old out.new (value_tokens (reply_value (Reply.Stat stat.now seen)))) }
+#[tactic(auto, unfolding(crate::specs::Printed::reply_value, crate::specs::Types::ReplyFits, json::specs::Print::escape_byte))]
+fn put_stat(out: &mut Vec<u8>, stat: &Stat, seen: u64) -> Result<(), NoMemory>
+    ensures text { OnOk result (out.new.items ≡ out.old.items ++ compact_text (reply_value (Reply.Stat stat.now seen))) }
     ensures fits { OnOk result (ReplyFits (Reply.Stat stat.now seen)) }
 {
-    out.begin_object()?;
-    put_count(out, "nodes", stat.nodes)?;
-    put_count(out, "proper", stat.proper)?;
-    put_count(out, "seen", seen)?;
-    put_count(out, "shared", stat.shared)?;
-    put_count(out, "tables", stat.tables)?;
-    out.end_object()?;
-    Ok(())
+    put_number(out, b"{\"nodes\":", stat.nodes)?;
+    put_number(out, b",\"proper\":", stat.proper)?;
+    put_number(out, b",\"seen\":", seen)?;
+    put_number(out, b",\"shared\":", stat.shared)?;
+    put_number(out, b",\"tables\":", stat.tables)?;
+    put_byte(out, b'}')
 }
 
-#[tactic(auto, unfolding(crate::specs::Printed::reply_value, crate::specs::Types::ReplyFits))]
-fn put_told(out: &mut Writer, told: u64) -> Result<(), AllocError>
-    ensures text { OnOk result (Appends out.old out.new (value_tokens (reply_value (Reply.Told told)))) }
+#[tactic(auto, unfolding(crate::specs::Printed::reply_value, crate::specs::Types::ReplyFits, json::specs::Print::escape_byte))]
+fn put_told(out: &mut Vec<u8>, told: u64) -> Result<(), NoMemory>
+    ensures text { OnOk result (out.new.items ≡ out.old.items ++ compact_text (reply_value (Reply.Told told))) }
     ensures fits { OnOk result (ReplyFits (Reply.Told told)) }
 {
-    out.begin_object()?;
-    put_count(out, "told", told)?;
-    out.end_object()?;
-    Ok(())
+    put_number(out, b"{\"told\":", told)?;
+    put_byte(out, b'}')
 }
 
-#[tactic(auto, unfolding(crate::specs::Printed::reply_value, crate::specs::Types::ReplyFits))]
-fn put_fault(out: &mut Writer, fault: QueryFault, word: u32) -> Result<(), AllocError>
-    ensures text { OnOk result (Appends out.old out.new (value_tokens (reply_value (Reply.Fault fault word)))) }
+#[tactic(auto, unfolding(crate::specs::Printed::reply_value, crate::specs::Types::ReplyFits, json::specs::Print::escape_byte))]
+fn put_fault(out: &mut Vec<u8>, fault: QueryFault, word: u32) -> Result<(), NoMemory>
+    ensures text { OnOk result (out.new.items ≡ out.old.items ++ compact_text (reply_value (Reply.Fault fault word))) }
     ensures fits { OnOk result (ReplyFits (Reply.Fault fault word)) }
 {
-    out.begin_object()?;
-    put_count(out, "at", u64::from(word))?;
-    out.key("fault")?;
-    out.string(fault_name(fault))?;
-    out.end_object()?;
-    Ok(())
+    put_number(out, b"{\"at\":", u64::from(word))?;
+    put(out, b",\"fault\":")?;
+    put_text(out, fault_name(fault))?;
+    put_byte(out, b'}')
 }
 
-#[tactic(auto, unfolding(crate::specs::Printed::reply_value))]
-fn put_no_memory(out: &mut Writer) -> Result<(), AllocError>
-    ensures { OnOk result (Appends out.old out.new (value_tokens (reply_value Reply.NoMemory))) }
+#[tactic(auto, unfolding(crate::specs::Printed::reply_value, json::specs::Print::escape_byte))]
+fn put_no_memory(out: &mut Vec<u8>) -> Result<(), NoMemory>
+    ensures { OnOk result (out.new.items ≡ out.old.items ++ compact_text (reply_value Reply.NoMemory)) }
 {
-    out.begin_object()?;
-    out.key("fault")?;
-    out.string("NoMemory")?;
-    out.end_object()?;
-    Ok(())
+    put(out, b"{\"fault\":\"NoMemory\"}")
 }
 
 #[tactic(auto, unfolding(crate::specs::Types::ReplyFits))]
-fn put_reply(out: &mut Writer, reply: &Reply) -> Result<(), AllocError>
-    ensures text { OnOk result (Appends out.old out.new (value_tokens (reply_value reply.now))) }
+fn put_reply(out: &mut Vec<u8>, reply: &Reply) -> Result<(), NoMemory>
+    ensures text { OnOk result (out.new.items ≡ out.old.items ++ compact_text (reply_value reply.now)) }
     ensures fits { OnOk result (ReplyFits reply.now) }
 {
     match reply {
@@ -202,6 +203,7 @@ fn put_reply(out: &mut Writer, reply: &Reply) -> Result<(), AllocError>
 
 /// The text of a valid reply, without a line feed, in the memory of `room`, whose bytes are let go. A reply that fits
 /// there takes none.
+#[tactic(auto, unfolding(crate::specs::Printed::reply_text))]
 pub fn print_reply_in(room: List<u8>, reply: &Reply) -> Result<List<u8>, NoMemory>
     requires { IsTrue (is_valid_reply reply.now) }
     ensures text { IfOk result (λ bytes. bytes ≡ reply_text reply.now) }
@@ -209,11 +211,8 @@ pub fn print_reply_in(room: List<u8>, reply: &Reply) -> Result<List<u8>, NoMemor
 {
     let mut bytes = room.into_vec();
     bytes.clear();
-    let mut out = Writer::new(bytes);
-    match put_reply(&mut out, reply) {
-        Ok(()) => Ok(List::from_vec(out.into_inner())),
-        Err(_) => Err(NoMemory),
-    }
+    put_reply(&mut bytes, reply)?;
+    Ok(List::from_vec(bytes))
 }
 
 /// The text of a valid reply, without a line feed, as [`crate::read_reply`] reads it.

@@ -1,0 +1,106 @@
+//! Bytes, numbers and texts that are put at the end of others.
+ghost use Rattle.std.specs.Prelude.{◌≡◌, ◌+◌, ◌≤◌, [], ◌∷◌, ◌++◌, decimal, drop, OnOk, IsTrue};
+ghost use Rattle.std.specs.List.{list_all};
+ghost use Rattle.json.specs.Print.{escape, quoted};
+ghost use Rattle.reply_json.specs.Plain.{is_plain};
+ghost use Rattle.reply_json.specs.Types.{IsCount};
+
+use json::Writer;
+use outer_io::NoMemory;
+use std::mem::replace;
+
+/// Puts bytes at the end.
+pub fn put(out: &mut Vec<u8>, bytes: &[u8]) -> Result<(), NoMemory>
+    ensures { OnOk result (out.new.items ≡ out.old.items ++ bytes.now) }
+{
+    match out.extend_from_slice(bytes) {
+        Ok(()) => Ok(()),
+        Err(_) => Err(NoMemory),
+    }
+}
+
+/// Puts a byte at the end. It is quicker than one byte put as bytes.
+pub fn put_byte(out: &mut Vec<u8>, byte: u8) -> Result<(), NoMemory>
+    ensures { OnOk result (out.new.items ≡ out.old.items ++ byte ∷ []) }
+{
+    match out.push(byte) {
+        Ok(()) => Ok(()),
+        Err(_) => Err(NoMemory),
+    }
+}
+
+/// Puts bytes, and a number in decimal.
+pub fn put_number(out: &mut Vec<u8>, front: &[u8], number: u64) -> Result<(), NoMemory>
+    ensures text { OnOk result (out.new.items ≡ out.old.items ++ (front.now ++ decimal number)) }
+    ensures fits { IsCount number }
+{
+    let mut buffer = itoa::Buffer::new();
+    put(out, front)?;
+    put(out, buffer.format(number).as_bytes())
+}
+
+/// Whether the byte stands in a JSON text as it is.
+fn is_plain(byte: u8) -> bool
+    ensures { result ≡ is_plain byte }
+{
+    b' ' <= byte && byte != b'"' && byte != b'\\'
+}
+
+/// Whether each byte stands in a JSON text as it is.
+fn are_plain(text: &[u8]) -> bool
+    ensures { result ≡ list_all is_plain text.now }
+{
+    text.iter().all(|byte| is_plain(*byte))
+}
+
+/// Puts a text in quotes.
+pub fn put_text(out: &mut Vec<u8>, text: &str) -> Result<(), NoMemory>
+    ensures { OnOk result (out.new.items ≡ out.old.items ++ quoted text.now) }
+{
+    if !are_plain(text.as_bytes()) {
+        return put_escaped(out, text);
+    }
+    put_byte(out, b'"')?;
+    put(out, text.as_bytes())?;
+    put_byte(out, b'"')?;
+    Ok(())
+}
+
+/// Puts a text in quotes, with an escape for each byte that has one.
+fn put_escaped(out: &mut Vec<u8>, text: &str) -> Result<(), NoMemory>
+    ensures { OnOk result (out.new.items ≡ out.old.items ++ quoted text.now) }
+{
+    let alloc = *out.allocator();
+    let mut writer = Writer::new(replace(out, Vec::new(alloc)));
+    let done = writer.string(text);
+    *out = writer.into_inner();
+    match done {
+        Ok(()) => Ok(()),
+        Err(_) => Err(NoMemory),
+    }
+}
+
+/// Writes the digits of a number before a place of a buffer, and gives the place of the first one.
+pub fn digits_before(buffer: &mut [u8; 96], place: usize, number: u64) -> usize
+    requires within { place ≤ 96 }
+    requires room { 20 ≤ place }
+    ensures near { place ≤ result + 20 }
+    ensures within { result ≤ 96 }
+    ensures written { drop result buffer.new ≡ decimal number ++ drop place buffer.old }
+    ensures fits { IsCount number }
+{
+    itoa::write_digits(number, buffer, place)
+}
+
+/// The same with a comma after the number.
+pub fn item_before(buffer: &mut [u8; 96], place: usize, number: u64) -> usize
+    requires within { place ≤ 96 }
+    requires room { 21 ≤ place }
+    ensures near { place ≤ result + 21 }
+    ensures within { result ≤ 96 }
+    ensures written { drop result buffer.new ≡ decimal number ++ 44 ∷ drop place buffer.old }
+    ensures fits { IsCount number }
+{
+    buffer[place - 1] = b',';
+    digits_before(buffer, place - 1, number)
+}
