@@ -1,5 +1,6 @@
 pub mod AddLaws
 pub mod Adding
+pub mod Begun
 mod Below
 pub mod Blocked
 pub mod Copied

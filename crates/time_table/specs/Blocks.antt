@@ -2,7 +2,8 @@
 use Rattle.std.specs.Prelude.{◌≡◌, ℕ, zero, suc, ◌+◌, ◌<◌, ◌≤◌, ◌^◌, ◌⊎◌, slice_index_or, List, [], ◌∷◌, ◌++◌, length, map, All}
 use Rattle.probe_core.specs.Roomy.{Roomy}
 use Rattle.time_table.specs.declared.row.Row.{Row}
-use Rattle.time_table.specs.Totals.{Rise, counts_from, last_total, bin_after, raised}
+use Rattle.time_table.specs.declared.form.Split.{Split}
+use Rattle.time_table.specs.Totals.{Rise, counts_from, totals_from, last_total, bin_after, raised}
 use Rattle.time_table.specs.Places.{more}
 
 -- rows, and room for some more
@@ -139,3 +140,11 @@ pub record GivesRow (giver taker giver' taker' : Block) : Type 0 where
   pub longer : length taker'.items ≡ length taker.items + 1
   pub giver_room : length giver.items + giver.spare ≤ length giver'.items + giver'.spare
   pub taker_room : length taker.items + taker.spare ≤ length taker'.items + taker'.spare
+
+-- heads and blocks with a block more at the end, of some rows, and its head
+pub record HasPart (rows : List (ℕ × ℕ)) (bin total : ℕ) (old new : Split) : Type 0 where
+  pub block : Block
+  pub sized : IsSized block
+  pub items : block.items ≡ totals_from 0 rows
+  pub heads : new.heads.items ≡ old.heads.items ++ record { bin = bin; total = total } ∷ []
+  pub blocks : new.blocks.items ≡ old.blocks.items ++ block ∷ []

@@ -18,6 +18,11 @@ abbrev pub counts_from : ℕ → List Row → List (ℕ × ℕ)
 counts_from before [] = []
 counts_from before (row ∷ rows) = (row.bin, row.total - before) ∷ counts_from row.total rows
 
+-- rows with their running totals, where the total before them is `before`
+abbrev pub totals_from : ℕ → List (ℕ × ℕ) → List Row
+totals_from before [] = []
+totals_from before (e ∷ es) = record { bin = e.0; total = before + e.1 } ∷ totals_from (before + e.1) es
+
 -- the counts of rows that rise
 unfoldable pub counts : List Row → BinCounts
 counts rows = from_sorted (counts_from 0 rows)

@@ -350,7 +350,7 @@ impl Form {
 }
 
 /// Heads and blocks in a box.
-fn boxed(alloc: Global, split: Split) -> Result<Box<Split>, NoMemory>
+pub fn boxed(alloc: Global, split: Split) -> Result<Box<Split>, NoMemory>
     ensures { IfOk result (λ boxed. boxed.value ≡ split) }
 {
     match Box::new(alloc, split) {

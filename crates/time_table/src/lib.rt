@@ -15,6 +15,7 @@
 //! ```
 #![tactic(auto)]
 
+mod blocks_of;
 mod change;
 mod few;
 mod form;

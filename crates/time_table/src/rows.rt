@@ -1,13 +1,14 @@
 //! The rows of a table in order, without a search for each.
-ghost use Rattle.std.specs.Prelude.{◌≡◌, ◌↔◌, ◌≤◌, ◌^◌, [], ◌∷◌, ◌++◌, length, All, IfOk, IfSome, OnOk, IsTrue};
-ghost use Rattle.time_table.specs.Totals.{Rise, counts_from};
+ghost use Rattle.std.specs.Prelude.{◌≡◌, ◌↔◌, ◌+◌, ◌≤◌, ◌^◌, [], ◌∷◌, ◌++◌, length, All, IfOk, IfSome, OnOk, IsTrue};
+ghost use Rattle.time_table.specs.Totals.{Rise, counts_from, totals_from};
 ghost use Rattle.time_table.specs.Blocks.{flat, parts};
 ghost use Rattle.time_table.specs.Forms.{IsSingle, IsForm, form_entries, rows_of};
 ghost use Rattle.time_table.specs.Fews.{few_rows};
 ghost use Rattle.time_table.specs.Rows.{AreRows, row_total};
 
+use crate::blocks_of::split_of;
 use crate::few::Few;
-use crate::form::Form;
+use crate::form::{Form, boxed};
 use crate::row::{Row, ThinRow};
 use outer_io::NoMemory;
 use probe_core::{Rows, Steps};
@@ -141,14 +142,20 @@ pub fn is_bare(form: &Form) -> bool
     }
 }
 
-/// A few rows, each put behind the others.
-fn single_of(alloc: Global, rows: &[(u32, u64)]) -> Result<Rows<Row>, NoMemory>
-    requires fit { AreRows 0 rows.now }
-    requires light { row_total rows.now ≤ 2 ^ 63 }
-    requires few { length rows.now ≤ 63 }
-    ensures { IfOk result (λ made. IsSingle made.items × (counts_from 0 made.items ≡ rows.now)) }
+/// Rows with their running totals, each put behind the others, and how much they count together. The list has room for
+/// as many as are asked for.
+pub fn totals_of(
+    alloc: Global,
+    rows: &[(u32, u64)],
+    room: usize,
+) -> Result<(Rows<Row>, u64), NoMemory>
+    requires { row_total rows.now ≤ 2 ^ 63 }
+    ensures made { IfOk result (λ made. made.0.items ≡ totals_from 0 rows.now) }
+    ensures total { IfOk result (λ made. made.1 ≡ row_total rows.now) }
+    ensures room { IfOk result (λ made. room ≤ length made.0.items + made.0.spare) }
 {
     let mut made = Rows::new(alloc);
+    made.reserve(room)?;
     let mut total = 0;
     for i in 0..rows.len() {
         total += rows[i].1;
@@ -158,7 +165,7 @@ fn single_of(alloc: Global, rows: &[(u32, u64)]) -> Result<Rows<Row>, NoMemory>
         };
         made.insert(i, row)?;
     }
-    Ok(made)
+    Ok((made, total))
 }
 
 /// Up to three rows that lie in a table's own bytes, where their totals have 32 bits.
@@ -184,16 +191,30 @@ fn few_of(rows: &[(u32, u64)]) -> Option<Few>
     }
 }
 
-/// A table of a few rows.
-pub fn form_of(alloc: Global, rows: &[(u32, u64)]) -> Result<Form, NoMemory>
+/// A few rows as one list.
+fn single_of(alloc: Global, rows: &[(u32, u64)]) -> Result<Rows<Row>, NoMemory>
     requires fit { AreRows 0 rows.now }
     requires light { row_total rows.now ≤ 2 ^ 63 }
     requires few { length rows.now ≤ 63 }
+    ensures { IfOk result (λ made. IsSingle made.items × (counts_from 0 made.items ≡ rows.now)) }
+{
+    let (made, _) = totals_of(alloc, rows, rows.len())?;
+    Ok(made)
+}
+
+/// The form of a table with these rows, which no row is searched for.
+pub fn form_of(alloc: Global, rows: &[(u32, u64)]) -> Result<Form, NoMemory>
+    requires fit { AreRows 0 rows.now }
+    requires light { row_total rows.now ≤ 2 ^ 63 }
     ensures { IfOk result (λ form. IsForm form × (form_entries form ≡ rows.now)) }
 {
     if let Some(few) = few_of(rows) {
         return Ok(Form::Few(few));
     }
-    let rows = single_of(alloc, rows)?;
-    Ok(Form::Single(rows))
+    if rows.len() <= 63 {
+        let rows = single_of(alloc, rows)?;
+        return Ok(Form::Single(rows));
+    }
+    let split = split_of(alloc, rows)?;
+    Ok(Form::Split(boxed(alloc, split)?))
 }

@@ -189,21 +189,15 @@ impl TimeTable {
         Ok(TimeTable { alloc, form })
     }
 
-    /// A table of bins with their counts, which stand in rising order of bin. Rows are put behind each other, and only a
-    /// long table is searched.
+    /// A table of bins with their counts, which stand in rising order of bin. Rows are put behind each other, and none is
+    /// searched for.
     pub fn of_rows(alloc: Global, rows: &[(u32, u64)]) -> Result<TimeTable, NoMemory>
         requires fit { AreRows 0 rows.now }
         requires light { row_total rows.now ≤ 2 ^ 63 }
         ensures { IfOk result (λ table. table ≡ from_sorted rows.now) }
     {
-        let few = rows.len().min(63);
-        let form = form_of(alloc, &rows[..few])?;
-        let mut table = TimeTable { alloc, form };
-        for i in few..rows.len() {
-            let (bin, count) = rows[i];
-            table.add_many(bin, count)?;
-        }
-        Ok(table)
+        let form = form_of(alloc, rows)?;
+        Ok(TimeTable { alloc, form })
     }
 
     /// Puts all bins with their counts at the end of others, in rising order of bin. It looks at each row once.

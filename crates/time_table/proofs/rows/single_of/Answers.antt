@@ -1,24 +1,5 @@
-use Rattle.std.proofs.Common.{◌≡◌, ◌+◌, ℕ, ◌<◌, length, take, get_or, ap, sym, refl, ◌∙◌, arith}
-use Rattle.std.proofs.lemmas.List.{get_or_default, length-take-le, take_all}
-use Rattle.time_table.specs.declared.row.Row.{Row}
-use Rattle.time_table.proofs.RowLists.{totals_from, length-totals, totals_put, row_total-more, single_totals}
+use Rattle.time_table.proofs.RowLists.{single_totals}
 use Rattle.time_table.proofs.rows.single_of.Goals as goal
 
-pub insert-requires : goal.insert-requires
-insert-requires c =
-    let long = ap length c.loop-i.invariant.made ∙ length-totals 0 (take c.loop-i.i c.args.rows.now) ∙ length-take-le c.loop-i.i c.args.rows.now (omega arith) in
-    omega (arith, long)
-
-pub loop-i-preserved : goal.loop-i-preserved
-loop-i-preserved c =
-    let rows = c.args.rows.now in
-    let e : ℕ × ℕ = get_or rows c.loop-i.i (0, 0) in
-    let within : c.loop-i.i < length rows = omega arith in
-    let read : e ≡ get_or rows c.loop-i.i e = get_or_default rows c.loop-i.i (0, 0) e within in
-    let row : Row = record { bin = e.0; total = c.loop-i.total + e.1 } in record {
-      made = totals_put c.loop-i.i rows e c.loop-i.made.items c.insert.new.self.items row within read c.loop-i.invariant.made refl (ap (λ n. n + e.1) c.loop-i.invariant.total) c.in_ok-insert.ensures.inserted;
-      total = ap (λ n. n + e.1) c.loop-i.invariant.total ∙ sym (row_total-more c.loop-i.i rows e within read);
-    }
-
 pub returns : goal.returns
-returns c = single_totals c.args.rows.now c.loop-i.made.items c.requires.fit c.requires.few (c.loop-i.invariant.made ∙ ap (totals_from 0) (take_all c.loop-i.i c.args.rows.now (omega arith)))
+returns c = single_totals c.args.rows.now _ c.requires.fit c.requires.few c.in_ok-made.ensures.made
