@@ -70,22 +70,31 @@ fn put_node<L: Ledger>(
     requires able { CanPut arena.now order.now.numbers.items }
     ensures { OnOk result (out.new.items ≡ out.old.items ++ slot_bytes (moved order.now.places (slot_of arena.now id.0))) }
 {
-    put_short(out, 1, child_count(arena, id) as u16)?;
-    put_children(out, arena, id, order)?;
+    let count = child_count(arena, id);
+    put_short(out, 1, count as u16)?;
+    put_children(out, arena, id, count, order)?;
     match arena.content(id, steps) {
         Some(link) => put_link(out, link, order),
         None => put(out, &[0]),
     }
 }
 
-/// Puts the children of a node.
-fn put_children(out: &mut Vec<u8>, arena: &Arena, id: SlotId, order: &Order) -> Result<(), NoMemory>
+/// Puts the children of a node, which are so many.
+fn put_children(
+    out: &mut Vec<u8>,
+    arena: &Arena,
+    id: SlotId,
+    count: usize,
+    order: &Order,
+) -> Result<(), NoMemory>
     requires in_range { id.0 < length arena.now }
     requires is_node { IsNode (slot_of arena.now id.0) }
+    requires count { count ≡ length (told_children arena.now id.0) }
+    requires all { told_children arena.now id.0 ≡ children_of (slot_of arena.now id.0) }
     requires able { CanPut arena.now order.now.numbers.items }
     ensures { OnOk result (out.new.items ≡ out.old.items ++ flat_map (λ c. child_bytes (moved_child order.now.places c)) (told_children arena.now id.0)) }
 {
-    for i in 0..child_count(arena, id) {
+    for i in 0..count {
         let (label, link) = arena.child_at(id, i);
         put_child(out, label, link, order)?;
     }

@@ -12,7 +12,7 @@ returns-in-Some g c =
     on_ok_weaker c.put_link.result
     (λ (is : c.put_link.new.out.items ≡ c.put_children.new.out.items ++ link_bytes (moved_link c.args.order.now.places c.in-Some.link)).
     node_put c.args.order.now.places (slot_of c.args.arena.now c.args.id.0) (Some c.in-Some.link) c.args.out.now.items c.put_short.new.out.items c.put_children.new.out.items c.put_link.new.out.items c.requires.is_node c.in-Some.ensures.link
-    (c.in_ok-put_short.ensures ∙ ap (λ (n : ℕ). c.args.out.now.items ++ (1 ∷ to_be_bytes w16 n)) c.child_count.ensures.count) c.in_ok-put_children.ensures is)
+    (c.in_ok-put_short.ensures ∙ ap (λ (n : ℕ). c.args.out.now.items ++ (1 ∷ to_be_bytes w16 n)) c.child_count-count.ensures.count) c.in_ok-put_children.ensures is)
     c.put_link.ensures
 
 pub returns-in-None : goal.returns-in-None
@@ -20,5 +20,5 @@ returns-in-None g c =
     on_ok_weaker c.put.result
     (λ (is : c.put.new.out.items ≡ c.put_children.new.out.items ++ 0 ∷ []).
     node_put c.args.order.now.places (slot_of c.args.arena.now c.args.id.0) None c.args.out.now.items c.put_short.new.out.items c.put_children.new.out.items c.put.new.out.items c.requires.is_node c.in-None.ensures.link
-    (c.in_ok-put_short.ensures ∙ ap (λ (n : ℕ). c.args.out.now.items ++ (1 ∷ to_be_bytes w16 n)) c.child_count.ensures.count) c.in_ok-put_children.ensures is)
+    (c.in_ok-put_short.ensures ∙ ap (λ (n : ℕ). c.args.out.now.items ++ (1 ∷ to_be_bytes w16 n)) c.child_count-count.ensures.count) c.in_ok-put_children.ensures is)
     c.put.ensures
