@@ -63,8 +63,8 @@ fn put_total(out: &mut Vec<u8>, total: u64) -> Result<(), NoMemory>
 
 // Puts the first bin of a row, its total and its closing bracket.
 fn put_bin(out: &mut Vec<u8>, start: u64, total: u64) -> Result<(), NoMemory>
-    ensures text { OnOk result (out.new.items ≡ out.old.items ++ (decimal start ++ 44 ∷ (decimal total ++ 93 ∷ []))) }
-    ensures fits { IsCount start × IsCount total }
+    ensures text { OnOk result (out.new.items ≡ out.old.items ++ items_text false (items_of (row_items (RowOut.Bin start total)))) }
+    ensures fits { RowFits (RowOut.Bin start total) }
 {
     let mut end = [b']'; 96];
     let at = digits_before(&mut end, 95, total);
@@ -74,7 +74,7 @@ fn put_bin(out: &mut Vec<u8>, start: u64, total: u64) -> Result<(), NoMemory>
 
 // Puts the tile of a row, its total and its closing bracket.
 fn put_area(out: &mut Vec<u8>, tile: Tile, total: u64) -> Result<(), NoMemory>
-    ensures text { OnOk result (out.new.items ≡ out.old.items ++ (decimal tile.z ++ 44 ∷ (decimal tile.x ++ 44 ∷ (decimal tile.y ++ 44 ∷ (decimal total ++ 93 ∷ []))))) }
+    ensures text { OnOk result (out.new.items ≡ out.old.items ++ items_text false (items_of (row_items (RowOut.Area tile total)))) }
     ensures fits { RowFits (RowOut.Area tile total) }
 {
     let mut end = [b']'; 96];

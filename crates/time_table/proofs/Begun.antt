@@ -9,7 +9,7 @@ use Rattle.time_table.specs.declared.row.Row.{Row}
 use Rattle.time_table.specs.declared.form.Split.{Split}
 use Rattle.time_table.specs.Totals.{Rise, counts_from, totals_from, last_total, bin_after}
 use Rattle.time_table.specs.Rows.{AreRows, row_total}
-use Rattle.time_table.specs.Blocks.{Block, parts, IsHead, Held, AreLast, IsSized, AllSized, IsSplit, HasPart}
+use Rattle.time_table.specs.Blocks.{Block, parts, IsHead, Held, AreLast, IsSized, AllSized, IsSplit, AddsBlock}
 use Rattle.time_table.proofs.Joined.{bin_after-lt, All-bin_after, length-le-total, last_total-append}
 use Rattle.time_table.proofs.RowLists.{counts_from-totals, Rise-totals, bins-totals, length-totals}
 
@@ -108,7 +108,7 @@ begun-end least before (x ∷ hs) (y ∷ bs) h b begun head end sized =
 -- ---- rows that are put block by block
 
 -- a block that was put at the end, and its head
-pub put_last : (rows : List (ℕ × ℕ)) (old new : Split) (block : Block) (head : Row) (i j : ℕ) → i ≡ length old.heads.items → j ≡ length old.blocks.items → new.heads.items ≡ insert old.heads.items i head → new.blocks.items ≡ insert old.blocks.items j block → block.items ≡ totals_from 0 rows → 64 ≤ length block.items + block.spare → 32 ≤ length rows → length rows ≤ 63 → HasPart rows head.bin head.total old new
+pub put_last : (rows : List (ℕ × ℕ)) (old new : Split) (block : Block) (head : Row) (i j : ℕ) → i ≡ length old.heads.items → j ≡ length old.blocks.items → new.heads.items ≡ insert old.heads.items i head → new.blocks.items ≡ insert old.blocks.items j block → block.items ≡ totals_from 0 rows → 64 ≤ length block.items + block.spare → 32 ≤ length rows → length rows ≤ 63 → AddsBlock rows head.bin head.total old new
 put_last rows old new block head i j at at' heads blocks items room least most =
     let long : length block.items ≡ length rows = ap length items ∙ length-totals 0 rows in
     record {
@@ -139,7 +139,7 @@ begun_none rows split fit light many heads blocks =
       many = many;
     }
 
-pub begun_more : (rows rest front back : List (ℕ × ℕ)) (total total' k : ℕ) (e : ℕ × ℕ) (split split' : Split) → IsBegun rows rest total split → rest ≡ front ++ back → k + 1 ≡ length front → e ≡ get_or front k e → 32 ≤ length back → total' ≡ total + row_total front → HasPart front e.0 total' split split' → IsBegun rows back total' split'
+pub begun_more : (rows rest front back : List (ℕ × ℕ)) (total total' k : ℕ) (e : ℕ × ℕ) (split split' : Split) → IsBegun rows rest total split → rest ≡ front ++ back → k + 1 ≡ length front → e ≡ get_or front k e → 32 ≤ length back → total' ≡ total + row_total front → AddsBlock front e.0 total' split split' → IsBegun rows back total' split'
 begun_more rows rest front back total total' k e split split' is around long read many sum part =
     let least : ℕ = bin_after 0 split.heads.items in
     let fits = rows_parted least 0 front back (subst (AreRows least) around is.fit) in
@@ -164,7 +164,7 @@ begun_more rows rest front back total total' k e split split' is around long rea
       many = many;
     }
 
-pub begun_whole : (rows rest : List (ℕ × ℕ)) (total total' : ℕ) (split split' : Split) → IsBegun rows rest total split → total' ≡ total + row_total rest → HasPart rest 4294967295 total' split split' → IsSplit split'.heads.items split'.blocks.items × (parts split'.blocks.items ≡ rows)
+pub begun_whole : (rows rest : List (ℕ × ℕ)) (total total' : ℕ) (split split' : Split) → IsBegun rows rest total split → total' ≡ total + row_total rest → AddsBlock rest 4294967295 total' split split' → IsSplit split'.heads.items split'.blocks.items × (parts split'.blocks.items ≡ rows)
 begun_whole rows rest total total' split split' is sum part =
     let least : ℕ = bin_after 0 split.heads.items in
     let h : Row = record { bin = 4294967295; total = total' } in

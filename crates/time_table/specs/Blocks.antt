@@ -142,7 +142,7 @@ pub record GivesRow (giver taker giver' taker' : Block) : Type 0 where
   pub taker_room : length taker.items + taker.spare ≤ length taker'.items + taker'.spare
 
 -- heads and blocks with a block more at the end, of some rows, and its head
-pub record HasPart (rows : List (ℕ × ℕ)) (bin total : ℕ) (old new : Split) : Type 0 where
+pub record AddsBlock (rows : List (ℕ × ℕ)) (bin total : ℕ) (old new : Split) : Type 0 where
   pub block : Block
   pub sized : IsSized block
   pub items : block.items ≡ totals_from 0 rows

@@ -1,6 +1,6 @@
 //! Heads and blocks of rows, made in one pass.
 ghost use Rattle.std.specs.Prelude.{◌≡◌, ◌+◌, ◌≤◌, ◌^◌, length, IfOk};
-ghost use Rattle.time_table.specs.Blocks.{IsSplit, HasPart, parts};
+ghost use Rattle.time_table.specs.Blocks.{IsSplit, AddsBlock, parts};
 ghost use Rattle.time_table.specs.Rows.{AreRows, row_total};
 
 use crate::form::Split;
@@ -24,7 +24,7 @@ fn put_part(
     requires least { 32 ≤ length rows.now }
     requires most { length rows.now ≤ 63 }
     ensures total { IfOk result (λ total. total ≡ below + row_total rows.now) }
-    ensures part { IfOk result (λ total. HasPart rows.now bin total split.old split.new) }
+    ensures part { IfOk result (λ total. AddsBlock rows.now bin total split.old split.new) }
 {
     let (block, count) = totals_of(alloc, rows, 64)?;
     let total = below + count;
