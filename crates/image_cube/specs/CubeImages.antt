@@ -47,3 +47,7 @@ LoadsCube schema bytes (Err fault) = Refuses schema bytes fault
 -- whatever slots the bytes are the image of, their numbers are those of the given ones
 abbrev pub KeepsNumbers : List ℕ → Schema → List Slot → Type 0
 KeepsNumbers bytes schema slots = (again : List Slot) (size : ℕ) → IsFitImage schema bytes again size → stat_of again ≡ stat_of slots
+
+-- The bytes are the image of a cube of each list of records that the cube counts, and keep its numbers.
+abbrev pub IsSavedCube : Cube → List ℕ → Type 0
+IsSavedCube cube bytes = (h : List Point) → CubeCounts cube h → AreRecords cube.schema h → IsCubeImage cube.schema bytes h × KeepsNumbers bytes cube.schema cube.arena

@@ -7,7 +7,7 @@ ghost use Rattle.probe_core.specs.Blanks.{IsBlankOf};
 ghost use Rattle.cube_image.specs.Image.{IsWritten};
 ghost use Rattle.cube_store.specs.Holding.{CubeCounts};
 ghost use Rattle.image_shape.specs.Laws.{AllTablesCounted};
-ghost use Rattle.image_cube.specs.CubeImages.{AreRecords, IsCubeImage, HasLongCubeImage, KeepsNumbers};
+ghost use Rattle.image_cube.specs.CubeImages.{HasLongCubeImage, IsSavedCube};
 
 use cube_image::{SaveFault, image_laws, write_image};
 use cube_store::Cube;
@@ -19,10 +19,11 @@ use std::marker::Brand;
 use std::sync::ledger::{Blank, Ledger};
 
 /// The image of a cube. Where the points that the cube counts are records of its schema, it is the image of a cube of
-/// them, and what is read of it has the numbers of the cube's slots and links. `TooLong` comes exactly where it has more than 2^30 bytes, unless memory was wanted before.
+/// them, and what is read of it has the numbers of the cube's slots and links. `TooLong` comes exactly where it has more
+/// than 2^30 bytes, unless memory was wanted before.
 pub fn save_cube(alloc: Global, cube: &Cube) -> Result<List<u8>, SaveFault>
     ensures written { IfOk result (IsWritten cube.now.arena cube.now.size) }
-    ensures image { IfOk result (λ bytes. (h : List Point) → CubeCounts cube.now h → AreRecords cube.now.schema h → IsCubeImage cube.now.schema bytes h × KeepsNumbers bytes cube.now.schema cube.now.arena) }
+    ensures image { IfOk result (IsSavedCube cube.now) }
     ensures too_long { result ≡ Err SaveFault.TooLong → (h : List Point) → CubeCounts cube.now h → HasLongCubeImage cube.now.schema h }
 {
     image_laws();

@@ -1,5 +1,5 @@
 -- Homes that lie behind one another in one list of steps.
-use Rattle.std.specs.Prelude.{◌≡◌, ℕ, ◌<◌, ◌≤◌, List, [], ◌∷◌, map, length, slice_index_or, slice_range, All}
+use Rattle.std.specs.Prelude.{◌≡◌, ℕ, ◌<◌, ◌≤◌, List, [], ◌∷◌, ◌++◌, map, length, slice_index_or, slice_range, All}
 use Rattle.shape_test.specs.declared.home.Move.{Move}
 use Rattle.shape_test.specs.declared.home_list.Span.{Span}
 
@@ -25,3 +25,7 @@ pub record AreSpans (moves : List Move) (spans : List Span) : Type 0 where
   pub within : All (IsSpan (length moves)) spans
   -- and is one step longer than the one that is named for it
   pub above : (i : ℕ) (d : Span) → i < length spans → HasAbove (spanned moves spans) i (slice_index_or spans i d)
+
+-- homes, and behind them an earlier one with a step before it
+abbrev pub with_step : List (List Move) → Move → ℕ → List (List Move)
+with_step homes step above = homes ++ (step ∷ slice_index_or homes above []) ∷ []

@@ -1,6 +1,6 @@
 //! The homes of slots in one list of steps.
 ghost use Rattle.std.specs.Prelude.{◌≡◌, ◌<◌, ◌++◌, ◌∷◌, [], length, slice_index_or, IfSome, OnOk};
-ghost use Rattle.shape_test.specs.Spans.{spanned, AreSpans};
+ghost use Rattle.shape_test.specs.Spans.{spanned, with_step, AreSpans};
 
 use crate::home::Move;
 use outer_io::NoMemory;
@@ -88,7 +88,7 @@ impl HomeList {
     /// Adds a home with one more step before it.
     pub fn add_step(&mut self, step: Move, by: usize) -> Result<(), NoMemory>
         requires { by < length self.old }
-        ensures { OnOk result (self.new ≡ self.old ++ (step ∷ slice_index_or self.old by []) ∷ []) }
+        ensures { OnOk result (self.new ≡ with_step self.old step by) }
     {
         put_step(&mut self.moves, &mut self.spans, step, by)
     }
@@ -114,7 +114,7 @@ fn put_step(
     requires spans { AreSpans moves.old.items spans.old.items }
     requires earlier { above < length spans.old.items }
     ensures spans { AreSpans moves.new.items spans.new.items }
-    ensures put { OnOk result (spanned moves.new.items spans.new.items ≡ spanned moves.old.items spans.old.items ++ (step ∷ slice_index_or (spanned moves.old.items spans.old.items) above []) ∷ []) }
+    ensures put { OnOk result (spanned moves.new.items spans.new.items ≡ with_step (spanned moves.old.items spans.old.items) step above) }
 {
     let behind = spans[above];
     let start = moves.len();
