@@ -18,7 +18,7 @@ SECTIONS = {
               "python3 {bench}/load_times.py {both} --groups {groups} --records 1000000 --kinds checkins --batches 64,65536 --feeds 1"],
     "sessions": ["{bench}/measure.sh session_times"],
     "windows": ["{bench}/measure.sh window_times", "{bench}/measure.sh window_times cube", "python3 {bench}/window_times/steps.py"],
-    "images": ["{bench}/measure.sh image_times", "python3 {bench}/run_times.py {program} image"],
+    "images": ["{bench}/measure.sh --unproved image_times", "python3 {bench}/run_times.py {program} image"],
     "runs": ["python3 {bench}/run_times.py {program} city", "python3 {bench}/run_times.py {program} big", "python3 {bench}/run_times.py {program} recount"],
     "pipes": ["python3 {bench}/soak.py {program}", "python3 {bench}/live_times.py idle {both}", "python3 {bench}/live_times.py latency {both} --seconds 3",
               "python3 {bench}/live_times.py city {both} --rounds 1", "python3 {bench}/live_times.py memory {program} --counts 3600,100000,1000000,4000000",
