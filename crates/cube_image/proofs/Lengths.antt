@@ -1,17 +1,14 @@
--- How many bytes links, slots and images have.
-use Rattle.std.proofs.Common.{◌≡◌, ℕ, suc, ◌+◌, ◌*◌, ◌≤◌, Bool, true, false, cond, ltb, List, [], ◌∷◌, ◌++◌, length, map, true≢false, Option, Some, None, sum_by, refl, sym, ap, ◌∙◌, arith, length-append}
-use Rattle.std.proofs.lemmas.List.{length-map}
-use Rattle.std.proofs.lemmas.List.Sums.{sum_by-cons}
+-- How many bytes links and slots have.
+use Rattle.std.proofs.Common.{◌≡◌, ℕ, suc, ◌+◌, ◌*◌, ◌≤◌, Bool, true, false, cond, ltb, List, [], ◌∷◌, ◌++◌, length, map, true≢false, Option, Some, None, refl, sym, ap, ◌∙◌, arith, length-append}
 use Rattle.std.specs.FinMap.{entries, len, len-entries}
 use Rattle.std.specs.Int.{to_be_bytes, w16, w64}
 use Rattle.std.specs.List.{flat_map}
 use Rattle.node_arena.specs.declared.link.Link.{Link}
 use Rattle.time_table.specs.Counts.{BinCounts}
 use Rattle.cube_view.specs.Walks.{across}
-use Rattle.node_arena.specs.Slots.{Children, Slot, node, table, slot_of, IsNode, IsTable, children_of, counts_of, link}
-use Rattle.cube_image.specs.Bytes.{child_bytes, content_bytes, row_bytes, table_bytes, node_bytes, slot_bytes, head_bytes, image_bytes}
-use Rattle.cube_image.specs.Image.{image_length}
-use Rattle.cube_image.specs.Order.{moved, moved_child, moved_content, in_order}
+use Rattle.node_arena.specs.Slots.{Children, Slot, node, table, IsNode, IsTable, children_of, counts_of, link}
+use Rattle.cube_image.specs.Bytes.{child_bytes, content_bytes, row_bytes, table_bytes, node_bytes, slot_bytes}
+use Rattle.cube_image.specs.Order.{moved_child}
 use Rattle.cube_image.specs.Rest.{below_number, byte_children, word_rows}
 
 length-children : (children : Children) → length (flat_map child_bytes children) ≡ 10 * length children
@@ -51,35 +48,6 @@ byte_children-map places (c ∷ children) =
       | false ↦ r
     ]
 
-length-moved : (places : List ℕ) (s : Slot) → length (slot_bytes (moved places s)) ≡ length (slot_bytes s)
-length-moved places (table counts) = refl
-length-moved places (node children content) =
-    let few = ap length (byte_children-map places children) in
-    let size = length-map (byte_children children) (moved_child places) in
-    let a = length-node (byte_children (map (moved_child places) children)) (moved_content places content) in
-    let b = length-node (byte_children children) content in
-    let c = same content in
-    omega arith
-  where
-    same : (o : Option Link) → length (content_bytes (moved_content places o)) ≡ length (content_bytes o)
-    same None = refl
-    same (Some l) = refl
-
-length-slots : (slots : List Slot) (order places : List ℕ) → length (flat_map slot_bytes (map (λ i. moved order (slot_of slots i)) places)) ≡ sum_by (λ i. length (slot_bytes (slot_of slots i))) places
-length-slots slots order [] = refl
-length-slots slots order (i ∷ places) =
-    let r = length-slots slots order places in
-    let m = length-moved order (slot_of slots i) in
-    length-append (slot_bytes (moved order (slot_of slots i))) (flat_map slot_bytes (map (λ i. moved order (slot_of slots i)) places))
-    ∙ (omega (arith, r, m) ∙ sym (sum_by-cons (λ i. length (slot_bytes (slot_of slots i))) i places))
-
--- an image has as many bytes as its head and its slots
-pub length-image : (slots : List Slot) (size : ℕ) (places : List ℕ) → length (image_bytes size (in_order slots places)) ≡ image_length slots places
-length-image slots size places =
-    let r = length-slots slots places places in
-    let head : length (head_bytes size (length (in_order slots places))) ≡ 24 = refl in
-    length-append (head_bytes size (length (in_order slots places))) (flat_map slot_bytes (in_order slots places)) ∙ omega (arith, r, head)
-
 -- the bytes of a node with a content, and of one without
 pub node_len-some : (s : Slot) (n : ℕ) (l : Link) → IsNode s → Some l ≡ link s across → n ≡ length (byte_children (children_of s)) → 12 + 10 * n ≡ length (slot_bytes s)
 node_len-some (table counts) n l is at count = absurd (true≢false is)
@@ -93,14 +61,6 @@ node_len-none (table counts) n is at count = absurd (true≢false is)
 node_len-none (node children content) n is at count =
     let a = length-node (byte_children children) content in
     let c : length (content_bytes content) ≡ 1 = ap (λ o. length (content_bytes o)) (sym at) in
-    omega arith
-
--- the bytes of a time table
-pub table_len : (s : Slot) (n : ℕ) (m : BinCounts) → IsTable s → m ≡ counts_of s → n ≡ length (word_rows m) → 9 + 12 * n ≡ length (slot_bytes s)
-table_len (node children content) n m is at count = absurd (true≢false (sym is))
-table_len (table counts) n m is at count =
-    let a = length-table (word_rows counts) in
-    let e : length (word_rows m) ≡ length (word_rows counts) = ap (λ (k : BinCounts). length (word_rows k)) at in
     omega arith
 
 -- no more pairs are below a number than there are

@@ -1,9 +1,9 @@
 -- The bytes of slots and of an image, put piece by piece.
-use Rattle.std.proofs.Common.{◌≡◌, ℕ, ◌+◌, ◌<◌, ◌≤◌, List, [], ◌∷◌, ◌++◌, length, map, Option, refl, sym, ap, ◌∙◌, arith, append_assoc, true≢false, take, get_or, sum_by}
+use Rattle.std.proofs.Common.{◌≡◌, ℕ, ◌+◌, ◌<◌, ◌≤◌, List, [], ◌∷◌, ◌++◌, length, map, Option, refl, sym, ap, ◌∙◌, arith, append_assoc, length-append, true≢false, take, drop, get_or}
 use Rattle.std.specs.Coded.{le_prop}
 use Rattle.std.proofs.Math.Logic.{∥∥₁_elim}
-use Rattle.std.proofs.lemmas.List.{length-map, get_or-map}
-use Rattle.std.proofs.lemmas.List.Sums.{sum_by_more, sum_by_more_le}
+use Rattle.std.proofs.lemmas.List.{length-map, get_or-map, take-append-drop}
+use Rattle.std.proofs.lemmas.Grind.{flat_map-append}
 use Rattle.std.proofs.lemmas.List.Folds.{flat_map-map}
 use Rattle.std.specs.Int.{to_be_bytes, w16}
 use Rattle.std.specs.List.{flat_map}
@@ -15,10 +15,10 @@ use Rattle.node_arena.specs.Stats.{AllRising}
 use Rattle.node_arena.proofs.Reaching.{target-lt}
 use Rattle.cube_image.specs.Bytes.{child_bytes, content_bytes, table_bytes, slot_bytes, head_bytes, image_bytes}
 use Rattle.cube_image.specs.Conditions.{HasSomeHomes, IsReadable}
-use Rattle.cube_image.specs.Image.{most_bytes, image_length, IsWritten, HasLongImage}
+use Rattle.cube_image.specs.Image.{most_bytes, IsWritten, HasLongImage}
 use Rattle.cube_image.specs.Order.{moved, moved_child, moved_content, IsOrder, in_order}
 use Rattle.cube_image.specs.Rest.{byte_children, word_rows}
-use Rattle.cube_image.proofs.Lengths.{byte_children-map, length-image}
+use Rattle.cube_image.proofs.Lengths.{byte_children-map}
 use Rattle.cube_image.proofs.Moving.{put_more}
 
 -- what is known of slots with homes
@@ -50,40 +50,45 @@ table_put places (node children content) m out new is at put = absurd (true≢fa
 table_put places (table counts) m out new is at put = put ∙ ap (λ (k : BinCounts). out ++ table_bytes (word_rows k)) at
 
 -- the image is written
-pub image_written : (slots : List Slot) (size : ℕ) (places bytes : List ℕ) → IsOrder slots places → image_length slots places ≤ most_bytes → bytes ≡ image_bytes size (in_order slots places) → IsWritten slots size bytes
+pub image_written : (slots : List Slot) (size : ℕ) (places bytes : List ℕ) → IsOrder slots places → length bytes ≤ most_bytes → bytes ≡ image_bytes size (in_order slots places) → IsWritten slots size bytes
 image_written slots size places bytes O fits is = record {
   image = record { places = places; ordered = O; text = is };
-  fits = let e = ap length is ∙ length-image slots size places in omega (arith, e, fits);
+  fits = fits;
 }
 
 -- the image is too long
-pub image_long : (slots : List Slot) (size : ℕ) (places : List ℕ) → IsOrder slots places → most_bytes < image_length slots places → HasLongImage slots size
-image_long slots size places O long = record {
-  bytes = image_bytes size (in_order slots places);
-  image = record { places = places; ordered = O; text = refl };
-  long = let e = length-image slots size places in omega (arith, e, long);
+pub image_long : (slots : List Slot) (size : ℕ) (places bytes : List ℕ) → IsOrder slots places → most_bytes < length bytes → bytes ≡ image_bytes size (in_order slots places) → HasLongImage slots size
+image_long slots size places bytes O long is = record {
+  bytes = bytes;
+  image = record { places = places; ordered = O; text = is };
+  long = long;
 }
 
 -- a slot more is put
-pub slot_put : (slots : List Slot) (places items start out new : List ℕ) (i : ℕ) → items ≡ places → i < length items → out ≡ start ++ flat_map slot_bytes (take i (in_order slots places)) → new ≡ out ++ slot_bytes (moved places (slot_of slots (get_or items i 0))) → new ≡ start ++ flat_map slot_bytes (take (i + 1) (in_order slots places))
-slot_put slots places items start out new i same lt before put =
+pub slot_put : (slots : List Slot) (places start out room new : List ℕ) (i place : ℕ) → i < length places → place ≡ get_or places i place → out ≡ start ++ flat_map slot_bytes (take i (in_order slots places)) → room ≡ out → new ≡ room ++ slot_bytes (moved places (slot_of slots place)) → new ≡ start ++ flat_map slot_bytes (take (i + 1) (in_order slots places))
+slot_put slots places start out room new i place lt here before same put =
     let size = length-map places (λ (k : ℕ). moved places (slot_of slots k)) in
-    let long = ap length same in
-    let at : get_or (in_order slots places) i (slot_of slots 0) ≡ moved places (slot_of slots (get_or places i 0)) = get_or-map (λ (k : ℕ). moved places (slot_of slots k)) places i 0 (slot_of slots 0) (omega (arith, lt, long)) in
-    put_more slot_bytes start out new (in_order slots places) i (slot_of slots 0) (omega (arith, lt, long, size)) before
-    (put ∙ ap (λ (s : Slot). out ++ slot_bytes s) (ap (λ (ps : List ℕ). moved places (slot_of slots (get_or ps i 0))) same ∙ sym at))
+    let at : get_or (in_order slots places) i (slot_of slots 0) ≡ moved places (slot_of slots (get_or places i place)) = get_or-map (λ (k : ℕ). moved places (slot_of slots k)) places i place (slot_of slots 0) lt in
+    put_more slot_bytes start out new (in_order slots places) i (slot_of slots 0) (omega (arith, lt, size)) before
+    (put ∙ (ap (λ (t : List ℕ). t ++ slot_bytes (moved places (slot_of slots place))) same ∙ ap (λ (s : Slot). out ++ slot_bytes s) (ap (λ (k : ℕ). moved places (slot_of slots k)) here ∙ sym at)))
 
--- the image is too long where some first slots take too many bytes
-pub length-more : (slots : List Slot) (places : List ℕ) (i len n : ℕ) → i < length places → len ≡ 24 + sum_by (λ k. length (slot_bytes (slot_of slots k))) (take i places) → n ≡ length (slot_bytes (slot_of slots (get_or places i 0))) → most_bytes < len + n → most_bytes < image_length slots places
-length-more slots places i len n lt is one more =
-    let most = sum_by_more_le (λ (k : ℕ). length (slot_bytes (slot_of slots k))) places i 0 lt in
-    omega (arith, is, one, more, most)
+-- all slots have at least as many bytes as some first ones
+pub slots_long : (slots : List Slot) (places start out : List ℕ) (i : ℕ) → out ≡ start ++ flat_map slot_bytes (take i (in_order slots places)) → most_bytes < length out → most_bytes < length (start ++ flat_map slot_bytes (in_order slots places))
+slots_long slots places start out i is long =
+    let first = flat_map slot_bytes (take i (in_order slots places)) in
+    let rest = flat_map slot_bytes (drop i (in_order slots places)) in
+    let all : first ++ rest ≡ flat_map slot_bytes (in_order slots places) = sym (flat_map-append slot_bytes (take i (in_order slots places)) (drop i (in_order slots places))) ∙ ap (flat_map slot_bytes) (take-append-drop i (in_order slots places)) in
+    let size = sym (length-append first rest) ∙ ap length all in
+    let some = ap length is ∙ length-append start first in
+    let whole = length-append start (flat_map slot_bytes (in_order slots places)) in
+    omega (arith, size, some, whole, long)
 
--- with one slot more there is room for it too
-pub bound-more : (slots : List Slot) (places : List ℕ) (i len n : ℕ) → i < length places → 24 + sum_by (λ k. length (slot_bytes (slot_of slots k))) (take i places) ≤ len → length (slot_bytes (slot_of slots (get_or places i 0))) ≤ n → 24 + sum_by (λ k. length (slot_bytes (slot_of slots k))) (take (i + 1) places) ≤ len + n
-bound-more slots places i len n lt enough one =
-    let more = sum_by_more (λ (k : ℕ). length (slot_bytes (slot_of slots k))) places i 0 lt in
-    omega (arith, more, enough, one)
+-- the head has few bytes
+pub head_few : (size n : ℕ) (out a : List ℕ) → out ≡ [] → a ≡ out ++ head_bytes size n → length a ≤ most_bytes
+head_few size n out a none is =
+    let head : length (head_bytes size n) ≡ 24 = refl in
+    let all : length a ≡ length (head_bytes size n) = ap length (is ∙ ap (λ (t : List ℕ). t ++ head_bytes size n) none) in
+    omega (arith, head, all)
 
 -- the head and the slots are put into a list that was empty
 pub image_put : (slots : List Slot) (size n : ℕ) (places out a b bytes : List ℕ) → out ≡ [] → a ≡ out ++ head_bytes size n → n ≡ length places → b ≡ a ++ flat_map slot_bytes (in_order slots places) → bytes ≡ b → bytes ≡ image_bytes size (in_order slots places)

@@ -1,7 +1,7 @@
 -- The image of an arena's slots.
-use Rattle.std.specs.Prelude.{◌≡◌, ℕ, ◌+◌, ◌<◌, ◌≤◌, ◌^◌, List, length, sum_by}
-use Rattle.node_arena.specs.Slots.{Slot, slot_of}
-use Rattle.cube_image.specs.Bytes.{slot_bytes, image_bytes}
+use Rattle.std.specs.Prelude.{◌≡◌, ℕ, ◌<◌, ◌≤◌, ◌^◌, List, length}
+use Rattle.node_arena.specs.Slots.{Slot}
+use Rattle.cube_image.specs.Bytes.{image_bytes}
 use Rattle.cube_image.specs.Order.{IsOrder, in_order}
 
 -- The bytes are the image of the slots, with a size.
@@ -26,7 +26,3 @@ pub record HasLongImage (slots : List Slot) (size : ℕ) : Type 0 where
   pub bytes : List ℕ
   pub image : IsImageOf slots size bytes
   pub long : most_bytes < length bytes
-
--- how many bytes the image has of the slots in an order
-abbrev pub image_length : List Slot → List ℕ → ℕ
-image_length slots places = 24 + sum_by (λ i. length (slot_bytes (slot_of slots i))) places

@@ -1,14 +1,17 @@
 //! The slots of an image as bytes.
-ghost use Rattle.std.specs.Prelude.{◌≡◌, ◌<◌, ◌++◌, length, OnOk, All};
+ghost use Rattle.std.specs.Prelude.{◌≡◌, ◌<◌, ◌≤◌, ◌++◌, length, OnOk, Err, All};
 ghost use Rattle.std.specs.List.{flat_map};
 ghost use Rattle.node_arena.specs.Slots.{IsNode, slot_of, children_of, target};
 ghost use Rattle.cube_image.specs.Bytes.{kind_byte, link_bytes, child_bytes, row_bytes, table_bytes, slot_bytes};
 ghost use Rattle.cube_image.specs.Conditions.{CanPut};
+ghost use Rattle.cube_image.specs.Image.{most_bytes};
 ghost use Rattle.cube_image.specs.Order.{order_number, moved, moved_child, moved_link, in_order};
 ghost use Rattle.cube_image.specs.Rest.{word_rows, told_children};
 
 use crate::bytes::{put, put_labelled, put_marked, put_pair, put_short};
 use crate::children::child_count;
+use crate::fault::SaveFault;
+use crate::length::{MOST_BYTES, make_room};
 use crate::order::Order;
 use crate::rows::read_rows;
 use node_arena::{Arena, Link, SlotId};
@@ -18,21 +21,32 @@ use std::alloc::Global;
 use std::sync::ledger::Ledger;
 use time_table::TimeTable;
 
-/// Puts all slots in their order.
+/// Puts all slots in their order. `TooLong` comes exactly where there are more than 2^30 bytes then, unless memory was wanted
+/// before.
 pub fn put_slots<L: Ledger>(
     alloc: Global,
     out: &mut Vec<u8>,
     arena: &Arena,
     order: &Order,
     steps: &mut Steps<L>,
-) -> Result<(), NoMemory>
+) -> Result<(), SaveFault>
     requires within { All (λ i. i < length arena.now) order.now.places }
     requires able { CanPut arena.now order.now.numbers.items }
-    ensures { OnOk result (out.new.items ≡ out.old.items ++ flat_map slot_bytes (in_order arena.now order.now.places)) }
+    requires few { length out.old.items ≤ most_bytes }
+    ensures put { OnOk result (out.new.items ≡ out.old.items ++ flat_map slot_bytes (in_order arena.now order.now.places)) }
+    ensures fits { OnOk result (length out.new.items ≤ most_bytes) }
+    ensures too_long { result ≡ Err SaveFault.TooLong → most_bytes < length (out.old.items ++ flat_map slot_bytes (in_order arena.now order.now.places)) }
 {
     let mut rows = Vec::new(alloc);
-    for place in order.places.as_slice() {
-        put_slot(out, arena, SlotId(*place), order, &mut rows, steps)?;
+    let count = order.places.len();
+    for i in 0..count {
+        make_room(out, arena, order.places.as_slice(), i, steps)?;
+        let place = *order.places.get(i);
+        put_slot(out, arena, SlotId(place), order, &mut rows, steps)?;
+        let size = out.len() as u64;
+        if size > MOST_BYTES {
+            return Err(SaveFault::TooLong);
+        }
     }
     Ok(())
 }

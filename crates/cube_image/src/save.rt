@@ -1,5 +1,5 @@
 //! An arena's image.
-ghost use Rattle.std.specs.Prelude.{◌≡◌, ◌++◌, [], IfOk, OnOk, Err};
+ghost use Rattle.std.specs.Prelude.{◌≡◌, ◌++◌, IfOk, OnOk, Err};
 ghost use Rattle.probe_core.specs.Blanks.{IsBlankOf};
 ghost use Rattle.node_arena.specs.Stats.{AllRising};
 ghost use Rattle.cube_image.specs.Bytes.{head_bytes};
@@ -8,7 +8,6 @@ ghost use Rattle.cube_image.specs.Image.{IsWritten, HasLongImage};
 
 use crate::bytes::{put, put_number};
 use crate::fault::SaveFault;
-use crate::length::image_room;
 use crate::order::order_of;
 use crate::print::put_slots;
 use node_arena::{Arena, SlotId};
@@ -53,8 +52,7 @@ fn write_in<L: Ledger>(
     let mut steps = Steps::<L>::new(blank);
     tell_order(arena);
     let order = order_of(alloc, arena, root, &mut steps)?;
-    let len = image_room(alloc, arena, order.places.as_slice(), &mut steps)?;
-    let mut out = room_for(alloc, len)?;
+    let mut out = Vec::new(alloc);
     put_head(&mut out, size, order.places.len() as u64)?;
     put_slots(alloc, &mut out, arena, &order, &mut steps)?;
     Ok(List::from_vec(out))
@@ -65,16 +63,6 @@ fn tell_order(arena: &Arena)
     ensures { AllRising arena.now }
 {
     let _ = arena.stat();
-}
-
-/// No bytes, and room for so many.
-fn room_for(alloc: Global, len: u64) -> Result<Vec<u8>, NoMemory>
-    ensures { IfOk result (λ out. out.items ≡ []) }
-{
-    match Vec::with_capacity(alloc, len as usize) {
-        Ok(out) => Ok(out),
-        Err(_) => Err(NoMemory),
-    }
 }
 
 /// Puts what stands before the slots: the name of the form, the size, and how many slots there are.
