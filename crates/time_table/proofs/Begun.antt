@@ -128,12 +128,12 @@ pub record IsBegun (rows rest : List (ℕ × ℕ)) (below : ℕ) (split : Split)
   pub light : below + row_total rest ≤ 2 ^ 63
   pub many : 32 ≤ length rest
 
-pub begun_none : (rows : List (ℕ × ℕ)) (split : Split) → AreRows 0 rows → row_total rows ≤ 2 ^ 63 → 32 ≤ length rows → split.heads.items ≡ [] → split.blocks.items ≡ [] → IsBegun rows rows 0 split
-begun_none rows split fit light many heads blocks =
+pub begun_none : (listed : List (ℕ × ℕ)) (split : Split) → AreRows 0 listed → row_total listed ≤ 2 ^ 63 → 32 ≤ length listed → split.heads.items ≡ [] → split.blocks.items ≡ [] → IsBegun listed listed 0 split
+begun_none listed split fit light many heads blocks =
     record {
       begun = subst (λ (hs : List Row). AreBegun 0 0 hs split.blocks.items) (sym heads) (subst (λ (bs : List Block). AreBegun 0 0 [] bs) (sym blocks) tt);
-      whole = ap (λ bs. parts bs ++ rows) blocks;
-      fit = subst (λ (hs : List Row). AreRows (bin_after 0 hs) rows) (sym heads) fit;
+      whole = ap (λ bs. parts bs ++ listed) blocks;
+      fit = subst (λ (hs : List Row). AreRows (bin_after 0 hs) listed) (sym heads) fit;
       total = sym (ap (last_total 0) heads);
       light = omega arith;
       many = many;
