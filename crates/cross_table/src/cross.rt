@@ -68,7 +68,8 @@ fn total_of_pair<V: CubeView, L: Ledger>(
     if !query.sets[first.category].has(first.value) {
         return 0;
     }
-    let alone = query.with_one_value(first.category, first.value);
+    let mut alone = *query;
+    alone.set_one_value(first.category, first.value);
     value_total(view, &alone, second.category, second.value, region, steps)
 }
 

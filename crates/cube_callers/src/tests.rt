@@ -53,7 +53,7 @@ fn cube_of_records(rt: &impl Abort, alloc: Global, n: u32, spread: u32) -> Resul
 fn count_of_value_a() -> Query
     ensures { result ≡ count_of_a }
 {
-    let all = Query {
+    let mut query = Query {
         verb: Verb::Count,
         region: Tile { z: 0, x: 0, y: 0 },
         sets: [Choice::All; 4],
@@ -62,7 +62,8 @@ fn count_of_value_a() -> Query
             to: 1 << 32,
         },
     };
-    all.with_one_value(0, 0)
+    query.set_one_value(0, 0);
+    query
 }
 
 /// The count over n records whose bins are under `spread`: across from space, down to the value, across from the

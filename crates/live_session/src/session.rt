@@ -129,16 +129,17 @@ impl<I: Source, O: Sink> Session<I, O> {
     }
 
     /// What the next line means, or none where the session is at its end.
-    fn read_next(&mut self, alloc: Global, schema: &Schema) -> Result<Option<Parsed>, SessionFault>
+    fn read_next(&mut self, schema: &Schema) -> Result<Option<Parsed>, SessionFault>
         requires { self.old.ended ≡ false }
         ensures reads { ReadsNext I.left I.faults schema.now self.old self.new result }
         ensures same { (self.new.sink ≡ self.old.sink) × (self.new.seens ≡ self.old.seens) × (self.new.replies ≡ self.old.replies) }
         ensures faults { HasFaults I.left I.faults O.held O.faults self.old self.new result }
         ensures no_write { result ≢ Err SessionFault.Write }
     {
-        match next_asked(alloc, schema, &mut self.source) {
-            Ok(Some(parsed)) => Ok(Some(parsed)),
-            Ok(None) => {
+        let mut parsed = Parsed::Skip;
+        match next_asked(schema, &mut self.source, &mut parsed) {
+            Ok(true) => Ok(Some(parsed)),
+            Ok(false) => {
                 self.ended = true;
                 Ok(None)
             }
@@ -254,7 +255,7 @@ impl<I: Source, O: Sink> Session<I, O> {
         if self.ended {
             return (viewer, Ok(Turn::Ended));
         }
-        match self.read_next(alloc, viewer.schema()) {
+        match self.read_next(viewer.schema()) {
             Ok(Some(parsed)) => {
                 let (viewer, served) = answer_line(rt, alloc, viewer, mail, &parsed, steps, room);
                 let turn = self.finish(&viewer, &parsed, served, room);

@@ -5,12 +5,11 @@ use Rattle.std.specs.Str.{bytes_eq}
 use Rattle.std.proofs.lemmas.List.Sums.{sum_by-set, count_by-le-length}
 use Rattle.query_syntax.proofs.SchemaLimits.{has_item-get}
 use Rattle.cube_view.specs.declared.schema.Schema.{Schema}
-use Rattle.query_syntax.specs.Filters.{words_read, ReadsOn, one_if, filters_used}
+use Rattle.query_syntax.specs.Filters.{Filters, words_read, ReadsOn, one_if, filters_used}
 use Rattle.query_syntax.specs.Filters.Wanted.{Name, Region, Item, From}
 use Rattle.query_syntax.specs.Items.{has_item}
 use Rattle.query_syntax.specs.Verbs.{takes_filters, is_series, is_window}
 use Rattle.query_syntax.specs.declared.fault.WordFault.{WordFault}
-use Rattle.query_syntax.specs.declared.filters.Filters.{Filters}
 use Rattle.query_syntax.specs.declared.query.Choice.{Choice}
 use Rattle.query_syntax.specs.declared.query.Verb.{Verb}
 

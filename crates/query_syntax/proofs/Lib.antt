@@ -10,6 +10,7 @@ pub mod PrintedNumbers
 pub mod PrintedVerbs
 pub mod Quoting
 pub mod ReadBack
+pub mod SaidParts
 pub mod SchemaLimits
 pub mod SetBits
 pub mod Sets

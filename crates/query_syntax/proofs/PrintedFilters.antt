@@ -11,14 +11,13 @@ use Rattle.cube_view.specs.Limits.{all_distinct, category_in_range, values_disti
 use Rattle.cube_view.specs.declared.address.Tile.{Tile}
 use Rattle.cube_view.specs.declared.category.Category.{Category}
 use Rattle.cube_view.specs.declared.schema.Schema.{Schema}
-use Rattle.query_syntax.specs.Filters.{words_read}
+use Rattle.query_syntax.specs.Filters.{Filters, words_read}
 use Rattle.query_syntax.specs.Items.{item_at}
 use Rattle.query_syntax.specs.Filters.Wanted.{Name}
 use Rattle.query_syntax.specs.Queries.{is_choice, are_choices, is_all, is_span, is_all_bins, whole_space, all_bins}
 use Rattle.query_syntax.specs.Spelling.{tile_text, region_texts, item_text, choice_texts, choices_texts, span_texts}
 use Rattle.query_syntax.specs.Tiles.{is_tile}
 use Rattle.query_syntax.specs.Verbs.{bins, takes_filters, is_series, is_window}
-use Rattle.query_syntax.specs.declared.filters.Filters.{Filters}
 use Rattle.query_syntax.specs.declared.query.Choice.{Choice}
 use Rattle.query_syntax.specs.declared.query.Choice.TheVariants.{All, Only}
 use Rattle.query_syntax.specs.declared.query.Span.{Span}

@@ -10,7 +10,7 @@ use Rattle.cube_view.proofs.SchemaBounds.{depth_bounds}
 use Rattle.cube_view.specs.declared.address.Tile.{Tile}
 use Rattle.cube_view.specs.declared.category.Category.{Category}
 use Rattle.cube_view.specs.declared.schema.Schema.{Schema}
-use Rattle.query_syntax.specs.Filters.{words_read, no_filters, filters_at}
+use Rattle.query_syntax.specs.Filters.{Filters, words_read, no_filters, filters_at}
 use Rattle.query_syntax.specs.Filters.Wanted.{Name}
 use Rattle.query_syntax.specs.Meaning.{meaning, query_of, query_after_verb, query_if_fits, query_with, parsed_of, is_comment}
 use Rattle.query_syntax.specs.Queries.{is_all, is_all_bins, is_whole_space, is_too_deep, is_valid_query, has_no_filters}
@@ -19,7 +19,6 @@ use Rattle.query_syntax.specs.Spelling.{verb_name, verb_texts, region_texts, cho
 use Rattle.query_syntax.specs.Verbs.{verb_words, takes_filters, is_series, is_window}
 use Rattle.query_syntax.specs.Words.{words}
 use Rattle.query_syntax.specs.declared.fault.WordFault.{WordFault}
-use Rattle.query_syntax.specs.declared.filters.Filters.{Filters}
 use Rattle.query_syntax.specs.declared.query.Choice.{Choice}
 use Rattle.query_syntax.specs.declared.query.Parsed.TheVariants.{Ask}
 use Rattle.query_syntax.specs.declared.query.Query.{Query}

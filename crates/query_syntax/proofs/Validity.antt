@@ -7,13 +7,12 @@ use Rattle.std.proofs.lemmas.List.{length-set, length-map}
 use Rattle.cube_view.specs.declared.category.Category.{Category}
 use Rattle.cube_view.specs.declared.schema.Schema.{Schema}
 use Rattle.cube_view.specs.declared.address.Tile.{Tile}
-use Rattle.query_syntax.specs.Filters.{no_filters}
+use Rattle.query_syntax.specs.Filters.{Filters, no_filters}
 use Rattle.query_syntax.specs.Items.{values_at}
 use Rattle.query_syntax.specs.Meaning.{FiltersFit, query_with}
 use Rattle.query_syntax.specs.Queries.{is_choice, are_choices, is_span, is_too_deep, is_valid_query, verb_in_range, whole_space, has_no_filters, is_all_bins, is_whole_space, all_bins}
 use Rattle.query_syntax.specs.Tiles.{is_tile}
 use Rattle.query_syntax.specs.Verbs.{bins, takes_filters, is_series, is_window}
-use Rattle.query_syntax.specs.declared.filters.Filters.{Filters}
 use Rattle.query_syntax.specs.declared.query.Choice.{Choice}
 use Rattle.query_syntax.specs.declared.query.Choice.TheVariants.{All}
 use Rattle.query_syntax.specs.declared.query.Verb.{Verb}

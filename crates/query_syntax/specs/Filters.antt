@@ -1,6 +1,7 @@
 -- Filters: which points count. They stand in any order after the verb's words.
-use Rattle.std.specs.Prelude.{◌≡◌, ℕ, ◌+◌, Bool, true, false, count_by, length, not, nat_lt, if◌then◌else◌, List, [], ◌∷◌, slice_set, replicate, is_some, Some, None, Result, Ok, Err, codes}
+use Rattle.std.specs.Prelude.{◌≡◌, ℕ, ◌+◌, Bool, true, false, count_by, length, not, nat_lt, if◌then◌else◌, List, [], ◌∷◌, slice_set, replicate, is_some, Option, Some, None, Result, Ok, Err, codes}
 use Rattle.std.specs.Str.{bytes_eq}
+use Rattle.cube_view.specs.declared.address.Tile.{Tile}
 use Rattle.cube_view.specs.declared.schema.Schema.{Schema}
 use Rattle.cube_view.specs.Results.{◌>>=◌}
 use Rattle.query_syntax.specs.Items.{item_at}
@@ -10,7 +11,8 @@ use Rattle.query_syntax.specs.Verbs.{bins, takes_filters, is_series, is_window}
 use Rattle.query_syntax.specs.Words.{words}
 use Rattle.query_syntax.specs.declared.fault.QueryFault.TheVariants.{MissingWord, OutOfRange, BadTile, RepeatedFilter, UnknownFilter, TimeInSeries, InWithWindow}
 use Rattle.query_syntax.specs.declared.fault.WordFault.{WordFault}
-use Rattle.query_syntax.specs.declared.filters.Filters.{Filters}
+use Rattle.query_syntax.specs.declared.query.Choice.{Choice}
+use Rattle.query_syntax.specs.declared.query.Span.{Span}
 use Rattle.query_syntax.specs.declared.query.Verb.{Verb}
 
 -- what a word has to be: the name of a filter, or what the filter before it wants next
@@ -20,6 +22,15 @@ pub data Wanted : Type 0 where
   Item : Wanted
   From : Wanted
   To : ℕ → Wanted
+
+-- what the filters of a line said so far, with None where there was none of the kind
+pub record Filters : Type 0 where
+  -- the tile
+  pub region : Option Tile
+  -- of each category the values that count
+  pub sets : List (Option Choice)
+  -- the interval
+  pub time : Option Span
 
 -- what is wanted next, and what the filters said so far
 pub record Progress : Type 0 where

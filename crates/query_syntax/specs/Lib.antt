@@ -2,10 +2,13 @@ pub mod Words
 pub mod Reading
 pub mod Tiles
 pub mod SetBits
+pub mod WordsBack
 pub mod Items
 pub mod Verbs
 pub mod Filters
 pub mod Queries
+pub mod FilterParts
+pub mod PartsBack
 pub mod Meaning
 pub mod Boxes
 pub mod Parts

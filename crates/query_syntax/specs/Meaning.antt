@@ -3,7 +3,7 @@ use Rattle.std.specs.Prelude.{◌≡◌, ℕ, length, None, ◌+◌, Bool, true,
 use Rattle.std.specs.Str.{is_utf8}
 use Rattle.cube_view.specs.declared.schema.Schema.{Schema}
 use Rattle.cube_view.specs.Results.{◌>>=◌}
-use Rattle.query_syntax.specs.Filters.{filters_at, no_filters}
+use Rattle.query_syntax.specs.Filters.{Filters, filters_at, no_filters}
 use Rattle.query_syntax.specs.Queries.{whole_space, all_bins, is_too_deep, are_choices, is_span, is_valid_query}
 use Rattle.query_syntax.specs.Reading.{fault_at}
 use Rattle.query_syntax.specs.Tiles.{is_tile}
@@ -11,7 +11,6 @@ use Rattle.query_syntax.specs.Verbs.{verb_at, verb_words, takes_filters, is_seri
 use Rattle.query_syntax.specs.Words.{words}
 use Rattle.query_syntax.specs.declared.fault.QueryFault.TheVariants.{NotText, TooDeep}
 use Rattle.query_syntax.specs.declared.fault.WordFault.{WordFault}
-use Rattle.query_syntax.specs.declared.filters.Filters.{Filters}
 use Rattle.query_syntax.specs.declared.query.Choice.TheVariants.{All}
 use Rattle.query_syntax.specs.declared.query.Parsed.{Parsed}
 use Rattle.query_syntax.specs.declared.query.Parsed.TheVariants.{Skip, Ask, Fault}

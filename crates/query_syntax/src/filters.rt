@@ -9,31 +9,13 @@ ghost use Rattle.query_syntax.specs.Words.{words};
 ghost use Rattle.query_syntax.specs.declared.query.Verb.{Verb};
 
 use crate::fault::{QueryFault, WordFault};
+use crate::filters_read::FiltersRead;
 use crate::item::item_of;
 use crate::tile_word::tile_of;
 use crate::verb_words::{BINS, number_in};
 use crate::words::{is_text, next_word};
-use crate::{Choice, Span, Verb};
-use cube_view::{Schema, Tile};
-
-/// What the filters of a line said so far, with `None` where there was none of the kind.
-#[derive(Clone, Copy, PartialEq, Eq, Debug)]
-pub struct Filters {
-    pub region: Option<Tile>,
-    pub sets: [Option<Choice>; 4],
-    pub time: Option<Span>,
-}
-
-/// No filter yet.
-pub fn no_filters_yet() -> Filters
-    ensures { result ≡ no_filters }
-{
-    Filters {
-        region: None,
-        sets: [None; 4],
-        time: None,
-    }
-}
+use crate::{Span, Verb};
+use cube_view::Schema;
 
 /// Whether filters may follow the verb.
 pub(crate) fn may_have_filters(verb: Verb) -> bool
@@ -59,7 +41,7 @@ pub(crate) fn has_own_tiles(verb: Verb) -> bool
 /// Reads the tile after `in`, which is word `number`.
 fn region_filter<'a>(
     schema: &Schema,
-    filters: &mut Filters,
+    filters: &mut FiltersRead,
     number: u32,
     line: &'a [u8],
 ) -> Result<(u32, &'a [u8]), WordFault>
@@ -74,14 +56,14 @@ fn region_filter<'a>(
         return Err(WordFault::at(QueryFault::MissingWord, number));
     };
     let tile = tile_of(schema.depth, number, word)?;
-    filters.region = Some(tile);
+    filters.set_region(tile);
     Ok((number + 1, rest))
 }
 
 /// Reads the item after `with`, which is word `number`.
 fn category_filter<'a>(
     schema: &Schema,
-    filters: &mut Filters,
+    filters: &mut FiltersRead,
     number: u32,
     line: &'a [u8],
 ) -> Result<(u32, &'a [u8]), WordFault>
@@ -94,15 +76,15 @@ fn category_filter<'a>(
     let Some((word, rest)) = next_word(line) else {
         return Err(WordFault::at(QueryFault::MissingWord, number));
     };
-    let (k, choice) = item_of(schema, &filters.sets, number, word)?;
-    filters.sets[k] = Some(choice);
+    let (k, choice) = item_of(schema, filters, number, word)?;
+    filters.set_item(k, choice);
     Ok((number + 1, rest))
 }
 
 /// Reads the two numbers after `time`, of which the first is word `number`.
 fn time_filter<'a>(
     schema: &Schema,
-    filters: &mut Filters,
+    filters: &mut FiltersRead,
     number: u32,
     line: &'a [u8],
 ) -> Result<(u32, &'a [u8]), WordFault>
@@ -124,7 +106,7 @@ fn time_filter<'a>(
     if to < from {
         return Err(WordFault::at(QueryFault::OutOfRange, number + 1));
     }
-    filters.time = Some(Span { from, to });
+    filters.set_time(Span { from, to });
     Ok((number + 2, rest))
 }
 
@@ -132,7 +114,7 @@ fn time_filter<'a>(
 fn filter_of<'a>(
     schema: &Schema,
     verb: Verb,
-    filters: &mut Filters,
+    filters: &mut FiltersRead,
     number: u32,
     word: &[u8],
     line: &'a [u8],
@@ -150,7 +132,7 @@ fn filter_of<'a>(
         if has_own_tiles(verb) {
             return Err(WordFault::at(QueryFault::InWithWindow, number));
         }
-        if filters.region.is_some() {
+        if filters.has_region() {
             return Err(WordFault::at(QueryFault::RepeatedFilter, number));
         }
         region_filter(schema, filters, number + 1, line)
@@ -160,7 +142,7 @@ fn filter_of<'a>(
         if has_own_bins(verb) {
             return Err(WordFault::at(QueryFault::TimeInSeries, number));
         }
-        if filters.time.is_some() {
+        if filters.has_time() {
             return Err(WordFault::at(QueryFault::RepeatedFilter, number));
         }
         time_filter(schema, filters, number + 1, line)
@@ -176,7 +158,7 @@ pub fn read_filters(
     verb: Verb,
     first: u32,
     line: &[u8],
-    filters: &mut Filters,
+    filters: &mut FiltersRead,
 ) -> Result<(), WordFault>
     requires first { first ≤ 6 }
     requires none { filters.old ≡ no_filters }

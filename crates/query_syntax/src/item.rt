@@ -7,6 +7,7 @@ ghost use Rattle.query_syntax.specs.Queries.{is_choice};
 ghost use Rattle.query_syntax.specs.Words.{cut_pieces, bar};
 
 use crate::fault::{QueryFault, WordFault};
+use crate::filters_read::FiltersRead;
 use crate::verb_words::category_named;
 use crate::words::next_piece;
 use crate::{Choice, ValueSet};
@@ -148,28 +149,20 @@ pub fn values_of(schema: &Schema, k: usize) -> &[Text]
     schema.categories.get(k).values.as_slice()
 }
 
-/// Whether the category of that number has had an item.
-fn had_item(sets: &[Option<Choice>; 4], k: usize) -> bool
-    requires { k < 4 }
-    ensures { result ≡ has_item sets.now k }
-{
-    sets[k].is_some()
-}
-
 /// The category of the item, which is the word of that number, and its values that count. A category has
 /// one item at most.
 #[tactic(auto, unfolding(crate::specs::Items::item_at))]
 pub fn item_of(
     schema: &Schema,
-    sets: &[Option<Choice>; 4],
+    filters: &FiltersRead,
     number: u32,
     item: &[u8],
 ) -> Result<(usize, Choice), WordFault>
-    ensures read { result ≡ item_at schema.now.categories sets.now number item.now }
-    ensures below { IfOk result (λ found. (found.0 < 4) × (found.0 < length sets.now)) }
+    ensures read { result ≡ item_at schema.now.categories filters.now.sets number item.now }
+    ensures below { IfOk result (λ found. (found.0 < 4) × (found.0 < length filters.now.sets)) }
     ensures known { IfOk result (λ found. found.0 < length schema.now.categories) }
     ensures valid { IfOk result (λ found. IsTrue (is_choice (length (values_at schema.now.categories found.0)) found.1)) }
-    ensures fresh { IfOk result (λ found. has_item sets.now found.0 ≡ false) }
+    ensures fresh { IfOk result (λ found. has_item filters.now.sets found.0 ≡ false) }
 {
     if !is_quote_count_even(item) {
         return Err(WordFault::at(QueryFault::BadQuote, number));
@@ -183,7 +176,7 @@ pub fn item_of(
     let Some(k) = category_named(schema, name) else {
         return Err(WordFault::at(QueryFault::UnknownCategory, number));
     };
-    if had_item(sets, k) {
+    if filters.has_item(k) {
         return Err(WordFault::at(QueryFault::RepeatedFilter, number));
     }
     let values = values_of(schema, k);

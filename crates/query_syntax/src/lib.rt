@@ -18,6 +18,7 @@
 
 mod fault;
 mod filters;
+mod filters_read;
 mod item;
 mod parsing;
 mod printing;
@@ -33,7 +34,7 @@ mod verb_words;
 mod words;
 
 pub use fault::QueryFault;
-pub use parsing::parse;
+pub use parsing::{parse, parse_into};
 pub use printing::print;
 pub use query::{Choice, Parsed, Query, Span, Verb};
 pub use rect::Rect;

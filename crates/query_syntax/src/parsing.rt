@@ -10,11 +10,12 @@ ghost use Rattle.query_syntax.specs.Words.{words};
 ghost use Rattle.query_syntax.specs.declared.query.Choice.TheVariants.{All};
 
 use crate::fault::{QueryFault, WordFault};
-use crate::filters::{Filters, no_filters_yet, read_filters};
-use crate::verb_words::{BINS, verb_of};
+use crate::filters::read_filters;
+use crate::filters_read::FiltersRead;
+use crate::verb_words::verb_of;
 use crate::words::next_word;
-use crate::{Choice, Parsed, Query, Span, Verb};
-use cube_view::{Schema, Tile};
+use crate::{Parsed, Verb};
+use cube_view::Schema;
 use outer_io::NoMemory;
 use std::alloc::Global;
 
@@ -43,49 +44,14 @@ pub(crate) fn is_map_too_deep(depth: u8, z: u8, verb: Verb) -> bool
     }
 }
 
-/// The choice of an item, or `All` where there was none.
-fn choice_or_all(choice: &Option<Choice>) -> Choice
-    ensures { result ≡ unwrap_or choice.now All }
-{
-    match choice {
-        Some(choice) => *choice,
-        None => Choice::All,
-    }
-}
-
-/// The region of filters.
-fn region_of(filters: &Filters) -> Tile
-    ensures { result ≡ unwrap_or filters.now.region whole_space }
-{
-    filters.region.unwrap_or(Tile { z: 0, x: 0, y: 0 })
-}
-
-/// The query of a verb and filters.
-fn query_from(verb: Verb, filters: &Filters) -> Query
-    ensures { result ≡ query_with verb filters.now }
-{
-    let sets = &filters.sets;
-    Query {
-        verb,
-        region: region_of(filters),
-        sets: [
-            choice_or_all(&sets[0]),
-            choice_or_all(&sets[1]),
-            choice_or_all(&sets[2]),
-            choice_or_all(&sets[3]),
-        ],
-        time: filters.time.unwrap_or(Span { from: 0, to: BINS }),
-    }
-}
-
 /// Tests that the tiles that a verb and filters ask for are not too deep.
-fn test_depth(schema: &Schema, verb: Verb, filters: &Filters) -> Result<(), WordFault>
+fn test_depth(schema: &Schema, verb: Verb, filters: &FiltersRead) -> Result<(), WordFault>
     requires range { IsTrue (verb_in_range schema.now.depth (length schema.now.categories) verb) }
     requires fits { FiltersFit schema.now verb filters.now }
     ensures read { GivesRead (λ _. query_with verb filters.now) result (query_if_fits schema.now (query_with verb filters.now)) }
     ensures valid { OnOk result (IsTrue (is_valid_query schema.now (query_with verb filters.now))) }
 {
-    if is_map_too_deep(schema.depth, region_of(filters).z, verb) {
+    if is_map_too_deep(schema.depth, filters.level(), verb) {
         Err(WordFault::at(QueryFault::TooDeep, 2))
     } else {
         Ok(())
@@ -98,7 +64,7 @@ fn read_after(
     schema: &Schema,
     verb: Verb,
     line: &[u8],
-    filters: &mut Filters,
+    filters: &mut FiltersRead,
 ) -> Result<(), WordFault>
     requires range { IsTrue (verb_in_range schema.now.depth (length schema.now.categories) verb) }
     requires none { filters.old ≡ no_filters }
@@ -115,7 +81,7 @@ fn read_query(
     schema: &Schema,
     word: &[u8],
     line: &[u8],
-    filters: &mut Filters,
+    filters: &mut FiltersRead,
 ) -> Result<Verb, WordFault>
     requires { filters.old ≡ no_filters }
     ensures read { GivesRead (λ verb. query_with verb filters.new) result (query_of schema.now (word.now ∷ words line.now)) }
@@ -143,25 +109,27 @@ fn is_text_line(line: &[u8]) -> bool
     }
 }
 
-/// The meaning of the line.
+/// Reads the line into `parsed`: nothing, a valid query, or the first fault and the number of its word.
 #[tactic(auto, unfolding(crate::specs::Meaning::meaning))]
-fn meaning_of(schema: &Schema, line: &[u8]) -> Parsed
-    ensures meaning { result ≡ meaning schema.now line.now }
-    ensures valid { IsTrue (asks_valid schema.now result) }
+pub fn parse_into(schema: &Schema, line: &[u8], parsed: &mut Parsed)
+    ensures meaning { parsed.new ≡ meaning schema.now line.now }
+    ensures valid { IsTrue (asks_valid schema.now parsed.new) }
 {
     if !is_text_line(line) {
-        return Parsed::Fault(QueryFault::NotText, 1);
+        *parsed = Parsed::Fault(QueryFault::NotText, 1);
+        return;
     }
+    *parsed = Parsed::Skip;
     if begins_comment(line) {
-        return Parsed::Skip;
+        return;
     }
     let Some((word, rest)) = next_word(line) else {
-        return Parsed::Skip;
+        return;
     };
-    let mut filters = no_filters_yet();
+    let mut filters = FiltersRead::none();
     match read_query(schema, word, rest, &mut filters) {
-        Ok(verb) => Parsed::Ask(query_from(verb, &filters)),
-        Err(e) => Parsed::Fault(e.fault, e.word),
+        Ok(verb) => *parsed = Parsed::Ask(filters.into_query(verb)),
+        Err(e) => *parsed = Parsed::Fault(e.fault, e.word),
     }
 }
 
@@ -172,5 +140,7 @@ pub fn parse(_alloc: Global, schema: &Schema, line: &[u8]) -> Result<Parsed, NoM
     ensures valid { IfOk result (λ parsed. IsTrue (asks_valid schema.now parsed)) }
     ensures answers { IsOk result }
 {
-    Ok(meaning_of(schema, line))
+    let mut parsed = Parsed::Skip;
+    parse_into(schema, line, &mut parsed);
+    Ok(parsed)
 }

@@ -77,14 +77,12 @@ impl Query {
         other
     }
 
-    /// The query with this value alone in its set of category `k`, counted from 0.
-    pub fn with_one_value(&self, k: usize, value: u8) -> Query
+    /// Puts this value alone into its set of category `k`, counted from 0.
+    pub fn set_one_value(&mut self, k: usize, value: u8)
         requires { k < 4 }
-        ensures { result ≡ with_one_value self.now k value }
+        ensures { self.new ≡ with_one_value self.old k value }
     {
-        let mut other = *self;
-        other.sets[k] = Choice::Only(ValueSet::one(value));
-        other
+        self.sets[k] = Choice::Only(ValueSet::one(value));
     }
 }
 

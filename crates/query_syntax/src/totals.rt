@@ -57,5 +57,7 @@ pub fn total_with(schema: &Schema, query: &Query, points: &[Point], k: usize, va
     if !query.sets[k].has(value) {
         return 0;
     }
-    total_of(schema, &query.with_one_value(k, value), points)
+    let mut alone = *query;
+    alone.set_one_value(k, value);
+    total_of(schema, &alone, points)
 }

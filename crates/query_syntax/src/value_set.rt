@@ -14,7 +14,8 @@ pub struct ValueSet {
 
 impl Model for ValueSet {
     ghost use Rattle.std.specs.Prelude.{List, Bool};
-    ghost use Rattle.query_syntax.specs.SetBits.{members_in_words, words_of, AreWords, words_back};
+    ghost use Rattle.query_syntax.specs.SetBits.{members_in_words, words_of, AreWords};
+    ghost use Rattle.query_syntax.specs.WordsBack.{words_back};
 
     ghost Value = { List Bool };
 

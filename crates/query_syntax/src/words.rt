@@ -1,9 +1,9 @@
 //! Words of a line, and pieces of a word.
-ghost use Rattle.std.specs.Prelude.{◌≡◌, ℕ, ◌+◌, ◌<◌, ◌≤◌, ◌++◌, [], ◌∷◌, false, length, take, drop, filter, IfSome, IfNone};
+ghost use Rattle.std.specs.Prelude.{◌≡◌, ◌≢◌, ℕ, ◌+◌, ◌<◌, ◌≤◌, ◌++◌, [], ◌∷◌, false, length, take, drop, filter, IfSome, IfNone};
 ghost use Rattle.std.specs.Str.{bytes_eq};
 ghost use Rattle.std.specs.Option.{option_copied};
 ghost use Rattle.query_syntax.specs.Reading.{GivesRead, word_at};
-ghost use Rattle.query_syntax.specs.Words.{cut_pieces, pieces_from, pieces_after, words, is_some_text};
+ghost use Rattle.query_syntax.specs.Words.{quote, cut_pieces, pieces_from, pieces_after, words, is_some_text};
 
 use crate::fault::{QueryFault, WordFault};
 
@@ -25,6 +25,14 @@ fn quoted_piece_len(bytes: &[u8], mark: u8) -> usize
     bytes.len()
 }
 
+/// Whether the byte may be the mark or a quote. Where the mark is a space one test says so, since most bytes of a line come
+/// behind the quote.
+fn may_end(byte: u8, mark: u8) -> bool
+    ensures { result ≡ false → (byte ≢ mark) × (byte ≢ quote) }
+{
+    byte <= b'"' || byte == mark
+}
+
 /// Where the first of the pieces ends that the mark cuts outside quotes. Most pieces have no quote: up to the first one
 /// each byte takes a single test.
 fn piece_len(bytes: &[u8], mark: u8) -> usize
@@ -33,11 +41,13 @@ fn piece_len(bytes: &[u8], mark: u8) -> usize
     ensures cut { result < length bytes.now → cut_pieces mark bytes.now ≡ take result bytes.now ∷ cut_pieces mark (drop (result + 1) bytes.now) }
 {
     for (i, &b) in bytes.iter().enumerate() {
-        if b == mark {
-            return i;
-        }
-        if b == b'"' {
-            return quoted_piece_len(bytes, mark);
+        if may_end(b, mark) {
+            if b == mark {
+                return i;
+            }
+            if b == b'"' {
+                return quoted_piece_len(bytes, mark);
+            }
         }
     }
     bytes.len()

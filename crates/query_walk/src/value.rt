@@ -31,5 +31,7 @@ pub fn value_total<V: CubeView, L: Ledger>(
     if !query.sets[category].has(value) {
         return 0;
     }
-    total_in_region(view, &query.with_one_value(category, value), region, steps)
+    let mut alone = *query;
+    alone.set_one_value(category, value);
+    total_in_region(view, &alone, region, steps)
 }

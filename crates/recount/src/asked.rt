@@ -63,9 +63,10 @@ fn asked_of_lines<S: Source>(
 {
     let mut asked = List::new(alloc);
     'lines: loop {
-        let Some(parsed) = next_asked(alloc, schema, cutter)? else {
+        let mut parsed = Parsed::Skip;
+        if !next_asked(schema, cutter, &mut parsed)? {
             return Ok(asked);
-        };
+        }
         if is_end(&parsed) {
             return Ok(asked);
         }

@@ -125,11 +125,11 @@ fn answer_next<V: CubeView, S: Source, O: Sink>(
     ensures causes { CountsFaults S.faults O.faults cutter.old cutter.new out.old out.new result }
     ensures stays { (O.name out.new ≡ O.name out.old) × (lacked.old ≡ true → lacked.new ≡ true) }
 {
-    match next_asked(alloc, view.schema(), cutter) {
-        Ok(Some(parsed)) => put_answer(alloc, view, told, &parsed, lacked, room, out),
-        Ok(None) => Ok(false),
-        Err(fault) => Err(fault),
+    let mut parsed = Parsed::Skip;
+    if !next_asked(view.schema(), cutter, &mut parsed)? {
+        return Ok(false);
     }
+    put_answer(alloc, view, told, &parsed, lacked, room, out)
 }
 
 /// Answers the lines that are left, up to the first `quit`, over any list of points that the view counts; `told` is

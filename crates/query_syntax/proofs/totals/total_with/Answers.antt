@@ -19,5 +19,5 @@ returns c =
     let q = c.args.query.now in
     let known : c.args.k < length q.sets = omega arith in
     let at = ap (λ (x : Choice). chosen x c.args.value) (get_or_default q.sets c.args.k All c.index-query-k.result known) in
-    let one = ap (λ (p : Query). total c.args.schema.now (box p) c.args.points.now) c.with_one_value.ensures in
+    let one = ap (λ (p : Query). total c.args.schema.now (box p) c.args.points.now) c.set_one_value.ensures in
     c.total_of.ensures ∙ (one ∙ sym (box_value c.args.schema.now q c.args.points.now c.args.k c.args.value known (omega (arith, c.ranges.value)) (at ∙ (sym c.has.ensures ∙ c.if-not-has.false))))

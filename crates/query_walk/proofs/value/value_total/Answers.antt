@@ -20,7 +20,7 @@ total_in_region-requires-clause-walk g c κs within =
     let z = g.V.CubeView.schema c.args.view.now in
     let V = g.V.CubeView in
     let walked = walked_value _ _ z c.args.query.now (V.stands c.args.view.now) (V.address c.args.view.now) c.args.region c.requires.walk c.args.category c.args.value c.requires.category c.ranges.value.fits in
-    subst (λ (q : Query). HasWalked (V.weight_at c.args.view.now) (V.seen c.args.view.now) z q (V.stands c.args.view.now) (V.address c.args.view.now) c.args.region) (sym c.with_one_value.ensures) walked
+    subst (λ (q : Query). HasWalked (V.weight_at c.args.view.now) (V.seen c.args.view.now) z q (V.stands c.args.view.now) (V.address c.args.view.now) c.args.region) (sym c.set_one_value.ensures) walked
 
 pub returns-clause-total : goal.returns-clause-total
 returns-clause-total g c h counts =
@@ -30,11 +30,11 @@ returns-clause-total g c h counts =
     let wide = c.requires.walk.has_box.wide in
     let is_in = chosen_at z q c.args.category c.args.value _ true c.requires.walk.has_box c.requires.category (sym c.has.ensures ∙ c.if-not-has.false) in
     c.total_in_region.ensures.total h counts
-    ∙ (ap (λ (p : Query). total z (box p) h) c.with_one_value.ensures
+    ∙ (ap (λ (p : Query). total z (box p) h) c.set_one_value.ensures
     ∙ sym (box_value z q h c.args.category c.args.value (omega (arith, few, wide, c.requires.category)) c.ranges.value.fits is_in))
 
 pub returns-clause-cost : goal.returns-clause-cost
 returns-clause-cost g c h counts =
-    let same = ap (λ (p : Query). from_region_cost (g.V.CubeView.costs c.args.view.now) (g.V.CubeView.schema c.args.view.now) h p) c.with_one_value.ensures in
+    let same = ap (λ (p : Query). from_region_cost (g.V.CubeView.costs c.args.view.now) (g.V.CubeView.schema c.args.view.now) h p) c.set_one_value.ensures in
     let step = c.total_in_region.ensures.cost h counts in
     omega (arith, same, step)

@@ -3,8 +3,8 @@ use Rattle.outer_io.specs.Lines.{Bytes}
 use Rattle.query_syntax.specs.Meaning.{meaning}
 use Rattle.session_core.proofs.asking.next_asked.Goals as goal
 
-pub returns-in_ok-parse-in-Ok-Line-clause-asked : goal.returns-in_ok-parse-in-Ok-Line-clause-asked
-returns-in_ok-parse-in-Ok-Line-clause-asked g c =
+pub returns-in-Ok-Line-clause-asked : goal.returns-in-Ok-Line-clause-asked
+returns-in-Ok-Line-clause-asked g c =
     let given = c.in-Ok-Line.ensures.line _ _ (ap (λ x. Ok x) c.in-Ok-Line.field-0-is) in (
       Bytes _,
       record {
@@ -12,5 +12,5 @@ returns-in_ok-parse-in-Ok-Line-clause-asked g c =
         further = (given.given ∙ given.counts, omega (arith, given.small, given.given));
         going = given.goes_on;
       },
-      c.in_ok-parse-in-Ok-Line.ensures.meaning ∙ ap (meaning c.args.schema.now) c.as_slice.ensures,
+      c.parse_into.ensures.meaning ∙ ap (meaning c.args.schema.now) c.as_slice.ensures,
     )
