@@ -4,4 +4,3 @@ pub mod Printed
 pub mod Reading
 pub mod Meaning
 pub mod ValidTables
-pub mod Plain

@@ -11,6 +11,7 @@
 //! ```
 #![tactic(auto)]
 
+mod plain;
 mod printing;
 mod put;
 mod reading;

@@ -1,10 +1,9 @@
 //! Bytes, numbers and texts that are put at the end of others.
 ghost use Rattle.std.specs.Prelude.{◌≡◌, ◌+◌, ◌≤◌, [], ◌∷◌, ◌++◌, decimal, drop, OnOk, IsTrue};
-ghost use Rattle.std.specs.List.{list_all};
-ghost use Rattle.json.specs.Print.{escape, quoted};
-ghost use Rattle.reply_json.specs.Plain.{is_plain};
+ghost use Rattle.json.specs.Print.{quoted};
 ghost use Rattle.reply_json.specs.Types.{IsCount};
 
+use crate::plain::are_plain;
 use json::Writer;
 use outer_io::NoMemory;
 use std::mem::replace;
@@ -37,20 +36,6 @@ pub fn put_number(out: &mut Vec<u8>, front: &[u8], number: u64) -> Result<(), No
     let mut buffer = itoa::Buffer::new();
     put(out, front)?;
     put(out, buffer.format(number).as_bytes())
-}
-
-/// Whether the byte stands in a JSON text as it is.
-fn is_plain(byte: u8) -> bool
-    ensures { result ≡ is_plain byte }
-{
-    b' ' <= byte && byte != b'"' && byte != b'\\'
-}
-
-/// Whether each byte stands in a JSON text as it is.
-fn are_plain(text: &[u8]) -> bool
-    ensures { result ≡ list_all is_plain text.now }
-{
-    text.iter().all(|byte| is_plain(*byte))
 }
 
 /// Puts a text in quotes.
