@@ -5,8 +5,7 @@ use Rattle.std.specs.Int.{to_be_bytes, w16, w64}
 use Rattle.std.specs.List.{flat_map}
 use Rattle.node_arena.specs.declared.link.Link.{Link}
 use Rattle.time_table.specs.Counts.{BinCounts}
-use Rattle.cube_view.specs.Walks.{across}
-use Rattle.node_arena.specs.Slots.{Children, Slot, node, table, IsNode, IsTable, children_of, counts_of, link}
+use Rattle.node_arena.specs.Slots.{Children, Slot, node, table, IsNode, IsTable, children_of, counts_of}
 use Rattle.cube_image.specs.Bytes.{child_bytes, content_bytes, row_bytes, table_bytes, node_bytes, slot_bytes}
 use Rattle.cube_image.specs.Order.{moved_child}
 use Rattle.cube_image.specs.Rest.{below_number, byte_children, word_rows}
@@ -48,20 +47,14 @@ byte_children-map places (c ∷ children) =
       | false ↦ r
     ]
 
--- the bytes of a node with a content, and of one without
-pub node_len-some : (s : Slot) (n : ℕ) (l : Link) → IsNode s → Some l ≡ link s across → n ≡ length (byte_children (children_of s)) → 12 + 10 * n ≡ length (slot_bytes s)
-node_len-some (table counts) n l is at count = absurd (true≢false is)
-node_len-some (node children content) n l is at count =
-    let a = length-node (byte_children children) content in
-    let c : length (content_bytes content) ≡ 9 = ap (λ o. length (content_bytes o)) (sym at) in
-    omega arith
+content_bound : (content : Option Link) → length (content_bytes content) ≤ 9
+content_bound None = omega arith
+content_bound (Some l) = omega arith
 
-pub node_len-none : (s : Slot) (n : ℕ) → IsNode s → None ≡ link s across → n ≡ length (byte_children (children_of s)) → 4 + 10 * n ≡ length (slot_bytes s)
-node_len-none (table counts) n is at count = absurd (true≢false is)
-node_len-none (node children content) n is at count =
-    let a = length-node (byte_children children) content in
-    let c : length (content_bytes content) ≡ 1 = ap (λ o. length (content_bytes o)) (sym at) in
-    omega arith
+-- at most how many bytes a node has
+pub node_bound : (s : Slot) (n : ℕ) → IsNode s → n ≡ length (byte_children (children_of s)) → length (slot_bytes s) ≤ 12 + 10 * n
+node_bound (table counts) n is count = absurd (true≢false is)
+node_bound (node children content) n is count = omega (arith, length-node (byte_children children) content, content_bound content, count)
 
 -- no more pairs are below a number than there are
 length-below : (m : ℕ) (rows : List (ℕ × ℕ)) → length (below_number m rows) ≤ length rows

@@ -61,20 +61,16 @@ fn slot_bound<L: Ledger>(arena: &Arena, id: SlotId, steps: &mut Steps<L>) -> u64
     if arena.is_table(id) {
         9 + 12 * arena.table(id, steps).len()
     } else {
-        node_len(arena, id, steps)
+        node_bound(arena, id)
     }
 }
 
-/// How many bytes a node takes.
-fn node_len<L: Ledger>(arena: &Arena, id: SlotId, steps: &mut Steps<L>) -> u64
+/// At most how many bytes a node takes: as many as with a content.
+fn node_bound(arena: &Arena, id: SlotId) -> u64
     requires in_range { id.0 < length arena.now }
     requires is_node { IsNode (slot_of arena.now id.0) }
-    ensures len { result ≡ length (slot_bytes (slot_of arena.now id.0)) }
+    ensures enough { length (slot_bytes (slot_of arena.now id.0)) ≤ result }
     ensures few { result ≤ 3000 }
 {
-    let children = child_count(arena, id) as u64;
-    match arena.content(id, steps) {
-        Some(_) => 12 + 10 * children,
-        None => 4 + 10 * children,
-    }
+    12 + 10 * child_count(arena, id) as u64
 }
