@@ -3,5 +3,6 @@ mod NextReply
 mod Turning
 mod OneTurn
 mod SoFarLaws
+mod RunSteps
 mod Running
 mod Refused

@@ -9,3 +9,4 @@ pub mod Refusing
 pub mod Ending
 pub mod TranscriptLaws
 pub mod Bounds
+pub mod Viewers

@@ -3,11 +3,11 @@ use Rattle.std.specs.Prelude.{◌≡◌, ◌≢◌, ℕ, ◌+◌, ◌≤◌, ◌
 use Rattle.std.specs.List.{flat_map}
 use Rattle.cube_view.specs.Points.{Point}
 use Rattle.cube_view.specs.declared.schema.Schema.{Schema}
-use Rattle.cube_view.specs.declared.spot.Spot.{Spot}
 use Rattle.cube_view.specs.declared.stat.Stat.{Stat}
+use Rattle.cube_view.specs.declared.view.CubeView as CubeView
 use Rattle.live_session.specs.News.{HasNews, News, NewsFor}
 use Rattle.live_session.specs.Saying.{IsShown}
-use Rattle.live_session.specs.State.{SessionState}
+use Rattle.live_session.specs.State.{SessionEnds, SessionState}
 use Rattle.live_session.specs.declared.turn.Turn.{Turn}
 use Rattle.live_session.specs.declared.turn.Turn.TheVariants as turn
 use Rattle.outer_io.specs.Bytes.{Gains, GainsPart}
@@ -129,11 +129,11 @@ module _ {I O : Type 0} (left : I → Option (List ℕ)) (faults : I → ℕ) (h
     pub lacks : after.lacked ≡ before.lacked || is_lack reply
 
 -- What a turn of a session over a view of the schema does, which had been shown and told `a`, and is `b` after it
-pub record HasTurned {I O V : Type 0} (left : I → Option (List ℕ)) (faults : I → ℕ) (held : O → Option (List ℕ)) (weight_at : V → Spot → ℕ) (seen : V → ℕ) (schema_of : V → Schema) (numbers : V → Stat) (schema : Schema) (a b : News) (before after : SessionState I O) (result : Result Turn SessionFault) : Type 0 where
+pub record HasTurned {I O V C : Type 0} (ends : SessionEnds I O) (members : CubeView.Ghosts V C) (schema : Schema) (a b : News) (before after : SessionState I O) (result : Result Turn SessionFault) : Type 0 where
   -- without a fault
-  pub turned : IfOk result (Turned left faults held schema (IsShown weight_at seen schema_of numbers schema b.shown) a b before after)
+  pub turned : IfOk result (Turned ends.left ends.faults ends.held schema (IsShown members.weight_at members.seen members.schema members.numbers schema b.shown) a b before after)
   -- where its put fails
-  pub broken : IsErrOf result fault.Write → BreaksOff left faults held schema (IsShown weight_at seen schema_of numbers schema b.shown) a b before after
+  pub broken : IsErrOf result fault.Write → BreaksOff ends.left ends.faults ends.held schema (IsShown members.weight_at members.seen members.schema members.numbers schema b.shown) a b before after
 
 -- When the faults of a turn come, and what they leave
 pub record HasFaults {I O : Type 0} (left : I → Option (List ℕ)) (faults : I → ℕ) (held : O → Option (List ℕ)) (put_faults : O → ℕ) (before after : SessionState I O) {T : Type 0} (result : Result T SessionFault) : Type 0 where

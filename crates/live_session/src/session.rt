@@ -1,18 +1,18 @@
 //! A session: a script answered line by line over what a live pair shows.
 ghost use Rattle.std.specs.Prelude.{◌≡◌, ◌≢◌, ◌+◌, ◌<◌, ◌≤◌, ◌++◌, length, true, false, Ok, Err, IfOk, IfSome, IsErrOf, vec_len, vec_capacity};
 ghost use Rattle.live_session.specs.Answered.{PutsFor, PutsLine};
-ghost use Rattle.live_session.specs.Bounds.{TurnCosts};
+ghost use Rattle.live_session.specs.Bounds.{RunCosts, TurnCosts};
 ghost use Rattle.live_session.specs.Ending.{EndsScript};
-ghost use Rattle.live_session.specs.News.{KeepsOut, KeepsViewer, news_of, seen_asked};
+ghost use Rattle.live_session.specs.News.{KeepsOut, seen_asked};
 ghost use Rattle.live_session.specs.Reading.{ReadsNext};
 ghost use Rattle.live_session.specs.Saying.{IsServed};
-ghost use Rattle.live_session.specs.SoFar.{HasDone, KeepsAnswers};
-ghost use Rattle.live_session.specs.State.{SessionState, new_session};
+ghost use Rattle.live_session.specs.State.{SessionState, ends_of, new_session};
 ghost use Rattle.live_session.specs.Turned.{HasFaults, HasTurned, listed};
+ghost use Rattle.live_session.specs.Viewers.{DoneBy, DoneFinally, IsSameViewer, KeepsFinals, KeepsSoFar, ShowsSame, news};
 ghost use Rattle.outer_io.specs.Bytes.{GainsPart};
 ghost use Rattle.outer_io.specs.Cutting.{IsNew};
-ghost use Rattle.outer_io.specs.Faults.{HasCause};
 ghost use Rattle.outer_io.specs.Lines.{input_limit};
+ghost use Rattle.session_core.specs.Answering.{CountsFaults};
 
 use crate::answering::answer_line;
 use crate::asking::seen_asked;
@@ -244,13 +244,13 @@ impl<I: Source, O: Sink> Session<I, O> {
         room: &mut List<u8>,
     ) -> (Viewer<V>, Result<Turn, SessionFault>)
         requires { viewer.shown.book ≡ mail.old.pair }
-        ensures turned { HasTurned I.left I.faults O.held V.weight_at V.seen V.schema V.numbers viewer.schema (news_of viewer.shown viewer.learned mail.old) (news_of result.0.shown result.0.learned mail.new) self.old self.new result.1 }
-        ensures ended { self.old.ended ≡ true → (result.1 ≡ Ok Turn.Ended) × (self.new ≡ self.old) × (mail.new ≡ mail.old) × (result.0.shown ≡ viewer.shown) × (result.0.learned ≡ viewer.learned) }
+        ensures turned { HasTurned (ends_of I.Source O.Sink) V.CubeView viewer.schema (news viewer mail.old) (news result.0 mail.new) self.old self.new result.1 }
+        ensures ended { self.old.ended ≡ true → (result.1 ≡ Ok Turn.Ended) × (self.new ≡ self.old) × (mail.new ≡ mail.old) × ShowsSame viewer result.0 }
         ensures faults { HasFaults I.left I.faults O.held O.faults self.old self.new result.1 × (O.name self.new.sink ≡ O.name self.old.sink) }
-        ensures viewer { KeepsViewer viewer.shown viewer.learned viewer.last viewer.schema result.0.shown result.0.learned result.0.last result.0.schema }
-        ensures costs { TurnCosts I.left I.faults V.weight_at V.seen V.schema V.costs viewer.schema result.0.shown result.0.learned mail.old mail.new self.old self.new steps.old steps.new }
-        ensures so_far { KeepsAnswers I.left I.faults O.held viewer.schema V.is_stat false (news_of viewer.shown viewer.learned mail.old) (news_of result.0.shown result.0.learned mail.new) self.old self.new result.1 }
-        ensures finals { IfSome viewer.last (λ w. KeepsAnswers I.left I.faults O.held viewer.schema V.is_stat true (news_of w w mail.old) (news_of w w mail.new) self.old self.new result.1) }
+        ensures viewer { IsSameViewer viewer result.0 }
+        ensures costs { TurnCosts I.Source result.0 mail.old mail.new self.old self.new steps.old steps.new }
+        ensures so_far { KeepsSoFar (ends_of I.Source O.Sink) V.is_stat viewer (news viewer mail.old) (news result.0 mail.new) self.old self.new result.1 }
+        ensures finals { KeepsFinals (ends_of I.Source O.Sink) V.is_stat viewer mail.old mail.new self.old self.new result.1 }
     {
         if self.ended {
             return (viewer, Ok(Turn::Ended));
@@ -266,10 +266,11 @@ impl<I: Source, O: Sink> Session<I, O> {
         }
     }
 
-    /// Takes turns to the script's end or a fault. Where it ends without a fault, or with too much, all that the script
-    /// asks is answered. A script that it goes over from its front is refused where there was too much, and is not where it
-    /// ends without a fault. Of a viewer that has learned the ended list, the replies are a final transcript over it: each
-    /// number of points that they print is its length.
+    /// Takes turns to the script's end or a fault. Where it ends without a fault, or with too much, all that the script asks
+    /// is answered. A script that it goes over from its front is refused where there was too much, and is not where it ends
+    /// without a fault. Of a viewer that has learned the ended list, the replies are a final transcript over it: each number
+    /// of points that they print is its length. It takes at most the steps that its lines may take, each over the list that
+    /// is shown for it.
     pub fn run<V: Grow, R: Wait, L: Ledger>(
         &mut self,
         rt: &R,
@@ -279,12 +280,12 @@ impl<I: Source, O: Sink> Session<I, O> {
         steps: &mut Steps<L>,
     ) -> (Viewer<V>, Result<(), SessionFault>)
         requires { (viewer.shown.book ≡ mail.old.pair) × (self.old.ended ≡ false) }
-        ensures done { HasDone I.left I.faults O.held viewer.schema V.is_stat false mail.old.takes (news_of result.0.shown result.0.learned mail.new) self.old self.new result.1 }
-        ensures finals { IfSome viewer.last (λ w. HasDone I.left I.faults O.held viewer.schema V.is_stat true mail.old.takes (news_of w w mail.new) self.old self.new result.1) }
+        ensures done { DoneBy (ends_of I.Source O.Sink) V.is_stat viewer mail.old (news result.0 mail.new) self.old self.new result.1 }
+        ensures finals { DoneFinally (ends_of I.Source O.Sink) V.is_stat viewer mail.old mail.new self.old self.new result.1 }
         ensures script { EndsScript I.left viewer.schema self.old self.new result.1 }
-        ensures read { HasCause (I.faults self.old.source.source) (I.faults self.new.source.source) result.1 SessionFault.Read }
-        ensures write { HasCause (O.faults self.old.sink) (O.faults self.new.sink) result.1 SessionFault.Write }
-        ensures viewer { KeepsViewer viewer.shown viewer.learned viewer.last viewer.schema result.0.shown result.0.learned result.0.last result.0.schema }
+        ensures causes { CountsFaults I.faults O.faults self.old.source self.new.source self.old.sink self.new.sink result.1 }
+        ensures costs { RunCosts I.Source result.0 self.old.source steps.old steps.new }
+        ensures viewer { IsSameViewer viewer result.0 }
         ensures names { (O.name self.new.sink ≡ O.name self.old.sink) × KeepsOut result.0.learned mail.old mail.new }
     {
         let mut viewer = viewer;

@@ -1,72 +1,91 @@
-use Rattle.std.proofs.Common.{◌∙◌, refl, arith, true, false}
+use Rattle.std.proofs.Common.{◌∙◌, sym, refl, arith, true, false}
+use Rattle.std.proofs.lemmas.Bool.{false≢true}
 use Rattle.live_session.specs.News.{news_of}
 use Rattle.live_session.specs.Saying.{IsShown}
 use Rattle.live_session.proofs.OneTurn.{goes_unseen, if_some, keeps_on, learns_nothing, learns_on, of_err, prefix-same, shown_numbers}
 use Rattle.live_session.proofs.Refused.{refused_at_too_much, taken_at_end}
-use Rattle.live_session.proofs.Running.{after_turn, all_ended, all_too_much, answered_on, done_fault, has_ended, mail_same, not_last, replied_not_last, skipped_not_last, some_on}
+use Rattle.live_session.proofs.RunSteps.{run_costs, took_last, took_nothing, took_on}
+use Rattle.live_session.proofs.Running.{after_turn, all_ended, all_too_much, answered_on, done_fault, has_ended, mail_same, not_last, replied_not_last, skipped_not_last, some_on, still_going}
 use Rattle.live_session.proofs.SoFarLaws.{answered_nothing}
 use Rattle.session_core.proofs.SoFar.{fault_is}
 use Rattle.live_session.proofs.session.Session.run.Goals as goal
 
 pub turns-init : goal.turns-init
 turns-init g c = record {
-  so_far = answered_nothing g.I.Source.left g.I.Source.faults g.O.Sink.held c.args.viewer.schema g.V.CubeView.is_stat c.args.mail.now.takes false (news_of c.args.viewer.shown c.args.viewer.learned c.args.mail.now) c.args.self.now (omega arith);
-  finals = if_some c.args.viewer.last (λ w last. answered_nothing g.I.Source.left g.I.Source.faults g.O.Sink.held c.args.viewer.schema g.V.CubeView.is_stat c.args.mail.now.takes true (news_of w w c.args.mail.now) c.args.self.now (omega arith));
-  going = c.requires.1;
-  pair = c.requires.0;
-  source = refl;
-  sink = refl;
-  viewer = record {
-    goes = goes_unseen c.args.viewer.shown c.args.viewer.learned c.args.viewer.last c.args.viewer.shown c.args.viewer.learned refl (prefix-same c.args.viewer.learned.points c.args.viewer.learned.points refl);
-    same_last = refl;
-    same_schema = refl;
+  between = record {
+    so_far = answered_nothing g.I.Source.left g.I.Source.faults g.O.Sink.held c.args.viewer.schema g.V.CubeView.is_stat c.args.mail.now.takes false (news_of c.args.viewer.shown c.args.viewer.learned c.args.mail.now) c.args.self.now (omega arith);
+    finals = if_some c.args.viewer.last (λ w last. answered_nothing g.I.Source.left g.I.Source.faults g.O.Sink.held c.args.viewer.schema g.V.CubeView.is_stat c.args.mail.now.takes true (news_of w w c.args.mail.now) c.args.self.now (omega arith));
+    going = c.requires.1;
+    pair = c.requires.0;
+    source = refl;
+    sink = refl;
+    viewer = record {
+      goes = goes_unseen c.args.viewer.shown c.args.viewer.learned c.args.viewer.last c.args.viewer.shown c.args.viewer.learned refl (prefix-same c.args.viewer.learned.points c.args.viewer.learned.points refl);
+      same_last = refl;
+      same_schema = refl;
+    };
+    mailbox = refl;
+    mail_pair = refl;
+    learns = learns_nothing c.args.viewer.learned c.args.mail.now c.args.mail.now refl;
+    name = refl;
   };
-  mailbox = refl;
-  mail_pair = refl;
-  learns = learns_nothing c.args.viewer.learned c.args.mail.now c.args.mail.now refl;
-  name = refl;
+  took = took_nothing g.I.Source g.V.CubeView c.args.viewer.schema c.args.self.now.source c.args.steps.now c.args.viewer.shown.points;
 }
 
 pub turns-preserved-in-Ok-Skipped : goal.turns-preserved-in-Ok-Skipped
 turns-preserved-in-Ok-Skipped g c =
     let turn = c.turn-after.ensures in
     let after = c.turn-after.result.0 in
-    after_turn _ after.shown after.learned after.last after.schema c.turn-after.new.mail c.turn-after.new.self c.turn-after.result.1 c.in-Ok-Skipped.field-0 c.turns.invariant c.in-Ok-Skipped.is
-    (not_last _ _ (rw c.in-Ok-Skipped.is at c.in-Ok-Skipped.field-0-is) skipped_not_last)
-    (shown_numbers g.V.CubeView.weight_at g.V.CubeView.seen g.V.CubeView.schema g.V.CubeView.numbers g.V.CubeView.is_stat c.turns.viewer.schema after.shown.points g.met.V.CubeView.structure)
-    turn.turned.turned turn.faults turn.viewer turn.costs.mail turn.so_far turn.finals
+    let was = c.turns.invariant in
+    record {
+      between =
+          after_turn _ after.shown after.learned after.last after.schema c.turn-after.new.mail c.turn-after.new.self c.turn-after.result.1 c.in-Ok-Skipped.field-0 c.turns.invariant.between c.in-Ok-Skipped.is
+          (not_last _ _ (rw c.in-Ok-Skipped.is at c.in-Ok-Skipped.field-0-is) skipped_not_last)
+          (shown_numbers g.V.CubeView.weight_at g.V.CubeView.seen g.V.CubeView.schema g.V.CubeView.numbers g.V.CubeView.is_stat c.turns.viewer.schema after.shown.points g.met.V.CubeView.structure)
+          turn.turned.turned turn.faults turn.viewer turn.costs.mail turn.so_far turn.finals;
+      took = took_on g.I.Source g.V.CubeView c.args.viewer.schema c.args.self.now.source c.args.steps.now c.turns.viewer.shown.points after.shown.points c.turns.self.source c.turn-after.new.self.source c.turns.steps c.turn-after.new.steps after.schema (turn.viewer.same_schema ∙ was.between.viewer.same_schema) turn.viewer.goes.seen was.took
+          (λ ended. absurd (false≢true (sym (still_going g.I.Source.left g.I.Source.faults g.O.Sink.held g.V.CubeView.is_stat c.args.mail.now.takes false (news_of c.turns.viewer.shown c.turns.viewer.learned c.turns.mail) (news_of after.shown after.learned c.turn-after.new.mail) c.args.self.now c.turns.self c.turn-after.new.self _ (shown_numbers g.V.CubeView.weight_at g.V.CubeView.seen g.V.CubeView.schema g.V.CubeView.numbers g.V.CubeView.is_stat c.turns.viewer.schema after.shown.points g.met.V.CubeView.structure) c.turns.viewer.schema c.turn-after.result.1 c.in-Ok-Skipped.field-0 (not_last _ _ (rw c.in-Ok-Skipped.is at c.in-Ok-Skipped.field-0-is) skipped_not_last) c.in-Ok-Skipped.is turn.turned.turned) ∙ ended)))
+          turn.costs.steps;
+    }
 
 pub turns-preserved : goal.turns-preserved
 turns-preserved g c =
     let turn = c.turn-after.ensures in
     let after = c.turn-after.result.0 in
-    after_turn _ after.shown after.learned after.last after.schema c.turn-after.new.mail c.turn-after.new.self c.turn-after.result.1 c.in-Ok-Replied.field-0 c.turns.invariant c.in-Ok-Replied.is
-    (not_last _ _ (rw c.in-Ok-Replied.is at c.in-Ok-Replied.field-0-is) replied_not_last)
-    (shown_numbers g.V.CubeView.weight_at g.V.CubeView.seen g.V.CubeView.schema g.V.CubeView.numbers g.V.CubeView.is_stat c.turns.viewer.schema after.shown.points g.met.V.CubeView.structure)
-    turn.turned.turned turn.faults turn.viewer turn.costs.mail turn.so_far turn.finals
+    let was = c.turns.invariant in
+    record {
+      between =
+          after_turn _ after.shown after.learned after.last after.schema c.turn-after.new.mail c.turn-after.new.self c.turn-after.result.1 c.in-Ok-Replied.field-0 c.turns.invariant.between c.in-Ok-Replied.is
+          (not_last _ _ (rw c.in-Ok-Replied.is at c.in-Ok-Replied.field-0-is) replied_not_last)
+          (shown_numbers g.V.CubeView.weight_at g.V.CubeView.seen g.V.CubeView.schema g.V.CubeView.numbers g.V.CubeView.is_stat c.turns.viewer.schema after.shown.points g.met.V.CubeView.structure)
+          turn.turned.turned turn.faults turn.viewer turn.costs.mail turn.so_far turn.finals;
+      took = took_on g.I.Source g.V.CubeView c.args.viewer.schema c.args.self.now.source c.args.steps.now c.turns.viewer.shown.points after.shown.points c.turns.self.source c.turn-after.new.self.source c.turns.steps c.turn-after.new.steps after.schema (turn.viewer.same_schema ∙ was.between.viewer.same_schema) turn.viewer.goes.seen was.took
+          (λ ended. absurd (false≢true (sym (still_going g.I.Source.left g.I.Source.faults g.O.Sink.held g.V.CubeView.is_stat c.args.mail.now.takes false (news_of c.turns.viewer.shown c.turns.viewer.learned c.turns.mail) (news_of after.shown after.learned c.turn-after.new.mail) c.args.self.now c.turns.self c.turn-after.new.self _ (shown_numbers g.V.CubeView.weight_at g.V.CubeView.seen g.V.CubeView.schema g.V.CubeView.numbers g.V.CubeView.is_stat c.turns.viewer.schema after.shown.points g.met.V.CubeView.structure) c.turns.viewer.schema c.turn-after.result.1 c.in-Ok-Replied.field-0 (not_last _ _ (rw c.in-Ok-Replied.is at c.in-Ok-Replied.field-0-is) replied_not_last) c.in-Ok-Replied.is turn.turned.turned) ∙ ended)))
+          turn.costs.steps;
+    }
 
 pub returns-in-Err-clause-done : goal.returns-in-Err-clause-done
 returns-in-Err-clause-done g c =
-    let was = c.turns.invariant in
+    let was = c.turns.invariant.between in
     let turn = c.turn-after.ensures in
     let after = c.turn-after.result.0 in
     done_fault g.I.Source.left g.I.Source.faults g.O.Sink.held g.V.CubeView.is_stat c.args.mail.now.takes false (news_of c.turns.viewer.shown c.turns.viewer.learned c.turns.mail) (news_of after.shown after.learned c.turn-after.new.mail) c.args.self.now c.turns.self c.turn-after.new.self c.turns.viewer.schema c.args.viewer.schema c.turn-after.result.1 c.in-Err.fault was.viewer.same_schema c.in-Err.is turn.so_far was.so_far
 
 pub returns-in-Ok-Ended-clause-finals : goal.returns-in-Ok-Ended-clause-finals
 returns-in-Ok-Ended-clause-finals g c =
-    let was = c.turns.invariant in
+    let was = c.turns.invariant.between in
     let turn = c.turn-after.ensures in
     some_on c.args.viewer.last c.turns.viewer.last was.viewer.same_last (λ w. answered_on g.I.Source.left g.I.Source.faults g.O.Sink.held g.V.CubeView.is_stat c.args.mail.now.takes true (news_of w w c.turns.mail) (news_of w w c.turn-after.new.mail) c.args.self.now c.turns.self c.turn-after.new.self c.turns.viewer.schema c.args.viewer.schema c.turn-after.result.1 c.in-Ok-Ended.field-0 was.viewer.same_schema c.in-Ok-Ended.is) turn.finals was.finals
 
 pub returns-in-Err-clause-finals : goal.returns-in-Err-clause-finals
 returns-in-Err-clause-finals g c =
-    let was = c.turns.invariant in
+    let was = c.turns.invariant.between in
     let turn = c.turn-after.ensures in
     some_on c.args.viewer.last c.turns.viewer.last was.viewer.same_last (λ w. done_fault g.I.Source.left g.I.Source.faults g.O.Sink.held g.V.CubeView.is_stat c.args.mail.now.takes true (news_of w w c.turns.mail) (news_of w w c.turn-after.new.mail) c.args.self.now c.turns.self c.turn-after.new.self c.turns.viewer.schema c.args.viewer.schema c.turn-after.result.1 c.in-Err.fault was.viewer.same_schema c.in-Err.is) turn.finals was.finals
 
 pub returns-in-Ok-Ended-clause-script : goal.returns-in-Ok-Ended-clause-script
 returns-in-Ok-Ended-clause-script g c =
-    let was = c.turns.invariant in
+    let was = c.turns.invariant.between in
     let turn = c.turn-after.ensures in
     let after = c.turn-after.result.0 in
     let last = rw c.in-Ok-Ended.is at c.in-Ok-Ended.field-0-is in record {
@@ -89,7 +108,7 @@ returns-in-Ok-Ended-clause-script g c =
 
 pub returns-in-Err-clause-script : goal.returns-in-Err-clause-script
 returns-in-Err-clause-script g c =
-    let was = c.turns.invariant in
+    let was = c.turns.invariant.between in
     let turn = c.turn-after.ensures in
     let after = c.turn-after.result.0 in record {
       all = tt;
@@ -104,21 +123,39 @@ returns-in-Err-clause-script g c =
     }
 
 pub returns-in-Ok-Ended-clause-viewer : goal.returns-in-Ok-Ended-clause-viewer
-returns-in-Ok-Ended-clause-viewer g c = keeps_on c.turns.invariant.viewer c.turn-after.ensures.viewer
+returns-in-Ok-Ended-clause-viewer g c = keeps_on c.turns.invariant.between.viewer c.turn-after.ensures.viewer
 
 pub returns-in-Err-clause-viewer : goal.returns-in-Err-clause-viewer
-returns-in-Err-clause-viewer g c = keeps_on c.turns.invariant.viewer c.turn-after.ensures.viewer
+returns-in-Err-clause-viewer g c = keeps_on c.turns.invariant.between.viewer c.turn-after.ensures.viewer
 
 pub returns-in-Ok-Ended-clause-names : goal.returns-in-Ok-Ended-clause-names
 returns-in-Ok-Ended-clause-names g c =
-    let was = c.turns.invariant in
+    let was = c.turns.invariant.between in
     let turn = c.turn-after.ensures in
     let names = mail_same c.turn-after.result.0.learned c.turns.mail c.turn-after.new.mail turn.costs.mail in
     (turn.faults.1 ∙ was.name, (names.0 ∙ was.mailbox, names.1 ∙ was.mail_pair, learns_on c.turns.viewer.learned c.turn-after.result.0.learned c.args.mail.now c.turns.mail c.turn-after.new.mail turn.viewer.goes.told was.learns turn.costs.mail))
 
 pub returns-in-Err-clause-names : goal.returns-in-Err-clause-names
 returns-in-Err-clause-names g c =
-    let was = c.turns.invariant in
+    let was = c.turns.invariant.between in
     let turn = c.turn-after.ensures in
     let names = mail_same c.turn-after.result.0.learned c.turns.mail c.turn-after.new.mail turn.costs.mail in
     (turn.faults.1 ∙ was.name, (names.0 ∙ was.mailbox, names.1 ∙ was.mail_pair, learns_on c.turns.viewer.learned c.turn-after.result.0.learned c.args.mail.now c.turns.mail c.turn-after.new.mail turn.viewer.goes.told was.learns turn.costs.mail))
+
+pub returns-in-Ok-Ended-clause-costs : goal.returns-in-Ok-Ended-clause-costs
+returns-in-Ok-Ended-clause-costs g c =
+    let turn = c.turn-after.ensures in
+    let after = c.turn-after.result.0 in
+    let was = c.turns.invariant in
+    let same = turn.viewer.same_schema ∙ was.between.viewer.same_schema in
+    run_costs g.I.Source after c.args.viewer.schema c.args.self.now.source c.args.steps.now c.turn-after.new.steps same
+    (took_last g.I.Source g.V.CubeView c.args.viewer.schema c.args.self.now.source c.args.steps.now c.turns.viewer.shown.points after.shown.points c.turns.self.source c.turn-after.new.self.source c.turns.steps c.turn-after.new.steps after.schema same turn.viewer.goes.seen was.took turn.costs.steps)
+
+pub returns-in-Err-clause-costs : goal.returns-in-Err-clause-costs
+returns-in-Err-clause-costs g c =
+    let turn = c.turn-after.ensures in
+    let after = c.turn-after.result.0 in
+    let was = c.turns.invariant in
+    let same = turn.viewer.same_schema ∙ was.between.viewer.same_schema in
+    run_costs g.I.Source after c.args.viewer.schema c.args.self.now.source c.args.steps.now c.turn-after.new.steps same
+    (took_last g.I.Source g.V.CubeView c.args.viewer.schema c.args.self.now.source c.args.steps.now c.turns.viewer.shown.points after.shown.points c.turns.self.source c.turn-after.new.self.source c.turns.steps c.turn-after.new.steps after.schema same turn.viewer.goes.seen was.took turn.costs.steps)

@@ -9,6 +9,7 @@ use Rattle.live_session.proofs.OneTurn.{end_of, faults_after, has_news, if_some,
 use Rattle.live_session.proofs.SoFarLaws.{done_turn, goes_final, goes_within}
 use Rattle.outer_io.specs.Progress.{Passes}
 use Rattle.query_syntax.specs.declared.query.Parsed.{Parsed}
+use Rattle.session_core.specs.Asked.{line_meaning}
 use Rattle.session_core.proofs.SoFar.{fault_is}
 use Rattle.live_session.proofs.Turning.{Keeps, breaks_off, turned_answered, turned_end, turned_ended}
 use Rattle.live_session.proofs.session.Session.turn.Goals as goal
@@ -135,6 +136,6 @@ returns-in-Ok-Some-clause-costs g c =
       steps = inr (
         reads.0,
         subst (λ s. Passes g.I.Source.left g.I.Source.faults c.args.self.now.source s (reads.0 ∷ [])) (sym c.finish-turn.ensures.source) reads.1.passed,
-        subst (λ (m : Parsed). TakesSteps g.V.CubeView.weight_at g.V.CubeView.seen g.V.CubeView.schema g.V.CubeView.costs c.args.viewer.schema viewer.shown.points m c.args.steps.now c.answer_line-viewer.new.steps) reads.2 line.steps,
+        subst (λ (z : Schema). TakesSteps g.V.CubeView z viewer.shown.points (line_meaning z reads.0) c.args.steps.now c.answer_line-viewer.new.steps) (sym line.same.1) (subst (λ (m : Parsed). TakesSteps g.V.CubeView c.args.viewer.schema viewer.shown.points m c.args.steps.now c.answer_line-viewer.new.steps) reads.2 line.steps),
       );
     }
