@@ -1,8 +1,7 @@
 //! What a run opens: a lane with an end for each feeder, a pair with a viewer for each session, and their mailboxes.
 ghost use Rattle.std.specs.Prelude.{◌≡◌, ◌≤◌, ◌+◌, [], All, IfOk, vec_len};
 ghost use Rattle.cube_crew.specs.Begins.{AreEmptyViews};
-ghost use Rattle.cube_crew.specs.Opened.{AreMails, IsNewLane, IsUntaken};
-ghost use Rattle.published_pair.specs.Pair.{IsNewViewer};
+ghost use Rattle.cube_crew.specs.Opened.{AreMails, IsNewLane, IsNewTo, IsUntaken};
 
 use crate::rooms::first_refusals;
 use crew_feeder::FirstRefusals;
@@ -94,7 +93,7 @@ pub(crate) fn open_run<V: Grow, R: Wait>(
     ensures schema { IfOk result (λ o. (o.schema ≡ V.schema first) × (o.publisher.schema ≡ V.schema first)) }
     ensures feeds { IfOk result (λ o. IsNewLane (V.schema first) feeds o.ends.items o.draws × (vec_len o.firsts ≡ feeds) × All (λ f. f ≡ []) o.firsts.items) }
     ensures publisher { IfOk result (λ o. (o.publisher.published.points ≡ []) × (o.publisher.appended.items ≡ []) × (o.publisher.viewers ≡ asks + finals)) }
-    ensures viewers { IfOk result (λ o. (vec_len o.viewers ≡ asks + finals) × All (λ v. IsNewViewer o.publisher.schema o.publisher.published v.schema v.shown v.learned v.last) o.viewers.items) }
+    ensures viewers { IfOk result (λ o. (vec_len o.viewers ≡ asks + finals) × All (IsNewTo o.publisher.schema o.publisher.published) o.viewers.items) }
     ensures asks { IfOk result (λ o. AreMails o.publisher.published.book o.mails.ins o.mails.outs.items × (vec_len o.mails.outs ≡ asks)) }
     ensures finals { IfOk result (λ o. All (IsUntaken o.publisher.published.book) o.mails.final_outs.items × (vec_len o.mails.final_outs ≡ finals)) }
 {

@@ -3,8 +3,7 @@ ghost use Rattle.std.specs.Prelude.{◌≡◌, ◌≤◌, ◌+◌, [], All, IfOk
 ghost use Rattle.cube_crew.specs.Begins.{AreEmptyViews, MayRun};
 ghost use Rattle.cube_crew.specs.Crewed.{IsCrewed};
 ghost use Rattle.cube_crew.specs.Ending.{EndsRun, IsRun};
-ghost use Rattle.cube_crew.specs.Opened.{AreMails, IsNewLane, IsUntaken};
-ghost use Rattle.published_pair.specs.Pair.{IsNewViewer};
+ghost use Rattle.cube_crew.specs.Opened.{AreNewFeeds, AreNew, HasMails, HasSeats, IsIdle};
 
 use crate::ending::{Answered, end_sessions};
 use crate::feeds::{end_feeds, seat_feeds};
@@ -65,12 +64,12 @@ fn run_opened<R: Threads + Wait + Sync, V: Grow + Send + Sync, I: Source + Send,
     jobs: Jobs<I, O>,
 ) -> Crewed<I, O>
     requires jobs { MayRun opened.schema jobs }
-    requires feeds { IsNewLane opened.schema (length jobs.feeds) opened.ends.items opened.draws × (vec_len opened.firsts ≡ length jobs.feeds) × All (λ f. f ≡ []) opened.firsts.items }
-    requires publisher { (opened.publisher.published.points ≡ []) × (opened.publisher.appended.items ≡ []) × (opened.publisher.schema ≡ opened.schema) × (opened.publisher.viewers ≡ length jobs.asks + length jobs.finals) }
-    requires viewers { (vec_len opened.viewers ≡ length jobs.asks + length jobs.finals) × All (λ v. IsNewViewer opened.publisher.schema opened.publisher.published v.schema v.shown v.learned v.last) opened.viewers.items }
-    requires mails { AreMails opened.publisher.published.book opened.mails.ins opened.mails.outs.items × (vec_len opened.mails.outs ≡ length jobs.asks) × All (IsUntaken opened.publisher.published.book) opened.mails.final_outs.items × (vec_len opened.mails.final_outs ≡ length jobs.finals) }
-    requires fed { (length jobs.feeds ≤ vec_capacity rooms.works) × (length jobs.feeds ≤ vec_capacity rooms.dones) × (length jobs.feeds ≤ vec_capacity rooms.ended) }
-    requires answered { (length jobs.asks ≤ vec_capacity rooms.asks) × (length jobs.asks ≤ vec_capacity rooms.answered) × (length jobs.finals ≤ vec_capacity rooms.finals) × (length jobs.finals ≤ vec_capacity rooms.final_answered) }
+    requires feeds { AreNewFeeds opened.schema (length jobs.feeds) opened.ends.items opened.draws (vec_len opened.firsts) opened.firsts.items }
+    requires publisher { let p = opened.publisher in IsIdle opened.schema (length jobs.asks + length jobs.finals) p.published p.appended.items p.schema p.viewers }
+    requires views { let p = opened.publisher in AreNew p.schema p.published (length jobs.asks + length jobs.finals) (vec_len opened.viewers) opened.viewers.items }
+    requires mails { HasMails opened.publisher.published.book (length jobs.asks) (length jobs.finals) opened.mails }
+    requires fed { let n = length jobs.feeds in (n ≤ vec_capacity rooms.works) × (n ≤ vec_capacity rooms.dones) × (n ≤ vec_capacity rooms.ended) }
+    requires answered { HasSeats rooms (length jobs.asks) (length jobs.finals) }
     ensures { IsCrewed I.left I.faults O.held O.faults O.name V.is_stat opened.schema jobs result }
 {
     transcript_laws::<V>();

@@ -40,7 +40,7 @@ pub record OpensScripts {P : Type 0} (p : PlaceSeen P) (before after : P) (input
   pub ends : (stop ≢ Some PlanRefused) × (stop ≢ Some FeedRefused)
 
 -- The parts are those of the plan's scripts, each over its file, and the sinks for their replies and for its journal
-pub record ArePartsOf {S O : Type 0} (left : S → Option (List ℕ)) (faults : S → ℕ) (s : SinkSeen O) (files : Option Files) (plan : Plan) (parts : ScriptParts (Cutter S) O) : Type 0 where
+pub record AreScriptParts {S O : Type 0} (left : S → Option (List ℕ)) (faults : S → ℕ) (s : SinkSeen O) (files : Option Files) (plan : Plan) (parts : ScriptParts (Cutter S) O) : Type 0 where
   pub asks : AreScripts left faults files plan.asks parts.asks
   pub finals : AreScripts left faults files plan.finals parts.finals
   pub ask_outputs : AllZip (IsOutput s files) (outputs plan.asks) parts.ask_outputs

@@ -6,7 +6,7 @@ ghost use Rattle.cube_schema.specs.Repeats.{outputs};
 ghost use Rattle.std.specs.List.{AllZip};
 ghost use Rattle.outer_io.specs.Files.{HasFile};
 ghost use Rattle.run_files.specs.Outside.{file_of, of_place, of_sink};
-ghost use Rattle.run_files.specs.Scripted.{ArePartsOf, AreScripts, IsOutput, IsScript, OpensScripts};
+ghost use Rattle.run_files.specs.Scripted.{AreScriptParts, AreScripts, IsOutput, IsScript, OpensScripts};
 
 use crate::giving_back::{give_back_cutters, give_back_sinks};
 use crate::{Stop, ended_after};
@@ -244,7 +244,7 @@ pub fn open_scripts<P: Place>(
     place: &mut P,
 ) -> Result<ScriptParts<LineCutter<P::In>, P::Out>, Stop>
     ensures opens { OpensScripts (of_place P.Place) place.old place.new (plan.now.asks ++ plan.now.finals) (output_names plan.now) (result_err result) }
-    ensures parts { IfOk result (ArePartsOf P.In.left P.In.faults (of_sink P.Out.Sink) (P.files place.old) plan.now) }
+    ensures parts { IfOk result (AreScriptParts P.In.left P.In.faults (of_sink P.Out.Sink) (P.files place.old) plan.now) }
 {
     let (asks, finals) = open_all(alloc, plan, place)?;
     match create_all(alloc, plan, place) {

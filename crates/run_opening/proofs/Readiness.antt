@@ -20,7 +20,7 @@ use Rattle.outer_io.specs.Progress.{IsGoing}
 use Rattle.outer_io.specs.Told.{Told}
 use Rattle.run_files.specs.Headed.{IsHeaded}
 use Rattle.run_files.specs.Outside.{file_of, SinkSeen}
-use Rattle.run_files.specs.Scripted.{ArePartsOf, IsOutput, IsScript}
+use Rattle.run_files.specs.Scripted.{AreScriptParts, IsOutput, IsScript}
 use Rattle.run_files.specs.declared.feeds.HeadedFeed.{HeadedFeed}
 use Rattle.run_files.specs.declared.scripts.ScriptParts.{ScriptParts}
 use Rattle.run_opening.specs.Opening.{AreFit, AreReady}
@@ -83,7 +83,7 @@ module _ {I O : Type 0} (left : I → Option (List ℕ)) (faults : I → ℕ) (s
 
   -- ---- both
 
-  pub are_ready : (plan : Plan) (feeds : List (HeadedFeed (Cutter I))) (scripts : ScriptParts (Cutter I) O) (parts : RunParts I O) → AllZip (λ name. IsHeaded left faults plan.schema (file_of files name)) plan.feeds feeds → ArePartsOf left faults s files plan scripts
+  pub are_ready : (plan : Plan) (feeds : List (HeadedFeed (Cutter I))) (scripts : ScriptParts (Cutter I) O) (parts : RunParts I O) → AllZip (λ name. IsHeaded left faults plan.schema (file_of files name)) plan.feeds feeds → AreScriptParts left faults s files plan scripts
       → parts.feeds ≡ map job_of feeds → parts.asks ≡ sessions_of scripts.asks scripts.ask_outputs → parts.finals ≡ sessions_of scripts.finals scripts.final_outputs → parts.journal ≡ scripts.journal → AreReady left faults s files plan parts
   are_ready plan feeds scripts parts headed are fed asked finally kept = record {
     feeds = subst (AllZip (λ name. IsJobOf left faults plan.schema (file_of files name)) plan.feeds) (sym fed) (are_jobs left faults plan.schema files plan.feeds feeds headed);

@@ -5,7 +5,7 @@ ghost use Rattle.cube_schema.specs.Files.{NamesFiles};
 ghost use Rattle.run_files.specs.Headed.{AreHeaded};
 ghost use Rattle.run_files.specs.Outside.{file_of, of_place, of_sink};
 ghost use Rattle.run_files.specs.Planned.{IsPlanOf};
-ghost use Rattle.run_files.specs.Scripted.{ArePartsOf};
+ghost use Rattle.run_files.specs.Scripted.{AreScriptParts};
 ghost use Rattle.run_opening.specs.Opening.{AreFit, AreReady, OpensFiles, OpensRun, plan_in};
 
 use crate::parts::RunParts;
@@ -34,7 +34,7 @@ fn open_files<P: Place, O: Sink>(
 >
     ensures opens { OpensFiles (of_place P.Place) (of_sink O.Sink) place.old place.new out.old out.new plan.now (result_err result) }
     ensures feeds { IfOk result (λ files. AreHeaded P.In.left P.In.faults plan.now.schema (P.files place.old) plan.now.feeds files.0) }
-    ensures scripts { IfOk result (λ files. ArePartsOf P.In.left P.In.faults (of_sink P.Out.Sink) (P.files place.old) plan.now files.1) }
+    ensures scripts { IfOk result (λ files. AreScriptParts P.In.left P.In.faults (of_sink P.Out.Sink) (P.files place.old) plan.now files.1) }
 {
     let feeds = open_feeds(alloc, &plan.schema, plan.feeds.as_slice(), place, out)?;
     match open_scripts(alloc, plan, place) {

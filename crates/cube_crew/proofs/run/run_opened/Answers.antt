@@ -70,7 +70,7 @@ seat_feeds-works-requires-clause-len g c =
 pub seat_sessions-finals-requires-clause-sessions : goal.seat_sessions-finals-requires-clause-sessions
 seat_sessions-finals-requires-clause-sessions g c κs within =
     let n = ap length c.into_vec-final_jobs.ensures in
-    (omega (arith, c.into_vec-final_jobs.result.ok.0, n, c.requires.viewers.0), All-same HadNoTurn c.into_vec-final_jobs.result.items c.args.jobs.finals c.into_vec-final_jobs.ensures c.requires.jobs.finals)
+    (omega (arith, c.into_vec-final_jobs.result.ok.0, n, c.requires.views.0), All-same HadNoTurn c.into_vec-final_jobs.result.items c.args.jobs.finals c.into_vec-final_jobs.ensures c.requires.jobs.finals)
 
 pub seat_sessions-finals-requires-clause-mails : goal.seat_sessions-finals-requires-clause-mails
 seat_sessions-finals-requires-clause-mails g c κs within =
@@ -86,7 +86,7 @@ pub seat_sessions-asks-requires-clause-sessions : goal.seat_sessions-asks-requir
 seat_sessions-asks-requires-clause-sessions g c κs within =
     let n = ap length c.into_vec-ask_jobs.ensures in
     let m = ap length c.into_vec-final_jobs.ensures in (
-      omega (arith, c.into_vec-ask_jobs.result.ok.0, n, c.into_vec-final_jobs.result.ok.0, m, c.requires.viewers.0, c.seat_sessions-finals.ensures.len.1),
+      omega (arith, c.into_vec-ask_jobs.result.ok.0, n, c.into_vec-final_jobs.result.ok.0, m, c.requires.views.0, c.seat_sessions-finals.ensures.len.1),
       All-same HadNoTurn c.into_vec-ask_jobs.result.items c.args.jobs.asks c.into_vec-ask_jobs.ensures c.requires.jobs.asks,
     )
 

@@ -7,7 +7,7 @@ use Rattle.run_files.proofs.HeadReads.{all_headed}
 use Rattle.run_files.proofs.Stages.{nothing_made}
 use Rattle.run_files.specs.Headed.{IsHeaded, OpensFeeds}
 use Rattle.run_files.specs.Outside.{file_of, of_place, of_sink}
-use Rattle.run_files.specs.Scripted.{ArePartsOf}
+use Rattle.run_files.specs.Scripted.{AreScriptParts}
 use Rattle.run_files.specs.declared.feeds.HeadedFeed.{HeadedFeed}
 use Rattle.run_opening.proofs.Stages.{feeds_end, files_given_back, files_residual, scripts_follow}
 use Rattle.run_opening.proofs.opening.open_files.Goals as goal
@@ -41,7 +41,7 @@ returns-in-Ok-clause-scripts g c =
     let p = of_place g.P.Place in
     let leaves = c.in_ok-feeds.ensures.opens.leaves in
     let same : g.P.Place.files c.open_feeds.new.place ≡ g.P.Place.files c.args.place.now = leaves.untouched (nothing_made p c.args.place.now c.open_feeds.new.place c.as_slice.result.now None leaves) in
-    subst (λ (files : Option Files). ArePartsOf g.P.In.Source.left g.P.In.Source.faults (of_sink g.P.Out.Sink) files c.args.plan.now c.in-Ok.scripts) same c.in-Ok.ensures.parts
+    subst (λ (files : Option Files). AreScriptParts g.P.In.Source.left g.P.In.Source.faults (of_sink g.P.Out.Sink) files c.args.plan.now c.in-Ok.scripts) same c.in-Ok.ensures.parts
 
 pub returns-in-Err-clause-opens : goal.returns-in-Err-clause-opens
 returns-in-Err-clause-opens g c =
