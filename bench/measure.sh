@@ -5,6 +5,8 @@
 #   bench/measure.sh --unproved table_times [WORD..]
 # Its sources lie in bench/NAME with `.txt` after their names, since only a crate may hold sources.
 set -e
+# As `./nanocube` sets it.
+export GLIBC_TUNABLES="${GLIBC_TUNABLES:-glibc.malloc.hugetlb=1}"
 unproved=
 if [ "$1" = --unproved ]; then
     unproved=yes
