@@ -1,9 +1,9 @@
 //! A cube as its readers see it.
 ghost use Rattle.std.specs.Prelude.{◌≡◌, ℕ, ◌+◌, ◌*◌, ◌^◌, ◌<◌, ◌≤◌, ◌≢◌, [], ◌∷◌, ◌++◌, length, All, IsTrue, IfSome, OnOk, OnErr};
-ghost use Rattle.cube_view.specs.Bag.{amount, anywhere, most_points, Counts, EachCounted, GrowsBy, IsBag};
+ghost use Rattle.cube_view.specs.Bag.{amount, anywhere, most_points, Counts, EachCounted, GrowsBy, GrowsOnOk, IsBag};
 ghost use Rattle.cube_view.specs.Costs.{ViewCosts};
-ghost use Rattle.cube_view.specs.Found.{SomeIfAny, AreTotals, IsNextLabel};
-ghost use Rattle.cube_view.specs.Places.{time_dim, deepest, is_below, is_before, top_address, longer, next_dim};
+ghost use Rattle.cube_view.specs.Found.{SomeIfAny, SomeIfBelow, AreTotals, IsNextLabel};
+ghost use Rattle.cube_view.specs.Places.{time_dim, deepest, is_before, top_address, longer, next_dim};
 ghost use Rattle.cube_view.specs.Validity.{sound};
 ghost use Rattle.cube_view.specs.declared.address.Address.{Address};
 ghost use Rattle.cube_view.specs.declared.schema.Schema.{Schema};
@@ -70,7 +70,7 @@ pub trait CubeView: Drop {
     ) -> Option<Self::Cursor>
         requires stands { stands self.now cursor }
         requires above { (address self.now cursor).level < deepest (schema self.now) (address self.now cursor).dim }
-        ensures found { EachCounted (weight_at self.now) (seen self.now) (λ h. SomeIfAny result (amount (is_below (schema self.now) (address self.now cursor) label) h)) }
+        ensures found { EachCounted (weight_at self.now) (seen self.now) (SomeIfBelow (schema self.now) (address self.now cursor) label result) }
         ensures place { IfSome result (λ d. stands self.now d × (address self.now d ≡ longer (address self.now cursor) label)) }
         ensures cost { steps.new ≤ steps.old + (costs self.now).down_cost (address self.now cursor) };
 
@@ -113,7 +113,7 @@ pub trait CubeView: Drop {
         requires stands { stands self.now cursor }
         requires time { (address self.now cursor).dim ≡ time_dim (schema self.now) }
         requires small { from + wide * length totals.old < 2 ^ 64 }
-        ensures totals { EachCounted (weight_at self.now) (seen self.now) (AreTotals (schema self.now) (address self.now cursor) from wide (length totals.old) totals.new) }
+        ensures totals { EachCounted (weight_at self.now) (seen self.now) (AreTotals (schema self.now) (address self.now cursor) from wide totals.old totals.new) }
         ensures cost { steps.new ≤ steps.old + (costs self.now).before_each_cost (address self.now cursor) (length totals.old) };
 
     /// The bag counts some list, it is of few points, and each weighs something and not much.
@@ -129,7 +129,7 @@ pub trait Grow: CubeView {
     fn insert(&mut self, point: Point) -> Result<(), NoMemory>
         requires sound { IsTrue (sound (Self.schema self.old) point) }
         requires room { Self.seen self.old < most_points }
-        ensures counted { EachCounted (Self.weight_at self.old) (Self.seen self.old) (λ h. OnOk result (Counts (Self.weight_at self.new) (Self.seen self.new) (h ++ point ∷ []))) }
+        ensures counted { GrowsOnOk result (Self.weight_at self.old) (Self.seen self.old) (Self.weight_at self.new) (Self.seen self.new) point }
         ensures unchanged { EachCounted (Self.weight_at self.old) (Self.seen self.old) (λ h. OnErr result (Counts (Self.weight_at self.new) (Self.seen self.new) h)) }
         ensures schema { Self.schema self.new ≡ Self.schema self.old };
 

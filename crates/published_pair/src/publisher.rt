@@ -151,7 +151,8 @@ impl<V: Grow> PublisherOf<Of<V>> {
         ensures grows { IsPrefix self.old.published.points self.new.published.points }
         ensures unchanged { OnErr result (self.new.published ≡ self.old.published) }
         ensures appended { self.new.appended ≡ self.old.appended }
-        ensures pair { (self.new.published.book ≡ self.old.published.book) × (self.new.schema ≡ self.old.schema) × (self.new.viewers ≡ self.old.viewers) }
+        ensures book { self.new.published.book ≡ self.old.published.book }
+        ensures pair { (self.new.schema ≡ self.old.schema) × (self.new.viewers ≡ self.old.viewers) }
     {
         self.note(rt)?;
         self.looks.wait_for_earlier(rt);
