@@ -26,10 +26,24 @@ proper-shared (x ∷ children) =
     go true n m a b r = omega arith
     go false n m a b r = omega arith
 
+-- the labels rise of each node before a place
+abbrev pub IsRisingTo : List Slot → ℕ → Type 0
+IsRisingTo slots i = (k : ℕ) → k < i → IsRising (children_of (slot_of slots k))
+
+pub rising_more : (slots : List Slot) (i : ℕ) → IsRisingTo slots i → IsRising (children_of (slot_of slots i)) → IsRisingTo slots (i + 1)
+rising_more slots i before here k l = order (cases_lt k i)
+  where
+    order : (k < i) ⊎ (i ≤ k) → IsRising (children_of (slot_of slots k))
+    order (inl a) = before k a
+    order (inr b) = let e : i ≡ k = omega arith in subst (λ z. IsRising (children_of (slot_of slots z))) e here
+
+pub rising_ends : (slots : List Slot) (i : ℕ) → IsRisingTo slots i → length slots ≤ i → AllRising slots
+rising_ends slots i before past k d l = subst (λ (z : Slot). IsRising (children_of z)) (get_or_default slots k empty_node d l) (before k (omega arith))
+
 -- the slots before a place are counted
 pub record IsTotalled (slots : List Slot) (i : ℕ) (stat : Stat) : Type 0 where
   pub is : stat ≡ stat_of (take i slots)
-  pub in_order : (k : ℕ) → k < i → IsRising (children_of (slot_of slots k))
+  pub in_order : IsRisingTo slots i
 
 pub total_starts : (slots : List Slot) → IsTotalled slots 0 (record { nodes = 0; tables = 0; proper = 0; shared = 0 })
 total_starts slots = record { is = refl; in_order = λ k l. absurd (omega arith) }
@@ -40,13 +54,9 @@ capped-add a b total e = omega arith
 pub total_more : (slots : List Slot) (i : ℕ) (so_far next : Stat) (s : Slot) → i < length slots → IsTotalled slots i so_far → s ≡ slot_of slots i → next ≡ with_slot so_far s → IsRising (children_of s) → IsTotalled slots (i + 1) next
 total_more slots i so_far next s less T at is R = record {
   is = is ∙ (ap₂ with_slot T.is at ∙ more);
-  in_order = λ k l. order k l (cases_lt k i);
+  in_order = rising_more slots i T.in_order (subst (λ (z : Slot). IsRising (children_of z)) at R);
 }
   where
-    order : (k : ℕ) → k < i + 1 → (k < i) ⊎ (i ≤ k) → IsRising (children_of (slot_of slots k))
-    order k l (inl a) = T.in_order k a
-    order k l (inr b) = let e : i ≡ k = omega arith in subst (λ z. IsRising (children_of (slot_of slots z))) e (subst (λ (z : Slot). IsRising (children_of z)) at R)
-
     nodes : node_count (take (i + 1) slots) ≡ node_count (take i slots) + cond {A = ℕ} (not (is_table (slot_of slots i))) 1 0
     nodes = sum_by_more (λ (x : Slot). cond {A = ℕ} (not (is_table x)) 1 0) slots i empty_node less
 
@@ -64,7 +74,7 @@ total_more slots i so_far next s less T at is R = record {
 
 pub total_ends : (slots : List Slot) (i : ℕ) (so_far : Stat) → IsTotalled slots i so_far → length slots ≤ i → (so_far ≡ stat_of slots) × AllRising slots
 total_ends slots i so_far T past =
-    (T.is ∙ ap stat_of (take_all i slots past), λ k d l. subst (λ (z : Slot). IsRising (children_of z)) (get_or_default slots k empty_node d l) (T.in_order k (omega arith)))
+    (T.is ∙ ap stat_of (take_all i slots past), rising_ends slots i T.in_order past)
 
 -- and fewer than 2 ^ 64 slots are counted exactly
 pub total_tells : (slots : List Slot) (so_far : Stat) → so_far ≡ stat_of slots → AllRising slots → length slots < 2 ^ 64 → TellsStat slots so_far

@@ -4,6 +4,7 @@ ghost use Rattle.std.specs.FinMap.{from_sorted};
 ghost use Rattle.time_table.specs.Rows.{AreRows, row_total};
 ghost use Rattle.node_arena.specs.Slots.{IsNode, IsRising, node, table, slot_of, children_of};
 ghost use Rattle.node_arena.specs.Calls.{with_slot};
+ghost use Rattle.node_arena.specs.Stats.{AllRising};
 
 use super::Arena;
 use crate::children::Children;
@@ -49,9 +50,28 @@ impl Arena {
         ensures count { result ≡ length (children_of (slot_of self.now id.0)) }
         ensures in_order { IsRising (children_of (slot_of self.now id.0)) }
     {
-        match self.slot(id.0 as usize) {
+        self.count_at(id.0 as usize)
+    }
+
+    /// How many children the slot at a place has.
+    fn count_at(&self, i: usize) -> usize
+        requires { i < length self.now }
+        ensures count { result ≡ length (children_of (slot_of self.now i)) }
+        ensures in_order { IsRising (children_of (slot_of self.now i)) }
+    {
+        match self.slot(i) {
             Stored::Node(children, _) => children.len(),
             Stored::Table(_) => 0,
+        }
+    }
+
+    /// Contracts learn that the labels of each node rise. What it asks of each slot is not used, so nothing of it is left at
+    /// run time.
+    pub fn tell_order(&self)
+        ensures { AllRising self.now }
+    {
+        for i in 0..self.slots.len() {
+            let _ = self.count_at(i);
         }
     }
 
