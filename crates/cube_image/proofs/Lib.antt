@@ -8,7 +8,6 @@ pub mod Numbered
 pub mod Numbering
 pub mod OneOrder
 pub mod OwnImage
-pub mod Lengths
 pub mod Moving
 pub mod Writing
 pub mod WholeOrder

@@ -1,5 +1,5 @@
 -- Pairs in rising order: the children of a node, and the rows of a table.
-use Rattle.std.proofs.Common.{◌≡◌, ℕ, suc, ◌+◌, ◌-◌, ◌^◌, ◌<◌, ◌≤◌, Bool, cond, ◌⊎◌, inl, inr, List, [], ◌∷◌, length, get_or, Some, refl, sym, ap, ◌∙◌, subst, arith}
+use Rattle.std.proofs.Common.{◌≡◌, ℕ, suc, ◌+◌, ◌-◌, ◌^◌, ◌<◌, ◌≤◌, Bool, true, false, cond, ltb, ◌⊎◌, inl, inr, List, [], ◌∷◌, length, map, get_or, Some, refl, sym, ap, ◌∙◌, subst, arith}
 use Rattle.std.specs.FinMap.{entries, entries_sorted}
 use Rattle.std.specs.FinMap.Entries.{is_sorted}
 use Rattle.std.specs.List.{AllPairs}
@@ -10,6 +10,7 @@ use Rattle.time_table.specs.Counts.{BinCounts}
 use Rattle.node_arena.specs.declared.link.Link.{Link}
 use Rattle.node_arena.specs.Slots.{Children, IsRising, child}
 use Rattle.cube_store.proofs.Rising.{rises-tail, rises_from_test, from_T}
+use Rattle.cube_image.specs.Order.{moved_child}
 use Rattle.cube_image.specs.Rest.{below_number, byte_children, word_rows}
 
 -- the numbers are b or greater, and rise
@@ -140,3 +141,13 @@ rows-last m rows n row at some size is less =
 
 pub rows-none : (m : BinCounts) (rows : List (ℕ × ℕ)) → rows ≡ entries m → length rows ≡ 0 → rows ≡ word_rows m
 rows-none m rows at none = at ∙ sym (below-none (2 ^ 32) (entries m) (sym (ap length at) ∙ none))
+
+-- links that are moved keep their labels
+pub byte_children-map : (places : List ℕ) (children : Children) → byte_children (map (moved_child places) children) ≡ map (moved_child places) (byte_children children)
+byte_children-map places [] = refl
+byte_children-map places (c ∷ children) =
+    let r = byte_children-map places children in
+    elim (ltb c.0 256) as (λ (b : Bool). cond b (moved_child places c ∷ byte_children (map (moved_child places) children)) (byte_children (map (moved_child places) children)) ≡ map (moved_child places) (cond b (c ∷ byte_children children) (byte_children children))) [
+      | true ↦ ap (λ (cs : Children). moved_child places c ∷ cs) r
+      | false ↦ r
+    ]

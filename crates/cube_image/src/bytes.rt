@@ -1,15 +1,26 @@
-//! Bytes that are put at the end of others. A number is put by one write of its own: bytes of a number that are put
-//! together with others cost an instruction or two each, and a whole number costs one.
-ghost use Rattle.std.specs.Prelude.{◌≡◌, ◌∷◌, ◌++◌, OnOk};
+//! Bytes that are put at the end of others. What stands together is put by one write, since each asks whether there is room.
+ghost use Rattle.std.specs.Prelude.{◌≡◌, [], ◌∷◌, ◌++◌, OnOk};
 ghost use Rattle.std.specs.Int.{to_be_bytes, w16, w32, w64};
 
 use outer_io::NoMemory;
 
 /// Puts bytes at the end.
+// Part of its callers, which know how many there are: each put is a store or two then.
+#[inline(always)]
 pub fn put(out: &mut Vec<u8>, bytes: &[u8]) -> Result<(), NoMemory>
     ensures { OnOk result (out.new.items ≡ out.old.items ++ bytes.now) }
 {
     match out.extend_from_slice(bytes) {
+        Ok(()) => Ok(()),
+        Err(_) => Err(NoMemory),
+    }
+}
+
+/// Puts a byte.
+pub fn put_byte(out: &mut Vec<u8>, byte: u8) -> Result<(), NoMemory>
+    ensures { OnOk result (out.new.items ≡ out.old.items ++ byte ∷ []) }
+{
+    match out.push(byte) {
         Ok(()) => Ok(()),
         Err(_) => Err(NoMemory),
     }
@@ -26,30 +37,39 @@ pub fn put_number(out: &mut Vec<u8>, number: u64) -> Result<(), NoMemory>
 pub fn put_short(out: &mut Vec<u8>, mark: u8, number: u16) -> Result<(), NoMemory>
     ensures { OnOk result (out.new.items ≡ out.old.items ++ (mark ∷ to_be_bytes w16 number)) }
 {
-    put(out, &[mark])?;
-    put(out, &number.to_be_bytes())
+    let mut bytes = [0u8; 3];
+    bytes[0] = mark;
+    bytes[1..].copy_from_slice(&number.to_be_bytes());
+    put(out, &bytes)
 }
 
 /// Puts a byte, and a number in 8 bytes.
 pub fn put_marked(out: &mut Vec<u8>, mark: u8, number: u64) -> Result<(), NoMemory>
     ensures { OnOk result (out.new.items ≡ out.old.items ++ (mark ∷ to_be_bytes w64 number)) }
 {
-    put(out, &[mark])?;
-    put_number(out, number)
+    let mut bytes = [0u8; 9];
+    bytes[0] = mark;
+    bytes[1..].copy_from_slice(&number.to_be_bytes());
+    put(out, &bytes)
 }
 
 /// Puts two bytes, and a number in 8 bytes.
 pub fn put_labelled(out: &mut Vec<u8>, label: u8, mark: u8, number: u64) -> Result<(), NoMemory>
     ensures { OnOk result (out.new.items ≡ out.old.items ++ (label ∷ mark ∷ to_be_bytes w64 number)) }
 {
-    put(out, &[label, mark])?;
-    put_number(out, number)
+    let mut bytes = [0u8; 10];
+    bytes[0] = label;
+    bytes[1] = mark;
+    bytes[2..].copy_from_slice(&number.to_be_bytes());
+    put(out, &bytes)
 }
 
 /// Puts a number in 4 bytes, and one in 8 bytes.
 pub fn put_pair(out: &mut Vec<u8>, first: u32, second: u64) -> Result<(), NoMemory>
     ensures { OnOk result (out.new.items ≡ out.old.items ++ (to_be_bytes w32 first ++ to_be_bytes w64 second)) }
 {
-    put(out, &first.to_be_bytes())?;
-    put_number(out, second)
+    let mut bytes = [0u8; 12];
+    bytes[..4].copy_from_slice(&first.to_be_bytes());
+    bytes[4..].copy_from_slice(&second.to_be_bytes());
+    put(out, &bytes)
 }

@@ -11,11 +11,11 @@
 //! ```
 #![tactic(auto)]
 
+mod ahead;
 mod bytes;
 mod children;
 mod fault;
 mod laws;
-mod length;
 mod order;
 mod print;
 mod rows;
@@ -23,5 +23,5 @@ mod save;
 
 pub use fault::SaveFault;
 pub use laws::image_laws;
-pub use length::MOST_BYTES;
+pub use print::MOST_BYTES;
 pub use save::write_image;

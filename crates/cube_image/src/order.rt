@@ -5,6 +5,7 @@ ghost use Rattle.cube_image.specs.Conditions.{HasSomeHomes, IsReadable};
 ghost use Rattle.cube_image.specs.Order.{IsOrder, owned_by, owned_children, proper_target, order_number, AreNumbers};
 ghost use Rattle.cube_image.specs.Rest.{told_children};
 
+use crate::ahead::make_place;
 use crate::children::child_count;
 use node_arena::{Arena, Link, SlotId};
 use outer_io::{List, NoMemory};
@@ -58,6 +59,7 @@ fn places_of<L: Ledger>(
         if i >= places.len() {
             return Ok(places);
         }
+        make_place(&mut places, arena, i)?;
         let place = *places.get(i);
         put_owned(arena, SlotId(place), &mut places, steps)?;
     }

@@ -8,10 +8,10 @@ ghost use Rattle.cube_image.specs.Image.{most_bytes};
 ghost use Rattle.cube_image.specs.Order.{order_number, moved, moved_child, moved_link, in_order};
 ghost use Rattle.cube_image.specs.Rest.{word_rows, told_children};
 
-use crate::bytes::{put, put_labelled, put_marked, put_pair, put_short};
+use crate::ahead::make_room;
+use crate::bytes::{put_byte, put_labelled, put_marked, put_pair, put_short};
 use crate::children::child_count;
 use crate::fault::SaveFault;
-use crate::length::{MOST_BYTES, make_room};
 use crate::order::Order;
 use crate::rows::read_rows;
 use node_arena::{Arena, Link, SlotId};
@@ -20,6 +20,9 @@ use probe_core::Steps;
 use std::alloc::Global;
 use std::sync::ledger::Ledger;
 use time_table::TimeTable;
+
+/// The most bytes that an image has.
+pub const MOST_BYTES: u64 = 1 << 30;
 
 /// Puts all slots in their order. `TooLong` comes exactly where there are more than 2^30 bytes then, unless memory was wanted
 /// before.
@@ -40,7 +43,7 @@ pub fn put_slots<L: Ledger>(
     let mut rows = Vec::new(alloc);
     let count = order.places.len();
     for i in 0..count {
-        make_room(out, arena, order.places.as_slice(), i, steps)?;
+        make_room(out, arena, order.places.as_slice(), i)?;
         let place = *order.places.get(i);
         put_slot(out, arena, SlotId(place), order, &mut rows, steps)?;
         let size = out.len() as u64;
@@ -89,7 +92,7 @@ fn put_node<L: Ledger>(
     put_children(out, arena, id, count, order)?;
     match arena.content(id, steps) {
         Some(link) => put_link(out, link, order),
-        None => put(out, &[0]),
+        None => put_byte(out, 0),
     }
 }
 

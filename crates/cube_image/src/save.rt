@@ -31,6 +31,7 @@ pub fn write_image(
     ensures too_long { result ≡ Err SaveFault.TooLong → HasLongImage arena.now size }
     ensures rising { AllRising arena.now }
 {
+    arena.tell_order();
     write_in::<Brand>(alloc, arena, root, size, Blank::new(1))
 }
 
@@ -45,24 +46,16 @@ fn write_in<L: Ledger>(
     requires blank { IsBlankOf L.name L.parts blank }
     requires root { root.0 ≡ 0 }
     requires homes { ∥ HasSomeHomes arena.now ∥₁ }
+    requires rising { AllRising arena.now }
     ensures written { IfOk result (IsWritten arena.now size) }
     ensures too_long { result ≡ Err SaveFault.TooLong → HasLongImage arena.now size }
-    ensures rising { AllRising arena.now }
 {
     let mut steps = Steps::<L>::new(blank);
-    tell_order(arena);
     let order = order_of(alloc, arena, root, &mut steps)?;
     let mut out = Vec::new(alloc);
     put_head(&mut out, size, order.places.len() as u64)?;
     put_slots(alloc, &mut out, arena, &order, &mut steps)?;
     Ok(List::from_vec(out))
-}
-
-/// Contracts learn that the labels of each node rise.
-fn tell_order(arena: &Arena)
-    ensures { AllRising arena.now }
-{
-    let _ = arena.stat();
 }
 
 /// Puts what stands before the slots: the name of the form, the size, and how many slots there are.

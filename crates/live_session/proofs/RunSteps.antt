@@ -1,5 +1,5 @@
 -- What the turns of a run take, line after line.
-use Rattle.std.proofs.Common.{◌≡◌, ℕ, ◌⊎◌, inl, inr, List, [], ◌∷◌, ◌++◌, All, map, Option, Some, None, IsSomeAnd, refl, sym, ap, ◌∙◌, subst}
+use Rattle.std.proofs.Common.{◌≡◌, ℕ, ◌⊎◌, inl, inr, List, [], ◌∷◌, ◌++◌, All, map, Option, Some, None, IsSomeAnd, refl, sym, subst}
 use Rattle.std.proofs.lemmas.List.{map-append}
 use Rattle.std.proofs.lemmas.List.Elements.{All-append, All-cons, All-nil, All-weaker}
 use Rattle.cube_view.specs.Points.{Point}
@@ -68,7 +68,7 @@ module _ {I V C : Type 0} (script : Source.Ghosts I) (members : CubeView.Ghosts 
   took_on shown shown' now after steps steps' z same on took not_ended (inr (line, passes, takes)) = took_more shown shown' now after steps steps' line on took passes (of_schema z shown' line steps steps' same takes)
 
   -- the same after the last turn, which may have read none
-  pub took_last : (shown shown' : List Point) (now after : Cutter I) (steps steps' : ℕ) {Ended : Type 0} (z : Schema) → z ≡ schema → IsPrefix shown shown' → TookSoFar shown now steps → TurnTook Ended z shown' now after steps steps' → (cutter : Cutter I) × TookSoFar shown' cutter steps'
+  took_last : (shown shown' : List Point) (now after : Cutter I) (steps steps' : ℕ) {Ended : Type 0} (z : Schema) → z ≡ schema → IsPrefix shown shown' → TookSoFar shown now steps → TurnTook Ended z shown' now after steps steps' → (cutter : Cutter I) × TookSoFar shown' cutter steps'
   took_last shown shown' now after steps steps' z same on took (inl none) = (
     now,
     record {
@@ -81,10 +81,15 @@ module _ {I V C : Type 0} (script : Source.Ghosts I) (members : CubeView.Ghosts 
   took_last shown shown' now after steps steps' z same on took (inr (line, passes, takes)) = (after, took_more shown shown' now after steps steps' line on took passes (of_schema z shown' line steps steps' same takes))
 
 -- what a run took whose viewer at the end is this one
-pub run_costs : {I V C : Type 0} {members : CubeView.Ghosts V C} (script : Source.Ghosts I) (viewer : Viewer V C members) (schema : Schema) (source : Cutter I) (start steps : ℕ) → viewer.schema ≡ schema → (cutter : Cutter I) × TookSoFar script members schema source start viewer.shown.points cutter steps → RunCosts script viewer source start steps
+run_costs : {I V C : Type 0} {members : CubeView.Ghosts V C} (script : Source.Ghosts I) (viewer : Viewer V C members) (schema : Schema) (source : Cutter I) (start steps : ℕ) → viewer.schema ≡ schema → (cutter : Cutter I) × TookSoFar script members schema source start viewer.shown.points cutter steps → RunCosts script viewer source start steps
 run_costs {members = members} script viewer schema source start steps same (cutter, took) = record {
   turns = took.turns;
   read = first_lines (lines_left script.left source) (lines_left script.left cutter) (map line_of took.turns) took.passed.covers;
   fronts = took.fronts;
   steps = subst (λ (z : Schema). TakesForEach members z took.turns start steps) (sym same) took.takes;
 }
+
+-- what a run took whose last turn ended with this viewer
+pub costs_at_end : {I V C : Type 0} (script : Source.Ghosts I) (members : CubeView.Ghosts V C) (viewer : Viewer V C members) (schema : Schema) (source now after : Cutter I) (start before steps : ℕ) (shown : List Point) {Ended : Type 0} → viewer.schema ≡ schema → IsPrefix shown viewer.shown.points → TookSoFar script members schema source start shown now before → TurnTook script members schema source start Ended viewer.schema viewer.shown.points now after before steps → RunCosts script viewer source start steps
+costs_at_end script members viewer schema source now after start before steps shown same on took turn =
+    run_costs script viewer schema source start steps same (took_last script members schema source start shown viewer.shown.points now after before steps viewer.schema same on took turn)

@@ -69,13 +69,13 @@ module _ {I O : Type 0} (left : I → Option (List ℕ)) (faults : I → ℕ) (h
   pub turned_end : (before after : SessionState I O) → b ≡ a → PassesAll left faults before.source after.source [] → after.source.given ≡ before.source.given → after.ended ≡ true → after.sink ≡ before.sink → after.seens ≡ before.seens → after.replies ≡ before.replies → after.lacked ≡ before.lacked → Turned left faults held schema is_stat a b before after turn.Ended
   turned_end before after same all given ended sink seens replies lacked = turned_none before after same given ended sink seens replies lacked (ended, refl, inr (inl (all, refl)))
 
-  is_turn : (before after : SessionState I O) (line : Line) (p : Parsed) (replies : List Reply) (t : Turn) → p ≡ line_meaning schema line → IsAnswer held schema is_stat a.shown b.shown (length a.told) (length b.told) before after p replies t → ((s : SessionState I O) → IsTurn left faults held schema is_stat a b s after (line ∷ []) replies t)
+  is_turn : (before after : SessionState I O) (line : Line) (p : Parsed) (replies : List Reply) (t : Turn) → p ≡ line_meaning schema line → IsAnswer held schema is_stat a b before after p replies t → ((s : SessionState I O) → IsTurn left faults held schema is_stat a b s after (line ∷ []) replies t)
   is_turn before after line p replies turn.Skipped means (skip, none, going) s = (line, refl, sym means ∙ skip, none, going)
   is_turn before after line p replies turn.Replied means (reply, one, goes, going) s = (line, reply, refl, one, ap asks_to_end (sym means) ∙ goes, going)
   is_turn before after line p replies turn.Ended means (quit, none, ended) s = (ended, none, inr (inr (line, refl, ap asks_to_end (sym means) ∙ quit)))
 
   -- a turn that reads a line
-  turned_line : (before mid after : SessionState I O) (p : Parsed) (t : Turn) → Reads left faults schema before mid p → Keeps before mid → after.source ≡ mid.source → HasNews p a b → Answered held schema is_stat a.shown b.shown (length a.told) (length b.told) mid after p t → Turned left faults held schema is_stat a b before after t
+  turned_line : (before mid after : SessionState I O) (p : Parsed) (t : Turn) → Reads left faults schema before mid p → Keeps before mid → after.source ≡ mid.source → HasNews p a b → Answered held schema is_stat a b mid after p t → Turned left faults held schema is_stat a b before after t
   turned_line before mid after p t (line, passes, means) (sink, seens, replies, lacked) source news done =
       let passed : Passes left faults before.source after.source (line ∷ []) = subst (λ s. Passes left faults before.source s (line ∷ [])) (sym source) passes.passed in
       record {
@@ -85,7 +85,7 @@ module _ {I O : Type 0} (left : I → Option (List ℕ)) (faults : I → ℕ) (h
         given = ap (λ s. s.given) source ∙ passes.further.0;
         passed = λ going. (passed, subst (λ (s : Cutter I). s.given ≤ input_limit) (sym source) passes.further.1);
         news = (b, subst (λ (m : Parsed). HasNews m a b) means news, refl);
-        next = subst (λ (m : Parsed). AreNext schema is_stat a.shown b.shown (length a.told) (length b.told) after.lacked (asked_then m []) done.replies) means done.next;
+        next = subst (λ (m : Parsed). AreNext schema is_stat a b after.lacked (asked_then m []) done.replies) means done.next;
         put = record {
           gained = subst (λ o. Gains (held o) (held after.sink) (replies_text done.replies)) sink done.put.gained;
           counted = done.put.counted ∙ ap (λ n. n + length done.replies) replies;
@@ -95,11 +95,11 @@ module _ {I O : Type 0} (left : I → Option (List ℕ)) (faults : I → ℕ) (h
         answer = is_turn mid after line p done.replies t means done.answer before;
       }
 
-  pub turned_answered : {E : Type 0} (r : Result Turn E) (before mid after : SessionState I O) (p : Parsed) → Reads left faults schema before mid p → Keeps before mid → after.source ≡ mid.source → HasNews p a b → IfOk r (Answered held schema is_stat a.shown b.shown (length a.told) (length b.told) mid after p) → IfOk r (Turned left faults held schema is_stat a b before after)
+  pub turned_answered : {E : Type 0} (r : Result Turn E) (before mid after : SessionState I O) (p : Parsed) → Reads left faults schema before mid p → Keeps before mid → after.source ≡ mid.source → HasNews p a b → IfOk r (Answered held schema is_stat a b mid after p) → IfOk r (Turned left faults held schema is_stat a b before after)
   turned_answered (Ok t) before mid after p reads keeps source news done = turned_line before mid after p t reads keeps source news done
   turned_answered (Err e) before mid after p reads keeps source news done = tt
 
-  pub breaks_off : (before mid after : SessionState I O) (p : Parsed) → Reads left faults schema before mid p → Keeps before mid → after.source ≡ mid.source → HasNews p a b → (after.replies ≡ mid.replies) × (after.seens ≡ mid.seens) → IsBroken held schema is_stat a.shown b.shown (length a.told) (length b.told) mid after p → BreaksOff left faults held schema is_stat a b before after
+  pub breaks_off : (before mid after : SessionState I O) (p : Parsed) → Reads left faults schema before mid p → Keeps before mid → after.source ≡ mid.source → HasNews p a b → (after.replies ≡ mid.replies) × (after.seens ≡ mid.seens) → IsBroken held schema is_stat a b mid after p → BreaksOff left faults held schema is_stat a b before after
   breaks_off before mid after p (line, passes, means) (sink, seens, replies, lacked) source news uncounted broken =
       record {
         line = line;
@@ -108,7 +108,7 @@ module _ {I O : Type 0} (left : I → Option (List ℕ)) (faults : I → ℕ) (h
         given = ap (λ s. s.given) source ∙ passes.further.0;
         no_quit = ap asks_to_end (sym means) ∙ broken.no_quit;
         news = subst (λ (m : Parsed). HasNews m a b) means news;
-        next = subst (λ (m : Parsed). AreNext schema is_stat a.shown b.shown (length a.told) (length b.told) after.lacked (asked_then m []) (broken.reply ∷ [])) means broken.next;
+        next = subst (λ (m : Parsed). AreNext schema is_stat a b after.lacked (asked_then m []) (broken.reply ∷ [])) means broken.next;
         gained = subst (λ (o : O). GainsPart (held o) (held after.sink) (reply_line broken.reply)) sink broken.gained;
         uncounted = (uncounted.0 ∙ replies, uncounted.1 ∙ seens);
         lacks = broken.lacks ∙ ap (λ (x : Bool). x || is_lack broken.reply) lacked;

@@ -1,17 +1,16 @@
 -- What a session does with what a line means.
-use Rattle.std.specs.Prelude.{◌≡◌, ℕ, ◌+◌, true, false, ◌||◌, List, [], ◌∷◌, ◌++◌, length, Option, Result, IfOk, IsErrOf}
-use Rattle.cube_view.specs.Points.{Point}
+use Rattle.std.specs.Prelude.{◌≡◌, ℕ, ◌+◌, true, false, ◌||◌, List, [], ◌∷◌, ◌++◌, Option, Result, IfOk, IsErrOf}
 use Rattle.cube_view.specs.declared.schema.Schema.{Schema}
-use Rattle.cube_view.specs.declared.spot.Spot.{Spot}
 use Rattle.cube_view.specs.declared.stat.Stat.{Stat}
+use Rattle.cube_view.specs.declared.view.CubeView as CubeView
 use Rattle.live_session.specs.News.{HasNews, News}
-use Rattle.live_session.specs.Saying.{IsNewsOf, IsShown}
+use Rattle.live_session.specs.Saying.{IsNewsOf, IsShownTo}
 use Rattle.live_session.specs.State.{SessionState}
 use Rattle.live_session.specs.Turned.{AreNext, HasPut, is_lack, listed}
 use Rattle.live_session.specs.declared.turn.Turn.{Turn}
 use Rattle.live_session.specs.declared.turn.Turn.TheVariants as turn
 use Rattle.outer_io.specs.Bytes.{Gains, GainsPart}
-use Rattle.published_pair.specs.Rules.{Known}
+use Rattle.published_pair.specs.declared.viewer.Viewer.{Viewer}
 use Rattle.query_syntax.specs.declared.query.Parsed.{Parsed}
 use Rattle.query_syntax.specs.declared.query.Parsed.TheVariants.{Skip}
 use Rattle.reply_json.specs.declared.reply.Reply.{Reply}
@@ -34,8 +33,8 @@ pub record PutsLine {I O : Type 0} (held : O → Option (List ℕ)) (before afte
   -- the session goes on
   pub going : after.ended ≡ false
 
--- of a session that had been shown the list l and told u, and is shown h and told v for what a line means
-module _ {I O : Type 0} (held : O → Option (List ℕ)) (schema : Schema) (is_stat : Stat → Type 0) (l h : List Point) (u v : ℕ) (before after : SessionState I O) (p : Parsed) where
+-- of a session that had been shown and told `a`, and is shown and told `b` for what a line means
+module _ {I O : Type 0} (held : O → Option (List ℕ)) (schema : Schema) (is_stat : Stat → Type 0) (a b : News) (before after : SessionState I O) (p : Parsed) where
   -- what the answer tells
   abbrev pub IsAnswer : List Reply → Turn → Type 0
   IsAnswer replies turn.Skipped = (p ≡ Skip) × (replies ≡ []) × (after.ended ≡ false)
@@ -47,7 +46,7 @@ module _ {I O : Type 0} (held : O → Option (List ℕ)) (schema : Schema) (is_s
     -- one, or none
     pub replies : List Reply
     -- they are the next of the session
-    pub next : AreNext schema is_stat l h u v after.lacked (asked_then p []) replies
+    pub next : AreNext schema is_stat a b after.lacked (asked_then p []) replies
     -- they were put
     pub put : HasPut held before after replies
     -- the answer is as it says
@@ -58,7 +57,7 @@ module _ {I O : Type 0} (held : O → Option (List ℕ)) (schema : Schema) (is_s
     -- the reply
     pub reply : Reply
     -- it is the next of the session
-    pub next : AreNext schema is_stat l h u v after.lacked (asked_then p []) (reply ∷ [])
+    pub next : AreNext schema is_stat a b after.lacked (asked_then p []) (reply ∷ [])
     -- what it answers is no `quit`
     pub no_quit : asks_to_end p ≡ false
     -- the sink gained a part of its line, from the front
@@ -66,9 +65,9 @@ module _ {I O : Type 0} (held : O → Option (List ℕ)) (schema : Schema) (is_s
     -- whether it is the line for want of memory is noted
     pub lacks : after.lacked ≡ before.lacked || is_lack reply
 
--- What is put for what a line means, for a viewer of the schema that was shown and told these lists, with this answer
-pub record PutsFor {I O V : Type 0} (held : O → Option (List ℕ)) (weight_at : V → Spot → ℕ) (seen : V → ℕ) (schema_of : V → Schema) (numbers : V → Stat) (schema : Schema) (shown learned : Known) (before after : SessionState I O) (p : Parsed) (result : Result Turn SessionFault) : Type 0 where
+-- What is put for what a line means, by what this viewer was shown and told for it, with this answer
+pub record PutsFor {I O V C : Type 0} {members : CubeView.Ghosts V C} (held : O → Option (List ℕ)) (viewer : Viewer V C members) (before after : SessionState I O) (p : Parsed) (result : Result Turn SessionFault) : Type 0 where
   -- without a fault the replies to it are put, whatever it changed of the session's news
-  pub answered : (a b : News) → HasNews p a b → IsNewsOf shown learned p b → IfOk result (Answered held schema (IsShown weight_at seen schema_of numbers schema shown.points) a.shown b.shown (length a.told) (length b.told) before after p)
+  pub answered : (a b : News) → HasNews p a b → IsNewsOf viewer.shown viewer.learned p b → IfOk result (Answered held viewer.schema (IsShownTo viewer) a b before after p)
   -- where the put fails a part of the reply to it is
-  pub broken : (a b : News) → HasNews p a b → IsNewsOf shown learned p b → IsErrOf result fault.Write → IsBroken held schema (IsShown weight_at seen schema_of numbers schema shown.points) a.shown b.shown (length a.told) (length b.told) before after p
+  pub broken : (a b : News) → HasNews p a b → IsNewsOf viewer.shown viewer.learned p b → IsErrOf result fault.Write → IsBroken held viewer.schema (IsShownTo viewer) a b before after p

@@ -5,8 +5,10 @@ use Rattle.cube_view.specs.Points.{Point}
 use Rattle.cube_view.specs.declared.schema.Schema.{Schema}
 use Rattle.cube_view.specs.declared.spot.Spot.{Spot}
 use Rattle.cube_view.specs.declared.stat.Stat.{Stat}
+use Rattle.cube_view.specs.declared.view.CubeView as CubeView
 use Rattle.live_session.specs.News.{News, seen_asked}
 use Rattle.published_pair.specs.Rules.{Known}
+use Rattle.published_pair.specs.declared.viewer.Viewer.{Viewer}
 use Rattle.query_syntax.specs.declared.query.Parsed.{Parsed}
 use Rattle.query_syntax.specs.declared.query.Parsed.TheVariants.{Skip}
 use Rattle.reply_json.specs.Printed.{seen_of}
@@ -20,6 +22,10 @@ use Rattle.session_core.specs.declared.serving.Served.TheVariants as served
 abbrev pub IsShown : {V : Type 0} → (V → Spot → ℕ) → (V → ℕ) → (V → Schema) → (V → Stat) → Schema → List Point → Stat → Type 0
 IsShown {V} weight_at seen schema_of numbers schema h stat = (view : V) × Counts (weight_at view) (seen view) h × (schema_of view ≡ schema) × (stat ≡ numbers view)
 
+-- the numbers are those of a view that this viewer was shown
+abbrev pub IsShownTo : {V C : Type 0} {members : CubeView.Ghosts V C} → Viewer V C members → Stat → Type 0
+IsShownTo {members = members} viewer = IsShown members.weight_at members.seen members.schema members.numbers viewer.schema viewer.shown.points
+
 -- what is said to what a line means over a list of points of which so many were told
 abbrev pub Says : Schema → (Stat → Type 0) → List Point → ℕ → Parsed → Served → Type 0
 Says schema is_stat h told p served.Skipped = p ≡ Skip
@@ -31,10 +37,10 @@ Says schema is_stat h told p served.Quit = asks_to_end p ≡ true
 abbrev pub SaysOver : Schema → (Stat → Type 0) → List Point → ℕ → Parsed → Served → Type 0
 SaysOver schema is_stat shown told p s = (h : List Point) → (asks_look p ≡ true → shown ≡ h) → Says schema is_stat h told p s
 
--- What is served for what a line means, to a viewer of the schema that was shown and told these lists
-pub record IsServed {V E : Type 0} (weight_at : V → Spot → ℕ) (seen : V → ℕ) (schema_of : V → Schema) (numbers : V → Stat) (schema : Schema) (shown learned : Known) (p : Parsed) (served : Result Served E) : Type 0 where
+-- What is served for what a line means, by what this viewer was shown and told for it
+pub record IsServed {V C E : Type 0} {members : CubeView.Ghosts V C} (viewer : Viewer V C members) (p : Parsed) (served : Result Served E) : Type 0 where
   -- it is what is said over them
-  pub says : IfOk served (SaysOver schema (IsShown weight_at seen schema_of numbers schema shown.points) shown.points (length learned.points) p)
+  pub says : IfOk served (SaysOver viewer.schema (IsShownTo viewer) viewer.shown.points (length viewer.learned.points) p)
   -- or want of memory, only where the line asks for a reply
   pub no_memory : OnErr served (asks_reply p ≡ true)
 

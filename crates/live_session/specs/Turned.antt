@@ -1,7 +1,6 @@
 -- What a turn of a session does.
 use Rattle.std.specs.Prelude.{◌≡◌, ◌≢◌, ℕ, ◌+◌, ◌≤◌, ◌⊎◌, Bool, true, false, ◌||◌, List, [], ◌∷◌, ◌++◌, length, Option, Some, None, Result, Err, IfOk, OnErr, IsErrOf}
 use Rattle.std.specs.List.{flat_map}
-use Rattle.cube_view.specs.Points.{Point}
 use Rattle.cube_view.specs.declared.schema.Schema.{Schema}
 use Rattle.cube_view.specs.declared.stat.Stat.{Stat}
 use Rattle.cube_view.specs.declared.view.CubeView as CubeView
@@ -51,12 +50,12 @@ abbrev pub is_no_memory : SessionFault → Bool
 is_no_memory fault.NoMemory = true
 is_no_memory f = false
 
--- Replies that are the next of a session that had been shown the list l and told u, and is shown h and told v for them
-pub record AreNext (schema : Schema) (is_stat : Stat → Type 0) (l h : List Point) (u v : ℕ) (may_lack : Bool) (asked : List Parsed) (replies : List Reply) : Type 0 where
+-- Replies that are the next of a session that had been shown and told `a`, and is shown and told `b` for them
+pub record AreNext (schema : Schema) (is_stat : Stat → Type 0) (a b : News) (may_lack : Bool) (asked : List Parsed) (replies : List Reply) : Type 0 where
   -- by themselves they are a transcript, in which each number is all that is shown or told now
-  pub transcript : IsTranscript schema is_stat true h v may_lack asked replies
+  pub transcript : IsTranscript schema is_stat true b.shown (length b.told) may_lack asked replies
   -- none falls below what was shown and told before
-  pub follows : NeverFalls (length l) u replies
+  pub follows : NeverFalls (length a.shown) (length a.told) replies
 
 -- What putting these replies leaves
 pub record HasPut {I O : Type 0} (held : O → Option (List ℕ)) (before after : SessionState I O) (replies : List Reply) : Type 0 where
@@ -99,7 +98,7 @@ module _ {I O : Type 0} (left : I → Option (List ℕ)) (faults : I → ℕ) (h
     -- the viewer and the mailbox were asked what the lines ask
     pub news : NewsFor schema lines a b
     -- the replies are to what the lines ask, over the list and the told length as they are now
-    pub next : AreNext schema is_stat a.shown b.shown (length a.told) (length b.told) after.lacked (asked schema lines) replies
+    pub next : AreNext schema is_stat a b after.lacked (asked schema lines) replies
     -- they were put
     pub put : HasPut held before after replies
     -- the answer is as it says
@@ -120,7 +119,7 @@ module _ {I O : Type 0} (left : I → Option (List ℕ)) (faults : I → ℕ) (h
     -- the viewer and the mailbox were asked what the line asks
     pub news : HasNews (line_meaning schema line) a b
     -- the reply is to what the line asks
-    pub next : AreNext schema is_stat a.shown b.shown (length a.told) (length b.told) after.lacked (asked schema (line ∷ [])) (reply ∷ [])
+    pub next : AreNext schema is_stat a b after.lacked (asked schema (line ∷ [])) (reply ∷ [])
     -- the sink gained a part of its line, from the front
     pub gained : GainsPart (held before.sink) (held after.sink) (reply_line reply)
     -- it is not counted, and its number is not noted

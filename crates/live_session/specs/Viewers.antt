@@ -1,5 +1,5 @@
 -- What clauses of a session say of its viewer.
-use Rattle.std.specs.Prelude.{◌≡◌, ℕ, Bool, true, false, Option, Result, IfSome}
+use Rattle.std.specs.Prelude.{◌≡◌, true, false, Result, IfSome}
 use Rattle.cube_view.specs.declared.stat.Stat.{Stat}
 use Rattle.cube_view.specs.declared.view.CubeView as CubeView
 use Rattle.live_session.specs.News.{KeepsViewer, News, news_of}

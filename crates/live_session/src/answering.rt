@@ -53,7 +53,7 @@ fn look_once<V: Grow, R: Wait, L: Ledger>(
 ) -> (Viewer<V>, Result<Served, NoMemory>)
     requires valid { IsTrue (asks_valid viewer.schema parsed.now) }
     requires look { asks_look parsed.now ≡ true }
-    ensures served { IsServed V.weight_at V.seen V.schema V.numbers viewer.schema result.0.shown result.0.learned parsed.now result.1 }
+    ensures served { IsServed result.0 parsed.now result.1 }
     ensures fresh { Fresh viewer.shown.points viewer.learned.points result.0.shown.points }
     ensures ended { IfSome viewer.last (λ w. result.0.shown.points ≡ w.points) }
     ensures pair { result.0.shown.book ≡ viewer.shown.book }
@@ -79,7 +79,7 @@ pub(crate) fn answer_line<V: Grow, R: Wait, L: Ledger>(
 ) -> (Viewer<V>, Result<Served, NoMemory>)
     requires pair { viewer.shown.book ≡ mail.old.pair }
     requires valid { IsTrue (asks_valid viewer.schema parsed.now) }
-    ensures served { IsServed V.weight_at V.seen V.schema V.numbers viewer.schema result.0.shown result.0.learned parsed.now result.1 }
+    ensures served { IsServed result.0 parsed.now result.1 }
     ensures goes { GoesFor parsed.now viewer.shown viewer.learned viewer.last mail.old result.0.shown result.0.learned mail.new }
     ensures same { (result.0.last ≡ viewer.last) × (result.0.schema ≡ viewer.schema) }
     ensures steps { TakesSteps V.CubeView viewer.schema result.0.shown.points parsed.now steps.old steps.new }

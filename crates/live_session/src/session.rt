@@ -203,8 +203,8 @@ impl<I: Source, O: Sink> Session<I, O> {
     ) -> Result<Turn, SessionFault>
         requires open { self.old.ended ≡ false }
         requires room { (self.old.replies < self.old.source.given) × (self.old.source.given ≤ input_limit) }
-        requires served { IsServed V.weight_at V.seen V.schema V.numbers viewer.now.schema viewer.now.shown viewer.now.learned parsed.now served }
-        ensures puts { PutsFor O.held V.weight_at V.seen V.schema V.numbers viewer.now.schema viewer.now.shown viewer.now.learned self.old self.new parsed.now result }
+        requires served { IsServed viewer.now parsed.now served }
+        ensures puts { PutsFor O.held viewer.now self.old self.new parsed.now result }
         ensures source { self.new.source ≡ self.old.source }
         ensures faults { HasFaults I.left I.faults O.held O.faults self.old self.new result }
         ensures others { (result ≢ Err SessionFault.Read) × (result ≢ Err SessionFault.TooMuch) }

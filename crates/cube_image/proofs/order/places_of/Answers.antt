@@ -1,4 +1,4 @@
-use Rattle.std.proofs.Common.{arith}
+use Rattle.std.proofs.Common.{ℕ, List, get_or, ap, arith}
 use Rattle.cube_image.proofs.Ordered.{front-all, front-below, front-few}
 use Rattle.cube_image.proofs.order.places_of.Goals as goal
 
@@ -6,10 +6,15 @@ pub returns-then-i-len-clause-within : goal.returns-then-i-len-clause-within
 returns-then-i-len-clause-within g c =
     λ k d lt. front-below c.args.arena.now c.loop-i.places c.loop-i.i k d c.requires.homes c.requires.readable.rising c.loop-i.invariant lt
 
+pub make_place-requires : goal.make_place-requires
+make_place-requires g c = λ k d lt. front-below c.args.arena.now c.loop-i.places c.loop-i.i k d c.requires.homes c.requires.readable.rising c.loop-i.invariant lt
+
 pub put_owned-requires : goal.put_owned-requires
 put_owned-requires g c =
-    let below = front-below c.args.arena.now c.loop-i.places c.loop-i.i c.loop-i.i c.get-place.result.now c.requires.homes c.requires.readable.rising c.loop-i.invariant (omega arith) in
-    omega (arith, below, c.get-place.ensures)
+    let place = c.get-place.result.now in
+    let below = front-below c.args.arena.now c.loop-i.places c.loop-i.i c.loop-i.i place c.requires.homes c.requires.readable.rising c.loop-i.invariant (omega arith) in
+    let same = ap (λ (places : List ℕ). get_or places c.loop-i.i place) c.make_place.ensures in
+    omega (arith, below, same, c.get-place.ensures)
 
 pub returns-clause-order : goal.returns-clause-order
 returns-clause-order g c =

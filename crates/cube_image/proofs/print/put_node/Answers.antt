@@ -17,8 +17,8 @@ returns-in-Some g c =
 
 pub returns-in-None : goal.returns-in-None
 returns-in-None g c =
-    on_ok_weaker c.put.result
-    (λ (is : c.put.new.out.items ≡ c.put_children.new.out.items ++ 0 ∷ []).
-    node_put c.args.order.now.places (slot_of c.args.arena.now c.args.id.0) None c.args.out.now.items c.put_short.new.out.items c.put_children.new.out.items c.put.new.out.items c.requires.is_node c.in-None.ensures.link
+    on_ok_weaker c.put_byte.result
+    (λ (is : c.put_byte.new.out.items ≡ c.put_children.new.out.items ++ 0 ∷ []).
+    node_put c.args.order.now.places (slot_of c.args.arena.now c.args.id.0) None c.args.out.now.items c.put_short.new.out.items c.put_children.new.out.items c.put_byte.new.out.items c.requires.is_node c.in-None.ensures.link
     (c.in_ok-put_short.ensures ∙ ap (λ (n : ℕ). c.args.out.now.items ++ (1 ∷ to_be_bytes w16 n)) c.child_count-count.ensures.count) c.in_ok-put_children.ensures is)
-    c.put.ensures
+    c.put_byte.ensures

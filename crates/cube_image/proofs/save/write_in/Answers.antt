@@ -9,10 +9,10 @@ use Rattle.cube_image.proofs.Writing.{readable, head_few, image_long, image_put,
 use Rattle.cube_image.proofs.save.write_in.Goals as goal
 
 pub order_of-requires-clause-readable : goal.order_of-requires-clause-readable
-order_of-requires-clause-readable g c = readable c.args.arena.now c.requires.homes c.tell_order.ensures
+order_of-requires-clause-readable g c = readable c.args.arena.now c.requires.homes c.requires.rising
 
 pub put_slots-requires-clause-able : goal.put_slots-requires-clause-able
-put_slots-requires-clause-able g c = record { numbered = c.in_ok-order.ensures.all; readable = readable c.args.arena.now c.requires.homes c.tell_order.ensures }
+put_slots-requires-clause-able g c = record { numbered = c.in_ok-order.ensures.all; readable = readable c.args.arena.now c.requires.homes c.requires.rising }
 
 pub put_slots-requires-clause-few : goal.put_slots-requires-clause-few
 put_slots-requires-clause-few g c = head_few c.args.size c.len.result c.new-out.result.items c.put_head.new.out.items c.new-out.ensures.items c.in_ok-put_head.ensures

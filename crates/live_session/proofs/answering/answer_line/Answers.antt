@@ -2,24 +2,18 @@ use Rattle.std.proofs.Common.{ℕ, ◌∙◌, refl, sym, subst, IfOk}
 use Rattle.std.proofs.lemmas.Bool.{false≢true}
 use Rattle.cube_view.specs.declared.schema.Schema.{Schema}
 use Rattle.live_session.specs.Bounds.{TakesSteps}
-use Rattle.live_session.specs.Saying.{IsServed, IsShown, SaysOver}
+use Rattle.live_session.specs.Saying.{IsShownTo, SaysOver}
 use Rattle.live_session.proofs.OneTurn.{goes_unseen}
 use Rattle.live_session.proofs.Says.{over_unseen}
 use Rattle.live_session.proofs.answering.answer_line.Goals as goal
 
-pub returns-then-asks_look-clause-served : goal.returns-then-asks_look-clause-served
-returns-then-asks_look-clause-served g c =
-    subst (λ (z : Schema). IsServed g.V.CubeView.weight_at g.V.CubeView.seen g.V.CubeView.schema g.V.CubeView.numbers z c.look_once.result.0.shown c.look_once.result.0.learned c.args.parsed.now c.look_once.result.1) c.catch_up-viewer.ensures.same.1
-    c.look_once.ensures.served
-
 pub returns-clause-served : goal.returns-clause-served
 returns-clause-served g c =
-    let h = c.catch_up-viewer.result.shown.points in
-    let schema = c.args.viewer.schema in
-    let shown = IsShown g.V.CubeView.weight_at g.V.CubeView.seen g.V.CubeView.schema g.V.CubeView.numbers schema h in record {
+    let viewer = c.catch_up-viewer.result in
+    let h = viewer.shown.points in record {
       says =
-          subst (λ (n : ℕ). IfOk c.serve_unseen-served.result (SaysOver schema shown h n c.args.parsed.now)) c.told.ensures
-          (over_unseen schema shown h c.told.result c.args.parsed.now c.serve_unseen-served.result (sym c.asks_look.ensures ∙ c.if-asks_look.false) c.serve_unseen-served.ensures.served);
+          subst (λ (n : ℕ). IfOk c.serve_unseen-served.result (SaysOver viewer.schema (IsShownTo viewer) h n c.args.parsed.now)) c.told.ensures
+          (over_unseen viewer.schema (IsShownTo viewer) h c.told.result c.args.parsed.now c.serve_unseen-served.result (sym c.asks_look.ensures ∙ c.if-asks_look.false) c.serve_unseen-served.ensures.served);
       no_memory = c.serve_unseen-served.ensures.no_memory;
     }
 

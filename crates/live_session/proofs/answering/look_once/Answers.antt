@@ -3,7 +3,7 @@ use Rattle.std.proofs.lemmas.Bool.{false≢true}
 use Rattle.cube_view.specs.Bag.{Counts}
 use Rattle.cube_view.specs.declared.schema.Schema.{Schema}
 use Rattle.session_core.specs.Serving.{answer_cost}
-use Rattle.live_session.specs.Saying.{IsShown}
+use Rattle.live_session.specs.Saying.{IsShownTo}
 use Rattle.published_pair.specs.Rules.{Known}
 use Rattle.live_session.proofs.Says.{over_shown, shown_says}
 use Rattle.live_session.proofs.answering.look_once.Goals as goal
@@ -11,12 +11,13 @@ use Rattle.live_session.proofs.answering.look_once.Goals as goal
 pub returns-clause-served : goal.returns-clause-served
 returns-clause-served g c =
     let view = g.V.CubeView in
-    let h = c.leave.result.shown.points in
-    let told = length c.leave.result.learned.points in record {
+    let viewer = c.leave.result in
+    let h = viewer.shown.points in
+    let told = length viewer.learned.points in record {
       says =
-          over_shown c.args.viewer.schema (IsShown view.weight_at view.seen view.schema view.numbers c.args.viewer.schema h) h told c.args.parsed.now c.serve-served.result c.requires.look
-          (shown_says view.weight_at view.seen view.schema view.numbers c.args.viewer.schema c.look-shown.result.shown.points h c.told-told.result told c.args.parsed.now c.serve-served.result c.view.result.now
-          c.view.ensures.counts (c.view.ensures.schema ∙ c.look-shown.ensures.same.3)
+          over_shown viewer.schema (IsShownTo viewer) h told c.args.parsed.now c.serve-served.result c.requires.look
+          (shown_says view.weight_at view.seen view.schema view.numbers viewer.schema c.look-shown.result.shown.points h c.told-told.result told c.args.parsed.now c.serve-served.result c.view.result.now
+          c.view.ensures.counts (c.view.ensures.schema ∙ sym c.leave.ensures.3)
           (ap (λ (k : Known). k.points) (sym c.leave.ensures.0))
           (c.told-told.ensures ∙ ap (λ (k : Known). length k.points) (sym (c.leave.ensures.1 ∙ c.look-shown.ensures.same.1)))
           (c.serve-served.ensures.served c.look-shown.result.shown.points c.view.ensures.counts));

@@ -1,7 +1,7 @@
 use Rattle.std.proofs.Common.{length, IfOk, ◌∙◌, ap, refl, subst}
 use Rattle.live_session.specs.Answered.{Answered, IsBroken}
 use Rattle.live_session.specs.News.{seen_asked}
-use Rattle.live_session.specs.Saying.{IsShown, SaysOver}
+use Rattle.live_session.specs.Saying.{IsShownTo, SaysOver}
 use Rattle.live_session.specs.State.{SessionState}
 use Rattle.live_session.proofs.NextReply.{answered_lack, answered_quit, answered_reply, answered_skip, broken_lack, broken_reply, prefix-longer}
 use Rattle.live_session.proofs.OneTurn.{fresh_length, of_ok, of_err}
@@ -12,9 +12,9 @@ pub returns-in-Ok-Skipped-clause-puts : goal.returns-in-Ok-Skipped-clause-puts
 returns-in-Ok-Skipped-clause-puts g c =
     let viewer = c.args.viewer.now in
     let p = c.args.parsed.now in
-    let shown = IsShown g.V.CubeView.weight_at g.V.CubeView.seen g.V.CubeView.schema g.V.CubeView.numbers viewer.schema viewer.shown.points in record {
+    let shown = IsShownTo viewer in record {
       answered = λ a b news is.
-          answered_skip g.O.Sink.held viewer.schema shown a.shown b.shown (length a.told) (length b.told) c.args.self.now c.args.self.now p c.in-Ok-Skipped.field-0 c.in-Ok-Skipped.field-0-is
+          answered_skip g.O.Sink.held viewer.schema shown a b c.args.self.now c.args.self.now p c.in-Ok-Skipped.field-0 c.in-Ok-Skipped.field-0-is
           (says_news viewer.schema shown viewer.shown viewer.learned p b c.in-Ok-Skipped.field-0 is
           (of_ok (SaysOver viewer.schema shown viewer.shown.points (length viewer.learned.points) p) c.args.served c.in-Ok-Skipped.field-0 c.in-Ok-Skipped.is c.requires.served.says))
           refl c.requires.open;
@@ -25,9 +25,9 @@ pub returns-in-Ok-Quit-clause-puts : goal.returns-in-Ok-Quit-clause-puts
 returns-in-Ok-Quit-clause-puts g c =
     let viewer = c.args.viewer.now in
     let p = c.args.parsed.now in
-    let shown = IsShown g.V.CubeView.weight_at g.V.CubeView.seen g.V.CubeView.schema g.V.CubeView.numbers viewer.schema viewer.shown.points in record {
+    let shown = IsShownTo viewer in record {
       answered = λ a b news is.
-          answered_quit g.O.Sink.held viewer.schema shown a.shown b.shown (length a.told) (length b.told) c.args.self.now _ p c.in-Ok-Quit.field-0 c.in-Ok-Quit.field-0-is
+          answered_quit g.O.Sink.held viewer.schema shown a b c.args.self.now _ p c.in-Ok-Quit.field-0 c.in-Ok-Quit.field-0-is
           (says_news viewer.schema shown viewer.shown viewer.learned p b c.in-Ok-Quit.field-0 is
           (of_ok (SaysOver viewer.schema shown viewer.shown.points (length viewer.learned.points) p) c.args.served c.in-Ok-Quit.field-0 c.in-Ok-Quit.is c.requires.served.says))
           (ap (λ (s : SessionState _ _). s.sink) c.self.view_is) (ap (λ (s : SessionState _ _). s.replies) c.self.view_is) (ap (λ (s : SessionState _ _). s.seens) c.self.view_is) (ap (λ (s : SessionState _ _). s.lacked) c.self.view_is) refl;
@@ -38,17 +38,17 @@ pub returns-in-Ok-Reply-clause-puts : goal.returns-in-Ok-Reply-clause-puts
 returns-in-Ok-Reply-clause-puts g c =
     let viewer = c.args.viewer.now in
     let p = c.args.parsed.now in
-    let shown = IsShown g.V.CubeView.weight_at g.V.CubeView.seen g.V.CubeView.schema g.V.CubeView.numbers viewer.schema viewer.shown.points in
+    let shown = IsShownTo viewer in
     let said = of_ok (SaysOver viewer.schema shown viewer.shown.points (length viewer.learned.points) p) c.args.served c.in-Ok-Reply.field-0 c.in-Ok-Reply.is c.requires.served.says in record {
       answered = λ a b news is.
-          answered_reply g.O.Sink.held viewer.schema shown a.shown b.shown (length a.told) (length b.told) c.args.self.now c.put-turn.new.self p
+          answered_reply g.O.Sink.held viewer.schema shown a b c.args.self.now c.put-turn.new.self p
           news.goes_on.0 (prefix-longer a.told b.told news.goes_on.1) (fresh_length a.told b.told b.shown p news.goes_on.1 news.fresh)
           c.put-turn.result c.in-Ok-Reply.field-0 c.as_slice.result.now c.in-Ok-Reply.line c.seen_asked-seen.result c.in-Ok-Reply.field-0-is c.as_slice.ensures
           (c.seen_asked-seen.ensures ∙ ap (λ n. seen_asked n p) c.seen.ensures ∙ seen_news viewer.shown viewer.learned p b is)
           (says_news viewer.schema shown viewer.shown viewer.learned p b c.in-Ok-Reply.field-0 is said)
           c.put-turn.ensures.put;
       broken = λ a b news is e.
-          broken_reply g.O.Sink.held viewer.schema shown a.shown b.shown (length a.told) (length b.told) c.args.self.now c.put-turn.new.self p
+          broken_reply g.O.Sink.held viewer.schema shown a b c.args.self.now c.put-turn.new.self p
           news.goes_on.0 (prefix-longer a.told b.told news.goes_on.1) (fresh_length a.told b.told b.shown p news.goes_on.1 news.fresh)
           c.in-Ok-Reply.field-0 c.as_slice.result.now c.in-Ok-Reply.line c.in-Ok-Reply.field-0-is c.as_slice.ensures
           (says_news viewer.schema shown viewer.shown viewer.learned p b c.in-Ok-Reply.field-0 is said)
@@ -59,12 +59,12 @@ pub returns-in-Err-clause-puts : goal.returns-in-Err-clause-puts
 returns-in-Err-clause-puts g c =
     let viewer = c.args.viewer.now in
     let p = c.args.parsed.now in
-    let shown = IsShown g.V.CubeView.weight_at g.V.CubeView.seen g.V.CubeView.schema g.V.CubeView.numbers viewer.schema viewer.shown.points in
+    let shown = IsShownTo viewer in
     let asks = of_err _ c.args.served c.in-Err.field-0 c.in-Err.is c.requires.served.no_memory in record {
       answered = λ a b news is.
-          subst (λ (s : SessionState _ _). IfOk c.put.result (Answered g.O.Sink.held viewer.schema shown a.shown b.shown (length a.told) (length b.told) s c.put.new.self p)) c.self-in-Err.view_is
-          (answered_lack g.O.Sink.held viewer.schema shown a.shown b.shown (length a.told) (length b.told) _ c.put.new.self p c.put.result c.as_bytes.result.now c.no_memory_line.result.now c.as_bytes.ensures.value c.no_memory_line.ensures asks c.put.ensures.put);
+          subst (λ (s : SessionState _ _). IfOk c.put.result (Answered g.O.Sink.held viewer.schema shown a b s c.put.new.self p)) c.self-in-Err.view_is
+          (answered_lack g.O.Sink.held viewer.schema shown a b _ c.put.new.self p c.put.result c.as_bytes.result.now c.no_memory_line.result.now c.as_bytes.ensures.value c.no_memory_line.ensures asks c.put.ensures.put);
       broken = λ a b news is e.
-          subst (λ (s : SessionState _ _). IsBroken g.O.Sink.held viewer.schema shown a.shown b.shown (length a.told) (length b.told) s c.put.new.self p) c.self-in-Err.view_is
-          (broken_lack g.O.Sink.held viewer.schema shown a.shown b.shown (length a.told) (length b.told) _ c.put.new.self p c.as_bytes.result.now c.no_memory_line.result.now c.as_bytes.ensures.value c.no_memory_line.ensures asks (c.put.ensures.write e).0 (c.put.ensures.write e).1);
+          subst (λ (s : SessionState _ _). IsBroken g.O.Sink.held viewer.schema shown a b s c.put.new.self p) c.self-in-Err.view_is
+          (broken_lack g.O.Sink.held viewer.schema shown a b _ c.put.new.self p c.as_bytes.result.now c.no_memory_line.result.now c.as_bytes.ensures.value c.no_memory_line.ensures asks (c.put.ensures.write e).0 (c.put.ensures.write e).1);
     }

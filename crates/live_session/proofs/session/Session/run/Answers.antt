@@ -4,7 +4,7 @@ use Rattle.live_session.specs.News.{news_of}
 use Rattle.live_session.specs.Saying.{IsShown}
 use Rattle.live_session.proofs.OneTurn.{goes_unseen, if_some, keeps_on, learns_nothing, learns_on, of_err, prefix-same, shown_numbers}
 use Rattle.live_session.proofs.Refused.{refused_at_too_much, taken_at_end}
-use Rattle.live_session.proofs.RunSteps.{run_costs, took_last, took_nothing, took_on}
+use Rattle.live_session.proofs.RunSteps.{costs_at_end, took_nothing, took_on}
 use Rattle.live_session.proofs.Running.{after_turn, all_ended, all_too_much, answered_on, done_fault, has_ended, mail_same, not_last, replied_not_last, skipped_not_last, some_on, still_going}
 use Rattle.live_session.proofs.SoFarLaws.{answered_nothing}
 use Rattle.session_core.proofs.SoFar.{fault_is}
@@ -145,17 +145,11 @@ returns-in-Err-clause-names g c =
 pub returns-in-Ok-Ended-clause-costs : goal.returns-in-Ok-Ended-clause-costs
 returns-in-Ok-Ended-clause-costs g c =
     let turn = c.turn-after.ensures in
-    let after = c.turn-after.result.0 in
     let was = c.turns.invariant in
-    let same = turn.viewer.same_schema ∙ was.between.viewer.same_schema in
-    run_costs g.I.Source after c.args.viewer.schema c.args.self.now.source c.args.steps.now c.turn-after.new.steps same
-    (took_last g.I.Source g.V.CubeView c.args.viewer.schema c.args.self.now.source c.args.steps.now c.turns.viewer.shown.points after.shown.points c.turns.self.source c.turn-after.new.self.source c.turns.steps c.turn-after.new.steps after.schema same turn.viewer.goes.seen was.took turn.costs.steps)
+    costs_at_end g.I.Source g.V.CubeView c.turn-after.result.0 c.args.viewer.schema c.args.self.now.source c.turns.self.source c.turn-after.new.self.source c.args.steps.now c.turns.steps c.turn-after.new.steps c.turns.viewer.shown.points (turn.viewer.same_schema ∙ was.between.viewer.same_schema) turn.viewer.goes.seen was.took turn.costs.steps
 
 pub returns-in-Err-clause-costs : goal.returns-in-Err-clause-costs
 returns-in-Err-clause-costs g c =
     let turn = c.turn-after.ensures in
-    let after = c.turn-after.result.0 in
     let was = c.turns.invariant in
-    let same = turn.viewer.same_schema ∙ was.between.viewer.same_schema in
-    run_costs g.I.Source after c.args.viewer.schema c.args.self.now.source c.args.steps.now c.turn-after.new.steps same
-    (took_last g.I.Source g.V.CubeView c.args.viewer.schema c.args.self.now.source c.args.steps.now c.turns.viewer.shown.points after.shown.points c.turns.self.source c.turn-after.new.self.source c.turns.steps c.turn-after.new.steps after.schema same turn.viewer.goes.seen was.took turn.costs.steps)
+    costs_at_end g.I.Source g.V.CubeView c.turn-after.result.0 c.args.viewer.schema c.args.self.now.source c.turns.self.source c.turn-after.new.self.source c.args.steps.now c.turns.steps c.turn-after.new.steps c.turns.viewer.shown.points (turn.viewer.same_schema ∙ was.between.viewer.same_schema) turn.viewer.goes.seen was.took turn.costs.steps

@@ -1,4 +1,4 @@
-use Rattle.std.proofs.Common.{◌∷◌, [], length, inr, IfOk, ◌∙◌, ap, sym, subst, refl, true, false, Ok, Err, arith}
+use Rattle.std.proofs.Common.{◌∷◌, [], inr, IfOk, ◌∙◌, ap, sym, subst, refl, true, false, Ok, Err, arith}
 use Rattle.cube_view.specs.declared.schema.Schema.{Schema}
 use Rattle.live_session.specs.Answered.{Answered, IsBroken}
 use Rattle.live_session.specs.Bounds.{TakesSteps}
@@ -33,12 +33,12 @@ returns-in-Ok-Some-clause-turned g c =
     let keeps : Keeps c.args.self.now c.read_next.new.self = (c.read_next.ensures.same.0, c.read_next.ensures.same.1, c.read_next.ensures.same.2, read.lacked) in record {
       turned =
           turned_answered g.I.Source.left g.I.Source.faults g.O.Sink.held c.args.viewer.schema A a b c.finish-turn.result c.args.self.now c.read_next.new.self c.finish-turn.new.self c.in-Ok-Some.parsed reads keeps c.finish-turn.ensures.source news
-          (subst (λ (z : Schema). IfOk c.finish-turn.result (Answered g.O.Sink.held z (IsShown g.V.CubeView.weight_at g.V.CubeView.seen g.V.CubeView.schema g.V.CubeView.numbers z viewer.shown.points) a.shown b.shown (length a.told) (length b.told) c.read_next.new.self c.finish-turn.new.self c.in-Ok-Some.parsed)) line.same.1
+          (subst (λ (z : Schema). IfOk c.finish-turn.result (Answered g.O.Sink.held z (IsShown g.V.CubeView.weight_at g.V.CubeView.seen g.V.CubeView.schema g.V.CubeView.numbers z viewer.shown.points) a b c.read_next.new.self c.finish-turn.new.self c.in-Ok-Some.parsed)) line.same.1
           (c.finish-turn.ensures.puts.answered a b news (λ look. refl, refl)));
       broken = λ e.
           let faulty = of_fault _ c.finish-turn.result _ c.finish-turn.ensures.faults.ended e in
           breaks_off g.I.Source.left g.I.Source.faults g.O.Sink.held c.args.viewer.schema A a b c.args.self.now c.read_next.new.self c.finish-turn.new.self c.in-Ok-Some.parsed reads keeps c.finish-turn.ensures.source news (faulty.1, faulty.2)
-          (subst (λ (z : Schema). IsBroken g.O.Sink.held z (IsShown g.V.CubeView.weight_at g.V.CubeView.seen g.V.CubeView.schema g.V.CubeView.numbers z viewer.shown.points) a.shown b.shown (length a.told) (length b.told) c.read_next.new.self c.finish-turn.new.self c.in-Ok-Some.parsed) line.same.1
+          (subst (λ (z : Schema). IsBroken g.O.Sink.held z (IsShown g.V.CubeView.weight_at g.V.CubeView.seen g.V.CubeView.schema g.V.CubeView.numbers z viewer.shown.points) a b c.read_next.new.self c.finish-turn.new.self c.in-Ok-Some.parsed) line.same.1
           (c.finish-turn.ensures.puts.broken a b news (λ look. refl, refl) e));
     }
 
@@ -105,13 +105,13 @@ returns-in-Ok-Some-clause-finals g c =
     c.finish-turn.result (ap (λ s. s.ended) (sym c.self.view_is) ∙ c.if-self.false) line.goes.mail.rises s
     (turned_answered g.I.Source.left g.I.Source.faults g.O.Sink.held z A a b c.finish-turn.result c.args.self.now c.read_next.new.self c.finish-turn.new.self p reads
     (c.read_next.ensures.same.0, c.read_next.ensures.same.1, c.read_next.ensures.same.2, c.in-Ok-Some.ensures.reads.lacked) c.finish-turn.ensures.source news
-    (subst (λ (y : Schema). IfOk c.finish-turn.result (Answered g.O.Sink.held y (IsShown g.V.CubeView.weight_at g.V.CubeView.seen g.V.CubeView.schema g.V.CubeView.numbers y viewer.shown.points) a.shown b.shown (length a.told) (length b.told) c.read_next.new.self c.finish-turn.new.self p)) line.same.1
+    (subst (λ (y : Schema). IfOk c.finish-turn.result (Answered g.O.Sink.held y (IsShown g.V.CubeView.weight_at g.V.CubeView.seen g.V.CubeView.schema g.V.CubeView.numbers y viewer.shown.points) a b c.read_next.new.self c.finish-turn.new.self p)) line.same.1
     (c.finish-turn.ensures.puts.answered a b news is)))
     (λ e.
     let faulty = of_fault _ c.finish-turn.result _ c.finish-turn.ensures.faults.ended e in
     breaks_off g.I.Source.left g.I.Source.faults g.O.Sink.held z A a b c.args.self.now c.read_next.new.self c.finish-turn.new.self p reads
     (c.read_next.ensures.same.0, c.read_next.ensures.same.1, c.read_next.ensures.same.2, c.in-Ok-Some.ensures.reads.lacked) c.finish-turn.ensures.source news (faulty.1, faulty.2)
-    (subst (λ (y : Schema). IsBroken g.O.Sink.held y (IsShown g.V.CubeView.weight_at g.V.CubeView.seen g.V.CubeView.schema g.V.CubeView.numbers y viewer.shown.points) a.shown b.shown (length a.told) (length b.told) c.read_next.new.self c.finish-turn.new.self p) line.same.1
+    (subst (λ (y : Schema). IsBroken g.O.Sink.held y (IsShown g.V.CubeView.weight_at g.V.CubeView.seen g.V.CubeView.schema g.V.CubeView.numbers y viewer.shown.points) a b c.read_next.new.self c.finish-turn.new.self p) line.same.1
     (c.finish-turn.ensures.puts.broken a b news is e)))
     (returns-in-Ok-Some-clause-faults g c).0)
 

@@ -1,0 +1,61 @@
+//! Slots that are looked at before they are needed. Slots that follow each other in an image's order lie far apart in the
+//! arena, so each is waited for: a loop that asks each of the next 32 one thing, and does nothing else by the answer,
+//! waits for many of them at once, and they are at hand when their turn comes.
+ghost use Rattle.std.specs.Prelude.{◌≡◌, ◌<◌, ◌≤◌, length, All};
+
+use node_arena::{Arena, SlotId};
+use outer_io::{List, NoMemory};
+
+/// How many slots are looked at in one loop.
+const AHEAD: usize = 32;
+
+/// Looks before each 32nd slot of an order at the next 32, and makes room for about as many bytes as they take: 22 for a node
+/// with one child and a content, and for a table 9 and then 12 a row.
+pub fn make_room(
+    out: &mut Vec<u8>,
+    arena: &Arena,
+    places: &[u32],
+    at: usize,
+) -> Result<(), NoMemory>
+    requires { All (λ i. i < length arena.now) places.now }
+    ensures { out.new.items ≡ out.old.items }
+{
+    if at % AHEAD != 0 {
+        return Ok(());
+    }
+    let tables = tables_ahead(arena, places, at);
+    match out.try_reserve(24 * AHEAD + 12 * tables) {
+        Ok(()) => Ok(()),
+        Err(_) => Err(NoMemory),
+    }
+}
+
+/// Looks before each 32nd slot of an order that is being made at the next 32, as far as they are known, and makes room for
+/// about as many slots as they own: a node one or two, and a table none.
+pub fn make_place(places: &mut List<u32>, arena: &Arena, at: usize) -> Result<(), NoMemory>
+    requires { All (λ i. i < length arena.now) places.old }
+    ensures { places.new ≡ places.old }
+{
+    if at % AHEAD != 0 {
+        return Ok(());
+    }
+    let tables = tables_ahead(arena, places.as_slice(), at);
+    places.reserve(2 * (AHEAD - tables))
+}
+
+/// How many of the next slots of an order are tables.
+// Not part of its callers, whose loops it would make longer for each slot.
+#[inline(never)]
+fn tables_ahead(arena: &Arena, places: &[u32], at: usize) -> usize
+    requires { All (λ i. i < length arena.now) places.now }
+    ensures { result ≤ 32 }
+{
+    let mut tables = 0;
+    for i in at..at.saturating_add(AHEAD) {
+        if i >= places.len() {
+            return tables;
+        }
+        tables += usize::from(arena.is_table(SlotId(places[i])));
+    }
+    tables
+}
