@@ -1,30 +1,8 @@
-//! Bytes that are put at the end of others. What stands together is put by one write, since each asks whether there is room.
-ghost use Rattle.std.specs.Prelude.{◌≡◌, [], ◌∷◌, ◌++◌, OnOk};
+//! Numbers that are put at the end of bytes. What stands together is put by one write, since each asks whether there is room.
+ghost use Rattle.std.specs.Prelude.{◌≡◌, ◌∷◌, ◌++◌, OnOk};
 ghost use Rattle.std.specs.Int.{to_be_bytes, w16, w32, w64};
 
-use outer_io::NoMemory;
-
-/// Puts bytes at the end.
-// Part of its callers, which know how many there are: each put is a store or two then.
-#[inline(always)]
-pub fn put(out: &mut Vec<u8>, bytes: &[u8]) -> Result<(), NoMemory>
-    ensures { OnOk result (out.new.items ≡ out.old.items ++ bytes.now) }
-{
-    match out.extend_from_slice(bytes) {
-        Ok(()) => Ok(()),
-        Err(_) => Err(NoMemory),
-    }
-}
-
-/// Puts a byte.
-pub fn put_byte(out: &mut Vec<u8>, byte: u8) -> Result<(), NoMemory>
-    ensures { OnOk result (out.new.items ≡ out.old.items ++ byte ∷ []) }
-{
-    match out.push(byte) {
-        Ok(()) => Ok(()),
-        Err(_) => Err(NoMemory),
-    }
-}
+use outer_io::{NoMemory, put};
 
 /// Puts a number in 8 bytes, the most significant one first.
 pub fn put_number(out: &mut Vec<u8>, number: u64) -> Result<(), NoMemory>

@@ -9,13 +9,13 @@ ghost use Rattle.cube_image.specs.Order.{order_number, moved, moved_child, moved
 ghost use Rattle.cube_image.specs.Rest.{word_rows, told_children};
 
 use crate::ahead::make_room;
-use crate::bytes::{put_byte, put_labelled, put_marked, put_pair, put_short};
+use crate::bytes::{put_labelled, put_marked, put_pair, put_short};
 use crate::children::child_count;
 use crate::fault::SaveFault;
 use crate::order::Order;
 use crate::rows::read_rows;
 use node_arena::{Arena, Link, SlotId};
-use outer_io::NoMemory;
+use outer_io::{NoMemory, put_byte};
 use probe_core::Steps;
 use std::alloc::Global;
 use std::sync::ledger::Ledger;

@@ -6,12 +6,12 @@ ghost use Rattle.cube_image.specs.Bytes.{head_bytes};
 ghost use Rattle.cube_image.specs.Conditions.{HasSomeHomes};
 ghost use Rattle.cube_image.specs.Image.{IsWritten, HasLongImage};
 
-use crate::bytes::{put, put_number};
+use crate::bytes::put_number;
 use crate::fault::SaveFault;
 use crate::order::order_of;
 use crate::print::put_slots;
 use node_arena::{Arena, SlotId};
-use outer_io::{List, NoMemory};
+use outer_io::{List, NoMemory, put};
 use probe_core::Steps;
 use std::alloc::Global;
 use std::marker::Brand;

@@ -1,5 +1,5 @@
 //! The arena: slots in a list, each named by its place.
-ghost use Rattle.std.specs.Prelude.{◌≡◌, ◌+◌, ◌≤◌, ◌<◌, ◌^◌, ◌↔◌, [], length, take, None, Some, IfOk, OnOk, OnErr, IsSome, IsTrue};
+ghost use Rattle.std.specs.Prelude.{◌≡◌, ◌+◌, ◌≤◌, ◌<◌, ◌^◌, ◌↔◌, [], length, take, None, Some, IfOk, OnOk, OnErr, is_some, IsSome, IsTrue};
 ghost use Rattle.std.specs.FinMap.{contains_key};
 ghost use Rattle.probe_core.specs.Bits.{bits};
 ghost use Rattle.probe_core.specs.Blanks.{IsBlankOf};
@@ -240,6 +240,14 @@ impl Arena {
         ensures { result ≡ is_table (slot_of self.now id.0) }
     {
         self.slot(id.0 as usize).is_table()
+    }
+
+    /// Whether a slot has a content.
+    pub fn has_content(&self, id: SlotId) -> bool
+        requires { id.0 < length self.now }
+        ensures { result ≡ is_some (link_of self.now id.0 across) }
+    {
+        self.slot(id.0 as usize).has_content()
     }
 
     /// Takes off the slots from a place on.

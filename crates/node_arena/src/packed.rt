@@ -1,5 +1,5 @@
 //! Links as a node stores them, without the bytes that padding would take.
-ghost use Rattle.std.specs.Prelude.{◌≡◌};
+ghost use Rattle.std.specs.Prelude.{◌≡◌, is_some};
 
 use crate::link::{Link, LinkKind, SlotId};
 use probe_core::Keyed;
@@ -111,6 +111,16 @@ impl Content {
                 kind,
             }),
             None => None,
+        }
+    }
+
+    /// Whether there is a link.
+    pub fn is_some(&self) -> bool
+        ensures { result ≡ is_some self.now }
+    {
+        match self.kind {
+            Some(_) => true,
+            None => false,
         }
     }
 }

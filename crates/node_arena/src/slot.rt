@@ -1,5 +1,5 @@
 //! A slot as an arena stores it.
-ghost use Rattle.std.specs.Prelude.{◌≡◌, ◌+◌, ◌≤◌, ◌<◌, ◌^◌, length, None, Some, IfOk, OnOk, OnErr, IsSome, IsTrue};
+ghost use Rattle.std.specs.Prelude.{◌≡◌, ◌+◌, ◌≤◌, ◌<◌, ◌^◌, length, None, Some, IfOk, OnOk, OnErr, is_some, IsSome, IsTrue};
 ghost use Rattle.std.specs.FinMap.{contains_key};
 ghost use Rattle.probe_core.specs.Bits.{bits};
 ghost use Rattle.time_table.specs.Counts.{AllCounted, IsBinRun, run_total, total_count};
@@ -164,6 +164,16 @@ impl Stored {
         match self {
             Stored::Table(_) => true,
             Stored::Node(_, _) => false,
+        }
+    }
+
+    /// Whether it has a content.
+    pub fn has_content(&self) -> bool
+        ensures { result ≡ is_some (link_at (slot_from self.now) across) }
+    {
+        match self {
+            Stored::Node(_, content) => content.is_some(),
+            Stored::Table(_) => false,
         }
     }
 

@@ -10,9 +10,9 @@ ghost use Rattle.reply_json.specs.Validity.{is_valid_reply};
 ghost use Rattle.reply_json.specs.Types.{IsCount, RowFits, ReplyFits};
 
 use crate::Reply;
-use crate::put::{digits_before, item_before, put, put_byte, put_number, put_text};
+use crate::put::{digits_before, item_before, put_number, put_text};
 use cube_view::{Stat, Tile};
-use outer_io::{List, NoMemory};
+use outer_io::{List, NoMemory, put, put_byte};
 use query_syntax::{QueryFault, RowOut, Table};
 use std::alloc::Global;
 

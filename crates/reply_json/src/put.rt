@@ -1,32 +1,12 @@
-//! Bytes, numbers and texts that are put at the end of others.
+//! Numbers and texts that are put at the end of bytes.
 ghost use Rattle.std.specs.Prelude.{◌≡◌, ◌+◌, ◌≤◌, [], ◌∷◌, ◌++◌, decimal, drop, OnOk, IsTrue};
 ghost use Rattle.json.specs.Print.{quoted};
 ghost use Rattle.reply_json.specs.Types.{IsCount};
 
 use crate::plain::are_plain;
 use json::Writer;
-use outer_io::NoMemory;
+use outer_io::{NoMemory, put, put_byte};
 use std::mem::replace;
-
-/// Puts bytes at the end.
-pub fn put(out: &mut Vec<u8>, bytes: &[u8]) -> Result<(), NoMemory>
-    ensures { OnOk result (out.new.items ≡ out.old.items ++ bytes.now) }
-{
-    match out.extend_from_slice(bytes) {
-        Ok(()) => Ok(()),
-        Err(_) => Err(NoMemory),
-    }
-}
-
-/// Puts a byte at the end. It is quicker than one byte put as bytes.
-pub fn put_byte(out: &mut Vec<u8>, byte: u8) -> Result<(), NoMemory>
-    ensures { OnOk result (out.new.items ≡ out.old.items ++ byte ∷ []) }
-{
-    match out.push(byte) {
-        Ok(()) => Ok(()),
-        Err(_) => Err(NoMemory),
-    }
-}
 
 /// Puts bytes, and a number in decimal.
 pub fn put_number(out: &mut Vec<u8>, front: &[u8], number: u64) -> Result<(), NoMemory>
