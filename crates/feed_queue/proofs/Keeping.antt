@@ -10,8 +10,8 @@ use Rattle.feed_queue.specs.declared.line.Feeding.{Feeding}
 use Rattle.feed_queue.specs.declared.line.Drawing.{Drawing}
 use Rattle.feed_queue.specs.declared.line.View.{View}
 use Rattle.feed_queue.specs.declared.line.View.TheVariants.{Fresh, Opening, Draws, Feeds, Spent}
-use Rattle.feed_queue.specs.Rule.{KeepsLane}
-use Rattle.feed_queue.specs.Steps.{opening_view, begun_view, ViewSends, ViewDraws, after_slot, IsDraw, split_left, split_right, joined_with, Settles}
+use Rattle.feed_queue.specs.Rule.{KeepsLane, opening_view}
+use Rattle.feed_queue.specs.Steps.{begun_view, ViewSends, ViewDraws, after_slot, IsDraw, split_left, split_right, joined_with, Settles}
 use Rattle.feed_queue.proofs.Opening.{opens, begins, splits}
 use Rattle.feed_queue.proofs.Sending.{sends, entry_on, end_on}
 use Rattle.feed_queue.proofs.Drawing.{draws}

@@ -12,8 +12,8 @@ use Rattle.feed_queue.specs.declared.line.Drawing.{Drawing}
 use Rattle.feed_queue.specs.declared.line.View.{View}
 use Rattle.feed_queue.specs.declared.line.View.TheVariants.{Fresh, Opening, Draws, Feeds}
 use Rattle.feed_queue.specs.Items.{feeder_of}
-use Rattle.feed_queue.specs.Rule.{new_feeding, IsKnown, KeepsLane}
-use Rattle.feed_queue.specs.Steps.{opening_view, begun_view, drawing, split_left, split_right}
+use Rattle.feed_queue.specs.Rule.{new_feeding, opening_view, IsKnown, KeepsLane}
+use Rattle.feed_queue.specs.Steps.{begun_view, drawing, split_left, split_right}
 use Rattle.feed_queue.proofs.Updates.{updated, updated_here, updated_else, all_weaker}
 use Rattle.feed_queue.proofs.Running.{running, only_view, one_view, draws_at, some_not_none, moved}
 use Rattle.atomic_table.specs.Seated.{TableId}
@@ -24,7 +24,7 @@ use Rattle.feed_queue.specs.Passes.{known_schema}
 pub opens : (n pass : ℕ) (s : Slot) (z : Schema) → opening_view s ≡ Opening z → Pushes KeepsLane n pass Fresh s (λ w. w ≡ opening_view s)
 opens n pass s z is items views room (inl k) at =
     let e = one_view views Fresh Fresh pass k.views_are at in
-    (opening_view s, inr (inl (record { slot = s; schema = z; slots_are = ap (λ l. l ++ s ∷ []) k.slots_are; views_are = (λ i. set (k.views_are i) (e.0 i) (opening_view s)) ∙ ap (λ v. v ∷ []) is })), refl)
+    (opening_view s, inr (inl (record { slot = s; schema = z; named = is; slots_are = ap (λ l. l ++ s ∷ []) k.slots_are; views_are = (λ i. set (k.views_are i) (e.0 i) (opening_view s)) ∙ ap (λ v. v ∷ []) is })), refl)
 opens n pass s z is items views room (inr (inl o)) at = absurd (let e : Opening o.schema ≡ Fresh = (one_view views (Opening o.schema) Fresh pass o.views_are at).1 in cc)
 opens n pass s z is items views room (inr (inr r)) at = absurd (r.known pass Fresh at)
 

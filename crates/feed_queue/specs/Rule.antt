@@ -6,7 +6,7 @@ use Rattle.cube_view.specs.declared.schema.Schema.{Schema}
 use Rattle.feed_queue.specs.Items.{feeder_of, items_of, entries_in, valid_item, stream_from}
 use Rattle.feed_queue.specs.declared.item.Item.{Item}
 use Rattle.feed_queue.specs.declared.item.Slot.{Slot}
-use Rattle.feed_queue.specs.declared.item.Slot.TheVariants.{Carries}
+use Rattle.feed_queue.specs.declared.item.Slot.TheVariants.{Opens, Carries}
 use Rattle.feed_queue.specs.declared.line.Drawing.{Drawing}
 use Rattle.feed_queue.specs.declared.line.Feeding.{Feeding}
 use Rattle.feed_queue.specs.declared.line.View.{View}
@@ -67,12 +67,19 @@ pub record IsUnopened (slots : List Slot) (views : List View) : Type 0 where
   -- its pass knows nothing
   pub views_are : views ≡ Fresh ∷ []
 
+-- the first pass's view once it has put this in: the schema, where it is one
+abbrev pub opening_view : Slot → View
+opening_view (Opens copy) = Opening copy.value
+opening_view (Carries i) = Fresh
+
 -- a lane while it is opened: its one pass has put the schema in
 pub record IsOpening (slots : List Slot) (views : List View) : Type 0 where
   -- what was put in
   pub slot : Slot
   -- the lane's schema
   pub schema : Schema
+  -- which is what was put in
+  pub named : opening_view slot ≡ Opening schema
   -- it is all that is queued
   pub slots_are : slots ≡ slot ∷ []
   -- and its pass knows the schema

@@ -17,11 +17,6 @@ use Rattle.feed_queue.specs.declared.line.View.TheVariants.{Fresh, Opening, Draw
 abbrev pub drawing : Schema → List Item → ℕ → List Feeding → Drawing
 drawing schema drawn made joined = record { schema = schema; drawn = drawn; made = made; joined = joined }
 
--- the first pass's view once it has put this in: the schema, where it is one
-abbrev pub opening_view : Slot → View
-opening_view (Opens copy) = Opening copy.value
-opening_view (Carries i) = Fresh
-
 -- the first pass's view once the schema is out again: it draws, and has made no feeder
 abbrev pub begun_view : View → View
 begun_view (Opening schema) = Draws (drawing schema [] 0 [])

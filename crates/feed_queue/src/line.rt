@@ -1,7 +1,7 @@
 //! The rule of a lane's queue, and what each of its steps does. No value of a view is ever made.
 ghost use Rattle.std.specs.Prelude.{◌≡◌, ⊤};
-ghost use Rattle.feed_queue.specs.Rule.{KeepsLane};
-ghost use Rattle.feed_queue.specs.Steps.{opening_view, begun_view, after_slot, IsDraw, split_left, split_right, joined_with, Settles};
+ghost use Rattle.feed_queue.specs.Rule.{KeepsLane, opening_view};
+ghost use Rattle.feed_queue.specs.Steps.{begun_view, after_slot, IsDraw, split_left, split_right, joined_with, Settles};
 ghost use Rattle.feed_queue.specs.declared.line.View.TheVariants.{Fresh, Spent};
 
 use crate::item::{Item, Slot};
