@@ -3,7 +3,6 @@ use Rattle.std.proofs.Common.{◌≡◌, ℕ, ◌<◌, ◌≤◌, Bool, List, []
 use Rattle.std.specs.Prelude.{Result, Ok, Err, option_map}
 use Rattle.std.proofs.lemmas.Bool.{le-leb, lt-leb}
 use Rattle.run_files.specs.declared.stop.Stop.{Stop}
-use Rattle.run_files.specs.declared.stop.Stop.TheVariants as stop
 use Rattle.share_replies.specs.Ends.{FileNames, given_names}
 use Rattle.share_replies.specs.declared.adding.Outcome.{Outcome}
 use Rattle.share_replies.specs.declared.adding.Outcome.TheVariants as outcome
@@ -69,8 +68,4 @@ module _ (words : List (List ℕ)) (own : Option ShareNames) (is : option_map gi
 pub no_usage : (end : Result Outcome Stop) → status_of end ≡ Usage → ⊥
 no_usage (Ok outcome.Added) e = cc
 no_usage (Ok (outcome.Refused why)) e = cc
-no_usage (Err stop.NoMemory) e = cc
-no_usage (Err stop.PlanRefused) e = cc
-no_usage (Err stop.ReadFault) e = cc
-no_usage (Err stop.WriteFault) e = cc
-no_usage (Err stop.FeedRefused) e = cc
+no_usage (Err stop) e = cc

@@ -9,27 +9,23 @@ use Rattle.share_replies.specs.Ends.{AddsUpFiles, FileNames, SaysShares}
 use Rattle.share_replies.specs.declared.adding.Outcome.{Outcome}
 use Rattle.share_replies.specs.declared.adding.Outcome.TheVariants as outcome
 use Rattle.add_replies.specs.declared.status.Status.{Status}
-use Rattle.add_replies.specs.declared.status.Status.TheVariants.{Done, Usage, PlanRefused, NoMemory, ReadFault, WriteFault, FeedRefused, Refused}
+use Rattle.add_replies.specs.declared.status.Status.TheVariants.{Done, Usage, Stopped, Refused}
 
 -- the status of an end
 abbrev pub status_of : Result Outcome Stop → Status
 status_of (Ok outcome.Added) = Done
 status_of (Ok (outcome.Refused why)) = Refused
-status_of (Err stop.NoMemory) = NoMemory
-status_of (Err stop.PlanRefused) = PlanRefused
-status_of (Err stop.ReadFault) = ReadFault
-status_of (Err stop.WriteFault) = WriteFault
-status_of (Err stop.FeedRefused) = FeedRefused
+status_of (Err stop) = Stopped stop
 
 -- the exit code of a status
 abbrev pub exit_code_of : Status → ℕ
 exit_code_of Done = 0
 exit_code_of Usage = 2
-exit_code_of PlanRefused = 3
-exit_code_of NoMemory = 4
-exit_code_of ReadFault = 5
-exit_code_of WriteFault = 6
-exit_code_of FeedRefused = 7
+exit_code_of (Stopped stop.PlanRefused) = 3
+exit_code_of (Stopped stop.NoMemory) = 4
+exit_code_of (Stopped stop.ReadFault) = 5
+exit_code_of (Stopped stop.WriteFault) = 6
+exit_code_of (Stopped stop.FeedRefused) = 7
 exit_code_of Refused = 9
 
 -- the most shares

@@ -14,29 +14,34 @@ mod status;
 
 use crate::program::add_replies;
 use crate::status::Status;
-use outer_io::{FilePlace, NoMemory, StdSink};
+use outer_io::{FilePlace, StdSink};
+use run_files::Stop;
 use std::env;
 use std::io::ErrorKind;
 use std::process::ExitCode;
 use std::rt::Env;
 
-/// The words after the program's name. A word that is not UTF-8 leaves a line of no words, which is no form.
-fn words<R: Env + AllocGlobal>(rt: &R) -> Result<Vec<String>, NoMemory> {
-    match env::args(rt) {
-        Ok(args) => args.skip(1).collect(rt.alloc()).map_err(|_| NoMemory),
-        Err(fault) if fault.kind() == ErrorKind::OutOfMemory => Err(NoMemory),
-        Err(_) => Ok(Vec::new(rt.alloc())),
-    }
+/// How the program ends where memory is wanted.
+const NO_MEMORY: Status = Status::Stopped(Stop::NoMemory);
+
+/// The words after the program's name, or how the program ends without them. A line with a word that is not UTF-8 is of no
+/// form.
+fn words<R: Env + AllocGlobal>(rt: &R) -> Result<Vec<String>, Status> {
+    let args = match env::args(rt) {
+        Ok(args) => args,
+        Err(fault) if fault.kind() == ErrorKind::OutOfMemory => return Err(NO_MEMORY),
+        Err(_) => return Err(Status::Usage),
+    };
+    args.skip(1).collect(rt.alloc()).map_err(|_| NO_MEMORY)
 }
 
 fn main(rt: HostRuntime) -> ExitCode {
-    let status = match words(&rt) {
-        Ok(words) => {
-            let mut place = FilePlace::new(rt.alloc(), &rt);
-            let mut out = StdSink::new(&rt);
-            add_replies(rt.alloc(), words.as_slice(), &mut place, &mut out)
-        }
-        Err(NoMemory) => Status::NoMemory,
+    let words = match words(&rt) {
+        Ok(words) => words,
+        Err(status) => return ExitCode::from(status.code()),
     };
+    let mut place = FilePlace::new(rt.alloc(), &rt);
+    let mut out = StdSink::new(&rt);
+    let status = add_replies(rt.alloc(), words.as_slice(), &mut place, &mut out);
     ExitCode::from(status.code())
 }

@@ -5,16 +5,13 @@ ghost use Rattle.add_replies.specs.Statuses.{exit_code_of, status_of};
 use run_files::Stop;
 use share_replies::Outcome;
 
-/// How the program ended. `Refused` is that a line of a share was refused, or a sum too great.
+/// How the program ended: all was added, the words are no form, this ended it, or a line of a share was refused or a sum
+/// too great.
 #[derive(Clone, Copy, PartialEq, Eq, Debug)]
 pub enum Status {
     Done,
     Usage,
-    PlanRefused,
-    NoMemory,
-    ReadFault,
-    WriteFault,
-    FeedRefused,
+    Stopped(Stop),
     Refused,
 }
 
@@ -26,26 +23,22 @@ impl Status {
         match end {
             Ok(Outcome::Added) => Status::Done,
             Ok(Outcome::Refused(_)) => Status::Refused,
-            Err(Stop::NoMemory) => Status::NoMemory,
-            Err(Stop::PlanRefused) => Status::PlanRefused,
-            Err(Stop::ReadFault) => Status::ReadFault,
-            Err(Stop::WriteFault) => Status::WriteFault,
-            Err(Stop::FeedRefused) => Status::FeedRefused,
+            Err(stop) => Status::Stopped(stop),
         }
     }
 
-    /// The exit code: 0, 2, 3, 4, 5, 6, 7, 9 in the order written.
+    /// The exit code.
     pub fn code(&self) -> u8
         ensures { result ≡ exit_code_of self.now }
     {
         match self {
             Status::Done => 0,
             Status::Usage => 2,
-            Status::PlanRefused => 3,
-            Status::NoMemory => 4,
-            Status::ReadFault => 5,
-            Status::WriteFault => 6,
-            Status::FeedRefused => 7,
+            Status::Stopped(Stop::PlanRefused) => 3,
+            Status::Stopped(Stop::NoMemory) => 4,
+            Status::Stopped(Stop::ReadFault) => 5,
+            Status::Stopped(Stop::WriteFault) => 6,
+            Status::Stopped(Stop::FeedRefused) => 7,
             Status::Refused => 9,
         }
     }

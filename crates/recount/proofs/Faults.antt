@@ -9,7 +9,7 @@ use Rattle.reply_json.specs.declared.reply.Reply.{Reply}
 use Rattle.session_core.specs.Asked.{reply_line}
 use Rattle.session_core.specs.Transcript.{MayCome, replies_text}
 use Rattle.recount.specs.Agreement.{MayAnswer, AreAnswers}
-use Rattle.recount.specs.Faults.{most_seen, most_told, IsWithin, BeginsWithReply, ReplyFails, LineFails, RepliesFail, RepliesDiffer}
+use Rattle.recount.specs.Faults.{most_seen, most_told, StaysWithin, BeginsWithReply, ReplyFails, LineFails, RepliesFail, RepliesDiffer}
 use Rattle.recount.specs.Verdicts.{RepliesAgree}
 use Rattle.recount.specs.declared.verdict.Why.{Why}
 use Rattle.recount.specs.declared.verdict.Why.TheVariants.{NotEntry, WrongNumber, TooFew, TooMany, NotReply, PastEnd, Fell, Wrong}
@@ -87,7 +87,7 @@ module _ (schema : Schema) (points : List Point) where
   line_agrees ps before r later text TooMany next is fails = fails.2
   line_agrees ps before r later text PastEnd next is (s, (printable, (x, begins)), never) =
       let same = (one_line r s later x (answer_printable schema points next.asks.asked r next.asks.answer).1 printable.1 (sym is ∙ begins)).0 in
-      never (subst (IsWithin (length points)) same next.within)
+      never (subst (StaysWithin (length points)) same next.within)
   line_agrees ps before r later text Fell next is (s, (printable, (x, begins)), (within, never)) =
       let same = (one_line r s later x (answer_printable schema points next.asks.asked r next.asks.answer).1 printable.1 (sym is ∙ begins)).0 in
       never (subst (MayCome (most_seen 0 before) (most_told 0 before)) same next.comes)

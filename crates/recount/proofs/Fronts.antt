@@ -9,7 +9,7 @@ use Rattle.session_core.specs.Transcript.{seen_in, told_in, MayCome, NeverFalls,
 use Rattle.session_core.proofs.Transcripts.{all_append, answer_seen}
 use Rattle.recount.specs.Agreement.{IsCubeStat, MayAnswer, AreAnswers}
 use Rattle.recount.specs.Counting.{lacking, count_lacking}
-use Rattle.recount.specs.Faults.{most_seen, most_told, IsWithin}
+use Rattle.recount.specs.Faults.{most_seen, most_told, StaysWithin}
 use Rattle.recount.proofs.ReplyTexts.{answer_printable}
 use Rattle.recount.proofs.TwoFronts.{Each}
 
@@ -74,7 +74,7 @@ module _ (schema : Schema) (points : List Point) where
   pub record IsNext (ps : List Parsed) (before : List Reply) (r : Reply) : Type 0 where
     pub asks : AsksNext ps before r
     pub comes : MayCome (most_seen 0 before) (most_told 0 before) r
-    pub within : IsWithin (length points) r
+    pub within : StaysWithin (length points) r
 
   pub next_is : (ps : List Parsed) (before : List Reply) (r : Reply) (more : List Reply) → AreAnswers schema points (take (length (before ++ r ∷ more)) ps) (before ++ r ∷ more) → IsNext ps before r
   next_is ps before r more t =

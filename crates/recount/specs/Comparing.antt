@@ -12,7 +12,7 @@ use Rattle.query_syntax.specs.declared.query.Verb.{Verb}
 use Rattle.query_syntax.specs.declared.query.Verb.TheVariants as verb
 use Rattle.recount.specs.Agreement.{MayAnswer}
 use Rattle.recount.specs.Counting.{lacking}
-use Rattle.recount.specs.Faults.{IsPrintableReply, IsWithin, LineFails}
+use Rattle.recount.specs.Faults.{IsPrintableReply, StaysWithin, LineFails}
 use Rattle.recount.specs.declared.testing.Audit.{Audit}
 use Rattle.recount.specs.declared.testing.Tested.{Tested}
 use Rattle.recount.specs.declared.testing.Tested.TheVariants as tested
@@ -78,7 +78,7 @@ pub record KeepsUp (schema : Schema) (points : List Point) (seen : ℕ) (cube : 
 
 -- The reply to what was asked agrees, and the audit goes on after it
 pub record ReplyPasses (points : List Point) (before after : Audit) (p : Parsed) (reply : Reply) : Type 0 where
-  pub comes : IsWithin (length points) reply × MayCome before.seen before.told reply
+  pub comes : StaysWithin (length points) reply × MayCome before.seen before.told reply
   pub answer : MayAnswer (schema_of before.cube) points p reply
   pub seen : after.seen ≡ max before.seen (seen_in reply)
   pub told : after.told ≡ max before.told (told_in reply)

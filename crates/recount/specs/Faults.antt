@@ -64,16 +64,16 @@ most_told told [] = told
 most_told told (reply ∷ replies) = most_told (max told (told_in reply)) replies
 
 -- the reply prints numbers of points that are no greater than this one
-abbrev pub IsWithin : ℕ → Reply → Type 0
-IsWithin most reply = (seen_in reply ≤ most) × (told_in reply ≤ most)
+abbrev pub StaysWithin : ℕ → Reply → Type 0
+StaysWithin most reply = (seen_in reply ≤ most) × (told_in reply ≤ most)
 
 -- over the points of a journal, after replies of which these are the greatest numbers of points seen and told
 module _ (schema : Schema) (points : List Point) (seen told : ℕ) where
   -- the first test that holds of a reply to what was asked
   abbrev pub ReplyFails : Parsed → Reply → Why → Type 0
-  ReplyFails p reply PastEnd = ¬ IsWithin (length points) reply
-  ReplyFails p reply Fell = IsWithin (length points) reply × ¬ MayCome seen told reply
-  ReplyFails p reply Wrong = IsWithin (length points) reply × MayCome seen told reply × ¬ MayAnswer schema points p reply
+  ReplyFails p reply PastEnd = ¬ StaysWithin (length points) reply
+  ReplyFails p reply Fell = StaysWithin (length points) reply × ¬ MayCome seen told reply
+  ReplyFails p reply Wrong = StaysWithin (length points) reply × MayCome seen told reply × ¬ MayAnswer schema points p reply
   ReplyFails p reply why = ⊥
 
   -- the first test that holds of the next line, which should answer this

@@ -7,7 +7,7 @@ ghost use Rattle.probe_core.specs.Blanks.{IsBlankOf};
 ghost use Rattle.query_syntax.specs.Meaning.{asks_valid};
 ghost use Rattle.recount.specs.Agreement.{MayAnswer, IsCubeStat};
 ghost use Rattle.recount.specs.Comparing.{asks_stat, asks_told, IsReplyOver, KeepsUp};
-ghost use Rattle.recount.specs.Faults.{IsWithin};
+ghost use Rattle.recount.specs.Faults.{StaysWithin};
 ghost use Rattle.reply_json.specs.Printed.{seen_of};
 ghost use Rattle.reply_json.specs.Types.{ReplyFits};
 ghost use Rattle.reply_json.specs.declared.reply.Reply.{Reply};
@@ -116,7 +116,7 @@ pub fn is_answer(
 ) -> Result<bool, NoMemory>
     requires keeps { KeepsUp (schema_of cube.old) points.now seen cube.old }
     requires comes { (seen ≤ seen_in next.now.reply) ⊎ (seen_of next.now.reply ≡ None) }
-    requires within { IsWithin (length points.now) next.now.reply × (length points.now < most_points) }
+    requires within { StaysWithin (length points.now) next.now.reply × (length points.now < most_points) }
     requires sound { All (λ p. IsTrue (sound (schema_of cube.old) p)) points.now }
     requires line { ReplyFits next.now.reply × (next.now.line.now ≡ reply_line next.now.reply) }
     requires valid { IsTrue (asks_valid (schema_of cube.old) parsed.now) }

@@ -1,6 +1,6 @@
 -- Sums in which a total is too great.
-use Rattle.std.proofs.Common.{◌≡◌, ℕ, ◌+◌, Bool, true, false, ◌||◌, List, [], ◌∷◌, ◌++◌, drop, Option, Some, None, refl, sym, ◌∙◌, ap, subst}
-use Rattle.std.specs.Prelude.{IfSome, IsSomeAnd, is_some, option_map}
+use Rattle.std.proofs.Common.{◌≡◌, ℕ, ◌+◌, Bool, true, false, ◌||◌, List, [], ◌∷◌, ◌++◌, Option, Some, None, refl, sym, ◌∙◌, ap, subst}
+use Rattle.std.specs.Prelude.{is_some, option_map}
 use Rattle.std.proofs.lemmas.Bool.{false≢true}
 use Rattle.std.proofs.lemmas.List.Folds.{list_any-append}
 use Rattle.cube_view.specs.declared.address.Tile.{Tile}
@@ -12,11 +12,10 @@ use Rattle.query_syntax.specs.declared.table.Table.{Table}
 use Rattle.reply_json.specs.declared.reply.Reply.{Reply}
 use Rattle.reply_sums.specs.Areas.{areas_of_both, head_total, left_after}
 use Rattle.reply_sums.specs.Numbers.{AreGreat, IsGreat, are_rows_great, is_row_great, is_too_great}
-use Rattle.reply_sums.specs.Rows.{sum_row, sum_rows}
 use Rattle.reply_sums.specs.Sums.{HaveGreatSum, sum_of_query, sum_of_rows, sum_tables}
 use Rattle.reply_sums.proofs.AreaSums.{areas-append, push_some}
 use Rattle.reply_sums.proofs.ReplySums.{table_found}
-use Rattle.reply_sums.proofs.RowSums.{after_sums, before_sums}
+use Rattle.reply_sums.proofs.RowSums.{before_sums}
 
 or_true : (a : Bool) → (a || true) ≡ true
 or_true true = refl
@@ -32,18 +31,6 @@ great_before rows more great = list_any-append is_row_great rows more ∙ ap (λ
 -- one row more that fits
 pub fits_push : (rows : List RowOut) (row : RowOut) → are_rows_great rows ≡ false → is_row_great row ≡ false → are_rows_great (rows ++ row ∷ []) ≡ false
 fits_push rows row fits one = list_any-append is_row_great rows (row ∷ []) ∙ (λ i. fits i || (one i || false))
-
--- where the sum of two rows is great, so are the sums of all rows, if there are such
-module _ (rows others sums : List RowOut) (i : ℕ) (row other : RowOut) (first : drop i rows ≡ row ∷ drop (i + 1) rows) (second : drop i others ≡ other ∷ drop (i + 1) others) where
-  pub great_here : IsSomeAnd (sum_row row other) (λ sum. is_row_great sum ≡ true) → after_sums sums (sum_rows (drop i rows) (drop i others)) ≡ sum_rows rows others → IfSome (sum_rows rows others) (λ all. are_rows_great all ≡ true)
-  great_here great is =
-      subst (λ (o : Option (List RowOut)). IfSome o (λ all. are_rows_great all ≡ true)) ((λ j. after_sums sums (sum_rows (sym first j) (sym second j))) ∙ is)
-      (at (sum_row row other) (sum_rows (drop (i + 1) rows) (drop (i + 1) others)) great)
-    where
-      at : (o : Option RowOut) (later : Option (List RowOut)) → IsSomeAnd o (λ sum. is_row_great sum ≡ true) → IfSome (after_sums sums (before_sums o later)) (λ all. are_rows_great all ≡ true)
-      at None later great = absurd great
-      at (Some s) None great = tt
-      at (Some s) (Some more) great = great_after sums (s ∷ more) (ap (λ b. b || are_rows_great more) great)
 
 -- rows from a place on have sums exactly where all have, if those before have
 pub alike_step : (o : Option RowOut) (later : Option (List RowOut)) → is_some o ≡ true → is_some (before_sums o later) ≡ is_some later

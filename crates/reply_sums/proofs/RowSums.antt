@@ -1,7 +1,7 @@
 -- The rows of two tables, added from some place on.
-use Rattle.std.proofs.Common.{◌≡◌, ◌≢◌, ℕ, suc, ◌+◌, ◌<◌, ◌≤◌, get_or, drop, List, [], ◌∷◌, ◌++◌, length, Option, Some, None, refl, sym, ◌∙◌, ap, append_assoc}
+use Rattle.std.proofs.Common.{◌≡◌, ◌≢◌, ℕ, suc, ◌+◌, ◌<◌, get_or, drop, List, [], ◌∷◌, ◌++◌, length, Option, Some, None, refl, sym, ◌∙◌, ap, append_assoc}
 use Rattle.std.specs.Prelude.{option_map, option_and_then}
-use Rattle.std.proofs.lemmas.List.{append-nil, drop_all, drop_more}
+use Rattle.std.proofs.lemmas.List.{drop_more}
 use Rattle.query_syntax.specs.declared.table.RowOut.{RowOut}
 use Rattle.reply_sums.specs.Rows.{sum_row, sum_rows}
 
@@ -39,15 +39,12 @@ after_none (Some more) = refl
 pub drop_at : {A : Type 0} (rows : List A) (i : ℕ) (row : A) → row ≡ get_or rows i row → i < length rows → drop i rows ≡ row ∷ drop (i + 1) rows
 drop_at rows i row is lt = drop_more rows i row lt ∙ ap (λ r. r ∷ drop (i + 1) rows) (sym is)
 
-module _ (rows others sums : List RowOut) (i : ℕ) (row other : RowOut) (first : drop i rows ≡ row ∷ drop (i + 1) rows) (second : drop i others ≡ other ∷ drop (i + 1) others) where
+-- rows from a place on, by the two that stand there
+module _ (rows others : List RowOut) (i : ℕ) (row other : RowOut) (first : row ≡ get_or rows i row) (second : other ≡ get_or others i other) (in_rows : i < length rows) (in_others : i < length others) where
+  -- their sums are that of the two, before those of the rows after them
+  pub sums_at : sum_rows (drop i rows) (drop i others) ≡ before_sums (sum_row row other) (sum_rows (drop (i + 1) rows) (drop (i + 1) others))
+  sums_at = λ j. sum_rows (drop_at rows i row first in_rows j) (drop_at others i other second in_others j)
+
   -- one more row has a sum
-  pub sum_step : (s : RowOut) → sum_row row other ≡ Some s → after_sums sums (sum_rows (drop i rows) (drop i others)) ≡ after_sums (sums ++ s ∷ []) (sum_rows (drop (i + 1) rows) (drop (i + 1) others))
-  sum_step s is = (λ j. after_sums sums (sum_rows (first j) (second j))) ∙ one_sum_more sums s (sum_row row other) (sum_rows (drop (i + 1) rows) (drop (i + 1) others)) is
-
-  -- or it has none
-  pub sum_stop : sum_row row other ≡ None → after_sums sums (sum_rows (drop i rows) (drop i others)) ≡ None
-  sum_stop is = (λ j. after_sums sums (sum_rows (first j) (second j))) ∙ ap (λ o. after_sums sums (before_sums o (sum_rows (drop (i + 1) rows) (drop (i + 1) others)))) is
-
--- all rows are added
-pub sum_end : (rows others sums : List RowOut) (i : ℕ) → length rows ≤ i → length others ≤ i → after_sums sums (sum_rows (drop i rows) (drop i others)) ≡ Some sums
-sum_end rows others sums i first second = (λ j. after_sums sums (sum_rows (drop_all i rows first j) (drop_all i others second j))) ∙ ap (λ x. Some x) (append-nil sums)
+  pub sum_step : (sums : List RowOut) (s : RowOut) → sum_row row other ≡ Some s → after_sums sums (sum_rows (drop i rows) (drop i others)) ≡ after_sums (sums ++ s ∷ []) (sum_rows (drop (i + 1) rows) (drop (i + 1) others))
+  sum_step sums s is = ap (after_sums sums) sums_at ∙ one_sum_more sums s (sum_row row other) (sum_rows (drop (i + 1) rows) (drop (i + 1) others)) is

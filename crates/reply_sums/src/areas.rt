@@ -91,35 +91,6 @@ fn are_of_tiles(region: Tile, down: u8, rows: &[RowOut]) -> bool
     rows.is_done()
 }
 
-/// The rows of two maps of the tiles that are so many levels below the region, with their totals added, up to the first
-/// that is too great.
-fn add_areas(
-    alloc: Global,
-    region: Tile,
-    down: u8,
-    rows: &[RowOut],
-    others: &[RowOut],
-) -> Result<List<RowOut>, SumFault>
-    requires deep { region.z + down ≤ 20 }
-    requires region { (region.x < 2 ^ region.z) × (region.y < 2 ^ region.z) }
-    ensures sum { IfOk result (λ sums. sum_areas (tiles_below down region) rows.now others.now ≡ Some sums) }
-    ensures fits { IfOk result (λ sums. are_rows_great sums ≡ false) }
-    ensures none { result ≡ Err SumFault.OtherRows → sum_areas (tiles_below down region) rows.now others.now ≡ None }
-    ensures great { result ≡ Err SumFault.TooMuch → are_rows_great (areas_of_both (tiles_below down region) rows.now others.now) ≡ true }
-{
-    let mut sums = List::new(alloc);
-    let mut rows = Cursor::new(rows);
-    let mut others = Cursor::new(others);
-    push_sums(&mut sums, &mut rows, &mut others, region, down)?;
-    if !rows.is_done() {
-        return Err(SumFault::OtherRows);
-    }
-    if !others.is_done() {
-        return Err(SumFault::OtherRows);
-    }
-    Ok(sums)
-}
-
 /// The rows of two maps of the tiles that are so many levels below the region, with their totals added.
 pub(crate) fn sum_areas(
     alloc: Global,
@@ -135,8 +106,12 @@ pub(crate) fn sum_areas(
     ensures none { result ≡ Err SumFault.OtherRows → sum_areas (tiles_below down region) rows.now others.now ≡ None }
     ensures great { result ≡ Err SumFault.TooMuch → AreGreat (sum_areas (tiles_below down region) rows.now others.now) }
 {
-    match add_areas(alloc, region, down, rows, others) {
-        Ok(sums) => Ok(sums),
+    let mut sums = List::new(alloc);
+    let mut left = Cursor::new(rows);
+    let mut others_left = Cursor::new(others);
+    match push_sums(&mut sums, &mut left, &mut others_left, region, down) {
+        Ok(()) if left.is_done() && others_left.is_done() => Ok(sums),
+        Ok(()) => Err(SumFault::OtherRows),
         // A row of no such tile is told first, also where it stands after a total that is too great.
         Err(SumFault::TooMuch) => {
             let is_first = are_of_tiles(region, down, rows);

@@ -1,10 +1,16 @@
 -- The shares of files, one after another.
-use Rattle.std.proofs.Common.{◌≡◌, ℕ, ◌+◌, ◌≤◌, List, [], ◌∷◌, ◌++◌, length, map, take, drop, take_all, Option, Some, None, inl, inr, refl, sym, ◌∙◌, ap, subst, arith, append_assoc}
-use Rattle.std.proofs.lemmas.List.{append-nil, length-take-le, map-append, take-append-drop}
+use Rattle.std.proofs.Common.{◌≡◌, ℕ, ◌+◌, List, [], ◌∷◌, ◌++◌, map, take, drop, Option, Some, Result, IfOk, refl, sym, ◌∙◌, ap, subst, arith, append_assoc}
+use Rattle.std.proofs.lemmas.List.{append-nil, map-append, take-append-drop}
+use Rattle.std.specs.Prelude.{IfErr}
 use Rattle.cube_view.specs.declared.schema.Schema.{Schema}
+use Rattle.outer_io.specs.Files.{Files, file_or_empty}
 use Rattle.outer_io.specs.Told.{Told}
 use Rattle.query_syntax.specs.declared.query.Parsed.{Parsed}
+use Rattle.run_files.specs.Outside.{file_of}
 use Rattle.share_replies.specs.Shares.{AreShares, IsShare, Share, joined_shares, nothing, together}
+use Rattle.share_replies.specs.Sums.{AddsFile, IsInnocentFile, SumsOver}
+use Rattle.share_replies.specs.declared.fault.FileFault.{FileFault}
+use Rattle.share_replies.specs.declared.summed.Summed.{Summed}
 
 -- a file that is told is what was read of it
 pub told_is : (file : Option (List ℕ)) (bytes all : List ℕ) → Told file (λ own. bytes ≡ own) → file ≡ Some all → bytes ≡ all
@@ -59,3 +65,15 @@ module _ {A : Type 0} (schema : Schema) (ps : List Parsed) (f : List ℕ → Lis
   front_of shares are =
       front_shares schema ps shares (map f (map g (take (i + 1) names))) (map f (map g (drop (i + 1) names)))
       (subst (AreShares schema ps shares) (ap (λ xs. map f (map g xs)) (sym (take-append-drop (i + 1) names)) ∙ texts-append f g (take (i + 1) names) (drop (i + 1) names)) are)
+
+-- what the replies of one share more leave, in files that are told
+module _ {A : Type 0} (schema : Schema) (ps : List Parsed) (files : Files) (g : A → List ℕ) (names : List A) (i : ℕ) (n : A) (at : take (i + 1) names ≡ take i names ++ n ∷ []) where
+  pub file_adds : (shares : List Share) (sums own : List (Option Summed)) (now : Option Files) (name : List ℕ) (result : Result (List (Option Summed)) FileFault) → own ≡ sums → now ≡ Some files → name ≡ g n
+      → AreShares schema ps shares (map (file_or_empty files) (map g (take (i + 1) names))) → ((before : List Share) → AreShares schema ps before (map (file_or_empty files) (map g (take i names))) → SumsOver schema (together before) ps sums)
+      → AddsFile schema ps own (file_of now name) result → IfOk result (SumsOver schema (together shares) ps) × IfErr result IsInnocentFile
+  file_adds shares sums own now name result same told is are so_far adds =
+      let last = last_of schema ps (file_or_empty files) g names i n at shares are in
+      let before = subst (λ (sums : List (Option Summed)). SumsOver schema (together last.before) ps sums) (sym same) (so_far last.before last.are) in
+      let here : file_of now name ≡ Some (file_or_empty files (g n)) = λ j. file_of (told j) (is j) in
+      let added = adds (together last.before) last.last (file_or_empty files (g n)) here before last.is in
+      (subst (λ (s : Share). IfOk result (SumsOver schema s ps)) (sym last.all) added.0, added.1)

@@ -1,10 +1,14 @@
 -- The sums so far, while the lines of a share are added.
-use Rattle.std.proofs.Common.{◌≡◌, ℕ, ◌+◌, ◌<◌, ◌≤◌, List, [], ◌∷◌, ◌++◌, length, take, drop, get_or, Option, sym, ◌∙◌, ap, subst, take_all}
+use Rattle.std.proofs.Common.{◌≡◌, ℕ, ◌+◌, ◌<◌, ◌≤◌, List, [], ◌∷◌, ◌++◌, length, take, drop, get_or, Option, Result, IfOk, sym, ◌∙◌, ap, subst, take_all}
+use Rattle.std.specs.Prelude.{IfErr}
 use Rattle.std.proofs.lemmas.List.{drop_all, take_more}
 use Rattle.cube_view.specs.declared.schema.Schema.{Schema}
 use Rattle.query_syntax.specs.declared.query.Parsed.{Parsed}
+use Rattle.reply_sums.proofs.RowSums.{drop_at}
 use Rattle.share_replies.specs.Shares.{IsShare, Share, joined_shares}
-use Rattle.share_replies.specs.Sums.{AnswersText, IsSumOver, SumsOver}
+use Rattle.share_replies.specs.Sums.{AddsLine, AnswersText, IsInnocentLine, IsSumOver, SumsOver}
+use Rattle.share_replies.specs.declared.fault.LineFault.{LineFault}
+use Rattle.share_replies.specs.declared.line.Added.{Added}
 use Rattle.share_replies.specs.declared.summed.Summed.{Summed}
 
 -- the items up to a place and the one there
@@ -29,20 +33,17 @@ module _ (schema : Schema) where
     pub going_first : (text : List ℕ) → SumsOver schema g ps sums → IsShare schema ps s text → Going 0 [] text
     going_first text all (replies, transcript, is) = record { done = tt; left = all; answers = (replies, transcript.each, is) }
 
-    module _ (i : ℕ) (next : List (Option Summed)) (rest : List ℕ) (p : Parsed) (sum : Option Summed) (first : drop i ps ≡ p ∷ drop (i + 1) ps) (second : drop i sums ≡ sum ∷ drop (i + 1) sums) (going : Going i next rest) where
+    module _ (i : ℕ) (next : List (Option Summed)) (rest : List ℕ) (p : Parsed) (sum : Option Summed) (first : p ≡ get_or ps i p) (second : sum ≡ get_or sums i sum) (in_asked : i < length ps) (in_sums : i < length sums) (going : Going i next rest) where
       heads : SumsOver schema g (p ∷ drop (i + 1) ps) (sum ∷ drop (i + 1) sums)
-      heads = subst (λ (qs : List Parsed). SumsOver schema g qs (sum ∷ drop (i + 1) sums)) first (subst (SumsOver schema g (drop i ps)) second going.left)
+      heads = subst (λ (qs : List Parsed). SumsOver schema g qs (sum ∷ drop (i + 1) sums)) (drop_at ps i p first in_asked) (subst (SumsOver schema g (drop i ps)) (drop_at sums i sum second in_sums) going.left)
 
-      -- the next sum, and the lines from the next on
-      pub sum_here : IsSumOver schema g p sum
-      sum_here = heads.0
+      -- what the next line leaves: the sum with its reply, and the lines after it
+      pub line_adds : (result : Result Added LineFault) → AddsLine p sum rest result → IfOk result (λ added. IsSumOver schema (joined_shares g s) p added.sum × AnswersText schema s (drop (i + 1) ps) added.rest.now) × IfErr result IsInnocentLine
+      line_adds result adds = adds schema g s (drop (i + 1) ps) heads.0 (subst (λ (qs : List Parsed). AnswersText schema s qs rest) (drop_at ps i p first in_asked) going.answers)
 
-      pub answers_here : AnswersText schema s (p ∷ drop (i + 1) ps) rest
-      answers_here = subst (λ (qs : List Parsed). AnswersText schema s qs rest) first going.answers
-
-      pub going_on : (total : Option Summed) (more : List ℕ) → take (i + 1) ps ≡ take i ps ++ p ∷ [] → IsSumOver schema (joined_shares g s) p total → AnswersText schema s (drop (i + 1) ps) more → Going (i + 1) (next ++ total ∷ []) more
-      going_on total more front is answers = record {
-        done = subst (λ (qs : List Parsed). SumsOver schema (joined_shares g s) qs (next ++ total ∷ [])) (sym front) (sums_push (joined_shares g s) (take i ps) next p total going.done is);
+      pub going_on : (total : Option Summed) (more : List ℕ) → IsSumOver schema (joined_shares g s) p total → AnswersText schema s (drop (i + 1) ps) more → Going (i + 1) (next ++ total ∷ []) more
+      going_on total more is answers = record {
+        done = subst (λ (qs : List Parsed). SumsOver schema (joined_shares g s) qs (next ++ total ∷ [])) (sym (take_at_item ps i p first in_asked)) (sums_push (joined_shares g s) (take i ps) next p total going.done is);
         left = heads.1;
         answers = answers;
       }

@@ -11,9 +11,13 @@
 #![tactic(auto)]
 
 #[cfg(test)]
+mod cases;
+#[cfg(test)]
 mod cross_tests;
 #[cfg(test)]
 mod drill_tests;
+#[cfg(test)]
+mod rows;
 #[cfg(test)]
 mod total_tests;
 #[cfg(test)]

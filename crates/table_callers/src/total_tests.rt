@@ -2,8 +2,9 @@
 ghost use Rattle.std.specs.Prelude.{◌≡◌, ◌+◌, ◌≤◌};
 ghost use Rattle.probe_core.specs.Blanks.{IsBlankOf};
 
-use cube_view::{CubeView, Point, Schema, Tile};
-use example_cubes::{cube_of, of_all_records, three_records, weighing};
+use crate::cases::{Case, check, first_missed, two_weights};
+use cube_view::{CubeView, Tile};
+use example_cubes::{of_all_records, three_records};
 use example_schemas::{point, schema_of_kinds, schema_of_two_categories};
 use outer_io::NoMemory;
 use plain_cube::PlainCube;
@@ -30,52 +31,18 @@ fn total_of_line<V: CubeView, L: Ledger>(
 }
 
 /// A line, and the total that it asks for.
-type Case = (&'static str, u64);
+type Total = (&'static str, u64);
 
-/// Whether the line asks for a total, which is this.
-fn holds<L: Ledger>(alloc: Global, cube: &PlainCube, case: &Case, steps: &mut Steps<L>) -> bool {
-    match total_of_line(alloc, cube, case.0, steps) {
-        Ok(Some(total)) => total == case.1,
-        _ => false,
-    }
-}
-
-/// The place of the first line whose total is another one.
-fn first_missed_in<L: Ledger>(
-    alloc: Global,
-    cube: &PlainCube,
-    cases: &[Case],
-    blank: Blank,
-) -> Option<usize>
-    requires { IsBlankOf L.name L.parts blank }
-{
-    let mut steps = Steps::<L>::new(blank);
-    for (at, case) in cases.iter().enumerate() {
-        if !holds(alloc, cube, case, &mut steps) {
-            return Some(at);
+impl Case for Total {
+    fn holds<L: Ledger>(&self, alloc: Global, cube: &PlainCube, steps: &mut Steps<L>) -> bool {
+        match total_of_line(alloc, cube, self.0, steps) {
+            Ok(Some(total)) => total == self.1,
+            _ => false,
         }
     }
-    None
 }
 
-fn first_missed(alloc: Global, cube: &PlainCube, cases: &[Case]) -> Option<usize> {
-    first_missed_in::<Brand>(alloc, cube, cases, Blank::new(1))
-}
-
-/// Over a cube of these points each line has its total.
-fn check(
-    rt: &impl Abort,
-    alloc: Global,
-    schema: Schema,
-    points: &[Point],
-    cases: &[Case],
-) -> Result<(), Fail> {
-    let cube = cube_of(alloc, schema, points)?;
-    assert_eq!(rt; first_missed(alloc, &cube, cases), None);
-    Ok(())
-}
-
-const OF_THREE: [Case; 8] = [
+const OF_THREE: [Total; 8] = [
     ("count", 3),
     ("count in 1/0/0", 2),
     ("count in 3/7/7", 1),
@@ -93,7 +60,7 @@ fn counts_three_records(rt: HostRuntime) -> Result<(), Fail> {
     Ok(())
 }
 
-const OF_TWO_CATEGORIES: [Case; 4] = [
+const OF_TWO_CATEGORIES: [Total; 4] = [
     ("count with m=c", 2),
     ("count with k=a with m=d", 1),
     ("count with k=b", 0),
@@ -109,7 +76,7 @@ fn counts_by_two_categories(rt: HostRuntime) -> Result<(), Fail> {
     check(&rt, rt.alloc(), schema, &points, &OF_TWO_CATEGORIES)
 }
 
-const OF_WEIGHTS: [Case; 3] = [
+const OF_WEIGHTS: [Total; 3] = [
     ("count", 7),
     ("count in 1/0/0", 5),
     ("count with kind=b", 2),
@@ -117,15 +84,11 @@ const OF_WEIGHTS: [Case; 3] = [
 
 #[test]
 fn a_total_is_the_sum_of_weights(rt: HostRuntime) -> Result<(), Fail> {
-    let points = [
-        weighing(point(0, 0, 0, 0), 5),
-        weighing(point(7, 7, 1, 1), 2),
-    ];
     let schema = schema_of_kinds(rt.alloc())?;
-    check(&rt, rt.alloc(), schema, &points, &OF_WEIGHTS)
+    check(&rt, rt.alloc(), schema, &two_weights(), &OF_WEIGHTS)
 }
 
-const OF_NONE: [Case; 2] = [("count", 0), ("count in 3/0/0 with kind=a", 0)];
+const OF_NONE: [Total; 2] = [("count", 0), ("count in 3/0/0 with kind=a", 0)];
 
 #[test]
 fn a_cube_of_no_points_has_no_total(rt: HostRuntime) -> Result<(), Fail> {

@@ -4,13 +4,15 @@ ghost use Rattle.probe_core.specs.Blanks.{IsBlankOf};
 ghost use Rattle.query_syntax.specs.Verbs.{is_window};
 ghost use Rattle.table_callers.specs.Windows.{window_query};
 
+use crate::cases::{Case, check, first_missed, two_weights};
+use crate::rows::{Row, is_table};
 use cube_view::{CubeView, Schema, Tile};
-use example_cubes::{cube_of, three_records, tile, weighing};
+use example_cubes::{three_records, tile};
 use example_schemas::{point, schema_of_kinds};
 use outer_io::{List, NoMemory};
 use plain_cube::PlainCube;
 use probe_core::Steps;
-use query_syntax::{Choice, Query, Rect, RowOut, Span, Table, ValueSet, Verb, is_valid_query};
+use query_syntax::{Choice, Query, Rect, Span, ValueSet, Verb, is_valid_query};
 use std::alloc::Global;
 use std::marker::Brand;
 use std::process::Abort;
@@ -144,10 +146,10 @@ fn filters_of(of: Of) -> (Choice, Span) {
 }
 
 /// The records, x0, y0, x1 and y1 of the rectangle, and the total.
-type Case = (Of, [u32; 4], u64);
+type Window = (Of, [u32; 4], u64);
 
 /// The query of a case.
-fn query_of(case: &Case) -> Query
+fn query_of(case: &Window) -> Query
     ensures { IsTrue (is_window result.verb) }
 {
     let (kind, time) = filters_of(case.0);
@@ -155,49 +157,21 @@ fn query_of(case: &Case) -> Query
     window_of(kind, time, Rect { x0, y0, x1, y1 })
 }
 
-/// Whether the table's one row is the total.
-fn is_total(table: &Table, total: u64) -> bool {
-    match table.rows.as_slice() {
-        [RowOut::One(found)] => *found == total,
-        _ => false,
-    }
-}
-
-/// Whether the window is valid, and has the total.
-fn holds<L: Ledger>(alloc: Global, cube: &PlainCube, case: &Case, steps: &mut Steps<L>) -> bool {
-    let query = query_of(case);
-    if !is_valid_query(cube.schema(), &query) {
-        return false;
-    }
-    match window_answer(alloc, cube, &query, steps) {
-        Ok(table) => table.seen == cube.seen() && is_total(&table, case.2),
-        Err(NoMemory) => false,
-    }
-}
-
-/// The place of the first window that has another total.
-fn first_missed_in<L: Ledger>(
-    alloc: Global,
-    cube: &PlainCube,
-    cases: &[Case],
-    blank: Blank,
-) -> Option<usize>
-    requires { IsBlankOf L.name L.parts blank }
-{
-    let mut steps = Steps::<L>::new(blank);
-    for (at, case) in cases.iter().enumerate() {
-        if !holds(alloc, cube, case, &mut steps) {
-            return Some(at);
+/// The window is valid, and the total is the one row of its table.
+impl Case for Window {
+    fn holds<L: Ledger>(&self, alloc: Global, cube: &PlainCube, steps: &mut Steps<L>) -> bool {
+        let query = query_of(self);
+        if !is_valid_query(cube.schema(), &query) {
+            return false;
+        }
+        match window_answer(alloc, cube, &query, steps) {
+            Ok(table) => is_table(&table, cube.seen(), &[Row::One(self.2)]),
+            Err(NoMemory) => false,
         }
     }
-    None
 }
 
-fn first_missed(alloc: Global, cube: &PlainCube, cases: &[Case]) -> Option<usize> {
-    first_missed_in::<Brand>(alloc, cube, cases, Blank::new(1))
-}
-
-const OF_THREE: [Case; 8] = [
+const OF_THREE: [Window; 8] = [
     (Of::All, [0, 0, 4, 4], 2),
     (Of::All, [1, 0, 8, 8], 1),
     (Of::All, [2, 2, 2, 8], 0),
@@ -215,7 +189,7 @@ fn counts_windows_of_three_records(rt: HostRuntime) -> Result<(), Fail> {
     Ok(())
 }
 
-const OF_DEEPEST: [Case; 7] = [
+const OF_DEEPEST: [Window; 7] = [
     (Of::All, [0, 0, LAST + 1, LAST + 1], 3),
     (Of::All, [1, 0, LAST + 1, LAST + 1], 2),
     (Of::All, [1, 1, LAST, LAST], 1),
@@ -233,12 +207,10 @@ fn counts_windows_at_the_deepest_level(rt: HostRuntime) -> Result<(), Fail> {
         point(HALF - 1, HALF, 0, 0),
     ];
     let schema = Schema::new(20, List::new(rt.alloc()), 0, 1, 1, None);
-    let cube = cube_of(rt.alloc(), schema, &points)?;
-    assert_eq!(rt; first_missed(rt.alloc(), &cube, &OF_DEEPEST), None);
-    Ok(())
+    check(&rt, rt.alloc(), schema, &points, &OF_DEEPEST)
 }
 
-const FILTERED: [Case; 5] = [
+const FILTERED: [Window; 5] = [
     (Of::Kind(0), [0, 0, 8, 8], 2),
     (Of::Kind(1), [0, 0, 7, 7], 0),
     (Of::Kind(1), [1, 1, 8, 8], 1),
@@ -253,7 +225,7 @@ fn counts_what_the_filters_ask_for(rt: HostRuntime) -> Result<(), Fail> {
     Ok(())
 }
 
-const OF_WEIGHTS: [Case; 3] = [
+const OF_WEIGHTS: [Window; 3] = [
     (Of::All, [0, 0, 8, 8], 7),
     (Of::All, [0, 0, 7, 7], 5),
     (Of::All, [1, 1, 8, 8], 2),
@@ -261,16 +233,11 @@ const OF_WEIGHTS: [Case; 3] = [
 
 #[test]
 fn a_window_is_the_sum_of_weights(rt: HostRuntime) -> Result<(), Fail> {
-    let points = [
-        weighing(point(0, 0, 0, 0), 5),
-        weighing(point(7, 7, 1, 1), 2),
-    ];
-    let cube = cube_of(rt.alloc(), schema_of_kinds(rt.alloc())?, &points)?;
-    assert_eq!(rt; first_missed(rt.alloc(), &cube, &OF_WEIGHTS), None);
-    Ok(())
+    let schema = schema_of_kinds(rt.alloc())?;
+    check(&rt, rt.alloc(), schema, &two_weights(), &OF_WEIGHTS)
 }
 
-const OF_NONE: [Case; 2] = [(Of::All, [0, 0, 8, 8], 0), (Of::Kind(0), [1, 0, 8, 8], 0)];
+const OF_NONE: [Window; 2] = [(Of::All, [0, 0, 8, 8], 0), (Of::Kind(0), [1, 0, 8, 8], 0)];
 
 #[test]
 fn a_cube_of_no_points_has_empty_windows(rt: HostRuntime) -> Result<(), Fail> {

@@ -3,7 +3,7 @@ use Rattle.query_syntax.specs.declared.table.RowOut.{RowOut}
 use Rattle.reply_sums.specs.Numbers.{are_rows_great}
 use Rattle.reply_sums.specs.Rows.{sum_rows}
 use Rattle.reply_sums.proofs.Great.{fits_push}
-use Rattle.reply_sums.proofs.RowSums.{after_none, after_sums, drop_at, rows_apart, sum_step}
+use Rattle.reply_sums.proofs.RowSums.{after_none, after_sums, rows_apart, sum_step}
 use Rattle.reply_sums.proofs.rows.add_rows.Goals as goal
 
 pub returns-then-rows-others-clause-none : goal.returns-then-rows-others-clause-none
@@ -17,14 +17,11 @@ loop-i-init c = record {
 
 pub loop-i-preserved : goal.loop-i-preserved
 loop-i-preserved c =
-    let rows = c.args.rows.now in
-    let others = c.args.others.now in
-    let first = drop_at rows c.loop-i.i c.index-rows-i.result c.index-rows-i.is (omega arith) in
-    let second = drop_at others c.loop-i.i c.index-others-i.result c.index-others-i.is (omega arith) in
+    let step =
+    sum_step c.args.rows.now c.args.others.now c.loop-i.i c.index-rows-i.result c.index-others-i.result c.index-rows-i.is c.index-others-i.is (omega arith) (omega arith)
+    c.loop-i.sums c.in_ok-sum.sum c.in_ok-sum.ensures.sum
+    in
     record {
-      later =
-          ap (λ (s : List RowOut). after_sums s (sum_rows (drop (c.loop-i.i + 1) rows) (drop (c.loop-i.i + 1) others))) c.in_ok-add.ensures.added
-          ∙ sym (sum_step rows others c.loop-i.sums c.loop-i.i c.index-rows-i.result c.index-others-i.result first second c.in_ok-sum.sum c.in_ok-sum.ensures.sum)
-          ∙ c.loop-i.invariant.later;
+      later = ap (λ (s : List RowOut). after_sums s (sum_rows (drop (c.loop-i.i + 1) c.args.rows.now) (drop (c.loop-i.i + 1) c.args.others.now))) c.in_ok-add.ensures.added ∙ sym step ∙ c.loop-i.invariant.later;
       fits = ap are_rows_great c.in_ok-add.ensures.added ∙ fits_push c.loop-i.sums c.in_ok-sum.sum c.loop-i.invariant.fits c.in_ok-sum.ensures.fits;
     }

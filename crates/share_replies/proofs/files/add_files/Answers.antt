@@ -1,13 +1,13 @@
-use Rattle.std.proofs.Common.{◌≡◌, List, Option, Err, map, take, refl, sym, ◌∙◌, ap, subst, arith, Some}
+use Rattle.std.proofs.Common.{List, Option, Ok, Err, map, take, refl, sym, ◌∙◌, ap, subst, arith}
 use Rattle.std.specs.Prelude.{string_bytes}
 use Rattle.outer_io.specs.Files.{file_or_empty}
 use Rattle.run_files.specs.Outside.{file_of, of_place}
 use Rattle.outer_io.specs.Told.{Told}
 use Rattle.share_replies.specs.Refusals.{IsRight, IsWrongAt, totals_of}
-use Rattle.share_replies.specs.Shares.{Share, together}
+use Rattle.share_replies.specs.Shares.{Share}
 use Rattle.share_replies.specs.Sums.{SumsOver}
 use Rattle.share_replies.specs.declared.summed.Summed.{Summed}
-use Rattle.share_replies.proofs.FileSums.{front_of, last_of, no_shares}
+use Rattle.share_replies.proofs.FileSums.{file_adds, front_of, no_shares}
 use Rattle.share_replies.proofs.RightFiles.{at_share, first_wrong, right_all, right_more, same_share, told_none}
 use Rattle.share_replies.proofs.TextSums.{take_at_item}
 use Rattle.share_replies.specs.Causes.{ReadsFront}
@@ -26,31 +26,24 @@ loop-i-init g c = record {
 pub returns-in-Err-clause-law : goal.returns-in-Err-clause-law
 returns-in-Err-clause-law g c schema files shares told all are =
     let asked = c.args.asked.now in
-    let names = c.args.names.now in
-    let i = c.loop-i.i in
     let n = c.index-names-i.result in
-    let at = take_at_item names i n c.index-names-i.is (omega arith) in
-    let front = front_of schema asked (file_or_empty files) string_bytes names i n at shares are in
-    let last = last_of schema asked (file_or_empty files) string_bytes names i n at front.0 front.1 in
-    let so_far = c.loop-i.invariant.law schema files last.before told all last.are in
-    let here : file_of (g.P.Place.files c.loop-i.place) c.as_str.result.now ≡ Some (file_or_empty files (string_bytes n)) = λ j. file_of ((c.loop-i.invariant.files ∙ told) j) (c.as_str.ensures.value j) in
-    let before = subst (λ (sums : List (Option Summed)). SumsOver schema (together last.before) asked sums) (sym c.as_slice.ensures) so_far in
-    (tt, c.fault_of_share.ensures.innocent (c.in-Err.ensures.law schema (together last.before) last.last (file_or_empty files (string_bytes n)) here before last.is).1)
+    let at = take_at_item c.args.names.now c.loop-i.i n c.index-names-i.is (omega arith) in
+    let front = front_of schema asked (file_or_empty files) string_bytes c.args.names.now c.loop-i.i n at shares are in
+    let added =
+    file_adds schema asked files string_bytes c.args.names.now c.loop-i.i n at front.0 c.loop-i.sums c.as_slice.result.now (g.P.Place.files c.loop-i.place) c.as_str.result.now (Err c.in-Err.fault)
+    c.as_slice.ensures (c.loop-i.invariant.files ∙ told) c.as_str.ensures.value front.1 (λ before. c.loop-i.invariant.law schema files before told all) (c.in-Err.ensures.law schema)
+    in
+    (tt, c.fault_of_share.ensures.innocent added.1)
 
 pub loop-i-preserved : goal.loop-i-preserved
 loop-i-preserved g c = record {
   law = λ schema files shares told all are.
-      let asked = c.args.asked.now in
-      let names = c.args.names.now in
-      let i = c.loop-i.i in
-      let n = c.index-names-i.result in
-      let at = take_at_item names i n c.index-names-i.is (omega arith) in
-      let last = last_of schema asked (file_or_empty files) string_bytes names i n at shares are in
-      let so_far = c.loop-i.invariant.law schema files last.before told all last.are in
-      let here : file_of (g.P.Place.files c.loop-i.place) c.as_str.result.now ≡ Some (file_or_empty files (string_bytes n)) = λ j. file_of ((c.loop-i.invariant.files ∙ told) j) (c.as_str.ensures.value j) in
-      let before = subst (λ (sums : List (Option Summed)). SumsOver schema (together last.before) asked sums) (sym c.as_slice.ensures) so_far in
-      let added = (c.in-Ok.ensures.law schema (together last.before) last.last (file_or_empty files (string_bytes n)) here before last.is).0 in
-      subst (λ (s : Share). SumsOver schema s asked c.in-Ok.next) (sym last.all) added;
+      let at = take_at_item c.args.names.now c.loop-i.i c.index-names-i.result c.index-names-i.is (omega arith) in
+      let added =
+      file_adds schema c.args.asked.now files string_bytes c.args.names.now c.loop-i.i c.index-names-i.result at shares c.loop-i.sums c.as_slice.result.now (g.P.Place.files c.loop-i.place) c.as_str.result.now (Ok c.in-Ok.next)
+      c.as_slice.ensures (c.loop-i.invariant.files ∙ told) c.as_str.ensures.value are (λ before. c.loop-i.invariant.law schema files before told all) (c.in-Ok.ensures.law schema)
+      in
+      added.0;
   right =
       let asked = c.args.asked.now in
       let names = c.args.names.now in

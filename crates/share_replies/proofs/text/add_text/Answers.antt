@@ -1,4 +1,4 @@
-use Rattle.std.proofs.Common.{◌≡◌, ◌+◌, List, Option, Err, ◌∷◌, [], ◌∙◌, ap, sym, subst, drop, length, arith, length-append, ℕ}
+use Rattle.std.proofs.Common.{◌≡◌, ◌+◌, List, Option, Ok, Err, ◌∷◌, [], ◌∙◌, ap, sym, subst, drop, length, arith, length-append, ℕ}
 use Rattle.std.specs.Prelude.{◌==◌}
 use Rattle.std.proofs.lemmas.Bool.{false≢true}
 use Rattle.std.proofs.lemmas.List.{drop_all, length-take-le, map-append, take_all}
@@ -8,20 +8,16 @@ use Rattle.share_replies.specs.Refusals.{total_of_sum, totals_of}
 use Rattle.share_replies.specs.declared.summed.Summed.{Summed}
 use Rattle.share_replies.proofs.LineSums.{no_items, some_items}
 use Rattle.share_replies.proofs.Refusing.{HasRead, at_line, line_of, nothing_left, read_all, read_more, read_none, read_wrong, totals_at}
-use Rattle.share_replies.proofs.TextSums.{Going, answers_here, going_all, going_first, going_on, sum_here, take_at_item}
+use Rattle.share_replies.proofs.TextSums.{Going, going_all, going_first, going_on, line_adds, take_at_item}
 use Rattle.share_replies.proofs.text.add_text.Goals as goal
 
 pub returns-in-Err-clause-law : goal.returns-in-Err-clause-law
 returns-in-Err-clause-law c schema g s all share =
-    let asked = c.args.asked.now in
-    let sums = c.args.sums.now in
-    let i = c.loop-i.i in
-    let going = c.loop-i.invariant.law schema g s all share in
-    let first = drop_at asked i c.index-asked-i.result c.index-asked-i.is (omega arith) in
-    let second = drop_at sums i c.index-sums-i.result c.index-sums-i.is (omega (arith, c.requires.size)) in
-    let here = sum_here schema g s asked sums i c.loop-i.next c.loop-i.rest.now c.index-asked-i.result c.index-sums-i.result first second going in
-    let answers = answers_here schema g s asked sums i c.loop-i.next c.loop-i.rest.now c.index-asked-i.result c.index-sums-i.result first second going in
-    (tt, c.fault_after.ensures.innocent (c.in-Err.ensures.law schema g s (drop (i + 1) asked) here answers).1)
+    let added =
+    line_adds schema g s c.args.asked.now c.args.sums.now c.loop-i.i c.loop-i.next c.loop-i.rest.now c.index-asked-i.result c.index-sums-i.result c.index-asked-i.is c.index-sums-i.is (omega arith) (omega (arith, c.requires.size))
+    (c.loop-i.invariant.law schema g s all share) (Err c.in-Err.fault) c.in-Err.ensures.law
+    in
+    (tt, c.fault_after.ensures.innocent added.1)
 
 pub loop-i-preserved : goal.loop-i-preserved
 loop-i-preserved c = record {
@@ -29,15 +25,12 @@ loop-i-preserved c = record {
       let asked = c.args.asked.now in
       let sums = c.args.sums.now in
       let i = c.loop-i.i in
+      let p = c.index-asked-i.result in
+      let sum = c.index-sums-i.result in
       let going = c.loop-i.invariant.law schema g s all share in
-      let first = drop_at asked i c.index-asked-i.result c.index-asked-i.is (omega arith) in
-      let second = drop_at sums i c.index-sums-i.result c.index-sums-i.is (omega (arith, c.requires.size)) in
-      let here = sum_here schema g s asked sums i c.loop-i.next c.loop-i.rest.now c.index-asked-i.result c.index-sums-i.result first second going in
-      let answers = answers_here schema g s asked sums i c.loop-i.next c.loop-i.rest.now c.index-asked-i.result c.index-sums-i.result first second going in
-      let front = take_at_item asked i c.index-asked-i.result c.index-asked-i.is (omega arith) in
-      let added = (c.in-Ok.ensures.law schema g s (drop (i + 1) asked) here answers).0 in
+      let added = (line_adds schema g s asked sums i c.loop-i.next c.loop-i.rest.now p sum c.index-asked-i.is c.index-sums-i.is (omega arith) (omega (arith, c.requires.size)) going (Ok c.in-Ok.field-0) c.in-Ok.ensures.law).0 in
       subst (λ (next : List (Option Summed)). Going schema g s asked sums (i + 1) next c.in-Ok.field-0.rest.now) (sym c.in_ok-add-in-Ok.ensures.added)
-      (going_on schema g s asked sums i c.loop-i.next c.loop-i.rest.now c.index-asked-i.result c.index-sums-i.result first second going c.in-Ok.field-0.sum c.in-Ok.field-0.rest.now front added.0 added.1);
+      (going_on schema g s asked sums i c.loop-i.next c.loop-i.rest.now p sum c.index-asked-i.is c.index-sums-i.is (omega arith) (omega (arith, c.requires.size)) going c.in-Ok.field-0.sum c.in-Ok.field-0.rest.now added.0 added.1);
   read =
       let asked = c.args.asked.now in
       let sums = c.args.sums.now in
