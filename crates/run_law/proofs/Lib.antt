@@ -3,7 +3,9 @@ mod Feeders
 mod Hearing
 mod Lanes
 mod Openings
+mod Places
 mod SessionSteps
 mod StepLaws
 mod Takings
+mod Turns
 mod Works

@@ -18,9 +18,10 @@ use Rattle.query_syntax.specs.declared.query.Query.{Query}
 use Rattle.world_core.specs.Interleaving.{entry_points}
 use Rattle.world_core.specs.Machine.{is_possible, after_events}
 use Rattle.world_core.specs.declared.event.Event.TheVariants as event
+use Rattle.world_core.specs.declared.world.Shot.{Shot}
 use Rattle.world_core.specs.declared.world.World.{World}
 use Rattle.run_law.specs.Moves.{TellsSession, PutsMail, Asks, Learns, Looks, LearnsEnd, with_session, having_looked, count_all, looked}
-use Rattle.run_law.specs.Standing.{HasHeard, KeepsRun, StandsWith}
+use Rattle.run_law.specs.Standing.{HasHeard, StandsWith}
 use Rattle.run_law.specs.Views.{RunView, SessionView, seen_by, told_to}
 use Rattle.run_law.proofs.Hearing.{last_length-push, heard_told, heard_learned, heard_shown, heard_put, heard_asked, taken_last_few, heard_at, heard_set}
 use Rattle.run_law.proofs.StepLaws.{occurs, count_points}
@@ -69,27 +70,30 @@ module _ (lists : List (List Point)) (a : RunView) (w : World) (stands : StandsW
   same_in_place : (count : SessionView → ℕ) (now : SessionView) → count now ≡ count session → map count (set a.sessions s now) ≡ map count a.sessions
   same_in_place count now same = map-set_same count a.sessions s now session (same ∙ ap count (sym (get_or_from_slice_get a.sessions s session session at)))
 
-  keeps_with : (now : SessionView) → HasHeard a.builder.published now → KeepsRun (with_session a s now)
-  keeps_with now heard = record {
-    lane = stands.keeps.lane;
-    published = stands.keeps.published;
-    heard = heard_set a.builder.published a.sessions s now heard stands.keeps.heard;
-  }
-
-  -- where it has seen and was told of as much
-  pub stays : (now : SessionView) → HasHeard a.builder.published now → seen_by now ≡ seen_by session → told_to now ≡ told_to session → StandsWith lists (with_session a s now) w
-  stays now heard seen told = record {
+  -- only it changes, and what looks gave, on its part and the machine's
+  session_stands : (now : SessionView) (shots : List Shot) {seen told : List ℕ} {given : List Shot} → HasHeard a.builder.published now
+      → seen ≡ map seen_by (set a.sessions s now) → told ≡ map told_to (set a.sessions s now) → given ≡ shots
+      → StandsWith lists (record (with_session a s now) { shots = shots }) (record w { seen = seen; told = told; shots = given })
+  session_stands now shots heard seen told given = record {
     count = stands.count;
     rest = stands.rest;
     queue = stands.queue;
     drawn = stands.drawn;
     journal = stands.journal;
-    seen = stands.seen ∙ sym (same_in_place seen_by now seen);
-    told = stands.told ∙ sym (same_in_place told_to now told);
-    shots = stands.shots;
+    seen = seen;
+    told = told;
+    shots = given;
     skipped = stands.skipped;
-    keeps = keeps_with now heard;
+    keeps = record {
+      lane = stands.keeps.lane;
+      published = stands.keeps.published;
+      heard = heard_set a.builder.published a.sessions s now heard stands.keeps.heard;
+    };
   }
+
+  -- where it has seen and was told of as much
+  pub stays : (now : SessionView) → HasHeard a.builder.published now → seen_by now ≡ seen_by session → told_to now ≡ told_to session → StandsWith lists (with_session a s now) w
+  stays now heard seen told = session_stands now a.shots heard (stands.seen ∙ sym (same_in_place seen_by now seen)) (stands.told ∙ sym (same_in_place told_to now told)) stands.shots
 
   journal_size : length a.builder.published.points ≡ length w.journal
   journal_size = ap length stands.keeps.published ∙ count_points a.builder.journal ∙ ap length (sym stands.journal)
@@ -101,25 +105,14 @@ module _ (lists : List (List Point)) (a : RunView) (w : World) (stands : StandsW
       let known = within_told in
       let possible : is_possible schema room w (event.Tell s) ≡ true = grind (arith, nat_tests, known) in
       let size : length w.journal ≡ told_to now = sym (all ∙ journal_size) in
-      subst (StandsWith lists (with_session a s now)) (sym (occurs schema room n w (event.Tell s) possible)) (record {
-        count = stands.count;
-        rest = stands.rest;
-        queue = stands.queue;
-        drawn = stands.drawn;
-        journal = stands.journal;
-        seen = stands.seen ∙ sym (same_in_place seen_by now seen);
-        told = (λ i. set (stands.told i) s (size i)) ∙ sym (map-set told_to a.sessions s now);
-        shots = stands.shots;
-        skipped = stands.skipped;
-        keeps = keeps_with now heard;
-      })
+      subst (StandsWith lists (with_session a s now)) (sym (occurs schema room n w (event.Tell s) possible))
+      (session_stands now a.shots heard (stands.seen ∙ sym (same_in_place seen_by now seen)) ((λ i. set (stands.told i) s (size i)) ∙ sym (map-set told_to a.sessions s now)) stands.shots)
 
   -- where it looks
   pub looks : (schema : Schema) (room n : ℕ) (q : Query) (shown : Known) → is_valid_query schema q ≡ true → shown.points ≡ a.builder.published.points
       → StandsWith lists (having_looked schema a s session (looked q) shown) (after_events schema room n w (event.Look s (looked q) ∷ []))
   looks schema room n q shown valid is =
       let now = record session { shown = shown } in
-      let kept = keeps_with now (heard_shown a.builder.published session old shown) in
       let parts = looked_valid schema q valid in
       let known = within_seen in
       let there : ltb s (length w.seen) ≡ true = grind (arith, nat_tests, known) in
@@ -129,18 +122,11 @@ module _ (lists : List (List Point)) (a : RunView) (w : World) (stands : StandsW
       subst
       (StandsWith lists (having_looked schema a s session (looked q) shown))
       (sym (occurs schema room n w (event.Look s (looked q)) possible))
-      (record {
-        count = stands.count;
-        rest = stands.rest;
-        queue = stands.queue;
-        drawn = stands.drawn;
-        journal = stands.journal;
-        seen = (λ i. set (stands.seen i) s (size i)) ∙ sym (map-set seen_by a.sessions s now);
-        told = stands.told ∙ sym (same_in_place told_to now refl);
-        shots = (λ i. stands.shots i ++ record { session = s; table = table schema (looked q) (points i) } ∷ []);
-        skipped = stands.skipped;
-        keeps = record { lane = kept.lane; published = kept.published; heard = kept.heard };
-      })
+      (session_stands now (having_looked schema a s session (looked q) shown).shots
+      (heard_shown a.builder.published session old shown)
+      ((λ i. set (stands.seen i) s (size i)) ∙ sym (map-set seen_by a.sessions s now))
+      (stands.told ∙ sym (same_in_place told_to now refl))
+      (λ i. stands.shots i ++ record { session = s; table = table schema (looked q) (points i) } ∷ []))
 
 module _ (lists : List (List Point)) (a b : RunView) (w : World) (stands : StandsWith lists a w) (s : ℕ) where
   pub tells : TellsSession s a b → (schema : Schema) (room n : ℕ) → StandsWith lists b (after_events schema room n w (event.Tell s ∷ []))

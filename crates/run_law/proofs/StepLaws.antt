@@ -6,7 +6,7 @@ use Rattle.std.proofs.lemmas.List.{append-nil, append_cancel_left, length-map, l
 use Rattle.builder_core.specs.Builder.{BuilderState}
 use Rattle.cube_view.specs.Points.{Point}
 use Rattle.cube_view.specs.declared.schema.Schema.{Schema}
-use Rattle.feed_queue.specs.Ends.{FeedState, MaySend, having_sent, having_drawn, sent_lists}
+use Rattle.feed_queue.specs.Ends.{DrawState, FeedState, MaySend, having_sent, having_drawn, sent_lists}
 use Rattle.feed_queue.specs.Items.{entries_in}
 use Rattle.feed_queue.specs.declared.item.Item.{Item}
 use Rattle.feed_queue.specs.declared.item.Item.TheVariants.{One, End}
@@ -42,6 +42,24 @@ abbrev after_drawing : RunView → List Item → Item → RunView
 after_drawing a rest i = record a { queue = rest; draws = having_drawn a.draws i }
 
 module _ (lists : List (List Point)) (a : RunView) (w : World) (stands : StandsWith lists a w) where
+  -- only the lane changes, on its part and the machine's
+  lane_stands : (feeds : List FeedState) (queue : List Item) (draws : DrawState) {rest : List (List Point)} {queued pending : List Entry} → length rest ≡ length feeds
+      → ((f : ℕ) → 1 ≤ f → f ≤ length feeds → list_of lists f ≡ list_of (sent_lists feeds) f ++ list_of rest f) → queued ≡ entries_in queue → w.journal ++ pending ≡ entries_in draws.drawn
+      → ((f : ℕ) → 1 ≤ f → f ≤ length feeds → entries_of f (entries_in draws.drawn ++ entries_in queue) ≡ numbered f 0 (list_of (sent_lists feeds) f))
+      → StandsWith lists (record a { feeds = feeds; queue = queue; draws = draws }) (record w { rest = rest; queue = queued; pending = pending })
+  lane_stands feeds queue draws count rest queued drawn lane = record {
+    count = count;
+    rest = rest;
+    queue = queued;
+    drawn = drawn;
+    journal = stands.journal;
+    seen = stands.seen;
+    told = stands.told;
+    shots = stands.shots;
+    skipped = stands.skipped;
+    keeps = record { lane = lane; published = stands.keeps.published; heard = stands.keeps.heard };
+  }
+
   -- a feeder sends an entry
 
   module _ (f : ℕ) (end : FeedState) (e : Entry) (at : slice_get a.feeds (f - 1) ≡ Some end) (low : 1 ≤ f) (number : end.feeder ≡ f) (may : MaySend end (One e)) (go : GoOnFrom (after_sending a f end (One e)) lists) where
@@ -140,18 +158,14 @@ module _ (lists : List (List Point)) (a : RunView) (w : World) (stands : StandsW
         ∙ ap (λ points. sent_of b g ++ points) (sym (set_other w.rest f g left_over low l apart))
 
     pub entry_sent : (schema : Schema) (room n : ℕ) → length a.queue < room → StandsWith lists b (after_events schema room n w (event.Push f ∷ []))
-    entry_sent schema room n fits = subst (StandsWith lists b) (sym (occurs schema room n w (event.Push f) (possible schema room fits))) (record {
-      count = length-set w.rest (f - 1) left_over ∙ stands.count ∙ sym as_many;
-      rest = each_feeder (λ k. 1 ≤ k → k ≤ length b.feeds → list_of lists k ≡ sent_of b k ++ list_of (set w.rest (f - 1) left_over) k) f (λ _ _. rest_here) (λ k apart. rest_there k apart);
-      queue = (λ i. stands.queue i ++ next i) ∙ sym (entries_append a.queue (One e ∷ []));
-      drawn = stands.drawn;
-      journal = stands.journal;
-      seen = stands.seen;
-      told = stands.told;
-      shots = stands.shots;
-      skipped = stands.skipped;
-      keeps = record { lane = lane_then; published = stands.keeps.published; heard = stands.keeps.heard };
-    })
+    entry_sent schema room n fits =
+        subst (StandsWith lists b) (sym (occurs schema room n w (event.Push f) (possible schema room fits)))
+        (lane_stands b.feeds b.queue a.draws
+        (length-set w.rest (f - 1) left_over ∙ stands.count ∙ sym as_many)
+        (each_feeder (λ k. 1 ≤ k → k ≤ length b.feeds → list_of lists k ≡ sent_of b k ++ list_of (set w.rest (f - 1) left_over) k) f (λ _ _. rest_here) (λ k apart. rest_there k apart))
+        ((λ i. stands.queue i ++ next i) ∙ sym (entries_append a.queue (One e ∷ [])))
+        stands.drawn
+        lane_then)
 
   -- a feeder sends its End
   module _ (f m k : ℕ) (end : FeedState) (at : slice_get a.feeds (f - 1) ≡ Some end) (low : 1 ≤ f) where
@@ -168,64 +182,35 @@ module _ (lists : List (List Point)) (a : RunView) (w : World) (stands : StandsW
     same_queue = entries_append a.queue (End m k ∷ []) ∙ append-nil (entries_in a.queue)
 
     pub end_sent : StandsWith lists after_end w
-    end_sent = record {
-      count = stands.count ∙ sym same_count;
-      rest = λ g l h. stands.rest g l (let m = same_count in omega (arith, m, h)) ∙ ap (λ sents. list_of sents g ++ list_of w.rest g) (sym same_sent);
-      queue = stands.queue ∙ sym same_queue;
-      drawn = stands.drawn;
-      journal = stands.journal;
-      seen = stands.seen;
-      told = stands.told;
-      shots = stands.shots;
-      skipped = stands.skipped;
-      keeps = record {
-        lane = λ g l h.
-            ap (λ x. entries_of g (entries_in a.draws.drawn ++ x)) same_queue
-            ∙ stands.keeps.lane g l (let m = same_count in omega (arith, m, h))
-            ∙ ap (λ sents. numbered g 0 (list_of sents g)) (sym same_sent);
-        published = stands.keeps.published;
-        heard = stands.keeps.heard;
-      };
-    }
+    end_sent =
+        lane_stands after_end.feeds after_end.queue a.draws
+        (stands.count ∙ sym same_count)
+        (λ g l h. stands.rest g l (let m = same_count in omega (arith, m, h)) ∙ ap (λ sents. list_of sents g ++ list_of w.rest g) (sym same_sent))
+        (stands.queue ∙ sym same_queue)
+        stands.drawn
+        (λ g l h.
+        ap (λ x. entries_of g (entries_in a.draws.drawn ++ x)) same_queue
+        ∙ stands.keeps.lane g l (let m = same_count in omega (arith, m, h))
+        ∙ ap (λ sents. numbered g 0 (list_of sents g)) (sym same_sent))
 
   -- an item is drawn
-  keeps_drawn : (rest : List Item) (i : Item) → a.queue ≡ i ∷ rest → KeepsRun (after_drawing a rest i)
-  keeps_drawn rest i front = record {
-    lane = λ g l h. ap (entries_of g) (drawn_moves a.draws.drawn a.queue rest i front) ∙ stands.keeps.lane g l h;
-    published = stands.keeps.published;
-    heard = stands.keeps.heard;
-  }
+  lane_drawn : (rest : List Item) (i : Item) → a.queue ≡ i ∷ rest → (g : ℕ) → 1 ≤ g → g ≤ length a.feeds → entries_of g (entries_in (a.draws.drawn ++ i ∷ []) ++ entries_in rest) ≡ numbered g 0 (sent_of a g)
+  lane_drawn rest i front g l h = ap (entries_of g) (drawn_moves a.draws.drawn a.queue rest i front) ∙ stands.keeps.lane g l h
 
   pub entry_drawn : (rest : List Item) (e : Entry) → a.queue ≡ One e ∷ rest → (schema : Schema) (room n : ℕ) → StandsWith lists (after_drawing a rest (One e)) (after_events schema room n w (event.Pop ∷ []))
   entry_drawn rest e front schema room n =
       let q : w.queue ≡ e ∷ entries_in rest = stands.queue ∙ ap entries_in front in
       let possible : is_possible schema room w event.Pop ≡ true = let l = ap length q in grind (arith, nat_tests, l) in
-      subst (StandsWith lists (after_drawing a rest (One e))) (sym (occurs schema room n w event.Pop possible)) (record {
-        count = stands.count;
-        rest = stands.rest;
-        queue = ap (drop 1) q;
-        drawn = sym (append_assoc w.journal w.pending (take 1 w.queue)) ∙ (λ i. stands.drawn i ++ take 1 (q i)) ∙ sym (entries_append a.draws.drawn (One e ∷ []));
-        journal = stands.journal;
-        seen = stands.seen;
-        told = stands.told;
-        shots = stands.shots;
-        skipped = stands.skipped;
-        keeps = keeps_drawn rest (One e) front;
-      })
+      subst (StandsWith lists (after_drawing a rest (One e))) (sym (occurs schema room n w event.Pop possible))
+      (lane_stands a.feeds rest (having_drawn a.draws (One e)) stands.count stands.rest (ap (drop 1) q)
+      (sym (append_assoc w.journal w.pending (take 1 w.queue)) ∙ (λ i. stands.drawn i ++ take 1 (q i)) ∙ sym (entries_append a.draws.drawn (One e ∷ [])))
+      (lane_drawn rest (One e) front))
 
   pub end_drawn : (rest : List Item) (f k : ℕ) → a.queue ≡ End f k ∷ rest → StandsWith lists (after_drawing a rest (End f k)) w
-  end_drawn rest f k front = record {
-    count = stands.count;
-    rest = stands.rest;
-    queue = stands.queue ∙ ap entries_in front;
-    drawn = stands.drawn ∙ sym (append-nil (entries_in a.draws.drawn)) ∙ sym (entries_append a.draws.drawn (End f k ∷ []));
-    journal = stands.journal;
-    seen = stands.seen;
-    told = stands.told;
-    shots = stands.shots;
-    skipped = stands.skipped;
-    keeps = keeps_drawn rest (End f k) front;
-  }
+  end_drawn rest f k front =
+      lane_stands a.feeds rest (having_drawn a.draws (End f k)) stands.count stands.rest (stands.queue ∙ ap entries_in front)
+      (stands.drawn ∙ sym (append-nil (entries_in a.draws.drawn)) ∙ sym (entries_append a.draws.drawn (End f k ∷ [])))
+      (lane_drawn rest (End f k) front)
 
   -- the builder becomes another
 

@@ -1,5 +1,5 @@
 -- What the builder's work does is a run of steps.
-use Rattle.std.proofs.Common.{◌≡◌, ◌≢◌, ℕ, zero, suc, ◌+◌, ◌<◌, Bool, true, false, List, [], ◌∷◌, ◌++◌, length, map, set, Some, refl, sym, ap, ◌∙◌, subst, arith}
+use Rattle.std.proofs.Common.{◌≡◌, ◌≢◌, ℕ, zero, suc, ◌+◌, ◌<◌, Bool, true, false, List, [], ◌∷◌, ◌++◌, length, map, Some, refl, sym, ap, ◌∙◌, subst, arith}
 use Rattle.std.specs.Prelude.{slice_get, Result, Ok, Err}
 use Rattle.std.proofs.lemmas.Option.{none-some, same_Some}
 use Rattle.builder_core.specs.Builder.{BuilderState}
@@ -20,20 +20,7 @@ use Rattle.run_law.specs.Moves.{TakesItem, TellsSession, PutsMail, publishes, wi
 use Rattle.run_law.specs.Steps.{IsRunStep, AreRunSteps}
 use Rattle.run_law.specs.Views.{RunView, SessionView}
 use Rattle.run_law.specs.Works.{HasMail, ShowsWork, draw_step, take_step, tell_steps, answer_steps, work_steps, WorkIsSteps}
-
--- what stands in a list of which one element is replaced
-
-set_at_own : {X : Type 0} (xs : List X) (k : ℕ) (x y : X) → slice_get xs k ≡ Some x → slice_get (set xs k y) k ≡ Some y
-set_at_own [] k x y at = absurd (none-some x at)
-set_at_own (z ∷ xs) zero x y at = refl
-set_at_own (z ∷ xs) (suc k) x y at = set_at_own xs k x y at
-
-set_at_other : {X : Type 0} (xs : List X) (k j : ℕ) (y : X) → j ≢ k → slice_get (set xs k y) j ≡ slice_get xs j
-set_at_other [] k j y apart = refl
-set_at_other (z ∷ xs) zero zero y apart = absurd (apart refl)
-set_at_other (z ∷ xs) zero (suc j) y apart = refl
-set_at_other (z ∷ xs) (suc k) zero y apart = refl
-set_at_other (z ∷ xs) (suc k) (suc j) y apart = set_at_other xs k j y (λ e. apart (ap suc e))
+use Rattle.run_law.proofs.Places.{set_at_own, set_at_other}
 
 module _ (schema : Schema) (room : ℕ) (told : Told) where
   abbrev size : ℕ
