@@ -157,7 +157,7 @@ fn check_run<V: Grow, R: Wait + Abort>(
             assert_eq!(rt; close(rt, viewer, last), journal.len() as u64);
             rested.finish(rt);
         }
-        Err(NoMemory) => assert!(rt; !ample),
+        Err(_given_up) => assert!(rt; !ample),
     }
     Ok(())
 }

@@ -1,17 +1,18 @@
 -- What a builder begins with, and what it gives back.
 use Rattle.std.proofs.Common.{◌≡◌, ℕ, ◌≤◌, eqb, eq-eqb, ne_eqb, Bool, false, List, [], ◌∷◌, ◌++◌, length, length-append, append-nil, take, drop, sym, refl, ap, ◌∙◌, subst, ⊎_elim, arith}
-use Rattle.std.specs.Prelude.{IsTrue, ◌↔◌, Result, Ok, Err, MatchResult}
+use Rattle.std.specs.Prelude.{IsTrue, ◌↔◌, Result, Ok, Err, IfErr, MatchResult}
 use Rattle.std.proofs.lemmas.Bool.{cases_eq}
-use Rattle.std.proofs.lemmas.List.{length-take}
+use Rattle.std.proofs.lemmas.List.{length-take, map-append}
 use Rattle.cube_view.specs.Points.{Point}
 use Rattle.cube_view.specs.declared.schema.Schema.{Schema}
 use Rattle.published_pair.specs.Rules.{Known}
+use Rattle.world_core.specs.Interleaving.{entry_points}
 use Rattle.world_core.specs.PairFact.{IsPrefix}
 use Rattle.world_core.specs.declared.entry.Entry.{Entry}
 use Rattle.world_core.proofs.Worlds.{IsPrefix-then}
 use Rattle.feed_queue.specs.Items.{entries_in}
 use Rattle.feed_queue.specs.declared.item.Item.{Item}
-use Rattle.builder_core.specs.Builder.{BuilderState, KeepsJournal, IsBuilder, builder_state}
+use Rattle.builder_core.specs.Builder.{BuilderState, KeepsJournal, IsBuilder, builder_state, pair_state}
 use Rattle.builder_core.specs.Endings.{all_ended, EachEnded}
 use Rattle.builder_core.proofs.FeederEnds.{count_ended-none, count_ended-most, all_ended-whole, all_ended-part, each_ended, each_tested}
 
@@ -25,9 +26,9 @@ nothing_published appended noted since (p ∷ ps) none joined within =
 
 -- a builder that has taken nothing
 pub keeps-new : (f bt : ℕ) (taken : List Item) (es : List Entry) (p : Known) (app : List Point) (z : Schema) (v : ℕ)
-    → taken ≡ [] → es ≡ [] → p.points ≡ [] → app ≡ [] → (1 ≤ f) × (f ≤ 8) → 1 ≤ bt → IsBuilder (builder_state f bt taken es 0 false p app z v) 0
+    → taken ≡ [] → es ≡ [] → p.points ≡ [] → app ≡ [] → (1 ≤ f) × (f ≤ 8) → 1 ≤ bt → IsBuilder (builder_state f bt taken es 0 false (pair_state p app z v)) 0
 keeps-new f bt taken es p app z v et ee ep ea few batch =
-    subst (λ (s : BuilderState). IsBuilder s 0) (λ i. builder_state f bt (sym et i) (sym ee i) 0 false p (sym ea i) z v) (record {
+    subst (λ (s : BuilderState). IsBuilder s 0) (λ i. builder_state f bt (sym et i) (sym ee i) 0 false (pair_state p (sym ea i) z v)) (record {
       journal = record {
         published = ep;
         appended = refl;
@@ -72,3 +73,17 @@ given_whole (Err x) b got keeps each is open_ =
 pub given_prefix : {T E : Type 0} (r : Result T E) (b : BuilderState) (got : List Entry) → KeepsJournal b → MatchResult r (λ _. got ≡ b.journal ++ b.pending) (λ _. got ≡ b.journal) → IsPrefix got (entries_in b.taken)
 given_prefix (Ok x) b got keeps is = subst (λ (es : List Entry). IsPrefix es (entries_in b.taken)) (sym is) keeps.prefix
 given_prefix (Err x) b got keeps is = subst (λ (es : List Entry). IsPrefix es (entries_in b.taken)) (sym is) (IsPrefix-then b.journal (b.journal ++ b.pending) (entries_in b.taken) (b.pending, refl) keeps.prefix)
+
+-- points of entries that stand in front of others are in front of theirs
+front_points : (front whole : List Entry) → IsPrefix front whole → IsPrefix (entry_points front) (entry_points whole)
+front_points front whole is = (entry_points is.0, ap entry_points is.1 ∙ map-append (λ (e : Entry). e.point) front is.0)
+
+-- what was published of what was appended is a prefix of what was taken
+pub given_up_within : {T E : Type 0} (r : Result T E) (IsOf : E → Type 0) (points : E → List Point) (b : BuilderState) → KeepsJournal b → IfErr r (λ e. IsOf e × IsPrefix (points e) b.appended)
+    → IfErr r (λ e. IsOf e × IsPrefix (points e) (entry_points (entries_in b.taken)))
+given_up_within (Ok x) IsOf points b keeps is = tt
+given_up_within (Err e) IsOf points b keeps is = (
+  is.0,
+  IsPrefix-then (points e) b.appended (entry_points (entries_in b.taken)) is.1
+      (subst (λ (l : List Point). IsPrefix l (entry_points (entries_in b.taken))) (sym keeps.appended) (front_points (b.journal ++ b.pending) (entries_in b.taken) keeps.prefix)),
+)

@@ -11,7 +11,7 @@ use Rattle.world_core.specs.declared.entry.Entry.{Entry}
 use Rattle.world_core.proofs.Entries.{entry_points-append}
 use Rattle.feed_queue.specs.declared.item.Item.{Item}
 use Rattle.feed_queue.specs.declared.item.Item.TheVariants.{One}
-use Rattle.builder_core.specs.Builder.{builder_state}
+use Rattle.builder_core.specs.Builder.{builder_state, pair_state}
 use Rattle.builder_core.specs.Taking.{having_appended, having_published}
 use Rattle.builder_core.proofs.Keeping.{counting}
 
@@ -19,14 +19,14 @@ module _ (f bt : ℕ) where
   -- the state goes by its parts
   pub same_state : (taken taken' : List Item) (es es' : List Entry) (n n' : ℕ) (spent spent' : Bool) (p p' : Known) (app app' : List Point) (z z' : Schema) (v v' : ℕ)
       → taken ≡ taken' → es ≡ es' → n ≡ n' → spent ≡ spent' → p ≡ p' → app ≡ app' → z ≡ z' → v ≡ v'
-      → builder_state f bt taken es n spent p app z v ≡ builder_state f bt taken' es' n' spent' p' app' z' v'
-  same_state taken taken' es es' n n' spent spent' p p' app app' z z' v v' et ee en es_ ep ea ez ev = λ i. builder_state f bt (et i) (ee i) (en i) (es_ i) (ep i) (ea i) (ez i) (ev i)
+      → builder_state f bt taken es n spent (pair_state p app z v) ≡ builder_state f bt taken' es' n' spent' (pair_state p' app' z' v')
+  same_state taken taken' es es' n n' spent spent' p p' app app' z z' v v' et ee en es_ ep ea ez ev = λ i. builder_state f bt (et i) (ee i) (en i) (es_ i) (pair_state (ep i) (ea i) (ez i) (ev i))
 
   -- with one entry more behind the others
   pub appended_state : (taken taken' : List Item) (es es' : List Entry) (n n' : ℕ) (spent : Bool) (p p' : Known) (app app' : List Point) (z z' : Schema) (v v' : ℕ) (e : Entry)
       → n ≤ length es → app ≡ entry_points es → app' ≡ entry_points es'
       → taken' ≡ taken ++ One e ∷ [] → es' ≡ es ++ e ∷ [] → n' ≡ n → p' ≡ p → z' ≡ z → v' ≡ v
-      → builder_state f bt taken' es' n' spent p' app' z' v' ≡ counting (having_appended (builder_state f bt taken es n spent p app z v) e) (One e)
+      → builder_state f bt taken' es' n' spent (pair_state p' app' z' v') ≡ counting (having_appended (builder_state f bt taken es n spent (pair_state p app z v)) e) (One e)
   appended_state taken taken' es es' n n' spent p p' app app' z z' v v' e within before after et ee en ep ez ev =
       let journal : take n' es' ≡ take n es = ap (λ k. take k es') en ∙ (ap (take n) ee ∙ take-append-le n es (e ∷ []) within) in
       let pending : drop n' es' ≡ drop n es ++ e ∷ [] = ap (λ k. drop k es') en ∙ (ap (drop n) ee ∙ drop-append-le n es (e ∷ []) within) in
@@ -37,7 +37,7 @@ module _ (f bt : ℕ) where
   pub published_state : (taken : List Item) (es es' : List Entry) (n n' : ℕ) (spent : Bool) (p p' : Known) (app app' : List Point) (z z' : Schema) (v v' : ℕ)
       → app ≡ entry_points es → app' ≡ entry_points es' → p'.points ≡ entry_points (take n' es')
       → es' ≡ es → n' ≡ length es → p'.book ≡ p.book → z' ≡ z → v' ≡ v
-      → builder_state f bt taken es' n' spent p' app' z' v' ≡ having_published (builder_state f bt taken es n spent p app z v)
+      → builder_state f bt taken es' n' spent (pair_state p' app' z' v') ≡ having_published (builder_state f bt taken es n spent (pair_state p app z v))
   published_state taken es es' n n' spent p p' app app' z z' v v' before after shown ee en eb ez ev =
       let all : take n' es' ≡ es = ap (λ k. take k es') en ∙ (ap (take (length es)) ee ∙ take-length es) in
       let journal : take n' es' ≡ take n es ++ drop n es = all ∙ sym (take-append-drop n es) in

@@ -63,19 +63,34 @@ pub record KeepsJournal (b : BuilderState) : Type 0 where
   -- and none once every feeder's End was taken
   pub settled : b.spent ≡ false → all_ended b.feeders b.taken ≡ true → b.pending ≡ []
 
+-- What a builder sees of its pair
+pub record PairState : Type 0 where
+  -- the published list
+  pub published : Known
+  -- the points that were appended
+  pub appended : List Point
+  -- the schema
+  pub schema : Schema
+  -- how many viewers there are
+  pub viewers : ℕ
+
+-- a pair of these
+abbrev pub pair_state : Known → List Point → Schema → ℕ → PairState
+pair_state published appended schema viewers = record { published = published; appended = appended; schema = schema; viewers = viewers }
+
 -- the builder of these parts, of whose entries so many are published
-abbrev pub builder_state : ℕ → ℕ → List Item → List Entry → ℕ → Bool → Known → List Point → Schema → ℕ → BuilderState
-builder_state feeders batch taken entries count spent published appended schema viewers = record {
+abbrev pub builder_state : ℕ → ℕ → List Item → List Entry → ℕ → Bool → PairState → BuilderState
+builder_state feeders batch taken entries count spent pair = record {
   feeders = feeders;
   batch = batch;
   taken = taken;
   journal = take count entries;
   pending = drop count entries;
   spent = spent;
-  published = published;
-  appended = appended;
-  schema = schema;
-  viewers = viewers;
+  published = pair.published;
+  appended = pair.appended;
+  schema = pair.schema;
+  viewers = pair.viewers;
 }
 
 -- What the type of a builder keeps that has counted so many Ends

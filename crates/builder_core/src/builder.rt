@@ -1,6 +1,6 @@
 //! The builder.
-ghost use Rattle.std.specs.Prelude.{◌≡◌, ◌≤◌, ◌++◌, ◌↔◌, [], false, true, length, All, IsTrue, IfOk, MatchResult};
-ghost use Rattle.builder_core.specs.Builder.{builder_state, MayBeTaken, KeepsJournal};
+ghost use Rattle.std.specs.Prelude.{◌≡◌, ◌≤◌, ◌++◌, ◌↔◌, [], false, true, length, All, IsTrue, IfErr, IfOk, MatchResult};
+ghost use Rattle.builder_core.specs.Builder.{builder_state, pair_state, MayBeTaken, KeepsJournal};
 ghost use Rattle.builder_core.specs.Endings.{EachEnded, all_ended};
 ghost use Rattle.builder_core.specs.Taking.{IsTaking};
 ghost use Rattle.feed_queue.specs.Items.{entries_in};
@@ -14,7 +14,7 @@ use cube_view::Grow;
 use feed_queue::Item;
 use ghost_values::GhostList;
 use outer_io::{List, NoMemory};
-use published_pair::{Last, Of, Pairing, Publisher, Rested, Told};
+use published_pair::{GivenUp, Last, Of, Pairing, Publisher, Rested, Told};
 use std::alloc::Global;
 use std::marker::Model;
 use std::sync::Wait;
@@ -34,13 +34,13 @@ pub struct BuilderOf<K: Pairing> {
 }
 
 impl<K: Pairing> Model for BuilderOf<K> {
-    ghost use Rattle.builder_core.specs.Builder.{BuilderState, builder_state, IsBuilder};
+    ghost use Rattle.builder_core.specs.Builder.{BuilderState, builder_state, pair_state, IsBuilder};
 
     ghost Value = { BuilderState };
 
-    ghost view = { λ b. builder_state b.feeders b.batch b.taken.items b.out.entries.items b.out.published b.spent b.out.publisher.published b.out.publisher.appended.items b.out.publisher.schema b.out.publisher.viewers };
+    ghost view = { λ b. builder_state b.feeders b.batch b.taken.items b.out.entries.items b.out.published b.spent (pair_state b.out.publisher.published b.out.publisher.appended.items b.out.publisher.schema b.out.publisher.viewers) };
 
-    ghost invariant = { λ b. IsBuilder (builder_state b.feeders b.batch b.taken.items b.out.entries.items b.out.published b.spent b.out.publisher.published b.out.publisher.appended.items b.out.publisher.schema b.out.publisher.viewers) b.ends };
+    ghost invariant = { λ b. IsBuilder (builder_state b.feeders b.batch b.taken.items b.out.entries.items b.out.published b.spent (pair_state b.out.publisher.published b.out.publisher.appended.items b.out.publisher.schema b.out.publisher.viewers)) b.ends };
 }
 
 /// The builder of a pair. It is not `Drop`: end it by `into_journal`.
@@ -52,7 +52,7 @@ impl<V: Grow> BuilderOf<Of<V>> {
         requires none { publisher.appended.items ≡ [] }
         requires feeders { (1 ≤ feeders) × (feeders ≤ 8) }
         requires batch { (1 ≤ batch) × (batch ≤ 65536) }
-        ensures new { result ≡ builder_state feeders batch [] [] 0 false publisher.published [] publisher.schema publisher.viewers }
+        ensures new { result ≡ builder_state feeders batch [] [] 0 false (pair_state publisher.published [] publisher.schema publisher.viewers) }
         ensures keeps { KeepsJournal result }
     {
         BuilderOf {
@@ -161,18 +161,20 @@ impl<V: Grow> BuilderOf<Of<V>> {
     }
 
     /// Ends the pair, once every End was taken: the journal, and the pair's end. Where that succeeds the journal has what a
-    /// spent builder had pending, since the pair's end publishes it.
+    /// spent builder had pending, since the pair's end publishes it. Where memory is wanted the pair is given up, and all that
+    /// was published in it is a prefix of what was taken.
     pub fn into_journal<R: Wait>(
         self,
         rt: &R,
         alloc: Global,
-    ) -> (List<Entry>, Result<(Rested<V>, List<Last>), NoMemory>)
+    ) -> (List<Entry>, Result<(Rested<V>, List<Last>), GivenUp>)
         requires { EachEnded self.feeders self.taken }
         ensures journal { MatchResult result.1 (λ _. result.0 ≡ self.journal ++ self.pending) (λ _. result.0 ≡ self.journal) }
         ensures whole { self.spent ≡ false → result.0 ≡ entries_in self.taken }
         ensures prefix { IsPrefix result.0 (entries_in self.taken) }
         ensures rested { IfOk result.1 (λ t. (t.0.ended.points ≡ entry_points result.0) × (t.0.ended.book ≡ self.published.book) × (t.0.schema ≡ self.schema)) }
         ensures lasts { IfOk result.1 (λ t. (length t.1 ≡ self.viewers) × All (λ l. l.whole ≡ t.0.ended) t.1) }
+        ensures given_up { IfErr result.1 (λ g. (g.whole.book ≡ self.published.book) × IsPrefix g.whole.points (entry_points (entries_in self.taken))) }
     {
         let BuilderOf {
             out,

@@ -1,12 +1,13 @@
 //! A publisher of entries.
-ghost use Rattle.std.specs.Prelude.{◌≡◌, ◌+◌, ◌≤◌, ◌<◌, ◌++◌, ◌∷◌, [], length, take, All, IsTrue, OnOk, OnErr, IfOk, MatchResult};
+ghost use Rattle.std.specs.Prelude.{◌≡◌, ◌+◌, ◌≤◌, ◌<◌, ◌++◌, ◌∷◌, [], length, take, All, IsTrue, OnOk, OnErr, IfErr, IfOk, MatchResult};
 ghost use Rattle.cube_view.specs.Bag.{most_points};
 ghost use Rattle.cube_view.specs.Validity.{sound};
 ghost use Rattle.world_core.specs.Interleaving.{entry_points};
+ghost use Rattle.world_core.specs.PairFact.{IsPrefix};
 
 use cube_view::Grow;
 use outer_io::{List, NoMemory};
-use published_pair::{Last, Of, Pairing, Publisher, PublisherOf, Rested};
+use published_pair::{GivenUp, Last, Of, Pairing, Publisher, PublisherOf, Rested};
 use std::alloc::Global;
 use std::sync::Wait;
 use world_core::Entry;
@@ -61,17 +62,18 @@ impl<V: Grow> EntryPublisherOf<Of<V>> {
         self.entries.len() - self.published
     }
 
-    /// Ends the pair, which publishes all that was appended, and gives the entries that are published then. After `NoMemory`
-    /// these are those that were published before, and the pair is given up.
+    /// Ends the pair, which publishes all that was appended, and gives the entries that are published then. Where memory is
+    /// wanted these are those that were published before, and the pair is given up.
     pub(crate) fn end<R: Wait>(
         self,
         rt: &R,
         alloc: Global,
-    ) -> (List<Entry>, Result<(Rested<V>, List<Last>), NoMemory>)
+    ) -> (List<Entry>, Result<(Rested<V>, List<Last>), GivenUp>)
         ensures entries { MatchResult result.1 (λ _. result.0 ≡ self.entries.items) (λ _. result.0 ≡ take self.published self.entries.items) }
         ensures ended { IfOk result.1 (λ t. t.0.ended.points ≡ self.publisher.appended.items) }
         ensures rested { IfOk result.1 (λ t. (t.0.ended.book ≡ self.publisher.published.book) × (t.0.schema ≡ self.publisher.schema)) }
         ensures lasts { IfOk result.1 (λ t. (length t.1 ≡ self.publisher.viewers) × All (λ l. l.whole ≡ t.0.ended) t.1) }
+        ensures given_up { IfErr result.1 (λ g. (g.whole.book ≡ self.publisher.published.book) × IsPrefix g.whole.points self.publisher.appended.items) }
     {
         let EntryPublisherOf {
             publisher,

@@ -122,7 +122,7 @@ fn end_work<R: Wait + Abort>(
     assert_eq!(rt; journal.len() as u64, told);
     match outcome {
         Ok((rested, _lasts)) => rested.finish(rt),
-        Err(NoMemory) => panic!(rt; "the pair's end found no memory"),
+        Err(_given_up) => panic!(rt; "the pair's end found no memory"),
     }
 }
 

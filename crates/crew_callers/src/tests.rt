@@ -223,7 +223,7 @@ fn end_works<R: Wait + Abort>(
             close(rt, asking, last, case);
             rested.finish(rt);
         }
-        Err(NoMemory) => {
+        Err(_given_up) => {
             assert!(rt; case.is_none());
             let (done, _viewer) = asking.finish();
             let SessionDone {

@@ -7,7 +7,7 @@ use Rattle.crew_session.specs.Leaves.{LeavesSession}
 use Rattle.crew_session.specs.Work.{HadNoTurn, WorkState, done_of, has_starved, is_starved_end}
 use Rattle.crew_session.specs.declared.done.SessionDone.{SessionDone}
 use Rattle.cube_crew.specs.Crewed.{LeavesTranscript}
-use Rattle.cube_crew.specs.Ending.{EndsAsk, EndsFinal}
+use Rattle.cube_crew.specs.Ending.{EndsAsk, EndsFinal, IsWithin}
 use Rattle.cube_crew.specs.Starving.{FoundMemory}
 use Rattle.cube_crew.specs.Works.{new_session_work, session_works_of}
 use Rattle.cube_view.specs.Points.{Point}
@@ -15,7 +15,7 @@ use Rattle.cube_view.specs.declared.schema.Schema.{Schema}
 use Rattle.cube_view.specs.declared.stat.Stat.{Stat}
 use Rattle.live_session.specs.News.{News, news_of}
 use Rattle.live_session.specs.SoFar.{AsksFirst, HasAnswered, HasBroken, HasDone}
-use Rattle.live_session.specs.State.{SessionState}
+use Rattle.live_session.specs.State.{SessionEnds, SessionState}
 use Rattle.live_session.specs.TranscriptLaws.{StaysTranscript}
 use Rattle.mailbox.specs.Ends.{OutEnd}
 use Rattle.outer_io.specs.Cutting.{lines_left}
@@ -41,10 +41,17 @@ found_end end none is = false≢true (sym none ∙ ap is_starved_end is)
 no_fault : (f : SessionFault) → IsErrOf {T = Unit {0}} {E = SessionFault} (Ok tt) f → ⊥
 no_fault f e = cc
 
+all_of : {A : Type 0} {xs ys : List A} → xs ≡ ys → ys ≡ xs ++ []
+all_of {xs = xs} is = sym is ∙ sym (append-nil xs)
+
 prefix_length : {A : Type 0} (xs ys : List A) → IsPrefix xs ys → length xs ≤ length ys
 prefix_length xs ys (more, is) = omega (arith, ap length is, length-append xs more)
 
 module _ {I O : Type 0} (left : I → Option (List ℕ)) (faults : I → ℕ) (held : O → Option (List ℕ)) (put_faults : O → ℕ) (name : O → List ℕ) (is_stat : Stat → Type 0) (schema : Schema) where
+  -- the same as one record
+  abbrev these : SessionEnds I O
+  these = record { left = left; faults = faults; held = held; put_faults = put_faults; name = name }
+
   module _ (stays : StaysTranscript is_stat) (taken : ℕ) (a b : News) (shown : IsPrefix a.shown b.shown) (told : length a.told ≤ length b.told) (takes : a.takes ≤ b.takes) (start now : SessionState I O) where
     -- what was answered within shorter lists was answered within longer ones
     answered_within : HasAnswered left faults held schema is_stat false taken a start now → HasAnswered left faults held schema is_stat false taken b start now
@@ -86,22 +93,23 @@ module _ {I O : Type 0} (left : I → Option (List ℕ)) (faults : I → ℕ) (h
   abbrev news_over : List Point → OutEnd → News
   news_over points mail = record { shown = points; told = points; takes = mail.takes }
 
-  -- What an ask's work has become, whose viewer was shown and told no more than these points, those of the journal where it
-  -- was closed
-  pub record GivesAsk (closed starved : Bool) (journal : List Point) (work : WorkState I O) (done : SessionDone I O) : Type 0 where
+  -- What an ask's work has become, whose viewer was shown and told no more than these points, which are all of the list where
+  -- it was closed
+  pub record GivesAsk (closed starved : Bool) (list : List Point) (work : WorkState I O) (done : SessionDone I O) : Type 0 where
     pub gives : done ≡ done_of work
     pub points : List Point
-    pub whole : closed ≡ true → points ≡ journal
+    pub whole : closed ≡ true → points ≡ list
+    pub within : IsPrefix points list
     pub shown : IsPrefix work.shown.points points
     pub told : length work.learned.points ≤ length points
     pub found : starved ≡ false → has_starved work ≡ false
 
   -- what a session that ran leaves, where it answered over the points
-  ran_leaves : (final closed starved : Bool) (journal points : List Point) (session : SessionState I O) (shown learned : Known) (last : Option Known) (mail : OutEnd) (after : WorkState I O)
+  ran_leaves : (final closed starved : Bool) (list points : List Point) (session : SessionState I O) (shown learned : Known) (last : Option Known) (mail : OutEnd) (after : WorkState I O)
       → LeavesSession left faults held put_faults name is_stat (record { session = session; schema = schema; shown = shown; learned = learned; last = last; mail = mail; end = Ok tt }) after
-      → (closed ≡ true → points ≡ journal) → HasDone left faults held schema is_stat final 0 (news_over points after.mail) session after.session after.end → (starved ≡ false → has_starved after ≡ false)
-      → LeavesTranscript left faults held put_faults name is_stat schema final closed starved journal session (done_of after)
-  ran_leaves final closed starved journal points session shown learned last mail after ran whole replied found =
+      → (closed ≡ true → points ≡ list) → IsPrefix points list → (closed ≡ false → final ≡ true → after.session ≡ session) → HasDone left faults held schema is_stat final 0 (news_over points after.mail) session after.session after.end → (starved ≡ false → has_starved after ≡ false)
+      → LeavesTranscript left faults held put_faults name is_stat schema final closed starved list session (done_of after)
+  ran_leaves final closed starved list points session shown learned last mail after ran whole within unrun replied found =
       record {
         after = after.session;
         end = after.end;
@@ -109,6 +117,8 @@ module _ {I O : Type 0} (left : I → Option (List ℕ)) (faults : I → ℕ) (h
         numbers = (refl, refl, refl);
         points = points;
         whole = whole;
+        within = within;
+        unrun = unrun;
         replied = replied;
         all = λ is_closed. ran.all;
         too_much = ran.too_much;
@@ -122,75 +132,77 @@ module _ {I O : Type 0} (left : I → Option (List ℕ)) (faults : I → ℕ) (h
             (both.0, found_end after.end both.1);
       }
 
-  pub ask_leaves : StaysTranscript is_stat → (closed starved : Bool) (journal : List Point) (front : Known) (session : SessionState I O) (mail : OutEnd) (work : WorkState I O) (done : SessionDone I O) → mail.takes ≡ 0
-      → LeavesSession left faults held put_faults name is_stat (new_session_work schema front session mail) work → GivesAsk closed starved journal work done
-      → LeavesTranscript left faults held put_faults name is_stat schema false closed starved journal session done
-  ask_leaves stays closed starved journal front session mail work done none ran gives =
-      subst (LeavesTranscript left faults held put_faults name is_stat schema false closed starved journal session) (sym gives.gives)
-      (ran_leaves false closed starved journal gives.points session front front None mail work ran gives.whole
+  pub ask_leaves : StaysTranscript is_stat → (closed starved : Bool) (list : List Point) (front : Known) (session : SessionState I O) (mail : OutEnd) (work : WorkState I O) (done : SessionDone I O) → mail.takes ≡ 0
+      → LeavesSession left faults held put_faults name is_stat (new_session_work schema front session mail) work → GivesAsk closed starved list work done
+      → LeavesTranscript left faults held put_faults name is_stat schema false closed starved list session done
+  ask_leaves stays closed starved list front session mail work done none ran gives =
+      subst (LeavesTranscript left faults held put_faults name is_stat schema false closed starved list session) (sym gives.gives)
+      (ran_leaves false closed starved list gives.points session front front None mail work ran gives.whole gives.within (λ is last. absurd (false≢true last))
       (done_within stays 0 (news_of work.shown work.learned work.mail) (news_over gives.points work.mail) gives.shown gives.told (omega arith) session work.session work.end
       (subst (λ (n : ℕ). HasDone left faults held schema is_stat false n (news_of work.shown work.learned work.mail) session work.session work.end) none ran.replied))
       gives.found)
 
-  pub asks_leave : StaysTranscript is_stat → (closed starved : Bool) (journal : List Point) (front : Known) (sessions : List (SessionState I O)) (mails : List OutEnd) (works : List (WorkState I O)) (dones : List (SessionDone I O))
+  pub asks_leave : StaysTranscript is_stat → (closed starved : Bool) (list : List Point) (front : Known) (sessions : List (SessionState I O)) (mails : List OutEnd) (works : List (WorkState I O)) (dones : List (SessionDone I O))
       → length mails ≡ length sessions → All (λ (mail : OutEnd). mail.takes ≡ 0) mails
-      → AllZip (LeavesSession left faults held put_faults name is_stat) (session_works_of schema front sessions mails) works → AllZip (GivesAsk closed starved journal) works dones
-      → AllZip (LeavesTranscript left faults held put_faults name is_stat schema false closed starved journal) sessions dones
-  asks_leave stays closed starved journal front [] [] [] [] n none ran gives = tt
-  asks_leave stays closed starved journal front [] [] [] (done ∷ dones) n none ran gives = absurd gives
-  asks_leave stays closed starved journal front [] [] (work ∷ works) dones n none ran gives = absurd ran
-  asks_leave stays closed starved journal front [] (mail ∷ mails) works dones n none ran gives = absurd (omega (arith, n))
-  asks_leave stays closed starved journal front (session ∷ sessions) [] works dones n none ran gives = absurd (omega (arith, n))
-  asks_leave stays closed starved journal front (session ∷ sessions) (mail ∷ mails) [] dones n none ran gives = absurd ran
-  asks_leave stays closed starved journal front (session ∷ sessions) (mail ∷ mails) (work ∷ works) [] n none ran gives = absurd gives
-  asks_leave stays closed starved journal front (session ∷ sessions) (mail ∷ mails) (work ∷ works) (done ∷ dones) n none ran gives = (
-    ask_leaves stays closed starved journal front session mail work done (All-head (λ (mail : OutEnd). mail.takes ≡ 0) mail mails none) ran.0 gives.0,
-    asks_leave stays closed starved journal front sessions mails works dones (omega (arith, n)) (All-tail (λ (mail : OutEnd). mail.takes ≡ 0) mail mails none) ran.1 gives.1,
+      → AllZip (LeavesSession left faults held put_faults name is_stat) (session_works_of schema front sessions mails) works → AllZip (GivesAsk closed starved list) works dones
+      → AllZip (LeavesTranscript left faults held put_faults name is_stat schema false closed starved list) sessions dones
+  asks_leave stays closed starved list front [] [] [] [] n none ran gives = tt
+  asks_leave stays closed starved list front [] [] [] (done ∷ dones) n none ran gives = absurd gives
+  asks_leave stays closed starved list front [] [] (work ∷ works) dones n none ran gives = absurd ran
+  asks_leave stays closed starved list front [] (mail ∷ mails) works dones n none ran gives = absurd (omega (arith, n))
+  asks_leave stays closed starved list front (session ∷ sessions) [] works dones n none ran gives = absurd (omega (arith, n))
+  asks_leave stays closed starved list front (session ∷ sessions) (mail ∷ mails) [] dones n none ran gives = absurd ran
+  asks_leave stays closed starved list front (session ∷ sessions) (mail ∷ mails) (work ∷ works) [] n none ran gives = absurd gives
+  asks_leave stays closed starved list front (session ∷ sessions) (mail ∷ mails) (work ∷ works) (done ∷ dones) n none ran gives = (
+    ask_leaves stays closed starved list front session mail work done (All-head (λ (mail : OutEnd). mail.takes ≡ 0) mail mails none) ran.0 gives.0,
+    asks_leave stays closed starved list front sessions mails works dones (omega (arith, n)) (All-tail (λ (mail : OutEnd). mail.takes ≡ 0) mail mails none) ran.1 gives.1,
   )
 
   -- what the asks' works become, by how the run ended
-  pub asks_give : (closed starved : Bool) (journal : List Point) (works : List (WorkState I O)) (dones : List (SessionDone I O))
-      → (closed ≡ true → (whole : Known) × (whole.points ≡ journal) × AllZip (EndsAsk whole) works dones) → (closed ≡ false → dones ≡ map done_of works) → (starved ≡ false → All FoundMemory works)
-      → AllZip (GivesAsk closed starved journal) works dones
-  asks_give true starved journal works dones ends left found =
+  pub asks_give : (closed starved : Bool) (list : List Point) (works : List (WorkState I O)) (dones : List (SessionDone I O))
+      → (closed ≡ true → (whole : Known) × (whole.points ≡ list) × AllZip (EndsAsk whole) works dones) → (closed ≡ false → (dones ≡ map done_of works) × All (IsWithin list) works) → (starved ≡ false → All FoundMemory works)
+      → AllZip (GivesAsk closed starved list) works dones
+  asks_give true starved list works dones ends left found =
       let all = ends refl in
       let whole : Known = all.0 in
-      AllZip-knowing (EndsAsk whole) (λ (work : WorkState I O). starved ≡ false → FoundMemory work) (GivesAsk true starved journal) works dones
+      AllZip-knowing (EndsAsk whole) (λ (work : WorkState I O). starved ≡ false → FoundMemory work) (GivesAsk true starved list) works dones
       (λ work done enough ask. record {
         gives = ask.gives;
         points = whole.points;
         whole = λ is. all.1;
+        within = ([], all_of all.1);
         shown = ask.shown;
         told = prefix_length work.learned.points whole.points ask.told;
         found = enough;
       })
       (λ k d below. λ enough. found enough k d below) all.2
-  asks_give false starved journal works dones ends left found =
-      subst (AllZip (GivesAsk false starved journal) works) (sym (left refl))
-      (AllZip-knowing (λ (work : WorkState I O) (done : SessionDone I O). done ≡ done_of work) (λ (work : WorkState I O). starved ≡ false → FoundMemory work) (GivesAsk false starved journal) works (map done_of works)
-      (λ work done enough gives. record {
+  asks_give false starved list works dones ends left found =
+      subst (AllZip (GivesAsk false starved list) works) (sym (left refl).0)
+      (AllZip-knowing (λ (work : WorkState I O) (done : SessionDone I O). done ≡ done_of work) (λ (work : WorkState I O). (starved ≡ false → FoundMemory work) × IsWithin list work) (GivesAsk false starved list) works (map done_of works)
+      (λ work done is gives. record {
         gives = gives;
-        points = work.shown.points ++ work.learned.points;
+        points = list;
         whole = λ is. absurd (false≢true is);
-        shown = (work.learned.points, refl);
-        told = omega (arith, length-append work.shown.points work.learned.points);
-        found = enough;
+        within = ([], sym (append-nil list));
+        shown = is.1.0;
+        told = prefix_length work.learned.points list is.1.1;
+        found = is.0;
       })
-      (λ k d below. λ enough. found enough k d below)
+      (λ k d below. (λ enough. found enough k d below, (left refl).1 k d below))
       (AllZip-mapped (λ (work : WorkState I O) (done : SessionDone I O). done ≡ done_of work) done_of works (λ work. refl)))
 
   -- the names of the asks' mailboxes
-  pub ask_mails : (closed starved : Bool) (journal : List Point) (befores works : List (WorkState I O)) (dones : List (SessionDone I O))
-      → AllZip (LeavesSession left faults held put_faults name is_stat) befores works → AllZip (GivesAsk closed starved journal) works dones
+  pub ask_mails : (closed starved : Bool) (list : List Point) (befores works : List (WorkState I O)) (dones : List (SessionDone I O))
+      → AllZip (LeavesSession left faults held put_faults name is_stat) befores works → AllZip (GivesAsk closed starved list) works dones
       → map (λ (done : SessionDone I O). done.mail.mailbox) dones ≡ map (λ (work : WorkState I O). work.mail.mailbox) befores
-  ask_mails closed starved journal befores works dones ran gives =
-      AllZip-map (GivesAsk closed starved journal) (λ (work : WorkState I O). work.mail.mailbox) (λ (done : SessionDone I O). done.mail.mailbox) works dones (λ work done give. ap (λ (done : SessionDone I O). done.mail.mailbox) give.gives) gives
+  ask_mails closed starved list befores works dones ran gives =
+      AllZip-map (GivesAsk closed starved list) (λ (work : WorkState I O). work.mail.mailbox) (λ (done : SessionDone I O). done.mail.mailbox) works dones (λ work done give. ap (λ (done : SessionDone I O). done.mail.mailbox) give.gives) gives
       ∙ AllZip-map (LeavesSession left faults held put_faults name is_stat) (λ (work : WorkState I O). work.mail.mailbox) (λ (work : WorkState I O). work.mail.mailbox) befores works (λ before work run. run.mail.0) ran
 
   -- ---- finals
 
   final_closed : (starved : Bool) (whole front : Known) (session : SessionState I O) (mail : OutEnd) (done : SessionDone I O) → mail.takes ≡ 0
-      → EndsFinal left faults held put_faults name is_stat whole starved (new_session_work schema front session mail) done
+      → EndsFinal these is_stat whole starved (new_session_work schema front session mail) done
       → LeavesTranscript left faults held put_faults name is_stat schema true true starved whole.points session done
   final_closed starved whole front session mail done none ends =
       let learned = ends.learned in
@@ -199,12 +211,12 @@ module _ {I O : Type 0} (left : I → Option (List ℕ)) (faults : I → ℕ) (h
       let same : ends.taught ≡ taught = λ i. record { session = learned.same.0 i; schema = learned.shown.1 i; shown = learned.shown.0 i; learned = ends.taught.learned; last = learned.learned.1 i; mail = learned.same.1 i; end = learned.same.2 i } in
       let ran : LeavesSession left faults held put_faults name is_stat taught after = subst (λ (work : WorkState I O). LeavesSession left faults held put_faults name is_stat work after) same ends.ran in
       subst (LeavesTranscript left faults held put_faults name is_stat schema true true starved whole.points session) (sym ends.gives)
-      (ran_leaves true true starved whole.points whole.points session front ends.taught.learned (Some whole) mail after ran (λ is. refl)
+      (ran_leaves true true starved whole.points whole.points session front ends.taught.learned (Some whole) mail after ran (λ is. refl) ([], all_of refl) (λ is last. absurd (false≢true (sym is)))
       (subst (λ (n : ℕ). HasDone left faults held schema is_stat true n (news_over whole.points after.mail) session after.session after.end) none ran.final)
       ends.found)
 
   finals_closed : (starved : Bool) (whole front : Known) (sessions : List (SessionState I O)) (mails : List OutEnd) (dones : List (SessionDone I O)) → length mails ≡ length sessions → All (λ (mail : OutEnd). mail.takes ≡ 0) mails
-      → AllZip (EndsFinal left faults held put_faults name is_stat whole starved) (session_works_of schema front sessions mails) dones
+      → AllZip (EndsFinal these is_stat whole starved) (session_works_of schema front sessions mails) dones
       → AllZip (LeavesTranscript left faults held put_faults name is_stat schema true true starved whole.points) sessions dones
   finals_closed starved whole front [] [] [] n none ends = tt
   finals_closed starved whole front [] [] (done ∷ dones) n none ends = absurd ends
@@ -216,9 +228,9 @@ module _ {I O : Type 0} (left : I → Option (List ℕ)) (faults : I → ℕ) (h
     finals_closed starved whole front sessions mails dones (omega (arith, n)) (All-tail (λ (mail : OutEnd). mail.takes ≡ 0) mail mails none) ends.1,
   )
 
-  final_unclosed : (starved : Bool) (journal : List Point) (front : Known) (session : SessionState I O) (mail : OutEnd) → (starved ≡ false → ⊥)
-      → LeavesTranscript left faults held put_faults name is_stat schema true false starved journal session (done_of (new_session_work schema front session mail))
-  final_unclosed starved journal front session mail lacks =
+  final_unclosed : (starved : Bool) (list : List Point) (front : Known) (session : SessionState I O) (mail : OutEnd) → (starved ≡ false → ⊥)
+      → LeavesTranscript left faults held put_faults name is_stat schema true false starved list session (done_of (new_session_work schema front session mail))
+  final_unclosed starved list front session mail lacks =
       record {
         after = session;
         end = Ok tt;
@@ -226,6 +238,8 @@ module _ {I O : Type 0} (left : I → Option (List ℕ)) (faults : I → ℕ) (h
         numbers = (refl, refl, refl);
         points = [];
         whole = λ is. absurd (false≢true is);
+        within = (list, refl);
+        unrun = λ is last. refl;
         replied =
             record {
               lines = [];
@@ -248,22 +262,22 @@ module _ {I O : Type 0} (left : I → Option (List ℕ)) (faults : I → ℕ) (h
         found = λ enough. absurd (lacks enough);
       }
 
-  finals_unclosed : (starved : Bool) (journal : List Point) (front : Known) (sessions : List (SessionState I O)) (mails : List OutEnd) → length mails ≡ length sessions → (starved ≡ false → ⊥)
-      → AllZip (LeavesTranscript left faults held put_faults name is_stat schema true false starved journal) sessions (map done_of (session_works_of schema front sessions mails))
-  finals_unclosed starved journal front [] [] n lacks = tt
-  finals_unclosed starved journal front [] (mail ∷ mails) n lacks = absurd (omega (arith, n))
-  finals_unclosed starved journal front (session ∷ sessions) [] n lacks = absurd (omega (arith, n))
-  finals_unclosed starved journal front (session ∷ sessions) (mail ∷ mails) n lacks = (final_unclosed starved journal front session mail lacks, finals_unclosed starved journal front sessions mails (omega (arith, n)) lacks)
+  finals_unclosed : (starved : Bool) (list : List Point) (front : Known) (sessions : List (SessionState I O)) (mails : List OutEnd) → length mails ≡ length sessions → (starved ≡ false → ⊥)
+      → AllZip (LeavesTranscript left faults held put_faults name is_stat schema true false starved list) sessions (map done_of (session_works_of schema front sessions mails))
+  finals_unclosed starved list front [] [] n lacks = tt
+  finals_unclosed starved list front [] (mail ∷ mails) n lacks = absurd (omega (arith, n))
+  finals_unclosed starved list front (session ∷ sessions) [] n lacks = absurd (omega (arith, n))
+  finals_unclosed starved list front (session ∷ sessions) (mail ∷ mails) n lacks = (final_unclosed starved list front session mail lacks, finals_unclosed starved list front sessions mails (omega (arith, n)) lacks)
 
-  pub finals_leave : (closed starved : Bool) (journal : List Point) (front : Known) (sessions : List (SessionState I O)) (mails : List OutEnd) (dones : List (SessionDone I O)) → length mails ≡ length sessions → All (λ (mail : OutEnd). mail.takes ≡ 0) mails
-      → (closed ≡ true → (whole : Known) × (whole.points ≡ journal) × AllZip (EndsFinal left faults held put_faults name is_stat whole starved) (session_works_of schema front sessions mails) dones)
+  pub finals_leave : (closed starved : Bool) (list : List Point) (front : Known) (sessions : List (SessionState I O)) (mails : List OutEnd) (dones : List (SessionDone I O)) → length mails ≡ length sessions → All (λ (mail : OutEnd). mail.takes ≡ 0) mails
+      → (closed ≡ true → (whole : Known) × (whole.points ≡ list) × AllZip (EndsFinal these is_stat whole starved) (session_works_of schema front sessions mails) dones)
       → (closed ≡ false → dones ≡ map done_of (session_works_of schema front sessions mails)) → (starved ≡ false → closed ≡ true)
-      → AllZip (LeavesTranscript left faults held put_faults name is_stat schema true closed starved journal) sessions dones
-  finals_leave true starved journal front sessions mails dones n none ends unclosed found =
+      → AllZip (LeavesTranscript left faults held put_faults name is_stat schema true closed starved list) sessions dones
+  finals_leave true starved list front sessions mails dones n none ends unclosed found =
       let all = ends refl in
       subst (λ (l : List Point). AllZip (LeavesTranscript left faults held put_faults name is_stat schema true true starved l) sessions dones) all.1 (finals_closed starved all.0 front sessions mails dones n none all.2)
-  finals_leave false starved journal front sessions mails dones n none ends unclosed found =
-      subst (AllZip (LeavesTranscript left faults held put_faults name is_stat schema true false starved journal) sessions) (sym (unclosed refl)) (finals_unclosed starved journal front sessions mails n (λ enough. false≢true (found enough)))
+  finals_leave false starved list front sessions mails dones n none ends unclosed found =
+      subst (AllZip (LeavesTranscript left faults held put_faults name is_stat schema true false starved list) sessions) (sym (unclosed refl)) (finals_unclosed starved list front sessions mails n (λ enough. false≢true (found enough)))
 
   -- ---- works before they run
 

@@ -1,5 +1,5 @@
 -- What a whole run leaves, from what its parts leave.
-use Rattle.std.proofs.Common.{◌≡◌, ◌≢◌, ℕ, true, false, List, All, length, map, Option, Some, sym, ap, ◌∙◌, subst}
+use Rattle.std.proofs.Common.{◌≡◌, ◌≢◌, ℕ, Bool, true, false, List, All, length, map, Option, Some, sym, ap, ◌∙◌, subst}
 use Rattle.std.specs.List.{AllZip}
 use Rattle.std.proofs.lemmas.List.Elements.{All-map}
 use Rattle.atomic_table.specs.Seated.{TableId}
@@ -11,15 +11,17 @@ use Rattle.crew_feeder.specs.declared.job.FeedDone.{FeedDone}
 use Rattle.crew_feeder.specs.declared.work.FeedWork.{FeedWork}
 use Rattle.crew_session.specs.Leaves.{LeavesSession}
 use Rattle.crew_session.specs.Work.{WorkState}
-use Rattle.cube_crew.specs.Crewed.{FeedsLeave, FoundAll, IsCrewed}
-use Rattle.cube_crew.specs.Ending.{EndsRun}
+use Rattle.cube_crew.specs.Crewed.{FeedsLeave, FoundAll, IsCrewed, answered_over}
+use Rattle.cube_crew.specs.Ending.{EndsRun, IsWithin}
 use Rattle.cube_crew.specs.Opened.{IsMail}
 use Rattle.cube_crew.specs.Works.{end_of, fed_of, session_works_of, works_of}
 use Rattle.cube_crew.specs.declared.jobs.Crewed.{Crewed}
 use Rattle.cube_crew.specs.declared.jobs.Jobs.{Jobs}
+use Rattle.cube_view.specs.Points.{Point}
 use Rattle.cube_view.specs.declared.schema.Schema.{Schema}
 use Rattle.cube_view.specs.declared.stat.Stat.{Stat}
 use Rattle.feed_queue.specs.Ends.{DrawState, FeedState, sent_lists}
+use Rattle.live_session.specs.State.{SessionEnds}
 use Rattle.live_session.specs.TranscriptLaws.{StaysTranscript}
 use Rattle.mailbox.specs.Ends.{InEnd, OutEnd}
 use Rattle.outer_io.specs.declared.cutter.CutFault.TheVariants as cut
@@ -38,8 +40,12 @@ abbrev out_name : OutEnd → TableId
 out_name mail = mail.mailbox
 
 module _ {I O : Type 0} (left : I → Option (List ℕ)) (faults : I → ℕ) (held : O → Option (List ℕ)) (put_faults : O → ℕ) (name : O → List ℕ) (is_stat : Stat → Type 0) (schema : Schema) (jobs : Jobs I O) where
+  -- the same as one record
+  abbrev these : SessionEnds I O
+  these = record { left = left; faults = faults; held = held; put_faults = put_faults; name = name }
+
   found_all : (works : List (FeedWork I)) (before building : Building) (asks finals : List (WorkState I O)) (c : Crewed I O) → before.builder.batch ≡ schema.batch → IsBuilt before building
-      → EndsRun left faults held put_faults name is_stat works building asks finals c → c.starved ≡ false → FoundAll left faults held put_faults name is_stat schema c
+      → EndsRun these is_stat works building asks finals c → c.starved ≡ false → FoundAll left faults held put_faults name is_stat schema c
   found_all works before building asks finals c batch built ends enough =
       let open_ = (ends.found enough).1 in
       let all = ends.journal.1 open_ in
@@ -59,27 +65,29 @@ module _ {I O : Type 0} (left : I → Option (List ℕ)) (faults : I → ℕ) (h
   pub crewed : StaysTranscript is_stat → (draws : DrawState) (front : Known) (ends : List FeedState) (puts : List InEnd) (takes final_takes : List OutEnd) (works : List (FeedWork I)) (before building : Building) (asks : List (WorkState I O)) (c : Crewed I O)
       → Seats schema jobs draws front ends puts takes final_takes before → AllZip (HasFed left faults true) (works_of jobs.feeds ends) works
       → AllZip (LeavesSession left faults held put_faults name is_stat) (session_works_of schema front jobs.asks takes) asks → IsBuilt before building
-      → EndsRun left faults held put_faults name is_stat works building asks (session_works_of schema front jobs.finals final_takes) c
+      → EndsRun these is_stat works building asks (session_works_of schema front jobs.finals final_takes) c
       → IsCrewed left faults held put_faults name is_stat schema jobs c
   crewed stays draws front ends puts takes final_takes works before building asks c seats fed ran built over =
       let new : All (IsNewEnd draws.lane schema) ends = subst (All (IsNewEnd draws.lane schema)) (sym seats.ends_are) (new_ends draws.lane schema (length jobs.feeds)) in
       let count : length ends ≡ length jobs.feeds = ap length seats.ends_are ∙ length-new_feeds draws.lane schema (length jobs.feeds) in
-      let journal = entry_points c.journal in
+      let list = answered_over c.closed c.journal c.drawn in
+      let over_journal = λ (e : c.closed ≡ true). ap (λ (closed : Bool). answered_over closed c.journal c.drawn) (sym e) in
+      let over_drawn = λ (e : c.closed ≡ false). ap (λ (closed : Bool). answered_over closed c.journal c.drawn) (sym e) in
       let unasked : All (λ (mail : OutEnd). mail.takes ≡ 0) takes = AllZip-right (IsMail front.book) (λ (mail : OutEnd). mail.takes ≡ 0) puts takes (λ put take is. ap (λ (mail : OutEnd). mail.takes) is.1) seats.mails in
       let names : map out_name takes ≡ map in_name puts = AllZip-map (IsMail front.book) in_name out_name puts takes (λ put take is. sym (ap in_name is.0)) seats.mails in
-      let gives = asks_give left faults held put_faults name is_stat schema c.closed c.starved journal asks c.asks (λ e. let all = over.closed e in (all.0, all.1, all.2)) (λ e. (over.unclosed e).0) (λ e. (over.fed e).1) in
+      let gives = asks_give left faults held put_faults name is_stat schema c.closed c.starved list asks c.asks (λ e. let all = over.closed e in (all.0, all.1 ∙ over_journal e, all.2)) (λ e. ((over.unclosed e).0, subst (λ (l : List Point). All (IsWithin l) asks) (over_drawn e) (over.within e))) (λ e. (over.fed e).1) in
       record {
         sent = sent_lists (map end_of works);
         feeds = subst (FeedsLeave left faults jobs.feeds (sent_lists (map end_of works))) (sym over.feeds) (feeds_leave left faults draws.lane schema jobs.feeds ends works count new fed);
         drawn = subst (λ (k : ℕ). IsInterleaving k (list_of (sent_lists (map end_of works))) c.drawn) (built.end.feeders ∙ seats.feeders) over.drawn.1;
         journal = over.journal.0;
-        asks = asks_leave left faults held put_faults name is_stat schema stays c.closed c.starved journal front jobs.asks takes asks c.asks seats.takes_count unasked ran gives;
-        finals = finals_leave left faults held put_faults name is_stat schema c.closed c.starved journal front jobs.finals final_takes c.finals seats.finals_count seats.unasked (λ e. let all = over.closed e in (all.0, all.1, all.3)) (λ e. (over.unclosed e).1) (λ e. (over.found e).0);
+        asks = asks_leave left faults held put_faults name is_stat schema stays c.closed c.starved list front jobs.asks takes asks c.asks seats.takes_count unasked ran gives;
+        finals = finals_leave left faults held put_faults name is_stat schema c.closed c.starved list front jobs.finals final_takes c.finals seats.finals_count seats.unasked (λ e. let all = over.closed e in (all.0, all.1 ∙ over_journal e, all.3)) (λ e. (over.unclosed e).1) (λ e. (over.found e).0);
         mails = ap (map in_name) over.mails
             ∙ built.mails.names
             ∙ ap (map in_name) seats.before_mails
             ∙ sym names
             ∙ sym (work_mails left faults held put_faults name is_stat schema front jobs.asks takes seats.takes_count)
-            ∙ sym (ask_mails left faults held put_faults name is_stat schema c.closed c.starved journal (session_works_of schema front jobs.asks takes) asks c.asks ran gives);
+            ∙ sym (ask_mails left faults held put_faults name is_stat schema c.closed c.starved list (session_works_of schema front jobs.asks takes) asks c.asks ran gives);
         found = λ enough. found_all works before building asks (session_works_of schema front jobs.finals final_takes) c seats.batch built over enough;
       }

@@ -3,7 +3,7 @@ use Rattle.std.proofs.Common.{◌≡◌, ℕ, ◌+◌, ◌≤◌, ◌&&◌, true
 use Rattle.std.specs.List.{AllZip}
 use Rattle.std.proofs.lemmas.Bool.{and_parts, leb-true}
 use Rattle.std.proofs.lemmas.List.Elements.{All-weaker}
-use Rattle.builder_core.specs.Builder.{BuilderState, KeepsJournal, builder_state}
+use Rattle.builder_core.specs.Builder.{BuilderState, KeepsJournal, builder_state, pair_state}
 use Rattle.crew_builder.specs.Built.{IsBuilt, IsNewWork}
 use Rattle.crew_builder.specs.Work.{BuilderWorkState as Building, work_state}
 use Rattle.crew_feeder.specs.Leaving.{HasFed}
@@ -56,7 +56,7 @@ pub seats_of : {I O : Type 0} (schema : Schema) (jobs : Jobs I O) (draws : DrawS
     → MayRun schema jobs → ends ≡ new_feeds draws.lane schema (length jobs.feeds) → draws ≡ draw_state draws.lane schema (length jobs.feeds) []
     → AreMails front.book puts takes → length takes ≡ length jobs.asks → All (λ (out : OutEnd). (out.pair ≡ front.book) × (out.takes ≡ 0)) final_takes → length final_takes ≡ length jobs.finals
     → feeders ≡ length jobs.feeds → viewers ≡ length jobs.asks + length jobs.finals → pair_schema ≡ schema
-    → builder ≡ builder_state feeders schema.batch [] [] 0 false front [] pair_schema viewers → KeepsJournal builder
+    → builder ≡ builder_state feeders schema.batch [] [] 0 false (pair_state front [] pair_schema viewers) → KeepsJournal builder
     → Seats schema jobs draws front ends puts takes final_takes (work_state draws builder puts)
 seats_of schema jobs draws front ends puts takes final_takes builder feeders viewers pair_schema may ends_are draws_are mails takes_count new_finals finals_count feeders_are viewers_are same made keeps =
     let drawn = ap (λ (d : DrawState). d.drawn) draws_are in

@@ -1,5 +1,5 @@
 -- What a run leaves.
-use Rattle.std.specs.Prelude.{◌≡◌, ◌≢◌, ℕ, ◌+◌, Bool, true, false, List, [], ◌∷◌, All, length, map, Option, Some, Result, Err, OnOk, IsErrOf, ⊤}
+use Rattle.std.specs.Prelude.{◌≡◌, ◌≢◌, ℕ, ◌+◌, Bool, true, false, if◌then◌else◌, List, [], ◌∷◌, All, length, map, Option, Some, Result, Err, OnOk, IsErrOf, ⊤}
 use Rattle.std.specs.List.{AllZip}
 use Rattle.crew_builder.specs.Telling.{told_lengths}
 use Rattle.crew_feeder.specs.Leaving.{GivesUntil}
@@ -29,6 +29,7 @@ use Rattle.session_core.specs.declared.fault.SessionFault.{SessionFault}
 use Rattle.session_core.specs.declared.fault.SessionFault.TheVariants as fault
 use Rattle.world_core.specs.Interleaving.{IsInterleaving, entry_points, list_of}
 use Rattle.world_core.specs.PairFact.{IsPrefix}
+use Rattle.world_core.specs.declared.entry.Entry.{Entry}
 
 -- the rows of lines under the header of a job
 abbrev pub feed_rows : {I : Type 0} → FeedJob I → List Line → List Row
@@ -58,10 +59,14 @@ module _ {I : Type 0} (left : I → Option (List ℕ)) (faults : I → ℕ) wher
   FeedsLeave (job ∷ jobs) (sent ∷ sents) (done ∷ dones) = LeavesFeed left faults job sent done × FeedsLeave jobs sents dones
   FeedsLeave jobs sents dones = ⊥
 
+-- the points over which sessions answer: the journal's where the viewers were closed, and else the first of what was drawn
+abbrev pub answered_over : Bool → List Entry → List Entry → List Point
+answered_over closed journal drawn = entry_points (if closed then journal else drawn)
+
 -- over a source and a sink, a structure whose numbers meet the test, and a schema
 module _ {I O : Type 0} (left : I → Option (List ℕ)) (faults : I → ℕ) (held : O → Option (List ℕ)) (put_faults : O → ℕ) (name : O → List ℕ) (is_stat : Stat → Type 0) (schema : Schema) where
-  -- What a session of a run leaves, where the journal has these points
-  pub record LeavesTranscript (final closed starved : Bool) (journal : List Point) (before : SessionState I O) (done : SessionDone I O) : Type 0 where
+  -- What a session of a run leaves, over this list of points
+  pub record LeavesTranscript (final closed starved : Bool) (list : List Point) (before : SessionState I O) (done : SessionDone I O) : Type 0 where
     -- the session at its end
     pub after : SessionState I O
     -- how it ended
@@ -70,9 +75,12 @@ module _ {I O : Type 0} (left : I → Option (List ℕ)) (faults : I → ℕ) (h
     pub parts : (done.source ≡ after.source.source) × (done.sink ≡ after.sink)
     -- with its numbers and its fault
     pub numbers : (done.replies ≡ after.replies) × (done.seen ≡ last_number after.seens) × (done.fault ≡ ending_fault end)
-    -- the points over which it answered, which are the journal's where the viewers were closed
+    -- the points over which it answered: all of the list where the viewers were closed, and else the first of it
     pub points : List Point
-    pub whole : closed ≡ true → points ≡ journal
+    pub whole : closed ≡ true → points ≡ list
+    pub within : IsPrefix points list
+    -- where they were not closed a final had no turn
+    pub unrun : closed ≡ false → final ≡ true → after ≡ before
     -- its replies, which the numbers count, are a transcript over them of the first of what its script asks; after `Write`
     -- with one reply more, of which the sink gained a part
     pub replied : HasDone left faults held schema is_stat final 0 (record { shown = points; told = points; takes = done.mail.takes }) before after end
@@ -115,10 +123,10 @@ module _ {I O : Type 0} (left : I → Option (List ℕ)) (faults : I → ℕ) (h
     pub drawn : IsInterleaving (length jobs.feeds) (list_of sent) c.drawn
     -- the journal is a prefix of it
     pub journal : IsPrefix c.journal c.drawn
-    -- each ask answered over the journal
-    pub asks : AllZip (LeavesTranscript false c.closed c.starved (entry_points c.journal)) jobs.asks c.asks
-    -- each final answered over all of the journal
-    pub finals : AllZip (LeavesTranscript true c.closed c.starved (entry_points c.journal)) jobs.finals c.finals
+    -- each ask answered over the journal, or over the first of what was drawn
+    pub asks : AllZip (LeavesTranscript false c.closed c.starved (answered_over c.closed c.journal c.drawn)) jobs.asks c.asks
+    -- each final answered over all of the journal, or had no turn
+    pub finals : AllZip (LeavesTranscript true c.closed c.starved (answered_over c.closed c.journal c.drawn)) jobs.finals c.finals
     -- the mailboxes that were put into are those that the asks took from
     pub mails : map (λ (mail : InEnd). mail.mailbox) c.mails ≡ map (λ (done : SessionDone I O). done.mail.mailbox) c.asks
     -- and where nothing lacked memory, all is there

@@ -10,10 +10,13 @@ use Rattle.crew_session.specs.declared.done.SessionDone.{SessionDone}
 use Rattle.cube_crew.specs.Starving.{FoundMemory}
 use Rattle.cube_crew.specs.Works.{HasLearned, end_of, fed_of}
 use Rattle.cube_crew.specs.declared.jobs.Crewed.{Crewed}
+use Rattle.cube_view.specs.Points.{Point}
 use Rattle.cube_view.specs.declared.stat.Stat.{Stat}
 use Rattle.feed_queue.specs.Ends.{AreInTurn, sent_lists}
 use Rattle.feed_queue.specs.Items.{entries_in}
+use Rattle.live_session.specs.State.{SessionEnds}
 use Rattle.outer_io.specs.declared.cutter.CutFault.TheVariants as cut
+use Rattle.published_pair.specs.Pair.{Fresh}
 use Rattle.published_pair.specs.Rules.{Known}
 use Rattle.world_core.specs.Interleaving.{IsInterleaving, entry_points, list_of}
 use Rattle.world_core.specs.PairFact.{IsPrefix}
@@ -28,7 +31,7 @@ pub record EndsAsk {I O : Type 0} (whole : Known) (work : WorkState I O) (done :
   pub told : IsPrefix work.learned.points whole.points
 
 -- A final that runs once its viewer has learned the ended list
-pub record EndsFinal {I O : Type 0} (left : I → Option (List ℕ)) (faults : I → ℕ) (held : O → Option (List ℕ)) (put_faults : O → ℕ) (name : O → List ℕ) (is_stat : Stat → Type 0) (whole : Known) (starved : Bool) (work : WorkState I O) (done : SessionDone I O) : Type 0 where
+pub record EndsFinal {I O : Type 0} (ends : SessionEnds I O) (is_stat : Stat → Type 0) (whole : Known) (starved : Bool) (work : WorkState I O) (done : SessionDone I O) : Type 0 where
   -- the work once it has learned that
   pub taught : WorkState I O
   -- and once it has run
@@ -36,7 +39,7 @@ pub record EndsFinal {I O : Type 0} (left : I → Option (List ℕ)) (faults : I
   -- it learned the list
   pub learned : HasLearned whole work taught
   -- and ran
-  pub ran : LeavesSession left faults held put_faults name is_stat taught after
+  pub ran : LeavesSession ends.left ends.faults ends.held ends.put_faults ends.name is_stat taught after
   -- it gives back what it has then
   pub gives : done ≡ done_of after
   -- where nothing lacked memory, it found memory for each reply
@@ -61,8 +64,12 @@ pub record IsRun {I O : Type 0} (works : List (FeedWork I)) (building : Building
   -- and no final has had a turn
   pub no_turn : All (λ (work : WorkState I O). HadNoTurn work.session) finals
 
+-- all that the work's viewer was shown and told is the first of these points
+abbrev pub IsWithin : {I O : Type 0} → List Point → WorkState I O → Type 0
+IsWithin points work = Fresh work.shown.points work.learned.points points
+
 -- What the end of a run makes of its works
-pub record EndsRun {I O : Type 0} (left : I → Option (List ℕ)) (faults : I → ℕ) (held : O → Option (List ℕ)) (put_faults : O → ℕ) (name : O → List ℕ) (is_stat : Stat → Type 0) (works : List (FeedWork I)) (building : Building) (asks finals : List (WorkState I O)) (c : Crewed I O) : Type 0 where
+pub record EndsRun {I O : Type 0} (ends : SessionEnds I O) (is_stat : Stat → Type 0) (works : List (FeedWork I)) (building : Building) (asks finals : List (WorkState I O)) (c : Crewed I O) : Type 0 where
   -- what each feeder's work gives back
   pub feeds : c.feeds ≡ map fed_of works
   -- what was drawn is an interleaving of what they sent
@@ -72,9 +79,11 @@ pub record EndsRun {I O : Type 0} (left : I → Option (List ℕ)) (faults : I �
   -- the mailboxes are as the builder left them
   pub mails : c.mails ≡ building.mails
   -- where the pair ended, every viewer was closed over the journal's points, and the finals ran over them
-  pub closed : c.closed ≡ true → (whole : Known) × (whole.points ≡ entry_points c.journal) × AllZip (EndsAsk whole) asks c.asks × AllZip (EndsFinal left faults held put_faults name is_stat whole c.starved) finals c.finals
+  pub closed : c.closed ≡ true → (whole : Known) × (whole.points ≡ entry_points c.journal) × AllZip (EndsAsk whole) asks c.asks × AllZip (EndsFinal ends is_stat whole c.starved) finals c.finals
   -- and else the sessions are as they were
   pub unclosed : c.closed ≡ false → (c.asks ≡ map done_of asks) × (c.finals ≡ map done_of finals)
+  -- and all that the asks' viewers were shown and told is the first of what was drawn
+  pub within : c.closed ≡ false → All (IsWithin (entry_points c.drawn)) asks
   -- where nothing lacked memory, the pair ended and the builder is not spent
   pub found : c.starved ≡ false → (c.closed ≡ true) × (building.builder.spent ≡ false)
   -- and each feeder and each ask found memory

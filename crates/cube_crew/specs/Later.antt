@@ -6,14 +6,15 @@ use Rattle.crew_builder.specs.Work.{BuilderWorkState as Building}
 use Rattle.crew_session.specs.Leaves.{LeavesSession}
 use Rattle.crew_session.specs.Work.{HadNoTurn, WorkState}
 use Rattle.cube_view.specs.declared.stat.Stat.{Stat}
+use Rattle.live_session.specs.State.{SessionEnds}
 
 -- neither the builder nor an ask has run
 abbrev pub AreUnrun : {I O : Type 0} → Building → List (WorkState I O) → Type 0
 AreUnrun building asks = IsNewWork building × All (λ work. HadNoTurn work.session) asks
 
 -- The builder and the asks before and after they ran side by side
-pub record HaveRun {I O : Type 0} (left : I → Option (List ℕ)) (faults : I → ℕ) (held : O → Option (List ℕ)) (put_faults : O → ℕ) (name : O → List ℕ) (is_stat : Stat → Type 0) (before : Building) (befores : List (WorkState I O)) (after : Building) (afters : List (WorkState I O)) : Type 0 where
+pub record HaveRun {I O : Type 0} (ends : SessionEnds I O) (is_stat : Stat → Type 0) (before : Building) (befores : List (WorkState I O)) (after : Building) (afters : List (WorkState I O)) : Type 0 where
   -- the builder took in all that was sent
   pub built : IsBuilt before after
   -- and each ask left its session
-  pub asks : AllZip (LeavesSession left faults held put_faults name is_stat) befores afters
+  pub asks : AllZip (LeavesSession ends.left ends.faults ends.held ends.put_faults ends.name is_stat) befores afters

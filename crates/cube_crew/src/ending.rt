@@ -3,6 +3,7 @@ ghost use Rattle.std.specs.Prelude.{◌≡◌, ◌≤◌, ◌+◌, [], length, v
 ghost use Rattle.std.specs.List.{AllZip};
 ghost use Rattle.crew_session.specs.Work.{HadNoTurn};
 ghost use Rattle.cube_crew.specs.Ending.{EndsAsk, EndsFinal};
+ghost use Rattle.live_session.specs.State.{ends_of};
 
 use crate::sessions::{close_sessions, run_sessions, teach};
 use crate::starving::has_starved_session;
@@ -40,7 +41,7 @@ pub(crate) fn end_sessions<
     requires asks { (asks.1.items ≡ []) × (vec_len asks.0 ≤ vec_capacity asks.1) }
     requires finals { (finals.1.items ≡ []) × (vec_len finals.0 ≤ vec_capacity finals.1) }
     ensures asks { AllZip (EndsAsk pair.0.ended) asks.0.items result.asks.items }
-    ensures finals { AllZip (EndsFinal I.left I.faults O.held O.faults O.name V.is_stat pair.0.ended result.starved) finals.0.items result.finals.items }
+    ensures finals { AllZip (EndsFinal (ends_of I.Source O.Sink) V.is_stat pair.0.ended result.starved) finals.0.items result.finals.items }
 {
     let (rested, lasts) = pair;
     let (mut asks, answered) = asks;

@@ -4,6 +4,7 @@ ghost use Rattle.cube_crew.specs.Begins.{AreEmptyViews, MayRun};
 ghost use Rattle.cube_crew.specs.Crewed.{IsCrewed};
 ghost use Rattle.cube_crew.specs.Ending.{EndsRun, IsRun};
 ghost use Rattle.cube_crew.specs.Opened.{AreNewFeeds, AreNew, HasMails, HasSeats, IsIdle};
+ghost use Rattle.live_session.specs.State.{ends_of};
 
 use crate::ending::{Answered, end_sessions};
 use crate::feeds::{end_feeds, seat_feeds};
@@ -137,7 +138,7 @@ fn end_run<R: Threads + Wait + Sync, V: Grow + Send + Sync, I: Source + Send, O:
     requires empty { (fed.0.items ≡ []) × (fed.1.items ≡ []) × (answered.0.items ≡ []) × (answered.1.items ≡ []) }
     requires fed { (vec_len works ≤ vec_capacity fed.0) × (vec_len works ≤ vec_capacity fed.1) }
     requires answered { (vec_len later.asks ≤ vec_capacity answered.0) × (vec_len finals ≤ vec_capacity answered.1) }
-    ensures { EndsRun I.left I.faults O.held O.faults O.name V.is_stat works.items later.building later.asks.items finals.items result }
+    ensures { EndsRun (ends_of I.Source O.Sink) V.is_stat works.items later.building later.asks.items finals.items result }
 {
     let Later { building, asks } = later;
     let (draws, builder, mails) = building.into_parts();
@@ -166,10 +167,10 @@ fn end_run<R: Threads + Wait + Sync, V: Grow + Send + Sync, I: Source + Send, O:
                 closed: true,
             }
         }
-        Err(NoMemory) => Crewed {
+        Err(given_up) => Crewed {
             feeds,
-            asks: List::from_vec(leave_sessions(asks, answered.0)),
-            finals: List::from_vec(leave_sessions(finals, answered.1)),
+            asks: List::from_vec(leave_sessions(&given_up, asks, answered.0)),
+            finals: List::from_vec(leave_sessions(&given_up, finals, answered.1)),
             journal,
             drawn,
             mails,

@@ -3,6 +3,7 @@ ghost use Rattle.std.specs.Prelude.{◌≡◌, ◌≤◌, ◌+◌, [], map, leng
 ghost use Rattle.std.specs.List.{AllZip};
 ghost use Rattle.crew_session.specs.Leaves.{LeavesSession};
 ghost use Rattle.crew_session.specs.Work.{HadNoTurn, done_of};
+ghost use Rattle.cube_crew.specs.Ending.{IsWithin};
 ghost use Rattle.cube_crew.specs.Works.{HasLearned, session_works_of};
 ghost use Rattle.published_pair.specs.Pair.{Fresh, IsNewViewer};
 
@@ -11,7 +12,7 @@ use cube_view::Grow;
 use live_session::Session;
 use mailbox::MailOut;
 use outer_io::{Sink, Source};
-use published_pair::{Last, Publisher, Rested, Viewer};
+use published_pair::{GivenUp, Last, Publisher, Rested, Viewer};
 use std::alloc::Global;
 use std::sync::Wait;
 use std::thread::{self, Threads};
@@ -113,21 +114,25 @@ pub(crate) fn close_sessions<V: Grow, I: Source, O: Sink, R: Wait>(
     dones
 }
 
-/// What each session leaves, whose viewer is not closed. It takes no memory.
+/// What each session leaves, whose viewer is of a pair that was given up. It takes no memory.
 pub(crate) fn leave_sessions<V: Grow, I: Source, O: Sink>(
+    given_up: &GivenUp,
     mut works: Vec<SessionWork<V, I, O>>,
     room: Vec<SessionDone<I, O>>,
 ) -> Vec<SessionDone<I, O>>
+    requires pair { All (λ w. w.shown.book ≡ given_up.now.whole.book) works.items }
     requires room { (room.items ≡ []) × (vec_len works ≤ vec_capacity room) }
     ensures dones { result.items ≡ map done_of works.items }
+    ensures within { All (IsWithin given_up.now.whole.points) works.items }
     ensures room { (vec_len result ≡ vec_len works) × (vec_capacity room ≤ vec_capacity result) }
 {
     let Some(work) = works.pop() else {
         works.destroy_empty();
         return room;
     };
-    let mut dones = leave_sessions(works, room);
-    let (done, _viewer) = work.finish();
+    let mut dones = leave_sessions(given_up, works, room);
+    let (done, viewer) = work.finish();
+    given_up.covers(&viewer);
     dones.push_reserved(done);
     dones
 }

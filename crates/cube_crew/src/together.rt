@@ -8,6 +8,7 @@ ghost use Rattle.crew_feeder.specs.Taking.{IsReady};
 ghost use Rattle.crew_session.specs.Leaves.{LeavesSession};
 ghost use Rattle.crew_session.specs.Work.{HadNoTurn};
 ghost use Rattle.cube_crew.specs.Later.{AreUnrun, HaveRun};
+ghost use Rattle.live_session.specs.State.{ends_of};
 
 use crate::feeds::run_feeds;
 use crate::sessions::run_sessions;
@@ -89,7 +90,7 @@ pub(crate) fn run_together<
     requires feeds { All (IsReady schema.now) feeds.old.items }
     requires later { AreUnrun later.old.building later.old.asks.items }
     ensures feeds { AllZip (HasFed I.left I.faults true) feeds.old.items feeds.new.items }
-    ensures later { HaveRun I.left I.faults O.held O.faults O.name V.is_stat later.old.building later.old.asks.items later.new.building later.new.asks.items }
+    ensures later { HaveRun (ends_of I.Source O.Sink) V.is_stat later.old.building later.old.asks.items later.new.building later.new.asks.items }
 {
     run_three(
         rt,

@@ -2,7 +2,7 @@
 use Rattle.std.proofs.Common.{◌≡◌, ◌≢◌, ℕ, Bool, true, false, List, [], ◌∷◌, ◌++◌, take, length, Option, Some, Result, Ok, Err, refl, sym, ◌∙◌, subst, OnOk, IsErrOf}
 use Rattle.image_run.specs.Answering.{answers_end, lacking_end, script_end, AnswersFile}
 use Rattle.image_run.specs.Views.{seen_view}
-use Rattle.run_files.specs.Outside.{PlaceSeen, SinkSeen}
+use Rattle.run_files.specs.Outside.{at, PlaceSeen, SinkSeen}
 use Rattle.cube_view.specs.Bag.{Counts, EachCounted}
 use Rattle.cube_view.specs.Points.{Point}
 use Rattle.cube_view.specs.declared.schema.Schema.{Schema}
@@ -34,7 +34,7 @@ front_lacking schema is_stat h told a b ps (front, later, is, (rs, are, gained))
 pub nothing_gained : (schema : Schema) (is_stat : Stat → Type 0) (h : List Point) (told : ℕ) (lacks : Bool) (held : Option (List ℕ)) (ps : List Parsed) → GainsFront schema is_stat h told lacks held held ps
 nothing_gained schema is_stat h told lacks held ps = ([], ps, refl, ([], record { each = tt; order = tt }, (0, gains_none held)))
 
-module _ {P O : Type 0} (p : PlaceSeen P) (s : SinkSeen O) (place place' : P) (out out' : O) (schema : Schema) (is_stat : Stat → Type 0) (at : Spot → ℕ) (n : ℕ) (name : List ℕ) where
+module _ {P O : Type 0} (p : PlaceSeen P) (s : SinkSeen O) (place place' : P) (out out' : O) (schema : Schema) (is_stat : Stat → Type 0) (weight : Spot → ℕ) (n : ℕ) (name : List ℕ) where
   abbrev Replies : List Point → List ℕ → Type 0
   Replies h script = GainsReplies schema is_stat h (length h) false (s.held out) (s.held out') (asked schema (lines script))
 
@@ -49,15 +49,15 @@ module _ {P O : Type 0} (p : PlaceSeen P) (s : SinkSeen O) (place place' : P) (o
     weaker x is = subst is_stat (sym is) met
 
     abbrev Answered : Bool → Bool → List ℕ → Type 0
-    Answered lacked refused q = EachCounted at n (λ k. GainsReplies schema IsIts k told lacked (s.held out) (s.held out') (asked schema (lines q))) × (is_script_refused schema q ≡ refused)
+    Answered lacked refused q = EachCounted weight n (λ k. GainsReplies schema IsIts k told lacked (s.held out) (s.held out') (asked schema (lines q))) × (is_script_refused schema q ≡ refused)
 
     abbrev Begun : Bool → List ℕ → Type 0
-    Begun lacked q = EachCounted at n (λ k. GainsFront schema IsIts k told lacked (s.held out) (s.held out') (asked schema (lines q)))
+    Begun lacked q = EachCounted weight n (λ k. GainsFront schema IsIts k told lacked (s.held out) (s.held out') (asked schema (lines q)))
 
     bytes_of : (P : List ℕ → Type 0) → Told left P → (fs : Files) → p.files place ≡ Some fs → P (file_or_empty fs name)
     bytes_of P told_P fs told_fs = Told-some left (file_or_empty fs name) P (Told-some (p.files place) fs (λ fs. left ≡ Some (file_or_empty fs name)) told_fs opens) told_P
 
-    replies_at : (refused : Bool) → Told left (Answered false refused) → (fs : Files) → p.files place ≡ Some fs → ((h : List Point) → Counts at n h → Replies h (file_or_empty fs name)) × (is_script_refused schema (file_or_empty fs name) ≡ refused)
+    replies_at : (refused : Bool) → Told left (Answered false refused) → (fs : Files) → p.files place ≡ Some fs → ((h : List Point) → Counts weight n h → Replies h (file_or_empty fs name)) × (is_script_refused schema (file_or_empty fs name) ≡ refused)
     replies_at refused answers fs told_fs =
         let it = bytes_of (Answered false refused) answers fs told_fs in (
           λ h counts.
@@ -66,7 +66,7 @@ module _ {P O : Type 0} (p : PlaceSeen P) (s : SinkSeen O) (place place' : P) (o
           it.1,
         )
 
-    front_at : (lacked : Bool) → Told left (Begun lacked) → (fs : Files) → p.files place ≡ Some fs → (h : List Point) → Counts at n h → Front lacked h (file_or_empty fs name)
+    front_at : (lacked : Bool) → Told left (Begun lacked) → (fs : Files) → p.files place ≡ Some fs → (h : List Point) → Counts weight n h → Front lacked h (file_or_empty fs name)
     front_at lacked answers fs told_fs h counts =
         let r = subst (λ (t : ℕ). GainsFront schema IsIts h t lacked (s.held out) (s.held out') (asked schema (lines (file_or_empty fs name)))) (all ∙ counts.number) (bytes_of (Begun lacked) answers fs told_fs h counts) in
         (r.0, r.1, r.2, (r.3.0, transcript_weaker schema IsIts is_stat weaker lacked true h (length h) _ r.3.0 r.3.1, r.3.2))
@@ -76,7 +76,7 @@ module _ {P O : Type 0} (p : PlaceSeen P) (s : SinkSeen O) (place place' : P) (o
       abbrev End : Type 0
       End = Result (Unit {0}) Stop
 
-      file_with : (result : End) → result ≢ Err stop.PlanRefused → (result ≡ Ok tt → Told left (Answered false false)) → (result ≡ Err stop.FeedRefused → Told left (Answered false true)) → Told left (Begun (is_lacking result)) → AnswersFile p s place place' out out' (seen_view schema is_stat (Counts at n)) name result
+      file_with : (result : End) → result ≢ Err stop.PlanRefused → (result ≡ Ok tt → Told left (Answered false false)) → (result ≡ Err stop.FeedRefused → Told left (Answered false true)) → Told left (Begun (is_lacking result)) → AnswersFile p s (at place out) (at place' out') (seen_view schema is_stat (Counts weight n)) name result
       file_with result form done refused part =
           record {
             form = form;
@@ -89,7 +89,7 @@ module _ {P O : Type 0} (p : PlaceSeen P) (s : SinkSeen O) (place place' : P) (o
           }
 
       -- by the end of its answers
-      ended_file : (lacked : Bool) (r : Result (Unit {0}) SessionFault) → OnOk r (Told left (Answered lacked false)) → (IsErrOf r fault.TooMuch → Told left (Answered lacked true)) → Told left (Begun lacked) → AnswersFile p s place place' out out' (seen_view schema is_stat (Counts at n)) name (joined_ends (lacking_end lacked) (answers_end r))
+      ended_file : (lacked : Bool) (r : Result (Unit {0}) SessionFault) → OnOk r (Told left (Answered lacked false)) → (IsErrOf r fault.TooMuch → Told left (Answered lacked true)) → Told left (Begun lacked) → AnswersFile p s (at place out) (at place' out') (seen_view schema is_stat (Counts weight n)) name (joined_ends (lacking_end lacked) (answers_end r))
       ended_file true (Ok x) done refused part = file_with (Err stop.NoMemory) (λ e. cc) (λ e. cc) (λ e. cc) part
       ended_file true (Err fault.TooMuch) done refused part = file_with (Err stop.NoMemory) (λ e. cc) (λ e. cc) (λ e. cc) part
       ended_file true (Err fault.Read) done refused part = file_with (Err stop.NoMemory) (λ e. cc) (λ e. cc) (λ e. cc) part
@@ -104,11 +104,11 @@ module _ {P O : Type 0} (p : PlaceSeen P) (s : SinkSeen O) (place place' : P) (o
           lacking_front : Told left (Begun false) → Told left (Begun true)
           lacking_front told_front = Told-each left (Begun false) (Begun true) (λ q each h counts. front_lacking schema IsIts h told (s.held out) (s.held out') (asked schema (lines q)) (each h counts)) told_front
 
-      pub answered_file : (e : ScriptEnd) → OnOk e.end (Told left (Answered e.lacked false)) → (IsErrOf e.end fault.TooMuch → Told left (Answered e.lacked true)) → Told left (Begun e.lacked) → AnswersFile p s place place' out out' (seen_view schema is_stat (Counts at n)) name (script_end e)
+      pub answered_file : (e : ScriptEnd) → OnOk e.end (Told left (Answered e.lacked false)) → (IsErrOf e.end fault.TooMuch → Told left (Answered e.lacked true)) → Told left (Begun e.lacked) → AnswersFile p s (at place out) (at place' out') (seen_view schema is_stat (Counts weight n)) name (script_end e)
       answered_file e done refused part = ended_file e.lacked e.end done refused part
 
 -- a script that was not answered, with what its opening noted
-pub unopened_file : {P O : Type 0} (p : PlaceSeen P) (s : SinkSeen O) (place place' : P) (out : O) (schema : Schema) (is_stat : Stat → Type 0) (counts : List Point → Type 0) (name : List ℕ) (result : Result (Unit {0}) Stop) → result ≢ Err stop.PlanRefused → result ≢ Ok tt → result ≢ Err stop.FeedRefused → (k : ℕ) × (p.opened place' ≡ p.opened place ++ take k (name ∷ [])) → AnswersFile p s place place' out out (seen_view schema is_stat counts) name result
+pub unopened_file : {P O : Type 0} (p : PlaceSeen P) (s : SinkSeen O) (place place' : P) (out : O) (schema : Schema) (is_stat : Stat → Type 0) (counts : List Point → Type 0) (name : List ℕ) (result : Result (Unit {0}) Stop) → result ≢ Err stop.PlanRefused → result ≢ Ok tt → result ≢ Err stop.FeedRefused → (k : ℕ) × (p.opened place' ≡ p.opened place ++ take k (name ∷ [])) → AnswersFile p s (at place out) (at place' out) (seen_view schema is_stat counts) name result
 unopened_file p s place place' out schema is_stat counts name result form not_done not_refused opened =
     record {
       form = form;

@@ -4,7 +4,7 @@ use Rattle.cube_view.specs.Points.{Point}
 use Rattle.image_run.specs.Views.{ViewSeen}
 use Rattle.outer_io.specs.Files.{Files, file_or_empty}
 use Rattle.outer_io.specs.Lines.{lines}
-use Rattle.run_files.specs.Outside.{PlaceSeen, SinkSeen}
+use Rattle.run_files.specs.Outside.{Outside, PlaceSeen, SinkSeen}
 use Rattle.run_files.specs.Stops.{is_lacking, joined_ends, stop_of_session}
 use Rattle.run_files.specs.declared.stop.Stop.{Stop}
 use Rattle.run_files.specs.declared.stop.Stop.TheVariants as stop
@@ -39,17 +39,17 @@ module _ {O : Type 0} (s : SinkSeen O) (out out' : O) (view : ViewSeen) where
   GainsSomeOver lacking script = (h : List Point) → view.counts h → GainsFront view.schema view.is_stat h (length h) lacking (s.held out) (s.held out') (asked view.schema (lines script))
 
 -- What answering the named script leaves of a place and a sink, over a view, each point of which was told
-pub record AnswersFile {P O : Type 0} (p : PlaceSeen P) (s : SinkSeen O) (place place' : P) (out out' : O) (view : ViewSeen) (name : List ℕ) (result : Result (Unit {0}) Stop) : Type 0 where
+pub record AnswersFile {P O : Type 0} (p : PlaceSeen P) (s : SinkSeen O) (before after : Outside P O) (view : ViewSeen) (name : List ℕ) (result : Result (Unit {0}) Stop) : Type 0 where
   -- no plan is refused
   pub form : result ≢ Err stop.PlanRefused
   -- with Ok the sink gained all answers, and the script is not refused
-  pub done : (files : Files) → p.files place ≡ Some files → result ≡ Ok tt → GainsAllOver s out out' view (file_or_empty files name) × (is_script_refused view.schema (file_or_empty files name) ≡ false)
+  pub done : (files : Files) → p.files before.place ≡ Some files → result ≡ Ok tt → GainsAllOver s before.out after.out view (file_or_empty files name) × (is_script_refused view.schema (file_or_empty files name) ≡ false)
   -- and so it did where the script is refused
-  pub refused : (files : Files) → p.files place ≡ Some files → result ≡ Err stop.FeedRefused → GainsAllOver s out out' view (file_or_empty files name) × (is_script_refused view.schema (file_or_empty files name) ≡ true)
+  pub refused : (files : Files) → p.files before.place ≡ Some files → result ≡ Err stop.FeedRefused → GainsAllOver s before.out after.out view (file_or_empty files name) × (is_script_refused view.schema (file_or_empty files name) ≡ true)
   -- with any end it gained some of them
-  pub part : (files : Files) → p.files place ≡ Some files → GainsSomeOver s out out' view (is_lacking result) (file_or_empty files name)
+  pub part : (files : Files) → p.files before.place ≡ Some files → GainsSomeOver s before.out after.out view (is_lacking result) (file_or_empty files name)
   -- the script was opened, once at most, and with Ok it was
-  pub opened_once : (k : ℕ) × (p.opened place' ≡ p.opened place ++ take k (name ∷ []))
-  pub opened_it : result ≡ Ok tt → p.opened place' ≡ p.opened place ++ name ∷ []
+  pub opened_once : (k : ℕ) × (p.opened after.place ≡ p.opened before.place ++ take k (name ∷ []))
+  pub opened_it : result ≡ Ok tt → p.opened after.place ≡ p.opened before.place ++ name ∷ []
   -- where it was not, nothing was written
-  pub untouched : p.opened place' ≡ p.opened place → out' ≡ out
+  pub untouched : p.opened after.place ≡ p.opened before.place → after.out ≡ before.out

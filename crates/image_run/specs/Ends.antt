@@ -16,7 +16,7 @@ use Rattle.image_run.specs.declared.end.ImageEnd.TheVariants.{Done, Refused}
 use Rattle.outer_io.specs.Faults.{Rose}
 use Rattle.outer_io.specs.Files.{Files, file_or_empty}
 use Rattle.outer_io.specs.Lines.{lines}
-use Rattle.run_files.specs.Outside.{file_of, PlaceSeen, Puts, PutsOrFails, Silent, SinkSeen}
+use Rattle.run_files.specs.Outside.{file_of, Outside, PlaceSeen, Puts, PutsOrFails, Silent, SinkSeen}
 use Rattle.run_files.specs.Planned.{MayHavePlan, RefusesPlan}
 use Rattle.run_files.specs.Stops.{is_lacking, IsOrLacks}
 use Rattle.run_files.specs.declared.stop.Stop.{Stop}
@@ -47,10 +47,10 @@ module _ {O : Type 0} (s : SinkSeen O) (out out' : O) (schema : Schema) (image s
     pub gains : (h : List Point) → IsCubeImage schema image h → GainsFront schema OwnsAllButRoot h (length h) lacking (s.held out) (s.held out') (asked schema (lines script))
 
 -- what answering the named script over the named image leaves of a place and a sink
-module _ {P O : Type 0} (p : PlaceSeen P) (s : SinkSeen O) (place place' : P) (out out' : O) (names : ImageNames) where
+module _ {P O : Type 0} (p : PlaceSeen P) (s : SinkSeen O) (before after : Outside P O) (names : ImageNames) where
   -- the claim holds of the bytes of the image and the script, where the place tells its files
   abbrev pub OfLoadFiles : (List ℕ → List ℕ → Type 0) → Type 0
-  OfLoadFiles Claim = (files : Files) → p.files place ≡ Some files → Claim (file_or_empty files names.image) (file_or_empty files names.script)
+  OfLoadFiles Claim = (files : Files) → p.files before.place ≡ Some files → Claim (file_or_empty files names.image) (file_or_empty files names.script)
 
   -- The image is refused, and this is said of its fault
   pub record SaysFault (schema : Schema) (Says : List ℕ → Type 0) : Type 0 where
@@ -60,28 +60,28 @@ module _ {P O : Type 0} (p : PlaceSeen P) (s : SinkSeen O) (place place' : P) (o
 
   -- what is put: nothing, or the line of a refused plan, or that of a refused image, or a part of it, or some answers
   abbrev pub SaysOfLoad : Option Plan → Result ImageEnd Stop → Type 0
-  SaysOfLoad None result = Silent s out out' ⊎ RefusesPlan s out out' (file_of (p.files place) names.plan)
-  SaysOfLoad (Some plan) result = Silent s out out' ⊎ SaysFault plan.schema (PutsOrFails s out out') ⊎ OfLoadFiles (λ i q. GainsSomeImageAnswers s out out' plan.schema i q (is_lacking result))
+  SaysOfLoad None result = Silent s before.out after.out ⊎ RefusesPlan s before.out after.out (file_of (p.files before.place) names.plan)
+  SaysOfLoad (Some plan) result = Silent s before.out after.out ⊎ SaysFault plan.schema (PutsOrFails s before.out after.out) ⊎ OfLoadFiles (λ i q. GainsSomeImageAnswers s before.out after.out plan.schema i q (is_lacking result))
 
   -- How it ends
   pub record LoadEnds (result : Result ImageEnd Stop) : Type 0 where
     -- the plan, where the file of that name was read and is one
-    pub planned : MayHavePlan s out out' (file_of (p.files place) names.plan) (λ end. result ≡ Err end)
+    pub planned : MayHavePlan s before.out after.out (file_of (p.files before.place) names.plan) (λ end. result ≡ Err end)
     -- with Done the image was accepted, the sink gained all answers, and the script is not refused
-    pub done : result ≡ Ok Done → (which : Plan) × (planned.plan ≡ Some which) × OfLoadFiles (λ i q. GainsImageAnswers s out out' which.schema i q × (is_script_refused which.schema q ≡ false))
+    pub done : result ≡ Ok Done → (which : Plan) × (planned.plan ≡ Some which) × OfLoadFiles (λ i q. GainsImageAnswers s before.out after.out which.schema i q × (is_script_refused which.schema q ≡ false))
     -- with Refused the image is refused, which is said, and the script was not opened
-    pub refused_image : result ≡ Ok Refused → (which : Plan) × (planned.plan ≡ Some which) × SaysFault which.schema (Puts s out out') × (p.opened place' ≡ p.opened place ++ names.plan ∷ names.image ∷ [])
+    pub refused_image : result ≡ Ok Refused → (which : Plan) × (planned.plan ≡ Some which) × SaysFault which.schema (Puts s before.out after.out) × (p.opened after.place ≡ p.opened before.place ++ names.plan ∷ names.image ∷ [])
     -- a script is refused only where it is, and then the sink gained all answers
-    pub refused : result ≡ Err FeedRefused → (which : Plan) × (planned.plan ≡ Some which) × OfLoadFiles (λ i q. GainsImageAnswers s out out' which.schema i q × (is_script_refused which.schema q ≡ true))
+    pub refused : result ≡ Err FeedRefused → (which : Plan) × (planned.plan ≡ Some which) × OfLoadFiles (λ i q. GainsImageAnswers s before.out after.out which.schema i q × (is_script_refused which.schema q ≡ true))
     -- of what is put nothing else comes
     pub said : SaysOfLoad planned.plan result
     -- the plan was opened, then the image, and then the script, each once at most, and all with Done
-    pub opened : (k : ℕ) × (p.opened place' ≡ p.opened place ++ take k (names.plan ∷ names.image ∷ names.script ∷ []))
-    pub opened_all : result ≡ Ok Done → p.opened place' ≡ p.opened place ++ names.plan ∷ names.image ∷ names.script ∷ []
+    pub opened : (k : ℕ) × (p.opened after.place ≡ p.opened before.place ++ take k (names.plan ∷ names.image ∷ names.script ∷ []))
+    pub opened_all : result ≡ Ok Done → p.opened after.place ≡ p.opened before.place ++ names.plan ∷ names.image ∷ names.script ∷ []
     -- the script only where the image was accepted
-    pub opened_last : p.opened place' ≡ p.opened place ++ names.plan ∷ names.image ∷ names.script ∷ [] → (which : Plan) × (planned.plan ≡ Some which) × OfLoadFiles (λ i q. IsAcceptedImage which.schema i)
+    pub opened_last : p.opened after.place ≡ p.opened before.place ++ names.plan ∷ names.image ∷ names.script ∷ [] → (which : Plan) × (planned.plan ≡ Some which) × OfLoadFiles (λ i q. IsAcceptedImage which.schema i)
     -- each fault has its cause, and no file is written
-    pub faults : HasLoadFaults p s place place' out out' result
+    pub faults : HasLoadFaults p s before after result
     -- where there is a plan and no count rose, the run is done with an image that is accepted and a script that is not refused, and a refused image is refused, unless memory was wanted
-    pub complete : ¬ Rose (p.read_faults place) (p.read_faults place') → ¬ Rose (s.faults out) (s.faults out')
+    pub complete : ¬ Rose (p.read_faults before.place) (p.read_faults after.place) → ¬ Rose (s.faults before.out) (s.faults after.out)
         → IfSome planned.plan (λ which. OfLoadFiles (λ i q. (IsAcceptedImage which.schema i → is_script_refused which.schema q ≡ false → IsOrLacks Done result) × ((fault : ImageFault) → IsRefusedFor which.schema i fault → IsOrLacks Refused result)))

@@ -3,7 +3,7 @@ ghost use Rattle.std.specs.Prelude.{◌≡◌};
 ghost use Rattle.image_run.specs.Answering.{answers_end, lacking_end, script_end, AnswersFile};
 ghost use Rattle.image_run.specs.Faults.{HasLoadFaults};
 ghost use Rattle.image_run.specs.Views.{of_view};
-ghost use Rattle.run_files.specs.Outside.{of_place, of_sink};
+ghost use Rattle.run_files.specs.Outside.{at, of_place, of_sink};
 
 use cube_view::CubeView;
 use outer_io::{IoFault, Place, Sink};
@@ -43,8 +43,8 @@ pub fn answer_file<V: CubeView, P: Place, O: Sink>(
     place: &mut P,
     out: &mut O,
 ) -> Result<(), Stop>
-    ensures answers { AnswersFile (of_place P.Place) (of_sink O.Sink) place.old place.new out.old out.new (of_view V.CubeView view.now) script.now result }
-    ensures faults { HasLoadFaults (of_place P.Place) (of_sink O.Sink) place.old place.new out.old out.new result }
+    ensures file { AnswersFile (of_place P.Place) (of_sink O.Sink) (at place.old out.old) (at place.new out.new) (of_view V.CubeView view.now) script.now result }
+    ensures faults { HasLoadFaults (of_place P.Place) (of_sink O.Sink) (at place.old out.old) (at place.new out.new) result }
 {
     match place.open(script) {
         Ok(source) => {

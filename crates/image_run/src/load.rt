@@ -1,5 +1,5 @@
 //! A script answered over the cube of an image, from files.
-ghost use Rattle.run_files.specs.Outside.{of_place, of_sink};
+ghost use Rattle.run_files.specs.Outside.{at, of_place, of_sink};
 ghost use Rattle.image_run.specs.Ends.{LoadEnds};
 ghost use Rattle.image_run.specs.Names.{image_names};
 
@@ -28,7 +28,7 @@ pub fn load_files<P: Place, O: Sink>(
     place: &mut P,
     out: &mut O,
 ) -> Result<ImageEnd, Stop>
-    ensures { LoadEnds (of_place P.Place) (of_sink O.Sink) place.old place.new out.old out.new (image_names names.now) result }
+    ensures { LoadEnds (of_place P.Place) (of_sink O.Sink) (at place.old out.old) (at place.new out.new) (image_names names.now) result }
 {
     let plan = load_plan(alloc, names.plan, place, out)?;
     let bytes = read_file(alloc, names.image, MOST_BYTES as usize, place)?;

@@ -5,8 +5,9 @@ use Rattle.cube_view.specs.Points.{Point}
 use Rattle.cube_view.specs.declared.schema.Schema.{Schema}
 use Rattle.cube_view.specs.declared.spot.Spot.{Spot}
 use Rattle.cube_view.specs.declared.stat.Stat.{Stat}
+use Rattle.cube_view.specs.declared.view.CubeView as CubeView
 use Rattle.live_session.specs.News.{AsksMail, Goes, GoesFor, HasNews, KeepsViewer, LearnsTaken, MayAsk, asks_news, news_of, takes_for}
-use Rattle.live_session.specs.Saying.{IsShown}
+use Rattle.live_session.specs.Saying.{IsShownTo}
 use Rattle.live_session.specs.State.{SessionState}
 use Rattle.live_session.specs.Turned.{HasFaults, is_no_memory}
 use Rattle.live_session.proofs.NextReply.{prefix-longer}
@@ -18,6 +19,7 @@ use Rattle.outer_io.specs.Faults.{HasCause}
 use Rattle.outer_io.specs.Progress.{PassesAll}
 use Rattle.published_pair.specs.Rules.{Known}
 use Rattle.published_pair.specs.declared.told.Told.{Told}
+use Rattle.published_pair.specs.declared.viewer.Viewer.{Viewer}
 use Rattle.query_syntax.specs.declared.query.Parsed.{Parsed}
 use Rattle.session_core.specs.Asked.{asks_look}
 use Rattle.session_core.specs.Turns.{AsksNext}
@@ -143,8 +145,8 @@ pub fresh_length : (learned learned' shown' : List Point) (p : Parsed) → IsPre
 fresh_length learned learned' shown' p told look e = omega (arith, prefix-longer learned learned' told, prefix-longer learned' shown' (look e))
 
 -- the numbers of a view that is shown meet the view's test
-pub shown_numbers : {V : Type 0} (weight_at : V → Spot → ℕ) (seen_by : V → ℕ) (schema_of : V → Schema) (numbers : V → Stat) (is_stat : Stat → Type 0) (schema : Schema) (h : List Point) → ((v : V) → is_stat (numbers v)) → (stat : Stat) → IsShown weight_at seen_by schema_of numbers schema h stat → is_stat stat
-shown_numbers weight_at seen_by schema_of numbers is_stat schema h met stat (view, counts, same, is) = subst is_stat (sym is) (met view)
+pub shown_numbers : {V C : Type 0} {members : CubeView.Ghosts V C} (viewer : Viewer V C members) → ((v : V) → members.is_stat (members.numbers v)) → (stat : Stat) → IsShownTo viewer stat → members.is_stat stat
+shown_numbers {members = members} viewer met stat is = subst members.is_stat (sym is) (met viewer.shown_view.value)
 
 module _ {I O : Type 0} (left : I → Option (List ℕ)) (faults : I → ℕ) (held : O → Option (List ℕ)) where
   -- the line that was read, under a schema that is another's

@@ -42,34 +42,34 @@ module _ {I V C : Type 0} (script : Source.Ghosts I) (members : CubeView.Ghosts 
   pub took_nothing : (shown : List Point) → TookSoFar shown source start
   took_nothing shown = record { turns = []; passed = passes_none script.left script.faults source; fronts = All-nil (IsFrontOf shown); takes = refl }
 
-  takes_more : (turns : List (Line × List Point)) (line : Line) (shown : List Point) (before mid after : ℕ) → TakesForEach members schema turns before mid → TakesSteps members schema shown (line_meaning schema line) mid after → TakesForEach members schema (turns ++ (line, shown) ∷ []) before after
-  takes_more [] line shown before mid after same takes = (after, subst (λ (n : ℕ). TakesSteps members schema shown (line_meaning schema line) n after) same takes, refl)
-  takes_more (turn ∷ turns) line shown before mid after more takes = (more.0, more.1, takes_more turns line shown more.0 mid after more.2 takes)
+  takes_more : (turns : List (Line × List Point)) (view : V) (line : Line) (shown : List Point) (before mid after : ℕ) → TakesForEach members schema turns before mid → TakesSteps members view schema shown (line_meaning schema line) mid after → TakesForEach members schema (turns ++ (line, shown) ∷ []) before after
+  takes_more [] view line shown before mid after same takes = (view, after, subst (λ (n : ℕ). TakesSteps members view schema shown (line_meaning schema line) n after) same takes, refl)
+  takes_more (turn ∷ turns) view line shown before mid after more takes = (more.0, more.1, more.2, takes_more turns view line shown more.1 mid after more.3 takes)
 
   -- one turn more
-  took_more : (shown shown' : List Point) (now after : Cutter I) (steps steps' : ℕ) (line : Line) → IsPrefix shown shown' → TookSoFar shown now steps → Passes script.left script.faults now after (line ∷ []) → TakesSteps members schema shown' (line_meaning schema line) steps steps' → TookSoFar shown' after steps'
-  took_more shown shown' now after steps steps' line on took passes takes = record {
+  took_more : (view : V) (shown shown' : List Point) (now after : Cutter I) (steps steps' : ℕ) (line : Line) → IsPrefix shown shown' → TookSoFar shown now steps → Passes script.left script.faults now after (line ∷ []) → TakesSteps members view schema shown' (line_meaning schema line) steps steps' → TookSoFar shown' after steps'
+  took_more view shown shown' now after steps steps' line on took passes takes = record {
     turns = took.turns ++ (line, shown') ∷ [];
     passed = subst (Passes script.left script.faults source after) (sym (map-append line_of took.turns ((line, shown') ∷ []))) (passes_on script.left script.faults source now after (map line_of took.turns) (line ∷ []) took.passed passes);
     fronts = All-append (IsFrontOf shown') took.turns ((line, shown') ∷ []) (All-weaker (IsFrontOf shown) (IsFrontOf shown') (λ turn front. IsPrefix-then turn.1 shown shown' front on) took.turns took.fronts) (All-cons (IsFrontOf shown') (line, shown') [] (prefix-same shown' shown' refl) (All-nil (IsFrontOf shown')));
-    takes = takes_more took.turns line shown' start steps steps' took.takes takes;
+    takes = takes_more took.turns view line shown' start steps steps' took.takes takes;
   }
 
-  -- what a turn took whose viewer has this schema and was shown this list, or did not
-  abbrev TurnTook : Type 0 → Schema → List Point → Cutter I → Cutter I → ℕ → ℕ → Type 0
-  TurnTook Ended z shown now after steps steps' = ((steps' ≡ steps) × Ended) ⊎ ((line : Line) × Passes script.left script.faults now after (line ∷ []) × TakesSteps members z shown (line_meaning z line) steps steps')
+  -- what a turn took whose viewer has this schema and was shown this view and list, or did not
+  abbrev TurnTook : Type 0 → V → Schema → List Point → Cutter I → Cutter I → ℕ → ℕ → Type 0
+  TurnTook Ended view z shown now after steps steps' = ((steps' ≡ steps) × Ended) ⊎ ((line : Line) × Passes script.left script.faults now after (line ∷ []) × TakesSteps members view z shown (line_meaning z line) steps steps')
 
-  of_schema : (z : Schema) (shown : List Point) (line : Line) (steps steps' : ℕ) → z ≡ schema → TakesSteps members z shown (line_meaning z line) steps steps' → TakesSteps members schema shown (line_meaning schema line) steps steps'
-  of_schema z shown line steps steps' same takes = subst (λ (y : Schema). TakesSteps members y shown (line_meaning y line) steps steps') same takes
+  of_schema : (view : V) (z : Schema) (shown : List Point) (line : Line) (steps steps' : ℕ) → z ≡ schema → TakesSteps members view z shown (line_meaning z line) steps steps' → TakesSteps members view schema shown (line_meaning schema line) steps steps'
+  of_schema view z shown line steps steps' same takes = subst (λ (y : Schema). TakesSteps members view y shown (line_meaning y line) steps steps') same takes
 
   -- after a turn that read a line
-  pub took_on : (shown shown' : List Point) (now after : Cutter I) (steps steps' : ℕ) {Ended : Type 0} (z : Schema) → z ≡ schema → IsPrefix shown shown' → TookSoFar shown now steps → (Ended → TookSoFar shown' after steps') → TurnTook Ended z shown' now after steps steps' → TookSoFar shown' after steps'
-  took_on shown shown' now after steps steps' z same on took not_ended (inl none) = not_ended none.1
-  took_on shown shown' now after steps steps' z same on took not_ended (inr (line, passes, takes)) = took_more shown shown' now after steps steps' line on took passes (of_schema z shown' line steps steps' same takes)
+  pub took_on : (shown shown' : List Point) (now after : Cutter I) (steps steps' : ℕ) {Ended : Type 0} (view : V) (z : Schema) → z ≡ schema → IsPrefix shown shown' → TookSoFar shown now steps → (Ended → TookSoFar shown' after steps') → TurnTook Ended view z shown' now after steps steps' → TookSoFar shown' after steps'
+  took_on shown shown' now after steps steps' view z same on took not_ended (inl none) = not_ended none.1
+  took_on shown shown' now after steps steps' view z same on took not_ended (inr (line, passes, takes)) = took_more view shown shown' now after steps steps' line on took passes (of_schema view z shown' line steps steps' same takes)
 
   -- the same after the last turn, which may have read none
-  took_last : (shown shown' : List Point) (now after : Cutter I) (steps steps' : ℕ) {Ended : Type 0} (z : Schema) → z ≡ schema → IsPrefix shown shown' → TookSoFar shown now steps → TurnTook Ended z shown' now after steps steps' → (cutter : Cutter I) × TookSoFar shown' cutter steps'
-  took_last shown shown' now after steps steps' z same on took (inl none) = (
+  took_last : (shown shown' : List Point) (now after : Cutter I) (steps steps' : ℕ) {Ended : Type 0} (view : V) (z : Schema) → z ≡ schema → IsPrefix shown shown' → TookSoFar shown now steps → TurnTook Ended view z shown' now after steps steps' → (cutter : Cutter I) × TookSoFar shown' cutter steps'
+  took_last shown shown' now after steps steps' view z same on took (inl none) = (
     now,
     record {
       turns = took.turns;
@@ -78,7 +78,7 @@ module _ {I V C : Type 0} (script : Source.Ghosts I) (members : CubeView.Ghosts 
       takes = subst (TakesForEach members schema took.turns start) (sym none.0) took.takes;
     },
   )
-  took_last shown shown' now after steps steps' z same on took (inr (line, passes, takes)) = (after, took_more shown shown' now after steps steps' line on took passes (of_schema z shown' line steps steps' same takes))
+  took_last shown shown' now after steps steps' view z same on took (inr (line, passes, takes)) = (after, took_more view shown shown' now after steps steps' line on took passes (of_schema view z shown' line steps steps' same takes))
 
 -- what a run took whose viewer at the end is this one
 run_costs : {I V C : Type 0} {members : CubeView.Ghosts V C} (script : Source.Ghosts I) (viewer : Viewer V C members) (schema : Schema) (source : Cutter I) (start steps : ℕ) → viewer.schema ≡ schema → (cutter : Cutter I) × TookSoFar script members schema source start viewer.shown.points cutter steps → RunCosts script viewer source start steps
@@ -90,6 +90,6 @@ run_costs {members = members} script viewer schema source start steps same (cutt
 }
 
 -- what a run took whose last turn ended with this viewer
-pub costs_at_end : {I V C : Type 0} (script : Source.Ghosts I) (members : CubeView.Ghosts V C) (viewer : Viewer V C members) (schema : Schema) (source now after : Cutter I) (start before steps : ℕ) (shown : List Point) {Ended : Type 0} → viewer.schema ≡ schema → IsPrefix shown viewer.shown.points → TookSoFar script members schema source start shown now before → TurnTook script members schema source start Ended viewer.schema viewer.shown.points now after before steps → RunCosts script viewer source start steps
+pub costs_at_end : {I V C : Type 0} (script : Source.Ghosts I) (members : CubeView.Ghosts V C) (viewer : Viewer V C members) (schema : Schema) (source now after : Cutter I) (start before steps : ℕ) (shown : List Point) {Ended : Type 0} → viewer.schema ≡ schema → IsPrefix shown viewer.shown.points → TookSoFar script members schema source start shown now before → TurnTook script members schema source start Ended viewer.shown_view.value viewer.schema viewer.shown.points now after before steps → RunCosts script viewer source start steps
 costs_at_end script members viewer schema source now after start before steps shown same on took turn =
-    run_costs script viewer schema source start steps same (took_last script members schema source start shown viewer.shown.points now after before steps viewer.schema same on took turn)
+    run_costs script viewer schema source start steps same (took_last script members schema source start shown viewer.shown.points now after before steps viewer.shown_view.value viewer.schema same on took turn)

@@ -3,8 +3,8 @@ use Rattle.std.proofs.Common.{◌≡◌, ◌≢◌, ℕ, ◌<◌, ◌≤◌, Boo
 use Rattle.cube_view.specs.declared.schema.Schema.{Schema}
 use Rattle.cube_view.specs.declared.stat.Stat.{Stat}
 use Rattle.live_session.specs.News.{KeepsViewer, LearnsTaken, MayAsk, News, news_of}
-use Rattle.live_session.specs.SoFar.{AnswersAll, HasAnswered, HasDone, KeepsAnswers}
-use Rattle.live_session.specs.State.{SessionState}
+use Rattle.live_session.specs.SoFar.{AnswersAll, HasAnswered, HasDone, KeepsAnswers, moment}
+use Rattle.live_session.specs.State.{SessionEnds, SessionState}
 use Rattle.live_session.specs.Turned.{HasFaults, IsTurn, Turned}
 use Rattle.live_session.specs.declared.turn.Turn.{Turn}
 use Rattle.live_session.specs.declared.turn.Turn.TheVariants as turn
@@ -39,12 +39,16 @@ mail_same learned mail mail' (inl e) = (ap (λ (m : OutEnd). m.mailbox) e, ap (�
 mail_same learned mail mail' (inr asks) = (asks.mailbox, asks.pair)
 
 module _ {I O : Type 0} (left : I → Option (List ℕ)) (faults : I → ℕ) (held : O → Option (List ℕ)) (is_stat : Stat → Type 0) (taken : ℕ) (final : Bool) (a b : News) (start before after : SessionState I O) where
+  -- what it answered goes on over the turn, under this schema
+  abbrev Keeps : Schema → Result Turn SessionFault → Type 0
+  Keeps z r = (from : SessionState I O) (n : ℕ) → HasAnswered left faults held z is_stat final n a from before → HasDone left faults held z is_stat final n b from after r
+
   -- what a turn does under a schema that is another's
-  done_under : (z z' : Schema) (r : Result Turn SessionFault) → z ≡ z' → KeepsAnswers left faults held z is_stat final a b before after r → HasAnswered left faults held z' is_stat final taken a start before → HasDone left faults held z' is_stat final taken b start after r
+  done_under : (z z' : Schema) (r : Result Turn SessionFault) → z ≡ z' → Keeps z r → HasAnswered left faults held z' is_stat final taken a start before → HasDone left faults held z' is_stat final taken b start after r
   done_under z z' r same clause = subst (λ (y : Schema). HasAnswered left faults held y is_stat final taken a start before → HasDone left faults held y is_stat final taken b start after r) same (clause start taken)
 
   -- a turn without a fault
-  pub answered_on : (z z' : Schema) (r : Result Turn SessionFault) (t : Turn) → z ≡ z' → r ≡ Ok t → KeepsAnswers left faults held z is_stat final a b before after r → HasAnswered left faults held z' is_stat final taken a start before → HasAnswered left faults held z' is_stat final taken b start after
+  pub answered_on : (z z' : Schema) (r : Result Turn SessionFault) (t : Turn) → z ≡ z' → r ≡ Ok t → Keeps z r → HasAnswered left faults held z' is_stat final taken a start before → HasAnswered left faults held z' is_stat final taken b start after
   answered_on z z' r t same is clause s = subst (HasDone left faults held z' is_stat final taken b start after) is (done_under z z' r same clause s)
 
   unit_done : (z : Schema) (f : SessionFault) → HasDone left faults held z is_stat final taken b start after {T = Turn} (Err f) → HasDone left faults held z is_stat final taken b start after {T = Unit {0}} (Err f)
@@ -54,7 +58,7 @@ module _ {I O : Type 0} (left : I → Option (List ℕ)) (faults : I → ℕ) (h
   unit_done z fault.Write d = d
 
   -- a turn with a fault
-  pub done_fault : (z z' : Schema) (r : Result Turn SessionFault) (f : SessionFault) → z ≡ z' → r ≡ Err f → KeepsAnswers left faults held z is_stat final a b before after r → HasAnswered left faults held z' is_stat final taken a start before → HasDone left faults held z' is_stat final taken b start after {T = Unit {0}} (Err f)
+  pub done_fault : (z z' : Schema) (r : Result Turn SessionFault) (f : SessionFault) → z ≡ z' → r ≡ Err f → Keeps z r → HasAnswered left faults held z' is_stat final taken a start before → HasDone left faults held z' is_stat final taken b start after {T = Unit {0}} (Err f)
   done_fault z z' r f same is clause s = unit_done z' f (subst (HasDone left faults held z' is_stat final taken b start after) is (done_under z z' r same clause s))
 
   module _ (A : Stat → Type 0) (weaker : (stat : Stat) → A stat → is_stat stat) where
@@ -126,13 +130,17 @@ pub record BetweenTurns {I O : Type 0} (left : I → Option (List ℕ)) (faults 
   pub learns : LearnsTaken learned' mail mail'
   pub name : name_of now.sink ≡ name_of start.sink
 
+-- the ends as one record
+abbrev these : {I O : Type 0} → (I → Option (List ℕ)) → (I → ℕ) → (O → Option (List ℕ)) → (O → ℕ) → (O → List ℕ) → SessionEnds I O
+these left faults held put_faults name = record { left = left; faults = faults; held = held; put_faults = put_faults; name = name }
+
 module _ {I O : Type 0} {left : I → Option (List ℕ)} {faults : I → ℕ} {held : O → Option (List ℕ)} {put_faults : O → ℕ} {name_of : O → List ℕ} {is_stat : Stat → Type 0} {shown learned : Known} {last : Option Known} {schema : Schema} {mail : OutEnd} {start : SessionState I O} {shown' learned' : Known} {last' : Option Known} {schema' : Schema} {mail' : OutEnd} {now : SessionState I O} where
   -- it holds after a turn that is not the last
   pub after_turn : (A : Stat → Type 0) (shown'' learned'' : Known) (last'' : Option Known) (schema'' : Schema) (mail'' : OutEnd) (after : SessionState I O) (r : Result Turn SessionFault) (t : Turn) → BetweenTurns left faults held put_faults name_of is_stat shown learned last schema mail start shown' learned' last' schema' mail' now → r ≡ Ok t → t ≢ turn.Ended
       → ((stat : Stat) → A stat → is_stat stat) → IfOk r (Turned left faults held schema' A (news_of shown' learned' mail') (news_of shown'' learned'' mail'') now after) → HasFaults left faults held put_faults now after r × (name_of after.sink ≡ name_of now.sink)
       → KeepsViewer shown' learned' last' schema' shown'' learned'' last'' schema'' → MayAsk learned'' mail' mail''
-      → KeepsAnswers left faults held schema' is_stat false (news_of shown' learned' mail') (news_of shown'' learned'' mail'') now after r
-      → IfSome last' (λ w. KeepsAnswers left faults held schema' is_stat true (news_of w w mail') (news_of w w mail'') now after r)
+      → KeepsAnswers (these left faults held put_faults name_of) schema' is_stat false (moment (news_of shown' learned' mail') now) (moment (news_of shown'' learned'' mail'') after) r
+      → IfSome last' (λ w. KeepsAnswers (these left faults held put_faults name_of) schema' is_stat true (moment (news_of w w mail') now) (moment (news_of w w mail'') after) r)
       → BetweenTurns left faults held put_faults name_of is_stat shown learned last schema mail start shown'' learned'' last'' schema'' mail'' after
   after_turn A shown'' learned'' last'' schema'' mail'' after r t was is ne weaker turned fs viewer mails so_far finals =
       let names = mail_same learned'' mail' mail'' mails in

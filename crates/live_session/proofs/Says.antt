@@ -7,7 +7,7 @@ use Rattle.cube_view.specs.declared.schema.Schema.{Schema}
 use Rattle.cube_view.specs.declared.spot.Spot.{Spot}
 use Rattle.cube_view.specs.declared.stat.Stat.{Stat}
 use Rattle.live_session.specs.News.{News, seen_asked}
-use Rattle.live_session.specs.Saying.{IsNewsOf, IsShown, Says, SaysOver}
+use Rattle.live_session.specs.Saying.{IsNewsOf, Says, SaysOver}
 use Rattle.published_pair.specs.Rules.{Known}
 use Rattle.query_syntax.specs.Tables.{table}
 use Rattle.query_syntax.specs.declared.query.Parsed.{Parsed}
@@ -135,7 +135,7 @@ seen_news shown learned p news is = here (asks_look p) is.0
     here false look = refl
 
 -- what is served over a view that is shown
-pub shown_says : {V E : Type 0} (weight_at : V → Spot → ℕ) (seen_by : V → ℕ) (schema_of : V → Schema) (numbers : V → Stat) (schema : Schema) (h h' : List Point) (told told' : ℕ) (p : Parsed) (r : Result Served E) (view : V) → Counts (weight_at view) (seen_by view) h → schema_of view ≡ schema → h ≡ h' → told ≡ told' → IfOk r (Serves (numbers view) (schema_of view) h told p) → IfOk r (Says schema (IsShown weight_at seen_by schema_of numbers schema h') h' told' p)
-shown_says weight_at seen_by schema_of numbers schema h h' told told' p r view counts same list length serves =
-    subst (λ (x : List Point × ℕ). IfOk r (Says schema (IsShown weight_at seen_by schema_of numbers schema x.0) x.0 x.1 p)) (λ i. (list i, length i))
-    (served_look schema (IsShown weight_at seen_by schema_of numbers schema h) h told (numbers view) p r (view, counts, same, refl) (subst (λ (z : Schema). IfOk r (Serves (numbers view) z h told p)) same serves))
+pub shown_says : {V E : Type 0} (schema_of : V → Schema) (numbers : V → Stat) (schema : Schema) (h h' : List Point) (told told' : ℕ) (p : Parsed) (r : Result Served E) (view view' : V) → schema_of view ≡ schema → view ≡ view' → h ≡ h' → told ≡ told' → IfOk r (Serves (numbers view) (schema_of view) h told p) → IfOk r (Says schema (λ stat. stat ≡ numbers view') h' told' p)
+shown_says schema_of numbers schema h h' told told' p r view view' same shown list length serves =
+    subst (λ (x : List Point × ℕ). IfOk r (Says schema (λ stat. stat ≡ numbers view') x.0 x.1 p)) (λ i. (list i, length i))
+    (served_look schema (λ stat. stat ≡ numbers view') h told (numbers view) p r (ap numbers shown) (subst (λ (z : Schema). IfOk r (Serves (numbers view) z h told p)) same serves))

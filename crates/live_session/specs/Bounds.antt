@@ -18,24 +18,26 @@ use Rattle.session_core.specs.Asked.{asks_look, line_meaning}
 use Rattle.session_core.specs.Serving.{answer_cost}
 use Rattle.world_core.specs.PairFact.{IsPrefix}
 
--- What answering what a line means takes, where this list is shown then
-pub record TakesSteps {V C : Type 0} (members : CubeView.Ghosts V C) (schema : Schema) (shown : List Point) (p : Parsed) (before after : ℕ) : Type 0 where
+-- What answering what a line means takes, where this view is shown then, and it counts this list
+pub record TakesSteps {V C : Type 0} (members : CubeView.Ghosts V C) (view : V) (schema : Schema) (shown : List Point) (p : Parsed) (before after : ℕ) : Type 0 where
   -- nothing, where the line asks for no look
   pub unlooked : asks_look p ≡ false → after ≡ before
-  -- for a look at most the bound of its table over a view of the schema that counts the list
-  pub looked : asks_look p ≡ true → (view : V) × Counts (members.weight_at view) (members.seen view) shown × (members.schema view ≡ schema) × (after ≤ before + answer_cost (members.costs view) schema p shown)
+  -- for a look the view counts the list, and is of the schema
+  pub counts : asks_look p ≡ true → Counts (members.weight_at view) (members.seen view) shown × (members.schema view ≡ schema)
+  -- and it takes at most the bound of its table over the view
+  pub looked : asks_look p ≡ true → after ≤ before + answer_cost (members.costs view) schema p shown
 
 -- What a turn asks of the mailbox, and which steps it takes, after which the viewer is this one
 pub record TurnCosts {I V C : Type 0} {O : Type 0} {members : CubeView.Ghosts V C} (script : Source.Ghosts I) (viewer : Viewer V C members) (out out' : OutEnd) (session session' : SessionState I O) (before after : ℕ) : Type 0 where
   -- the mailbox was asked once, or not
   pub mail : MayAsk viewer.learned out out'
   -- it takes at most the steps of the line that it read; none where it read none, and then the session is at its end
-  pub steps : ((after ≡ before) × (session'.ended ≡ true)) ⊎ ((line : Line) × Passes script.left script.faults session.source session'.source (line ∷ []) × TakesSteps members viewer.schema viewer.shown.points (line_meaning viewer.schema line) before after)
+  pub steps : ((after ≡ before) × (session'.ended ≡ true)) ⊎ ((line : Line) × Passes script.left script.faults session.source session'.source (line ∷ []) × TakesSteps members viewer.shown_view.value viewer.schema viewer.shown.points (line_meaning viewer.schema line) before after)
 
 -- what lines take that are answered one after another, each over the list that is shown for it
 abbrev pub TakesForEach : {V C : Type 0} → CubeView.Ghosts V C → Schema → List (Line × List Point) → ℕ → ℕ → Type 0
-TakesForEach members schema [] before after = after ≡ before
-TakesForEach members schema (turn ∷ turns) before after = (mid : ℕ) × TakesSteps members schema turn.1 (line_meaning schema turn.0) before mid × TakesForEach members schema turns mid after
+TakesForEach {V} members schema [] before after = after ≡ before
+TakesForEach {V} members schema (turn ∷ turns) before after = (view : V) × (mid : ℕ) × TakesSteps members view schema turn.1 (line_meaning schema turn.0) before mid × TakesForEach members schema turns mid after
 
 -- What the turns of a run over a script take, at whose end the viewer is this one
 pub record RunCosts {I V C : Type 0} {members : CubeView.Ghosts V C} (script : Source.Ghosts I) (viewer : Viewer V C members) (source : Cutter I) (before after : ℕ) : Type 0 where

@@ -1,9 +1,7 @@
 -- What is said to a line over the list that is shown.
 use Rattle.std.specs.Prelude.{◌≡◌, ℕ, true, List, length, Result, IfOk, OnErr}
-use Rattle.cube_view.specs.Bag.{Counts}
 use Rattle.cube_view.specs.Points.{Point}
 use Rattle.cube_view.specs.declared.schema.Schema.{Schema}
-use Rattle.cube_view.specs.declared.spot.Spot.{Spot}
 use Rattle.cube_view.specs.declared.stat.Stat.{Stat}
 use Rattle.cube_view.specs.declared.view.CubeView as CubeView
 use Rattle.live_session.specs.News.{News, seen_asked}
@@ -18,13 +16,9 @@ use Rattle.session_core.specs.Transcript.{IsReply}
 use Rattle.session_core.specs.declared.serving.Served.{Served}
 use Rattle.session_core.specs.declared.serving.Served.TheVariants as served
 
--- the numbers are those of a view of the schema that counts the list
-abbrev pub IsShown : {V : Type 0} → (V → Spot → ℕ) → (V → ℕ) → (V → Schema) → (V → Stat) → Schema → List Point → Stat → Type 0
-IsShown {V} weight_at seen schema_of numbers schema h stat = (view : V) × Counts (weight_at view) (seen view) h × (schema_of view ≡ schema) × (stat ≡ numbers view)
-
--- the numbers are those of a view that this viewer was shown
+-- the numbers are those of the view that this viewer was shown last
 abbrev pub IsShownTo : {V C : Type 0} {members : CubeView.Ghosts V C} → Viewer V C members → Stat → Type 0
-IsShownTo {members = members} viewer = IsShown members.weight_at members.seen members.schema members.numbers viewer.schema viewer.shown.points
+IsShownTo {members = members} viewer stat = stat ≡ members.numbers viewer.shown_view.value
 
 -- what is said to what a line means over a list of points of which so many were told
 abbrev pub Says : Schema → (Stat → Type 0) → List Point → ℕ → Parsed → Served → Type 0

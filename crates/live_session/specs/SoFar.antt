@@ -3,7 +3,7 @@ use Rattle.std.specs.Prelude.{◌≡◌, ℕ, ◌+◌, ◌≤◌, Bool, false, L
 use Rattle.cube_view.specs.declared.schema.Schema.{Schema}
 use Rattle.cube_view.specs.declared.stat.Stat.{Stat}
 use Rattle.live_session.specs.News.{News, takes_after}
-use Rattle.live_session.specs.State.{SessionState}
+use Rattle.live_session.specs.State.{SessionEnds, SessionState}
 use Rattle.live_session.specs.Turned.{seens_of}
 use Rattle.outer_io.specs.Bytes.{Gains, GainsPart}
 use Rattle.outer_io.specs.Cutting.{lines_left}
@@ -74,10 +74,21 @@ module _ {I O : Type 0} (left : I → Option (List ℕ)) (faults : I → ℕ) (h
   HasDone (Err fault.TooMuch) = HasAnswered
   HasDone (Err fault.Write) = HasBroken
 
--- what a session that was shown and told `a` has answered by then, since any state of it and any number of asks of the
--- mailbox, goes on over a turn after which it was shown and told `b`
-abbrev pub KeepsAnswers : {I O T : Type 0} → (I → Option (List ℕ)) → (I → ℕ) → (O → Option (List ℕ)) → Schema → (Stat → Type 0) → Bool → News → News → SessionState I O → SessionState I O → Result T SessionFault → Type 0
-KeepsAnswers {I} {O} left faults held schema is_stat final a b before after result = (start : SessionState I O) (taken : ℕ) → HasAnswered left faults held schema is_stat final taken a start before → HasDone left faults held schema is_stat final taken b start after result
+-- A session in this state, which was shown and told this
+pub record Moment (I O : Type 0) : Type 0 where
+  pub news : News
+  pub state : SessionState I O
+
+-- the moment of these
+abbrev pub moment : {I O : Type 0} → News → SessionState I O → Moment I O
+moment news state = record { news = news; state = state }
+
+-- what a session has answered by the one moment, since any state of it and any number of asks of the mailbox, goes on over a
+-- turn with this answer to the other
+abbrev pub KeepsAnswers : {I O T : Type 0} → SessionEnds I O → Schema → (Stat → Type 0) → Bool → Moment I O → Moment I O → Result T SessionFault → Type 0
+KeepsAnswers {I} {O} ends schema is_stat final a b result =
+    (start : SessionState I O) (taken : ℕ) → HasAnswered ends.left ends.faults ends.held schema is_stat final taken a.news start a.state
+    → HasDone ends.left ends.faults ends.held schema is_stat final taken b.news start b.state result
 
 -- all that the script asks was answered
 abbrev pub AnswersAll : {I O : Type 0} → (I → Option (List ℕ)) → Schema → SessionState I O → SessionState I O → Type 0

@@ -31,7 +31,11 @@ pub record SessionEnds (I O : Type 0) : Type 0 where
   pub faults : I → ℕ
   -- the bytes that a sink holds, where it tells them
   pub held : O → Option (List ℕ)
+  -- how many of its puts failed
+  pub put_faults : O → ℕ
+  -- and its name
+  pub name : O → List ℕ
 
 -- the same of a source and a sink
 abbrev pub ends_of : {I O : Type 0} → Source.Ghosts I → Sink.Ghosts O → SessionEnds I O
-ends_of source sink = record { left = source.left; faults = source.faults; held = sink.held }
+ends_of source sink = record { left = source.left; faults = source.faults; held = sink.held; put_faults = sink.faults; name = sink.name }

@@ -5,7 +5,7 @@ use Rattle.cube_view.specs.declared.schema.Schema.{Schema}
 use Rattle.cube_view.specs.declared.stat.Stat.{Stat}
 use Rattle.cube_view.specs.declared.view.CubeView as CubeView
 use Rattle.live_session.specs.News.{HasNews, News, NewsFor}
-use Rattle.live_session.specs.Saying.{IsShown}
+use Rattle.live_session.specs.Saying.{IsShownTo}
 use Rattle.live_session.specs.State.{SessionEnds, SessionState}
 use Rattle.live_session.specs.declared.turn.Turn.{Turn}
 use Rattle.live_session.specs.declared.turn.Turn.TheVariants as turn
@@ -16,6 +16,7 @@ use Rattle.outer_io.specs.Faults.{HasCause}
 use Rattle.outer_io.specs.Lines.{Line, input_limit}
 use Rattle.outer_io.specs.Progress.{Passes, PassesAll}
 use Rattle.outer_io.specs.Told.{Told}
+use Rattle.published_pair.specs.declared.viewer.Viewer.{Viewer}
 use Rattle.query_syntax.specs.declared.query.Parsed.{Parsed}
 use Rattle.query_syntax.specs.declared.query.Parsed.TheVariants.{Skip}
 use Rattle.reply_json.specs.Printed.{seen_of}
@@ -127,12 +128,12 @@ module _ {I O : Type 0} (left : I → Option (List ℕ)) (faults : I → ℕ) (h
     -- whether it is the line for want of memory is noted
     pub lacks : after.lacked ≡ before.lacked || is_lack reply
 
--- What a turn of a session over a view of the schema does, which had been shown and told `a`, and is `b` after it
-pub record HasTurned {I O V C : Type 0} (ends : SessionEnds I O) (members : CubeView.Ghosts V C) (schema : Schema) (a b : News) (before after : SessionState I O) (result : Result Turn SessionFault) : Type 0 where
+-- What a turn of a session under the schema does, which had been shown and told `a`, and is `b` after it, with this viewer
+pub record HasTurned {I O V C : Type 0} {members : CubeView.Ghosts V C} (ends : SessionEnds I O) (viewer : Viewer V C members) (schema : Schema) (a b : News) (before after : SessionState I O) (result : Result Turn SessionFault) : Type 0 where
   -- without a fault
-  pub turned : IfOk result (Turned ends.left ends.faults ends.held schema (IsShown members.weight_at members.seen members.schema members.numbers schema b.shown) a b before after)
+  pub turned : IfOk result (Turned ends.left ends.faults ends.held schema (IsShownTo viewer) a b before after)
   -- where its put fails
-  pub broken : IsErrOf result fault.Write → BreaksOff ends.left ends.faults ends.held schema (IsShown members.weight_at members.seen members.schema members.numbers schema b.shown) a b before after
+  pub broken : IsErrOf result fault.Write → BreaksOff ends.left ends.faults ends.held schema (IsShownTo viewer) a b before after
 
 -- When the faults of a turn come, and what they leave
 pub record HasFaults {I O : Type 0} (left : I → Option (List ℕ)) (faults : I → ℕ) (held : O → Option (List ℕ)) (put_faults : O → ℕ) (before after : SessionState I O) {T : Type 0} (result : Result T SessionFault) : Type 0 where

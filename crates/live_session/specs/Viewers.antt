@@ -3,7 +3,7 @@ use Rattle.std.specs.Prelude.{◌≡◌, true, false, Result, IfSome}
 use Rattle.cube_view.specs.declared.stat.Stat.{Stat}
 use Rattle.cube_view.specs.declared.view.CubeView as CubeView
 use Rattle.live_session.specs.News.{KeepsViewer, News, news_of}
-use Rattle.live_session.specs.SoFar.{HasDone, KeepsAnswers}
+use Rattle.live_session.specs.SoFar.{HasDone, KeepsAnswers, moment}
 use Rattle.live_session.specs.State.{SessionEnds, SessionState}
 use Rattle.mailbox.specs.Ends.{OutEnd}
 use Rattle.published_pair.specs.declared.viewer.Viewer.{Viewer}
@@ -26,7 +26,7 @@ module _ {V C : Type 0} {members : CubeView.Ghosts V C} where
     -- where the viewer had learned the ended list, what was answered finally over it goes on over a turn
     abbrev pub KeepsFinals : Viewer V C members → OutEnd → OutEnd → SessionState I O → SessionState I O → Result T SessionFault → Type 0
     KeepsFinals viewer mail mail' before after result =
-        IfSome viewer.last (λ w. KeepsAnswers ends.left ends.faults ends.held viewer.schema is_stat true (news_of w w mail) (news_of w w mail') before after result)
+        IfSome viewer.last (λ w. KeepsAnswers ends viewer.schema is_stat true (moment (news_of w w mail) before) (moment (news_of w w mail') after) result)
 
     -- and all that a run answered is final over it
     abbrev pub DoneFinally : Viewer V C members → OutEnd → OutEnd → SessionState I O → SessionState I O → Result T SessionFault → Type 0
@@ -35,7 +35,7 @@ module _ {V C : Type 0} {members : CubeView.Ghosts V C} where
 
     -- what was answered by then goes on over a turn
     abbrev pub KeepsSoFar : Viewer V C members → News → News → SessionState I O → SessionState I O → Result T SessionFault → Type 0
-    KeepsSoFar viewer a b before after result = KeepsAnswers ends.left ends.faults ends.held viewer.schema is_stat false a b before after result
+    KeepsSoFar viewer a b before after result = KeepsAnswers ends viewer.schema is_stat false (moment a before) (moment b after) result
 
     -- what a run answered
     abbrev pub DoneBy : Viewer V C members → OutEnd → News → SessionState I O → SessionState I O → Result T SessionFault → Type 0

@@ -58,7 +58,7 @@ fn look_once<V: Grow, R: Wait, L: Ledger>(
     ensures ended { IfSome viewer.last (λ w. result.0.shown.points ≡ w.points) }
     ensures pair { result.0.shown.book ≡ viewer.shown.book }
     ensures same { (result.0.learned ≡ viewer.learned) × (result.0.last ≡ viewer.last) × (result.0.schema ≡ viewer.schema) }
-    ensures steps { TakesSteps V.CubeView viewer.schema result.0.shown.points parsed.now steps.old steps.new }
+    ensures steps { TakesSteps V.CubeView result.0.shown_view.value viewer.schema result.0.shown.points parsed.now steps.old steps.new }
 {
     let told = viewer.told();
     let shown = viewer.look(rt);
@@ -82,7 +82,7 @@ pub(crate) fn answer_line<V: Grow, R: Wait, L: Ledger>(
     ensures served { IsServed result.0 parsed.now result.1 }
     ensures goes { GoesFor parsed.now viewer.shown viewer.learned viewer.last mail.old result.0.shown result.0.learned mail.new }
     ensures same { (result.0.last ≡ viewer.last) × (result.0.schema ≡ viewer.schema) }
-    ensures steps { TakesSteps V.CubeView viewer.schema result.0.shown.points parsed.now steps.old steps.new }
+    ensures steps { TakesSteps V.CubeView result.0.shown_view.value viewer.schema result.0.shown.points parsed.now steps.old steps.new }
 {
     let viewer = catch_up(rt, viewer, mail, parsed);
     if asks_look(parsed) {

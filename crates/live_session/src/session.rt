@@ -244,7 +244,7 @@ impl<I: Source, O: Sink> Session<I, O> {
         room: &mut List<u8>,
     ) -> (Viewer<V>, Result<Turn, SessionFault>)
         requires { viewer.shown.book ≡ mail.old.pair }
-        ensures turned { HasTurned (ends_of I.Source O.Sink) V.CubeView viewer.schema (news viewer mail.old) (news result.0 mail.new) self.old self.new result.1 }
+        ensures turned { HasTurned (ends_of I.Source O.Sink) result.0 viewer.schema (news viewer mail.old) (news result.0 mail.new) self.old self.new result.1 }
         ensures ended { self.old.ended ≡ true → (result.1 ≡ Ok Turn.Ended) × (self.new ≡ self.old) × (mail.new ≡ mail.old) × ShowsSame viewer result.0 }
         ensures faults { HasFaults I.left I.faults O.held O.faults self.old self.new result.1 × (O.name self.new.sink ≡ O.name self.old.sink) }
         ensures viewer { IsSameViewer viewer result.0 }

@@ -1,5 +1,5 @@
 -- What a script of a run gets, whatever ended its session.
-use Rattle.std.proofs.Common.{◌≡◌, ◌≢◌, ◌⊎◌, inl, inr, ◌+◌, ◌≤◌, ℕ, Bool, true, false, List, [], ◌++◌, length, take, None, Some, Result, Ok, Err, refl, sym, ap, subst, ◌∙◌, zero-add}
+use Rattle.std.proofs.Common.{◌≡◌, ◌≢◌, ◌⊎◌, inl, inr, ◌+◌, ◌≤◌, ℕ, Bool, true, false, List, [], ◌∷◌, ◌++◌, length, take, None, Some, Result, Ok, Err, refl, sym, ap, subst, ◌∙◌, arith, zero-add}
 use Rattle.std.specs.Prelude.{IsErrOf, OnOk}
 use Rattle.std.specs.FinMap.{get}
 use Rattle.std.proofs.lemmas.Bool.{false≢true}
@@ -27,9 +27,9 @@ use Rattle.plan_run.proofs.Ranked.{rank_end, session_lacking, session_read}
 use Rattle.plan_run.proofs.Refused.{large_script}
 use Rattle.plan_run.proofs.Replied.{answered_length}
 use Rattle.plan_run.specs.Completed.{output_of}
-use Rattle.plan_run.specs.Interrupted.{AnswersInFile, StopsScript}
-use Rattle.plan_run.specs.Seen.{PartSeen}
-use Rattle.run_files.specs.Outside.{SinkSeen}
+use Rattle.plan_run.specs.Interrupted.{Account, AnswersInFile, StopsScript}
+use Rattle.reply_json.specs.declared.reply.Reply.{Reply}
+use Rattle.run_files.specs.Outside.{SinkSeen, SourceSeen}
 use Rattle.run_files.specs.Stops.{is_lacking}
 use Rattle.run_files.specs.declared.stop.Stop.{Stop}
 use Rattle.run_files.specs.declared.stop.Stop.TheVariants.{NoMemory, PlanRefused}
@@ -42,6 +42,9 @@ use Rattle.session_core.specs.Scripts.{is_script_refused}
 use Rattle.session_core.specs.Transcript.{IsTranscript, replies_text}
 use Rattle.session_core.specs.declared.fault.SessionFault.{SessionFault}
 use Rattle.session_core.specs.declared.fault.SessionFault.TheVariants as fault
+use Rattle.world_core.specs.Interleaving.{entry_points}
+use Rattle.world_core.specs.PairFact.{IsPrefix}
+use Rattle.world_core.proofs.Worlds.{IsPrefix-then}
 
 abbrev Ending : Type 0
 Ending = Result (Unit {0}) SessionFault
@@ -51,7 +54,12 @@ lacks_only : (starved lacked wants : Bool) → (starved ≡ true → wants ≡ t
 lacks_only true lacked wants wanted found is = wanted refl
 lacks_only false lacked wants wanted found is = absurd (cc (found refl, is))
 
-module _ {I O : Type 0} (i : PartSeen I) (s : SinkSeen O) (schema : Schema) (final closed starved : Bool) (points : List Point) (files : Files) (end : Result (Unit {0}) Stop) where
+-- replies that raise no count are none
+none_counted : (n : ℕ) (replies : List Reply) → n + length replies ≡ n → replies ≡ []
+none_counted n [] same = refl
+none_counted n (reply ∷ replies) same = absurd (omega (arith, same))
+
+module _ {I O : Type 0} (i : SourceSeen I) (s : SinkSeen O) (schema : Schema) (final closed starved : Bool) (points : List Point) (files : Files) (end : Result (Unit {0}) Stop) where
   -- the session of the script of that name was opened, and has run
   pub record HasRun (name : List ℕ) (done : SessionDone I O) : Type 0 where
     pub before : SessionState I O
@@ -100,8 +108,8 @@ module _ {I O : Type 0} (i : PartSeen I) (s : SinkSeen O) (schema : Schema) (fin
   lands_text after sink name bytes named held (inl has) = inl (subst (λ n. get after n ≡ Some bytes) named (Told-some (s.held sink) bytes (λ b. get after (s.name sink) ≡ Some b) held has))
   lands_text after sink name bytes named held (inr lost) = inr (lost.0, subst (λ n. get after n ≡ Some []) named lost.1)
 
-  pub answers_script : (after : Files) → (starved ≡ true → end ≡ Err NoMemory) → (name : List ℕ) (done : SessionDone I O) → HasRun name done → (done.fault ≢ Some fault.Write) × LandsAs s end after done.sink → AnswersInFile schema final closed points end files after name (script_counts done)
-  answers_script after starving name done run good =
+  pub answers_script : (after : Files) (account : Account) → account.closed ≡ closed → (closed ≡ true → points ≡ entry_points account.entries) → IsPrefix points (entry_points account.drawn) → (starved ≡ true → end ≡ Err NoMemory) → (name : List ℕ) (done : SessionDone I O) → HasRun name done → (done.fault ≢ Some fault.Write) × LandsAs s end after done.sink → AnswersInFile schema final end account files after name (script_counts done)
+  answers_script after account same_closed over_entries over_drawn starving name done run good =
       let before = run.before in
       let leaves = run.leaves in
       let script = file_or_empty files name in
@@ -122,7 +130,9 @@ module _ {I O : Type 0} (i : PartSeen I) (s : SinkSeen O) (schema : Schema) (fin
       record {
         replies = h.replies;
         points = over;
-        over = leaves.whole;
+        over = λ is_shut. let shut = sym same_closed ∙ is_shut in leaves.whole shut ∙ over_entries shut;
+        within = IsPrefix-then leaves.points points (entry_points account.drawn) leaves.within over_drawn;
+        unrun = λ open_ last. none_counted before.replies h.replies (sym h.counted ∙ ap (λ (after : SessionState I O). after.replies) (leaves.unrun (sym same_closed ∙ open_) last));
         transcript = subst (λ ps. IsTranscript schema OwnsAllButRoot final over (length over) (is_lacking end) ps h.replies) (sym front)
             (transcript_lacking schema OwnsAllButRoot leaves.after.lacked (is_lacking end) final over (length over) (asked schema h.lines) h.replies wants h.transcript);
         text = lands_text after done.sink (output_of name) (replies_text h.replies) (leaves.named ∙ run.ready.output.name_is) (ap s.held leaves.parts.1 ∙ text) good.1;
@@ -130,7 +140,8 @@ module _ {I O : Type 0} (i : PartSeen I) (s : SinkSeen O) (schema : Schema) (fin
           leaves.numbers.0 ∙ h.counted ∙ ap (λ (n : ℕ). n + length h.replies) start ∙ zero-add (length h.replies),
           leaves.numbers.1 ∙ ap last_number (h.noted ∙ ap (λ ns. ns ++ seens_of h.replies) seens),
         );
-        all = λ shut read found.
+        all = λ is_shut read found.
+            let shut = sym same_closed ∙ is_shut in
             leaves.numbers.0 ∙ Told-some (lines_left i.left before.source) (lines script) (λ all. leaves.after.replies ≡ before.replies + length (asked schema all)) has
             (all_answered before leaves.after leaves.end (of_end fault.Write good.0) (of_end fault.Read read) (of_end fault.NoMemory found) (leaves.all shut) leaves.too_much)
             ∙ ap (λ (n : ℕ). n + length (asked schema (lines script))) start ∙ zero-add (length (asked schema (lines script)));

@@ -19,8 +19,7 @@ use Rattle.outer_io.specs.Files.{Files}
 use Rattle.outer_io.specs.Lines.{Line}
 use Rattle.outer_io.specs.declared.cutter.CutFault.{CutFault}
 use Rattle.outer_io.specs.declared.cutter.CutFault.TheVariants as cut
-use Rattle.plan_run.specs.Seen.{PartSeen}
-use Rattle.run_files.specs.Outside.{SinkSeen}
+use Rattle.run_files.specs.Outside.{SinkSeen, SourceSeen}
 use Rattle.run_opening.specs.Ready.{IsSessionOf}
 use Rattle.session_core.specs.declared.fault.SessionFault.{SessionFault}
 use Rattle.session_core.specs.declared.fault.SessionFault.TheVariants as fault
@@ -79,7 +78,7 @@ not_ended_by : (end : Result (Unit {0}) SessionFault) (f : SessionFault) → end
 not_ended_by (Ok x) f other bad = cc bad
 not_ended_by (Err g) f other bad = other (cc bad)
 
-module _ {I O : Type 0} (i : PartSeen I) (s : SinkSeen O) (is_stat : Stat → Type 0) (schema : Schema) (final closed starved : Bool) (points : List Point) (files : Option Files) where
+module _ {I O : Type 0} (i : SourceSeen I) (s : SinkSeen O) (is_stat : Stat → Type 0) (schema : Schema) (final closed starved : Bool) (points : List Point) (files : Option Files) where
   session_cause : (name : List ℕ) (before : SessionState I O) (done : SessionDone I O) → IsSessionOf i.left i.faults s files name before → LeavesTranscript i.left i.faults s.held s.faults s.name is_stat schema final closed starved points before done → SessionCause i.faults s.faults done
   session_cause name before done ready leaves =
       let of_end : (f : SessionFault) → done.fault ≡ Some f → IsErrOf leaves.end f = λ f e. ended_by leaves.end f (sym leaves.numbers.2 ∙ e) in

@@ -22,9 +22,8 @@ use Rattle.plan_run.proofs.Landed.{kept_file}
 use Rattle.plan_run.proofs.Replied.{IsReplied, is_replied}
 use Rattle.plan_run.proofs.Zips.{AllZip-with}
 use Rattle.plan_run.specs.Completed.{HasTranscript, output_of, reply_counts, whole_rows}
-use Rattle.plan_run.specs.Seen.{PartSeen}
 use Rattle.reply_json.specs.declared.reply.Reply.{Reply}
-use Rattle.run_files.specs.Outside.{SinkSeen}
+use Rattle.run_files.specs.Outside.{SinkSeen, SourceSeen}
 use Rattle.run_opening.specs.Ready.{IsJobOf, IsSessionOf}
 use Rattle.run_report.specs.Reports.{counts_of_rows}
 use Rattle.run_stages.specs.Counted.{feed_counts, script_counts}
@@ -76,7 +75,7 @@ chosen T f g (x ∷ xs) (y ∷ ys) all =
     let later = chosen T f g xs ys all.1 in
     (all.0.0 ∷ later.0, (all.0.1, later.1), ap (λ d. d ∷ map f ys) all.0.2 ∙ ap (λ ds. g all.0.0 ∷ ds) later.2)
 
-module _ {I O : Type 0} (i : PartSeen I) (s : SinkSeen O) (schema : Schema) (final : Bool) (points : List Point) (files : Files) where
+module _ {I O : Type 0} (i : SourceSeen I) (s : SinkSeen O) (schema : Schema) (final : Bool) (points : List Point) (files : Files) where
   -- the replies to a script of that name
   abbrev pub RepliesTo : List ℕ → SessionDone I O → Type 0
   RepliesTo name done = IsReplied s OwnsAllButRoot schema final points (file_or_empty files name) (output_of name) done

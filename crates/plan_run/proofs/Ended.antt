@@ -9,7 +9,7 @@ use Rattle.crew_feeder.specs.declared.job.FeedDone.{FeedDone}
 use Rattle.crew_feeder.specs.declared.job.FeedJob.{FeedJob}
 use Rattle.crew_session.specs.declared.done.SessionDone.{SessionDone}
 use Rattle.cube_crew.proofs.Zips.{AllZip-right}
-use Rattle.cube_crew.specs.Crewed.{IsCrewed, LeavesTranscript}
+use Rattle.cube_crew.specs.Crewed.{IsCrewed, LeavesTranscript, answered_over}
 use Rattle.cube_crew.specs.declared.jobs.Crewed.{Crewed}
 use Rattle.cube_schema.specs.Files.{input_names, output_names}
 use Rattle.cube_schema.specs.Repeats.{outputs}
@@ -40,14 +40,13 @@ use Rattle.plan_run.specs.Completed.{IsCompleted}
 use Rattle.plan_run.specs.Ends.{EndsUnderPlan, HasBegun, HasRefusedInput, HasReported, LacksPlan, LacksReport, RunEnds}
 use Rattle.plan_run.specs.Interrupted.{Account, BeginsFiles, HoldsFiles, account_text, read_stops}
 use Rattle.plan_run.specs.Parts.{GivesBack, RunsParts, run_done_of, jobs_of}
-use Rattle.plan_run.specs.Seen.{PartSeen}
 use Rattle.run_files.proofs.Emptied.{told_still}
 use Rattle.run_files.proofs.Putting.{fails_after, puts_after, silent_after}
 use Rattle.run_files.proofs.Stages.{all_empty, all_made, all_opened, KeepsOthers-after, KeepsOthers-more, KeepsOthers-one}
 use Rattle.run_files.specs.Counts.{CountsAt, StandStill}
 use Rattle.run_files.specs.Headed.{HasHeader}
 use Rattle.run_files.specs.Leaving.{FailsAtLast, KeepsOthers, LeavesPlace}
-use Rattle.run_files.specs.Outside.{file_of, PlaceSeen, Puts as Said, PutsOrFails, Silent, SinkSeen}
+use Rattle.run_files.specs.Outside.{at, file_of, parts_seen, PlaceSeen, Puts as Said, PutsOrFails, Silent, SinkSeen, SourceSeen}
 use Rattle.run_files.specs.Planned.{IsPlanOf, RefusesPlan}
 use Rattle.run_files.specs.Saying.{SaysText}
 use Rattle.run_files.specs.Stops.{write_end}
@@ -86,7 +85,7 @@ module _ {P T : Type 0} (p : PlaceSeen P) (t : SinkSeen T) where
 
   module _ (place mid : P) (out out1 : T) (name : List ℕ) (stop : Stop) where
     opening_counts : (plan : Option Plan) (inputs outs : List (List ℕ)) (leaves : LeavesPlace p place mid inputs outs (Some stop)) (opens makes : List (List ℕ)) → (plan ≡ None → Unplanned p t place mid out out1 name stop) → IfSome plan (InOrder p t place mid out out1 name stop opens makes)
-        → CountsAt p t place mid out out1 (ended stop)
+        → CountsAt p t (at place out) (at mid out1) (ended stop)
     opening_counts plan inputs outs leaves opens makes unplanned order = record {
       done = λ x e. absurd (cc e);
       refused = λ e. (
@@ -102,7 +101,7 @@ module _ {P T : Type 0} (p : PlaceSeen P) (t : SinkSeen T) where
 
     opening_stage : (plan : Option Plan) (leaves : LeavesPlace p place mid (name ∷ inputs_of plan) (outputs_of plan) (Some stop)) → IfSome plan (IsPlanOf (file_of (p.files place) name)) → (plan ≡ None → Unplanned p t place mid out out1 name stop)
         → (Some stop ≡ Some ReadFault → FailsAtLast p place leaves.opens) → IfSome plan (InOrder p t place mid out out1 name stop leaves.opens leaves.makes) → (Some stop ≡ Some PlanRefused → (plan ≡ None) × RefusesPlan t out out1 (file_of (p.files place) name))
-        → (Some stop ≢ Some PlanRefused → Some stop ≢ Some FeedRefused → Some stop ≢ Some WriteFault → Silent t out out1) → LacksPlan p t place mid out out1 name (Err stop) ⊎ EndsUnderPlan p t place mid out out1 name (Err stop)
+        → (Some stop ≢ Some PlanRefused → Some stop ≢ Some FeedRefused → Some stop ≢ Some WriteFault → Silent t out out1) → LacksPlan p t (at place out) (at mid out1) name (Err stop) ⊎ EndsUnderPlan p t (at place out) (at mid out1) name (Err stop)
     unfolding names_of
     opening_stage None leaves plan_is unplanned first order refused_plan silent = inl (record {
       names = names_of p place mid (name ∷ []) [] (Some stop) leaves;
@@ -127,7 +126,7 @@ module _ {P T : Type 0} (p : PlaceSeen P) (t : SinkSeen T) where
       });
     })
 
-  pub ended_by_opening : (place mid : P) (out out1 : T) (name : List ℕ) (stop : Stop) → OpensRun p t place mid out out1 name None (Some stop) → RunEnds p t place mid out out1 name (Err stop)
+  pub ended_by_opening : (place mid : P) (out out1 : T) (name : List ℕ) (stop : Stop) → OpensRun p t (at place out) (at mid out1) name None (Some stop) → RunEnds p t (at place out) (at mid out1) name (Err stop)
   ended_by_opening place mid out out1 name stop opens = record {
     stage = opening_stage place mid out out1 name stop opens.planned.plan opens.leaves opens.planned.plan_is opens.planned.unplanned opens.first opens.order opens.planned.refused_plan opens.silent;
     counts = opening_counts place mid out out1 name stop opens.planned.plan (name ∷ inputs_of opens.planned.plan) (outputs_of opens.planned.plan) opens.leaves opens.leaves.opens opens.leaves.makes opens.planned.unplanned opens.order;
@@ -135,7 +134,7 @@ module _ {P T : Type 0} (p : PlaceSeen P) (t : SinkSeen T) where
 
   -- ---- a run that went on
 
-  module _ (place mid place' : P) (out out1 out' : T) (name : List ℕ) (plan : Plan) (opens : OpensRun p t place mid out out1 name (Some plan) None) (plan_is : IsPlanOf (file_of (p.files place) name) plan) where
+  module _ (place mid place' : P) (out out1 out' : T) (name : List ℕ) (plan : Plan) (opens : OpensRun p t (at place out) (at mid out1) name (Some plan) None) (plan_is : IsPlanOf (file_of (p.files place) name) plan) where
     its_plan : opens.planned.plan ≡ Some plan
     its_plan = opens.goes_on
 
@@ -149,7 +148,7 @@ module _ {P T : Type 0} (p : PlaceSeen P) (t : SinkSeen T) where
     headed = opening_headed p t place mid out out1 name opens.planned.plan plan opens.leaves.opens opens.leaves.makes its_plan opens.order
 
     -- what the threads began from
-    began : (place' : P) → p.opened place' ≡ p.opened mid → p.created place' ≡ p.created mid → KeepsOthers (p.files mid) (p.files place') (output_names plan) → HasBegun p t place place' out out' name plan
+    began : (place' : P) → p.opened place' ≡ p.opened mid → p.created place' ≡ p.created mid → KeepsOthers (p.files mid) (p.files place') (output_names plan) → HasBegun p t (at place out) (at place' out') name plan
     began place' opened created kept = record {
       opened = opened ∙ leaves.opened ∙ ap (λ ns. p.opened place ++ ns) (sym (all_opened p place mid (name ∷ input_names plan) (output_names plan) leaves));
       created = created ∙ leaves.created ∙ ap (λ ns. p.created place ++ ns) (sym (all_made p place mid (name ∷ input_names plan) (output_names plan) leaves));
@@ -163,7 +162,7 @@ module _ {P T : Type 0} (p : PlaceSeen P) (t : SinkSeen T) where
           (subst (KeepsOthers (p.files place) (p.files mid)) (sym (all_made p place mid (name ∷ input_names plan) (output_names plan) leaves)) leaves.others) kept;
     }
 
-    module _ {I O : Type 0} (i : PartSeen I) (s : SinkSeen O) (parts : RunParts I O) (ready : AreReady i.left i.faults s (p.files place) plan parts) where
+    module _ {I O : Type 0} (i : SourceSeen I) (s : SinkSeen O) (parts : RunParts I O) (ready : AreReady i.left i.faults s (p.files place) plan parts) where
       abbrev sink_of : SessionDone I O → O
       sink_of done = done.sink
 
@@ -175,7 +174,7 @@ module _ {P T : Type 0} (p : PlaceSeen P) (t : SinkSeen T) where
       both_named asks finals one two = map-append s.name asks finals ∙ ap (λ ns. ns ++ map s.name finals) one ∙ ap (λ ns. outputs plan.asks ++ ns) two
 
       module _ (result : Result (Unit {0}) Stop) (crewed : Crewed I O) (ran : IsCrewed i.left i.faults s.held s.faults s.name OwnsAllButRoot plan.schema (jobs_of parts) crewed)
-          (closes : ClosesRun plan (run_done_of crewed parts.journal) p s t i.faults mid place' out1 out' result) where
+          (closes : ClosesRun plan (run_done_of crewed parts.journal) (parts_seen p i s) t (at mid out1) (at place' out') result) where
         fresh : All (λ (job : FeedJob I). i.faults job.cutter.source ≡ 0) parts.feeds
         fresh = AllZip-right (λ name. IsJobOf i.left i.faults plan.schema (file_of (p.files place) name)) (λ (job : FeedJob I). i.faults job.cutter.source ≡ 0) plan.feeds parts.feeds (λ name job is. is.fresh) ready.feeds
 
@@ -183,16 +182,16 @@ module _ {P T : Type 0} (p : PlaceSeen P) (t : SinkSeen T) where
         feeds = feed_causes i.left i.faults parts.feeds ran.sent crewed.feeds fresh ran.feeds
 
         asks : All (SessionCause i.faults s.faults) crewed.asks
-        asks = session_causes i s OwnsAllButRoot plan.schema false crewed.closed crewed.starved (entry_points crewed.journal) (p.files place) plan.asks parts.asks crewed.asks ready.asks ran.asks
+        asks = session_causes i s OwnsAllButRoot plan.schema false crewed.closed crewed.starved (answered_over crewed.closed crewed.journal crewed.drawn) (p.files place) plan.asks parts.asks crewed.asks ready.asks ran.asks
 
         finals : All (SessionCause i.faults s.faults) crewed.finals
-        finals = session_causes i s OwnsAllButRoot plan.schema true crewed.closed crewed.starved (entry_points crewed.journal) (p.files place) plan.finals parts.finals crewed.finals ready.finals ran.finals
+        finals = session_causes i s OwnsAllButRoot plan.schema true crewed.closed crewed.starved (answered_over crewed.closed crewed.journal crewed.drawn) (p.files place) plan.finals parts.finals crewed.finals ready.finals ran.finals
 
         named : map s.name (map sink_of crewed.asks ++ map sink_of crewed.finals) ≡ outputs plan.asks ++ outputs plan.finals
         named =
             both_named (map sink_of crewed.asks) (map sink_of crewed.finals)
-            (dones_named i s (p.files place) OwnsAllButRoot plan.schema false crewed.closed crewed.starved (entry_points crewed.journal) plan.asks parts.asks crewed.asks ready.asks ran.asks)
-            (dones_named i s (p.files place) OwnsAllButRoot plan.schema true crewed.closed crewed.starved (entry_points crewed.journal) plan.finals parts.finals crewed.finals ready.finals ran.finals)
+            (dones_named i s (p.files place) OwnsAllButRoot plan.schema false crewed.closed crewed.starved (answered_over crewed.closed crewed.journal crewed.drawn) plan.asks parts.asks crewed.asks ready.asks ran.asks)
+            (dones_named i s (p.files place) OwnsAllButRoot plan.schema true crewed.closed crewed.starved (answered_over crewed.closed crewed.journal crewed.drawn) plan.finals parts.finals crewed.finals ready.finals ran.finals)
 
         journal_named : s.name closes.sink ≡ plan.journal
         journal_named = closes.written.name ∙ ready.journal.name_is
@@ -211,7 +210,7 @@ module _ {P T : Type 0} (p : PlaceSeen P) (t : SinkSeen T) where
         created : p.created place' ≡ p.created mid
         created = closes.journal.created ∙ closes.parts.sinks_back.created ∙ closes.parts.finals_back.created ∙ closes.parts.asks_back.created ∙ closes.parts.feeds_back.created
 
-        begun : HasBegun p t place place' out out' name plan
+        begun : HasBegun p t (at place out) (at place' out') name plan
         begun = began place' opened created kept
 
         read_before : p.read_faults mid ≡ p.read_faults place
@@ -223,7 +222,7 @@ module _ {P T : Type 0} (p : PlaceSeen P) (t : SinkSeen T) where
         -- the files of a run that is completed
         is_done : EntryLaws → result ≡ Ok tt → Told (p.files place) (λ files. IsSomeAnd (p.files place') (λ files'. IsCompleted plan files files' (t.held out) (t.held out')))
         is_done laws well =
-            let closed : ClosesRun plan (run_done_of crewed parts.journal) p s t i.faults mid place' out1 out' (Ok tt) = subst (ClosesRun plan (run_done_of crewed parts.journal) p s t i.faults mid place' out1 out') well closes in
+            let closed : ClosesRun plan (run_done_of crewed parts.journal) (parts_seen p i s) t (at mid out1) (at place' out') (Ok tt) = subst (ClosesRun plan (run_done_of crewed parts.journal) (parts_seen p i s) t (at mid out1) (at place' out')) well closes in
             told_by (p.files place) (λ files. IsSomeAnd (p.files place') (λ files'. IsCompleted plan files files' (t.held out) (t.held out'))) (λ files told.
             let now = told_pair (p.files place) (p.files mid) files (λ a b. (other : List ℕ) → ¬ Contains leaves.makes other → get b other ≡ get a other) told leaves.others in
             subst (λ o. IsSomeAnd (p.files place') (λ files'. IsCompleted plan files files' o (t.held out'))) silent.held
@@ -246,9 +245,9 @@ module _ {P T : Type 0} (p : PlaceSeen P) (t : SinkSeen T) where
             it_is = subst (λ o. AreReady i.left i.faults s o plan parts) told ready
 
             script : (final : Bool) (names : List (List ℕ)) (befores : List (SessionState I O)) (dones : List (SessionDone I O)) → AllZip (IsSessionOf i.left i.faults s (Some files)) names befores
-                → AllZip (LeavesTranscript i.left i.faults s.held s.faults s.name OwnsAllButRoot plan.schema final crewed.closed crewed.starved (entry_points crewed.journal)) befores dones → sessions_end dones ≡ Err FeedRefused → AnyOf (λ name. is_script_refused plan.schema (file_or_empty files name) ≡ true) names
+                → AllZip (LeavesTranscript i.left i.faults s.held s.faults s.name OwnsAllButRoot plan.schema final crewed.closed crewed.starved (answered_over crewed.closed crewed.journal crewed.drawn)) befores dones → sessions_end dones ≡ Err FeedRefused → AnyOf (λ name. is_script_refused plan.schema (file_or_empty files name) ≡ true) names
             script final names befores dones are leave end =
-                refused_scripts i s OwnsAllButRoot plan.schema final crewed.closed crewed.starved (entry_points crewed.journal) files names befores dones are leave
+                refused_scripts i s OwnsAllButRoot plan.schema final crewed.closed crewed.starved (answered_over crewed.closed crewed.journal crewed.drawn) files names befores dones are leave
                 (any_unmapped session_ends (λ end. end ≡ Err FeedRefused) dones (all_err (map session_ends dones) FeedRefused end))
 
             among : AnyOf (λ name. is_script_refused plan.schema (file_or_empty files name) ≡ true) (plan.asks ++ plan.finals) → HasRefusedInput files plan
@@ -275,13 +274,13 @@ module _ {P T : Type 0} (p : PlaceSeen P) (t : SinkSeen T) where
         refused e = told_by (p.files place) (λ files. HasRefusedInput files plan) (λ files told. is_refused e files told)
 
         not_plan : result ≢ Err PlanRefused
-        not_plan e = closing_not_plan p i.faults s t plan (run_done_of crewed parts.journal) mid place' out1 out' result ready.journal.fresh feeds asks finals closes e
+        not_plan e = closing_not_plan p i s t plan (run_done_of crewed parts.journal) mid place' out1 out' result ready.journal.fresh feeds asks finals closes e
 
         read_rose : result ≡ Err ReadFault → Rose (p.read_faults place) (p.read_faults place')
-        read_rose e = subst (λ n. Rose n (p.read_faults place')) read_before (closing_read p i.faults s t plan (run_done_of crewed parts.journal) mid place' out1 out' result ready.journal.fresh feeds asks finals closes e)
+        read_rose e = subst (λ n. Rose n (p.read_faults place')) read_before (closing_read p i s t plan (run_done_of crewed parts.journal) mid place' out1 out' result ready.journal.fresh feeds asks finals closes e)
 
         write_rose : result ≡ Err WriteFault → Rose (p.write_faults place) (p.write_faults place') ⊎ Rose (t.faults out) (t.faults out')
-        write_rose e = written (closing_write p i.faults s t plan (run_done_of crewed parts.journal) mid place' out1 out' result ready.journal.fresh feeds asks finals closes e)
+        write_rose e = written (closing_write p i s t plan (run_done_of crewed parts.journal) mid place' out1 out' result ready.journal.fresh feeds asks finals closes e)
           where
             written : Rose (p.write_faults mid) (p.write_faults place') ⊎ Rose (t.faults out1) (t.faults out') → Rose (p.write_faults place) (p.write_faults place') ⊎ Rose (t.faults out) (t.faults out')
             written (inl rose) = inl (subst (λ n. Rose n (p.write_faults place')) write_before rose)
@@ -291,16 +290,16 @@ module _ {P T : Type 0} (p : PlaceSeen P) (t : SinkSeen T) where
 
         -- the counts that stand still, by how late in the order of causes the end comes
         reads_stand : 3 ≤ rank_end result → p.read_faults place' ≡ p.read_faults place
-        reads_stand late = read_still p i.faults s t plan done mid place' out1 out' result ready.journal.fresh feeds asks finals closes late ∙ read_before
+        reads_stand late = read_still p i s t plan done mid place' out1 out' result ready.journal.fresh feeds asks finals closes late ∙ read_before
 
-        all_stand : 4 ≤ rank_end result → StandStill p t place place' out out'
+        all_stand : 4 ≤ rank_end result → StandStill p t (at place out) (at place' out')
         all_stand late = (
           reads_stand (omega (arith, late)),
-          write_still p i.faults s t plan done mid place' out1 out' result ready.journal.fresh feeds asks finals closes late ∙ write_before,
-          put_still p i.faults s t plan done mid place' out1 out' result ready.journal.fresh feeds asks finals closes late ∙ silent.faults,
+          write_still p i s t plan done mid place' out1 out' result ready.journal.fresh feeds asks finals closes late ∙ write_before,
+          put_still p i s t plan done mid place' out1 out' result ready.journal.fresh feeds asks finals closes late ∙ silent.faults,
         )
 
-        counts : CountsAt p t place place' out out' result
+        counts : CountsAt p t (at place out) (at place' out') result
         counts = record {
           done = λ x e. all_stand (subst (λ (end : End). 4 ≤ rank_end end) (sym e) (omega arith));
           refused = λ e. all_stand (subst (λ (end : End). 4 ≤ rank_end end) (sym e) (omega arith));
@@ -347,7 +346,7 @@ module _ {P T : Type 0} (p : PlaceSeen P) (t : SinkSeen T) where
         unfolding its_account
         its_reads = subst (λ n. RoseBy (read_stops its_account) n (p.read_faults place')) read_before (reads_counted p i s t plan parts mid place' out1 out' (p.files place) ready crewed ran feeds asks finals result not_plan closes)
 
-        reported : EntryLaws → PutsOrFails t out out' (run_text plan done) → closes.said ≢ Err NoMemory → HasReported p t place place' out out' name plan result
+        reported : EntryLaws → PutsOrFails t out out' (run_text plan done) → closes.said ≢ Err NoMemory → HasReported p t (at place out) (at place' out') name plan result
         reported laws puts found = record {
           begun = begun;
           account = its_account;
@@ -363,7 +362,7 @@ module _ {P T : Type 0} (p : PlaceSeen P) (t : SinkSeen T) where
           planned = not_plan;
         }
 
-        stage : EntryLaws → (r : End) → closes.said ≡ r → SaysText t out1 out' (run_text plan done) r → LacksReport p t place place' out out' name plan result ⊎ HasReported p t place place' out out' name plan result
+        stage : EntryLaws → (r : End) → closes.said ≡ r → SaysText t out1 out' (run_text plan done) r → LacksReport p t (at place out) (at place' out') name plan result ⊎ HasReported p t (at place out) (at place' out') name plan result
         stage laws (Ok x) is text = inr (reported laws (inl (puts_after t out out1 out' silent (run_text plan done) text.puts)) (λ bad. cc (is, bad)))
         stage laws (Err NoMemory) is text = inl (record {
           begun = begun;
@@ -377,14 +376,14 @@ module _ {P T : Type 0} (p : PlaceSeen P) (t : SinkSeen T) where
         stage laws (Err WriteFault) is text = inr (reported laws (inr (fails_after t out out1 out' silent (run_text plan done) (text.fails refl))) (λ bad. cc (is, bad)))
         stage laws (Err FeedRefused) is text = absurd (text.ends.2 refl)
 
-        pub ended_by_closing : EntryLaws → RunEnds p t place place' out out' name result
+        pub ended_by_closing : EntryLaws → RunEnds p t (at place out) (at place' out') name result
         ended_by_closing laws = record {
           stage = inr (record { plan = plan; plan_is = plan_is; stage = inr (stage laws closes.said refl closes.report) });
           counts = counts;
         }
 
       -- a run that found no memory to begin with
-      pub ended_unrun : (result : Result (Unit {0}) Stop) → result ≡ Err NoMemory → out' ≡ out1 → GivesBack p i s parts mid place' → RunEnds p t place place' out out' name result
+      pub ended_unrun : (result : Result (Unit {0}) Stop) → result ≡ Err NoMemory → out' ≡ out1 → GivesBack (parts_seen p i s) parts mid place' → RunEnds p t (at place out) (at place' out') name result
       unfolding names_then
       ended_unrun result is said back =
           let named : map s.name (map sink_in parts.asks ++ map sink_in parts.finals) ≡ outputs plan.asks ++ outputs plan.finals =
@@ -432,6 +431,6 @@ module _ {P T : Type 0} (p : PlaceSeen P) (t : SinkSeen T) where
             };
           }
 
-      pub ended_by_parts : EntryLaws → (result : Result (Unit {0}) Stop) → RunsParts p i s t plan parts mid place' out1 out' result → RunEnds p t place place' out out' name result
+      pub ended_by_parts : EntryLaws → (result : Result (Unit {0}) Stop) → RunsParts (parts_seen p i s) t plan parts (at mid out1) (at place' out') result → RunEnds p t (at place out) (at place' out') name result
       ended_by_parts laws result (inl runs) = ended_by_closing result runs.crewed runs.ran runs.closes laws
       ended_by_parts laws result (inr unrun) = ended_unrun result unrun.0 unrun.1 unrun.2

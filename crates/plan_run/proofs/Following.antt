@@ -18,7 +18,7 @@ use Rattle.plan_run.specs.Ends.{EndsBeforeThreads, HasRefusedInput, HasReported,
 use Rattle.plan_run.specs.Interrupted.{HoldsAll}
 use Rattle.run_files.specs.Counts.{CountsAt}
 use Rattle.run_files.specs.Headed.{HasHeader, RefusesLast}
-use Rattle.run_files.specs.Outside.{file_of, PlaceSeen, Puts, SinkSeen}
+use Rattle.run_files.specs.Outside.{at, file_of, PlaceSeen, Puts, SinkSeen}
 use Rattle.run_files.specs.declared.stop.Stop.{Stop}
 use Rattle.run_files.specs.declared.stop.Stop.TheVariants.{NoMemory, PlanRefused, ReadFault, WriteFault, FeedRefused}
 use Rattle.world_core.specs.declared.entry.Entry.{Entry}
@@ -37,13 +37,13 @@ outputs_some before after makes plan some all none =
 
 module _ {P T : Type 0} (p : PlaceSeen P) (t : SinkSeen T) (place place' : P) (out out' : T) (name : List ℕ) (end : Result (Unit {0}) Stop) where
   abbrev Early : Plan → Type 0
-  Early plan = EndsBeforeThreads p t place place' out out' name plan end
+  Early plan = EndsBeforeThreads p t (at place out) (at place' out') name plan end
 
   abbrev Lacking : Plan → Type 0
-  Lacking plan = LacksReport p t place place' out out' name plan end
+  Lacking plan = LacksReport p t (at place out) (at place' out') name plan end
 
   abbrev Reported : Plan → Type 0
-  Reported plan = HasReported p t place place' out out' name plan end
+  Reported plan = HasReported p t (at place out) (at place' out') name plan end
 
   abbrev Stage : Plan → Type 0
   Stage plan = Early plan ⊎ Lacking plan ⊎ Reported plan
@@ -64,7 +64,7 @@ module _ {P T : Type 0} (p : PlaceSeen P) (t : SinkSeen T) (place place' : P) (o
   plan_taken plan (inr (inr reported)) is = reported.planned is
 
   -- where nothing is refused and no count rose a run with a plan is done, or memory was wanted
-  pub completes : (plan : Plan) → Stage plan → CountsAt p t place place' out out' end → ¬ Rose (p.read_faults place) (p.read_faults place') → ¬ Rose (p.write_faults place) (p.write_faults place') → ¬ Rose (t.faults out) (t.faults out')
+  pub completes : (plan : Plan) → Stage plan → CountsAt p t (at place out) (at place' out') end → ¬ Rose (p.read_faults place) (p.read_faults place') → ¬ Rose (p.write_faults place) (p.write_faults place') → ¬ Rose (t.faults out) (t.faults out')
       → (files : Files) → p.files place ≡ Some files → ¬ HasRefusedInput files plan → (end ≡ Ok tt) ⊎ (end ≡ Err NoMemory)
   completes plan stage counts no_read no_write no_put files told fine = by end refl
     where
@@ -116,7 +116,7 @@ module _ {P T : Type 0} (p : PlaceSeen P) (t : SinkSeen T) (place place' : P) (o
 
   -- where putting the report alone failed, the files of a run that created all its outputs miss nothing
   pub misses_nothing : (plan : Plan) → Stage plan → end ≡ Err WriteFault → ¬ Rose (p.write_faults place) (p.write_faults place') → CreatesAll plan
-      → OfBothFiles p t place place' out out' (λ files files'. (entries : List Entry) × (get files' plan.journal ≡ Some (journal_text plan.schema entries)) × HoldsAll plan entries files files')
+      → OfBothFiles p t (at place out) (at place' out') (λ files files'. (entries : List Entry) × (get files' plan.journal ≡ Some (journal_text plan.schema entries)) × HoldsAll plan entries files files')
   misses_nothing plan (inl early) is no_write all =
       elim early.order [
         | inl feeds ↦ absurd (outputs_some (p.created place) (p.created place') early.names.makes plan early.names.created all feeds.unmade)

@@ -12,7 +12,7 @@ use Rattle.outer_io.specs.Lines.{lines}
 use Rattle.plan_run.proofs.Joined.{End}
 use Rattle.plan_run.proofs.Taken.{points_all}
 use Rattle.plan_run.specs.Completed.{HasTranscript}
-use Rattle.plan_run.specs.Interrupted.{AnswersInFile, HoldsAll, IsReadOrLacking, StopsScript, ReportsFeed, accepted_lists}
+use Rattle.plan_run.specs.Interrupted.{Account, AnswersInFile, HoldsAll, IsReadOrLacking, StopsScript, ReportsFeed, accepted_lists}
 use Rattle.reply_json.specs.declared.reply.Reply.{Reply}
 use Rattle.run_files.specs.Stops.{is_lacking}
 use Rattle.run_files.specs.declared.stop.Stop.{Stop}
@@ -22,7 +22,6 @@ use Rattle.run_report.specs.declared.counts.ScriptCounts.{ScriptCounts}
 use Rattle.session_core.specs.Asked.{asked}
 use Rattle.session_core.specs.Transcript.{IsTranscript}
 use Rattle.world_core.specs.Interleaving.{IsInterleaving, entry_points, list_of}
-use Rattle.world_core.specs.declared.entry.Entry.{Entry}
 
 wants_none : (e : End) → e ≢ Err NoMemory → is_lacking e ≡ false
 wants_none (Ok x) found = refl
@@ -37,13 +36,16 @@ module _ (plan : Plan) (end : Result (Unit {0}) Stop) (files files' : Files) (fo
   neither (inl read) = unread read
   neither (inr lacking) = found lacking
 
-  module _ (final : Bool) (journal : List Point) where
-    script_held : (name : List ℕ) (script : ScriptCounts) → AnswersInFile plan.schema final true journal end files files' name script → StopsScript plan.schema true end files name script → (replies : List Reply) × HasTranscript plan.schema final journal files files' name replies
+  module _ (final : Bool) (account : Account) (shut : account.closed ≡ true) where
+    abbrev journal : List Point
+    journal = entry_points account.entries
+
+    script_held : (name : List ℕ) (script : ScriptCounts) → AnswersInFile plan.schema final end account files files' name script → StopsScript plan.schema account.closed end files name script → (replies : List Reply) × HasTranscript plan.schema final journal files files' name replies
     script_held name script answers stops =
         let asks = asked plan.schema (lines (file_or_empty files name)) in
-        let count : length answers.replies ≡ length asks = sym answers.counted.0 ∙ answers.all refl (λ is. neither (stops.read is)) (λ is. found (stops.no_memory is)) in
+        let count : length answers.replies ≡ length asks = sym answers.counted.0 ∙ answers.all shut (λ is. neither (stops.read is)) (λ is. found (stops.no_memory is)) in
         let whole : take (length answers.replies) asks ≡ asks = take_all (length answers.replies) asks (omega (arith, count)) in
-        let over = subst (λ (l : List Point). IsTranscript plan.schema OwnsAllButRoot final l (length l) (is_lacking end) (take (length answers.replies) asks) answers.replies) (answers.over refl) answers.transcript in
+        let over = subst (λ (l : List Point). IsTranscript plan.schema OwnsAllButRoot final l (length l) (is_lacking end) (take (length answers.replies) asks) answers.replies) (answers.over shut) answers.transcript in
         let none = subst (λ b. IsTranscript plan.schema OwnsAllButRoot final journal (length journal) b (take (length answers.replies) asks) answers.replies) (wants_none end found) over in (
           answers.replies,
           record {
@@ -52,7 +54,7 @@ module _ (plan : Plan) (end : Result (Unit {0}) Stop) (files files' : Files) (fo
           },
         )
 
-    pub scripts_held : (names : List (List ℕ)) (scripts : List ScriptCounts) → AllZip (AnswersInFile plan.schema final true journal end files files') names scripts → AllZip (StopsScript plan.schema true end files) names scripts
+    pub scripts_held : (names : List (List ℕ)) (scripts : List ScriptCounts) → AllZip (AnswersInFile plan.schema final end account files files') names scripts → AllZip (StopsScript plan.schema account.closed end files) names scripts
         → (replies : List (List Reply)) × AllZip (HasTranscript plan.schema final journal files files') names replies
     scripts_held [] [] answers stops = ([], tt)
     scripts_held [] (c ∷ scripts) answers stops = absurd answers
@@ -62,19 +64,19 @@ module _ (plan : Plan) (end : Result (Unit {0}) Stop) (files files' : Files) (fo
         let later = scripts_held names scripts answers.1 stops.1 in
         (one.0 ∷ later.0, (one.1, later.1))
 
-  pub all_held : (feeds : List FeedRows) (asks finals : List ScriptCounts) (entries : List Entry) → AllZip (ReportsFeed plan.schema end files) plan.feeds feeds
-      → IsInterleaving (length plan.feeds) (list_of (map (λ (feed : FeedRows). points_in feed.rows) feeds)) entries
-      → AllZip (AnswersInFile plan.schema false true (entry_points entries) end files files') plan.asks asks → AllZip (StopsScript plan.schema true end files) plan.asks asks
-      → AllZip (AnswersInFile plan.schema true true (entry_points entries) end files files') plan.finals finals → AllZip (StopsScript plan.schema true end files) plan.finals finals
-      → HoldsAll plan entries files files'
-  all_held feeds asks finals entries takes order asked stopped ended stopped' =
-      let to_asks = scripts_held false (entry_points entries) plan.asks asks asked stopped in
-      let to_finals = scripts_held true (entry_points entries) plan.finals finals ended stopped' in
-      let lists : map (λ (feed : FeedRows). points_in feed.rows) feeds ≡ accepted_lists plan files =
-      AllZip-map (ReportsFeed plan.schema end files) (λ name. accepted plan.schema (file_or_empty files name)) (λ (feed : FeedRows). points_in feed.rows) plan.feeds feeds
+  pub all_held : (account : Account) → account.closed ≡ true → AllZip (ReportsFeed plan.schema end files) plan.feeds account.feeds
+      → IsInterleaving (length plan.feeds) (list_of (map (λ (feed : FeedRows). points_in feed.rows) account.feeds)) account.entries
+      → AllZip (AnswersInFile plan.schema false end account files files') plan.asks account.asks → AllZip (StopsScript plan.schema account.closed end files) plan.asks account.asks
+      → AllZip (AnswersInFile plan.schema true end account files files') plan.finals account.finals → AllZip (StopsScript plan.schema account.closed end files) plan.finals account.finals
+      → HoldsAll plan account.entries files files'
+  all_held account shut takes order asked stopped ended stopped' =
+      let to_asks = scripts_held false account shut plan.asks account.asks asked stopped in
+      let to_finals = scripts_held true account shut plan.finals account.finals ended stopped' in
+      let lists : map (λ (feed : FeedRows). points_in feed.rows) account.feeds ≡ accepted_lists plan files =
+      AllZip-map (ReportsFeed plan.schema end files) (λ name. accepted plan.schema (file_or_empty files name)) (λ (feed : FeedRows). points_in feed.rows) plan.feeds account.feeds
       (λ name feed takes. points_all plan.schema end files name feed (takes.whole (λ is. neither (takes.read is)) (λ is. found (takes.no_memory is)))) takes in
       record {
-        order = subst (λ ls. IsInterleaving (length plan.feeds) (list_of ls) entries) lists order;
+        order = subst (λ ls. IsInterleaving (length plan.feeds) (list_of ls) account.entries) lists order;
         ask_replies = to_asks.0;
         asks = to_asks.1;
         final_replies = to_finals.0;

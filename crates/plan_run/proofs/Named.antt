@@ -10,9 +10,8 @@ use Rattle.cube_view.specs.declared.stat.Stat.{Stat}
 use Rattle.live_session.specs.State.{SessionState}
 use Rattle.outer_io.specs.Files.{Files}
 use Rattle.plan_run.specs.Ends.{LeavesNames}
-use Rattle.plan_run.specs.Seen.{PartSeen}
 use Rattle.run_files.specs.Leaving.{KeepsOthers, LeavesPlace}
-use Rattle.run_files.specs.Outside.{PlaceSeen, SinkSeen}
+use Rattle.run_files.specs.Outside.{PlaceSeen, SinkSeen, SourceSeen}
 use Rattle.run_files.specs.declared.stop.Stop.{Stop}
 use Rattle.run_opening.specs.Ready.{IsSessionOf}
 
@@ -23,7 +22,7 @@ KeepsOthers-twice (Some files) None after names one two = absurd one
 KeepsOthers-twice (Some files) (Some now) None names one two = absurd two
 KeepsOthers-twice (Some files) (Some now) (Some last) names one two = λ other apart. two other apart ∙ one other apart
 
-module _ {I O : Type 0} (i : PartSeen I) (s : SinkSeen O) (files : Option Files) where
+module _ {I O : Type 0} (i : SourceSeen I) (s : SinkSeen O) (files : Option Files) where
   -- the sinks of sessions are named by the outputs of their scripts
   pub sessions_named : (names : List (List ℕ)) (sessions : List (SessionState I O)) → AllZip (IsSessionOf i.left i.faults s files) names sessions → map s.name (map (λ (session : SessionState I O). session.sink) sessions) ≡ outputs names
   sessions_named [] [] ready = refl

@@ -10,7 +10,7 @@ use Rattle.plan_run.proofs.Blamed.{AnyOf, all_err, any_in, any_left, any_mapped,
 use Rattle.plan_run.proofs.Causes.{FeedCause, SessionCause}
 use Rattle.run_files.proofs.Counts.{counts_failed, counts_grow, rose_from_before, rose_later, rose_once}
 use Rattle.run_files.specs.GivingBack.{TakesSources}
-use Rattle.run_files.specs.Outside.{PlaceSeen, SinkSeen}
+use Rattle.run_files.specs.Outside.{at, parts_seen, PlaceSeen, SinkSeen, SourceSeen}
 use Rattle.run_files.specs.Stops.{write_end}
 use Rattle.run_files.specs.declared.stop.Stop.{Stop}
 use Rattle.run_files.specs.declared.stop.Stop.TheVariants.{NoMemory, PlanRefused, ReadFault, WriteFault}
@@ -22,14 +22,14 @@ pub starved_of : (starved : Bool) (e : Stop) → e ≢ NoMemory → starved_end 
 starved_of true e other is = other (sym (cc is))
 starved_of false e other is = cc is
 
-module _ {P I O T : Type 0} (p : PlaceSeen P) (faults : I → ℕ) (s : SinkSeen O) (t : SinkSeen T) (plan : Plan) (done : RunDone I O) (place place' : P) (out out' : T) (result : Result (Unit {0}) Stop)
-    (fresh : s.faults done.journal ≡ 0) (feeds : All (FeedCause faults) done.feeds) (asks : All (SessionCause faults s.faults) done.asks) (finals : All (SessionCause faults s.faults) done.finals)
-    (closes : ClosesRun plan done p s t faults place place' out out' result) where
+module _ {P I O T : Type 0} (p : PlaceSeen P) (i : SourceSeen I) (s : SinkSeen O) (t : SinkSeen T) (plan : Plan) (done : RunDone I O) (place place' : P) (out out' : T) (result : Result (Unit {0}) Stop)
+    (fresh : s.faults done.journal ≡ 0) (feeds : All (FeedCause i.faults) done.feeds) (asks : All (SessionCause i.faults s.faults) done.asks) (finals : All (SessionCause i.faults s.faults) done.finals)
+    (closes : ClosesRun plan done (parts_seen p i s) t (at place out) (at place' out') result) where
   abbrev feed_count : FeedDone I → ℕ
-  feed_count feed = faults feed.source
+  feed_count feed = i.faults feed.source
 
   abbrev session_count : SessionDone I O → ℕ
-  session_count session = faults session.source
+  session_count session = i.faults session.source
 
   abbrev sink_of : SessionDone I O → O
   sink_of session = session.sink
@@ -52,13 +52,13 @@ module _ {P I O T : Type 0} (p : PlaceSeen P) (faults : I → ℕ) (s : SinkSeen
   fed_read : feeds_end done.feeds ≡ Err ReadFault → AnyOf MetFault (map feed_count done.feeds)
   fed_read is =
       any_mapped feed_count MetFault done.feeds
-      (any_with (λ (d : FeedDone I). feed_end d.fault ≡ Err ReadFault) (FeedCause faults) (λ d. MetFault (feed_count d)) done.feeds (λ d end cause. cause.read (feed_read_end d.fault end))
+      (any_with (λ (d : FeedDone I). feed_end d.fault ≡ Err ReadFault) (FeedCause i.faults) (λ d. MetFault (feed_count d)) done.feeds (λ d end cause. cause.read (feed_read_end d.fault end))
       (any_unmapped (λ (d : FeedDone I). feed_end d.fault) (λ end. end ≡ Err ReadFault) done.feeds (all_err (map (λ (d : FeedDone I). feed_end d.fault) done.feeds) ReadFault is)) feeds)
 
-  sessions_read : (sessions : List (SessionDone I O)) → All (SessionCause faults s.faults) sessions → sessions_end sessions ≡ Err ReadFault → AnyOf MetFault (map session_count sessions)
+  sessions_read : (sessions : List (SessionDone I O)) → All (SessionCause i.faults s.faults) sessions → sessions_end sessions ≡ Err ReadFault → AnyOf MetFault (map session_count sessions)
   sessions_read sessions causes is =
       any_mapped session_count MetFault sessions
-      (any_with (λ (d : SessionDone I O). session_end d.fault ≡ Err ReadFault) (SessionCause faults s.faults) (λ d. MetFault (session_count d)) sessions (λ d end cause. cause.read (session_read_end d.fault end))
+      (any_with (λ (d : SessionDone I O). session_end d.fault ≡ Err ReadFault) (SessionCause i.faults s.faults) (λ d. MetFault (session_count d)) sessions (λ d end cause. cause.read (session_read_end d.fault end))
       (any_unmapped (λ (d : SessionDone I O). session_end d.fault) (λ end. end ≡ Err ReadFault) sessions (all_err (map (λ (d : SessionDone I O). session_end d.fault) sessions) ReadFault is)) causes)
 
   -- what the place's count is from the last source on
@@ -91,10 +91,10 @@ module _ {P I O T : Type 0} (p : PlaceSeen P) (faults : I → ℕ) (s : SinkSeen
 
   -- ---- writing
 
-  sessions_write : (sessions : List (SessionDone I O)) → All (SessionCause faults s.faults) sessions → sessions_end sessions ≡ Err WriteFault → AnyOf (λ sink. MetFault (s.faults sink)) (map sink_of sessions)
+  sessions_write : (sessions : List (SessionDone I O)) → All (SessionCause i.faults s.faults) sessions → sessions_end sessions ≡ Err WriteFault → AnyOf (λ sink. MetFault (s.faults sink)) (map sink_of sessions)
   sessions_write sessions causes is =
       any_mapped sink_of (λ sink. MetFault (s.faults sink)) sessions
-      (any_with (λ (d : SessionDone I O). session_end d.fault ≡ Err WriteFault) (SessionCause faults s.faults) (λ d. MetFault (s.faults d.sink)) sessions (λ d end cause. cause.write (session_write_end d.fault end))
+      (any_with (λ (d : SessionDone I O). session_end d.fault ≡ Err WriteFault) (SessionCause i.faults s.faults) (λ d. MetFault (s.faults d.sink)) sessions (λ d end cause. cause.write (session_write_end d.fault end))
       (any_unmapped (λ (d : SessionDone I O). session_end d.fault) (λ end. end ≡ Err WriteFault) sessions (all_err (map (λ (d : SessionDone I O). session_end d.fault) sessions) WriteFault is)) causes)
 
   no_feed_writes : (ds : List (FeedDone I)) → ¬ AnyOf (λ (d : FeedDone I). feed_end d.fault ≡ Err WriteFault) ds

@@ -24,8 +24,7 @@ use Rattle.outer_io.specs.declared.fault.IoFault.{IoFault}
 use Rattle.outer_io.specs.declared.fault.IoFault.TheVariants as io
 use Rattle.plan_run.proofs.Blamed.{AnyOf}
 use Rattle.plan_run.proofs.Causes.{ended_by}
-use Rattle.plan_run.specs.Seen.{PartSeen}
-use Rattle.run_files.specs.Outside.{SinkSeen}
+use Rattle.run_files.specs.Outside.{SinkSeen, SourceSeen}
 use Rattle.run_files.specs.Stops.{write_end}
 use Rattle.run_files.specs.declared.stop.Stop.TheVariants.{FeedRefused}
 use Rattle.run_opening.specs.Ready.{IsJobOf, IsSessionOf}
@@ -77,7 +76,7 @@ module _ {I : Type 0} (left : I → Option (List ℕ)) (faults : I → ℕ) (sch
   large_feeds (n ∷ names) (j ∷ jobs) (s ∷ sents) (d ∷ dones) ready leave (inl end) = inl (large_feed n j s d ready.0 leave.0 end)
   large_feeds (n ∷ names) (j ∷ jobs) (s ∷ sents) (d ∷ dones) ready leave (inr any) = inr (large_feeds names jobs sents dones ready.1 leave.1 any)
 
-module _ {I O : Type 0} (i : PartSeen I) (s : SinkSeen O) (is_stat : Stat → Type 0) (schema : Schema) (final closed starved : Bool) (points : List Point) (files : Files) where
+module _ {I O : Type 0} (i : SourceSeen I) (s : SinkSeen O) (is_stat : Stat → Type 0) (schema : Schema) (final closed starved : Bool) (points : List Point) (files : Files) where
   abbrev IsLarge : List ℕ → Type 0
   IsLarge name = input_limit < length (file_or_empty files name)
 

@@ -12,7 +12,7 @@ use Rattle.outer_io.specs.Files.{Files, file_or_empty}
 use Rattle.outer_io.specs.Told.{Told}
 use Rattle.plan_run.specs.Ends.{HasRefusedInput}
 use Rattle.run_files.specs.Headed.{HasHeader}
-use Rattle.run_files.specs.Outside.{file_of, PlaceSeen, SinkSeen}
+use Rattle.run_files.specs.Outside.{at, file_of, PlaceSeen, SinkSeen}
 use Rattle.run_files.specs.declared.stop.Stop.{Stop}
 use Rattle.run_files.specs.declared.stop.Stop.TheVariants.{NoMemory, PlanRefused, ReadFault, WriteFault, FeedRefused}
 use Rattle.run_opening.specs.Opening.{OpensInOrder, outputs_of}
@@ -23,7 +23,7 @@ module _ {P T : Type 0} (p : PlaceSeen P) (t : SinkSeen T) (place mid : P) (out 
   Unplanned stop = (Some stop ≡ Some NoMemory) ⊎ (Some stop ≡ Some ReadFault) ⊎ (Some stop ≡ Some PlanRefused)
 
   abbrev pub InOrder : Stop → List (List ℕ) → List (List ℕ) → Plan → Type 0
-  InOrder stop opens makes plan = (later : List (List ℕ)) × (opens ≡ name ∷ later) × OpensInOrder t plan (p.files place) (p.write_faults place) (p.write_faults mid) out out1 later makes (Some stop)
+  InOrder stop opens makes plan = (later : List (List ℕ)) × (opens ≡ name ∷ later) × OpensInOrder p t plan (at place out) (at mid out1) later makes (Some stop)
 
   -- which feed is refused where opening says so
   pub opening_refused : (stop : Stop) (plan : Plan) (opens makes : List (List ℕ)) → stop ≡ FeedRefused → InOrder stop opens makes plan → Told (p.files place) (λ files. HasRefusedInput files plan)
@@ -73,7 +73,7 @@ module _ {P T : Type 0} (p : PlaceSeen P) (t : SinkSeen T) (place mid : P) (out 
   opening_unmade FeedRefused (Some plan) opens makes unmade found written unread are (later, e, inr scripts) = absurd (scripts.ends.1 refl)
 
   -- opening that goes on has read the header of each feed
-  pub opening_headed : (plan : Option Plan) (which : Plan) (opens makes : List (List ℕ)) → plan ≡ Some which → IfSome plan (λ plan. (later : List (List ℕ)) × (opens ≡ name ∷ later) × OpensInOrder t plan (p.files place) (p.write_faults place) (p.write_faults mid) out out1 later makes None)
+  pub opening_headed : (plan : Option Plan) (which : Plan) (opens makes : List (List ℕ)) → plan ≡ Some which → IfSome plan (λ plan. (later : List (List ℕ)) × (opens ≡ name ∷ later) × OpensInOrder p t plan (at place out) (at mid out1) later makes None)
       → All (λ feed. HasHeader which.schema (file_of (p.files place) feed)) which.feeds
   opening_headed None which opens makes is order = absurd (cc is)
   opening_headed (Some plan) which opens makes is (later, e, inl feeds) = absurd (feeds.ends.0 refl)

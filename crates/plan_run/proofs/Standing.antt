@@ -13,7 +13,7 @@ use Rattle.plan_run.proofs.Causes.{FeedCause, SessionCause}
 use Rattle.plan_run.proofs.Joined.{All-unmapped, End, written_well}
 use Rattle.plan_run.proofs.Ranked.{ComesFirst, rank_end, within}
 use Rattle.plan_run.proofs.Refused.{write_not_refused}
-use Rattle.run_files.specs.Outside.{PlaceSeen, Puts, SinkSeen}
+use Rattle.run_files.specs.Outside.{at, parts_seen, PlaceSeen, Puts, SinkSeen, SourceSeen}
 use Rattle.run_files.specs.Stops.{write_end}
 use Rattle.run_files.specs.declared.stop.Stop.{Stop}
 use Rattle.run_files.specs.declared.stop.Stop.TheVariants.{NoMemory, PlanRefused, ReadFault, WriteFault, FeedRefused}
@@ -55,14 +55,14 @@ not_failed : (r : Result (Unit {0}) IoFault) → r ≡ Ok tt → ¬ IsErrOf r io
 not_failed (Ok x) is bad = cc bad
 not_failed (Err e) is bad = cc is
 
-module _ {P I O T : Type 0} (p : PlaceSeen P) (faults : I → ℕ) (s : SinkSeen O) (t : SinkSeen T) (plan : Plan) (done : RunDone I O) (place place' : P) (out out' : T) (result : Result (Unit {0}) Stop)
-    (fresh : s.faults done.journal ≡ 0) (feeds : All (FeedCause faults) done.feeds) (asks : All (SessionCause faults s.faults) done.asks) (finals : All (SessionCause faults s.faults) done.finals)
-    (closes : ClosesRun plan done p s t faults place place' out out' result) where
+module _ {P I O T : Type 0} (p : PlaceSeen P) (i : SourceSeen I) (s : SinkSeen O) (t : SinkSeen T) (plan : Plan) (done : RunDone I O) (place place' : P) (out out' : T) (result : Result (Unit {0}) Stop)
+    (fresh : s.faults done.journal ≡ 0) (feeds : All (FeedCause i.faults) done.feeds) (asks : All (SessionCause i.faults s.faults) done.asks) (finals : All (SessionCause i.faults s.faults) done.finals)
+    (closes : ClosesRun plan done (parts_seen p i s) t (at place out) (at place' out') result) where
   abbrev feed_count : FeedDone I → ℕ
-  feed_count feed = faults feed.source
+  feed_count feed = i.faults feed.source
 
   abbrev session_count : SessionDone I O → ℕ
-  session_count session = faults session.source
+  session_count session = i.faults session.source
 
   abbrev sink_of : SessionDone I O → O
   sink_of session = session.sink
@@ -94,7 +94,7 @@ module _ {P I O T : Type 0} (p : PlaceSeen P) (faults : I → ℕ) (s : SinkSeen
       let ends = All-unmapped (λ (d : FeedDone I). feed_end d.fault) (λ (e : End). 3 ≤ rank_end e) done.feeds (within 3 (map (λ (d : FeedDone I). feed_end d.fault) done.feeds) (four_ends 3 late 1 well (omega arith))) in
       All-map IsZero feed_count done.feeds (λ k d low. (feeds k d low).quiet (late_feed _ (ends k d low)))
 
-  sources_quiet : (sessions : List (SessionDone I O)) → All (SessionCause faults s.faults) sessions → 3 ≤ rank_end (sessions_end sessions) → All IsZero (map session_count sessions)
+  sources_quiet : (sessions : List (SessionDone I O)) → All (SessionCause i.faults s.faults) sessions → 3 ≤ rank_end (sessions_end sessions) → All IsZero (map session_count sessions)
   sources_quiet sessions causes late =
       let ends = session_ends 3 sessions late in
       All-map IsZero session_count sessions (λ k d low. (causes k d low).read_quiet (late_session _ (ends k d low)))
@@ -107,7 +107,7 @@ module _ {P I O T : Type 0} (p : PlaceSeen P) (faults : I → ℕ) (s : SinkSeen
 
   -- ---- writing
 
-  sinks_quiet : (sessions : List (SessionDone I O)) → All (SessionCause faults s.faults) sessions → 4 ≤ rank_end (sessions_end sessions) → All (λ sink. s.faults sink ≡ 0) (map sink_of sessions)
+  sinks_quiet : (sessions : List (SessionDone I O)) → All (SessionCause i.faults s.faults) sessions → 4 ≤ rank_end (sessions_end sessions) → All (λ sink. s.faults sink ≡ 0) (map sink_of sessions)
   sinks_quiet sessions causes late =
       let ends = session_ends 4 sessions late in
       All-map (λ sink. s.faults sink ≡ 0) sink_of sessions (λ k d low. (causes k d low).write_quiet (last_session _ (ends k d low)))

@@ -1,5 +1,5 @@
 -- What a run that was closed leaves and says, whatever interrupted it.
-use Rattle.std.proofs.Common.{◌≡◌, ◌≢◌, ◌+◌, ◌≤◌, ℕ, Bool, true, false, List, [], ◌∷◌, ◌++◌, All, length, map, nat_lt, take, Option, Some, Result, Ok, Err, IsSomeAnd, refl, sym, ap, subst, ◌∙◌, arith}
+use Rattle.std.proofs.Common.{◌≡◌, ◌≢◌, ◌+◌, ◌≤◌, ℕ, Bool, true, false, List, [], ◌∷◌, ◌++◌, All, length, map, nat_lt, take, Option, Some, Result, Ok, Err, IsSomeAnd, refl, sym, ap, subst, ◌∙◌, append-nil, arith}
 use Rattle.std.specs.Prelude.{AllPairs, Contains, IsErrOf, OnErr, OnOk, count_by}
 use Rattle.std.specs.FinMap.{get}
 use Rattle.std.specs.List.{AllZip}
@@ -11,7 +11,7 @@ use Rattle.crew_feeder.specs.declared.job.FeedDone.{FeedDone}
 use Rattle.crew_feeder.specs.declared.job.FeedJob.{FeedJob}
 use Rattle.crew_session.specs.declared.done.SessionDone.{SessionDone}
 use Rattle.cube_crew.proofs.Zips.{AllZip-length, AllZip-right, AllZip-then}
-use Rattle.cube_crew.specs.Crewed.{IsCrewed, LeavesTranscript}
+use Rattle.cube_crew.specs.Crewed.{IsCrewed, LeavesTranscript, answered_over}
 use Rattle.cube_crew.specs.declared.jobs.Crewed.{Crewed}
 use Rattle.cube_schema.specs.Files.{NamesFiles, input_names, output_names}
 use Rattle.cube_schema.specs.Repeats.{outputs}
@@ -31,7 +31,7 @@ use Rattle.outer_io.specs.declared.fault.IoFault.TheVariants as io
 use Rattle.plan_run.proofs.Answering.{HasRun, answers_script, stops_script}
 use Rattle.plan_run.proofs.Causes.{FeedCause, SessionCause}
 use Rattle.plan_run.proofs.Counting.{count-map, rose_both, unread_feeds, unread_scripts}
-use Rattle.plan_run.proofs.Fronts.{interleaves_fronts}
+use Rattle.plan_run.proofs.Fronts.{answered_front, interleaves_fronts}
 use Rattle.plan_run.proofs.Holding.{all_held}
 use Rattle.plan_run.proofs.Joined.{All-unmapped, End}
 use Rattle.plan_run.proofs.Landed.{AllPairs-back, AllPairs-front, AllPairs-last, told_pair}
@@ -42,11 +42,10 @@ use Rattle.plan_run.proofs.Taken.{Gave, GaveRows, StandsAfterOne, all_gave, poin
 use Rattle.plan_run.proofs.Zips.{AllZip-ap, AllZip-mapped, AllZip-with}
 use Rattle.plan_run.specs.Interrupted.{Account, BeginsFiles, AnswersInFile, HoldsFiles, InterleavesFronts, StopsScript, ReportsFeed, account_text, accepted_lists, is_script_unread, is_unread, read_stops}
 use Rattle.plan_run.specs.Parts.{run_done_of, jobs_of}
-use Rattle.plan_run.specs.Seen.{PartSeen}
 use Rattle.run_files.proofs.Counts.{counts_failed, counts_grow, rose_from_before, rose_later}
 use Rattle.run_files.proofs.Lists.{All-back, All-front}
 use Rattle.run_files.specs.GivingBack.{Lands, faulty}
-use Rattle.run_files.specs.Outside.{file_of, PlaceSeen, SinkSeen}
+use Rattle.run_files.specs.Outside.{at, file_of, parts_seen, PlaceSeen, SinkSeen, SourceSeen}
 use Rattle.run_files.specs.Stops.{joined_ends, write_end}
 use Rattle.run_files.specs.declared.stop.Stop.{Stop}
 use Rattle.run_files.specs.declared.stop.Stop.TheVariants.{NoMemory, PlanRefused, ReadFault, WriteFault, FeedRefused}
@@ -63,6 +62,7 @@ use Rattle.run_stages.specs.declared.done.RunDone.{RunDone}
 use Rattle.session_core.specs.declared.fault.SessionFault.TheVariants as fault
 use Rattle.world_core.specs.Interleaving.{IsInterleaving, entry_points, list_of}
 use Rattle.world_core.specs.PairFact.{IsPrefix}
+use Rattle.world_core.specs.declared.entry.Entry.{Entry}
 
 abbrev Answer : Type 0
 Answer = Result (Unit {0}) IoFault
@@ -115,10 +115,10 @@ part_lands f g after name text held n is told empty (Err io.Failed) lands =
     (twice.0, Told-some after g (λ now. get now name ≡ Some (take part.0 (take n text))) told part.1 ∙ ap (λ (bytes : List ℕ). Some bytes) twice.1)
 part_lands f g after name text held n is told empty (Err io.NoMemory) lands = (0, subst (λ o. IsSomeAnd o (λ now. get now name ≡ get f name)) told lands ∙ empty)
 
-module _ {P I O T : Type 0} (p : PlaceSeen P) (i : PartSeen I) (s : SinkSeen O) (t : SinkSeen T) (plan : Plan) (parts : RunParts I O) (place place' : P) (out out' : T) (o : Option Files) (ready : AreReady i.left i.faults s o plan parts) (crewed : Crewed I O)
+module _ {P I O T : Type 0} (p : PlaceSeen P) (i : SourceSeen I) (s : SinkSeen O) (t : SinkSeen T) (plan : Plan) (parts : RunParts I O) (place place' : P) (out out' : T) (o : Option Files) (ready : AreReady i.left i.faults s o plan parts) (crewed : Crewed I O)
     (ran : IsCrewed i.left i.faults s.held s.faults s.name OwnsAllButRoot plan.schema (jobs_of parts) crewed)
     (feed_causes : All (FeedCause i.faults) crewed.feeds) (ask_causes : All (SessionCause i.faults s.faults) crewed.asks) (final_causes : All (SessionCause i.faults s.faults) crewed.finals)
-    (result : Result (Unit {0}) Stop) (planned : result ≢ Err PlanRefused) (closes : ClosesRun plan (run_done_of crewed parts.journal) p s t i.faults place place' out out' result) where
+    (result : Result (Unit {0}) Stop) (planned : result ≢ Err PlanRefused) (closes : ClosesRun plan (run_done_of crewed parts.journal) (parts_seen p i s) t (at place out) (at place' out') result) where
   abbrev done : RunDone I O
   done = run_done_of crewed parts.journal
 
@@ -187,7 +187,7 @@ module _ {P I O T : Type 0} (p : PlaceSeen P) (i : PartSeen I) (s : SinkSeen O) 
   gave = all_gave i.left i.faults parts.feeds ran.sent crewed.feeds (AllZip-right (λ name. IsJobOf i.left i.faults plan.schema (file_of o name)) (StandsAfterOne i.left i.faults) plan.feeds parts.feeds (λ name job is. is.given) ready.feeds) ran.feeds
 
   pub account : Account
-  account = record { feeds = gave.feeds; asks = map script_counts crewed.asks; finals = map script_counts crewed.finals; closed = crewed.closed; entries = crewed.journal }
+  account = record { feeds = gave.feeds; asks = map script_counts crewed.asks; finals = map script_counts crewed.finals; closed = crewed.closed; entries = crewed.journal; drawn = crewed.drawn }
 
   pub account_is : run_text plan done ≡ account_text plan account
   unfolding account
@@ -278,7 +278,7 @@ module _ {P I O T : Type 0} (p : PlaceSeen P) (i : PartSeen I) (s : SinkSeen O) 
     it_is = subst (λ o. AreReady i.left i.faults s o plan parts) told ready
 
     abbrev points : List Point
-    points = entry_points crewed.journal
+    points = answered_over crewed.closed crewed.journal crewed.drawn
 
     asks_run : AllZip (HasRun i s plan.schema false crewed.closed crewed.starved points files result) plan.asks crewed.asks
     asks_run =
@@ -340,12 +340,12 @@ module _ {P I O T : Type 0} (p : PlaceSeen P) (i : PartSeen I) (s : SinkSeen O) 
     count : length parts.feeds ≡ length plan.feeds
     count = AllZip-length (λ name job. IsJobOf i.left i.faults plan.schema (Some (file_or_empty files name)) job) plan.feeds parts.feeds it_is.feeds
 
-    fronts : InterleavesFronts (accepted_lists plan files) crewed.journal
-    fronts =
+    fronts : (entries : List Entry) → IsPrefix entries crewed.drawn → InterleavesFronts (accepted_lists plan files) entries
+    fronts entries begins =
         let acc : List ℕ → List Point = λ name. accepted plan.schema (file_or_empty files name) in
         let prefixes : AllZip IsPrefix (map (λ (feed : FeedRows). points_in feed.rows) gave.feeds) (accepted_lists plan files) =
         AllZip-ap (ReportsFeed plan.schema result files) IsPrefix (λ name. accepted plan.schema (file_or_empty files name)) (λ (feed : FeedRows). points_in feed.rows) plan.feeds gave.feeds (points_begin plan.schema result files) takes in
-        interleaves_fronts (accepted_lists plan files) ran.sent (length parts.feeds) crewed.journal crewed.drawn (count ∙ sym (length-map plan.feeds acc)) (subst (λ ls. AllZip IsPrefix ls (accepted_lists plan files)) (sym gave.points) prefixes) ran.drawn ran.journal
+        interleaves_fronts (accepted_lists plan files) ran.sent (length parts.feeds) entries crewed.drawn (count ∙ sym (length-map plan.feeds acc)) (subst (λ ls. AllZip IsPrefix ls (accepted_lists plan files)) (sym gave.points) prefixes) ran.drawn begins
 
     drawn : result ≢ Err NoMemory → IsInterleaving (length plan.feeds) (list_of (map (λ (feed : FeedRows). points_in feed.rows) gave.feeds)) crewed.journal
     drawn found =
@@ -373,7 +373,9 @@ module _ {P I O T : Type 0} (p : PlaceSeen P) (i : PartSeen I) (s : SinkSeen O) 
     unfolding account text
     begins = record {
       journal = journal_begins;
-      order = fronts;
+      order = fronts crewed.journal ran.journal;
+      first = ran.journal;
+      drawn_order = fronts crewed.drawn ([], sym (append-nil crewed.drawn));
       drawn = drawn;
       feeds = takes;
       asks = stopped false plan.asks crewed.asks asks_run asks_first;
@@ -399,11 +401,12 @@ module _ {P I O T : Type 0} (p : PlaceSeen P) (i : PartSeen I) (s : SinkSeen O) 
           closes.parts.sinks_back (sinks_quiet quiet) given_first
 
       answered : (final : Bool) (scripts : List (List ℕ)) (sessions : List (SessionDone I O)) → AllZip (HasRun i s plan.schema final crewed.closed crewed.starved points files result) scripts sessions → All Unbroken sessions → All (LandsAs s result last.0) (map sink_of sessions)
-          → AllZip (AnswersInFile plan.schema final crewed.closed points result files last.0) scripts (map script_counts sessions)
+          → AllZip (AnswersInFile plan.schema final result account files last.0) scripts (map script_counts sessions)
+      unfolding account
       answered final scripts sessions run whole lands =
-          AllZip-mapped (AnswersInFile plan.schema final crewed.closed points result files last.0) script_counts scripts sessions
-          (AllZip-with (HasRun i s plan.schema final crewed.closed crewed.starved points files result) (λ (d : SessionDone I O). Unbroken d × LandsAs s result last.0 d.sink) (λ name d. AnswersInFile plan.schema final crewed.closed points result files last.0 name (script_counts d)) scripts sessions
-          (answers_script i s plan.schema final crewed.closed crewed.starved points files result last.0 starving) run (λ k d low. (whole k d low, All-unmapped sink_of (LandsAs s result last.0) sessions lands k d low)))
+          AllZip-mapped (AnswersInFile plan.schema final result account files last.0) script_counts scripts sessions
+          (AllZip-with (HasRun i s plan.schema final crewed.closed crewed.starved points files result) (λ (d : SessionDone I O). Unbroken d × LandsAs s result last.0 d.sink) (λ name d. AnswersInFile plan.schema final result account files last.0 name (script_counts d)) scripts sessions
+          (answers_script i s plan.schema final crewed.closed crewed.starved points files result last.0 account refl (λ shut. ap (λ (b : Bool). answered_over b crewed.journal crewed.drawn) shut) (answered_front crewed.closed crewed.journal crewed.drawn ran.journal) starving) run (λ k d low. (whole k d low, All-unmapped sink_of (LandsAs s result last.0) sessions lands k d low)))
 
       journal_file : get last.0 plan.journal ≡ Some text
       unfolding text
@@ -421,10 +424,6 @@ module _ {P I O T : Type 0} (p : PlaceSeen P) (i : PartSeen I) (s : SinkSeen O) 
           let back = All-back (LandsAs s result last.0) (map sink_of crewed.asks) (map sink_of crewed.finals) landed in
           let asks_answered = answered false plan.asks crewed.asks asks_run (asks_unbroken quiet) front in
           let finals_answered = answered true plan.finals crewed.finals finals_run (finals_unbroken quiet) back in
-          let closed_asks = λ (shut : crewed.closed ≡ true). subst (λ b. AllZip (AnswersInFile plan.schema false b points result files last.0) plan.asks (map script_counts crewed.asks)) shut asks_answered in
-          let closed_finals = λ (shut : crewed.closed ≡ true). subst (λ b. AllZip (AnswersInFile plan.schema true b points result files last.0) plan.finals (map script_counts crewed.finals)) shut finals_answered in
-          let closed_asks_stopped = λ (shut : crewed.closed ≡ true). subst (λ b. AllZip (StopsScript plan.schema b result files) plan.asks (map script_counts crewed.asks)) shut (stopped false plan.asks crewed.asks asks_run asks_first) in
-          let closed_finals_stopped = λ (shut : crewed.closed ≡ true). subst (λ b. AllZip (StopsScript plan.schema b result files) plan.finals (map script_counts crewed.finals)) shut (stopped true plan.finals crewed.finals finals_run finals_first) in
           subst (λ f. IsSomeAnd f (HoldsFiles plan result account files)) (sym last.1)
           (record {
             begins = begins;
@@ -434,5 +433,5 @@ module _ {P I O T : Type 0} (p : PlaceSeen P) (i : PartSeen I) (s : SinkSeen O) 
             unbroken = (All-map Whole script_counts crewed.asks (asks_unbroken quiet), All-map Whole script_counts crewed.finals (finals_unbroken quiet));
             all = λ found unread.
                 let shut = (ran.found (fed_where crewed.starved refl found)).closed in
-                all_held plan result files last.0 found unread gave.feeds (map script_counts crewed.asks) (map script_counts crewed.finals) crewed.journal takes (drawn found) (closed_asks shut) (closed_asks_stopped shut) (closed_finals shut) (closed_finals_stopped shut);
+                all_held plan result files last.0 found unread account shut takes (drawn found) asks_answered (stopped false plan.asks crewed.asks asks_run asks_first) finals_answered (stopped true plan.finals crewed.finals finals_run finals_first);
           })

@@ -18,12 +18,11 @@ use Rattle.outer_io.specs.Told.{Told}
 use Rattle.plan_run.proofs.Landed.{some_is, told_pair}
 use Rattle.plan_run.specs.Ends.{EndsBeforeThreads}
 use Rattle.plan_run.specs.Parts.{GivesBack}
-use Rattle.plan_run.specs.Seen.{PartSeen}
 use Rattle.run_files.proofs.Emptied.{empty_given, told_still}
 use Rattle.run_files.proofs.Stages.{KeepsOthers-one}
 use Rattle.run_files.specs.Headed.{RefusesLast}
 use Rattle.run_files.specs.Leaving.{KeepsOthers, LeavesPlace}
-use Rattle.run_files.specs.Outside.{file_of, PlaceSeen, Puts, Silent, SinkSeen}
+use Rattle.run_files.specs.Outside.{file_of, parts_seen, PlaceSeen, Puts, Silent, SinkSeen, SourceSeen}
 use Rattle.run_files.specs.declared.stop.Stop.{Stop}
 use Rattle.run_files.specs.declared.stop.Stop.TheVariants.{ReadFault}
 use Rattle.run_opening.specs.Opening.{AreReady}
@@ -44,7 +43,7 @@ module _ {P : Type 0} (p : PlaceSeen P) (a b : P) where
       subst (λ o. IsSomeAnd o (λ now. All (λ name. get now name ≡ Some []) makes)) (sym now.1)
       (All-weaker (λ name. HasFile (p.files b) name []) (λ name. get now.0 name ≡ Some []) (λ name has. Told-some (p.files b) now.0 (λ f. get f name ≡ Some []) now.1 has) makes (empty (some_is (p.files a) files told))))
 
-module _ {P I O : Type 0} (p : PlaceSeen P) (i : PartSeen I) (s : SinkSeen O) (plan : Plan) (parts : RunParts I O) (files : Option Files) (ready : AreReady i.left i.faults s files plan parts) (told : IsSome files) where
+module _ {P I O : Type 0} (p : PlaceSeen P) (i : SourceSeen I) (s : SinkSeen O) (plan : Plan) (parts : RunParts I O) (files : Option Files) (ready : AreReady i.left i.faults s files plan parts) (told : IsSome files) where
   abbrev sink_in : SessionState I O → O
   sink_in session = session.sink
 
@@ -57,7 +56,7 @@ module _ {P I O : Type 0} (p : PlaceSeen P) (i : PartSeen I) (s : SinkSeen O) (p
       (AllZip-right (IsSessionOf i.left i.faults s files) (λ (session : SessionState I O). HoldsNothing session.sink) names sessions (λ name session is. of_told files (HoldsNothing session.sink) told is.output.holds_nothing) zip)
 
   -- parts that are given back before they ran leave empty what was empty
-  pub given_back_empty : (a b : P) (makes : List (List ℕ)) → IsSome (p.files a) → GivesBack p i s parts a b → All (λ name. HasFile (p.files a) name []) makes → All (λ name. HasFile (p.files b) name []) makes
+  pub given_back_empty : (a b : P) (makes : List (List ℕ)) → IsSome (p.files a) → GivesBack (parts_seen p i s) parts a b → All (λ name. HasFile (p.files a) name []) makes → All (λ name. HasFile (p.files b) name []) makes
   given_back_empty a b makes told_before back all =
       let same : p.files back.read ≡ p.files a = back.finals_back.files ∙ back.asks_back.files ∙ back.feeds_back.files in
       let told_read : IsSome (p.files back.read) = subst IsSome (sym same) told_before in

@@ -1,6 +1,7 @@
 -- A closed run that ended well: what its files hold, and that no count rose.
 use Rattle.std.proofs.Common.{◌≡◌, ◌≢◌, ℕ, Bool, true, false, List, [], ◌∷◌, ◌++◌, All, length, map, Option, Some, None, Result, Ok, IsSomeAnd, sym, ap, subst, ◌∙◌}
 use Rattle.std.proofs.lemmas.List.{map-append}
+use Rattle.std.specs.List.{AllZip}
 use Rattle.std.specs.Prelude.{AllPairs}
 use Rattle.std.specs.FinMap.{get}
 use Rattle.std.specs.Prelude.{Contains, OnOk, IsErrOf}
@@ -10,7 +11,7 @@ use Rattle.crew_feeder.specs.declared.job.FeedDone.{FeedDone}
 use Rattle.crew_feeder.specs.declared.job.FeedJob.{FeedJob}
 use Rattle.crew_session.specs.declared.done.SessionDone.{SessionDone}
 use Rattle.cube_crew.proofs.Zips.{AllZip-length, AllZip-right}
-use Rattle.cube_crew.specs.Crewed.{IsCrewed}
+use Rattle.cube_crew.specs.Crewed.{IsCrewed, LeavesTranscript, answered_over}
 use Rattle.cube_crew.specs.declared.jobs.Crewed.{Crewed}
 use Rattle.cube_schema.specs.Files.{NamesFiles, input_names, output_names}
 use Rattle.cube_schema.specs.Repeats.{outputs}
@@ -32,10 +33,9 @@ use Rattle.plan_run.proofs.Landed.{AllPairs-back, AllPairs-front, AllPairs-last,
 use Rattle.plan_run.proofs.OneJournal.{EntryLaws, entries_valid}
 use Rattle.plan_run.specs.Completed.{IsCompleted, reply_counts, whole_rows}
 use Rattle.plan_run.specs.Parts.{run_done_of, jobs_of}
-use Rattle.plan_run.specs.Seen.{PartSeen}
 use Rattle.run_files.proofs.Lists.{All-back, All-front}
 use Rattle.run_files.specs.GivingBack.{Lands, TakesSinks}
-use Rattle.run_files.specs.Outside.{file_of, PlaceSeen, Puts as Said, SinkSeen}
+use Rattle.run_files.specs.Outside.{at, file_of, parts_seen, PlaceSeen, Puts as Said, SinkSeen, SourceSeen}
 use Rattle.run_files.specs.Stops.{write_end}
 use Rattle.run_files.specs.declared.stop.Stop.{Stop}
 use Rattle.run_opening.specs.Opening.{AreReady}
@@ -51,9 +51,9 @@ use Rattle.session_core.specs.Scripts.{is_script_refused}
 use Rattle.session_core.specs.declared.fault.SessionFault.TheVariants as fault
 use Rattle.world_core.specs.Interleaving.{IsInterleaving, entry_points, list_of}
 
-module _ {P I O T : Type 0} (p : PlaceSeen P) (i : PartSeen I) (s : SinkSeen O) (t : SinkSeen T) (plan : Plan) (parts : RunParts I O) (place place' : P) (out out' : T) where
+module _ {P I O T : Type 0} (p : PlaceSeen P) (i : SourceSeen I) (s : SinkSeen O) (t : SinkSeen T) (plan : Plan) (parts : RunParts I O) (place place' : P) (out out' : T) where
   -- What ended well of a run that was closed, and was to end well
-  pub record EndsWell (crewed : Crewed I O) (closes : ClosesRun plan (run_done_of crewed parts.journal) p s t i.faults place place' out out' (Ok tt)) : Type 0 where
+  pub record EndsWell (crewed : Crewed I O) (closes : ClosesRun plan (run_done_of crewed parts.journal) (parts_seen p i s) t (at place out) (at place' out') (Ok tt)) : Type 0 where
     pub fed : crewed.starved ≡ false
     pub feeds : All (λ (done : FeedDone I). done.fault ≡ None) crewed.feeds
     pub asks : All (λ (done : SessionDone I O). done.fault ≡ None) crewed.asks
@@ -63,7 +63,7 @@ module _ {P I O T : Type 0} (p : PlaceSeen P) (i : PartSeen I) (s : SinkSeen O) 
     pub kept : closes.kept ≡ Ok tt
     pub said : closes.said ≡ Ok tt
 
-  pub ends_well : (crewed : Crewed I O) (closes : ClosesRun plan (run_done_of crewed parts.journal) p s t i.faults place place' out out' (Ok tt)) → EndsWell crewed closes
+  pub ends_well : (crewed : Crewed I O) (closes : ClosesRun plan (run_done_of crewed parts.journal) (parts_seen p i s) t (at place out) (at place' out') (Ok tt)) → EndsWell crewed closes
   ends_well crewed closes =
       let done = run_done_of crewed parts.journal in
       let five = all_well (threads_end done ∷ write_end closes.wrote ∷ closes.given ∷ write_end closes.kept ∷ closes.said ∷ []) (sym closes.ends) in
@@ -97,7 +97,7 @@ module _ {P I O T : Type 0} (p : PlaceSeen P) (i : PartSeen I) (s : SinkSeen O) 
 
   -- the files of a run that was closed and ended well
   pub completed : EntryLaws → (files now : Files) (crewed : Crewed I O) → NamesFiles plan → AreReady i.left i.faults s (Some files) plan parts → IsCrewed i.left i.faults s.held s.faults s.name OwnsAllButRoot plan.schema (jobs_of parts) crewed
-      → p.files place ≡ Some now → (closes : ClosesRun plan (run_done_of crewed parts.journal) p s t i.faults place place' out out' (Ok tt)) → IsSomeAnd (p.files place') (λ files'. IsCompleted plan files files' (t.held out) (t.held out'))
+      → p.files place ≡ Some now → (closes : ClosesRun plan (run_done_of crewed parts.journal) (parts_seen p i s) t (at place out) (at place' out') (Ok tt)) → IsSomeAnd (p.files place') (λ files'. IsCompleted plan files files' (t.held out) (t.held out'))
   completed laws files now crewed names ready ran told closes =
       let well = ends_well crewed closes in
       let found = ran.found well.fed in
@@ -111,8 +111,10 @@ module _ {P I O T : Type 0} (p : PlaceSeen P) (i : PartSeen I) (s : SinkSeen O) 
       let last = told_pair (p.files closes.replied) (p.files place') replied.0 (λ a b. SameBut a b (s.name closes.sink)) replied.1 closes.journal.others in
       -- feeds and scripts
       let fed = are_fed i.left i.faults plan.schema (file_or_empty files) plan.feeds parts.feeds ran.sent crewed.feeds ready.feeds ran.feeds well.feeds in
-      let asks = all_replied i s plan.schema false points files crewed.closed crewed.starved plan.asks parts.asks crewed.asks found.closed well.fed ready.asks ran.asks well.asks in
-      let finals = all_replied i s plan.schema true points files crewed.closed crewed.starved plan.finals parts.finals crewed.finals found.closed well.fed ready.finals ran.finals well.finals in
+      let ran_asks = subst (λ closed. AllZip (LeavesTranscript i.left i.faults s.held s.faults s.name OwnsAllButRoot plan.schema false crewed.closed crewed.starved (answered_over closed crewed.journal crewed.drawn)) parts.asks crewed.asks) found.closed ran.asks in
+      let ran_finals = subst (λ closed. AllZip (LeavesTranscript i.left i.faults s.held s.faults s.name OwnsAllButRoot plan.schema true crewed.closed crewed.starved (answered_over closed crewed.journal crewed.drawn)) parts.finals crewed.finals) found.closed ran.finals in
+      let asks = all_replied i s plan.schema false points files crewed.closed crewed.starved plan.asks parts.asks crewed.asks found.closed well.fed ready.asks ran_asks well.asks in
+      let finals = all_replied i s plan.schema true points files crewed.closed crewed.starved plan.finals parts.finals crewed.finals found.closed well.fed ready.finals ran_finals well.finals in
       -- names
       let apart : AllPairs (λ n m. n ≢ m) (output_names plan) = AllPairs-back (λ n m. n ≢ m) (input_names plan) (output_names plan) names.apart in
       let outs : List (List ℕ) = outputs plan.asks ++ outputs plan.finals in

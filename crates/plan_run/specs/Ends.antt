@@ -12,7 +12,7 @@ use Rattle.plan_run.specs.Interrupted.{Account, BeginsFiles, HoldsFiles, account
 use Rattle.run_files.specs.Counts.{CountsAt}
 use Rattle.run_files.specs.Headed.{HasHeader}
 use Rattle.run_files.specs.Leaving.{FailsAtLast, KeepsOthers}
-use Rattle.run_files.specs.Outside.{file_of, PlaceSeen, PutsOrFails, Silent, SinkSeen}
+use Rattle.run_files.specs.Outside.{file_of, Outside, PlaceSeen, PutsOrFails, Silent, SinkSeen}
 use Rattle.run_files.specs.Planned.{IsPlanOf, RefusesPlan}
 use Rattle.run_files.specs.declared.stop.Stop.{Stop}
 use Rattle.run_files.specs.declared.stop.Stop.TheVariants.{NoMemory, PlanRefused, ReadFault, WriteFault, FeedRefused}
@@ -42,23 +42,23 @@ HasRefusedInput files plan =
     ((name : List ℕ) × Contains plan.feeds name × (is_feed_refused plan.schema (file_or_empty files name) ≡ true))
     ⊎ ((name : List ℕ) × Contains (plan.asks ++ plan.finals) name × (is_script_refused plan.schema (file_or_empty files name) ≡ true))
 
-module _ {P T : Type 0} (p : PlaceSeen P) (s : SinkSeen T) (place place' : P) (out out' : T) where
+module _ {P T : Type 0} (p : PlaceSeen P) (s : SinkSeen T) (before after : Outside P T) where
   -- the claim holds of the files before and after, where the place tells its files
   abbrev pub OfBothFiles : (Files → Files → Type 0) → Type 0
-  OfBothFiles Claim = Told (p.files place) (λ files. IsSomeAnd (p.files place') (Claim files))
+  OfBothFiles Claim = Told (p.files before.place) (λ files. IsSomeAnd (p.files after.place) (Claim files))
 
   -- ---- the first stage
 
   -- The run has no plan: the file of that name was not read, or is none
   pub record LacksPlan (name : List ℕ) (end : Result (Unit {0}) Stop) : Type 0 where
     -- it alone was opened, where a read fault is the end, and nothing was created
-    pub names : LeavesNames p place place' (name ∷ []) []
-    pub first : end ≡ Err ReadFault → FailsAtLast p place names.opens
+    pub names : LeavesNames p before.place after.place (name ∷ []) []
+    pub first : end ≡ Err ReadFault → FailsAtLast p before.place names.opens
     -- the run ends by want of memory, a read fault or the plan's refusal
     pub ends : (end ≡ Err NoMemory) ⊎ (end ≡ Err ReadFault) ⊎ (end ≡ Err PlanRefused)
     -- a refused plan is said, and comes only where its bytes meet a fault; else nothing is put
-    pub refused : end ≡ Err PlanRefused → RefusesPlan s out out' (file_of (p.files place) name)
-    pub silent : end ≢ Err PlanRefused → Silent s out out'
+    pub refused : end ≡ Err PlanRefused → RefusesPlan s before.out after.out (file_of (p.files before.place) name)
+    pub silent : end ≢ Err PlanRefused → Silent s before.out after.out
 
   -- ---- the second stage
 
@@ -68,35 +68,35 @@ module _ {P T : Type 0} (p : PlaceSeen P) (s : SinkSeen T) (place place' : P) (o
     pub stop : Stop
     pub end_is : end ≡ Err stop
     -- the plan was opened, and of its inputs these from the front; of its outputs some were created, from the front
-    pub names : LeavesNames p place place' (name ∷ input_names plan) (output_names plan)
+    pub names : LeavesNames p before.place after.place (name ∷ input_names plan) (output_names plan)
     pub later : List (List ℕ)
     pub opens_are : names.opens ≡ name ∷ later
     -- a read fault ends the run at the file that was opened last
-    pub first : stop ≡ ReadFault → FailsAtLast p place names.opens
+    pub first : stop ≡ ReadFault → FailsAtLast p before.place names.opens
     -- each feed's first line was read, and is a header, before the next file was opened; a feed that is refused is the last,
     -- which is said, and nothing else is put
-    pub order : OpensInOrder s plan (p.files place) (p.write_faults place) (p.write_faults place') out out' later names.makes (Some stop)
+    pub order : OpensInOrder p s plan before after later names.makes (Some stop)
     -- unless memory was wanted or a write failed, nothing was created
     pub unmade : stop ≢ NoMemory → stop ≢ WriteFault → names.makes ≡ []
     -- what was created is empty, where no write failed
-    pub empty : ¬ Rose (p.write_faults place) (p.write_faults place') → OfBothFiles (λ files files'. All (λ name. get files' name ≡ Some []) names.makes)
+    pub empty : ¬ Rose (p.write_faults before.place) (p.write_faults after.place) → OfBothFiles (λ files files'. All (λ name. get files' name ≡ Some []) names.makes)
 
   -- ---- what the later stages have behind them
 
   -- The threads of the run began, with all that the plan names
   pub record HasBegun (name : List ℕ) (plan : Plan) : Type 0 where
     -- all of it was opened and created, once and in order
-    pub opened : p.opened place' ≡ p.opened place ++ name ∷ input_names plan
-    pub created : p.created place' ≡ p.created place ++ output_names plan
+    pub opened : p.opened after.place ≡ p.opened before.place ++ name ∷ input_names plan
+    pub created : p.created after.place ≡ p.created before.place ++ output_names plan
     -- the place was this when it was, and until then no read and no write had failed
     pub began : P
-    pub opened_then : p.opened began ≡ p.opened place'
-    pub created_then : p.created began ≡ p.created place'
-    pub quiet_then : (p.read_faults began ≡ p.read_faults place) × (p.write_faults began ≡ p.write_faults place)
+    pub opened_then : p.opened began ≡ p.opened after.place
+    pub created_then : p.created began ≡ p.created after.place
+    pub quiet_then : (p.read_faults began ≡ p.read_faults before.place) × (p.write_faults began ≡ p.write_faults before.place)
     -- each feed's first line is a header
-    pub headed : All (λ feed. HasHeader plan.schema (file_of (p.files place) feed)) plan.feeds
+    pub headed : All (λ feed. HasHeader plan.schema (file_of (p.files before.place) feed)) plan.feeds
     -- every file but the outputs is as before
-    pub others : KeepsOthers (p.files place) (p.files place') (output_names plan)
+    pub others : KeepsOthers (p.files before.place) (p.files after.place) (output_names plan)
 
   -- ---- the third stage
 
@@ -105,7 +105,7 @@ module _ {P T : Type 0} (p : PlaceSeen P) (s : SinkSeen T) (place place' : P) (o
     pub begun : HasBegun name plan
     pub lacking : end ≡ Err NoMemory
     -- it put nothing
-    pub silent : Silent s out out'
+    pub silent : Silent s before.out after.out
     -- the files begin with this, which it would have reported
     pub account : Account
     pub files : OfBothFiles (BeginsFiles plan end account)
@@ -117,16 +117,16 @@ module _ {P T : Type 0} (p : PlaceSeen P) (s : SinkSeen T) (place place' : P) (o
     pub begun : HasBegun name plan
     -- what it reports, in one put, to the last line, or a part of it from the front where the sink's count rose
     pub account : Account
-    pub puts : PutsOrFails s out out' (account_text plan account)
+    pub puts : PutsOrFails s before.out after.out (account_text plan account)
     -- the files begin with it, whatever failed, and hold it, where no write to the place failed
     pub files : OfBothFiles (BeginsFiles plan end account)
-    pub holds : ¬ Rose (p.write_faults place) (p.write_faults place') → OfBothFiles (HoldsFiles plan end account)
+    pub holds : ¬ Rose (p.write_faults before.place) (p.write_faults after.place) → OfBothFiles (HoldsFiles plan end account)
     -- no more of its lines say `stopped: Read` than the place's count of reading rose by
-    pub reads : RoseBy (read_stops account) (p.read_faults place) (p.read_faults place')
+    pub reads : RoseBy (read_stops account) (p.read_faults before.place) (p.read_faults after.place)
     -- with Ok the run is completed
-    pub done : end ≡ Ok tt → OfBothFiles (λ files files'. IsCompleted plan files files' (s.held out) (s.held out'))
+    pub done : end ≡ Ok tt → OfBothFiles (λ files files'. IsCompleted plan files files' (s.held before.out) (s.held after.out))
     -- a refused feed is the end only where a feed or a script of the plan is refused
-    pub refused : end ≡ Err FeedRefused → Told (p.files place) (λ files. HasRefusedInput files plan)
+    pub refused : end ≡ Err FeedRefused → Told (p.files before.place) (λ files. HasRefusedInput files plan)
     -- and a refused plan is not
     pub planned : end ≢ Err PlanRefused
 
@@ -135,7 +135,7 @@ module _ {P T : Type 0} (p : PlaceSeen P) (s : SinkSeen T) (place place' : P) (o
   -- How far a run of this plan came, which is that of the file of that name
   pub record EndsUnderPlan (name : List ℕ) (end : Result (Unit {0}) Stop) : Type 0 where
     pub plan : Plan
-    pub plan_is : IsPlanOf (file_of (p.files place) name) plan
+    pub plan_is : IsPlanOf (file_of (p.files before.place) name) plan
     pub stage : EndsBeforeThreads name plan end ⊎ LacksReport name plan end ⊎ HasReported name plan end
 
   -- How a run of the plan of that name ends
@@ -143,4 +143,4 @@ module _ {P T : Type 0} (p : PlaceSeen P) (s : SinkSeen T) (place place' : P) (o
     -- how far it came
     pub stage : LacksPlan name end ⊎ EndsUnderPlan name end
     -- and which counts of faults stand still there, and which rose
-    pub counts : CountsAt p s place place' out out' end
+    pub counts : CountsAt p s before after end

@@ -41,6 +41,8 @@ pub record Account : Type 0 where
   pub closed : Bool
   -- the journal's entries
   pub entries : List Entry
+  -- those that were drawn, of which these are the first
+  pub drawn : List Entry
 
 -- the report that says so
 abbrev pub account_text : Plan → Account → List ℕ
@@ -107,14 +109,17 @@ pub record StopsScript (schema : Schema) (closed : Bool) (end : Result (Unit {0}
   -- `stopped: NoMemory` only where the run ends so
   pub no_memory : script.fault ≡ Some fault.NoMemory → end ≡ Err NoMemory
 
-module _ (schema : Schema) (final closed : Bool) (journal : List Point) (end : Result (Unit {0}) Stop) (files files' : Files) where
-  -- What a run that ended so leaves of the script of that name, and says of it, where the journal has these points
+module _ (schema : Schema) (final : Bool) (end : Result (Unit {0}) Stop) (account : Account) (files files' : Files) where
+  -- What a run that ended so leaves of the script of that name, and says of it, where it gives this account
   pub record AnswersInFile (name : List ℕ) (script : ScriptCounts) : Type 0 where
     -- the replies to it
     pub replies : List Reply
-    -- the points over which they are, which are the journal's where the sessions were closed
+    -- the points over which they are: the journal's where the sessions were closed, and else the first of those that were drawn
     pub points : List Point
-    pub over : closed ≡ true → points ≡ journal
+    pub over : account.closed ≡ true → points ≡ entry_points account.entries
+    pub within : IsPrefix points (entry_points account.drawn)
+    -- where they were not closed a final put no reply
+    pub unrun : account.closed ≡ false → final ≡ true → replies ≡ []
     -- they answer the first of what the script asks, over these points, by the line for want of memory only where the run ends so
     pub transcript : IsTranscript schema OwnsAllButRoot final points (length points) (is_lacking end) (take (length replies) (asked schema (lines (file_or_empty files name)))) replies
     -- its output holds them, or nothing where want of memory kept it from being given back
@@ -122,7 +127,7 @@ module _ (schema : Schema) (final closed : Bool) (journal : List Point) (end : R
     -- the report says how many they are, and the last number of points seen that they print
     pub counted : (script.replies ≡ length replies) × (script.seen ≡ last_number (seens_of replies))
     -- where the sessions were closed they answer all, unless a read fault or want of memory ended the session
-    pub all : closed ≡ true → script.fault ≢ Some fault.Read → script.fault ≢ Some fault.NoMemory → script.replies ≡ length (asked schema (lines (file_or_empty files name)))
+    pub all : account.closed ≡ true → script.fault ≢ Some fault.Read → script.fault ≢ Some fault.NoMemory → script.replies ≡ length (asked schema (lines (file_or_empty files name)))
 
 -- Nothing is missing in the files of a run with these entries
 pub record HoldsAll (plan : Plan) (entries : List Entry) (files files' : Files) : Type 0 where
@@ -141,6 +146,9 @@ pub record BeginsFiles (plan : Plan) (end : Result (Unit {0}) Stop) (account : A
   pub journal : (n : ℕ) × (get files' plan.journal ≡ Some (take n (journal_text plan.schema account.entries)))
   -- they are an interleaving of prefixes of the feeds' accepted records
   pub order : InterleavesFronts (accepted_lists plan files) account.entries
+  -- and the first of those that were drawn, which are such an interleaving too
+  pub first : IsPrefix account.entries account.drawn
+  pub drawn_order : InterleavesFronts (accepted_lists plan files) account.drawn
   -- where memory was not wanted, of all the points among the rows that each feed gave
   pub drawn : end ≢ Err NoMemory → IsInterleaving (length plan.feeds) (list_of (map (λ (feed : FeedRows). points_in feed.rows) account.feeds)) account.entries
   -- of each feed the rows are a beginning of the file's, or all
@@ -156,10 +164,11 @@ pub record HoldsFiles (plan : Plan) (end : Result (Unit {0}) Stop) (account : Ac
   pub begins : BeginsFiles plan end account files files'
   -- the journal's file is the whole text
   pub journal : get files' plan.journal ≡ Some (journal_text plan.schema account.entries)
-  -- each ask's output holds a transcript as the report counts it, over the entries' points where the sessions were closed
-  pub asks : AllZip (AnswersInFile plan.schema false account.closed (entry_points account.entries) end files files') plan.asks account.asks
-  -- each final's one in which every number of points is that of all of them
-  pub finals : AllZip (AnswersInFile plan.schema true account.closed (entry_points account.entries) end files files') plan.finals account.finals
+  -- each ask's output holds a transcript as the report counts it, over the entries' points where the sessions were closed, and
+  -- else over the first of those that were drawn
+  pub asks : AllZip (AnswersInFile plan.schema false end account files files') plan.asks account.asks
+  -- each final's one in which every number of points is that of all of them, or none
+  pub finals : AllZip (AnswersInFile plan.schema true end account files files') plan.finals account.finals
   -- `stopped: Write` does not come
   pub unbroken : All (λ (script : ScriptCounts). script.fault ≢ Some fault.Write) account.asks × All (λ (script : ScriptCounts). script.fault ≢ Some fault.Write) account.finals
   -- where neither memory was wanted nor a read failed, nothing is missing

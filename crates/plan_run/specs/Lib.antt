@@ -2,4 +2,3 @@ pub mod Completed
 pub mod Ends
 pub mod Interrupted
 pub mod Parts
-pub mod Seen

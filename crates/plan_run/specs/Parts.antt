@@ -8,9 +8,8 @@ use Rattle.cube_schema.specs.declared.plan.Plan.{Plan}
 use Rattle.cube_store.specs.Numbers.{OwnsAllButRoot}
 use Rattle.live_session.specs.State.{SessionState}
 use Rattle.outer_io.specs.declared.fault.IoFault.{IoFault}
-use Rattle.plan_run.specs.Seen.{PartSeen}
 use Rattle.run_files.specs.GivingBack.{TakesSinks, TakesSources}
-use Rattle.run_files.specs.Outside.{PlaceSeen, SinkSeen}
+use Rattle.run_files.specs.Outside.{Outside, PartsSeen, SinkSeen}
 use Rattle.run_files.specs.declared.stop.Stop.{Stop}
 use Rattle.run_files.specs.declared.stop.Stop.TheVariants.{NoMemory}
 use Rattle.run_opening.specs.declared.parts.RunParts.{RunParts}
@@ -25,28 +24,28 @@ jobs_of parts = record { feeds = parts.feeds; asks = parts.asks; finals = parts.
 abbrev pub run_done_of : {I O : Type 0} → Crewed I O → O → RunDone I O
 run_done_of c journal = record { feeds = c.feeds; asks = c.asks; finals = c.finals; entries = c.journal; journal = journal; closed = c.closed; starved = c.starved }
 
-module _ {P I O : Type 0} (p : PlaceSeen P) (i : PartSeen I) (s : SinkSeen O) where
+module _ {P I O : Type 0} (seen : PartsSeen P I O) where
   -- The parts were given back as they were: the sources, and then the sinks, the journal's last
-  pub record GivesBack (parts : RunParts I O) (place place' : P) : Type 0 where
+  pub record GivesBack (parts : RunParts I O) (before after : P) : Type 0 where
     pub fed : P
     pub asked : P
     pub read : P
     pub replied : P
     pub given : Result (Unit {0}) Stop
     pub kept : Result (Unit {0}) IoFault
-    pub feeds_back : TakesSources p place fed (map (λ (job : FeedJob I). i.faults job.cutter.source) parts.feeds)
-    pub asks_back : TakesSources p fed asked (map (λ (session : SessionState I O). i.faults session.source.source) parts.asks)
-    pub finals_back : TakesSources p asked read (map (λ (session : SessionState I O). i.faults session.source.source) parts.finals)
-    pub sinks_back : TakesSinks p s read replied (map (λ (session : SessionState I O). session.sink) parts.asks ++ map (λ (session : SessionState I O). session.sink) parts.finals) given
-    pub journal_back : ReturnsSink p s replied place' parts.journal kept
+    pub feeds_back : TakesSources seen.place before fed (map (λ (job : FeedJob I). seen.source.faults job.cutter.source) parts.feeds)
+    pub asks_back : TakesSources seen.place fed asked (map (λ (session : SessionState I O). seen.source.faults session.source.source) parts.asks)
+    pub finals_back : TakesSources seen.place asked read (map (λ (session : SessionState I O). seen.source.faults session.source.source) parts.finals)
+    pub sinks_back : TakesSinks seen.place seen.sink read replied (map (λ (session : SessionState I O). session.sink) parts.asks ++ map (λ (session : SessionState I O). session.sink) parts.finals) given
+    pub journal_back : ReturnsSink seen.place seen.sink replied after parts.journal kept
 
-module _ {P I O T : Type 0} (p : PlaceSeen P) (i : PartSeen I) (s : SinkSeen O) (t : SinkSeen T) where
+module _ {P I O T : Type 0} (seen : PartsSeen P I O) (t : SinkSeen T) where
   -- The parts ran, and then the run was closed
-  pub record Runs (plan : Plan) (parts : RunParts I O) (place place' : P) (out out' : T) (result : Result (Unit {0}) Stop) : Type 0 where
+  pub record Runs (plan : Plan) (parts : RunParts I O) (before after : Outside P T) (result : Result (Unit {0}) Stop) : Type 0 where
     pub crewed : Crewed I O
-    pub ran : IsCrewed i.left i.faults s.held s.faults s.name OwnsAllButRoot plan.schema (jobs_of parts) crewed
-    pub closes : ClosesRun plan (run_done_of crewed parts.journal) p s t i.faults place place' out out' result
+    pub ran : IsCrewed seen.source.left seen.source.faults seen.sink.held seen.sink.faults seen.sink.name OwnsAllButRoot plan.schema (jobs_of parts) crewed
+    pub closes : ClosesRun plan (run_done_of crewed parts.journal) seen t before after result
 
   -- The parts ran, or, where that found no memory to begin with, were given back
-  abbrev pub RunsParts : Plan → RunParts I O → P → P → T → T → Result (Unit {0}) Stop → Type 0
-  RunsParts plan parts place place' out out' result = Runs plan parts place place' out out' result ⊎ ((result ≡ Err NoMemory) × (out' ≡ out) × GivesBack p i s parts place place')
+  abbrev pub RunsParts : Plan → RunParts I O → Outside P T → Outside P T → Result (Unit {0}) Stop → Type 0
+  RunsParts plan parts before after result = Runs plan parts before after result ⊎ ((result ≡ Err NoMemory) × (after.out ≡ before.out) × GivesBack seen parts before.place after.place)

@@ -1,9 +1,8 @@
 //! The parts of a run that could not begin, given back as they were.
 ghost use Rattle.std.specs.Prelude.{◌≡◌, ◌+◌, ◌≤◌, ◌++◌, [], map, length, vec_len, vec_capacity};
 ghost use Rattle.plan_run.specs.Parts.{GivesBack};
-ghost use Rattle.plan_run.specs.Seen.{of_source};
 ghost use Rattle.run_files.specs.GivingBack.{TakesSources};
-ghost use Rattle.run_files.specs.Outside.{of_place, of_sink};
+ghost use Rattle.run_files.specs.Outside.{of_parts, of_place, of_sink};
 ghost use Rattle.run_stages.specs.Closing.{ReturnsSink};
 
 use crew_feeder::FeedJob;
@@ -59,7 +58,7 @@ fn give_back_journal<P: Place>(place: &mut P, sink: P::Out) -> Result<(), IoFaul
 pub(crate) fn give_back_parts<P: Place>(place: &mut P, parts: RunParts<P::In, P::Out>)
     requires empty { (parts.room.items ≡ []) × (vec_len parts.room ≡ 0) }
     requires room { length parts.asks + length parts.finals ≤ vec_capacity parts.room }
-    ensures { GivesBack (of_place P.Place) (of_source P.In.Source) (of_sink P.Out.Sink) parts place.old place.new }
+    ensures { GivesBack (of_parts P.Place P.In.Source P.Out.Sink) parts place.old place.new }
 {
     let RunParts {
         feeds,

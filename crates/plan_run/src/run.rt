@@ -5,8 +5,7 @@ ghost use Rattle.cube_crew.specs.Crewed.{IsCrewed};
 ghost use Rattle.cube_store.specs.Numbers.{OwnsAllButRoot};
 ghost use Rattle.plan_run.specs.Ends.{RunEnds};
 ghost use Rattle.plan_run.specs.Parts.{RunsParts, run_done_of};
-ghost use Rattle.plan_run.specs.Seen.{of_source};
-ghost use Rattle.run_files.specs.Outside.{of_place, of_sink};
+ghost use Rattle.run_files.specs.Outside.{at, of_parts, of_place, of_sink};
 ghost use Rattle.run_opening.specs.Opening.{AreFit};
 
 use crate::cubes::empty_cubes;
@@ -76,7 +75,7 @@ fn run_parts<R: Threads + Wait + Sync, P: Place, O: Sink>(
     out: &mut O,
 ) -> Result<(), Stop>
     requires { AreFit plan.now.schema parts }
-    ensures { RunsParts (of_place P.Place) (of_source P.In.Source) (of_sink P.Out.Sink) (of_sink O.Sink) plan.now parts place.old place.new out.old out.new result }
+    ensures { RunsParts (of_parts P.Place P.In.Source P.Out.Sink) (of_sink O.Sink) plan.now parts (at place.old out.old) (at place.new out.new) result }
 {
     let RunParts {
         feeds,
@@ -122,7 +121,7 @@ pub fn run_plan<R: Threads + Wait + Sync, P: Place, O: Sink>(
     place: &mut P,
     out: &mut O,
 ) -> Result<(), Stop>
-    ensures { RunEnds (of_place P.Place) (of_sink O.Sink) place.old place.new out.old out.new name.now result }
+    ensures { RunEnds (of_place P.Place) (of_sink O.Sink) (at place.old out.old) (at place.new out.new) name.now result }
 {
     journal_laws();
     accepted_laws();

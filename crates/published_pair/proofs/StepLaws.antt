@@ -11,7 +11,7 @@ use Rattle.world_core.specs.Interleaving.{entry_points}
 use Rattle.world_core.specs.PairFact.{IsPrefix, pair_fact}
 use Rattle.world_core.specs.declared.entry.Entry.{Entry}
 use Rattle.published_pair.specs.Pair.{Knows}
-use Rattle.published_pair.specs.PairLaws.{lists_seen, FreshIsPairFact, RuleIsPairFact, PublicationIsPublish, TellingIsTell, LookingIsLook}
+use Rattle.published_pair.specs.PairLaws.{lists_seen, FreshIsPairFact, RuleIsPairFact, LookingIsLook}
 use Rattle.published_pair.specs.Rules.{Known}
 use Rattle.published_pair.specs.declared.names.Names.{Names}
 use Rattle.published_pair.proofs.Beginnings.{two_prefixes}
@@ -26,14 +26,8 @@ seen_fact h f z (Some n ∷ views) each =
 pub rule_is_pair_fact : RuleIsPairFact
 rule_is_pair_fact h f z views kept = seen_fact h f z views kept.named
 
-pub publication_is_publish : PublicationIsPublish
-publication_is_publish schema w published appended was is = is
-
 points_length : (entries : List Entry) → length (entry_points entries) ≡ length entries
 points_length entries = length-map entries (λ (e : Entry). e.point)
-
-pub telling_is_tell : TellingIsTell
-telling_is_tell schema w s published is below = (is, get_or-set_same w.told s (length w.journal) 0 below ∙ sym (ap length is ∙ points_length w.journal))
 
 pub looking_is_look : LookingIsLook
 looking_is_look schema w s q before None h f z sees is below = tt

@@ -7,7 +7,7 @@ use Rattle.query_syntax.specs.declared.query.Query.{Query}
 use Rattle.world_core.specs.Interleaving.{entry_points}
 use Rattle.world_core.specs.Machine.{happens}
 use Rattle.world_core.specs.PairFact.{pair_fact}
-use Rattle.world_core.specs.declared.event.Event.TheVariants.{Publish, Tell, Look}
+use Rattle.world_core.specs.declared.event.Event.TheVariants.{Look}
 use Rattle.world_core.specs.declared.world.World.{World}
 use Rattle.published_pair.specs.Pair.{Fresh, KeepsPair, Sees}
 use Rattle.published_pair.specs.Rules.{Known}
@@ -22,17 +22,6 @@ lists_seen (Some n ∷ views) = n.seen ∷ lists_seen views
 -- each list that an end of the pair saw last is a prefix of the list that the shown copy counts
 abbrev pub RuleIsPairFact : Type 0
 RuleIsPairFact = (h : List Point) (f : Known) (z : Schema) (views : List (Option Names)) → KeepsPair h f z views → pair_fact h (lists_seen views)
-
--- A publication is the machine's: where the copy that was shown counts what is journaled, and the one that is shown
--- then counts what is journaled and pending, that is what is journaled after the event
-abbrev pub PublicationIsPublish : Type 0
-PublicationIsPublish = (schema : Schema) (w : World) (published appended : List Point) → published ≡ entry_points w.journal → appended ≡ entry_points (w.journal ++ w.pending)
-    → appended ≡ entry_points (happens schema w Publish).journal
-
--- A tell is the machine's, and so is learning of the end: the session is told how long the published list is, which stays
-abbrev pub TellingIsTell : Type 0
-TellingIsTell = (schema : Schema) (w : World) (s : ℕ) (published : List Point) → published ≡ entry_points w.journal → s < length w.told
-    → (published ≡ entry_points (happens schema w (Tell s)).journal) × (slice_index_or (happens schema w (Tell s)).told s 0 ≡ length published)
 
 -- What a viewer knows after a look at the copy that is shown is what the machine says of session s after its look with query q
 pub record IsMachineLook (schema : Schema) (w : World) (s : ℕ) (q : Query) (n : Names) : Type 0 where

@@ -238,6 +238,20 @@ impl Front {
             seen,
         })
     }
+
+    /// Ends the history behind all that was published. Whoever has the head is alone, so it succeeds at once.
+    pub fn end<R: Wait>(&self, rt: &R, head: &Head) -> Whole
+        requires book { head.now.word ≡ first_word_of self.now.book }
+        requires room { length self.now.points ≤ most_points }
+        ensures { result ≡ self.now }
+    {
+        for _ in rt.forever() {
+            if let Some(whole) = self.try_end(head) {
+                return whole;
+            }
+        }
+        unreachable!()
+    }
 }
 
 // Writes the offered note behind all that is seen, and tells what is seen then; or nothing, if more had been written.
@@ -264,19 +278,14 @@ fn write_behind(
     Some(seen)
 }
 
-/// Ends the history of a pair whose shown copy has all that was sent. Whoever has the head is alone, so it succeeds at once.
+/// Ends the history of a pair whose shown copy has all that was sent.
 pub fn end_book<V: Grow, R: Wait>(rt: &R, writer: &PairWriter<V>, head: &Head) -> Whole
     requires sent { drop writer.now.behind writer.now.log.items ≡ [] }
     requires book { head.now.word ≡ first_word_of writer.now.desk.shown.value.front.book }
     requires room { length writer.now.desk.shown.value.front.points ≤ most_points }
     ensures { result ≡ writer.now.desk.shown.value.front }
 {
-    for _ in rt.forever() {
-        if let Some(whole) = writer.published().front.try_end(head) {
-            return whole;
-        }
-    }
-    unreachable!()
+    writer.published().front.end(rt, head)
 }
 
 impl Whole {

@@ -1,5 +1,5 @@
 //! What the steps of a pair are to the loading machine, as laws of the definitions.
-ghost use Rattle.published_pair.specs.PairLaws.{FreshIsPairFact, RuleIsPairFact, PublicationIsPublish, TellingIsTell, LookingIsLook};
+ghost use Rattle.published_pair.specs.PairLaws.{FreshIsPairFact, RuleIsPairFact, LookingIsLook};
 
 use crate::crossing::{MayGo, may_go};
 use crate::publisher::Publisher;
@@ -8,13 +8,10 @@ use crate::told::{Closed, Last, Told};
 use crate::viewer::{Shown, Viewer};
 use cube_view::Grow;
 
-/// What every end saw is a prefix of what is shown. A publication, a tell and a look are the machine's events; learning of the
-/// end is a tell. Appending, learning, ending, closing and opening are no events. It does nothing when run.
+/// What every end saw is a prefix of what is shown, and a look is an event of the loading machine. It does nothing when run.
 pub fn pair_laws()
     ensures fresh { FreshIsPairFact }
     ensures rule { RuleIsPairFact }
-    ensures publication { PublicationIsPublish }
-    ensures tell { TellingIsTell }
     ensures look { LookingIsLook }
 {}
 

@@ -42,5 +42,5 @@ pub use laws::{pair_ends_may_go, pair_laws};
 pub use opening::open;
 pub use publisher::{Of, Pairing, Publisher, PublisherOf};
 pub use rested::{Rested, RestedOf};
-pub use told::{Closed, Last, Told};
+pub use told::{Closed, GivenUp, Last, Told};
 pub use viewer::{Shown, Viewer};

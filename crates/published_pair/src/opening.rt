@@ -12,7 +12,7 @@ use crate::rule::Handover;
 use crate::stand::Stand;
 use crate::viewer::Viewer;
 use cube_view::{Grow, Schema};
-use ghost_values::GhostList;
+use ghost_values::{GhostList, GhostValue};
 use left_right::writer::Writer;
 use outer_io::{List, NoMemory};
 use std::alloc::Global;
@@ -42,6 +42,7 @@ fn make_viewer<V: Grow>(
         reader,
         schema,
         shown: front.again(),
+        shown_view: GhostValue::of(&writer.published().view),
         learned: front.again(),
         last: None,
         looks,

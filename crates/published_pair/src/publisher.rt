@@ -12,7 +12,7 @@ use crate::looks::Looks;
 use crate::names::{Names, Standing};
 use crate::rule::{Look, PairRule};
 use crate::stand::{Sent, Stand};
-use crate::told::Told;
+use crate::told::{GivenUp, Told};
 use core::mem::replace_with;
 use crossbeam_utils::rule::Protocol;
 use cube_view::{Grow, Point, Schema};
@@ -184,6 +184,15 @@ impl<V: Grow> PublisherOf<Of<V>> {
         ensures { result ≡ length self.now.published.points }
     {
         self.published.len()
+    }
+
+    // Gives the pair up: nothing is published after what is noted.
+    pub(crate) fn give_up<R: Wait>(self, rt: &R) -> GivenUp
+        ensures { (result.whole.book ≡ self.published.book) × IsPrefix result.whole.points self.appended.items }
+    {
+        let whole = self.noted.end(rt, &self.head);
+        self.finish(rt);
+        GivenUp { whole }
     }
 
     /// Uses the pair up; nothing is published by it. To be called once no viewer looks any more: a later look waits for ever.

@@ -1,7 +1,8 @@
 //! The end of a publisher.
-ghost use Rattle.std.specs.Prelude.{◌≡◌, ◌≤◌, [], drop, length, All, Some, IfOk};
+ghost use Rattle.std.specs.Prelude.{◌≡◌, ◌≤◌, [], drop, length, All, Some, IfErr, IfOk};
 ghost use Rattle.cube_view.specs.Bag.{most_points};
 ghost use Rattle.left_right.specs.Sides.{view};
+ghost use Rattle.world_core.specs.PairFact.{IsPrefix};
 ghost use Rattle.published_pair.specs.Rules.{first_word_of};
 ghost use Rattle.published_pair.specs.Pair.{standing, names};
 
@@ -10,7 +11,7 @@ use crate::looks::Looks;
 use crate::names::Names;
 use crate::publisher::{Of, Pairing, Publisher, PublisherOf, show};
 use crate::stand::Sent;
-use crate::told::Last;
+use crate::told::{GivenUp, Last};
 use cube_view::{Grow, Schema};
 use left_right::writer::Writer;
 use outer_io::{List, NoMemory};
@@ -59,15 +60,15 @@ fn make_lasts(
 
 impl<V: Grow> PublisherOf<Of<V>> {
     /// Shows viewers each point that was appended, and ends the list. It gives a `Last` for each viewer of the pair.
-    /// After `NoMemory` the pair is given up.
-    pub fn end<R: Wait>(self, rt: &R, alloc: Global) -> Result<(Rested<V>, List<Last>), NoMemory>
+    /// Where memory is wanted the pair is given up.
+    pub fn end<R: Wait>(self, rt: &R, alloc: Global) -> Result<(Rested<V>, List<Last>), GivenUp>
         ensures rested { IfOk result (λ t. (t.0.ended.points ≡ self.appended.items) × (t.0.ended.book ≡ self.published.book) × (t.0.schema ≡ self.schema)) }
         ensures lasts { IfOk result (λ t. (length t.1 ≡ self.viewers) × All (λ l. l.whole ≡ t.0.ended) t.1) }
+        ensures given_up { IfErr result (λ g. (g.whole.book ≡ self.published.book) × IsPrefix g.whole.points self.appended.items) }
     {
         let mut publisher = self;
         if publisher.note(rt).is_err() {
-            publisher.finish(rt);
-            return Err(NoMemory);
+            return Err(publisher.give_up(rt));
         }
         let PublisherOf {
             writer,
@@ -86,7 +87,8 @@ impl<V: Grow> PublisherOf<Of<V>> {
         if outcome.is_err() {
             looks.wait_for_all(rt);
             writer.take(rt);
-            return Err(NoMemory);
+            let whole = noted.end(rt, &head);
+            return Err(GivenUp { whole });
         }
         looks.count_publication();
         let ended = end_book(rt, &writer, &head);
@@ -103,7 +105,7 @@ impl<V: Grow> PublisherOf<Of<V>> {
             Err(NoMemory) => {
                 looks.wait_for_all(rt);
                 writer.take(rt);
-                Err(NoMemory)
+                Err(GivenUp { whole: ended })
             }
         }
     }

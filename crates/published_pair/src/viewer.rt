@@ -14,15 +14,19 @@ use crate::stand::Stand;
 use crate::told::{Closed, Last, Told};
 use change_signal::Waiting;
 use cube_view::{Grow, Schema};
+use ghost_values::GhostValue;
 use left_right::reader::{Reader, Reading};
 use std::sync::{Arc, Wait};
 
-/// Contracts see its book, which names the pair, the schema, the list that it was shown last, the longest list that it learned, and the ended list once it has learned that.
+/// Contracts see its book, which names the pair, the schema, the list that it was shown last and the view that counted it, the
+/// longest list that it learned, and the ended list once it has learned that.
 #[derive(Drop)]
 pub struct Viewer<V: Grow> {
     pub(crate) reader: Reader<Stand<V>, Option<Names>, PairRule<V>>,
     pub(crate) schema: Schema,
     pub(crate) shown: Front,
+    /// The view that it was shown last.
+    pub(crate) shown_view: GhostValue<V>,
     pub(crate) learned: Front,
     pub(crate) last: Option<Whole>,
     pub(crate) looks: Arc<Looks>,
@@ -36,6 +40,8 @@ pub struct Shown<V: Grow> {
     reading: Reading<Stand<V>, Option<Names>, PairRule<V>>,
     schema: Schema,
     shown: Front,
+    /// The view that is shown.
+    shown_view: GhostValue<V>,
     learned: Front,
     last: Option<Whole>,
     looks: Arc<Looks>,
@@ -46,6 +52,7 @@ pub struct Shown<V: Grow> {
     ghost named: { view reading.place ≡ Some (names shown.book schema shown.points) },
     ghost counts: { reading.part.value.history.items ≡ shown.points },
     ghost schema_is: { V.schema reading.part.value.view ≡ schema },
+    ghost view_is: { reading.part.value.view ≡ shown_view.value },
 }
 
 // Where the list has ended, what was published of it is a prefix of it.
@@ -69,6 +76,7 @@ impl<V: Grow> Viewer<V> {
             reader,
             schema,
             shown,
+            shown_view,
             learned,
             last,
             looks,
@@ -82,6 +90,7 @@ impl<V: Grow> Viewer<V> {
                     reader,
                     schema,
                     shown,
+                    shown_view,
                     learned,
                     last,
                     looks,
@@ -89,12 +98,14 @@ impl<V: Grow> Viewer<V> {
             }
         };
         let shown = reading.get().front.again();
+        let shown_view = GhostValue::of(&reading.get().view);
         if shown.goes_on(&learned) {
             cover(&last, &shown);
             return Ok(Shown {
                 reading,
                 schema,
                 shown,
+                shown_view,
                 learned,
                 last,
                 looks,
@@ -107,6 +118,7 @@ impl<V: Grow> Viewer<V> {
             reader,
             schema,
             shown,
+            shown_view,
             learned,
             last,
             looks,
@@ -139,6 +151,7 @@ impl<V: Grow> Viewer<V> {
         ensures learned { IsPrefix self.old.learned.points self.new.learned.points × IsPrefix told.front.points self.new.learned.points }
         ensures greatest { length self.new.learned.points ≡ max (length self.old.learned.points) (length told.front.points) }
         ensures same { (self.new.shown ≡ self.old.shown) × (self.new.last ≡ self.old.last) × (self.new.schema ≡ self.old.schema) }
+        ensures view { self.new.shown_view ≡ self.old.shown_view }
     {
         let Told { front } = told;
         cover(&self.last, &front);
@@ -151,6 +164,7 @@ impl<V: Grow> Viewer<V> {
         ensures learned { IsPrefix self.old.learned.points self.new.learned.points × (self.new.learned.points ≡ last.whole.points) }
         ensures last { self.new.last ≡ Some last.whole }
         ensures same { (self.new.shown ≡ self.old.shown) × (self.new.schema ≡ self.old.schema) }
+        ensures view { self.new.shown_view ≡ self.old.shown_view }
     {
         let Last { front, whole } = last;
         whole.covers(&self.learned);
@@ -196,6 +210,7 @@ impl<V: Grow> Viewer<V> {
 impl<V: Grow> Shown<V> {
     /// The view. It counts exactly the shown list, and has the pair's schema.
     pub fn view(&self) -> &V
+        ensures view { result.now ≡ self.now.shown_view.value }
         ensures counts { Counts (V.weight_at result.now) (V.seen result.now) self.now.shown.points }
         ensures schema { V.schema result.now ≡ self.now.schema }
     {
@@ -204,12 +219,14 @@ impl<V: Grow> Shown<V> {
 
     /// Ends the look.
     pub fn leave(self) -> Viewer<V>
-        ensures { (result.shown ≡ self.shown) × (result.learned ≡ self.learned) × (result.last ≡ self.last) × (result.schema ≡ self.schema) }
+        ensures same { (result.shown ≡ self.shown) × (result.learned ≡ self.learned) × (result.last ≡ self.last) × (result.schema ≡ self.schema) }
+        ensures view { result.shown_view ≡ self.shown_view }
     {
         let Shown {
             reading,
             schema,
             shown,
+            shown_view,
             learned,
             last,
             looks,
@@ -221,6 +238,7 @@ impl<V: Grow> Shown<V> {
             reader,
             schema,
             shown,
+            shown_view,
             learned,
             last,
             looks,

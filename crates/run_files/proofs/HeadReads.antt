@@ -28,7 +28,7 @@ use Rattle.run_files.proofs.Stages.{fails_at, fails_on, leaves_reading, leaves_t
 use Rattle.run_files.specs.GivingBack.{TakesSources}
 use Rattle.run_files.specs.Leaving.{FailsAtLast, LeavesPlace}
 use Rattle.run_files.specs.Headed.{HasHeader, IsHeaded, MeetsHeadFault, OpensFeeds, RefusesHead, RefusesLast, SaysHeadFault}
-use Rattle.run_files.specs.Outside.{FailsToPut, file_of, PlaceSeen, Puts, Silent, SinkSeen}
+use Rattle.run_files.specs.Outside.{at, FailsToPut, file_of, PlaceSeen, Puts, Silent, SinkSeen}
 use Rattle.run_files.specs.declared.stop.Stop.{Stop}
 use Rattle.run_files.specs.declared.stop.Stop.TheVariants.{NoMemory, PlanRefused, ReadFault, WriteFault, FeedRefused}
 
@@ -105,8 +105,8 @@ HasHeader-first schema files first opens more i all is few lt =
 
 module _ {P O : Type 0} (p : PlaceSeen P) (s : SinkSeen O) (schema : Schema) where
   -- what holds of the feeds that were opened holds whatever else is left
-  opens_leaving : (a b c : P) (o o' : O) (names others : List (List ℕ)) (stop : Option Stop) (one : OpensFeeds p s schema a b o o' names stop) (leaves : LeavesPlace p a c others [] stop) → leaves.opens ≡ one.leaves.opens
-      → OpensFeeds p s schema a c o o' others stop
+  opens_leaving : (a b c : P) (o o' : O) (names others : List (List ℕ)) (stop : Option Stop) (one : OpensFeeds p s schema (at a o) (at b o') names stop) (leaves : LeavesPlace p a c others [] stop) → leaves.opens ≡ one.leaves.opens
+      → OpensFeeds p s schema (at a o) (at c o') others stop
   opens_leaving a b c o o' names others stop one leaves same = record {
     leaves = leaves;
     first = λ e. subst (FailsAtLast p a) (sym same) (one.first e);
@@ -118,13 +118,13 @@ module _ {P O : Type 0} (p : PlaceSeen P) (s : SinkSeen O) (schema : Schema) whe
   }
 
   -- the first trouble leaves the further feeds unopened
-  pub opens_more : (a b : P) (o o' : O) (names more : List (List ℕ)) (stop : Stop) → OpensFeeds p s schema a b o o' names (Some stop) → OpensFeeds p s schema a b o o' (names ++ more) (Some stop)
+  pub opens_more : (a b : P) (o o' : O) (names more : List (List ℕ)) (stop : Stop) → OpensFeeds p s schema (at a o) (at b o') names (Some stop) → OpensFeeds p s schema (at a o) (at b o') (names ++ more) (Some stop)
   unfolding leaves_more
   opens_more a b o o' names more stop one = opens_leaving a b b o o' names (names ++ more) (Some stop) one (leaves_more p a b names more [] stop one.leaves) refl
 
   -- of no feeds none is opened
   opens_unnamed : (a b : P) (o : O) (stop : Option Stop) → ((k : Stop) → stop ≡ Some k → k ≡ NoMemory) → p.opened b ≡ p.opened a → p.created b ≡ p.created a → p.write_faults b ≡ p.write_faults a → p.files b ≡ p.files a → p.read_faults b ≡ p.read_faults a
-      → OpensFeeds p s schema a b o o [] stop
+      → OpensFeeds p s schema (at a o) (at b o) [] stop
   unfolding leaves_reading
   opens_unnamed a b o stop only opened created write files quiet = record {
     leaves = leaves_reading p a b [] [] [] stop refl (opened ∙ sym (append-nil _)) (λ _. refl) created write files (λ e. let k = only ReadFault e in absurd (cc)) (λ _. quiet);
@@ -137,23 +137,23 @@ module _ {P O : Type 0} (p : PlaceSeen P) (s : SinkSeen O) (schema : Schema) whe
   }
 
   -- no feed is opened
-  pub opens_none : (a : P) (o : O) → OpensFeeds p s schema a a o o [] None
+  pub opens_none : (a : P) (o : O) → OpensFeeds p s schema (at a o) (at a o) [] None
   opens_none a o = opens_unnamed a a o None (λ k e. absurd (cc)) refl refl refl refl refl
 
   -- no feed is opened, for want of memory
-  pub opens_nothing : (a : P) (o : O) (names : List (List ℕ)) → OpensFeeds p s schema a a o o names (Some NoMemory)
+  pub opens_nothing : (a : P) (o : O) (names : List (List ℕ)) → OpensFeeds p s schema (at a o) (at a o) names (Some NoMemory)
   opens_nothing a o names = opens_more a a o o [] names NoMemory (opens_unnamed a a o (Some NoMemory) (λ k e. cc) refl refl refl refl refl)
 
   -- one feed is not opened, for want of memory
   pub opens_not : (a b : P) (o : O) (name : List ℕ) → p.opened b ≡ p.opened a → p.created b ≡ p.created a → p.write_faults b ≡ p.write_faults a → p.files b ≡ p.files a → p.read_faults b ≡ p.read_faults a
-      → OpensFeeds p s schema a b o o (name ∷ []) (Some NoMemory)
+      → OpensFeeds p s schema (at a o) (at b o) (name ∷ []) (Some NoMemory)
   opens_not a b o name opened created write files quiet = opens_more a b o o [] (name ∷ []) NoMemory (opens_unnamed a b o (Some NoMemory) (λ k e. cc) opened created write files quiet)
 
   -- one feed is opened
   pub opens_one : (a b : P) (o o' : O) (name : List ℕ) (stop : Option Stop) → p.opened b ≡ p.opened a ++ name ∷ [] → p.created b ≡ p.created a → p.write_faults b ≡ p.write_faults a → p.files b ≡ p.files a
       → (stop ≡ Some ReadFault → Rose (p.read_faults a) (p.read_faults b)) → (stop ≢ Some ReadFault → p.read_faults b ≡ p.read_faults a)
       → (stop ≡ Some FeedRefused → RefusesHead schema (file_of (p.files a) name) name (Puts s o o')) → (stop ≡ Some WriteFault → RefusesHead schema (file_of (p.files a) name) name (FailsToPut s o o'))
-      → (stop ≢ Some FeedRefused → stop ≢ Some WriteFault → Silent s o o') → stop ≢ Some PlanRefused → OpensFeeds p s schema a b o o' (name ∷ []) stop
+      → (stop ≢ Some FeedRefused → stop ≢ Some WriteFault → Silent s o o') → stop ≢ Some PlanRefused → OpensFeeds p s schema (at a o) (at b o') (name ∷ []) stop
   unfolding leaves_reading
   opens_one a b o o' name stop opened created write files read quiet refused unsaid silent ends = record {
     leaves = leaves_reading p a b (name ∷ []) (name ∷ []) [] stop refl opened (λ _. refl) created write files read quiet;
@@ -167,7 +167,7 @@ module _ {P O : Type 0} (p : PlaceSeen P) (s : SinkSeen O) (schema : Schema) whe
 
   -- after feeds that all have headers, one more is opened
   pub opens_on : (a b c : P) (o o' o'' : O) (first : List (List ℕ)) (name : List ℕ) (stop : Option Stop) → All (λ n. HasHeader schema (file_of (p.files a) n)) first
-      → OpensFeeds p s schema a b o o' first None → OpensFeeds p s schema b c o' o'' (name ∷ []) stop → OpensFeeds p s schema a c o o'' (first ++ name ∷ []) stop
+      → OpensFeeds p s schema (at a o) (at b o') first None → OpensFeeds p s schema (at b o') (at c o'') (name ∷ []) stop → OpensFeeds p s schema (at a o) (at c o'') (first ++ name ∷ []) stop
   unfolding leaves_then
   opens_on a b c o o' o'' first name stop all one two =
       let same : p.files b ≡ p.files a = one.leaves.untouched (nothing_made p a b first None one.leaves) in
@@ -183,18 +183,18 @@ module _ {P O : Type 0} (p : PlaceSeen P) (s : SinkSeen O) (schema : Schema) whe
       }
 
   -- feeds that are opened leave the files as they were
-  pub same_files : (a b : P) (o o' : O) (names : List (List ℕ)) (stop : Option Stop) → OpensFeeds p s schema a b o o' names stop → p.files b ≡ p.files a
+  pub same_files : (a b : P) (o o' : O) (names : List (List ℕ)) (stop : Option Stop) → OpensFeeds p s schema (at a o) (at b o') names stop → p.files b ≡ p.files a
   same_files a b o o' names stop one = one.leaves.untouched (nothing_made p a b names stop one.leaves)
 
   -- so it is where `?` hands the trouble on
-  pub opens_residual : (a b : P) (o o' : O) (names first more : List (List ℕ)) (r : Result (Unit {0}) Stop) (stop : Stop) → names ≡ first ++ more → IsErrAnd r (λ e. e ≡ stop) → OpensFeeds p s schema a b o o' first (Some stop)
-      → OpensFeeds p s schema a b o o' names (result_err r)
+  pub opens_residual : (a b : P) (o o' : O) (names first more : List (List ℕ)) (r : Result (Unit {0}) Stop) (stop : Stop) → names ≡ first ++ more → IsErrAnd r (λ e. e ≡ stop) → OpensFeeds p s schema (at a o) (at b o') first (Some stop)
+      → OpensFeeds p s schema (at a o) (at b o') names (result_err r)
   opens_residual a b o o' names first more (Ok x) stop are bad one = absurd bad
   opens_residual a b o o' names first more (Err e) stop are is one =
-      subst (λ (k : Stop). OpensFeeds p s schema a b o o' names (Some k)) (sym is) (subst (λ (ns : List (List ℕ)). OpensFeeds p s schema a b o o' ns (Some stop)) (sym are) (opens_more a b o o' first more stop one))
+      subst (λ (k : Stop). OpensFeeds p s schema (at a o) (at b o') names (Some k)) (sym is) (subst (λ (ns : List (List ℕ)). OpensFeeds p s schema (at a o) (at b o') ns (Some stop)) (sym are) (opens_more a b o o' first more stop one))
 
   -- and the ones that were opened are given back
-  pub opens_given_back : (a b c : P) (o o' : O) (names : List (List ℕ)) (stop : Option Stop) (counts : List ℕ) → OpensFeeds p s schema a b o o' names stop → TakesSources p b c counts → All (λ n. n ≡ 0) counts
-      → OpensFeeds p s schema a c o o' names stop
+  pub opens_given_back : (a b c : P) (o o' : O) (names : List (List ℕ)) (stop : Option Stop) (counts : List ℕ) → OpensFeeds p s schema (at a o) (at b o') names stop → TakesSources p b c counts → All (λ n. n ≡ 0) counts
+      → OpensFeeds p s schema (at a o) (at c o') names stop
   unfolding leaves_given_back
   opens_given_back a b c o o' names stop counts one back none = opens_leaving a b c o o' names names stop one (leaves_given_back p a b c names [] stop counts one.leaves back none) refl

@@ -13,7 +13,7 @@ use Rattle.outer_io.specs.Files.{Files}
 use Rattle.outer_io.specs.Told.{Told}
 use Rattle.run_report.specs.Lines.{head_line}
 use Rattle.run_files.specs.Leaving.{FailsAtLast, LeavesPlace}
-use Rattle.run_files.specs.Outside.{FailsToPut, file_of, PlaceSeen, Puts, Silent, SinkSeen}
+use Rattle.run_files.specs.Outside.{FailsToPut, file_of, Outside, PlaceSeen, Puts, Silent, SinkSeen}
 use Rattle.run_files.specs.declared.feeds.HeadedFeed.{HeadedFeed}
 use Rattle.run_files.specs.declared.stop.Stop.{Stop}
 use Rattle.run_files.specs.declared.stop.Stop.TheVariants.{PlanRefused, ReadFault, WriteFault, FeedRefused}
@@ -65,15 +65,15 @@ abbrev pub HasHeader : Schema → Option (List ℕ) → Type 0
 HasHeader schema file = Told file (λ feed. IsOk (feed_head schema feed))
 
 -- What opening feeds and reading their headers leaves of a place and a sink, by what ends the run with it, if it does
-pub record OpensFeeds {P O : Type 0} (p : PlaceSeen P) (s : SinkSeen O) (schema : Schema) (place place' : P) (out out' : O) (names : List (List ℕ)) (stop : Option Stop) : Type 0 where
-  pub leaves : LeavesPlace p place place' names [] stop
+pub record OpensFeeds {P O : Type 0} (p : PlaceSeen P) (s : SinkSeen O) (schema : Schema) (before after : Outside P O) (names : List (List ℕ)) (stop : Option Stop) : Type 0 where
+  pub leaves : LeavesPlace p before.place after.place names [] stop
   -- the first trouble ends the run: each feed that was opened before another one has a header
-  pub headed : (i : ℕ) → i + 1 < length leaves.opens → HasHeader schema (file_of (p.files place) (get_or leaves.opens i []))
+  pub headed : (i : ℕ) → i + 1 < length leaves.opens → HasHeader schema (file_of (p.files before.place) (get_or leaves.opens i []))
   -- a read fault ends it at the feed that was opened last
-  pub first : stop ≡ Some ReadFault → FailsAtLast p place leaves.opens
+  pub first : stop ≡ Some ReadFault → FailsAtLast p before.place leaves.opens
   -- the one that was opened last is refused, which is said, or a part of it where the put fails
-  pub refused : stop ≡ Some FeedRefused → RefusesLast schema (file_of (p.files place)) leaves.opens (Puts s out out')
-  pub unsaid : stop ≡ Some WriteFault → RefusesLast schema (file_of (p.files place)) leaves.opens (FailsToPut s out out')
+  pub refused : stop ≡ Some FeedRefused → RefusesLast schema (file_of (p.files before.place)) leaves.opens (Puts s before.out after.out)
+  pub unsaid : stop ≡ Some WriteFault → RefusesLast schema (file_of (p.files before.place)) leaves.opens (FailsToPut s before.out after.out)
   -- else nothing is put
-  pub silent : stop ≢ Some FeedRefused → stop ≢ Some WriteFault → Silent s out out'
+  pub silent : stop ≢ Some FeedRefused → stop ≢ Some WriteFault → Silent s before.out after.out
   pub ends : stop ≢ Some PlanRefused

@@ -5,7 +5,7 @@ ghost use Rattle.outer_io.specs.Faults.{Rose};
 ghost use Rattle.run_report.specs.Lines.{head_line};
 ghost use Rattle.run_files.specs.Headed.{AreHeaded, IsHeaded, MeetsHeadFault, OpensFeeds, ReadsHead, SaysHeadFault};
 ghost use Rattle.run_files.specs.Leaving.{LeavesPlace};
-ghost use Rattle.run_files.specs.Outside.{FailsToPut, file_of, of_place, of_sink, Puts, Silent};
+ghost use Rattle.run_files.specs.Outside.{at, FailsToPut, file_of, of_place, of_sink, Puts, Silent};
 ghost use Rattle.run_files.specs.Saying.{SaysText};
 
 use crate::Stop;
@@ -94,7 +94,7 @@ fn open_feed<P: Place, O: Sink>(
     place: &mut P,
     out: &mut O,
 ) -> Result<HeadedFeed<LineCutter<P::In>>, Stop>
-    ensures opens { OpensFeeds (of_place P.Place) (of_sink O.Sink) schema.now place.old place.new out.old out.new (name.now ∷ []) (result_err result) }
+    ensures opens { OpensFeeds (of_place P.Place) (of_sink O.Sink) schema.now (at place.old out.old) (at place.new out.new) (name.now ∷ []) (result_err result) }
     ensures feed { IfOk result (IsHeaded P.In.left P.In.faults schema.now (file_of (P.files place.old) name.now)) }
     ensures quiet { IfOk result (λ feed. P.In.faults feed.cutter.source ≡ 0) }
 {
@@ -122,7 +122,7 @@ fn open_each<P: Place, O: Sink>(
 ) -> Result<(), Stop>
     requires empty { (feeds.old.items ≡ []) × (vec_len feeds.old ≡ 0) }
     requires room { length names.now ≤ vec_capacity feeds.old }
-    ensures opens { OpensFeeds (of_place P.Place) (of_sink O.Sink) schema.now place.old place.new out.old out.new names.now (result_err result) }
+    ensures opens { OpensFeeds (of_place P.Place) (of_sink O.Sink) schema.now (at place.old out.old) (at place.new out.new) names.now (result_err result) }
     ensures feeds { OnOk result (AreHeaded P.In.left P.In.faults schema.now (P.files place.old) names.now feeds.new.items) }
     ensures quiet { All (λ feed. P.In.faults feed.cutter.source ≡ 0) feeds.new.items }
 {
@@ -142,7 +142,7 @@ pub fn open_feeds<P: Place, O: Sink>(
     place: &mut P,
     out: &mut O,
 ) -> Result<List<HeadedFeed<LineCutter<P::In>>>, Stop>
-    ensures opens { OpensFeeds (of_place P.Place) (of_sink O.Sink) schema.now place.old place.new out.old out.new names.now (result_err result) }
+    ensures opens { OpensFeeds (of_place P.Place) (of_sink O.Sink) schema.now (at place.old out.old) (at place.new out.new) names.now (result_err result) }
     ensures feeds { IfOk result (AreHeaded P.In.left P.In.faults schema.now (P.files place.old) names.now) }
     ensures quiet { IfOk result (All (λ feed. P.In.faults feed.cutter.source ≡ 0)) }
 {

@@ -11,7 +11,7 @@ use Rattle.outer_io.specs.Files.{Files}
 use Rattle.outer_io.specs.Progress.{IsGoing}
 use Rattle.run_files.specs.Headed.{HasHeader, RefusesLast}
 use Rattle.run_files.specs.Leaving.{FailsAtLast, LeavesPlace}
-use Rattle.run_files.specs.Outside.{FailsToPut, file_of, PlaceSeen, Puts, Silent, SinkSeen}
+use Rattle.run_files.specs.Outside.{FailsToPut, file_of, Outside, PlaceSeen, Puts, Silent, SinkSeen}
 use Rattle.run_files.specs.Planned.{MayHavePlan}
 use Rattle.run_files.specs.Scripted.{IsOutput}
 use Rattle.run_files.specs.declared.stop.Stop.{Stop}
@@ -34,58 +34,58 @@ abbrev pub plan_in : {T : Type 0} → Result (Plan × T) Stop → Option Plan
 plan_in (Ok run) = Some run.0
 plan_in (Err stop) = None
 
-module _ {O : Type 0} (s : SinkSeen O) (plan : Plan) (files : Option Files) where
+module _ {P O : Type 0} (p : PlaceSeen P) (s : SinkSeen O) (plan : Plan) (before after : Outside P O) where
   -- These feeds of the plan were opened, and the run ends at the last one of them, or before the next
-  pub record EndsAtFeeds (out out' : O) (opens makes : List (List ℕ)) (stop : Option Stop) : Type 0 where
+  pub record EndsAtFeeds (opens makes : List (List ℕ)) (stop : Option Stop) : Type 0 where
     pub unopened : List (List ℕ)
     pub feeds_are : plan.feeds ≡ opens ++ unopened
     pub ends : (stop ≢ None) × (stop ≢ Some PlanRefused)
     -- nothing was created
     pub unmade : makes ≡ []
     -- each feed that was opened before another one has a header
-    pub headed : (i : ℕ) → i + 1 < length opens → HasHeader plan.schema (file_of files (get_or opens i []))
+    pub headed : (i : ℕ) → i + 1 < length opens → HasHeader plan.schema (file_of (p.files before.place) (get_or opens i []))
     -- the one that was opened last is refused, which is said, or a part of it where the put fails
-    pub refused : stop ≡ Some FeedRefused → RefusesLast plan.schema (file_of files) opens (Puts s out out')
-    pub unsaid : stop ≡ Some WriteFault → RefusesLast plan.schema (file_of files) opens (FailsToPut s out out')
+    pub refused : stop ≡ Some FeedRefused → RefusesLast plan.schema (file_of (p.files before.place)) opens (Puts s before.out after.out)
+    pub unsaid : stop ≡ Some WriteFault → RefusesLast plan.schema (file_of (p.files before.place)) opens (FailsToPut s before.out after.out)
     -- else nothing was put
-    pub silent : stop ≢ Some FeedRefused → stop ≢ Some WriteFault → Silent s out out'
+    pub silent : stop ≢ Some FeedRefused → stop ≢ Some WriteFault → Silent s before.out after.out
 
-  -- All feeds of the plan were opened, and then these scripts; here the count of writing was, and is, so many
-  pub record PassesFeeds (writes writes' : ℕ) (out out' : O) (opens : List (List ℕ)) (stop : Option Stop) : Type 0 where
+  -- All feeds of the plan were opened, and then these scripts
+  pub record PassesFeeds (opens : List (List ℕ)) (stop : Option Stop) : Type 0 where
     pub scripts : List (List ℕ)
     pub opens_are : opens ≡ plan.feeds ++ scripts
     -- each feed has a header
-    pub headed : All (λ name. HasHeader plan.schema (file_of files name)) plan.feeds
+    pub headed : All (λ name. HasHeader plan.schema (file_of (p.files before.place) name)) plan.feeds
     -- nothing was put
-    pub silent : Silent s out out'
+    pub silent : Silent s before.out after.out
     -- a write fault has its cause
-    pub write : stop ≡ Some WriteFault → Rose writes writes'
+    pub write : stop ≡ Some WriteFault → Rose (p.write_faults before.place) (p.write_faults after.place)
     pub ends : (stop ≢ Some PlanRefused) × (stop ≢ Some FeedRefused)
 
   -- of the plan's files the feeds come first, the header of each one read before the next file is opened
-  abbrev pub OpensInOrder : ℕ → ℕ → O → O → List (List ℕ) → List (List ℕ) → Option Stop → Type 0
-  OpensInOrder writes writes' out out' opens makes stop = EndsAtFeeds out out' opens makes stop ⊎ PassesFeeds writes writes' out out' opens stop
+  abbrev pub OpensInOrder : List (List ℕ) → List (List ℕ) → Option Stop → Type 0
+  OpensInOrder opens makes stop = EndsAtFeeds opens makes stop ⊎ PassesFeeds opens stop
 
 -- What opening the files of a plan leaves of a place and a sink, by what ends the run with it, if it does
-pub record OpensFiles {P O : Type 0} (p : PlaceSeen P) (s : SinkSeen O) (place place' : P) (out out' : O) (plan : Plan) (stop : Option Stop) : Type 0 where
-  pub leaves : LeavesPlace p place place' (input_names plan) (output_names plan) stop
+pub record OpensFiles {P O : Type 0} (p : PlaceSeen P) (s : SinkSeen O) (before after : Outside P O) (plan : Plan) (stop : Option Stop) : Type 0 where
+  pub leaves : LeavesPlace p before.place after.place (input_names plan) (output_names plan) stop
   -- a read fault ends the run at the file that was opened last
-  pub first : stop ≡ Some ReadFault → FailsAtLast p place leaves.opens
-  pub order : OpensInOrder s plan (p.files place) (p.write_faults place) (p.write_faults place') out out' leaves.opens leaves.makes stop
+  pub first : stop ≡ Some ReadFault → FailsAtLast p before.place leaves.opens
+  pub order : OpensInOrder p s plan before after leaves.opens leaves.makes stop
 
 -- What opening a run leaves of a place and a sink, by the plan that it goes on with, or what ends it
-pub record OpensRun {P O : Type 0} (p : PlaceSeen P) (s : SinkSeen O) (place place' : P) (out out' : O) (name : List ℕ) (goes : Option Plan) (stop : Option Stop) : Type 0 where
+pub record OpensRun {P O : Type 0} (p : PlaceSeen P) (s : SinkSeen O) (before after : Outside P O) (name : List ℕ) (goes : Option Plan) (stop : Option Stop) : Type 0 where
   -- the plan, where the file of that name was read and is one
-  pub planned : MayHavePlan s out out' (file_of (p.files place) name) (λ end. stop ≡ Some end)
+  pub planned : MayHavePlan s before.out after.out (file_of (p.files before.place) name) (λ end. stop ≡ Some end)
   pub goes_on : IfSome goes (λ it. planned.plan ≡ Some it)
   -- it was opened first, then the plan's inputs, and then its outputs were created
-  pub leaves : LeavesPlace p place place' (name ∷ inputs_of planned.plan) (outputs_of planned.plan) stop
+  pub leaves : LeavesPlace p before.place after.place (name ∷ inputs_of planned.plan) (outputs_of planned.plan) stop
   -- a read fault ends the run at the file that was opened last
-  pub first : stop ≡ Some ReadFault → FailsAtLast p place leaves.opens
+  pub first : stop ≡ Some ReadFault → FailsAtLast p before.place leaves.opens
   -- feeds come before scripts, and what ends the run there has its cause
-  pub order : IfSome planned.plan (λ plan. (opens : List (List ℕ)) × (leaves.opens ≡ name ∷ opens) × OpensInOrder s plan (p.files place) (p.write_faults place) (p.write_faults place') out out' opens leaves.makes stop)
+  pub order : IfSome planned.plan (λ plan. (opens : List (List ℕ)) × (leaves.opens ≡ name ∷ opens) × OpensInOrder p s plan before after opens leaves.makes stop)
   -- nothing else is put but what is said of a refused feed
-  pub silent : stop ≢ Some PlanRefused → stop ≢ Some FeedRefused → stop ≢ Some WriteFault → Silent s out out'
+  pub silent : stop ≢ Some PlanRefused → stop ≢ Some FeedRefused → stop ≢ Some WriteFault → Silent s before.out after.out
 
 -- The parts are ready to run under the plan, each over its file's bytes, where these are told
 pub record AreReady {I O : Type 0} (left : I → Option (List ℕ)) (faults : I → ℕ) (s : SinkSeen O) (files : Option Files) (plan : Plan) (parts : RunParts I O) : Type 0 where

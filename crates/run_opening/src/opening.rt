@@ -3,7 +3,7 @@ ghost use Rattle.std.specs.Prelude.{IfOk};
 ghost use Rattle.std.specs.Result.{result_err};
 ghost use Rattle.cube_schema.specs.Files.{NamesFiles};
 ghost use Rattle.run_files.specs.Headed.{AreHeaded};
-ghost use Rattle.run_files.specs.Outside.{file_of, of_place, of_sink};
+ghost use Rattle.run_files.specs.Outside.{at, file_of, of_place, of_sink};
 ghost use Rattle.run_files.specs.Planned.{IsPlanOf};
 ghost use Rattle.run_files.specs.Scripted.{AreScriptParts};
 ghost use Rattle.run_opening.specs.Opening.{AreFit, AreReady, OpensFiles, OpensRun, plan_in};
@@ -32,7 +32,7 @@ fn open_files<P: Place, O: Sink>(
     ),
     Stop,
 >
-    ensures opens { OpensFiles (of_place P.Place) (of_sink O.Sink) place.old place.new out.old out.new plan.now (result_err result) }
+    ensures opens { OpensFiles (of_place P.Place) (of_sink O.Sink) (at place.old out.old) (at place.new out.new) plan.now (result_err result) }
     ensures feeds { IfOk result (λ files. AreHeaded P.In.left P.In.faults plan.now.schema (P.files place.old) plan.now.feeds files.0) }
     ensures scripts { IfOk result (λ files. AreScriptParts P.In.left P.In.faults (of_sink P.Out.Sink) (P.files place.old) plan.now files.1) }
 {
@@ -54,7 +54,7 @@ fn open_parts<P: Place, O: Sink>(
     out: &mut O,
 ) -> Result<RunParts<P::In, P::Out>, Stop>
     requires { NamesFiles plan.now }
-    ensures opens { OpensFiles (of_place P.Place) (of_sink O.Sink) place.old place.new out.old out.new plan.now (result_err result) }
+    ensures opens { OpensFiles (of_place P.Place) (of_sink O.Sink) (at place.old out.old) (at place.new out.new) plan.now (result_err result) }
     ensures ready { IfOk result (AreReady P.In.left P.In.faults (of_sink P.Out.Sink) (P.files place.old) plan.now) }
     ensures fit { IfOk result (AreFit plan.now.schema) }
 {
@@ -80,7 +80,7 @@ pub fn open_run<P: Place, O: Sink>(
     place: &mut P,
     out: &mut O,
 ) -> Result<(Plan, RunParts<P::In, P::Out>), Stop>
-    ensures opens { OpensRun (of_place P.Place) (of_sink O.Sink) place.old place.new out.old out.new name.now (plan_in result) (result_err result) }
+    ensures opens { OpensRun (of_place P.Place) (of_sink O.Sink) (at place.old out.old) (at place.new out.new) name.now (plan_in result) (result_err result) }
     ensures plan { IfOk result (λ run. IsPlanOf (file_of (P.files place.old) name.now) run.0) }
     ensures ready { IfOk result (λ run. AreReady P.In.left P.In.faults (of_sink P.Out.Sink) (P.files place.old) run.0 run.1) }
     ensures fit { IfOk result (λ run. AreFit run.0.schema run.1) }

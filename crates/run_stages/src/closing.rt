@@ -1,6 +1,6 @@
 //! The end of a run: its journal, its parts and its report.
 ghost use Rattle.std.specs.Prelude.{◌≡◌, ◌+◌, ◌≤◌, [], ℕ, List, map, length, IfOk, vec_len, vec_capacity};
-ghost use Rattle.run_files.specs.Outside.{of_place, of_sink};
+ghost use Rattle.run_files.specs.Outside.{at, of_parts, of_place, of_sink};
 ghost use Rattle.run_files.specs.Saying.{SaysText};
 ghost use Rattle.run_stages.specs.Closing.{ClosesRun, ReturnsParts, ReturnsSink};
 ghost use Rattle.run_stages.specs.Counted.{feed_counts, IsReportOf, script_counts};
@@ -30,7 +30,7 @@ fn give_back_parts<P: Place>(
 ) -> (Result<RunCounts, NoMemory>, Result<(), Stop>)
     requires empty { (room.items ≡ []) × (vec_len room ≡ 0) }
     requires room { length asks + length finals ≤ vec_capacity room }
-    ensures back { ReturnsParts (of_place P.Place) (of_sink P.Out.Sink) P.In.faults place.old place.new feeds asks finals result.1 }
+    ensures back { ReturnsParts (of_parts P.Place P.In.Source P.Out.Sink) place.old place.new feeds asks finals result.1 }
     ensures feeds { IfOk result.0 (λ counts. counts.feeds.items ≡ map feed_counts feeds) }
     ensures asks { IfOk result.0 (λ counts. counts.asks.items ≡ map script_counts asks) }
     ensures finals { IfOk result.0 (λ counts. counts.finals.items ≡ map script_counts finals) }
@@ -93,7 +93,7 @@ pub fn close_run<P: Place, O: Sink>(
 ) -> Result<(), Stop>
     requires empty { (room.items ≡ []) × (vec_len room ≡ 0) }
     requires room { length done.asks + length done.finals ≤ vec_capacity room }
-    ensures { ClosesRun plan.now done (of_place P.Place) (of_sink P.Out.Sink) (of_sink O.Sink) P.In.faults place.old place.new out.old out.new result }
+    ensures { ClosesRun plan.now done (of_parts P.Place P.In.Source P.Out.Sink) (of_sink O.Sink) (at place.old out.old) (at place.new out.new) result }
 {
     let threads = threads_end(&done);
     let RunDone {

@@ -31,7 +31,7 @@ use Rattle.run_files.proofs.Stages.{all_opened, KeepsOthers-same, leaves_reading
 use Rattle.run_files.specs.GivingBack.{faulty, TakesSources}
 use Rattle.run_files.specs.Headed.{IsHeaded, OpensFeeds, RefusesLast}
 use Rattle.run_files.specs.Leaving.{LeavesPlace}
-use Rattle.run_files.specs.Outside.{FailsToPut, file_of, PlaceSeen, Puts, PutsOrFails, Silent, SinkSeen}
+use Rattle.run_files.specs.Outside.{at, FailsToPut, file_of, PlaceSeen, Puts, PutsOrFails, Silent, SinkSeen, SourceSeen}
 use Rattle.run_files.specs.Planned.{IsPlanOf, ReadsPlan, RefusesPlan}
 use Rattle.run_files.specs.Stops.{IsOrLacks, stop_of_cut}
 use Rattle.run_files.specs.declared.feeds.HeadedFeed.{HeadedFeed}
@@ -83,11 +83,11 @@ module _ {P O : Type 0} (p : PlaceSeen P) (s : SinkSeen O) where
     ended_early : (plan : Option Plan) (k : Stop) → LeavesPlace p a b (name ∷ feeds_of plan) [] (Some k) → IfSome plan (IsPlanOf (file_of (p.files a) name))
         → (plan ≡ None → (◌≡◌ {A = End} (Err k) (Err stop.NoMemory)) ⊎ (◌≡◌ {A = End} (Err k) (Err stop.ReadFault)) ⊎ (◌≡◌ {A = End} (Err k) (Err stop.PlanRefused)))
         → (k ≡ stop.PlanRefused → (plan ≡ None) × RefusesPlan s out out' (file_of (p.files a) name))
-        → (k ≡ stop.FeedRefused → (which : Plan) × (plan ≡ Some which) × CreatesNone p s a b out out' (saving name image) × (SaysHeader p s a b out out' (saving name image) which (Puts s out out') ⊎ (Silent s out out' × AtEntry p s a b out out' (saving name image) (HasLongFeed which))))
-        → SaysOfSave p s a b out out' (saving name image) plan
+        → (k ≡ stop.FeedRefused → (which : Plan) × (plan ≡ Some which) × CreatesNone p s (at a out) (at b out') (saving name image) × (SaysHeader p s (at a out) (at b out') (saving name image) which (Puts s out out') ⊎ (Silent s out out' × AtEntry p s (at a out) (at b out') (saving name image) (HasLongFeed which))))
+        → SaysOfSave p s (at a out) (at b out') (saving name image) plan
         → (k ≡ stop.WriteFault → Rose (s.faults out) (s.faults out'))
-        → (¬ Rose (p.read_faults a) (p.read_faults b) → ¬ Rose (s.faults out) (s.faults out') → IfSome plan (λ which. AtEntry p s a b out out' (saving name image) (λ files. AreTaken which files → IsOrLacks Done (Err k) ⊎ IsOrLacks Refused (Err k))))
-        → SaveEnds p s a b out out' (saving name image) (Err k)
+        → (¬ Rose (p.read_faults a) (p.read_faults b) → ¬ Rose (s.faults out) (s.faults out') → IfSome plan (λ which. AtEntry p s (at a out) (at b out') (saving name image) (λ files. AreTaken which files → IsOrLacks Done (Err k) ⊎ IsOrLacks Refused (Err k))))
+        → SaveEnds p s (at a out) (at b out') (saving name image) (Err k)
     ended_early plan k leaves plan_is unplanned refused_plan refused said write complete =
         let stays = same_created p a b (name ∷ feeds_of plan) (Some k) leaves in
         record {
@@ -119,7 +119,7 @@ module _ {P O : Type 0} (p : PlaceSeen P) (s : SinkSeen O) where
 
     -- ---- the plan was refused, or was not read
 
-    pub ended_by_plan : (k : Stop) → LeavesPlace p a b (name ∷ []) [] (Some k) → ReadsPlan s out out' (file_of (p.files a) name) (Err k) → SaveEnds p s a b out out' (saving name image) (Err k)
+    pub ended_by_plan : (k : Stop) → LeavesPlace p a b (name ∷ []) [] (Some k) → ReadsPlan s out out' (file_of (p.files a) name) (Err k) → SaveEnds p s (at a out) (at b out') (saving name image) (Err k)
     ended_by_plan k leaves reads =
         ended_early None k leaves tt (λ e. plan_end k reads.ends) (λ e. (refl, reads.refused (ap (λ l. Err l) e))) (λ e. absurd (reads.ends.1 e)) (says_plan s out out' (file_of (p.files a) name) k reads) (λ e. absurd (reads.ends.0 e)) (λ r u. tt)
 
@@ -150,7 +150,7 @@ module _ {P O : Type 0} (p : PlaceSeen P) (s : SinkSeen O) where
       at_first opens Says More step last = subst (λ (f : Option Files). RefusesLast pl.schema (file_of f) opens More) same (refuses_saying pl.schema (file_of (p.files b)) opens Says More step last)
 
       -- what is said where opening feeds ended so
-      says_head : (k : Stop) → OpensFeeds p s pl.schema b c mid out' pl.feeds (Some k) → SaysOfSave p s a c out out' (saving name image) (Some pl)
+      says_head : (k : Stop) → OpensFeeds p s pl.schema (at b mid) (at c out') pl.feeds (Some k) → SaysOfSave p s (at a out) (at c out') (saving name image) (Some pl)
       says_head stop.NoMemory O = inl (silent_after s out mid out' quiet (O.silent (λ e. cc) (λ e. cc)))
       says_head stop.PlanRefused O = inl (silent_after s out mid out' quiet (O.silent (λ e. cc) (λ e. cc)))
       says_head stop.ReadFault O = inl (silent_after s out mid out' quiet (O.silent (λ e. cc) (λ e. cc)))
@@ -167,14 +167,14 @@ module _ {P O : Type 0} (p : PlaceSeen P) (s : SinkSeen O) where
           (All-contains (λ n. is_feed_refused pl.schema (file_or_empty files n) ≡ false) pl.feeds last.name taken among)
 
       -- what is complete where opening feeds ended so
-      head_end : (k : Stop) → OpensFeeds p s pl.schema b c mid out' pl.feeds (Some k) → (k ≡ stop.ReadFault → ⊥) → ¬ Rose (s.faults out) (s.faults out') → (files : Files) → p.files a ≡ Some files → AreTaken pl files → IsOrLacks Done (Err k) ⊎ IsOrLacks Refused (Err k)
+      head_end : (k : Stop) → OpensFeeds p s pl.schema (at b mid) (at c out') pl.feeds (Some k) → (k ≡ stop.ReadFault → ⊥) → ¬ Rose (s.faults out) (s.faults out') → (files : Files) → p.files a ≡ Some files → AreTaken pl files → IsOrLacks Done (Err k) ⊎ IsOrLacks Refused (Err k)
       head_end stop.NoMemory O r u files is taken = inl (inr refl)
       head_end stop.PlanRefused O r u files is taken = absurd (O.ends refl)
       head_end stop.ReadFault O r u files is taken = absurd (r refl)
       head_end stop.WriteFault O r u files is taken = absurd (u (fails_after s out mid out' quiet _ (O.unsaid refl).refuses.says).faults)
       head_end stop.FeedRefused O r u files is taken = absurd (refused_none O.leaves.opens O.leaves.unopened (Puts s mid out') files (told files is) O.leaves.inputs_are (O.refused refl) taken)
 
-      pub ended_by_header : (k : Stop) → OpensFeeds p s pl.schema b c mid out' pl.feeds (Some k) → SaveEnds p s a c out out' (saving name image) (Err k)
+      pub ended_by_header : (k : Stop) → OpensFeeds p s pl.schema (at b mid) (at c out') pl.feeds (Some k) → SaveEnds p s (at a out) (at c out') (saving name image) (Err k)
       ended_by_header k O =
           let all : LeavesPlace p a c (name ∷ pl.feeds) [] (Some k) = leaves_then p a b c (name ∷ []) pl.feeds [] (Some k) leaves O.leaves in
           ended_early a c out out' name image (Some pl) k all reads.plan (λ e. cc) (λ e. absurd (O.ends (ap (λ l. Some l) e)))
@@ -185,13 +185,13 @@ module _ {P O : Type 0} (p : PlaceSeen P) (s : SinkSeen O) where
 
     -- ---- all feeds were opened
 
-    module _ {I : Type 0} (left : I → Option (List ℕ)) (faults : I → ℕ) (c d : P) (then : O) (opens : OpensFeeds p s pl.schema b c mid then pl.feeds None) (feeds : List (HeadedFeed (Cutter I)))
-        (headed : AllZip (λ n. IsHeaded left faults pl.schema (file_of (p.files b) n)) pl.feeds feeds) where
+    module _ {I : Type 0} (i : SourceSeen I) (c d : P) (then : O) (opens : OpensFeeds p s pl.schema (at b mid) (at c then) pl.feeds None) (feeds : List (HeadedFeed (Cutter I)))
+        (headed : AllZip (λ n. IsHeaded i.left i.faults pl.schema (file_of (p.files b) n)) pl.feeds feeds) where
       abbrev Feed : Type 0
       Feed = HeadedFeed (Cutter I)
 
       abbrev count : Feed → ℕ
-      count feed = faults feed.cutter.source
+      count feed = i.faults feed.cutter.source
 
       still : Silent s out then
       still = silent_after s out mid then quiet (opens.silent (λ e. cc) (λ e. cc))
@@ -200,8 +200,8 @@ module _ {P O : Type 0} (p : PlaceSeen P) (s : SinkSeen O) where
       both : LeavesPlace p a c (name ∷ pl.feeds) [] None
       both = leaves_then p a b c (name ∷ []) pl.feeds [] None leaves opens.leaves
 
-      headed_at : (files : Files) → p.files a ≡ Some files → AllZip (λ n. IsHeaded left faults pl.schema (Some (file_or_empty files n))) pl.feeds feeds
-      headed_at files is = subst (λ (f : Option Files). AllZip (λ n. IsHeaded left faults pl.schema (file_of f n)) pl.feeds feeds) (told files is) headed
+      headed_at : (files : Files) → p.files a ≡ Some files → AllZip (λ n. IsHeaded i.left i.faults pl.schema (Some (file_or_empty files n))) pl.feeds feeds
+      headed_at files is = subst (λ (f : Option Files). AllZip (λ n. IsHeaded i.left i.faults pl.schema (file_of f n)) pl.feeds feeds) (told files is) headed
 
       module _ (read : List Feed) (back : TakesSources p c d (map count read)) where
         opened_all : p.opened d ≡ p.opened a ++ name ∷ pl.feeds
@@ -216,7 +216,7 @@ module _ {P O : Type 0} (p : PlaceSeen P) (s : SinkSeen O) where
         writes_same : p.write_faults d ≡ p.write_faults a
         writes_same = back.write_faults ∙ both.unwritten (nothing_made p a c (name ∷ pl.feeds) None both)
 
-        reads_same : AreQuiet left faults read → p.read_faults d ≡ p.read_faults a
+        reads_same : AreQuiet i.left i.faults read → p.read_faults d ≡ p.read_faults a
         reads_same still = back.quiet (All-map (λ n. n ≡ 0) count read still) ∙ both.read_quiet (λ e. cc)
 
         reads_rose : Any (λ (feed : Feed). Rose 0 (count feed)) read → Rose (p.read_faults a) (p.read_faults d)
@@ -233,15 +233,15 @@ module _ {P O : Type 0} (p : PlaceSeen P) (s : SinkSeen O) where
             some_is : {k : Stop} → Some k ≡ Some stop.ReadFault → k ≡ stop.ReadFault
             some_is e = cc
 
-        large_feed : Any (λ (feed : Feed). IsTooLarge left feed.cutter) feeds → (files : Files) → p.files a ≡ Some files → HasLongFeed pl files
-        large_feed any files is = any_large left faults pl.schema (file_or_empty files) pl.feeds feeds (headed_at files is) any
+        large_feed : Any (λ (feed : Feed). IsTooLarge i.left feed.cutter) feeds → (files : Files) → p.files a ≡ Some files → HasLongFeed pl files
+        large_feed any files is = any_large i.left i.faults pl.schema (file_or_empty files) pl.feeds feeds (headed_at files is) any
 
         not_taken : (files : Files) → HasLongFeed pl files → AreTaken pl files → ⊥
         not_taken files long taken =
             not_both pl.schema (file_or_empty files long.0) (refused_by_size pl.schema (file_or_empty files long.0) long.2)
             (All-contains (λ n. is_feed_refused pl.schema (file_or_empty files n) ≡ false) pl.feeds long.0 taken long.1)
 
-        pub ended_by_feed : (f : CutFault) → EndsBy left faults feeds read f → SaveEnds p s a d out then (saving name image) (Err (stop_of_cut f))
+        pub ended_by_feed : (f : CutFault) → EndsBy i.left i.faults feeds read f → SaveEnds p s (at a out) (at d then) (saving name image) (Err (stop_of_cut f))
         ended_by_feed cut.Read E =
             ended_early a d out then name image (Some pl) stop.ReadFault (leaves_all stop.ReadFault (λ e. reads_rose E) (λ e. absurd (e refl))) reads.plan (λ e. cc) (λ e. cc) (λ e. cc) (inl still) (λ e. cc)
             (λ r u. absurd (r (reads_rose E)))
@@ -255,7 +255,7 @@ module _ {P O : Type 0} (p : PlaceSeen P) (s : SinkSeen O) where
 
         -- ---- all were read to their ends
 
-        pub stood_read : AcceptsSound → (cube : Cube) (counts : List FeedCounts) → TakesAll left faults pl.schema feeds read cube counts → Stood p s a d out then name pl cube counts
+        pub stood_read : AcceptsSound → (cube : Cube) (counts : List FeedCounts) → TakesAll i.left i.faults pl.schema feeds read cube counts → Stood p s a d out then name pl cube counts
         stood_read sound cube counts T = record {
           plan_is = reads.plan;
           opened = opened_all;
@@ -267,7 +267,7 @@ module _ {P O : Type 0} (p : PlaceSeen P) (s : SinkSeen O) where
           schema_is = T.schema_is;
           told = told_of (p.files a) _
               (λ files is.
-              let F = are_fed left faults pl.schema (file_or_empty files) pl.feeds feeds T.rows (headed_at files is) T.read in
+              let F = are_fed i.left i.faults pl.schema (file_or_empty files) pl.feeds feeds T.rows (headed_at files is) T.read in
               record {
                 taken = F.taken;
                 counts_are = T.counts_are ∙ F.counts;
@@ -277,10 +277,10 @@ module _ {P O : Type 0} (p : PlaceSeen P) (s : SinkSeen O) where
         }
 
       -- by what reading them answered
-      pub ended_reading : (k : Stop) → ReadsFeeds p left faults pl.schema c d feeds (Err k) → SaveEnds p s a d out then (saving name image) (Err k)
+      pub ended_reading : (k : Stop) → ReadsFeeds p i pl.schema c d feeds (Err k) → SaveEnds p s (at a out) (at d then) (saving name image) (Err k)
       ended_reading k R =
           let met = fault_met k R.taken R.result_is in
-          subst (λ (l : Stop). SaveEnds p s a d out then (saving name image) (Err l)) (sym met.2) (ended_by_feed R.read R.back met.0 (subst (TakesFeeds left faults pl.schema feeds R.read) met.1 R.takes))
+          subst (λ (l : Stop). SaveEnds p s (at a out) (at d then) (saving name image) (Err l)) (sym met.2) (ended_by_feed R.read R.back met.0 (subst (TakesFeeds i.left i.faults pl.schema feeds R.read) met.1 R.takes))
 
-      pub stood_reading : AcceptsSound → (taken : Cube × List FeedCounts) → ReadsFeeds p left faults pl.schema c d feeds (Ok taken) → Stood p s a d out then name pl taken.0 taken.1
-      stood_reading sound taken R = stood_read R.read R.back sound taken.0 taken.1 (subst (TakesFeeds left faults pl.schema feeds R.read) (none_met taken R.taken R.result_is) R.takes)
+      pub stood_reading : AcceptsSound → (taken : Cube × List FeedCounts) → ReadsFeeds p i pl.schema c d feeds (Ok taken) → Stood p s a d out then name pl taken.0 taken.1
+      stood_reading sound taken R = stood_read R.read R.back sound taken.0 taken.1 (subst (TakesFeeds i.left i.faults pl.schema feeds R.read) (none_met taken R.taken R.result_is) R.takes)

@@ -7,7 +7,7 @@ use Rattle.cube_view.specs.Points.{Point}
 use Rattle.image_cube.specs.CubeImages.{AreRecords, HasLongCubeImage, IsCubeImage}
 use Rattle.image_read.specs.declared.fault.ImageFault.TheVariants as image_fault
 use Rattle.image_run.specs.Lines.{image_line}
-use Rattle.run_files.specs.Outside.{PlaceSeen, SinkSeen}
+use Rattle.run_files.specs.Outside.{at, PlaceSeen, SinkSeen}
 use Rattle.run_files.specs.Saying.{SaysText}
 use Rattle.run_files.specs.declared.stop.Stop.{Stop}
 use Rattle.run_files.specs.declared.stop.Stop.TheVariants as stop
@@ -18,7 +18,7 @@ use Rattle.save_run.specs.Writing.{SavesCube, Writes}
 
 module _ {P O : Type 0} (p : PlaceSeen P) (s : SinkSeen O) (a b : P) (out out' : O) (plan : Plan) (cube : Cube) (counts : List FeedCounts) (image : List ℕ) where
   -- that it is too long
-  pub long_unsaid : (k : Stop) → ((h : List Point) → CubeCounts cube h → HasLongCubeImage cube.schema h) → SaysText {T = Unit {0}} s out out' (image_line image_fault.TooLong) (Err k) → SavesCube p s a a out out' plan cube counts image (Err k)
+  pub long_unsaid : (k : Stop) → ((h : List Point) → CubeCounts cube h → HasLongCubeImage cube.schema h) → SaysText {T = Unit {0}} s out out' (image_line image_fault.TooLong) (Err k) → SavesCube p s (at a out) (at a out') plan (cube, counts) image (Err k)
   long_unsaid stop.NoMemory long says = (writes_nothing p a image, says.silent refl)
   long_unsaid stop.WriteFault long says = inr (inl (record { long = long; same = refl; says = says.fails refl }))
   long_unsaid stop.PlanRefused long says = absurd (says.ends.0 refl)
@@ -26,7 +26,7 @@ module _ {P O : Type 0} (p : PlaceSeen P) (s : SinkSeen O) (a b : P) (out out' :
   long_unsaid stop.FeedRefused long says = absurd (says.ends.2 refl)
 
   -- what was written
-  pub image_unsaid : (k : Stop) (bytes : List ℕ) → ((h : List Point) → CubeCounts cube h → AreRecords cube.schema h → IsCubeImage cube.schema bytes h) → Writes p a b image bytes → SaysText {T = Unit {0}} s out out' (saved_text plan counts (length bytes)) (Err k) → SavesCube p s a b out out' plan cube counts image (Err k)
+  pub image_unsaid : (k : Stop) (bytes : List ℕ) → ((h : List Point) → CubeCounts cube h → AreRecords cube.schema h → IsCubeImage cube.schema bytes h) → Writes p a b image bytes → SaysText {T = Unit {0}} s out out' (saved_text plan counts (length bytes)) (Err k) → SavesCube p s (at a out) (at b out') plan (cube, counts) image (Err k)
   image_unsaid stop.NoMemory bytes of_cube writes says = (writes.keeps, says.silent refl)
   image_unsaid stop.WriteFault bytes of_cube writes says = inr (inr (record { bytes = bytes; of_cube = of_cube; writes = writes; says = says.fails refl }))
   image_unsaid stop.PlanRefused bytes of_cube writes says = absurd (says.ends.0 refl)

@@ -20,7 +20,7 @@ use Rattle.run_files.proofs.Putting.{fails_after, puts_after, silent_after}
 use Rattle.run_files.proofs.Stages.{KeepsOthers-after}
 use Rattle.run_files.specs.Counts.{StandStill}
 use Rattle.run_files.specs.Leaving.{KeepsOthers}
-use Rattle.run_files.specs.Outside.{FailsToPut, file_of, PlaceSeen, Puts, PutsOrFails, Silent, SinkSeen}
+use Rattle.run_files.specs.Outside.{at, FailsToPut, file_of, PlaceSeen, Puts, PutsOrFails, Silent, SinkSeen}
 use Rattle.run_files.specs.Planned.{IsPlanOf}
 use Rattle.run_files.specs.Stops.{IsOrLacks}
 use Rattle.run_files.specs.declared.stop.Stop.{Stop}
@@ -56,10 +56,10 @@ module _ {P O : Type 0} (p : PlaceSeen P) (s : SinkSeen O) (a d : P) (out mid : 
     pub told : Told (p.files a) (λ files. IsCubeOf pl files cube counts)
 
   module _ (S : Stood) (f : P) (out' : O) (image : List ℕ) where
-    opens_all : MayWrite p d f image → OpensAll p s a f out out' (saving name image) pl
+    opens_all : MayWrite p d f image → OpensAll p s (at a out) (at f out') (saving name image) pl
     opens_all keeps = keeps.opened ∙ S.opened
 
-    none_or_image : MayWrite p d f image → CreatesNone p s a f out out' (saving name image) ⊎ CreatesImage p s a f out out' (saving name image)
+    none_or_image : MayWrite p d f image → CreatesNone p s (at a out) (at f out') (saving name image) ⊎ CreatesImage p s (at a out) (at f out') (saving name image)
     none_or_image keeps = elim keeps.created [
       | inl none ↦ inl (none ∙ S.created)
       | inr one ↦ inr (one ∙ ap (λ c. c ++ image ∷ []) S.created)
@@ -80,12 +80,12 @@ module _ {P O : Type 0} (p : PlaceSeen P) (s : SinkSeen O) (a d : P) (out mid : 
 
     -- with any end from here on
     ends_with : (r : End) → MayWrite p d f image → (r ≢ Err stop.PlanRefused) × (r ≢ Err stop.ReadFault) × (r ≢ Err stop.FeedRefused)
-        → (r ≡ Ok Done → SaysImage p s a f out out' (saving name image) pl (Puts s out out') × StandStill p s a f out out')
-        → (r ≡ Ok Refused → SaysTooLong p s a f out out' (saving name image) pl (Puts s out out') × StandStill p s a f out out')
-        → SaysOfSave p s a f out out' (saving name image) (Some pl)
+        → (r ≡ Ok Done → SaysImage p s (at a out) (at f out') (saving name image) pl (Puts s out out') × StandStill p s (at a out) (at f out'))
+        → (r ≡ Ok Refused → SaysTooLong p s (at a out) (at f out') (saving name image) pl (Puts s out out') × StandStill p s (at a out) (at f out'))
+        → SaysOfSave p s (at a out) (at f out') (saving name image) (Some pl)
         → (r ≡ Err stop.WriteFault → Rose (p.write_faults a) (p.write_faults f) ⊎ Rose (s.faults out) (s.faults out'))
-        → (r ≡ Err stop.WriteFault → ¬ Rose (p.write_faults a) (p.write_faults f) → CreatesImage p s a f out out' (saving name image) → SaysImage p s a f out out' (saving name image) pl (FailsToPut s out out'))
-        → SaveEnds p s a f out out' (saving name image) r
+        → (r ≡ Err stop.WriteFault → ¬ Rose (p.write_faults a) (p.write_faults f) → CreatesImage p s (at a out) (at f out') (saving name image) → SaysImage p s (at a out) (at f out') (saving name image) pl (FailsToPut s out out'))
+        → SaveEnds p s (at a out) (at f out') (saving name image) r
     ends_with r keeps ends done refused said write unsaid = record {
       planned = record { plan = Some pl; plan_is = S.plan_is; unplanned = λ e. cc; refused_plan = λ e. absurd (ends.0 e) };
       done = λ e. let d = done e in (pl, refl, d.0, d.1);
@@ -109,13 +109,13 @@ module _ {P O : Type 0} (p : PlaceSeen P) (s : SinkSeen O) (a d : P) (out mid : 
       complete = λ x w u. Told-each (p.files a) _ _ (λ files it taken. completed r (λ e. no_write (write e) w u) ends) S.told;
     }
       where
-        stand : (x : ImageEnd) → r ≡ Ok x → StandStill p s a f out out'
+        stand : (x : ImageEnd) → r ≡ Ok x → StandStill p s (at a out) (at f out')
         stand Done e = (done e).1
         stand Refused e = (refused e).1
 
     -- ---- what is said of the image
 
-    image_said : (Says More : List ℕ → Type 0) → ((line : List ℕ) → Says line → More line) → SavesImage p s d f mid out' pl cube counts image Says → SaysImage p s a f out out' (saving name image) pl More
+    image_said : (Says More : List ℕ → Type 0) → ((line : List ℕ) → Says line → More line) → SavesImage p s (at d mid) (at f out') pl (cube, counts) image Says → SaysImage p s (at a out) (at f out') (saving name image) pl More
     image_said Says More step I = record {
       opened = opens_all I.writes.keeps;
       created = I.writes.created ∙ ap (λ c. c ++ image ∷ []) S.created;
@@ -137,7 +137,7 @@ module _ {P O : Type 0} (p : PlaceSeen P) (s : SinkSeen O) (a d : P) (out mid : 
       says = step _ I.says;
     }
 
-    too_long_said : (Says More : List ℕ → Type 0) → ((line : List ℕ) → Says line → More line) → IsTooLong p s d f mid out' pl cube counts image Says → SaysTooLong p s a f out out' (saving name image) pl More
+    too_long_said : (Says More : List ℕ → Type 0) → ((line : List ℕ) → Says line → More line) → IsTooLong p s (at d mid) (at f out') pl (cube, counts) image Says → SaysTooLong p s (at a out) (at f out') (saving name image) pl More
     too_long_said Says More step T = record {
       opened = ap p.opened T.same ∙ S.opened;
       created = ap p.created T.same ∙ S.created;
@@ -158,7 +158,7 @@ module _ {P O : Type 0} (p : PlaceSeen P) (s : SinkSeen O) (a d : P) (out mid : 
         itself None = tt
         itself (Some files) = λ other apart. refl
 
-    pub saved : SavesImage p s d f mid out' pl cube counts image (Puts s mid out') → SaveEnds p s a f out out' (saving name image) (Ok Done)
+    pub saved : SavesImage p s (at d mid) (at f out') pl (cube, counts) image (Puts s mid out') → SaveEnds p s (at a out) (at f out') (saving name image) (Ok Done)
     saved I =
         let said = image_said (Puts s mid out') (Puts s out out') (puts_after s out mid out' S.silent) I in
         ends_with (Ok Done) I.writes.keeps (λ e. cc, λ e. cc, λ e. cc)
@@ -167,7 +167,7 @@ module _ {P O : Type 0} (p : PlaceSeen P) (s : SinkSeen O) (a d : P) (out mid : 
         (inr (inr (inr (image_said (Puts s mid out') (PutsOrFails s out out') (λ line x. inl (puts_after s out mid out' S.silent line x)) I))))
         (λ e. cc) (λ e. cc)
 
-    pub ended_too_long : IsTooLong p s d f mid out' pl cube counts image (Puts s mid out') → SaveEnds p s a f out out' (saving name image) (Ok Refused)
+    pub ended_too_long : IsTooLong p s (at d mid) (at f out') pl (cube, counts) image (Puts s mid out') → SaveEnds p s (at a out) (at f out') (saving name image) (Ok Refused)
     ended_too_long T =
         let said = too_long_said (Puts s mid out') (Puts s out out') (puts_after s out mid out' S.silent) T in
         ends_with (Ok Refused) (unwritten T.same) (λ e. cc, λ e. cc, λ e. cc)
@@ -176,7 +176,7 @@ module _ {P O : Type 0} (p : PlaceSeen P) (s : SinkSeen O) (a d : P) (out mid : 
         (inr (inr (inl (too_long_said (Puts s mid out') (PutsOrFails s out out') (λ line x. inl (puts_after s out mid out' S.silent line x)) T))))
         (λ e. cc) (λ e. cc)
 
-    pub ended_lacking : MayWrite p d f image → Silent s mid out' → SaveEnds p s a f out out' (saving name image) (Err stop.NoMemory)
+    pub ended_lacking : MayWrite p d f image → Silent s mid out' → SaveEnds p s (at a out) (at f out') (saving name image) (Err stop.NoMemory)
     ended_lacking keeps silent =
         ends_with (Err stop.NoMemory) keeps (λ e. cc, λ e. cc, λ e. cc) (λ e. cc) (λ e. cc) (inl (silent_after s out mid out' S.silent silent)) (λ e. cc) (λ e. cc)
 
@@ -184,11 +184,11 @@ module _ {P O : Type 0} (p : PlaceSeen P) (s : SinkSeen O) (a d : P) (out mid : 
     rose_since : Rose (p.write_faults d) (p.write_faults f) → Rose (p.write_faults a) (p.write_faults f)
     rose_since r = subst (λ (n : ℕ). Rose n (p.write_faults f)) S.write_faults r
 
-    pub ended_writing : FailsToWrite p s d f mid out' pl cube counts image → SaveEnds p s a f out out' (saving name image) (Err stop.WriteFault)
+    pub ended_writing : FailsToWrite p s (at d mid) (at f out') pl (cube, counts) image → SaveEnds p s (at a out) (at f out') (saving name image) (Err stop.WriteFault)
     ended_writing F =
         ends_with (Err stop.WriteFault) F.keeps (λ e. cc, λ e. cc, λ e. cc) (λ e. cc) (λ e. cc) (inl (silent_after s out mid out' S.silent F.silent)) (λ e. inl (rose_since F.rose)) (λ e w c. absurd (w (rose_since F.rose)))
 
-    pub ended_unsaid : IsTooLong p s d f mid out' pl cube counts image (FailsToPut s mid out') → SaveEnds p s a f out out' (saving name image) (Err stop.WriteFault)
+    pub ended_unsaid : IsTooLong p s (at d mid) (at f out') pl (cube, counts) image (FailsToPut s mid out') → SaveEnds p s (at a out) (at f out') (saving name image) (Err stop.WriteFault)
     ended_unsaid T =
         let said = too_long_said (FailsToPut s mid out') (FailsToPut s out out') (fails_after s out mid out' S.silent) T in
         ends_with (Err stop.WriteFault) (unwritten T.same) (λ e. cc, λ e. cc, λ e. cc) (λ e. cc) (λ e. cc)
@@ -196,7 +196,7 @@ module _ {P O : Type 0} (p : PlaceSeen P) (s : SinkSeen O) (a d : P) (out mid : 
         (λ e. inr said.says.faults)
         (λ e w c. absurd (not_grown (p.created a) (p.created f) image c (ap p.created T.same ∙ S.created)))
 
-    pub ended_saying : SavesImage p s d f mid out' pl cube counts image (FailsToPut s mid out') → SaveEnds p s a f out out' (saving name image) (Err stop.WriteFault)
+    pub ended_saying : SavesImage p s (at d mid) (at f out') pl (cube, counts) image (FailsToPut s mid out') → SaveEnds p s (at a out) (at f out') (saving name image) (Err stop.WriteFault)
     ended_saying I =
         let said = image_said (FailsToPut s mid out') (FailsToPut s out out') (fails_after s out mid out' S.silent) I in
         ends_with (Err stop.WriteFault) I.writes.keeps (λ e. cc, λ e. cc, λ e. cc) (λ e. cc) (λ e. cc)
@@ -205,7 +205,7 @@ module _ {P O : Type 0} (p : PlaceSeen P) (s : SinkSeen O) (a d : P) (out mid : 
         (λ e w c. said)
 
     -- by how saving the cube ended
-    pub ended_by_cube : (r : End) → SavesCube p s d f mid out' pl cube counts image r → SaveEnds p s a f out out' (saving name image) r
+    pub ended_by_cube : (r : End) → SavesCube p s (at d mid) (at f out') pl (cube, counts) image r → SaveEnds p s (at a out) (at f out') (saving name image) r
     ended_by_cube (Ok Done) it = saved it
     ended_by_cube (Ok Refused) it = ended_too_long it
     ended_by_cube (Err stop.NoMemory) it = ended_lacking it.0 it.1

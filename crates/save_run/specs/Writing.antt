@@ -13,7 +13,7 @@ use Rattle.image_run.specs.declared.end.ImageEnd.TheVariants.{Done, Refused}
 use Rattle.outer_io.specs.Faults.{Rose}
 use Rattle.outer_io.specs.Told.{Told}
 use Rattle.run_files.specs.Leaving.{KeepsOthers}
-use Rattle.run_files.specs.Outside.{FailsToPut, PlaceSeen, Puts, Silent, SinkSeen}
+use Rattle.run_files.specs.Outside.{FailsToPut, Outside, PlaceSeen, Puts, Silent, SinkSeen}
 use Rattle.run_files.specs.declared.stop.Stop.{Stop}
 use Rattle.run_files.specs.declared.stop.Stop.TheVariants.{NoMemory, PlanRefused, ReadFault, WriteFault, FeedRefused}
 use Rattle.run_report.specs.declared.counts.FeedCounts.{FeedCounts}
@@ -45,32 +45,33 @@ module _ {P : Type 0} (p : PlaceSeen P) (before after : P) (name : List ℕ) whe
   WritesFile bytes (Err ReadFault) = ⊥
   WritesFile bytes (Err FeedRefused) = ⊥
 
-module _ {P O : Type 0} (p : PlaceSeen P) (s : SinkSeen O) (place place' : P) (out out' : O) (plan : Plan) (cube : Cube) (counts : List FeedCounts) (image : List ℕ) where
+-- `taken` is the cube and what was counted of the feeds
+module _ {P O : Type 0} (p : PlaceSeen P) (s : SinkSeen O) (before after : Outside P O) (plan : Plan) (taken : Cube × List FeedCounts) (image : List ℕ) where
   -- The image of the cube was written, of which this is said
   pub record SavesImage (Says : List ℕ → Type 0) : Type 0 where
     pub bytes : List ℕ
-    pub of_cube : (h : List Point) → CubeCounts cube h → AreRecords cube.schema h → IsCubeImage cube.schema bytes h
-    pub writes : Writes p place place' image bytes
-    pub says : Says (saved_text plan counts (length bytes))
+    pub of_cube : (h : List Point) → CubeCounts taken.0 h → AreRecords taken.0.schema h → IsCubeImage taken.0.schema bytes h
+    pub writes : Writes p before.place after.place image bytes
+    pub says : Says (saved_text plan taken.1 (length bytes))
 
   -- It has too many bytes, of which this is said, and the place is as before
   pub record IsTooLong (Says : List ℕ → Type 0) : Type 0 where
-    pub long : (h : List Point) → CubeCounts cube h → HasLongCubeImage cube.schema h
-    pub same : place' ≡ place
+    pub long : (h : List Point) → CubeCounts taken.0 h → HasLongCubeImage taken.0.schema h
+    pub same : after.place ≡ before.place
     pub says : Says (image_line image_fault.TooLong)
 
   -- The file could not be written, and nothing is said
   pub record FailsToWrite : Type 0 where
-    pub keeps : MayWrite p place place' image
-    pub rose : Rose (p.write_faults place) (p.write_faults place')
-    pub silent : Silent s out out'
+    pub keeps : MayWrite p before.place after.place image
+    pub rose : Rose (p.write_faults before.place) (p.write_faults after.place)
+    pub silent : Silent s before.out after.out
 
   -- what saving a cube leaves that counts the records of feeds, by how it ends
   abbrev pub SavesCube : Result ImageEnd Stop → Type 0
-  SavesCube (Ok Done) = SavesImage (Puts s out out')
-  SavesCube (Ok Refused) = IsTooLong (Puts s out out')
-  SavesCube (Err NoMemory) = MayWrite p place place' image × Silent s out out'
-  SavesCube (Err WriteFault) = FailsToWrite ⊎ IsTooLong (FailsToPut s out out') ⊎ SavesImage (FailsToPut s out out')
+  SavesCube (Ok Done) = SavesImage (Puts s before.out after.out)
+  SavesCube (Ok Refused) = IsTooLong (Puts s before.out after.out)
+  SavesCube (Err NoMemory) = MayWrite p before.place after.place image × Silent s before.out after.out
+  SavesCube (Err WriteFault) = FailsToWrite ⊎ IsTooLong (FailsToPut s before.out after.out) ⊎ SavesImage (FailsToPut s before.out after.out)
   SavesCube (Err PlanRefused) = ⊥
   SavesCube (Err ReadFault) = ⊥
   SavesCube (Err FeedRefused) = ⊥

@@ -1,7 +1,7 @@
 //! The feeds of a plan, read into a cube.
 ghost use Rattle.std.specs.Prelude.{◌≡◌, ◌≤◌, All, length};
 ghost use Rattle.cube_feeds.specs.Taking.{IsUnread};
-ghost use Rattle.run_files.specs.Outside.{of_place};
+ghost use Rattle.run_files.specs.Outside.{of_place, of_source};
 ghost use Rattle.save_run.specs.Reading.{taken_end, ReadsFeeds};
 
 use cube_feeds::cube_of_feeds;
@@ -33,7 +33,7 @@ pub(crate) fn read_feeds<P: Place>(
 ) -> Result<(Cube, List<FeedCounts>), Stop>
     requires few { length feeds ≤ 8 }
     requires unread { All (IsUnread P.In.left P.In.faults schema.now) feeds }
-    ensures { ReadsFeeds (of_place P.Place) P.In.left P.In.faults schema.now place.old place.new feeds result }
+    ensures { ReadsFeeds (of_place P.Place) (of_source P.In.Source) schema.now place.old place.new feeds result }
 {
     let mut feeds = feeds.into_vec();
     let taken = cube_of_feeds(alloc, schema, feeds.as_mut_slice());

@@ -1,5 +1,5 @@
 //! A plan's feeds saved as an image.
-ghost use Rattle.run_files.specs.Outside.{of_place, of_sink};
+ghost use Rattle.run_files.specs.Outside.{at, of_place, of_sink};
 ghost use Rattle.save_run.specs.Ends.{SaveEnds};
 ghost use Rattle.save_run.specs.Names.{saving};
 ghost use Rattle.save_run.specs.Writing.{SavesCube};
@@ -29,7 +29,7 @@ fn save_read<P: Place, O: Sink>(
     place: &mut P,
     out: &mut O,
 ) -> Result<ImageEnd, Stop>
-    ensures { SavesCube (of_place P.Place) (of_sink O.Sink) place.old place.new out.old out.new plan.now cube.now counts.now image.now result }
+    ensures { SavesCube (of_place P.Place) (of_sink O.Sink) (at place.old out.old) (at place.new out.new) plan.now (cube.now, counts.now) image.now result }
 {
     match save_cube(alloc, cube) {
         Ok(bytes) => {
@@ -56,7 +56,7 @@ pub fn save_files<P: Place, O: Sink>(
     place: &mut P,
     out: &mut O,
 ) -> Result<ImageEnd, Stop>
-    ensures { SaveEnds (of_place P.Place) (of_sink O.Sink) place.old place.new out.old out.new (saving plan.now image.now) result }
+    ensures { SaveEnds (of_place P.Place) (of_sink O.Sink) (at place.old out.old) (at place.new out.new) (saving plan.now image.now) result }
 {
     accepted_laws();
     let plan = load_plan(alloc, plan, place, out)?;

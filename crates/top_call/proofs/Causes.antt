@@ -13,7 +13,7 @@ use Rattle.recount_run.specs.Names.{AuditNames}
 use Rattle.recount_run.specs.declared.audit.Audit.{Audit}
 use Rattle.recount_run.specs.declared.audit.Audit.TheVariants as audit
 use Rattle.run_files.specs.Counts.{CountsAt}
-use Rattle.run_files.specs.Outside.{PlaceSeen, Puts, SinkSeen}
+use Rattle.run_files.specs.Outside.{at, PlaceSeen, Puts, SinkSeen}
 use Rattle.run_files.specs.declared.stop.Stop.{Stop}
 use Rattle.run_files.specs.declared.stop.Stop.TheVariants as stop
 use Rattle.save_run.specs.Names.{SaveNames}
@@ -45,7 +45,7 @@ module _ {P O : Type 0} (p : PlaceSeen P) (s : SinkSeen O) (place place' : P) (o
   Causes status = HasCauses p s place place' out out' status
 
   -- by the cause that ended it
-  of_stop : {E : Type 0} (k : Stop) → CountsAt p s place place' out out' {E = E} (Err k) → Causes (status_of_stop k)
+  of_stop : {E : Type 0} (k : Stop) → CountsAt p s (at place out) (at place' out') {E = E} (Err k) → Causes (status_of_stop k)
   of_stop stop.NoMemory counts = record { read = λ e. cc; write = λ e. cc; unread = λ e. cc; still = λ m l r w. absurd (m refl) }
   of_stop stop.PlanRefused counts = record { read = λ e. cc; write = λ e. cc; unread = λ e. cc; still = λ m l r w. absurd (l refl) }
   of_stop stop.ReadFault counts = record { read = λ e. counts.read refl; write = λ e. cc; unread = λ e. cc; still = λ m l r w. absurd (r refl) }
@@ -53,7 +53,7 @@ module _ {P O : Type 0} (p : PlaceSeen P) (s : SinkSeen O) (place place' : P) (o
   of_stop stop.FeedRefused counts = record { read = λ e. cc; write = λ e. cc; unread = λ e. cc; still = λ m l r w. counts.refused refl }
 
   -- or as it went on to its end
-  of_end : {E : Type 0} (end : Result E Stop) (status : Status) → CountsAt p s place place' out out' end → ((x : E) → end ≡ Ok x → IsNoFault status) → ((k : Stop) → end ≡ Err k → status ≡ status_of_stop k) → Causes status
+  of_end : {E : Type 0} (end : Result E Stop) (status : Status) → CountsAt p s (at place out) (at place' out') end → ((x : E) → end ≡ Ok x → IsNoFault status) → ((k : Stop) → end ≡ Err k → status ≡ status_of_stop k) → Causes status
   of_end (Ok x) status counts fine stops = record {
     read = λ e. absurd ((fine x refl).0 e);
     write = λ e. absurd ((fine x refl).1 e);
@@ -68,7 +68,7 @@ module _ {P O : Type 0} (p : PlaceSeen P) (s : SinkSeen O) (place place' : P) (o
   pub save_causes : (status : Status) (names : SaveNames) → ImageSaveEnds p s place place' out out' status names → Causes status
   save_causes status names save = of_end save.end status save.ends.counts (λ x e. fine_image x status (save.status_is ∙ ap status_of_image e)) (λ k e. save.status_is ∙ ap status_of_image e)
 
-  load_counts : {E : Type 0} (end : Result E Stop) → HasLoadFaults p s place place' out out' end → CountsAt p s place place' out out' end
+  load_counts : {E : Type 0} (end : Result E Stop) → HasLoadFaults p s (at place out) (at place' out') end → CountsAt p s (at place out) (at place' out') end
   load_counts end faults = record {
     done = λ x e. (faults.quiet_place (λ r. cc (e, r)) (λ m. cc (e, m)), faults.write_faults, faults.quiet_sink (λ w. cc (e, w)) (λ m. cc (e, m)) (λ l. cc (e, l)));
     refused = λ e. (faults.quiet_place (λ r. cc (e, r)) (λ m. cc (e, m)), faults.write_faults, faults.quiet_sink (λ w. cc (e, w)) (λ m. cc (e, m)) (λ l. cc (e, l)));
@@ -82,7 +82,7 @@ module _ {P O : Type 0} (p : PlaceSeen P) (s : SinkSeen O) (place place' : P) (o
   load_causes status names load =
       of_end load.end status (load_counts load.end load.ends.faults) (λ x e. fine_image x status (load.status_is ∙ ap status_of_image e)) (λ k e. load.status_is ∙ ap status_of_image e)
 
-  audit_counts : (names : AuditNames) (end : Result Audit Stop) → RecountEnds p s place place' out out' names end → CountsAt p s place place' out out' end
+  audit_counts : (names : AuditNames) (end : Result Audit Stop) → RecountEnds p s place place' out out' names end → CountsAt p s (at place out) (at place' out') end
   audit_counts names end ends = record {
     done = λ x e. (unread (Ok x) e (λ r. cc r), ends.write_faults, (subst (λ r. IfOk r (SaysAudit p s place place' out out' names)) e ends.done).puts.faults);
     refused = λ e. (unread (Err stop.FeedRefused) e (λ r. cc r), ends.write_faults, (ends.silent stop.FeedRefused e (λ l. cc l) (λ w. cc w)).faults);
@@ -103,7 +103,7 @@ module _ {P O : Type 0} (p : PlaceSeen P) (s : SinkSeen O) (place place' : P) (o
   demo_causes status names demo =
       of_end demo.end status (load_counts demo.end demo.ends.faults) (λ x e. let is : status ≡ Done = demo.status_is ∙ ap status_of_end e in (λ r. cc (is, r), λ w. cc (is, w))) (λ k e. demo.status_is ∙ ap status_of_end e)
 
-  text_counts : (rows : ℕ) (end : Result (Unit {0}) Stop) → place' ≡ place → BigEnds s out out' rows end → CountsAt p s place place' out out' end
+  text_counts : (rows : ℕ) (end : Result (Unit {0}) Stop) → place' ≡ place → BigEnds s out out' rows end → CountsAt p s (at place out) (at place' out') end
   text_counts rows end same says = record {
     done = λ x e. (ap p.read_faults same, ap p.write_faults same, (subst (λ r. OnOk r (Puts s out out' (big_text rows))) e says.puts).faults);
     refused = λ e. absurd (says.ends.2 e);

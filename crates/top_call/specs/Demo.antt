@@ -10,7 +10,7 @@ use Rattle.image_run.specs.Faults.{HasLoadFaults}
 use Rattle.outer_io.specs.Faults.{Rose}
 use Rattle.outer_io.specs.Files.{Files, file_or_empty}
 use Rattle.outer_io.specs.Lines.{lines}
-use Rattle.run_files.specs.Outside.{PlaceSeen, SinkSeen}
+use Rattle.run_files.specs.Outside.{at, PlaceSeen, SinkSeen}
 use Rattle.run_files.specs.Stops.{is_lacking, IsOrLacks}
 use Rattle.run_files.specs.declared.stop.Stop.{Stop}
 use Rattle.run_files.specs.declared.stop.Stop.TheVariants.{NoMemory, PlanRefused, ReadFault, WriteFault, FeedRefused}
@@ -85,7 +85,7 @@ module _ {P O : Type 0} (p : PlaceSeen P) (s : SinkSeen O) (place place' : P) (o
     -- where the feed alone was opened, nothing was written
     pub untouched : p.opened place' ≡ p.opened place ++ names.feed ∷ [] → out' ≡ out
     -- each fault has its cause, no file is written, and the sink keeps its name
-    pub faults : HasLoadFaults p s place place' out out' end
+    pub faults : HasLoadFaults p s (at place out) (at place' out') end
 
   -- How a run of this form ends: as loading the feed and answering the script does, whose end the status is
   pub record DemoRunEnds (status : Status) (names : DemoNames) : Type 0 where

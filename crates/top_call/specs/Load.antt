@@ -6,7 +6,7 @@ use Rattle.cube_view.specs.Limits.{same_text}
 use Rattle.image_run.specs.Ends.{LoadEnds}
 use Rattle.image_run.specs.Names.{ImageNames}
 use Rattle.image_run.specs.declared.end.ImageEnd.{ImageEnd}
-use Rattle.run_files.specs.Outside.{PlaceSeen, SinkSeen}
+use Rattle.run_files.specs.Outside.{at, PlaceSeen, SinkSeen}
 use Rattle.run_files.specs.declared.stop.Stop.{Stop}
 
 -- the names of the three files, where the words are of this form
@@ -23,4 +23,4 @@ pub record ImageLoadEnds {P O : Type 0} (p : PlaceSeen P) (s : SinkSeen O) (plac
   pub end : Result ImageEnd Stop
   pub status_is : status ≡ status_of_image end
   -- and what it left
-  pub ends : LoadEnds p s place place' out out' names end
+  pub ends : LoadEnds p s (at place out) (at place' out') names end

@@ -4,7 +4,7 @@ use Rattle.top_call.specs.declared.status.Status.{Status}
 use Rattle.top_call.specs.declared.status.Status.TheVariants.{NoMemory, PlanRefused, ReadFault, WriteFault}
 use Rattle.outer_io.specs.Faults.{Rose}
 use Rattle.run_files.specs.Counts.{StandStill}
-use Rattle.run_files.specs.Outside.{PlaceSeen, SinkSeen}
+use Rattle.run_files.specs.Outside.{at, PlaceSeen, SinkSeen}
 
 -- The causes of faults with every form of words: a count that rose, where those of the causes before it did not
 pub record HasCauses {P O : Type 0} (p : PlaceSeen P) (s : SinkSeen O) (place place' : P) (out out' : O) (status : Status) : Type 0 where
@@ -15,4 +15,4 @@ pub record HasCauses {P O : Type 0} (p : PlaceSeen P) (s : SinkSeen O) (place pl
   -- and where that of reading is as before
   pub unread : status ≡ WriteFault → p.read_faults place' ≡ p.read_faults place
   -- no count rose but with want of memory, a refused plan, or one of these faults
-  pub still : status ≢ NoMemory → status ≢ PlanRefused → status ≢ ReadFault → status ≢ WriteFault → StandStill p s place place' out out'
+  pub still : status ≢ NoMemory → status ≢ PlanRefused → status ≢ ReadFault → status ≢ WriteFault → StandStill p s (at place out) (at place' out')

@@ -4,7 +4,7 @@ use Rattle.top_call.specs.Statuses.{status_of_end}
 use Rattle.top_call.specs.declared.status.Status.{Status}
 use Rattle.cube_view.specs.Limits.{same_text}
 use Rattle.plan_run.specs.Ends.{RunEnds}
-use Rattle.run_files.specs.Outside.{PlaceSeen, SinkSeen}
+use Rattle.run_files.specs.Outside.{at, PlaceSeen, SinkSeen}
 use Rattle.run_files.specs.declared.stop.Stop.{Stop}
 
 -- the name of the plan, where the words are of this form
@@ -21,4 +21,4 @@ pub record PlanRunEnds {P O : Type 0} (p : PlaceSeen P) (s : SinkSeen O) (place 
   pub end : Result (Unit {0}) Stop
   pub status_is : status ≡ status_of_end end
   -- and what it left
-  pub ends : RunEnds p s place place' out out' plan end
+  pub ends : RunEnds p s (at place out) (at place' out') plan end

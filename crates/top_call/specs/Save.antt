@@ -4,7 +4,7 @@ use Rattle.top_call.specs.Statuses.{status_of_image}
 use Rattle.top_call.specs.declared.status.Status.{Status}
 use Rattle.cube_view.specs.Limits.{same_text}
 use Rattle.image_run.specs.declared.end.ImageEnd.{ImageEnd}
-use Rattle.run_files.specs.Outside.{PlaceSeen, SinkSeen}
+use Rattle.run_files.specs.Outside.{at, PlaceSeen, SinkSeen}
 use Rattle.run_files.specs.declared.stop.Stop.{Stop}
 use Rattle.save_run.specs.Ends.{SaveEnds}
 use Rattle.save_run.specs.Names.{SaveNames, saving}
@@ -23,4 +23,4 @@ pub record ImageSaveEnds {P O : Type 0} (p : PlaceSeen P) (s : SinkSeen O) (plac
   pub end : Result ImageEnd Stop
   pub status_is : status ≡ status_of_image end
   -- and what it left
-  pub ends : SaveEnds p s place place' out out' names end
+  pub ends : SaveEnds p s (at place out) (at place' out') names end

@@ -6,6 +6,7 @@ use Rattle.crew_session.specs.Work.{HadNoTurn, done_of}
 use Rattle.cube_crew.specs.Ending.{EndsAsk, EndsFinal}
 use Rattle.cube_crew.specs.Starving.{FoundMemory}
 use Rattle.cube_crew.specs.Works.{HasLearned}
+use Rattle.live_session.specs.State.{ends_of}
 use Rattle.cube_crew.proofs.Closing.{MayClose, asks_end, finals_end, learned_last, learned_no_turn, ran_last}
 use Rattle.cube_crew.proofs.Zips.{AllZip-length, front_back}
 use Rattle.cube_crew.proofs.ending.end_sessions.Given.{Over}
@@ -68,6 +69,6 @@ returns-clause-finals g c =
     let learned = finals_learn g (goal.at.returns-clause-finals g c).After-teach-2 in
     let ran = finals_run g (goal.at.returns-clause-finals g c).After-run_sessions learned in
     let starved = c.has_starved_session-starved.result in
-    subst (AllZip (EndsFinal g.I.Source.left g.I.Source.faults g.O.Sink.held g.O.Sink.faults g.O.Sink.name g.V.CubeView.is_stat c.args.pair.0.ended starved) c.args.finals.0.items) (sym (c.close_sessions-finals.ensures.dones ∙ ap (map done_of) ran.1))
+    subst (AllZip (EndsFinal (ends_of g.I.Source g.O.Sink) g.V.CubeView.is_stat c.args.pair.0.ended starved) c.args.finals.0.items) (sym (c.close_sessions-finals.ensures.dones ∙ ap (map done_of) ran.1))
     (finals_end g.I.Source.left g.I.Source.faults g.O.Sink.held g.O.Sink.faults g.O.Sink.name g.V.CubeView.is_stat c.args.pair.0.ended starved c.args.finals.0.items c.teach-2.new.works c.run_sessions.new.works learned ran.0
     (λ enough. All-same FoundMemory c.run_sessions.new.works _ (sym ran.1 ∙ search rules) (c.has_starved_session-starved.ensures enough)))

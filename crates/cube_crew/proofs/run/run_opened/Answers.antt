@@ -10,6 +10,7 @@ use Rattle.crew_session.specs.Work.{HadNoTurn}
 use Rattle.cube_crew.specs.Ending.{EndsRun, IsRun}
 use Rattle.cube_crew.specs.Opened.{IsMail}
 use Rattle.cube_crew.specs.Works.{session_works_of, works_of}
+use Rattle.live_session.specs.State.{ends_of}
 use Rattle.mailbox.specs.Ends.{OutEnd}
 use Rattle.cube_crew.proofs.Answering.{all_works}
 use Rattle.cube_crew.proofs.Crewing.{crewed}
@@ -164,7 +165,7 @@ returns g c =
     let works = c.run_together.new.feeds.items in
     let building = c.run_together.new.later.building in
     let asks = c.run_together.new.later.asks.items in
-    let over = subst (λ l. EndsRun g.I.Source.left g.I.Source.faults g.O.Sink.held g.O.Sink.faults g.O.Sink.name g.V.CubeView.is_stat works building asks l c.end_run.result) (seated_finals g at.After-seat_sessions-finals) c.end_run.ensures in
+    let over = subst (λ l. EndsRun (ends_of g.I.Source g.O.Sink) g.V.CubeView.is_stat works building asks l c.end_run.result) (seated_finals g at.After-seat_sessions-finals) c.end_run.ensures in
     crewed g.I.Source.left g.I.Source.faults g.O.Sink.held g.O.Sink.faults g.O.Sink.name g.V.CubeView.is_stat opened.schema c.args.jobs c.transcript_laws.ensures.stays opened.draws opened.publisher.published opened.ends.items opened.mails.ins opened.mails.outs.items opened.mails.final_outs.items
     works (work_state opened.draws c.new-builder.result opened.mails.ins) building asks c.end_run.result
     (seats_at g at.After-new-builder) (have_fed g at.After-run_together (seated_feeds g at.After-seat_feeds-works)) (have_asked g at.After-run_together (seated_asks g at.After-seat_sessions-asks)) (has_built g at.After-run_together) over

@@ -28,11 +28,12 @@ returns-clause-goes g c = record {
 
 pub returns-then-asks_look-clause-steps : goal.returns-then-asks_look-clause-steps
 returns-then-asks_look-clause-steps g c =
-    subst (λ (z : Schema). TakesSteps g.V.CubeView z c.look_once.result.0.shown.points c.args.parsed.now c.args.steps.now c.look_once.new.steps) c.catch_up-viewer.ensures.same.1
+    subst (λ (z : Schema). TakesSteps g.V.CubeView c.look_once.result.0.shown_view.value z c.look_once.result.0.shown.points c.args.parsed.now c.args.steps.now c.look_once.new.steps) c.catch_up-viewer.ensures.same.1
     c.look_once.ensures.steps
 
 pub returns-clause-steps : goal.returns-clause-steps
 returns-clause-steps g c = record {
   unlooked = λ e. refl;
+  counts = λ e. absurd (false≢true (sym c.if-asks_look.false ∙ c.asks_look.ensures ∙ e));
   looked = λ e. absurd (false≢true (sym c.if-asks_look.false ∙ c.asks_look.ensures ∙ e));
 }

@@ -1,8 +1,7 @@
 use Rattle.std.proofs.Common.{◌≡◌, Err, rules, subst, sym}
 use Rattle.plan_run.proofs.Ended.{ended_by_opening, ended_by_parts}
 use Rattle.plan_run.specs.Ends.{RunEnds}
-use Rattle.plan_run.specs.Seen.{of_source}
-use Rattle.run_files.specs.Outside.{of_place, of_sink}
+use Rattle.run_files.specs.Outside.{at, of_place, of_sink, of_source}
 use Rattle.plan_run.proofs.run.run_plan.Goals as goal
 
 pub returns : goal.returns
@@ -19,5 +18,5 @@ returns-in_err-plan g c =
     let t = of_sink g.O.Sink in
     let stop = c.in_err-plan.field-0.0 in
     let is : c.from_residual.result ≡ Err stop = search rules in
-    subst (RunEnds p t c.args.place.now c.open_run.new.place c.args.out.now c.open_run.new.out c.args.name.now) (sym is)
+    subst (RunEnds p t (at c.args.place.now c.args.out.now) (at c.open_run.new.place c.open_run.new.out) c.args.name.now) (sym is)
     (ended_by_opening p t c.args.place.now c.open_run.new.place c.args.out.now c.open_run.new.out c.args.name.now stop c.in_err-plan.ensures.opens)

@@ -6,7 +6,7 @@ use Rattle.std.proofs.lemmas.List.Elements.{All-nil, All-push}
 use Rattle.outer_io.specs.declared.cutter.LineCutter.{LineCutter}
 use Rattle.run_files.proofs.HeadReads.{opens_none, opens_on, opens_residual, headed_more, all_headed, same_files}
 use Rattle.run_files.specs.Headed.{IsHeaded, OpensFeeds}
-use Rattle.run_files.specs.Outside.{file_of, of_place, of_sink}
+use Rattle.run_files.specs.Outside.{at, file_of, of_place, of_sink}
 use Rattle.run_files.specs.declared.feeds.HeadedFeed.{HeadedFeed}
 use Rattle.run_files.proofs.feeds.open_each.Goals as goal
 
@@ -31,7 +31,7 @@ loop-name-preserved g c =
     let more : take (c.loop-name.name-index + 1) c.args.names.now ≡ first ++ name ∷ [] = name_more c.args.names.now c.loop-name.name-index c.name-item.result name c.loop-name-test.true c.name-item.is c.as_str.ensures in
     let so_far = c.loop-name.invariant in
     let all = all_headed g.P.In.Source.left g.P.In.Source.faults c.args.schema.now (g.P.Place.files c.args.place.now) first c.loop-name.feeds.items so_far.1 in (
-      subst (λ (names : List (List ℕ)). OpensFeeds p s c.args.schema.now c.args.place.now c.open_feed.new.place c.args.out.now c.open_feed.new.out names None) (sym more)
+      subst (λ (names : List (List ℕ)). OpensFeeds p s c.args.schema.now (at c.args.place.now c.args.out.now) (at c.open_feed.new.place c.open_feed.new.out) names None) (sym more)
           (opens_on p s c.args.schema.now c.args.place.now c.loop-name.place c.open_feed.new.place c.args.out.now c.loop-name.out c.open_feed.new.out first name None all so_far.0 c.in_ok-feed.ensures.opens),
       subst (λ (names : List (List ℕ)). AllZip R names c.push_reserved.new.self.items) (sym more)
           (subst (λ (items : List (HeadedFeed (LineCutter g.row.P-In.Denot))). AllZip R (first ++ name ∷ []) items) (sym c.push_reserved.ensures.items)
@@ -58,4 +58,4 @@ pub returns-clause-opens : goal.returns-clause-opens
 returns-clause-opens g c =
     let p = of_place g.P.Place in
     let s = of_sink g.O.Sink in
-    subst (λ (names : List (List ℕ)). OpensFeeds p s c.args.schema.now c.args.place.now c.loop-name.place c.args.out.now c.loop-name.out names None) (take_all c.loop-name.name-index c.args.names.now c.loop-name-test.false) c.loop-name.invariant.0
+    subst (λ (names : List (List ℕ)). OpensFeeds p s c.args.schema.now (at c.args.place.now c.args.out.now) (at c.loop-name.place c.loop-name.out) names None) (take_all c.loop-name.name-index c.args.names.now c.loop-name-test.false) c.loop-name.invariant.0

@@ -6,7 +6,7 @@ use Rattle.outer_io.specs.declared.cutter.LineCutter.{LineCutter}
 use Rattle.run_files.proofs.HeadReads.{all_headed}
 use Rattle.run_files.proofs.Stages.{nothing_made}
 use Rattle.run_files.specs.Headed.{IsHeaded, OpensFeeds}
-use Rattle.run_files.specs.Outside.{file_of, of_place, of_sink}
+use Rattle.run_files.specs.Outside.{at, file_of, of_place, of_sink}
 use Rattle.run_files.specs.Scripted.{AreScriptParts}
 use Rattle.run_files.specs.declared.feeds.HeadedFeed.{HeadedFeed}
 use Rattle.run_opening.proofs.Stages.{feeds_end, files_given_back, files_residual, scripts_follow}
@@ -19,7 +19,7 @@ returns-in_err-feeds-clause-opens g c =
     let plan = c.args.plan.now in
     files_residual p s plan c.args.place.now c.open_feeds.new.place c.args.out.now c.open_feeds.new.out c.from_residual.result c.in_err-feeds.field-0.0 c.from_residual.ensures.1
     (feeds_end p s plan c.args.place.now c.open_feeds.new.place c.args.out.now c.open_feeds.new.out c.in_err-feeds.field-0.0
-    (subst (λ (names : List (List ℕ)). OpensFeeds p s plan.schema c.args.place.now c.open_feeds.new.place c.args.out.now c.open_feeds.new.out names (Some c.in_err-feeds.field-0.0)) c.as_slice.ensures c.in_err-feeds.ensures.opens))
+    (subst (λ (names : List (List ℕ)). OpensFeeds p s plan.schema (at c.args.place.now c.args.out.now) (at c.open_feeds.new.place c.open_feeds.new.out) names (Some c.in_err-feeds.field-0.0)) c.as_slice.ensures c.in_err-feeds.ensures.opens))
 
 pub returns-in-Ok-clause-opens : goal.returns-in-Ok-clause-opens
 returns-in-Ok-clause-opens g c =
@@ -29,7 +29,7 @@ returns-in-Ok-clause-opens g c =
     let files = g.P.Place.files c.args.place.now in
     let feeds = subst (λ (names : List (List ℕ)). AllZip (λ name. IsHeaded g.P.In.Source.left g.P.In.Source.faults plan.schema (file_of files name)) names c.in_ok-feeds.feeds) c.as_slice.ensures c.in_ok-feeds.ensures.feeds in
     scripts_follow p s plan c.args.place.now c.open_feeds.new.place c.open_scripts.new.place c.args.out.now c.open_feeds.new.out None
-    (subst (λ (names : List (List ℕ)). OpensFeeds p s plan.schema c.args.place.now c.open_feeds.new.place c.args.out.now c.open_feeds.new.out names None) c.as_slice.ensures c.in_ok-feeds.ensures.opens)
+    (subst (λ (names : List (List ℕ)). OpensFeeds p s plan.schema (at c.args.place.now c.args.out.now) (at c.open_feeds.new.place c.open_feeds.new.out) names None) c.as_slice.ensures c.in_ok-feeds.ensures.opens)
     (all_headed g.P.In.Source.left g.P.In.Source.faults plan.schema files plan.feeds c.in_ok-feeds.feeds feeds) c.in-Ok.ensures.opens
 
 pub returns-in-Ok-clause-feeds : goal.returns-in-Ok-clause-feeds
@@ -53,7 +53,7 @@ returns-in-Err-clause-opens g c =
     let feeds = subst (λ (names : List (List ℕ)). AllZip (λ name. IsHeaded g.P.In.Source.left g.P.In.Source.faults plan.schema (file_of files name)) names c.in_ok-feeds.feeds) c.as_slice.ensures c.in_ok-feeds.ensures.feeds in
     files_given_back p s plan c.args.place.now c.open_scripts.new.place c.give_back_feeds.new.place c.args.out.now c.open_feeds.new.out (Some c.in-Err.stop) (map F c.into_vec.result.items)
     (scripts_follow p s plan c.args.place.now c.open_feeds.new.place c.open_scripts.new.place c.args.out.now c.open_feeds.new.out (Some c.in-Err.stop)
-    (subst (λ (names : List (List ℕ)). OpensFeeds p s plan.schema c.args.place.now c.open_feeds.new.place c.args.out.now c.open_feeds.new.out names None) c.as_slice.ensures c.in_ok-feeds.ensures.opens)
+    (subst (λ (names : List (List ℕ)). OpensFeeds p s plan.schema (at c.args.place.now c.args.out.now) (at c.open_feeds.new.place c.open_feeds.new.out) names None) c.as_slice.ensures c.in_ok-feeds.ensures.opens)
     (all_headed g.P.In.Source.left g.P.In.Source.faults plan.schema files plan.feeds c.in_ok-feeds.feeds feeds) c.in-Err.ensures.opens)
     c.give_back_feeds.ensures
     (All-map (λ n. n ≡ 0) F c.into_vec.result.items (subst (λ (items : List (HeadedFeed (LineCutter g.row.P-In.Denot))). All (λ feed. F feed ≡ 0) items) (sym c.into_vec.ensures) c.in_ok-feeds.ensures.quiet))

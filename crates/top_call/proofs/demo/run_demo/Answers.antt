@@ -9,7 +9,7 @@ pub returns-in-Ok-load : goal.returns-in-Ok-load
 returns-in-Ok-load g c =
     ends_by_script (of_place g.P.Place) (of_sink g.O.Sink)
     c.args.feed.now c.args.script.now c.args.place.now c.load.new.place c.answer_file.new.place c.args.out.now c.answer_file.new.out _ c.in-Ok.ensures.schema _
-    _ c.in-Ok-load.ensures.schema c.answer_file.result c.in-Ok-load.ensures.loads c.answer_file.ensures.answers c.answer_file.ensures.faults
+    _ c.in-Ok-load.ensures.schema c.answer_file.result c.in-Ok-load.ensures.loads c.answer_file.ensures.file c.answer_file.ensures.faults
 
 pub returns : goal.returns
 returns g c =

@@ -1,7 +1,7 @@
 use Rattle.std.proofs.Common.{◌∙◌, sym, refl, arith, true, false}
 use Rattle.std.proofs.lemmas.Bool.{false≢true}
 use Rattle.live_session.specs.News.{news_of}
-use Rattle.live_session.specs.Saying.{IsShown}
+use Rattle.live_session.specs.Saying.{IsShownTo}
 use Rattle.live_session.proofs.OneTurn.{goes_unseen, if_some, keeps_on, learns_nothing, learns_on, of_err, prefix-same, shown_numbers}
 use Rattle.live_session.proofs.Refused.{refused_at_too_much, taken_at_end}
 use Rattle.live_session.proofs.RunSteps.{costs_at_end, took_nothing, took_on}
@@ -41,10 +41,10 @@ turns-preserved-in-Ok-Skipped g c =
       between =
           after_turn _ after.shown after.learned after.last after.schema c.turn-after.new.mail c.turn-after.new.self c.turn-after.result.1 c.in-Ok-Skipped.field-0 c.turns.invariant.between c.in-Ok-Skipped.is
           (not_last _ _ (rw c.in-Ok-Skipped.is at c.in-Ok-Skipped.field-0-is) skipped_not_last)
-          (shown_numbers g.V.CubeView.weight_at g.V.CubeView.seen g.V.CubeView.schema g.V.CubeView.numbers g.V.CubeView.is_stat c.turns.viewer.schema after.shown.points g.met.V.CubeView.structure)
+          (shown_numbers after g.met.V.CubeView.structure)
           turn.turned.turned turn.faults turn.viewer turn.costs.mail turn.so_far turn.finals;
-      took = took_on g.I.Source g.V.CubeView c.args.viewer.schema c.args.self.now.source c.args.steps.now c.turns.viewer.shown.points after.shown.points c.turns.self.source c.turn-after.new.self.source c.turns.steps c.turn-after.new.steps after.schema (turn.viewer.same_schema ∙ was.between.viewer.same_schema) turn.viewer.goes.seen was.took
-          (λ ended. absurd (false≢true (sym (still_going g.I.Source.left g.I.Source.faults g.O.Sink.held g.V.CubeView.is_stat c.args.mail.now.takes false (news_of c.turns.viewer.shown c.turns.viewer.learned c.turns.mail) (news_of after.shown after.learned c.turn-after.new.mail) c.args.self.now c.turns.self c.turn-after.new.self _ (shown_numbers g.V.CubeView.weight_at g.V.CubeView.seen g.V.CubeView.schema g.V.CubeView.numbers g.V.CubeView.is_stat c.turns.viewer.schema after.shown.points g.met.V.CubeView.structure) c.turns.viewer.schema c.turn-after.result.1 c.in-Ok-Skipped.field-0 (not_last _ _ (rw c.in-Ok-Skipped.is at c.in-Ok-Skipped.field-0-is) skipped_not_last) c.in-Ok-Skipped.is turn.turned.turned) ∙ ended)))
+      took = took_on g.I.Source g.V.CubeView c.args.viewer.schema c.args.self.now.source c.args.steps.now c.turns.viewer.shown.points after.shown.points c.turns.self.source c.turn-after.new.self.source c.turns.steps c.turn-after.new.steps after.shown_view.value after.schema (turn.viewer.same_schema ∙ was.between.viewer.same_schema) turn.viewer.goes.seen was.took
+          (λ ended. absurd (false≢true (sym (still_going g.I.Source.left g.I.Source.faults g.O.Sink.held g.V.CubeView.is_stat c.args.mail.now.takes false (news_of c.turns.viewer.shown c.turns.viewer.learned c.turns.mail) (news_of after.shown after.learned c.turn-after.new.mail) c.args.self.now c.turns.self c.turn-after.new.self _ (shown_numbers after g.met.V.CubeView.structure) c.turns.viewer.schema c.turn-after.result.1 c.in-Ok-Skipped.field-0 (not_last _ _ (rw c.in-Ok-Skipped.is at c.in-Ok-Skipped.field-0-is) skipped_not_last) c.in-Ok-Skipped.is turn.turned.turned) ∙ ended)))
           turn.costs.steps;
     }
 
@@ -57,10 +57,10 @@ turns-preserved g c =
       between =
           after_turn _ after.shown after.learned after.last after.schema c.turn-after.new.mail c.turn-after.new.self c.turn-after.result.1 c.in-Ok-Replied.field-0 c.turns.invariant.between c.in-Ok-Replied.is
           (not_last _ _ (rw c.in-Ok-Replied.is at c.in-Ok-Replied.field-0-is) replied_not_last)
-          (shown_numbers g.V.CubeView.weight_at g.V.CubeView.seen g.V.CubeView.schema g.V.CubeView.numbers g.V.CubeView.is_stat c.turns.viewer.schema after.shown.points g.met.V.CubeView.structure)
+          (shown_numbers after g.met.V.CubeView.structure)
           turn.turned.turned turn.faults turn.viewer turn.costs.mail turn.so_far turn.finals;
-      took = took_on g.I.Source g.V.CubeView c.args.viewer.schema c.args.self.now.source c.args.steps.now c.turns.viewer.shown.points after.shown.points c.turns.self.source c.turn-after.new.self.source c.turns.steps c.turn-after.new.steps after.schema (turn.viewer.same_schema ∙ was.between.viewer.same_schema) turn.viewer.goes.seen was.took
-          (λ ended. absurd (false≢true (sym (still_going g.I.Source.left g.I.Source.faults g.O.Sink.held g.V.CubeView.is_stat c.args.mail.now.takes false (news_of c.turns.viewer.shown c.turns.viewer.learned c.turns.mail) (news_of after.shown after.learned c.turn-after.new.mail) c.args.self.now c.turns.self c.turn-after.new.self _ (shown_numbers g.V.CubeView.weight_at g.V.CubeView.seen g.V.CubeView.schema g.V.CubeView.numbers g.V.CubeView.is_stat c.turns.viewer.schema after.shown.points g.met.V.CubeView.structure) c.turns.viewer.schema c.turn-after.result.1 c.in-Ok-Replied.field-0 (not_last _ _ (rw c.in-Ok-Replied.is at c.in-Ok-Replied.field-0-is) replied_not_last) c.in-Ok-Replied.is turn.turned.turned) ∙ ended)))
+      took = took_on g.I.Source g.V.CubeView c.args.viewer.schema c.args.self.now.source c.args.steps.now c.turns.viewer.shown.points after.shown.points c.turns.self.source c.turn-after.new.self.source c.turns.steps c.turn-after.new.steps after.shown_view.value after.schema (turn.viewer.same_schema ∙ was.between.viewer.same_schema) turn.viewer.goes.seen was.took
+          (λ ended. absurd (false≢true (sym (still_going g.I.Source.left g.I.Source.faults g.O.Sink.held g.V.CubeView.is_stat c.args.mail.now.takes false (news_of c.turns.viewer.shown c.turns.viewer.learned c.turns.mail) (news_of after.shown after.learned c.turn-after.new.mail) c.args.self.now c.turns.self c.turn-after.new.self _ (shown_numbers after g.met.V.CubeView.structure) c.turns.viewer.schema c.turn-after.result.1 c.in-Ok-Replied.field-0 (not_last _ _ (rw c.in-Ok-Replied.is at c.in-Ok-Replied.field-0-is) replied_not_last) c.in-Ok-Replied.is turn.turned.turned) ∙ ended)))
           turn.costs.steps;
     }
 
@@ -90,19 +90,19 @@ returns-in-Ok-Ended-clause-script g c =
     let after = c.turn-after.result.0 in
     let last = rw c.in-Ok-Ended.is at c.in-Ok-Ended.field-0-is in record {
       all = all_ended g.I.Source.left g.I.Source.faults g.O.Sink.held g.V.CubeView.is_stat c.args.mail.now.takes false (news_of c.turns.viewer.shown c.turns.viewer.learned c.turns.mail) (news_of after.shown after.learned c.turn-after.new.mail) c.args.self.now c.turns.self c.turn-after.new.self
-          (IsShown g.V.CubeView.weight_at g.V.CubeView.seen g.V.CubeView.schema g.V.CubeView.numbers c.turns.viewer.schema after.shown.points)
-          (shown_numbers g.V.CubeView.weight_at g.V.CubeView.seen g.V.CubeView.schema g.V.CubeView.numbers g.V.CubeView.is_stat c.turns.viewer.schema after.shown.points g.met.V.CubeView.structure)
+          (IsShownTo after)
+          (shown_numbers after g.met.V.CubeView.structure)
           c.turns.viewer.schema c.args.viewer.schema c.turn-after.result.1 c.in-Ok-Ended.field-0 was.viewer.same_schema c.in-Ok-Ended.is last was.going was.so_far turn.turned.turned;
       too_much = λ e. cc;
       refused = (
         taken_at_end g.I.Source.left g.I.Source.faults g.O.Sink.held g.V.CubeView.is_stat c.args.mail.now.takes false (news_of c.turns.viewer.shown c.turns.viewer.learned c.turns.mail) (news_of after.shown after.learned c.turn-after.new.mail) c.args.self.now c.turns.self c.turn-after.new.self
-            (IsShown g.V.CubeView.weight_at g.V.CubeView.seen g.V.CubeView.schema g.V.CubeView.numbers c.turns.viewer.schema after.shown.points)
+            (IsShownTo after)
             c.turns.viewer.schema c.args.viewer.schema c.turn-after.result.1 c.in-Ok-Ended.field-0 was.viewer.same_schema c.in-Ok-Ended.is last was.going was.so_far turn.turned.turned,
         λ e. cc,
       );
       ended = has_ended g.I.Source.left g.I.Source.faults g.O.Sink.held g.V.CubeView.is_stat c.args.mail.now.takes false (news_of c.turns.viewer.shown c.turns.viewer.learned c.turns.mail) (news_of after.shown after.learned c.turn-after.new.mail) c.args.self.now c.turns.self c.turn-after.new.self
-          (IsShown g.V.CubeView.weight_at g.V.CubeView.seen g.V.CubeView.schema g.V.CubeView.numbers c.turns.viewer.schema after.shown.points)
-          (shown_numbers g.V.CubeView.weight_at g.V.CubeView.seen g.V.CubeView.schema g.V.CubeView.numbers g.V.CubeView.is_stat c.turns.viewer.schema after.shown.points g.met.V.CubeView.structure)
+          (IsShownTo after)
+          (shown_numbers after g.met.V.CubeView.structure)
           c.turns.viewer.schema c.turn-after.result.1 c.in-Ok-Ended.field-0 c.in-Ok-Ended.is last turn.turned.turned;
     }
 

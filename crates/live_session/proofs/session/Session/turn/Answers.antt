@@ -3,7 +3,7 @@ use Rattle.cube_view.specs.declared.schema.Schema.{Schema}
 use Rattle.live_session.specs.Answered.{Answered, IsBroken}
 use Rattle.live_session.specs.Bounds.{TakesSteps}
 use Rattle.live_session.specs.News.{news_of}
-use Rattle.live_session.specs.Saying.{IsNewsOf, IsShown}
+use Rattle.live_session.specs.Saying.{IsNewsOf, IsShownTo}
 use Rattle.live_session.specs.declared.turn.Turn.{Turn}
 use Rattle.live_session.proofs.OneTurn.{end_of, faults_after, has_news, if_some, known_some, may_ask, of_fault, prefix-same, reads_of, same_fault, shown_numbers, whole_news}
 use Rattle.live_session.proofs.SoFarLaws.{done_turn, goes_final, goes_within}
@@ -25,7 +25,7 @@ returns-in-Ok-Some-clause-turned g c =
     let viewer = c.answer_line-viewer.result.0 in
     let line = c.answer_line-viewer.ensures in
     let read = c.in-Ok-Some.ensures.reads in
-    let A = IsShown g.V.CubeView.weight_at g.V.CubeView.seen g.V.CubeView.schema g.V.CubeView.numbers c.args.viewer.schema viewer.shown.points in
+    let A = IsShownTo viewer in
     let a = news_of c.args.viewer.shown c.args.viewer.learned c.args.mail.now in
     let b = news_of viewer.shown viewer.learned c.answer_line-viewer.new.mail in
     let news = has_news c.in-Ok-Some.parsed c.args.viewer.shown c.args.viewer.learned c.args.viewer.last c.args.mail.now viewer.shown viewer.learned c.answer_line-viewer.new.mail line.goes in
@@ -33,12 +33,12 @@ returns-in-Ok-Some-clause-turned g c =
     let keeps : Keeps c.args.self.now c.read_next.new.self = (c.read_next.ensures.same.0, c.read_next.ensures.same.1, c.read_next.ensures.same.2, read.lacked) in record {
       turned =
           turned_answered g.I.Source.left g.I.Source.faults g.O.Sink.held c.args.viewer.schema A a b c.finish-turn.result c.args.self.now c.read_next.new.self c.finish-turn.new.self c.in-Ok-Some.parsed reads keeps c.finish-turn.ensures.source news
-          (subst (λ (z : Schema). IfOk c.finish-turn.result (Answered g.O.Sink.held z (IsShown g.V.CubeView.weight_at g.V.CubeView.seen g.V.CubeView.schema g.V.CubeView.numbers z viewer.shown.points) a b c.read_next.new.self c.finish-turn.new.self c.in-Ok-Some.parsed)) line.same.1
+          (subst (λ (z : Schema). IfOk c.finish-turn.result (Answered g.O.Sink.held z A a b c.read_next.new.self c.finish-turn.new.self c.in-Ok-Some.parsed)) line.same.1
           (c.finish-turn.ensures.puts.answered a b news (λ look. refl, refl)));
       broken = λ e.
           let faulty = of_fault _ c.finish-turn.result _ c.finish-turn.ensures.faults.ended e in
           breaks_off g.I.Source.left g.I.Source.faults g.O.Sink.held c.args.viewer.schema A a b c.args.self.now c.read_next.new.self c.finish-turn.new.self c.in-Ok-Some.parsed reads keeps c.finish-turn.ensures.source news (faulty.1, faulty.2)
-          (subst (λ (z : Schema). IsBroken g.O.Sink.held z (IsShown g.V.CubeView.weight_at g.V.CubeView.seen g.V.CubeView.schema g.V.CubeView.numbers z viewer.shown.points) a b c.read_next.new.self c.finish-turn.new.self c.in-Ok-Some.parsed) line.same.1
+          (subst (λ (z : Schema). IsBroken g.O.Sink.held z A a b c.read_next.new.self c.finish-turn.new.self c.in-Ok-Some.parsed) line.same.1
           (c.finish-turn.ensures.puts.broken a b news (λ look. refl, refl) e));
     }
 
@@ -55,8 +55,8 @@ returns-in-Ok-Some-clause-so_far g c start taken s =
     let viewer = c.answer_line-viewer.result.0 in
     let line = c.answer_line-viewer.ensures in
     done_turn g.I.Source.left g.I.Source.faults g.O.Sink.held c.args.viewer.schema g.V.CubeView.is_stat taken false
-    (IsShown g.V.CubeView.weight_at g.V.CubeView.seen g.V.CubeView.schema g.V.CubeView.numbers c.args.viewer.schema viewer.shown.points)
-    (shown_numbers g.V.CubeView.weight_at g.V.CubeView.seen g.V.CubeView.schema g.V.CubeView.numbers g.V.CubeView.is_stat c.args.viewer.schema viewer.shown.points g.met.V.CubeView.structure)
+    (IsShownTo viewer)
+    (shown_numbers viewer g.met.V.CubeView.structure)
     (news_of c.args.viewer.shown c.args.viewer.learned c.args.mail.now) (news_of viewer.shown viewer.learned c.answer_line-viewer.new.mail) start c.args.self.now c.finish-turn.new.self {put_faults = g.O.Sink.faults}
     (goes_within c.args.viewer.schema g.V.CubeView.is_stat (news_of c.args.viewer.shown c.args.viewer.learned c.args.mail.now) (news_of viewer.shown viewer.learned c.answer_line-viewer.new.mail) line.goes.goes.seen line.goes.goes.told)
     c.finish-turn.result (ap (λ s. s.ended) (sym c.self.view_is) ∙ c.if-self.false) line.goes.mail.rises s
@@ -93,25 +93,25 @@ returns-in-Ok-Some-clause-finals g c =
     let z = c.args.viewer.schema in
     let p = c.in-Ok-Some.parsed in
     let line = c.answer_line-viewer.ensures in
-    let A = IsShown g.V.CubeView.weight_at g.V.CubeView.seen g.V.CubeView.schema g.V.CubeView.numbers z viewer.shown.points in
+    let A = IsShownTo viewer in
     let a = news_of w w c.args.mail.now in
     let b = news_of w w c.answer_line-viewer.new.mail in
     let news = whole_news p w c.args.mail.now c.answer_line-viewer.new.mail line.goes.mail.asked in
     let reads = reads_of g.I.Source.left g.I.Source.faults g.O.Sink.held z c.schema.result.now c.args.self.now c.read_next.new.self c.in-Ok-Some.field-0 p c.schema.ensures c.in-Ok-Some.field-0-is c.in-Ok-Some.ensures.reads.asked in
     let is : IsNewsOf viewer.shown viewer.learned p b = (λ look. known_some _ c.args.viewer.last w last (line.goes.look look).1, (known_some _ viewer.last w (line.same.0 ∙ last) viewer.within).1) in
     done_turn g.I.Source.left g.I.Source.faults g.O.Sink.held z g.V.CubeView.is_stat taken true A
-    (shown_numbers g.V.CubeView.weight_at g.V.CubeView.seen g.V.CubeView.schema g.V.CubeView.numbers g.V.CubeView.is_stat z viewer.shown.points g.met.V.CubeView.structure)
+    (shown_numbers viewer g.met.V.CubeView.structure)
     a b start c.args.self.now c.finish-turn.new.self {put_faults = g.O.Sink.faults} (goes_final z g.V.CubeView.is_stat w c.args.mail.now c.answer_line-viewer.new.mail)
     c.finish-turn.result (ap (λ s. s.ended) (sym c.self.view_is) ∙ c.if-self.false) line.goes.mail.rises s
     (turned_answered g.I.Source.left g.I.Source.faults g.O.Sink.held z A a b c.finish-turn.result c.args.self.now c.read_next.new.self c.finish-turn.new.self p reads
     (c.read_next.ensures.same.0, c.read_next.ensures.same.1, c.read_next.ensures.same.2, c.in-Ok-Some.ensures.reads.lacked) c.finish-turn.ensures.source news
-    (subst (λ (y : Schema). IfOk c.finish-turn.result (Answered g.O.Sink.held y (IsShown g.V.CubeView.weight_at g.V.CubeView.seen g.V.CubeView.schema g.V.CubeView.numbers y viewer.shown.points) a b c.read_next.new.self c.finish-turn.new.self p)) line.same.1
+    (subst (λ (y : Schema). IfOk c.finish-turn.result (Answered g.O.Sink.held y A a b c.read_next.new.self c.finish-turn.new.self p)) line.same.1
     (c.finish-turn.ensures.puts.answered a b news is)))
     (λ e.
     let faulty = of_fault _ c.finish-turn.result _ c.finish-turn.ensures.faults.ended e in
     breaks_off g.I.Source.left g.I.Source.faults g.O.Sink.held z A a b c.args.self.now c.read_next.new.self c.finish-turn.new.self p reads
     (c.read_next.ensures.same.0, c.read_next.ensures.same.1, c.read_next.ensures.same.2, c.in-Ok-Some.ensures.reads.lacked) c.finish-turn.ensures.source news (faulty.1, faulty.2)
-    (subst (λ (y : Schema). IsBroken g.O.Sink.held y (IsShown g.V.CubeView.weight_at g.V.CubeView.seen g.V.CubeView.schema g.V.CubeView.numbers y viewer.shown.points) a b c.read_next.new.self c.finish-turn.new.self p) line.same.1
+    (subst (λ (y : Schema). IsBroken g.O.Sink.held y A a b c.read_next.new.self c.finish-turn.new.self p) line.same.1
     (c.finish-turn.ensures.puts.broken a b news is e)))
     (returns-in-Ok-Some-clause-faults g c).0)
 
@@ -136,6 +136,6 @@ returns-in-Ok-Some-clause-costs g c =
       steps = inr (
         reads.0,
         subst (λ s. Passes g.I.Source.left g.I.Source.faults c.args.self.now.source s (reads.0 ∷ [])) (sym c.finish-turn.ensures.source) reads.1.passed,
-        subst (λ (z : Schema). TakesSteps g.V.CubeView z viewer.shown.points (line_meaning z reads.0) c.args.steps.now c.answer_line-viewer.new.steps) (sym line.same.1) (subst (λ (m : Parsed). TakesSteps g.V.CubeView c.args.viewer.schema viewer.shown.points m c.args.steps.now c.answer_line-viewer.new.steps) reads.2 line.steps),
+        subst (λ (z : Schema). TakesSteps g.V.CubeView viewer.shown_view.value z viewer.shown.points (line_meaning z reads.0) c.args.steps.now c.answer_line-viewer.new.steps) (sym line.same.1) (subst (λ (m : Parsed). TakesSteps g.V.CubeView viewer.shown_view.value c.args.viewer.schema viewer.shown.points m c.args.steps.now c.answer_line-viewer.new.steps) reads.2 line.steps),
       );
     }
