@@ -1,5 +1,5 @@
 -- What a pair keeps.
-use Rattle.std.specs.Prelude.{◌≡◌, ℕ, Bool, if◌then◌else◌, ◌+◌, ◌&&◌, nat_le, List, ◌++◌, length, fold, Option, Some, None, IfSome}
+use Rattle.std.specs.Prelude.{◌≡◌, ℕ, Bool, if◌then◌else◌, ◌+◌, ◌&&◌, nat_le, List, ◌++◌, length, drop, fold, Option, Some, None, IfSome}
 use Rattle.std.specs.List.{list_all}
 use mathlib.Core.Option.{some}
 use lib.ListN.{get_elem?}
@@ -57,17 +57,17 @@ pub record Sees (v : Option Names) (h : List Point) (f : Known) (z : Schema) (w 
   -- from now on it has seen the copy's list
   pub after : w ≡ Some (names f.book z h)
 
--- once a copy that stands at s has taken in what was sent, it counts the noted list, and stands at it
-abbrev pub Pends : Standing → List Sent → Schema → Known → Type 0
-Pends s sent z noted = fold absorbed s sent ≡ standing noted.points noted z
+-- once a copy that stands at the published list has taken in the log from behind on, it counts the noted list, and stands at it
+abbrev pub Pends : ℕ → List Sent → Schema → Known → Known → Type 0
+Pends behind log z published noted = fold absorbed (standing published.points published z) (drop behind log) ≡ standing noted.points noted z
 
 -- What a publisher has sent to its copies before it shows it: s is what the copy that is shown stands at, and viewers are to
 -- be shown the noted list in place of the published one
-pub record HasSent (s : Standing) (sent : List Sent) (z : Schema) (published noted : Known) : Type 0 where
+pub record HasSent (s : Standing) (behind : ℕ) (log : List Sent) (z : Schema) (published noted : Known) : Type 0 where
   -- the copy that is shown counts the published list, and stands at it
   pub shown : s ≡ standing published.points published z
   -- once it has taken in what was sent, it counts the noted list, and stands at it
-  pub pends : Pends s sent z noted
+  pub pends : Pends behind log z published noted
   -- both lists are of one pair
   pub book : noted.book ≡ published.book
   -- what viewers are shown is a prefix of what is noted

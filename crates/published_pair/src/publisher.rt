@@ -85,7 +85,7 @@ pub(crate) fn show<V: Grow, R: Wait>(
     published: &Front,
     noted: &Front,
 ) -> (PairWriter<V>, Result<(), NoMemory>)
-    requires { HasSent (⟦<Stand<V> as Absorb<Sent>>⟧.state writer.desk.shown.value) (drop writer.behind writer.log.items) schema.now published.now noted.now }
+    requires { HasSent (⟦<Stand<V> as Absorb<Sent>>⟧.state writer.desk.shown.value) writer.behind writer.log.items schema.now published.now noted.now }
     ensures shown { OnOk result.1 (⟦<Stand<V> as Absorb<Sent>>⟧.state result.0.desk.shown.value ≡ standing noted.now.points noted.now schema.now) }
     ensures pends { OnOk result.1 (drop result.0.behind result.0.log.items ≡ []) }
     ensures named { OnOk result.1 (view result.0.desk.place ≡ Some (names noted.now.book schema.now noted.now.points)) }
@@ -119,7 +119,7 @@ impl<V: Grow> PublisherOf<Of<V>> {
     // Sends the copies all that was appended since, as one operation, notes it as published, and sends them the list that
     // they then stand at.
     pub(crate) fn note<R: Wait>(&mut self, rt: &R) -> Result<(), NoMemory>
-        ensures sent { OnOk result (let w = self.new.writer in Pends (⟦<Stand<V> as Absorb<Sent>>⟧.state w.desk.shown.value) (drop w.behind w.log.items) self.new.schema self.new.noted) }
+        ensures sent { OnOk result (let w = self.new.writer in Pends w.behind w.log.items self.new.schema self.new.published self.new.noted) }
         ensures noted { OnOk result (self.new.noted.points ≡ self.new.appended.items) }
         ensures within { IsPrefix self.new.published.points self.new.noted.points }
         ensures book { self.new.noted.book ≡ self.new.published.book }
@@ -160,9 +160,9 @@ impl<V: Grow> PublisherOf<Of<V>> {
         let outcome = replace_with(
             &mut self.writer,
             rt,
-            |writer, rt|
-                requires { let x = writer.desk.shown.value in HasSent (standing x.history.items x.front (V.schema x.view)) (drop writer.behind writer.log.items) schema.now published.now noted.now }
-            { show(rt, writer, schema, published, noted) },
+            |w, rt|
+                requires { let x = w.desk.shown.value in HasSent (standing x.history.items x.front (V.schema x.view)) w.behind w.log.items schema.now published.now noted.now }
+            { show(rt, w, schema, published, noted) },
         );
         outcome?;
         self.looks.count_publication();

@@ -1,14 +1,14 @@
-use Rattle.std.proofs.Common.{List, sym, ap, ◌∙◌, Some, subst}
+use Rattle.std.proofs.Common.{List, sym, ap, ◌∙◌, Some, subst, drop, fold}
 use Rattle.cube_view.specs.Points.{Point}
 use Rattle.world_core.specs.PairFact.{IsPrefix}
-use Rattle.published_pair.specs.Pair.{names}
+use Rattle.published_pair.specs.Pair.{absorbed, names}
 use Rattle.published_pair.proofs.Turning as turning
 use Rattle.published_pair.proofs.publisher.show.Goals as goal
 
 pub publish_as-after-requires : goal.publish_as-after-requires
 publish_as-after-requires g c next is views kept at =
     let x = c.args.writer.desk.shown.value in
-    let s = is ∙ c.requires.pends in
+    let s = is ∙ ap (λ t. fold absorbed t (drop c.args.writer.behind c.args.writer.log.items)) c.requires.shown ∙ c.requires.pends in
     let book = ap (λ t. t.front.book) s ∙ c.requires.book ∙ sym (ap (λ t. t.front.book) c.requires.shown) in
     let schema = ap (λ t. t.schema) s ∙ sym (ap (λ t. t.schema) c.requires.shown) in
     let told = ap (λ t. t.points) s ∙ sym (ap (λ t. t.front.points) s) in

@@ -39,11 +39,10 @@ invariant_of-self-2-clause-within g c =
 pub returns-clause-sent : goal.returns-clause-sent
 returns-clause-sent g c =
     let x = c.args.self.now in
-    let desk = ap (λ d. standing d.shown.value.history.items d.shown.value.front (g.V.CubeView.schema d.shown.value.view)) (c.append-2.ensures.desk ∙ c.append.ensures.desk) in
     let batch = c.with_all-batch.ensures ∙ ap₂ (λ (a b : List Point). a ++ b) c.new.ensures c.as_slice.ensures in
     elim c.match-append-2.branch [
       | in-Ok-append v ↦ rw v.result-is
-          (sent_whole c.append-2.result _ _ _ _ _ c.replace-points.result x.since x.noted.points x.appended.items c.again.result x.schema desk c.replace-points.ensures.value x.joined x.few x.sound x.pends x.goes_by c.in-Ok.ensures.pending v.in-Ok-append.ensures.pending
+          (sent_whole c.append-2.result _ _ _ _ _ c.replace-points.result x.since x.noted.points x.appended.items c.again.result x.schema (sym x.shown) c.replace-points.ensures.value x.joined x.few x.sound x.pends x.goes_by c.in-Ok.ensures.pending v.in-Ok-append.ensures.pending
           ∙ ap₂ (λ (l : List Point) (k : Known). standing l k x.schema) (x.joined ∙ ap (λ (l : List Point). x.noted.points ++ l) (sym batch) ∙ sym (ap (λ (k : Known). k.points) c.add.ensures)) c.again.ensures)
       | in-Err v ↦ rw v.result-is tt
     ]
