@@ -6,12 +6,12 @@ use Rattle.std.proofs.lemmas.Bool.{and_parts, false≢true}
 use Rattle.std.proofs.lemmas.List.{append-nil}
 use Rattle.std.proofs.Math.Seq.{take-length}
 use Rattle.crew_session.specs.declared.done.SessionDone.{SessionDone}
-use Rattle.cube_crew.specs.Crewed.{LeavesTranscript}
+use Rattle.cube_crew.specs.Crewed.{LeavesTranscript, closing}
 use Rattle.cube_view.specs.Points.{Point}
 use Rattle.cube_view.specs.declared.schema.Schema.{Schema}
 use Rattle.cube_view.specs.declared.stat.Stat.{Stat}
 use Rattle.live_session.specs.News.{News}
-use Rattle.live_session.specs.SoFar.{AnswersAll, HasAnswered, HasDone}
+use Rattle.live_session.specs.SoFar.{AnswersAll, HasAnswered, HasDone, moment}
 use Rattle.live_session.specs.State.{SessionState}
 use Rattle.outer_io.specs.Faults.{HasCause}
 use Rattle.outer_io.specs.Lines.{lines}
@@ -32,7 +32,7 @@ use Rattle.session_core.specs.declared.fault.SessionFault.TheVariants as fault
 use Rattle.big_run.proofs.Asking.{asks_table, final_asks_tables}
 use Rattle.big_run.specs.BuiltIn.{big_schema, final_script}
 use Rattle.big_run.specs.Parts.{script_session}
-use Rattle.big_run.specs.Sources.{left_in, no_faults, still_faults, still_held, still_name}
+use Rattle.big_run.specs.Sources.{left_in, no_faults, still_ends, still_faults, still_held, still_name}
 use Rattle.big_run.specs.Text.{final_asked, final_replies, no_stat}
 use Rattle.big_run.specs.declared.source.RunSource.{RunSource}
 
@@ -105,10 +105,10 @@ pub no_more : {A : Type 0} (xs ys later : List A) → xs ≡ ys ++ later → len
 no_more xs ys [] is same = is ∙ append-nil ys
 no_more xs ys (x ∷ later) is same = absurd (omega (arith, ap length is, length-append ys (x ∷ later)))
 
-module _ (held : StillOutput → Option (List ℕ)) (is_stat : Stat → Type 0) (news : News) (before after : SessionState RunSource StillOutput) where
+module _ (is_stat : Stat → Type 0) (news : News) (before after : SessionState RunSource StillOutput) where
   -- a session that ended for no want of memory, and with no fault of its parts, has come to the end of its script
   came_to_end : (end : Result (Unit {0}) SessionFault) → HasCause 0 0 end fault.Read → HasCause 0 0 end fault.Write → (IsErrOf end fault.TooMuch → IsTooLarge left_in before.source → ⊥) → (IsErrOf end fault.TooMuch → IsTooLarge left_in before.source) → end ≢ Err fault.NoMemory
-      → HasDone left_in no_faults held big_schema is_stat true 0 news before after end → OnOk end (AnswersAll left_in big_schema before after) → HasAnswered left_in no_faults held big_schema is_stat true 0 news before after × AnswersAll left_in big_schema before after
+      → HasDone still_ends big_schema is_stat true 0 before (moment news after) end → OnOk end (AnswersAll left_in big_schema before after) → HasAnswered still_ends big_schema is_stat true 0 before (moment news after) × AnswersAll left_in big_schema before after
   came_to_end (Ok x) read write small large found done all = (done, all)
   came_to_end (Err fault.Read) read write small large found done all = absurd (omega (arith, (read.rose refl).1))
   came_to_end (Err fault.Write) read write small large found done all = absurd (omega (arith, (write.rose refl).1))
@@ -117,15 +117,15 @@ module _ (held : StillOutput → Option (List ℕ)) (is_stat : Stat → Type 0) 
 
 -- the session over the final script has put the tables over all points
 pub final_put : (is_stat : Stat → Type 0) (starved : Bool) (journal h : List Point) (done : SessionDone RunSource StillOutput) → SameTables journal h → starved ≡ false
-    → LeavesTranscript left_in no_faults still_held still_faults still_name is_stat big_schema true true starved journal (script_session final_script) done → done.sink.held ≡ replies_text (final_replies h)
+    → LeavesTranscript still_ends is_stat big_schema true (closing true starved journal) (script_session final_script) done → done.sink.held ≡ replies_text (final_replies h)
 unfolding final_replies final_asked
 final_put is_stat starved journal h done same found leaves =
     let before = script_session final_script in
     let news : News = record { shown = journal; told = journal; takes = done.mail.takes } in
-    let over : HasDone left_in no_faults still_held big_schema is_stat true 0 news before leaves.after leaves.end =
-    subst (λ (l : List Point). HasDone left_in no_faults still_held big_schema is_stat true 0 (record { shown = l; told = l; takes = done.mail.takes }) before leaves.after leaves.end) (leaves.whole refl) leaves.replied in
+    let over : HasDone still_ends big_schema is_stat true 0 before (moment news leaves.after) leaves.end =
+    subst (λ (l : List Point). HasDone still_ends big_schema is_stat true 0 before (moment (record { shown = l; told = l; takes = done.mail.takes }) leaves.after) leaves.end) (leaves.whole refl) leaves.replied in
     let well = leaves.found found in
-    let ended = came_to_end still_held is_stat news before leaves.after leaves.end leaves.read leaves.write (λ much large. absurd (omega (arith, large))) (λ much. (leaves.too_much much).1) well.1 over (leaves.all refl) in
+    let ended = came_to_end is_stat news before leaves.after leaves.end leaves.read leaves.write (λ much large. absurd (omega (arith, large))) (λ much. (leaves.too_much much).1) well.1 over (leaves.all refl) in
     let answered = ended.0 in
     let transcript = subst (λ (lacks : Bool). AllAnswered big_schema is_stat true journal (length journal) lacks (asked big_schema answered.lines) answered.replies) well.0 answered.transcript.each in
     let count : length answered.replies ≡ length (asked big_schema answered.lines) = answered-length big_schema is_stat journal (length journal) (asked big_schema answered.lines) answered.replies transcript in

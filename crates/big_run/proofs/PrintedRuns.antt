@@ -5,7 +5,7 @@ use Rattle.std.specs.List.{AllZip}
 use Rattle.std.proofs.lemmas.List.{append-nil}
 use Rattle.crew_feeder.specs.declared.job.FeedDone.{FeedDone}
 use Rattle.crew_session.specs.declared.done.SessionDone.{SessionDone}
-use Rattle.cube_crew.specs.Crewed.{FeedsLeave, IsCrewed, LeavesTranscript, answered_over}
+use Rattle.cube_crew.specs.Crewed.{FeedsLeave, IsCrewed, LeavesTranscript, answered_over, closing, closing_of}
 use Rattle.cube_crew.specs.declared.jobs.Crewed.{Crewed}
 use Rattle.cube_crew.specs.declared.jobs.Jobs.{Jobs}
 use Rattle.cube_view.specs.Points.{Point}
@@ -20,7 +20,7 @@ use Rattle.big_run.proofs.Feeding.{FeedsEach, counts_line-given, sent-given, two
 use Rattle.big_run.specs.BuiltIn.{ask_script, big_schema, final_script}
 use Rattle.big_run.specs.Parts.{HasJobs, script_session}
 use Rattle.big_run.specs.Printed.{CameBackWhole, printed, printed_parts}
-use Rattle.big_run.specs.Sources.{left_in, no_faults, still_faults, still_held, still_name}
+use Rattle.big_run.specs.Sources.{left_in, no_faults, still_ends, still_faults, still_held, still_name}
 use Rattle.big_run.specs.Text.{big_points, big_text}
 use Rattle.big_run.specs.declared.source.RunSource.{RunSource}
 
@@ -34,15 +34,15 @@ one_zip R x (y ∷ z ∷ ys) all = absurd all.1
 joined_two : (first second : List Point) → lists_joined 2 (list_of (first ∷ second ∷ [])) ≡ first ++ second
 joined_two first second = ap (λ (rest : List Point). first ++ rest) (append-nil second)
 
-module _ (is_stat : Stat → Type 0) (count : ℕ) (jobs : Jobs RunSource StillOutput) (c : Crewed RunSource StillOutput) (has : HasJobs count jobs) (crewed : IsCrewed left_in no_faults still_held still_faults still_name is_stat big_schema jobs c) where
+module _ (is_stat : Stat → Type 0) (count : ℕ) (jobs : Jobs RunSource StillOutput) (c : Crewed RunSource StillOutput) (has : HasJobs count jobs) (crewed : IsCrewed still_ends is_stat big_schema jobs c) where
   feeds_each : FeedsEach has.feeds.first has.feeds.second crewed.sent c.feeds
   feeds_each = two_feeds has.feeds.first has.feeds.second crewed.sent c.feeds (subst (λ feeds. FeedsLeave left_in no_faults feeds crewed.sent c.feeds) has.feeds.both crewed.feeds)
 
-  ask_done : (done : SessionDone RunSource StillOutput) × (c.asks ≡ done ∷ []) × LeavesTranscript left_in no_faults still_held still_faults still_name is_stat big_schema false c.closed c.starved (answered_over c.closed c.journal c.drawn) (script_session ask_script) done
-  ask_done = one_zip (LeavesTranscript left_in no_faults still_held still_faults still_name is_stat big_schema false c.closed c.starved (answered_over c.closed c.journal c.drawn)) (script_session ask_script) c.asks (subst (λ sessions. AllZip (LeavesTranscript left_in no_faults still_held still_faults still_name is_stat big_schema false c.closed c.starved (answered_over c.closed c.journal c.drawn)) sessions c.asks) has.asks crewed.asks)
+  ask_done : (done : SessionDone RunSource StillOutput) × (c.asks ≡ done ∷ []) × LeavesTranscript still_ends is_stat big_schema false (closing_of c) (script_session ask_script) done
+  ask_done = one_zip (LeavesTranscript still_ends is_stat big_schema false (closing_of c)) (script_session ask_script) c.asks (subst (λ sessions. AllZip (LeavesTranscript still_ends is_stat big_schema false (closing_of c)) sessions c.asks) has.asks crewed.asks)
 
-  final_done : (done : SessionDone RunSource StillOutput) × (c.finals ≡ done ∷ []) × LeavesTranscript left_in no_faults still_held still_faults still_name is_stat big_schema true c.closed c.starved (answered_over c.closed c.journal c.drawn) (script_session final_script) done
-  final_done = one_zip (LeavesTranscript left_in no_faults still_held still_faults still_name is_stat big_schema true c.closed c.starved (answered_over c.closed c.journal c.drawn)) (script_session final_script) c.finals (subst (λ sessions. AllZip (LeavesTranscript left_in no_faults still_held still_faults still_name is_stat big_schema true c.closed c.starved (answered_over c.closed c.journal c.drawn)) sessions c.finals) has.finals crewed.finals)
+  final_done : (done : SessionDone RunSource StillOutput) × (c.finals ≡ done ∷ []) × LeavesTranscript still_ends is_stat big_schema true (closing_of c) (script_session final_script) done
+  final_done = one_zip (LeavesTranscript still_ends is_stat big_schema true (closing_of c)) (script_session final_script) c.finals (subst (λ sessions. AllZip (LeavesTranscript still_ends is_stat big_schema true (closing_of c)) sessions c.finals) has.finals crewed.finals)
 
   -- two feeds, an ask and a final came back
   pub came_back : CameBackWhole c
@@ -71,7 +71,7 @@ module _ (is_stat : Stat → Type 0) (count : ℕ) (jobs : Jobs RunSource StillO
       let line = counts_line-given (codes "gen1") 1 count has.feeds.first each.sent each.done has.feeds.first_is each.first_leaves first_found in
       let line_too = counts_line-given (codes "gen2") 2 count has.feeds.second each.sent_too each.done_too has.feeds.second_is each.second_leaves second_found in
       let last = final_done in
-      let leaves = subst (λ (closed : Bool). LeavesTranscript left_in no_faults still_held still_faults still_name is_stat big_schema true closed c.starved (answered_over closed c.journal c.drawn) (script_session final_script) last.0) all.closed last.2 in
+      let leaves = subst (λ (closed : Bool). LeavesTranscript still_ends is_stat big_schema true (closing closed c.starved (answered_over closed c.journal c.drawn)) (script_session final_script) last.0) all.closed last.2 in
       let replies = final_put is_stat c.starved (entry_points c.journal) (each.sent ++ each.sent_too) last.0 (same_tables interleave found) found leaves in
       ap (λ feeds. printed_parts feeds c.finals) each.dones_are
       ∙ ap (printed_parts (each.done ∷ each.done_too ∷ [])) last.1

@@ -1,5 +1,6 @@
 -- A source of two kinds, and a sink that keeps what is put, as contracts see them.
 use Rattle.std.specs.Prelude.{ℕ, List, Option, Some}
+use Rattle.live_session.specs.State.{SessionEnds}
 use Rattle.outer_io.specs.Memory.{StillOutput}
 use Rattle.big_run.specs.declared.source.RunSource.{RunSource}
 use Rattle.big_run.specs.declared.source.RunSource.TheVariants.{Made, Held}
@@ -24,3 +25,7 @@ still_faults sink = 0
 -- its name
 abbrev pub still_name : StillOutput → List ℕ
 still_name sink = sink.name
+
+-- these as what contracts see of a session's ends
+abbrev pub still_ends : SessionEnds RunSource StillOutput
+still_ends = record { left = left_in; faults = no_faults; held = still_held; put_faults = still_faults; name = still_name }

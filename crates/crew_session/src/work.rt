@@ -2,6 +2,7 @@
 ghost use Rattle.std.specs.Prelude.{◌≡◌, Some, Ok};
 ghost use Rattle.crew_session.specs.Leaves.{LeavesSession};
 ghost use Rattle.crew_session.specs.Work.{HadNoTurn, done_of, has_starved, last_number};
+ghost use Rattle.live_session.specs.State.{ends_of};
 ghost use Rattle.probe_core.specs.Blanks.{IsBlankOf};
 ghost use Rattle.world_core.specs.PairFact.{IsPrefix};
 
@@ -47,7 +48,7 @@ fn run_in<V: Grow, I: Source, O: Sink, R: Wait, L: Ledger>(
 ) -> SessionWork<V, I, O>
     requires no_turn { HadNoTurn work.session }
     requires blank { IsBlankOf L.name L.parts blank }
-    ensures { LeavesSession I.left I.faults O.held O.faults O.name V.is_stat work result }
+    ensures { LeavesSession (ends_of I.Source O.Sink) V.is_stat work result }
 {
     let SessionWork {
         mut session,
@@ -72,7 +73,7 @@ fn run_uncounted<V: Grow, I: Source, O: Sink, R: Wait>(
     work: SessionWork<V, I, O>,
 ) -> SessionWork<V, I, O>
     requires { HadNoTurn work.session }
-    ensures { LeavesSession I.left I.faults O.held O.faults O.name V.is_stat work result }
+    ensures { LeavesSession (ends_of I.Source O.Sink) V.is_stat work result }
 {
     run_in::<V, I, O, R, Brand>(rt, alloc, work, Blank::new(1))
 }
@@ -108,14 +109,14 @@ impl<V: Grow, I: Source, O: Sink> SessionWork<V, I, O> {
     /// Runs the session to its end, in this thread.
     pub fn run<R: Wait>(&mut self, rt: &R, alloc: Global)
         requires { HadNoTurn self.old.session }
-        ensures { LeavesSession I.left I.faults O.held O.faults O.name V.is_stat self.old self.new }
+        ensures { LeavesSession (ends_of I.Source O.Sink) V.is_stat self.old self.new }
     {
         replace_with(
             self,
             (),
             |work: SessionWork<V, I, O>, _: ()|
                 requires { HadNoTurn work.session }
-                ensures { LeavesSession I.left I.faults O.held O.faults O.name V.is_stat work result.0 }
+                ensures { LeavesSession (ends_of I.Source O.Sink) V.is_stat work result.0 }
             { (run_uncounted(rt, alloc, work), ()) },
         );
     }

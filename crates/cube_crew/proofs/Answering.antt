@@ -6,7 +6,7 @@ use Rattle.std.proofs.lemmas.List.Elements.{All-cons, All-head, All-nil, All-tai
 use Rattle.crew_session.specs.Leaves.{LeavesSession}
 use Rattle.crew_session.specs.Work.{HadNoTurn, WorkState, done_of, has_starved, is_starved_end}
 use Rattle.crew_session.specs.declared.done.SessionDone.{SessionDone}
-use Rattle.cube_crew.specs.Crewed.{LeavesTranscript}
+use Rattle.cube_crew.specs.Crewed.{LeavesTranscript, closing}
 use Rattle.cube_crew.specs.Ending.{EndsAsk, EndsFinal, IsWithin}
 use Rattle.cube_crew.specs.Starving.{FoundMemory}
 use Rattle.cube_crew.specs.Works.{new_session_work, session_works_of}
@@ -14,7 +14,7 @@ use Rattle.cube_view.specs.Points.{Point}
 use Rattle.cube_view.specs.declared.schema.Schema.{Schema}
 use Rattle.cube_view.specs.declared.stat.Stat.{Stat}
 use Rattle.live_session.specs.News.{News, news_of}
-use Rattle.live_session.specs.SoFar.{AsksFirst, HasAnswered, HasBroken, HasDone}
+use Rattle.live_session.specs.SoFar.{AsksFirst, HasAnswered, HasBroken, HasDone, moment}
 use Rattle.live_session.specs.State.{SessionEnds, SessionState}
 use Rattle.live_session.specs.TranscriptLaws.{StaysTranscript}
 use Rattle.mailbox.specs.Ends.{OutEnd}
@@ -47,14 +47,10 @@ all_of {xs = xs} is = sym is ∙ sym (append-nil xs)
 prefix_length : {A : Type 0} (xs ys : List A) → IsPrefix xs ys → length xs ≤ length ys
 prefix_length xs ys (more, is) = omega (arith, ap length is, length-append xs more)
 
-module _ {I O : Type 0} (left : I → Option (List ℕ)) (faults : I → ℕ) (held : O → Option (List ℕ)) (put_faults : O → ℕ) (name : O → List ℕ) (is_stat : Stat → Type 0) (schema : Schema) where
-  -- the same as one record
-  abbrev these : SessionEnds I O
-  these = record { left = left; faults = faults; held = held; put_faults = put_faults; name = name }
-
+module _ {I O : Type 0} (these : SessionEnds I O) (is_stat : Stat → Type 0) (schema : Schema) where
   module _ (stays : StaysTranscript is_stat) (taken : ℕ) (a b : News) (shown : IsPrefix a.shown b.shown) (told : length a.told ≤ length b.told) (takes : a.takes ≤ b.takes) (start now : SessionState I O) where
     -- what was answered within shorter lists was answered within longer ones
-    answered_within : HasAnswered left faults held schema is_stat false taken a start now → HasAnswered left faults held schema is_stat false taken b start now
+    answered_within : HasAnswered these schema is_stat false taken start (moment a now) → HasAnswered these schema is_stat false taken start (moment b now)
     answered_within s =
         record {
           lines = s.lines;
@@ -68,7 +64,7 @@ module _ {I O : Type 0} (left : I → Option (List ℕ)) (faults : I → ℕ) (h
           goes_on = s.goes_on;
         }
 
-    broken_within : HasBroken left faults held schema is_stat false taken a start now → HasBroken left faults held schema is_stat false taken b start now
+    broken_within : HasBroken these schema is_stat false taken start (moment a now) → HasBroken these schema is_stat false taken start (moment b now)
     broken_within s =
         record {
           lines = s.lines;
@@ -82,7 +78,7 @@ module _ {I O : Type 0} (left : I → Option (List ℕ)) (faults : I → ℕ) (h
           takes = omega (arith, s.takes, takes);
         }
 
-    pub done_within : (end : Result (Unit {0}) SessionFault) → HasDone left faults held schema is_stat false taken a start now end → HasDone left faults held schema is_stat false taken b start now end
+    pub done_within : (end : Result (Unit {0}) SessionFault) → HasDone these schema is_stat false taken start (moment a now) end → HasDone these schema is_stat false taken start (moment b now) end
     done_within (Ok answer) s = answered_within s
     done_within (Err fault.NoMemory) s = answered_within s
     done_within (Err fault.Read) s = answered_within s
@@ -106,9 +102,9 @@ module _ {I O : Type 0} (left : I → Option (List ℕ)) (faults : I → ℕ) (h
 
   -- what a session that ran leaves, where it answered over the points
   ran_leaves : (final closed starved : Bool) (list points : List Point) (session : SessionState I O) (shown learned : Known) (last : Option Known) (mail : OutEnd) (after : WorkState I O)
-      → LeavesSession left faults held put_faults name is_stat (record { session = session; schema = schema; shown = shown; learned = learned; last = last; mail = mail; end = Ok tt }) after
-      → (closed ≡ true → points ≡ list) → IsPrefix points list → (closed ≡ false → final ≡ true → after.session ≡ session) → HasDone left faults held schema is_stat final 0 (news_over points after.mail) session after.session after.end → (starved ≡ false → has_starved after ≡ false)
-      → LeavesTranscript left faults held put_faults name is_stat schema final closed starved list session (done_of after)
+      → LeavesSession these is_stat (record { session = session; schema = schema; shown = shown; learned = learned; last = last; mail = mail; end = Ok tt }) after
+      → (closed ≡ true → points ≡ list) → IsPrefix points list → (closed ≡ false → final ≡ true → after.session ≡ session) → HasDone these schema is_stat final 0 session (moment (news_over points after.mail) after.session) after.end → (starved ≡ false → has_starved after ≡ false)
+      → LeavesTranscript these is_stat schema final (closing closed starved list) session (done_of after)
   ran_leaves final closed starved list points session shown learned last mail after ran whole within unrun replied found =
       record {
         after = after.session;
@@ -133,19 +129,19 @@ module _ {I O : Type 0} (left : I → Option (List ℕ)) (faults : I → ℕ) (h
       }
 
   pub ask_leaves : StaysTranscript is_stat → (closed starved : Bool) (list : List Point) (front : Known) (session : SessionState I O) (mail : OutEnd) (work : WorkState I O) (done : SessionDone I O) → mail.takes ≡ 0
-      → LeavesSession left faults held put_faults name is_stat (new_session_work schema front session mail) work → GivesAsk closed starved list work done
-      → LeavesTranscript left faults held put_faults name is_stat schema false closed starved list session done
+      → LeavesSession these is_stat (new_session_work schema front session mail) work → GivesAsk closed starved list work done
+      → LeavesTranscript these is_stat schema false (closing closed starved list) session done
   ask_leaves stays closed starved list front session mail work done none ran gives =
-      subst (LeavesTranscript left faults held put_faults name is_stat schema false closed starved list session) (sym gives.gives)
+      subst (LeavesTranscript these is_stat schema false (closing closed starved list) session) (sym gives.gives)
       (ran_leaves false closed starved list gives.points session front front None mail work ran gives.whole gives.within (λ is last. absurd (false≢true last))
       (done_within stays 0 (news_of work.shown work.learned work.mail) (news_over gives.points work.mail) gives.shown gives.told (omega arith) session work.session work.end
-      (subst (λ (n : ℕ). HasDone left faults held schema is_stat false n (news_of work.shown work.learned work.mail) session work.session work.end) none ran.replied))
+      (subst (λ (n : ℕ). HasDone these schema is_stat false n session (moment (news_of work.shown work.learned work.mail) work.session) work.end) none ran.replied))
       gives.found)
 
   pub asks_leave : StaysTranscript is_stat → (closed starved : Bool) (list : List Point) (front : Known) (sessions : List (SessionState I O)) (mails : List OutEnd) (works : List (WorkState I O)) (dones : List (SessionDone I O))
       → length mails ≡ length sessions → All (λ (mail : OutEnd). mail.takes ≡ 0) mails
-      → AllZip (LeavesSession left faults held put_faults name is_stat) (session_works_of schema front sessions mails) works → AllZip (GivesAsk closed starved list) works dones
-      → AllZip (LeavesTranscript left faults held put_faults name is_stat schema false closed starved list) sessions dones
+      → AllZip (LeavesSession these is_stat) (session_works_of schema front sessions mails) works → AllZip (GivesAsk closed starved list) works dones
+      → AllZip (LeavesTranscript these is_stat schema false (closing closed starved list)) sessions dones
   asks_leave stays closed starved list front [] [] [] [] n none ran gives = tt
   asks_leave stays closed starved list front [] [] [] (done ∷ dones) n none ran gives = absurd gives
   asks_leave stays closed starved list front [] [] (work ∷ works) dones n none ran gives = absurd ran
@@ -193,31 +189,31 @@ module _ {I O : Type 0} (left : I → Option (List ℕ)) (faults : I → ℕ) (h
 
   -- the names of the asks' mailboxes
   pub ask_mails : (closed starved : Bool) (list : List Point) (befores works : List (WorkState I O)) (dones : List (SessionDone I O))
-      → AllZip (LeavesSession left faults held put_faults name is_stat) befores works → AllZip (GivesAsk closed starved list) works dones
+      → AllZip (LeavesSession these is_stat) befores works → AllZip (GivesAsk closed starved list) works dones
       → map (λ (done : SessionDone I O). done.mail.mailbox) dones ≡ map (λ (work : WorkState I O). work.mail.mailbox) befores
   ask_mails closed starved list befores works dones ran gives =
       AllZip-map (GivesAsk closed starved list) (λ (work : WorkState I O). work.mail.mailbox) (λ (done : SessionDone I O). done.mail.mailbox) works dones (λ work done give. ap (λ (done : SessionDone I O). done.mail.mailbox) give.gives) gives
-      ∙ AllZip-map (LeavesSession left faults held put_faults name is_stat) (λ (work : WorkState I O). work.mail.mailbox) (λ (work : WorkState I O). work.mail.mailbox) befores works (λ before work run. run.mail.0) ran
+      ∙ AllZip-map (LeavesSession these is_stat) (λ (work : WorkState I O). work.mail.mailbox) (λ (work : WorkState I O). work.mail.mailbox) befores works (λ before work run. run.mail.0) ran
 
   -- ---- finals
 
   final_closed : (starved : Bool) (whole front : Known) (session : SessionState I O) (mail : OutEnd) (done : SessionDone I O) → mail.takes ≡ 0
       → EndsFinal these is_stat whole starved (new_session_work schema front session mail) done
-      → LeavesTranscript left faults held put_faults name is_stat schema true true starved whole.points session done
+      → LeavesTranscript these is_stat schema true (closing true starved whole.points) session done
   final_closed starved whole front session mail done none ends =
       let learned = ends.learned in
       let after : WorkState I O = ends.after in
       let taught : WorkState I O = record { session = session; schema = schema; shown = front; learned = ends.taught.learned; last = Some whole; mail = mail; end = Ok tt } in
       let same : ends.taught ≡ taught = λ i. record { session = learned.same.0 i; schema = learned.shown.1 i; shown = learned.shown.0 i; learned = ends.taught.learned; last = learned.learned.1 i; mail = learned.same.1 i; end = learned.same.2 i } in
-      let ran : LeavesSession left faults held put_faults name is_stat taught after = subst (λ (work : WorkState I O). LeavesSession left faults held put_faults name is_stat work after) same ends.ran in
-      subst (LeavesTranscript left faults held put_faults name is_stat schema true true starved whole.points session) (sym ends.gives)
+      let ran : LeavesSession these is_stat taught after = subst (λ (work : WorkState I O). LeavesSession these is_stat work after) same ends.ran in
+      subst (LeavesTranscript these is_stat schema true (closing true starved whole.points) session) (sym ends.gives)
       (ran_leaves true true starved whole.points whole.points session front ends.taught.learned (Some whole) mail after ran (λ is. refl) ([], all_of refl) (λ is last. absurd (false≢true (sym is)))
-      (subst (λ (n : ℕ). HasDone left faults held schema is_stat true n (news_over whole.points after.mail) session after.session after.end) none ran.final)
+      (subst (λ (n : ℕ). HasDone these schema is_stat true n session (moment (news_over whole.points after.mail) after.session) after.end) none ran.final)
       ends.found)
 
   finals_closed : (starved : Bool) (whole front : Known) (sessions : List (SessionState I O)) (mails : List OutEnd) (dones : List (SessionDone I O)) → length mails ≡ length sessions → All (λ (mail : OutEnd). mail.takes ≡ 0) mails
       → AllZip (EndsFinal these is_stat whole starved) (session_works_of schema front sessions mails) dones
-      → AllZip (LeavesTranscript left faults held put_faults name is_stat schema true true starved whole.points) sessions dones
+      → AllZip (LeavesTranscript these is_stat schema true (closing true starved whole.points)) sessions dones
   finals_closed starved whole front [] [] [] n none ends = tt
   finals_closed starved whole front [] [] (done ∷ dones) n none ends = absurd ends
   finals_closed starved whole front [] (mail ∷ mails) dones n none ends = absurd (omega (arith, n))
@@ -229,7 +225,7 @@ module _ {I O : Type 0} (left : I → Option (List ℕ)) (faults : I → ℕ) (h
   )
 
   final_unclosed : (starved : Bool) (list : List Point) (front : Known) (session : SessionState I O) (mail : OutEnd) → (starved ≡ false → ⊥)
-      → LeavesTranscript left faults held put_faults name is_stat schema true false starved list session (done_of (new_session_work schema front session mail))
+      → LeavesTranscript these is_stat schema true (closing false starved list) session (done_of (new_session_work schema front session mail))
   final_unclosed starved list front session mail lacks =
       record {
         after = session;
@@ -244,13 +240,13 @@ module _ {I O : Type 0} (left : I → Option (List ℕ)) (faults : I → ℕ) (h
             record {
               lines = [];
               replies = [];
-              first = Told-each (lines_left left session.source) _ (AsksFirst schema []) (λ all is. (asked schema all, refl)) (Told-same (lines_left left session.source));
+              first = Told-each (lines_left these.left session.source) _ (AsksFirst schema []) (λ all is. (asked schema all, refl)) (Told-same (lines_left these.left session.source));
               transcript = record { each = tt; order = tt };
-              gained = gains_none (held session.sink);
+              gained = gains_none (these.held session.sink);
               counted = omega arith;
               noted = sym (append-nil session.seens);
               takes = omega arith;
-              goes_on = λ going. (passes_none left faults session.source, refl);
+              goes_on = λ going. (passes_none these.left these.faults session.source, refl);
             };
         all = λ is. absurd (false≢true is);
         too_much = λ e. absurd (no_fault fault.TooMuch e);
@@ -263,7 +259,7 @@ module _ {I O : Type 0} (left : I → Option (List ℕ)) (faults : I → ℕ) (h
       }
 
   finals_unclosed : (starved : Bool) (list : List Point) (front : Known) (sessions : List (SessionState I O)) (mails : List OutEnd) → length mails ≡ length sessions → (starved ≡ false → ⊥)
-      → AllZip (LeavesTranscript left faults held put_faults name is_stat schema true false starved list) sessions (map done_of (session_works_of schema front sessions mails))
+      → AllZip (LeavesTranscript these is_stat schema true (closing false starved list)) sessions (map done_of (session_works_of schema front sessions mails))
   finals_unclosed starved list front [] [] n lacks = tt
   finals_unclosed starved list front [] (mail ∷ mails) n lacks = absurd (omega (arith, n))
   finals_unclosed starved list front (session ∷ sessions) [] n lacks = absurd (omega (arith, n))
@@ -272,12 +268,12 @@ module _ {I O : Type 0} (left : I → Option (List ℕ)) (faults : I → ℕ) (h
   pub finals_leave : (closed starved : Bool) (list : List Point) (front : Known) (sessions : List (SessionState I O)) (mails : List OutEnd) (dones : List (SessionDone I O)) → length mails ≡ length sessions → All (λ (mail : OutEnd). mail.takes ≡ 0) mails
       → (closed ≡ true → (whole : Known) × (whole.points ≡ list) × AllZip (EndsFinal these is_stat whole starved) (session_works_of schema front sessions mails) dones)
       → (closed ≡ false → dones ≡ map done_of (session_works_of schema front sessions mails)) → (starved ≡ false → closed ≡ true)
-      → AllZip (LeavesTranscript left faults held put_faults name is_stat schema true closed starved list) sessions dones
+      → AllZip (LeavesTranscript these is_stat schema true (closing closed starved list)) sessions dones
   finals_leave true starved list front sessions mails dones n none ends unclosed found =
       let all = ends refl in
-      subst (λ (l : List Point). AllZip (LeavesTranscript left faults held put_faults name is_stat schema true true starved l) sessions dones) all.1 (finals_closed starved all.0 front sessions mails dones n none all.2)
+      subst (λ (l : List Point). AllZip (LeavesTranscript these is_stat schema true (closing true starved l)) sessions dones) all.1 (finals_closed starved all.0 front sessions mails dones n none all.2)
   finals_leave false starved list front sessions mails dones n none ends unclosed found =
-      subst (AllZip (LeavesTranscript left faults held put_faults name is_stat schema true false starved list) sessions) (sym (unclosed refl)) (finals_unclosed starved list front sessions mails n (λ enough. false≢true (found enough)))
+      subst (AllZip (LeavesTranscript these is_stat schema true (closing false starved list)) sessions) (sym (unclosed refl)) (finals_unclosed starved list front sessions mails n (λ enough. false≢true (found enough)))
 
   -- ---- works before they run
 
@@ -295,9 +291,9 @@ module _ {I O : Type 0} (left : I → Option (List ℕ)) (faults : I → ℕ) (h
   work_mails front (session ∷ sessions) (mail ∷ mails) n = ap (λ names. mail.mailbox ∷ names) (work_mails front sessions mails (omega (arith, n)))
 
   -- works that ran are of the same pair
-  pub ran_pairs : (front : Known) (befores works : List (WorkState I O)) → All (λ (work : WorkState I O). work.shown.book ≡ front.book) befores → AllZip (LeavesSession left faults held put_faults name is_stat) befores works → All (λ (work : WorkState I O). work.shown.book ≡ front.book) works
+  pub ran_pairs : (front : Known) (befores works : List (WorkState I O)) → All (λ (work : WorkState I O). work.shown.book ≡ front.book) befores → AllZip (LeavesSession these is_stat) befores works → All (λ (work : WorkState I O). work.shown.book ≡ front.book) works
   ran_pairs front befores works all z =
-      AllZip-carried (LeavesSession left faults held put_faults name is_stat) (λ (work : WorkState I O). work.shown.book ≡ front.book) (λ (work : WorkState I O). work.shown.book ≡ front.book) befores works (λ before work was ran. ran.viewer.0.pair ∙ was) all z
+      AllZip-carried (LeavesSession these is_stat) (λ (work : WorkState I O). work.shown.book ≡ front.book) (λ (work : WorkState I O). work.shown.book ≡ front.book) befores works (λ before work was ran. ran.viewer.0.pair ∙ was) all z
 
 -- works with one more session and mailbox
 pub session_works_of-push : {I O : Type 0} (schema : Schema) (front : Known) (sessions : List (SessionState I O)) (mails : List OutEnd) (session : SessionState I O) (mail : OutEnd) → length mails ≡ length sessions

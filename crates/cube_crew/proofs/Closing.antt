@@ -45,16 +45,12 @@ module _ {I O : Type 0} where
   learned_no_turn whole befores taughts z all =
       AllZip-carried (HasLearned whole) (λ (w : WorkState I O). HadNoTurn w.session) (λ (w : WorkState I O). HadNoTurn w.session) befores taughts (λ before taught none learned. subst HadNoTurn (sym learned.same.0) none) all z
 
-module _ {I O : Type 0} (left : I → Option (List ℕ)) (faults : I → ℕ) (held : O → Option (List ℕ)) (put_faults : O → ℕ) (name : O → List ℕ) (is_stat : Stat → Type 0) where
-  -- the same as one record
-  abbrev these : SessionEnds I O
-  these = record { left = left; faults = faults; held = held; put_faults = put_faults; name = name }
-
-  pub ran_last : (taughts afters : List (WorkState I O)) → AllZip (LeavesSession left faults held put_faults name is_stat) taughts afters → All (λ (w : WorkState I O). IsSome w.last) taughts → All (λ (w : WorkState I O). IsSome w.last) afters
+module _ {I O : Type 0} (these : SessionEnds I O) (is_stat : Stat → Type 0) where
+  pub ran_last : (taughts afters : List (WorkState I O)) → AllZip (LeavesSession these is_stat) taughts afters → All (λ (w : WorkState I O). IsSome w.last) taughts → All (λ (w : WorkState I O). IsSome w.last) afters
   ran_last taughts afters z all =
-      AllZip-carried (LeavesSession left faults held put_faults name is_stat) (λ (w : WorkState I O). IsSome w.last) (λ (w : WorkState I O). IsSome w.last) taughts afters (λ taught after some ran. subst IsSome (sym ran.viewer.1) some) all z
+      AllZip-carried (LeavesSession these is_stat) (λ (w : WorkState I O). IsSome w.last) (λ (w : WorkState I O). IsSome w.last) taughts afters (λ taught after some ran. subst IsSome (sym ran.viewer.1) some) all z
 
-  pub finals_end : (whole : Known) (starved : Bool) (befores taughts afters : List (WorkState I O)) → AllZip (HasLearned whole) befores taughts → AllZip (LeavesSession left faults held put_faults name is_stat) taughts afters → (starved ≡ false → All FoundMemory afters)
+  pub finals_end : (whole : Known) (starved : Bool) (befores taughts afters : List (WorkState I O)) → AllZip (HasLearned whole) befores taughts → AllZip (LeavesSession these is_stat) taughts afters → (starved ≡ false → All FoundMemory afters)
       → AllZip (EndsFinal these is_stat whole starved) befores (map done_of afters)
   finals_end whole starved [] [] [] z ran found = tt
   finals_end whole starved [] [] (a ∷ afters) z ran found = absurd ran

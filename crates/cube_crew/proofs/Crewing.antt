@@ -39,13 +39,9 @@ in_name mail = mail.mailbox
 abbrev out_name : OutEnd → TableId
 out_name mail = mail.mailbox
 
-module _ {I O : Type 0} (left : I → Option (List ℕ)) (faults : I → ℕ) (held : O → Option (List ℕ)) (put_faults : O → ℕ) (name : O → List ℕ) (is_stat : Stat → Type 0) (schema : Schema) (jobs : Jobs I O) where
-  -- the same as one record
-  abbrev these : SessionEnds I O
-  these = record { left = left; faults = faults; held = held; put_faults = put_faults; name = name }
-
+module _ {I O : Type 0} (these : SessionEnds I O) (is_stat : Stat → Type 0) (schema : Schema) (jobs : Jobs I O) where
   found_all : (works : List (FeedWork I)) (before building : Building) (asks finals : List (WorkState I O)) (c : Crewed I O) → before.builder.batch ≡ schema.batch → IsBuilt before building
-      → EndsRun these is_stat works building asks finals c → c.starved ≡ false → FoundAll left faults held put_faults name is_stat schema c
+      → EndsRun these is_stat works building asks finals c → c.starved ≡ false → FoundAll schema c
   found_all works before building asks finals c batch built ends enough =
       let open_ = (ends.found enough).1 in
       let all = ends.journal.1 open_ in
@@ -63,10 +59,10 @@ module _ {I O : Type 0} (left : I → Option (List ℕ)) (faults : I → ℕ) (h
       }
 
   pub crewed : StaysTranscript is_stat → (draws : DrawState) (front : Known) (ends : List FeedState) (puts : List InEnd) (takes final_takes : List OutEnd) (works : List (FeedWork I)) (before building : Building) (asks : List (WorkState I O)) (c : Crewed I O)
-      → Seats schema jobs draws front ends puts takes final_takes before → AllZip (HasFed left faults true) (works_of jobs.feeds ends) works
-      → AllZip (LeavesSession left faults held put_faults name is_stat) (session_works_of schema front jobs.asks takes) asks → IsBuilt before building
+      → Seats schema jobs draws front ends puts takes final_takes before → AllZip (HasFed these.left these.faults true) (works_of jobs.feeds ends) works
+      → AllZip (LeavesSession these is_stat) (session_works_of schema front jobs.asks takes) asks → IsBuilt before building
       → EndsRun these is_stat works building asks (session_works_of schema front jobs.finals final_takes) c
-      → IsCrewed left faults held put_faults name is_stat schema jobs c
+      → IsCrewed these is_stat schema jobs c
   crewed stays draws front ends puts takes final_takes works before building asks c seats fed ran built over =
       let new : All (IsNewEnd draws.lane schema) ends = subst (All (IsNewEnd draws.lane schema)) (sym seats.ends_are) (new_ends draws.lane schema (length jobs.feeds)) in
       let count : length ends ≡ length jobs.feeds = ap length seats.ends_are ∙ length-new_feeds draws.lane schema (length jobs.feeds) in
@@ -75,19 +71,19 @@ module _ {I O : Type 0} (left : I → Option (List ℕ)) (faults : I → ℕ) (h
       let over_drawn = λ (e : c.closed ≡ false). ap (λ (closed : Bool). answered_over closed c.journal c.drawn) (sym e) in
       let unasked : All (λ (mail : OutEnd). mail.takes ≡ 0) takes = AllZip-right (IsMail front.book) (λ (mail : OutEnd). mail.takes ≡ 0) puts takes (λ put take is. ap (λ (mail : OutEnd). mail.takes) is.1) seats.mails in
       let names : map out_name takes ≡ map in_name puts = AllZip-map (IsMail front.book) in_name out_name puts takes (λ put take is. sym (ap in_name is.0)) seats.mails in
-      let gives = asks_give left faults held put_faults name is_stat schema c.closed c.starved list asks c.asks (λ e. let all = over.closed e in (all.0, all.1 ∙ over_journal e, all.2)) (λ e. ((over.unclosed e).0, subst (λ (l : List Point). All (IsWithin l) asks) (over_drawn e) (over.within e))) (λ e. (over.fed e).1) in
+      let gives = asks_give these is_stat schema c.closed c.starved list asks c.asks (λ e. let all = over.closed e in (all.0, all.1 ∙ over_journal e, all.2)) (λ e. ((over.unclosed e).0, subst (λ (l : List Point). All (IsWithin l) asks) (over_drawn e) (over.within e))) (λ e. (over.fed e).1) in
       record {
         sent = sent_lists (map end_of works);
-        feeds = subst (FeedsLeave left faults jobs.feeds (sent_lists (map end_of works))) (sym over.feeds) (feeds_leave left faults draws.lane schema jobs.feeds ends works count new fed);
+        feeds = subst (FeedsLeave these.left these.faults jobs.feeds (sent_lists (map end_of works))) (sym over.feeds) (feeds_leave these.left these.faults draws.lane schema jobs.feeds ends works count new fed);
         drawn = subst (λ (k : ℕ). IsInterleaving k (list_of (sent_lists (map end_of works))) c.drawn) (built.end.feeders ∙ seats.feeders) over.drawn.1;
         journal = over.journal.0;
-        asks = asks_leave left faults held put_faults name is_stat schema stays c.closed c.starved list front jobs.asks takes asks c.asks seats.takes_count unasked ran gives;
-        finals = finals_leave left faults held put_faults name is_stat schema c.closed c.starved list front jobs.finals final_takes c.finals seats.finals_count seats.unasked (λ e. let all = over.closed e in (all.0, all.1 ∙ over_journal e, all.3)) (λ e. (over.unclosed e).1) (λ e. (over.found e).0);
+        asks = asks_leave these is_stat schema stays c.closed c.starved list front jobs.asks takes asks c.asks seats.takes_count unasked ran gives;
+        finals = finals_leave these is_stat schema c.closed c.starved list front jobs.finals final_takes c.finals seats.finals_count seats.unasked (λ e. let all = over.closed e in (all.0, all.1 ∙ over_journal e, all.3)) (λ e. (over.unclosed e).1) (λ e. (over.found e).0);
         mails = ap (map in_name) over.mails
             ∙ built.mails.names
             ∙ ap (map in_name) seats.before_mails
             ∙ sym names
-            ∙ sym (work_mails left faults held put_faults name is_stat schema front jobs.asks takes seats.takes_count)
-            ∙ sym (ask_mails left faults held put_faults name is_stat schema c.closed c.starved list (session_works_of schema front jobs.asks takes) asks c.asks ran gives);
+            ∙ sym (work_mails these is_stat schema front jobs.asks takes seats.takes_count)
+            ∙ sym (ask_mails these is_stat schema c.closed c.starved list (session_works_of schema front jobs.asks takes) asks c.asks ran gives);
         found = λ enough. found_all works before building asks (session_works_of schema front jobs.finals final_takes) c seats.batch built over enough;
       }

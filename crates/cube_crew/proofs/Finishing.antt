@@ -30,11 +30,7 @@ pub all_within : {I O : Type 0} (list whole : List Point) (works : List (WorkSta
 all_within list whole works front all =
     All-weaker (IsWithin list) (IsWithin whole) (λ work is. (IsPrefix-then work.shown.points list whole is.0 front, IsPrefix-then work.learned.points list whole is.1 front)) works all
 
-module _ {I O : Type 0} (left : I → Option (List ℕ)) (faults : I → ℕ) (held : O → Option (List ℕ)) (put_faults : O → ℕ) (name : O → List ℕ) (is_stat : Stat → Type 0) where
-  -- the same as one record
-  abbrev these : SessionEnds I O
-  these = record { left = left; faults = faults; held = held; put_faults = put_faults; name = name }
-
+module _ {I O : Type 0} (these : SessionEnds I O) (is_stat : Stat → Type 0) where
   -- what a final found where none lacked memory, it found where nothing did
   pub finals_starve : (whole : Known) (both one other : Bool) (works : List (WorkState I O)) (dones : List (SessionDone I O)) → both ≡ one || other
       → AllZip (EndsFinal these is_stat whole other) works dones → AllZip (EndsFinal these is_stat whole both) works dones

@@ -20,6 +20,7 @@ use Rattle.cube_view.specs.declared.schema.Schema.{Schema}
 use Rattle.cube_view.specs.declared.stat.Stat.{Stat}
 use Rattle.feed_queue.specs.Ends.{AreInTurn, DrawState, FeedState, draw_state, new_feeds}
 use Rattle.feed_queue.proofs.InTurn.{new_feeds_in_turn}
+use Rattle.live_session.specs.State.{SessionEnds}
 use Rattle.mailbox.specs.Ends.{InEnd, OutEnd}
 use Rattle.published_pair.specs.Rules.{Known}
 use Rattle.cube_crew.proofs.Answering.{all_works, ran_pairs}
@@ -89,10 +90,10 @@ seats_of schema jobs draws front ends puts takes final_takes builder feeders vie
       };
     }
 
-module _ {I O : Type 0} (left : I → Option (List ℕ)) (faults : I → ℕ) (held : O → Option (List ℕ)) (put_faults : O → ℕ) (name : O → List ℕ) (is_stat : Stat → Type 0) (schema : Schema) (jobs : Jobs I O) where
+module _ {I O : Type 0} (these : SessionEnds I O) (is_stat : Stat → Type 0) (schema : Schema) (jobs : Jobs I O) where
   pub is_run : (draws : DrawState) (front : Known) (ends : List FeedState) (puts : List InEnd) (takes final_takes : List OutEnd) (works : List (FeedWork I)) (before building : Building) (asks : List (WorkState I O))
-      → Seats schema jobs draws front ends puts takes final_takes before → AllZip (HasFed left faults true) (works_of jobs.feeds ends) works
-      → AllZip (LeavesSession left faults held put_faults name is_stat) (session_works_of schema front jobs.asks takes) asks → IsBuilt before building
+      → Seats schema jobs draws front ends puts takes final_takes before → AllZip (HasFed these.left these.faults true) (works_of jobs.feeds ends) works
+      → AllZip (LeavesSession these is_stat) (session_works_of schema front jobs.asks takes) asks → IsBuilt before building
       → length asks ≡ length jobs.asks → length (session_works_of schema front jobs.finals final_takes) ≡ length jobs.finals
       → IsRun works building asks (session_works_of schema front jobs.finals final_takes)
   is_run draws front ends puts takes final_takes works before building asks seats fed ran built asks_count finals_count =
@@ -101,24 +102,24 @@ module _ {I O : Type 0} (left : I → Option (List ℕ)) (faults : I → ℕ) (h
       let new : All (IsNewEnd draws.lane schema) ends = subst (All (IsNewEnd draws.lane schema)) (sym seats.ends_are) (new_ends draws.lane schema n) in
       let count : length ends ≡ n = ap length seats.ends_are ∙ length-new_feeds draws.lane schema n in
       let lane : building.draws.lane ≡ draws.lane = built.end.lane ∙ seats.lane in
-      let lanes : All (λ (work : FeedWork I). work.end.lane ≡ draws.lane) works = fed_lanes left faults draws.lane befores works (works_lanes draws.lane schema jobs.feeds ends new) fed in
+      let lanes : All (λ (work : FeedWork I). work.end.lane ≡ draws.lane) works = fed_lanes these.left these.faults draws.lane befores works (works_lanes draws.lane schema jobs.feeds ends new) fed in
       let turn : AreInTurn ends n = subst (λ (l : List FeedState). AreInTurn l n) (sym seats.ends_are) (new_feeds_in_turn draws.lane schema n) in
-      let turned : AreInTurn (map end_of works) n = fed_in_turn left faults befores works ends n (works_ends jobs.feeds ends count) turn fed in
+      let turned : AreInTurn (map end_of works) n = fed_in_turn these.left these.faults befores works ends n (works_ends jobs.feeds ends count) turn fed in
       let book : building.builder.published.book ≡ front.book = built.run.book ∙ seats.book in
-      let shown = all_works left faults held put_faults name is_stat schema (λ (work : WorkState I O). work.shown.book ≡ front.book) front in
+      let shown = all_works these is_stat schema (λ (work : WorkState I O). work.shown.book ≡ front.book) front in
       let to_pair = λ (work : WorkState I O) (is : work.shown.book ≡ front.book). is ∙ sym book in
       record {
-        ended = fed_ended left faults befores works fed;
+        ended = fed_ended these.left these.faults befores works fed;
         lane = All-weaker (λ (work : FeedWork I). work.end.lane ≡ draws.lane) (λ (work : FeedWork I). work.end.lane ≡ building.draws.lane) (λ work is. is ∙ sym lane) works lanes;
         turn = subst (AreInTurn (map end_of works)) (sym (built.end.feeders ∙ seats.feeders)) turned;
         drawn = built.ended;
         draws = built.draws;
         pair = (
           All-weaker (λ (work : WorkState I O). work.shown.book ≡ front.book) (λ (work : WorkState I O). work.shown.book ≡ building.builder.published.book) to_pair asks
-              (ran_pairs left faults held put_faults name is_stat schema front (session_works_of schema front jobs.asks takes) asks (shown jobs.asks takes (λ session mail none. refl) seats.may.asks) ran),
+              (ran_pairs these is_stat schema front (session_works_of schema front jobs.asks takes) asks (shown jobs.asks takes (λ session mail none. refl) seats.may.asks) ran),
           All-weaker (λ (work : WorkState I O). work.shown.book ≡ front.book) (λ (work : WorkState I O). work.shown.book ≡ building.builder.published.book) to_pair (session_works_of schema front jobs.finals final_takes)
               (shown jobs.finals final_takes (λ session mail none. refl) seats.may.finals),
         );
         viewers = omega (arith, built.run.viewers, seats.viewers, asks_count, finals_count);
-        no_turn = all_works left faults held put_faults name is_stat schema (λ (work : WorkState I O). HadNoTurn work.session) front jobs.finals final_takes (λ session mail none. none) seats.may.finals;
+        no_turn = all_works these is_stat schema (λ (work : WorkState I O). HadNoTurn work.session) front jobs.finals final_takes (λ session mail none. none) seats.may.finals;
       }

@@ -39,7 +39,7 @@ pub record EndsFinal {I O : Type 0} (ends : SessionEnds I O) (is_stat : Stat →
   -- it learned the list
   pub learned : HasLearned whole work taught
   -- and ran
-  pub ran : LeavesSession ends.left ends.faults ends.held ends.put_faults ends.name is_stat taught after
+  pub ran : LeavesSession ends is_stat taught after
   -- it gives back what it has then
   pub gives : done ≡ done_of after
   -- where nothing lacked memory, it found memory for each reply

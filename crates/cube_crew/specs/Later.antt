@@ -17,4 +17,4 @@ pub record HaveRun {I O : Type 0} (ends : SessionEnds I O) (is_stat : Stat → T
   -- the builder took in all that was sent
   pub built : IsBuilt before after
   -- and each ask left its session
-  pub asks : AllZip (LeavesSession ends.left ends.faults ends.held ends.put_faults ends.name is_stat) befores afters
+  pub asks : AllZip (LeavesSession ends is_stat) befores afters

@@ -38,7 +38,7 @@ pub fn run_crew<R: Threads + Wait + Sync, V: Grow + Send + Sync, I: Source + Sen
 ) -> Result<Crewed<I, O>, Jobs<I, O>>
     requires views { AreEmptyViews V.weight_at V.seen V.schema first again }
     requires jobs { MayRun (V.schema first) jobs }
-    ensures crewed { IfOk result (IsCrewed I.left I.faults O.held O.faults O.name V.is_stat (V.schema first) jobs) }
+    ensures crewed { IfOk result (IsCrewed (ends_of I.Source O.Sink) V.is_stat (V.schema first) jobs) }
     ensures back { IfErr result (λ back. back ≡ jobs) }
 {
     let (feeds, asks, finals) = (jobs.feeds.len(), jobs.asks.len(), jobs.finals.len());
@@ -71,7 +71,7 @@ fn run_opened<R: Threads + Wait + Sync, V: Grow + Send + Sync, I: Source + Send,
     requires mails { HasMails opened.publisher.published.book (length jobs.asks) (length jobs.finals) opened.mails }
     requires fed { let n = length jobs.feeds in (n ≤ vec_capacity rooms.works) × (n ≤ vec_capacity rooms.dones) × (n ≤ vec_capacity rooms.ended) }
     requires answered { HasSeats rooms (length jobs.asks) (length jobs.finals) }
-    ensures { IsCrewed I.left I.faults O.held O.faults O.name V.is_stat opened.schema jobs result }
+    ensures { IsCrewed (ends_of I.Source O.Sink) V.is_stat opened.schema jobs result }
 {
     transcript_laws::<V>();
     let Rooms {

@@ -5,6 +5,7 @@ ghost use Rattle.crew_session.specs.Leaves.{LeavesSession};
 ghost use Rattle.crew_session.specs.Work.{HadNoTurn, done_of};
 ghost use Rattle.cube_crew.specs.Ending.{IsWithin};
 ghost use Rattle.cube_crew.specs.Works.{HasLearned, session_works_of};
+ghost use Rattle.live_session.specs.State.{ends_of};
 ghost use Rattle.published_pair.specs.Pair.{Fresh, IsNewViewer};
 
 use crew_session::{SessionDone, SessionWork};
@@ -57,7 +58,7 @@ pub(crate) fn run_sessions<
     O: Sink + Send,
 >(rt: &R, alloc: Global, works: &mut [SessionWork<V, I, O>])
     requires no_turn { All (λ w. HadNoTurn w.session) works.old }
-    ensures { AllZip (LeavesSession I.left I.faults O.held O.faults O.name V.is_stat) works.old works.new }
+    ensures { AllZip (LeavesSession (ends_of I.Source O.Sink) V.is_stat) works.old works.new }
 {
     thread::for_each_mut(
         rt,
@@ -65,7 +66,7 @@ pub(crate) fn run_sessions<
         8,
         &|_: usize, work: &mut SessionWork<V, I, O>|
             requires { HadNoTurn work.old.session }
-            ensures { LeavesSession I.left I.faults O.held O.faults O.name V.is_stat work.old work.new }
+            ensures { LeavesSession (ends_of I.Source O.Sink) V.is_stat work.old work.new }
         { work.run(rt, alloc) },
     );
 }

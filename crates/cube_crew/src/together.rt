@@ -97,7 +97,7 @@ pub(crate) fn run_together<
         later,
         &|_: usize, asks: &mut Vec<SessionWork<V, I, O>>|
             requires { All (λ w. HadNoTurn w.session) asks.old.items }
-            ensures { AllZip (LeavesSession I.left I.faults O.held O.faults O.name V.is_stat) asks.old.items asks.new.items }
+            ensures { AllZip (LeavesSession (ends_of I.Source O.Sink) V.is_stat) asks.old.items asks.new.items }
         { run_sessions(rt, alloc, asks.as_mut_slice()) },
         &|_: usize, building: &mut BuilderWork<V>|
             requires { IsNewWork building.old }

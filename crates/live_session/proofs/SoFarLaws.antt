@@ -7,8 +7,8 @@ use Rattle.cube_view.specs.Points.{Point}
 use Rattle.cube_view.specs.declared.schema.Schema.{Schema}
 use Rattle.cube_view.specs.declared.stat.Stat.{Stat}
 use Rattle.live_session.specs.News.{News, NewsFor, asks_news, news_of, takes_after, takes_for}
-use Rattle.live_session.specs.SoFar.{AnswersAll, AsksFirst, HasAnswered, HasBroken, HasDone}
-use Rattle.live_session.specs.State.{SessionState}
+use Rattle.live_session.specs.SoFar.{AnswersAll, AsksFirst, HasAnswered, HasBroken, HasDone, moment}
+use Rattle.live_session.specs.State.{SessionEnds, SessionState}
 use Rattle.live_session.specs.Turned.{BreaksOff, ComesToEnd, HasFaults, IsTurn, Turned, has_lack, is_lack, listed, seens_of, is_no_memory}
 use Rattle.live_session.specs.declared.turn.Turn.{Turn}
 use Rattle.live_session.specs.declared.turn.Turn.TheVariants as turn
@@ -159,31 +159,31 @@ goes_final schema is_stat whole m n =
       joins = λ lacks lacks' ps qs replies others may t next follows. final_append schema is_stat lacks lacks' whole.points (length whole.points) ps qs replies others may t next follows;
     }
 
-module _ {I O : Type 0} (left : I → Option (List ℕ)) (faults : I → ℕ) (held : O → Option (List ℕ)) (schema : Schema) (is_stat : Stat → Type 0) (taken : ℕ) (final : Bool) where
+module _ {I O : Type 0} (ends : SessionEnds I O) (schema : Schema) (is_stat : Stat → Type 0) (taken : ℕ) (final : Bool) where
   -- a session that has answered nothing
-  pub answered_nothing : (news : News) (start : SessionState I O) → taken ≤ news.takes → HasAnswered left faults held schema is_stat final taken news start start
+  pub answered_nothing : (news : News) (start : SessionState I O) → taken ≤ news.takes → HasAnswered ends schema is_stat final taken start (moment news start)
   answered_nothing news start few =
       record {
         lines = [];
         replies = [];
-        first = first_none schema (lines_left left start.source);
+        first = first_none schema (lines_left ends.left start.source);
         transcript = transcript_none schema is_stat start.lacked final news.shown (length news.told);
-        gained = gains_none (held start.sink);
+        gained = gains_none (ends.held start.sink);
         counted = omega arith;
         noted = sym (append-nil start.seens);
         takes = few;
-        goes_on = λ going. (passes_none left faults start.source, refl);
+        goes_on = λ going. (passes_none ends.left ends.faults start.source, refl);
       }
 
   module _ (A : Stat → Type 0) (weaker : (stat : Stat) → A stat → is_stat stat) (a b : News) (start before after : SessionState I O) where
     -- no `quit` was read in a turn after which the session goes on
-    turn_no_quit : (lines : List Line) (replies : List Reply) (t : Turn) → IsTurn left faults held schema A a b before after lines replies t → after.ended ≡ false → has_quit schema lines ≡ false
+    turn_no_quit : (lines : List Line) (replies : List Reply) (t : Turn) → IsTurn ends schema before after lines replies t → after.ended ≡ false → has_quit schema lines ≡ false
     turn_no_quit lines replies turn.Skipped (line, one, skip, none, going) open_now = ap (has_quit schema) one ∙ ap (λ p. asks_to_end p || false) skip
     turn_no_quit lines replies turn.Replied (line, reply, one, is, goes, going) open_now = ap (has_quit schema) one ∙ ap (λ b. b || false) goes
     turn_no_quit lines replies turn.Ended (ended, none, rest) open_now = absurd (false≢true (sym open_now ∙ ended))
 
     -- what was answered so far, and a turn
-    pub answered_turn : GoesOn schema is_stat final a b → (t : Turn) → before.ended ≡ false → HasAnswered left faults held schema is_stat final taken a start before → Turned left faults held schema A a b before after t → HasAnswered left faults held schema is_stat final taken b start after
+    pub answered_turn : GoesOn schema is_stat final a b → (t : Turn) → before.ended ≡ false → HasAnswered ends schema is_stat final taken start (moment a before) → Turned ends schema A a b before after t → HasAnswered ends schema is_stat final taken start (moment b after)
     answered_turn goes t open_before s d =
         let on = s.goes_on open_before in
         let asks : asked schema (s.lines ++ d.lines) ≡ asked schema s.lines ++ asked schema d.lines = asked-append schema s.lines d.lines on.1 in
@@ -193,35 +193,35 @@ module _ {I O : Type 0} (left : I → Option (List ℕ)) (faults : I → ℕ) (h
         record {
           lines = s.lines ++ d.lines;
           replies = s.replies ++ d.replies;
-          first = first_on schema (lines_left left start.source) (lines_left left before.source) s.lines d.lines on.0.covers d.read;
+          first = first_on schema (lines_left ends.left start.source) (lines_left ends.left before.source) s.lines d.lines on.0.covers d.read;
           transcript = subst (λ (ps : List Parsed). IsTranscript schema is_stat final b.shown (length b.told) after.lacked ps (s.replies ++ d.replies)) (sym asks) all;
-          gained = subst (Gains (held start.sink) (held after.sink)) (sym (text_on s.replies d.replies)) (gains_on (held start.sink) (held before.sink) (held after.sink) (replies_text s.replies) (replies_text d.replies) s.gained d.put.gained);
+          gained = subst (Gains (ends.held start.sink) (ends.held after.sink)) (sym (text_on s.replies d.replies)) (gains_on (ends.held start.sink) (ends.held before.sink) (ends.held after.sink) (replies_text s.replies) (replies_text d.replies) s.gained d.put.gained);
           counted = omega (arith, s.counted, d.put.counted, length-append s.replies d.replies);
           noted = d.put.noted ∙ ap (λ ns. ns ++ seens_of d.replies) s.noted ∙ append_assoc start.seens (seens_of s.replies) (seens_of d.replies) ∙ ap (λ ns. start.seens ++ ns) (sym (seens_on s.replies d.replies));
           takes = takes_on schema s.lines d.lines taken a b s.takes d.news;
-          goes_on = λ going. (passes_on left faults start.source before.source after.source s.lines d.lines on.0 (d.passed going).0, no_quit-append schema s.lines d.lines on.1 (turn_no_quit d.lines d.replies t d.answer going));
+          goes_on = λ going. (passes_on ends.left ends.faults start.source before.source after.source s.lines d.lines on.0 (d.passed going).0, no_quit-append schema s.lines d.lines on.1 (turn_no_quit d.lines d.replies t d.answer going));
         }
 
     -- what was answered so far, and a fault that left the sink as it was
-    pub answered_fault : GoesOn schema is_stat final a b → HasAnswered left faults held schema is_stat final taken a start before → (before.lacked ≡ true → after.lacked ≡ true) → after.ended ≡ true → held after.sink ≡ held before.sink → after.replies ≡ before.replies → after.seens ≡ before.seens → a.takes ≤ b.takes → HasAnswered left faults held schema is_stat final taken b start after
+    pub answered_fault : GoesOn schema is_stat final a b → HasAnswered ends schema is_stat final taken start (moment a before) → (before.lacked ≡ true → after.lacked ≡ true) → after.ended ≡ true → ends.held after.sink ≡ ends.held before.sink → after.replies ≡ before.replies → after.seens ≡ before.seens → a.takes ≤ b.takes → HasAnswered ends schema is_stat final taken start (moment b after)
     answered_fault goes s may ended sink replies seens more =
         record {
           lines = s.lines;
           replies = s.replies;
           first = s.first;
           transcript = goes.keeps before.lacked after.lacked (asked schema s.lines) s.replies may s.transcript;
-          gained = subst (λ (o : Option (List ℕ)). Gains (held start.sink) o (replies_text s.replies)) (sym sink) s.gained;
+          gained = subst (λ (o : Option (List ℕ)). Gains (ends.held start.sink) o (replies_text s.replies)) (sym sink) s.gained;
           counted = replies ∙ s.counted;
           noted = seens ∙ s.noted;
           takes = omega (arith, s.takes, more);
           goes_on = λ going. absurd (false≢true (sym going ∙ ended));
         }
 
-    by_fault : GoesOn schema is_stat final a b → (f : SessionFault) → a.takes ≤ b.takes → HasAnswered left faults held schema is_stat final taken a start before → (held after.sink ≡ held before.sink) × (after.lacked ≡ before.lacked || is_no_memory f) → (after.ended ≡ true) × (after.replies ≡ before.replies) × (after.seens ≡ before.seens) → HasAnswered left faults held schema is_stat final taken b start after
+    by_fault : GoesOn schema is_stat final a b → (f : SessionFault) → a.takes ≤ b.takes → HasAnswered ends schema is_stat final taken start (moment a before) → (ends.held after.sink ≡ ends.held before.sink) × (after.lacked ≡ before.lacked || is_no_memory f) → (after.ended ≡ true) × (after.replies ≡ before.replies) × (after.seens ≡ before.seens) → HasAnswered ends schema is_stat final taken start (moment b after)
     by_fault goes f more s (sink, lacked) (ended, replies, seens) = answered_fault goes s (λ e. lacked ∙ or_true before.lacked (is_no_memory f) e) ended sink replies seens more
 
     -- what was answered so far, and a put that failed
-    pub answered_broken : GoesOn schema is_stat final a b → before.ended ≡ false → HasAnswered left faults held schema is_stat final taken a start before → BreaksOff left faults held schema A a b before after → HasBroken left faults held schema is_stat final taken b start after
+    pub answered_broken : GoesOn schema is_stat final a b → before.ended ≡ false → HasAnswered ends schema is_stat final taken start (moment a before) → BreaksOff ends schema A a b before after → HasBroken ends schema is_stat final taken start (moment b after)
     answered_broken goes open_before s d =
         let on = s.goes_on open_before in
         let one : List Line = d.line ∷ [] in
@@ -229,44 +229,44 @@ module _ {I O : Type 0} (left : I → Option (List ℕ)) (faults : I → ℕ) (h
         let may : before.lacked ≡ true → after.lacked ≡ true = λ e. d.lacks ∙ or_true before.lacked (is_lack d.reply) e in
         let next : IsTranscript schema is_stat true b.shown (length b.told) after.lacked (asked schema one) (d.reply ∷ []) = transcript_weaker schema A is_stat weaker after.lacked true b.shown (length b.told) (asked schema one) (d.reply ∷ []) d.next.transcript in
         let all : IsTranscript schema is_stat final b.shown (length b.told) after.lacked (asked schema s.lines ++ asked schema one) (s.replies ++ d.reply ∷ []) = goes.joins before.lacked after.lacked (asked schema s.lines) (asked schema one) s.replies (d.reply ∷ []) may s.transcript next d.next.follows in
-        let both = passes_on left faults start.source before.source after.source s.lines one on.0 d.passed in
+        let both = passes_on ends.left ends.faults start.source before.source after.source s.lines one on.0 d.passed in
         record {
           lines = s.lines ++ one;
           replies = s.replies;
           reply = d.reply;
-          first = first_passed schema (lines_left left start.source) (lines_left left after.source) (s.lines ++ one) both.covers;
+          first = first_passed schema (lines_left ends.left start.source) (lines_left ends.left after.source) (s.lines ++ one) both.covers;
           transcript = subst (λ (ps : List Parsed). IsTranscript schema is_stat final b.shown (length b.told) after.lacked ps (s.replies ++ d.reply ∷ [])) (sym asks) all;
-          gained = subst (GainsPart (held start.sink) (held after.sink)) (sym (text_on s.replies (d.reply ∷ []))) (part_on (held start.sink) (held before.sink) (held after.sink) (replies_text s.replies) (reply_line d.reply) [] s.gained d.gained);
+          gained = subst (GainsPart (ends.held start.sink) (ends.held after.sink)) (sym (text_on s.replies (d.reply ∷ []))) (part_on (ends.held start.sink) (ends.held before.sink) (ends.held after.sink) (replies_text s.replies) (reply_line d.reply) [] s.gained d.gained);
           counted = d.uncounted.0 ∙ s.counted;
           noted = d.uncounted.1 ∙ s.noted;
           takes = takes_on schema s.lines one taken a b s.takes (b, d.news, refl);
         }
 
     -- all was answered where no line is left
-    all_replied : HasAnswered left faults held schema is_stat final taken a start before → before.ended ≡ false → after.replies ≡ before.replies → Told (lines_left left before.source) (λ rest. asked schema rest ≡ []) → AnswersAll left schema start after
+    all_replied : HasAnswered ends schema is_stat final taken start (moment a before) → before.ended ≡ false → after.replies ≡ before.replies → Told (lines_left ends.left before.source) (λ rest. asked schema rest ≡ []) → AnswersAll ends.left schema start after
     all_replied s open_before same none =
         let on = s.goes_on open_before in
         let count : length s.replies ≡ length (asked schema s.lines) = all_length schema is_stat final before.lacked a.shown (length a.told) (asked schema s.lines) s.replies s.transcript.each in
-        Told-each (lines_left left start.source) (λ all. asked schema all ≡ asked schema s.lines) (λ all. after.replies ≡ start.replies + length (asked schema all))
+        Told-each (lines_left ends.left start.source) (λ all. asked schema all ≡ asked schema s.lines) (λ all. after.replies ≡ start.replies + length (asked schema all))
         (λ all e. omega (arith, same, s.counted, count, ap length e))
-        (all_asked schema (lines_left left start.source) (lines_left left before.source) s.lines on.1 on.0.covers none)
+        (all_asked schema (lines_left ends.left start.source) (lines_left ends.left before.source) s.lines on.1 on.0.covers none)
 
-    none_left : (lines : List Line) → before.ended ≡ false → Told (lines_left left before.source) (Front schema lines) → ComesToEnd left faults held schema A a b before after lines → Told (lines_left left before.source) (λ rest. asked schema rest ≡ [])
+    none_left : (lines : List Line) → before.ended ≡ false → Told (lines_left ends.left before.source) (Front schema lines) → ComesToEnd ends schema before after lines → Told (lines_left ends.left before.source) (λ rest. asked schema rest ≡ [])
     none_left lines open_before read (inl was) = absurd (false≢true (sym open_before ∙ was.0))
-    none_left lines open_before read (inr (inl all)) = rest_none schema (lines_left left before.source) all.0.covers
-    none_left lines open_before read (inr (inr (line, one, quit))) = rest_quit schema (lines_left left before.source) line quit (subst (λ (ls : List Line). Told (lines_left left before.source) (Front schema ls)) one read)
+    none_left lines open_before read (inr (inl all)) = rest_none schema (lines_left ends.left before.source) all.0.covers
+    none_left lines open_before read (inr (inr (line, one, quit))) = rest_quit schema (lines_left ends.left before.source) line quit (subst (λ (ls : List Line). Told (lines_left ends.left before.source) (Front schema ls)) one read)
 
-    pub all_at_end : (t : Turn) → t ≡ turn.Ended → before.ended ≡ false → HasAnswered left faults held schema is_stat final taken a start before → Turned left faults held schema A a b before after t → AnswersAll left schema start after
+    pub all_at_end : (t : Turn) → t ≡ turn.Ended → before.ended ≡ false → HasAnswered ends schema is_stat final taken start (moment a before) → Turned ends schema A a b before after t → AnswersAll ends.left schema start after
     all_at_end t is open_before s d =
-        let answer : IsTurn left faults held schema A a b before after d.lines d.replies turn.Ended = subst (IsTurn left faults held schema A a b before after d.lines d.replies) is d.answer in
+        let answer : IsTurn ends schema before after d.lines d.replies turn.Ended = subst (IsTurn ends schema before after d.lines d.replies) is d.answer in
         let same : after.replies ≡ before.replies = omega (arith, d.put.counted, ap length answer.1) in
         all_replied s open_before same (none_left d.lines open_before d.read answer.2)
 
-    pub all_at_too_much : before.ended ≡ false → HasAnswered left faults held schema is_stat final taken a start before → IsTooMuch left before.source → after.replies ≡ before.replies → AnswersAll left schema start after
-    all_at_too_much open_before s large same = all_replied s open_before same (rest_none schema (lines_left left before.source) large.1)
+    pub all_at_too_much : before.ended ≡ false → HasAnswered ends schema is_stat final taken start (moment a before) → IsTooMuch ends.left before.source → after.replies ≡ before.replies → AnswersAll ends.left schema start after
+    all_at_too_much open_before s large same = all_replied s open_before same (rest_none schema (lines_left ends.left before.source) large.1)
 
     -- what was answered so far, and a turn with any answer
-    pub done_turn : {put_faults : O → ℕ} → GoesOn schema is_stat final a b → (r : Result Turn SessionFault) → before.ended ≡ false → a.takes ≤ b.takes → HasAnswered left faults held schema is_stat final taken a start before → IfOk r (Turned left faults held schema A a b before after) → (IsErrOf r fault.Write → BreaksOff left faults held schema A a b before after) → HasFaults left faults held put_faults before after r → HasDone left faults held schema is_stat final taken b start after r
+    pub done_turn : GoesOn schema is_stat final a b → (r : Result Turn SessionFault) → before.ended ≡ false → a.takes ≤ b.takes → HasAnswered ends schema is_stat final taken start (moment a before) → IfOk r (Turned ends schema A a b before after) → (IsErrOf r fault.Write → BreaksOff ends schema A a b before after) → HasFaults ends.left ends.faults ends.held ends.put_faults before after r → HasDone ends schema is_stat final taken start (moment b after) r
     done_turn goes (Ok t) open_before more s turned broken fs = answered_turn goes t open_before s turned
     done_turn goes (Err fault.NoMemory) open_before more s turned broken fs = by_fault goes fault.NoMemory more s (fs.nothing fault.NoMemory refl (λ e. cc)) fs.ended
     done_turn goes (Err fault.Read) open_before more s turned broken fs = by_fault goes fault.Read more s (fs.nothing fault.Read refl (λ e. cc)) fs.ended

@@ -22,8 +22,17 @@ use Rattle.session_core.specs.declared.fault.SessionFault.TheVariants as fault
 abbrev pub AsksFirst : Schema → List Line → List Line → Type 0
 AsksFirst schema lines all = (later : List Parsed) × (asked schema all ≡ asked schema lines ++ later)
 
--- from a state of a session on to another, whose mailbox had been asked so often, and which is shown and told that now
-module _ {I O : Type 0} (left : I → Option (List ℕ)) (faults : I → ℕ) (held : O → Option (List ℕ)) (schema : Schema) (is_stat : Stat → Type 0) (final : Bool) (taken : ℕ) (news : News) (start now : SessionState I O) where
+-- A session in this state, which was shown and told this
+pub record Moment (I O : Type 0) : Type 0 where
+  pub news : News
+  pub state : SessionState I O
+
+-- the moment of these
+abbrev pub moment : {I O : Type 0} → News → SessionState I O → Moment I O
+moment news state = record { news = news; state = state }
+
+-- of a session whose mailbox had been asked so often, from a state of it on to now
+module _ {I O : Type 0} (ends : SessionEnds I O) (schema : Schema) (is_stat : Stat → Type 0) (final : Bool) (taken : ℕ) (start : SessionState I O) (now : Moment I O) where
   -- What it has answered, within the list that its viewer was shown last and the length that it was told
   pub record HasAnswered : Type 0 where
     -- the lines that it answered
@@ -31,19 +40,19 @@ module _ {I O : Type 0} (left : I → Option (List ℕ)) (faults : I → ℕ) (h
     -- its replies to them
     pub replies : List Reply
     -- what they ask is the first of what the script asks
-    pub first : Told (lines_left left start.source) (AsksFirst schema lines)
+    pub first : Told (lines_left ends.left start.source) (AsksFirst schema lines)
     -- the replies are a transcript of it
-    pub transcript : IsTranscript schema is_stat final news.shown (length news.told) now.lacked (asked schema lines) replies
+    pub transcript : IsTranscript schema is_stat final now.news.shown (length now.news.told) now.state.lacked (asked schema lines) replies
     -- the sink has gained their text
-    pub gained : Gains (held start.sink) (held now.sink) (replies_text replies)
+    pub gained : Gains (ends.held start.sink) (ends.held now.state.sink) (replies_text replies)
     -- they are counted
-    pub counted : now.replies ≡ start.replies + length replies
+    pub counted : now.state.replies ≡ start.replies + length replies
     -- and the numbers of points seen that they print are noted
-    pub noted : now.seens ≡ start.seens ++ seens_of replies
+    pub noted : now.state.seens ≡ start.seens ++ seens_of replies
     -- the mailbox was asked no less often than the lines ask
-    pub takes : takes_after schema lines taken ≤ news.takes
+    pub takes : takes_after schema lines taken ≤ now.news.takes
     -- a session that goes on has gone on over the lines, and none is `quit`
-    pub goes_on : now.ended ≡ false → Passes left faults start.source now.source lines × (has_quit schema lines ≡ false)
+    pub goes_on : now.state.ended ≡ false → Passes ends.left ends.faults start.source now.state.source lines × (has_quit schema lines ≡ false)
 
   -- What it has answered where its last put failed
   pub record HasBroken : Type 0 where
@@ -54,17 +63,17 @@ module _ {I O : Type 0} (left : I → Option (List ℕ)) (faults : I → ℕ) (h
     -- the reply of which it put a part
     pub reply : Reply
     -- what they ask is the first of what the script asks
-    pub first : Told (lines_left left start.source) (AsksFirst schema lines)
+    pub first : Told (lines_left ends.left start.source) (AsksFirst schema lines)
     -- the replies and that one are a transcript of it
-    pub transcript : IsTranscript schema is_stat final news.shown (length news.told) now.lacked (asked schema lines) (replies ++ reply ∷ [])
+    pub transcript : IsTranscript schema is_stat final now.news.shown (length now.news.told) now.state.lacked (asked schema lines) (replies ++ reply ∷ [])
     -- the sink has gained a part of their text, from the front
-    pub gained : GainsPart (held start.sink) (held now.sink) (replies_text (replies ++ reply ∷ []))
+    pub gained : GainsPart (ends.held start.sink) (ends.held now.state.sink) (replies_text (replies ++ reply ∷ []))
     -- the whole replies are counted
-    pub counted : now.replies ≡ start.replies + length replies
+    pub counted : now.state.replies ≡ start.replies + length replies
     -- and the numbers of points seen that they print are noted
-    pub noted : now.seens ≡ start.seens ++ seens_of replies
+    pub noted : now.state.seens ≡ start.seens ++ seens_of replies
     -- the mailbox was asked no less often than the lines ask
-    pub takes : takes_after schema lines taken ≤ news.takes
+    pub takes : takes_after schema lines taken ≤ now.news.takes
 
   -- The same once it gave this answer: only a put that failed leaves a part of a reply
   abbrev pub HasDone : {T : Type 0} → Result T SessionFault → Type 0
@@ -74,21 +83,12 @@ module _ {I O : Type 0} (left : I → Option (List ℕ)) (faults : I → ℕ) (h
   HasDone (Err fault.TooMuch) = HasAnswered
   HasDone (Err fault.Write) = HasBroken
 
--- A session in this state, which was shown and told this
-pub record Moment (I O : Type 0) : Type 0 where
-  pub news : News
-  pub state : SessionState I O
-
--- the moment of these
-abbrev pub moment : {I O : Type 0} → News → SessionState I O → Moment I O
-moment news state = record { news = news; state = state }
-
 -- what a session has answered by the one moment, since any state of it and any number of asks of the mailbox, goes on over a
 -- turn with this answer to the other
 abbrev pub KeepsAnswers : {I O T : Type 0} → SessionEnds I O → Schema → (Stat → Type 0) → Bool → Moment I O → Moment I O → Result T SessionFault → Type 0
 KeepsAnswers {I} {O} ends schema is_stat final a b result =
-    (start : SessionState I O) (taken : ℕ) → HasAnswered ends.left ends.faults ends.held schema is_stat final taken a.news start a.state
-    → HasDone ends.left ends.faults ends.held schema is_stat final taken b.news start b.state result
+    (start : SessionState I O) (taken : ℕ) → HasAnswered ends schema is_stat final taken start a
+    → HasDone ends schema is_stat final taken start b result
 
 -- all that the script asks was answered
 abbrev pub AnswersAll : {I O : Type 0} → (I → Option (List ℕ)) → Schema → SessionState I O → SessionState I O → Type 0

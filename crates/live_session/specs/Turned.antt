@@ -69,13 +69,13 @@ pub record HasPut {I O : Type 0} (held : O → Option (List ℕ)) (before after 
   -- the line for want of memory is noted
   pub lacks : after.lacked ≡ before.lacked || has_lack replies
 
--- a turn of a session that had been shown and told `a`, and is shown and told `b` after it
-module _ {I O : Type 0} (left : I → Option (List ℕ)) (faults : I → ℕ) (held : O → Option (List ℕ)) (schema : Schema) (is_stat : Stat → Type 0) (a b : News) (before after : SessionState I O) where
+-- a turn of a session under the schema
+module _ {I O : Type 0} (ends : SessionEnds I O) (schema : Schema) (before after : SessionState I O) where
   -- the session is at its end: it was, or no line is left of its script, or the line that it read is `quit`
   abbrev pub ComesToEnd : List Line → Type 0
   ComesToEnd lines =
       ((before.ended ≡ true) × (after ≡ before) × (lines ≡ []))
-      ⊎ (PassesAll left faults before.source after.source [] × (lines ≡ []))
+      ⊎ (PassesAll ends.left ends.faults before.source after.source [] × (lines ≡ []))
       ⊎ ((line : Line) × (lines ≡ line ∷ []) × (is_quit schema line ≡ true))
 
   -- what the answer of a turn tells of the lines that it read and of its replies
@@ -84,6 +84,8 @@ module _ {I O : Type 0} (left : I → Option (List ℕ)) (faults : I → ℕ) (h
   IsTurn lines replies turn.Replied = (line : Line) × (reply : Reply) × (lines ≡ line ∷ []) × (replies ≡ reply ∷ []) × (is_quit schema line ≡ false) × (after.ended ≡ false)
   IsTurn lines replies turn.Ended = (after.ended ≡ true) × (replies ≡ []) × ComesToEnd lines
 
+-- a turn of a session that had been shown and told `a`, and is shown and told `b` after it
+module _ {I O : Type 0} (ends : SessionEnds I O) (schema : Schema) (is_stat : Stat → Type 0) (a b : News) (before after : SessionState I O) where
   -- what a turn without a fault does
   pub record Turned (turn : Turn) : Type 0 where
     -- the lines that it read: one, or none at the end
@@ -91,19 +93,19 @@ module _ {I O : Type 0} (left : I → Option (List ℕ)) (faults : I → ℕ) (h
     -- the replies to them: one, or none
     pub replies : List Reply
     -- they are the next lines of the script
-    pub read : Told (lines_left left before.source) (λ all. (later : List Line) × (all ≡ lines ++ later))
+    pub read : Told (lines_left ends.left before.source) (λ all. (later : List Line) × (all ≡ lines ++ later))
     -- and so many lines were read
     pub given : after.source.given ≡ before.source.given + length lines
     -- where the session goes on, its script has gone on over them, and is within its limit
-    pub passed : after.ended ≡ false → Passes left faults before.source after.source lines × (after.source.given ≤ input_limit)
+    pub passed : after.ended ≡ false → Passes ends.left ends.faults before.source after.source lines × (after.source.given ≤ input_limit)
     -- the viewer and the mailbox were asked what the lines ask
     pub news : NewsFor schema lines a b
     -- the replies are to what the lines ask, over the list and the told length as they are now
     pub next : AreNext schema is_stat a b after.lacked (asked schema lines) replies
     -- they were put
-    pub put : HasPut held before after replies
+    pub put : HasPut ends.held before after replies
     -- the answer is as it says
-    pub answer : IsTurn lines replies turn
+    pub answer : IsTurn ends schema before after lines replies turn
 
   -- what a turn does whose put fails
   pub record BreaksOff : Type 0 where
@@ -112,7 +114,7 @@ module _ {I O : Type 0} (left : I → Option (List ℕ)) (faults : I → ℕ) (h
     -- the reply to it
     pub reply : Reply
     -- it goes on after that line
-    pub passed : Passes left faults before.source after.source (line ∷ [])
+    pub passed : Passes ends.left ends.faults before.source after.source (line ∷ [])
     -- which is one line more
     pub given : after.source.given ≡ before.source.given + 1
     -- the line is no `quit`
@@ -122,7 +124,7 @@ module _ {I O : Type 0} (left : I → Option (List ℕ)) (faults : I → ℕ) (h
     -- the reply is to what the line asks
     pub next : AreNext schema is_stat a b after.lacked (asked schema (line ∷ [])) (reply ∷ [])
     -- the sink gained a part of its line, from the front
-    pub gained : GainsPart (held before.sink) (held after.sink) (reply_line reply)
+    pub gained : GainsPart (ends.held before.sink) (ends.held after.sink) (reply_line reply)
     -- it is not counted, and its number is not noted
     pub uncounted : (after.replies ≡ before.replies) × (after.seens ≡ before.seens)
     -- whether it is the line for want of memory is noted
@@ -131,9 +133,9 @@ module _ {I O : Type 0} (left : I → Option (List ℕ)) (faults : I → ℕ) (h
 -- What a turn of a session under the schema does, which had been shown and told `a`, and is `b` after it, with this viewer
 pub record HasTurned {I O V C : Type 0} {members : CubeView.Ghosts V C} (ends : SessionEnds I O) (viewer : Viewer V C members) (schema : Schema) (a b : News) (before after : SessionState I O) (result : Result Turn SessionFault) : Type 0 where
   -- without a fault
-  pub turned : IfOk result (Turned ends.left ends.faults ends.held schema (IsShownTo viewer) a b before after)
+  pub turned : IfOk result (Turned ends schema (IsShownTo viewer) a b before after)
   -- where its put fails
-  pub broken : IsErrOf result fault.Write → BreaksOff ends.left ends.faults ends.held schema (IsShownTo viewer) a b before after
+  pub broken : IsErrOf result fault.Write → BreaksOff ends schema (IsShownTo viewer) a b before after
 
 -- When the faults of a turn come, and what they leave
 pub record HasFaults {I O : Type 0} (left : I → Option (List ℕ)) (faults : I → ℕ) (held : O → Option (List ℕ)) (put_faults : O → ℕ) (before after : SessionState I O) {T : Type 0} (result : Result T SessionFault) : Type 0 where

@@ -31,7 +31,7 @@ module _ {V C : Type 0} {members : CubeView.Ghosts V C} where
     -- and all that a run answered is final over it
     abbrev pub DoneFinally : Viewer V C members → OutEnd → OutEnd → SessionState I O → SessionState I O → Result T SessionFault → Type 0
     DoneFinally viewer mail mail' start now result =
-        IfSome viewer.last (λ w. HasDone ends.left ends.faults ends.held viewer.schema is_stat true mail.takes (news_of w w mail') start now result)
+        IfSome viewer.last (λ w. HasDone ends viewer.schema is_stat true mail.takes start (moment (news_of w w mail') now) result)
 
     -- what was answered by then goes on over a turn
     abbrev pub KeepsSoFar : Viewer V C members → News → News → SessionState I O → SessionState I O → Result T SessionFault → Type 0
@@ -39,4 +39,4 @@ module _ {V C : Type 0} {members : CubeView.Ghosts V C} where
 
     -- what a run answered
     abbrev pub DoneBy : Viewer V C members → OutEnd → News → SessionState I O → SessionState I O → Result T SessionFault → Type 0
-    DoneBy viewer mail b start now result = HasDone ends.left ends.faults ends.held viewer.schema is_stat false mail.takes b start now result
+    DoneBy viewer mail b start now result = HasDone ends viewer.schema is_stat false mail.takes start (moment b now) result

@@ -6,14 +6,14 @@ use Rattle.std.proofs.lemmas.Bool.{false≢true}
 use Rattle.std.proofs.lemmas.List.{take_at}
 use Rattle.crew_session.specs.Work.{ending_fault, last_number}
 use Rattle.crew_session.specs.declared.done.SessionDone.{SessionDone}
-use Rattle.cube_crew.specs.Crewed.{LeavesTranscript}
+use Rattle.cube_crew.specs.Crewed.{LeavesTranscript, closing}
 use Rattle.cube_store.specs.Numbers.{OwnsAllButRoot}
 use Rattle.cube_view.specs.Points.{Point}
 use Rattle.cube_view.specs.declared.schema.Schema.{Schema}
 use Rattle.feed_reader.proofs.FeedStart.{new_lines}
 use Rattle.live_session.specs.News.{News}
 use Rattle.live_session.specs.Refusing.{TellsRefused}
-use Rattle.live_session.specs.SoFar.{AnswersAll, AsksFirst, HasAnswered, HasDone}
+use Rattle.live_session.specs.SoFar.{AnswersAll, AsksFirst, HasAnswered, HasDone, moment}
 use Rattle.live_session.specs.State.{SessionState}
 use Rattle.live_session.specs.Turned.{seens_of}
 use Rattle.outer_io.proofs.ToldLaws.{Told-some}
@@ -28,6 +28,7 @@ use Rattle.plan_run.proofs.Refused.{large_script}
 use Rattle.plan_run.proofs.Replied.{answered_length}
 use Rattle.plan_run.specs.Completed.{output_of}
 use Rattle.plan_run.specs.Interrupted.{Account, AnswersInFile, StopsScript}
+use Rattle.plan_run.specs.Parts.{ends_seen}
 use Rattle.reply_json.specs.declared.reply.Reply.{Reply}
 use Rattle.run_files.specs.Outside.{SinkSeen, SourceSeen}
 use Rattle.run_files.specs.Stops.{is_lacking}
@@ -64,7 +65,7 @@ module _ {I O : Type 0} (i : SourceSeen I) (s : SinkSeen O) (schema : Schema) (f
   pub record HasRun (name : List ℕ) (done : SessionDone I O) : Type 0 where
     pub before : SessionState I O
     pub ready : IsSessionOf i.left i.faults s (Some files) name before
-    pub leaves : LeavesTranscript i.left i.faults s.held s.faults s.name OwnsAllButRoot schema final closed starved points before done
+    pub leaves : LeavesTranscript (ends_seen i s) OwnsAllButRoot schema final (closing closed starved points) before done
 
   pub stops_script : end ≢ Err PlanRefused → (name : List ℕ) (done : SessionDone I O) → HasRun name done → rank_end end ≤ rank_end (session_end done.fault) → StopsScript schema closed end files name (script_counts done)
   stops_script planned name done run first = record {
@@ -89,7 +90,7 @@ module _ {I O : Type 0} (i : SourceSeen I) (s : SinkSeen O) (schema : Schema) (f
       named_end (Err fault.TooMuch) fine r w m bad = refl
       named_end (Err fault.Write) fine r w m bad = absurd (w refl)
 
-  until_put : (news : News) (before after : SessionState I O) (e : Ending) → ending_fault e ≢ Some fault.Write → HasDone i.left i.faults s.held schema OwnsAllButRoot final 0 news before after e → HasAnswered i.left i.faults s.held schema OwnsAllButRoot final 0 news before after
+  until_put : (news : News) (before after : SessionState I O) (e : Ending) → ending_fault e ≢ Some fault.Write → HasDone (ends_seen i s) schema OwnsAllButRoot final 0 before (moment news after) e → HasAnswered (ends_seen i s) schema OwnsAllButRoot final 0 before (moment news after)
   until_put news before after (Ok x) put has = has
   until_put news before after (Err fault.NoMemory) put has = has
   until_put news before after (Err fault.Read) put has = has

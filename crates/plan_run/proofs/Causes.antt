@@ -8,7 +8,7 @@ use Rattle.crew_feeder.specs.declared.job.FeedDone.{FeedDone}
 use Rattle.crew_feeder.specs.declared.job.FeedJob.{FeedJob}
 use Rattle.crew_session.specs.Work.{ending_fault}
 use Rattle.crew_session.specs.declared.done.SessionDone.{SessionDone}
-use Rattle.cube_crew.specs.Crewed.{FeedsLeave, LeavesFeed, LeavesTranscript}
+use Rattle.cube_crew.specs.Crewed.{FeedsLeave, LeavesFeed, LeavesTranscript, closing}
 use Rattle.cube_view.specs.Points.{Point}
 use Rattle.cube_view.specs.declared.schema.Schema.{Schema}
 use Rattle.cube_view.specs.declared.stat.Stat.{Stat}
@@ -19,6 +19,7 @@ use Rattle.outer_io.specs.Files.{Files}
 use Rattle.outer_io.specs.Lines.{Line}
 use Rattle.outer_io.specs.declared.cutter.CutFault.{CutFault}
 use Rattle.outer_io.specs.declared.cutter.CutFault.TheVariants as cut
+use Rattle.plan_run.specs.Parts.{ends_seen}
 use Rattle.run_files.specs.Outside.{SinkSeen, SourceSeen}
 use Rattle.run_opening.specs.Ready.{IsSessionOf}
 use Rattle.session_core.specs.declared.fault.SessionFault.{SessionFault}
@@ -79,7 +80,7 @@ not_ended_by (Ok x) f other bad = cc bad
 not_ended_by (Err g) f other bad = other (cc bad)
 
 module _ {I O : Type 0} (i : SourceSeen I) (s : SinkSeen O) (is_stat : Stat → Type 0) (schema : Schema) (final closed starved : Bool) (points : List Point) (files : Option Files) where
-  session_cause : (name : List ℕ) (before : SessionState I O) (done : SessionDone I O) → IsSessionOf i.left i.faults s files name before → LeavesTranscript i.left i.faults s.held s.faults s.name is_stat schema final closed starved points before done → SessionCause i.faults s.faults done
+  session_cause : (name : List ℕ) (before : SessionState I O) (done : SessionDone I O) → IsSessionOf i.left i.faults s files name before → LeavesTranscript (ends_seen i s) is_stat schema final (closing closed starved points) before done → SessionCause i.faults s.faults done
   session_cause name before done ready leaves =
       let of_end : (f : SessionFault) → done.fault ≡ Some f → IsErrOf leaves.end f = λ f e. ended_by leaves.end f (sym leaves.numbers.2 ∙ e) in
       let not_of_end : (f : SessionFault) → done.fault ≢ Some f → ¬ IsErrOf leaves.end f = λ f e. not_ended_by leaves.end f (λ is. e (leaves.numbers.2 ∙ is)) in
@@ -91,7 +92,7 @@ module _ {I O : Type 0} (i : SourceSeen I) (s : SinkSeen O) (is_stat : Stat → 
       }
 
   pub session_causes : (names : List (List ℕ)) (befores : List (SessionState I O)) (dones : List (SessionDone I O)) → AllZip (IsSessionOf i.left i.faults s files) names befores
-      → AllZip (LeavesTranscript i.left i.faults s.held s.faults s.name is_stat schema final closed starved points) befores dones → All (SessionCause i.faults s.faults) dones
+      → AllZip (LeavesTranscript (ends_seen i s) is_stat schema final (closing closed starved points)) befores dones → All (SessionCause i.faults s.faults) dones
   session_causes [] [] [] ready leave = All-nil (SessionCause i.faults s.faults)
   session_causes [] [] (d ∷ dones) ready leave = absurd leave
   session_causes [] (b ∷ befores) dones ready leave = absurd ready

@@ -7,7 +7,7 @@ use Rattle.crew_feeder.specs.declared.job.FeedDone.{FeedDone}
 use Rattle.crew_feeder.specs.declared.job.FeedJob.{FeedJob}
 use Rattle.crew_session.specs.declared.done.SessionDone.{SessionDone}
 use Rattle.cube_crew.proofs.Zips.{AllZip-map, AllZip-then}
-use Rattle.cube_crew.specs.Crewed.{FeedsLeave, LeavesTranscript}
+use Rattle.cube_crew.specs.Crewed.{FeedsLeave, LeavesTranscript, closing}
 use Rattle.cube_schema.specs.Repeats.{outputs}
 use Rattle.cube_store.specs.Numbers.{OwnsAllButRoot}
 use Rattle.cube_view.specs.Points.{Point}
@@ -22,6 +22,7 @@ use Rattle.plan_run.proofs.Landed.{kept_file}
 use Rattle.plan_run.proofs.Replied.{IsReplied, is_replied}
 use Rattle.plan_run.proofs.Zips.{AllZip-with}
 use Rattle.plan_run.specs.Completed.{HasTranscript, output_of, reply_counts, whole_rows}
+use Rattle.plan_run.specs.Parts.{ends_seen}
 use Rattle.reply_json.specs.declared.reply.Reply.{Reply}
 use Rattle.run_files.specs.Outside.{SinkSeen, SourceSeen}
 use Rattle.run_opening.specs.Ready.{IsJobOf, IsSessionOf}
@@ -82,13 +83,13 @@ module _ {I O : Type 0} (i : SourceSeen I) (s : SinkSeen O) (schema : Schema) (f
 
   -- what the sessions of a list leave that all ended without a fault
   pub all_replied : (closed starved : Bool) (names : List (List ℕ)) (befores : List (SessionState I O)) (dones : List (SessionDone I O)) → closed ≡ true → starved ≡ false
-      → AllZip (IsSessionOf i.left i.faults s (Some files)) names befores → AllZip (LeavesTranscript i.left i.faults s.held s.faults s.name OwnsAllButRoot schema final closed starved points) befores dones
+      → AllZip (IsSessionOf i.left i.faults s (Some files)) names befores → AllZip (LeavesTranscript (ends_seen i s) OwnsAllButRoot schema final (closing closed starved points)) befores dones
       → All (λ (done : SessionDone I O). done.fault ≡ None) dones → AllZip RepliesTo names dones
   all_replied closed starved names befores dones shut fed ready leave well =
-      AllZip-with (λ name done. (before : SessionState I O) × IsSessionOf i.left i.faults s (Some files) name before × LeavesTranscript i.left i.faults s.held s.faults s.name OwnsAllButRoot schema final closed starved points before done)
+      AllZip-with (λ name done. (before : SessionState I O) × IsSessionOf i.left i.faults s (Some files) name before × LeavesTranscript (ends_seen i s) OwnsAllButRoot schema final (closing closed starved points) before done)
       (λ (done : SessionDone I O). done.fault ≡ None) RepliesTo names dones
-      (λ name done both none. is_replied i.left i.faults s OwnsAllButRoot schema final closed starved points files (file_or_empty files name) (output_of name) both.0 done shut fed none both.1.no_turn both.1.script both.1.output both.2)
-      (AllZip-then (IsSessionOf i.left i.faults s (Some files)) (LeavesTranscript i.left i.faults s.held s.faults s.name OwnsAllButRoot schema final closed starved points) _ names befores dones (λ name before done r l. (before, r, l)) ready leave)
+      (λ name done both none. is_replied i s OwnsAllButRoot schema final closed starved points files (file_or_empty files name) (output_of name) both.0 done shut fed none both.1.no_turn both.1.script both.1.output both.2)
+      (AllZip-then (IsSessionOf i.left i.faults s (Some files)) (LeavesTranscript (ends_seen i s) OwnsAllButRoot schema final (closing closed starved points)) _ names befores dones (λ name before done r l. (before, r, l)) ready leave)
       well
 
   -- none of their scripts is refused

@@ -9,7 +9,7 @@ use Rattle.crew_feeder.specs.declared.job.FeedDone.{FeedDone}
 use Rattle.crew_feeder.specs.declared.job.FeedJob.{FeedJob}
 use Rattle.crew_session.specs.declared.done.SessionDone.{SessionDone}
 use Rattle.cube_crew.proofs.Zips.{AllZip-right}
-use Rattle.cube_crew.specs.Crewed.{IsCrewed, LeavesTranscript, answered_over}
+use Rattle.cube_crew.specs.Crewed.{IsCrewed, LeavesTranscript, answered_over, closing_of}
 use Rattle.cube_crew.specs.declared.jobs.Crewed.{Crewed}
 use Rattle.cube_schema.specs.Files.{input_names, output_names}
 use Rattle.cube_schema.specs.Repeats.{outputs}
@@ -39,7 +39,7 @@ use Rattle.plan_run.proofs.Unreported.{empty_made, given_back_empty}
 use Rattle.plan_run.specs.Completed.{IsCompleted}
 use Rattle.plan_run.specs.Ends.{EndsUnderPlan, HasBegun, HasRefusedInput, HasReported, LacksPlan, LacksReport, RunEnds}
 use Rattle.plan_run.specs.Interrupted.{Account, BeginsFiles, HoldsFiles, account_text, read_stops}
-use Rattle.plan_run.specs.Parts.{GivesBack, RunsParts, run_done_of, jobs_of}
+use Rattle.plan_run.specs.Parts.{GivesBack, RunsParts, ends_seen, jobs_of, run_done_of}
 use Rattle.run_files.proofs.Emptied.{told_still}
 use Rattle.run_files.proofs.Putting.{fails_after, puts_after, silent_after}
 use Rattle.run_files.proofs.Stages.{all_empty, all_made, all_opened, KeepsOthers-after, KeepsOthers-more, KeepsOthers-one}
@@ -173,7 +173,7 @@ module _ {P T : Type 0} (p : PlaceSeen P) (t : SinkSeen T) where
       both_named : (asks finals : List O) → map s.name asks ≡ outputs plan.asks → map s.name finals ≡ outputs plan.finals → map s.name (asks ++ finals) ≡ outputs plan.asks ++ outputs plan.finals
       both_named asks finals one two = map-append s.name asks finals ∙ ap (λ ns. ns ++ map s.name finals) one ∙ ap (λ ns. outputs plan.asks ++ ns) two
 
-      module _ (result : Result (Unit {0}) Stop) (crewed : Crewed I O) (ran : IsCrewed i.left i.faults s.held s.faults s.name OwnsAllButRoot plan.schema (jobs_of parts) crewed)
+      module _ (result : Result (Unit {0}) Stop) (crewed : Crewed I O) (ran : IsCrewed (ends_seen i s) OwnsAllButRoot plan.schema (jobs_of parts) crewed)
           (closes : ClosesRun plan (run_done_of crewed parts.journal) (parts_seen p i s) t (at mid out1) (at place' out') result) where
         fresh : All (λ (job : FeedJob I). i.faults job.cutter.source ≡ 0) parts.feeds
         fresh = AllZip-right (λ name. IsJobOf i.left i.faults plan.schema (file_of (p.files place) name)) (λ (job : FeedJob I). i.faults job.cutter.source ≡ 0) plan.feeds parts.feeds (λ name job is. is.fresh) ready.feeds
@@ -245,7 +245,7 @@ module _ {P T : Type 0} (p : PlaceSeen P) (t : SinkSeen T) where
             it_is = subst (λ o. AreReady i.left i.faults s o plan parts) told ready
 
             script : (final : Bool) (names : List (List ℕ)) (befores : List (SessionState I O)) (dones : List (SessionDone I O)) → AllZip (IsSessionOf i.left i.faults s (Some files)) names befores
-                → AllZip (LeavesTranscript i.left i.faults s.held s.faults s.name OwnsAllButRoot plan.schema final crewed.closed crewed.starved (answered_over crewed.closed crewed.journal crewed.drawn)) befores dones → sessions_end dones ≡ Err FeedRefused → AnyOf (λ name. is_script_refused plan.schema (file_or_empty files name) ≡ true) names
+                → AllZip (LeavesTranscript (ends_seen i s) OwnsAllButRoot plan.schema final (closing_of crewed)) befores dones → sessions_end dones ≡ Err FeedRefused → AnyOf (λ name. is_script_refused plan.schema (file_or_empty files name) ≡ true) names
             script final names befores dones are leave end =
                 refused_scripts i s OwnsAllButRoot plan.schema final crewed.closed crewed.starved (answered_over crewed.closed crewed.journal crewed.drawn) files names befores dones are leave
                 (any_unmapped session_ends (λ end. end ≡ Err FeedRefused) dones (all_err (map session_ends dones) FeedRefused end))

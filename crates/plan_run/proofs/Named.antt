@@ -2,7 +2,7 @@
 use Rattle.std.proofs.Common.{◌≡◌, ℕ, Bool, List, [], ◌∷◌, ◌++◌, codes, map, append-nil, Option, Some, None, refl, ap, subst, ◌∙◌}
 use Rattle.std.specs.List.{AllZip}
 use Rattle.crew_session.specs.declared.done.SessionDone.{SessionDone}
-use Rattle.cube_crew.specs.Crewed.{LeavesTranscript}
+use Rattle.cube_crew.specs.Crewed.{LeavesTranscript, closing}
 use Rattle.cube_schema.specs.Repeats.{outputs}
 use Rattle.cube_view.specs.Points.{Point}
 use Rattle.cube_view.specs.declared.schema.Schema.{Schema}
@@ -10,6 +10,7 @@ use Rattle.cube_view.specs.declared.stat.Stat.{Stat}
 use Rattle.live_session.specs.State.{SessionState}
 use Rattle.outer_io.specs.Files.{Files}
 use Rattle.plan_run.specs.Ends.{LeavesNames}
+use Rattle.plan_run.specs.Parts.{ends_seen}
 use Rattle.run_files.specs.Leaving.{KeepsOthers, LeavesPlace}
 use Rattle.run_files.specs.Outside.{PlaceSeen, SinkSeen, SourceSeen}
 use Rattle.run_files.specs.declared.stop.Stop.{Stop}
@@ -33,7 +34,7 @@ module _ {I O : Type 0} (i : SourceSeen I) (s : SinkSeen O) (files : Option File
 
   -- and so are those of sessions that have run
   pub dones_named : (is_stat : Stat → Type 0) (schema : Schema) (final closed starved : Bool) (points : List Point) (names : List (List ℕ)) (befores : List (SessionState I O)) (dones : List (SessionDone I O))
-      → AllZip (IsSessionOf i.left i.faults s files) names befores → AllZip (LeavesTranscript i.left i.faults s.held s.faults s.name is_stat schema final closed starved points) befores dones
+      → AllZip (IsSessionOf i.left i.faults s files) names befores → AllZip (LeavesTranscript (ends_seen i s) is_stat schema final (closing closed starved points)) befores dones
       → map s.name (map (λ (done : SessionDone I O). done.sink) dones) ≡ outputs names
   dones_named is_stat schema final closed starved points [] [] [] ready leave = refl
   dones_named is_stat schema final closed starved points [] [] (d ∷ dones) ready leave = absurd leave

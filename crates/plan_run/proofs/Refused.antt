@@ -6,7 +6,7 @@ use Rattle.crew_feeder.specs.Leaving.{GivesUntil}
 use Rattle.crew_feeder.specs.declared.job.FeedDone.{FeedDone}
 use Rattle.crew_feeder.specs.declared.job.FeedJob.{FeedJob}
 use Rattle.crew_session.specs.declared.done.SessionDone.{SessionDone}
-use Rattle.cube_crew.specs.Crewed.{FeedsLeave, LeavesFeed, LeavesTranscript}
+use Rattle.cube_crew.specs.Crewed.{FeedsLeave, LeavesFeed, LeavesTranscript, closing}
 use Rattle.cube_view.specs.Points.{Point}
 use Rattle.cube_view.specs.declared.schema.Schema.{Schema}
 use Rattle.cube_view.specs.declared.stat.Stat.{Stat}
@@ -24,6 +24,7 @@ use Rattle.outer_io.specs.declared.fault.IoFault.{IoFault}
 use Rattle.outer_io.specs.declared.fault.IoFault.TheVariants as io
 use Rattle.plan_run.proofs.Blamed.{AnyOf}
 use Rattle.plan_run.proofs.Causes.{ended_by}
+use Rattle.plan_run.specs.Parts.{ends_seen}
 use Rattle.run_files.specs.Outside.{SinkSeen, SourceSeen}
 use Rattle.run_files.specs.Stops.{write_end}
 use Rattle.run_files.specs.declared.stop.Stop.TheVariants.{FeedRefused}
@@ -83,7 +84,7 @@ module _ {I O : Type 0} (i : SourceSeen I) (s : SinkSeen O) (is_stat : Stat → 
   abbrev pub IsRefusedScript : List ℕ → Type 0
   IsRefusedScript name = is_script_refused schema (file_or_empty files name) ≡ true
 
-  pub large_script : (name : List ℕ) (before : SessionState I O) (done : SessionDone I O) → IsSessionOf i.left i.faults s (Some files) name before → LeavesTranscript i.left i.faults s.held s.faults s.name is_stat schema final closed starved points before done
+  pub large_script : (name : List ℕ) (before : SessionState I O) (done : SessionDone I O) → IsSessionOf i.left i.faults s (Some files) name before → LeavesTranscript (ends_seen i s) is_stat schema final (closing closed starved points) before done
       → session_end done.fault ≡ Err FeedRefused → IsLarge name
   large_script name before done ready leaves end =
       let much : IsErrOf leaves.end fault.TooMuch = ended_by leaves.end fault.TooMuch (sym leaves.numbers.2 ∙ session_refused_end done.fault end) in
@@ -96,14 +97,14 @@ module _ {I O : Type 0} (i : SourceSeen I) (s : SinkSeen O) (is_stat : Stat → 
       omega (arith, large)
 
   -- the script of a session that had too much is refused
-  refused_script : (name : List ℕ) (before : SessionState I O) (done : SessionDone I O) → IsSessionOf i.left i.faults s (Some files) name before → LeavesTranscript i.left i.faults s.held s.faults s.name is_stat schema final closed starved points before done
+  refused_script : (name : List ℕ) (before : SessionState I O) (done : SessionDone I O) → IsSessionOf i.left i.faults s (Some files) name before → LeavesTranscript (ends_seen i s) is_stat schema final (closing closed starved points) before done
       → session_end done.fault ≡ Err FeedRefused → IsRefusedScript name
   refused_script name before done ready leaves end =
       let much : IsErrOf leaves.end fault.TooMuch = ended_by leaves.end fault.TooMuch (sym leaves.numbers.2 ∙ session_refused_end done.fault end) in
       Told-some (i.left before.source.source) (file_or_empty files name) (λ script. is_script_refused schema script ≡ true) ready.script.left_is (leaves.refused much ready.script.is_new)
 
   pub refused_scripts : (names : List (List ℕ)) (befores : List (SessionState I O)) (dones : List (SessionDone I O)) → AllZip (IsSessionOf i.left i.faults s (Some files)) names befores
-      → AllZip (LeavesTranscript i.left i.faults s.held s.faults s.name is_stat schema final closed starved points) befores dones → AnyOf (λ (d : SessionDone I O). session_end d.fault ≡ Err FeedRefused) dones → AnyOf IsRefusedScript names
+      → AllZip (LeavesTranscript (ends_seen i s) is_stat schema final (closing closed starved points)) befores dones → AnyOf (λ (d : SessionDone I O). session_end d.fault ≡ Err FeedRefused) dones → AnyOf IsRefusedScript names
   refused_scripts [] [] [] ready leave any = absurd any
   refused_scripts [] [] (d ∷ dones) ready leave any = absurd leave
   refused_scripts [] (b ∷ befores) dones ready leave any = absurd ready

@@ -11,7 +11,7 @@ use Rattle.crew_feeder.specs.declared.job.FeedDone.{FeedDone}
 use Rattle.crew_feeder.specs.declared.job.FeedJob.{FeedJob}
 use Rattle.crew_session.specs.declared.done.SessionDone.{SessionDone}
 use Rattle.cube_crew.proofs.Zips.{AllZip-length, AllZip-right, AllZip-then}
-use Rattle.cube_crew.specs.Crewed.{IsCrewed, LeavesTranscript, answered_over}
+use Rattle.cube_crew.specs.Crewed.{IsCrewed, LeavesTranscript, answered_over, closing}
 use Rattle.cube_crew.specs.declared.jobs.Crewed.{Crewed}
 use Rattle.cube_schema.specs.Files.{NamesFiles, input_names, output_names}
 use Rattle.cube_schema.specs.Repeats.{outputs}
@@ -41,7 +41,7 @@ use Rattle.plan_run.proofs.Ranked.{ComesFirst, all_ranked, lacking, rank_end, wi
 use Rattle.plan_run.proofs.Taken.{Gave, GaveRows, StandsAfterOne, all_gave, points_begin, takes_feed}
 use Rattle.plan_run.proofs.Zips.{AllZip-ap, AllZip-mapped, AllZip-with}
 use Rattle.plan_run.specs.Interrupted.{Account, BeginsFiles, AnswersInFile, HoldsFiles, InterleavesFronts, StopsScript, ReportsFeed, account_text, accepted_lists, is_script_unread, is_unread, read_stops}
-use Rattle.plan_run.specs.Parts.{run_done_of, jobs_of}
+use Rattle.plan_run.specs.Parts.{ends_seen, jobs_of, run_done_of}
 use Rattle.run_files.proofs.Counts.{counts_failed, counts_grow, rose_from_before, rose_later}
 use Rattle.run_files.proofs.Lists.{All-back, All-front}
 use Rattle.run_files.specs.GivingBack.{Lands, faulty}
@@ -116,7 +116,7 @@ part_lands f g after name text held n is told empty (Err io.Failed) lands =
 part_lands f g after name text held n is told empty (Err io.NoMemory) lands = (0, subst (λ o. IsSomeAnd o (λ now. get now name ≡ get f name)) told lands ∙ empty)
 
 module _ {P I O T : Type 0} (p : PlaceSeen P) (i : SourceSeen I) (s : SinkSeen O) (t : SinkSeen T) (plan : Plan) (parts : RunParts I O) (place place' : P) (out out' : T) (o : Option Files) (ready : AreReady i.left i.faults s o plan parts) (crewed : Crewed I O)
-    (ran : IsCrewed i.left i.faults s.held s.faults s.name OwnsAllButRoot plan.schema (jobs_of parts) crewed)
+    (ran : IsCrewed (ends_seen i s) OwnsAllButRoot plan.schema (jobs_of parts) crewed)
     (feed_causes : All (FeedCause i.faults) crewed.feeds) (ask_causes : All (SessionCause i.faults s.faults) crewed.asks) (final_causes : All (SessionCause i.faults s.faults) crewed.finals)
     (result : Result (Unit {0}) Stop) (planned : result ≢ Err PlanRefused) (closes : ClosesRun plan (run_done_of crewed parts.journal) (parts_seen p i s) t (at place out) (at place' out') result) where
   abbrev done : RunDone I O
@@ -282,12 +282,12 @@ module _ {P I O T : Type 0} (p : PlaceSeen P) (i : SourceSeen I) (s : SinkSeen O
 
     asks_run : AllZip (HasRun i s plan.schema false crewed.closed crewed.starved points files result) plan.asks crewed.asks
     asks_run =
-        AllZip-then (IsSessionOf i.left i.faults s (Some files)) (LeavesTranscript i.left i.faults s.held s.faults s.name OwnsAllButRoot plan.schema false crewed.closed crewed.starved points) (HasRun i s plan.schema false crewed.closed crewed.starved points files result)
+        AllZip-then (IsSessionOf i.left i.faults s (Some files)) (LeavesTranscript (ends_seen i s) OwnsAllButRoot plan.schema false (closing crewed.closed crewed.starved points)) (HasRun i s plan.schema false crewed.closed crewed.starved points files result)
         plan.asks parts.asks crewed.asks (λ name before d r l. record { before = before; ready = r; leaves = l }) it_is.asks ran.asks
 
     finals_run : AllZip (HasRun i s plan.schema true crewed.closed crewed.starved points files result) plan.finals crewed.finals
     finals_run =
-        AllZip-then (IsSessionOf i.left i.faults s (Some files)) (LeavesTranscript i.left i.faults s.held s.faults s.name OwnsAllButRoot plan.schema true crewed.closed crewed.starved points) (HasRun i s plan.schema true crewed.closed crewed.starved points files result)
+        AllZip-then (IsSessionOf i.left i.faults s (Some files)) (LeavesTranscript (ends_seen i s) OwnsAllButRoot plan.schema true (closing crewed.closed crewed.starved points)) (HasRun i s plan.schema true crewed.closed crewed.starved points files result)
         plan.finals parts.finals crewed.finals (λ name before d r l. record { before = before; ready = r; leaves = l }) it_is.finals ran.finals
 
     stopped : (final : Bool) (scripts : List (List ℕ)) (sessions : List (SessionDone I O)) → AllZip (HasRun i s plan.schema final crewed.closed crewed.starved points files result) scripts sessions → All SessionFirst sessions → AllZip (StopsScript plan.schema crewed.closed result files) scripts (map script_counts sessions)

@@ -11,7 +11,7 @@ use Rattle.crew_feeder.specs.declared.job.FeedDone.{FeedDone}
 use Rattle.crew_feeder.specs.declared.job.FeedJob.{FeedJob}
 use Rattle.crew_session.specs.declared.done.SessionDone.{SessionDone}
 use Rattle.cube_crew.proofs.Zips.{AllZip-length, AllZip-right}
-use Rattle.cube_crew.specs.Crewed.{IsCrewed, LeavesTranscript, answered_over}
+use Rattle.cube_crew.specs.Crewed.{IsCrewed, LeavesTranscript, answered_over, closing}
 use Rattle.cube_crew.specs.declared.jobs.Crewed.{Crewed}
 use Rattle.cube_schema.specs.Files.{NamesFiles, input_names, output_names}
 use Rattle.cube_schema.specs.Repeats.{outputs}
@@ -32,7 +32,7 @@ use Rattle.plan_run.proofs.Joined.{All-unmapped, IsWell, all_well, feed_well, se
 use Rattle.plan_run.proofs.Landed.{AllPairs-back, AllPairs-front, AllPairs-last, all_landed, some_is, told_pair}
 use Rattle.plan_run.proofs.OneJournal.{EntryLaws, entries_valid}
 use Rattle.plan_run.specs.Completed.{IsCompleted, reply_counts, whole_rows}
-use Rattle.plan_run.specs.Parts.{run_done_of, jobs_of}
+use Rattle.plan_run.specs.Parts.{ends_seen, jobs_of, run_done_of}
 use Rattle.run_files.proofs.Lists.{All-back, All-front}
 use Rattle.run_files.specs.GivingBack.{Lands, TakesSinks}
 use Rattle.run_files.specs.Outside.{at, file_of, parts_seen, PlaceSeen, Puts as Said, SinkSeen, SourceSeen}
@@ -96,7 +96,7 @@ module _ {P I O T : Type 0} (p : PlaceSeen P) (i : SourceSeen I) (s : SinkSeen O
   sink_of done = done.sink
 
   -- the files of a run that was closed and ended well
-  pub completed : EntryLaws → (files now : Files) (crewed : Crewed I O) → NamesFiles plan → AreReady i.left i.faults s (Some files) plan parts → IsCrewed i.left i.faults s.held s.faults s.name OwnsAllButRoot plan.schema (jobs_of parts) crewed
+  pub completed : EntryLaws → (files now : Files) (crewed : Crewed I O) → NamesFiles plan → AreReady i.left i.faults s (Some files) plan parts → IsCrewed (ends_seen i s) OwnsAllButRoot plan.schema (jobs_of parts) crewed
       → p.files place ≡ Some now → (closes : ClosesRun plan (run_done_of crewed parts.journal) (parts_seen p i s) t (at place out) (at place' out') (Ok tt)) → IsSomeAnd (p.files place') (λ files'. IsCompleted plan files files' (t.held out) (t.held out'))
   completed laws files now crewed names ready ran told closes =
       let well = ends_well crewed closes in
@@ -111,8 +111,8 @@ module _ {P I O T : Type 0} (p : PlaceSeen P) (i : SourceSeen I) (s : SinkSeen O
       let last = told_pair (p.files closes.replied) (p.files place') replied.0 (λ a b. SameBut a b (s.name closes.sink)) replied.1 closes.journal.others in
       -- feeds and scripts
       let fed = are_fed i.left i.faults plan.schema (file_or_empty files) plan.feeds parts.feeds ran.sent crewed.feeds ready.feeds ran.feeds well.feeds in
-      let ran_asks = subst (λ closed. AllZip (LeavesTranscript i.left i.faults s.held s.faults s.name OwnsAllButRoot plan.schema false crewed.closed crewed.starved (answered_over closed crewed.journal crewed.drawn)) parts.asks crewed.asks) found.closed ran.asks in
-      let ran_finals = subst (λ closed. AllZip (LeavesTranscript i.left i.faults s.held s.faults s.name OwnsAllButRoot plan.schema true crewed.closed crewed.starved (answered_over closed crewed.journal crewed.drawn)) parts.finals crewed.finals) found.closed ran.finals in
+      let ran_asks = subst (λ closed. AllZip (LeavesTranscript (ends_seen i s) OwnsAllButRoot plan.schema false (closing crewed.closed crewed.starved (answered_over closed crewed.journal crewed.drawn))) parts.asks crewed.asks) found.closed ran.asks in
+      let ran_finals = subst (λ closed. AllZip (LeavesTranscript (ends_seen i s) OwnsAllButRoot plan.schema true (closing crewed.closed crewed.starved (answered_over closed crewed.journal crewed.drawn))) parts.finals crewed.finals) found.closed ran.finals in
       let asks = all_replied i s plan.schema false points files crewed.closed crewed.starved plan.asks parts.asks crewed.asks found.closed well.fed ready.asks ran_asks well.asks in
       let finals = all_replied i s plan.schema true points files crewed.closed crewed.starved plan.finals parts.finals crewed.finals found.closed well.fed ready.finals ran_finals well.finals in
       -- names

@@ -6,15 +6,19 @@ use Rattle.cube_crew.specs.declared.jobs.Crewed.{Crewed}
 use Rattle.cube_crew.specs.declared.jobs.Jobs.{Jobs}
 use Rattle.cube_schema.specs.declared.plan.Plan.{Plan}
 use Rattle.cube_store.specs.Numbers.{OwnsAllButRoot}
-use Rattle.live_session.specs.State.{SessionState}
+use Rattle.live_session.specs.State.{SessionEnds, SessionState}
 use Rattle.outer_io.specs.declared.fault.IoFault.{IoFault}
 use Rattle.run_files.specs.GivingBack.{TakesSinks, TakesSources}
-use Rattle.run_files.specs.Outside.{Outside, PartsSeen, SinkSeen}
+use Rattle.run_files.specs.Outside.{Outside, PartsSeen, SinkSeen, SourceSeen}
 use Rattle.run_files.specs.declared.stop.Stop.{Stop}
 use Rattle.run_files.specs.declared.stop.Stop.TheVariants.{NoMemory}
 use Rattle.run_opening.specs.declared.parts.RunParts.{RunParts}
 use Rattle.run_stages.specs.Closing.{ClosesRun, ReturnsSink}
 use Rattle.run_stages.specs.declared.done.RunDone.{RunDone}
+
+-- what contracts see of sources and sinks, as the ends of sessions
+abbrev pub ends_seen : {I O : Type 0} → SourceSeen I → SinkSeen O → SessionEnds I O
+ends_seen source sink = record { left = source.left; faults = source.faults; held = sink.held; put_faults = sink.faults; name = sink.name }
 
 -- the jobs among the parts
 abbrev pub jobs_of : {I O : Type 0} → RunParts I O → Jobs I O
@@ -43,7 +47,7 @@ module _ {P I O T : Type 0} (seen : PartsSeen P I O) (t : SinkSeen T) where
   -- The parts ran, and then the run was closed
   pub record Runs (plan : Plan) (parts : RunParts I O) (before after : Outside P T) (result : Result (Unit {0}) Stop) : Type 0 where
     pub crewed : Crewed I O
-    pub ran : IsCrewed seen.source.left seen.source.faults seen.sink.held seen.sink.faults seen.sink.name OwnsAllButRoot plan.schema (jobs_of parts) crewed
+    pub ran : IsCrewed (ends_seen seen.source seen.sink) OwnsAllButRoot plan.schema (jobs_of parts) crewed
     pub closes : ClosesRun plan (run_done_of crewed parts.journal) seen t before after result
 
   -- The parts ran, or, where that found no memory to begin with, were given back

@@ -3,6 +3,7 @@ ghost use Rattle.std.specs.Prelude.{◌≡◌, ◌≤◌, ◌+◌, [], length, I
 ghost use Rattle.cube_crew.specs.Begins.{MayRun};
 ghost use Rattle.cube_crew.specs.Crewed.{IsCrewed};
 ghost use Rattle.cube_store.specs.Numbers.{OwnsAllButRoot};
+ghost use Rattle.live_session.specs.State.{ends_of};
 ghost use Rattle.plan_run.specs.Ends.{RunEnds};
 ghost use Rattle.plan_run.specs.Parts.{RunsParts, run_done_of};
 ghost use Rattle.run_files.specs.Outside.{at, of_parts, of_place, of_sink};
@@ -31,7 +32,7 @@ fn run_jobs<R: Threads + Wait + Sync, I: Source + Send, O: Sink + Send>(
     jobs: Jobs<I, O>,
 ) -> Result<Crewed<I, O>, Jobs<I, O>>
     requires { MayRun schema.now jobs }
-    ensures crewed { IfOk result (IsCrewed I.left I.faults O.held O.faults O.name OwnsAllButRoot schema.now jobs) }
+    ensures crewed { IfOk result (IsCrewed (ends_of I.Source O.Sink) OwnsAllButRoot schema.now jobs) }
     ensures back { IfErr result (λ back. back ≡ jobs) }
 {
     match empty_cubes(alloc, schema) {

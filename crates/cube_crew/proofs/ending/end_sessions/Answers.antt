@@ -23,14 +23,14 @@ finals_learn g c = subst (λ l. AllZip (HasLearned c.args.pair.0.ended) l c.teac
 
 -- the finals run over what they learned, and stand in their vec as they leave
 finals_run : (g : Over) (c : After-run_sessions g) → AllZip (HasLearned c.args.pair.0.ended) c.args.finals.0.items c.teach-2.new.works
-    → AllZip (LeavesSession g.I.Source.left g.I.Source.faults g.O.Sink.held g.O.Sink.faults g.O.Sink.name g.V.CubeView.is_stat) c.teach-2.new.works c.run_sessions.new.works
+    → AllZip (LeavesSession (ends_of g.I.Source g.O.Sink) g.V.CubeView.is_stat) c.teach-2.new.works c.run_sessions.new.works
     × (take c.args.finals.0.len (c.run_sessions.new.works ++ drop (length c.run_sessions.new.works) (take c.args.finals.0.len (c.teach-2.new.works ++ drop (length c.teach-2.new.works) c.args.finals.0.items))) ≡ c.run_sessions.new.works)
 finals_run g c learned =
     let same = AllZip-length (HasLearned c.args.pair.0.ended) c.args.finals.0.items c.teach-2.new.works learned in
     let back = c.as_mut_slice-3.ensures.value ∙ front_back c.teach-2.new.works _ c.args.finals.0.len (omega (arith, c.args.finals.0.ok.0, same)) in
-    let ran = subst (λ l. AllZip (LeavesSession g.I.Source.left g.I.Source.faults g.O.Sink.held g.O.Sink.faults g.O.Sink.name g.V.CubeView.is_stat) l c.run_sessions.new.works) back c.run_sessions.ensures in (
+    let ran = subst (λ l. AllZip (LeavesSession (ends_of g.I.Source g.O.Sink) g.V.CubeView.is_stat) l c.run_sessions.new.works) back c.run_sessions.ensures in (
       ran,
-      front_back c.run_sessions.new.works _ c.args.finals.0.len (omega (arith, c.args.finals.0.ok.0, same, AllZip-length (LeavesSession g.I.Source.left g.I.Source.faults g.O.Sink.held g.O.Sink.faults g.O.Sink.name g.V.CubeView.is_stat) c.teach-2.new.works c.run_sessions.new.works ran)),
+      front_back c.run_sessions.new.works _ c.args.finals.0.len (omega (arith, c.args.finals.0.ok.0, same, AllZip-length (LeavesSession (ends_of g.I.Source g.O.Sink) g.V.CubeView.is_stat) c.teach-2.new.works c.run_sessions.new.works ran)),
     )
 
 pub run_sessions-requires-clause-no_turn : goal.run_sessions-requires-clause-no_turn
@@ -54,7 +54,7 @@ close_sessions-finals-requires-clause-learned g c κs within =
     let learned = finals_learn g at.After-teach-2 in
     let ran = finals_run g at.After-run_sessions learned in
     All-same (λ w. IsSome w.last) _ c.run_sessions.new.works ran.1
-    (ran_last g.I.Source.left g.I.Source.faults g.O.Sink.held g.O.Sink.faults g.O.Sink.name g.V.CubeView.is_stat c.teach-2.new.works c.run_sessions.new.works ran.0 (learned_last c.args.pair.0.ended c.args.finals.0.items c.teach-2.new.works learned))
+    (ran_last (ends_of g.I.Source g.O.Sink) g.V.CubeView.is_stat c.teach-2.new.works c.run_sessions.new.works ran.0 (learned_last c.args.pair.0.ended c.args.finals.0.items c.teach-2.new.works learned))
 
 pub returns-clause-asks : goal.returns-clause-asks
 returns-clause-asks g c =
@@ -70,5 +70,5 @@ returns-clause-finals g c =
     let ran = finals_run g (goal.at.returns-clause-finals g c).After-run_sessions learned in
     let starved = c.has_starved_session-starved.result in
     subst (AllZip (EndsFinal (ends_of g.I.Source g.O.Sink) g.V.CubeView.is_stat c.args.pair.0.ended starved) c.args.finals.0.items) (sym (c.close_sessions-finals.ensures.dones ∙ ap (map done_of) ran.1))
-    (finals_end g.I.Source.left g.I.Source.faults g.O.Sink.held g.O.Sink.faults g.O.Sink.name g.V.CubeView.is_stat c.args.pair.0.ended starved c.args.finals.0.items c.teach-2.new.works c.run_sessions.new.works learned ran.0
+    (finals_end (ends_of g.I.Source g.O.Sink) g.V.CubeView.is_stat c.args.pair.0.ended starved c.args.finals.0.items c.teach-2.new.works c.run_sessions.new.works learned ran.0
     (λ enough. All-same FoundMemory c.run_sessions.new.works _ (sym ran.1 ∙ search rules) (c.has_starved_session-starved.ensures enough)))

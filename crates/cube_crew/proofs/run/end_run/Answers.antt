@@ -71,7 +71,7 @@ ends_by g c asks finals starved closed whole left within enough found =
     let ended : c.from_vec.result ≡ map end_of works = c.from_vec.ensures ∙ c.end_feeds-feeds.ensures.ended in
     let turn = subst (λ (l : List FeedState). AreInTurn l parts.0.feeders → IsInterleaving parts.0.feeders (list_of (sent_lists l)) c.settle-drawn.result) ended c.settle-drawn.ensures.in_turn in
     subst (λ (b : Building). EndsRun (ends_of g.I.Source g.O.Sink) g.V.CubeView.is_stat works b c.args.later.asks.items c.args.finals.items (given g c asks finals starved closed)) c.into_parts-draws.ensures
-    (ends_run g.I.Source.left g.I.Source.faults g.O.Sink.held g.O.Sink.faults g.O.Sink.name g.V.CubeView.is_stat works parts.0 parts.1 parts.2 c.args.later.asks.items c.args.finals.items (given g c asks finals starved closed)
+    (ends_run (ends_of g.I.Source g.O.Sink) g.V.CubeView.is_stat works parts.0 parts.1 parts.2 c.args.later.asks.items c.args.finals.items (given g c asks finals starved closed)
     run (c.from_vec-feeds.ensures ∙ c.end_feeds-feeds.ensures.dones) refl c.settle-drawn.ensures.drawn turn c.into_journal-journal.ensures.prefix c.into_journal-journal.ensures.whole whole left within enough found)
 
 pub returns-in-Ok : goal.returns-in-Ok
@@ -87,7 +87,7 @@ returns-in-Ok g c =
       rested.0,
       subst (AllZip (EndsAsk whole) c.args.later.asks.items) (sym c.from_vec-in-Ok.ensures) c.end_sessions-answered.ensures.asks,
       subst (AllZip (EndsFinal (ends_of g.I.Source g.O.Sink) g.V.CubeView.is_stat whole c.either.result) c.args.finals.items) (sym c.from_vec-in-Ok-2.ensures)
-          (finals_starve g.I.Source.left g.I.Source.faults g.O.Sink.held g.O.Sink.faults g.O.Sink.name g.V.CubeView.is_stat whole c.either.result c.has_starved-starved.result c.end_sessions-answered.result.starved c.args.finals.items c.end_sessions-answered.result.finals.items c.either.ensures c.end_sessions-answered.ensures.finals),
+          (finals_starve (ends_of g.I.Source g.O.Sink) g.V.CubeView.is_stat whole c.either.result c.has_starved-starved.result c.end_sessions-answered.result.starved c.args.finals.items c.end_sessions-answered.result.finals.items c.either.ensures c.end_sessions-answered.ensures.finals),
     ))
     (λ is. absurd (false≢true (sym is)))
     (λ is. absurd (false≢true (sym is)))

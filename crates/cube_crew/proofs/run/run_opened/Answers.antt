@@ -47,8 +47,8 @@ have_fed g c seated = subst (λ l. AllZip (HasFed g.I.Source.left g.I.Source.fau
 
 -- the asks have left
 have_asked : (g : Over) (c : After-run_together g) → c.seat_sessions-asks.result.items ≡ session_works_of c.args.opened.schema c.args.opened.publisher.published c.args.jobs.asks c.args.opened.mails.outs.items
-    → AllZip (LeavesSession g.I.Source.left g.I.Source.faults g.O.Sink.held g.O.Sink.faults g.O.Sink.name g.V.CubeView.is_stat) (session_works_of c.args.opened.schema c.args.opened.publisher.published c.args.jobs.asks c.args.opened.mails.outs.items) c.run_together.new.later.asks.items
-have_asked g c seated = subst (λ l. AllZip (LeavesSession g.I.Source.left g.I.Source.faults g.O.Sink.held g.O.Sink.faults g.O.Sink.name g.V.CubeView.is_stat) l c.run_together.new.later.asks.items) seated c.run_together.ensures.later.asks
+    → AllZip (LeavesSession (ends_of g.I.Source g.O.Sink) g.V.CubeView.is_stat) (session_works_of c.args.opened.schema c.args.opened.publisher.published c.args.jobs.asks c.args.opened.mails.outs.items) c.run_together.new.later.asks.items
+have_asked g c seated = subst (λ l. AllZip (LeavesSession (ends_of g.I.Source g.O.Sink) g.V.CubeView.is_stat) l c.run_together.new.later.asks.items) seated c.run_together.ensures.later.asks
 
 -- and the builder has built
 has_built : (g : Over) (c : After-run_together g) → IsBuilt (work_state c.args.opened.draws c.new-builder.result c.args.opened.mails.ins) c.run_together.new.later.building
@@ -58,7 +58,7 @@ has_built g c = subst (λ (w : Building). IsBuilt w c.run_together.new.later.bui
 same_many : (g : Over) (c : After-run_together g) → (c.run_together.new.feeds.len ≡ c.seat_feeds-works.result.len) × (c.run_together.new.later.asks.len ≡ c.seat_sessions-asks.result.len)
 same_many g c = (
   omega (arith, c.run_together.new.feeds.ok.0, c.seat_feeds-works.result.ok.0, AllZip-length (HasFed g.I.Source.left g.I.Source.faults true) c.seat_feeds-works.result.items c.run_together.new.feeds.items c.run_together.ensures.feeds),
-  omega (arith, c.run_together.new.later.asks.ok.0, c.seat_sessions-asks.result.ok.0, AllZip-length (LeavesSession g.I.Source.left g.I.Source.faults g.O.Sink.held g.O.Sink.faults g.O.Sink.name g.V.CubeView.is_stat) c.seat_sessions-asks.result.items c.run_together.new.later.asks.items c.run_together.ensures.later.asks),
+  omega (arith, c.run_together.new.later.asks.ok.0, c.seat_sessions-asks.result.ok.0, AllZip-length (LeavesSession (ends_of g.I.Source g.O.Sink) g.V.CubeView.is_stat) c.seat_sessions-asks.result.items c.run_together.new.later.asks.items c.run_together.ensures.later.asks),
 )
 
 pub seat_feeds-works-requires-clause-len : goal.seat_feeds-works-requires-clause-len
@@ -128,7 +128,7 @@ run_together-requires-clause-later g c κs within =
     let takes = opened.mails.outs.items in (
       c.new.ensures.new,
       All-same (λ w. HadNoTurn w.session) c.seat_sessions-asks.result.items (session_works_of opened.schema opened.publisher.published c.args.jobs.asks takes) (seated_asks g (goal.at.run_together-requires-clause-later g c).After-seat_sessions-asks)
-          (all_works g.I.Source.left g.I.Source.faults g.O.Sink.held g.O.Sink.faults g.O.Sink.name g.V.CubeView.is_stat opened.schema (λ w. HadNoTurn w.session) opened.publisher.published c.args.jobs.asks takes (λ session mail none. none) c.requires.jobs.asks),
+          (all_works (ends_of g.I.Source g.O.Sink) g.V.CubeView.is_stat opened.schema (λ w. HadNoTurn w.session) opened.publisher.published c.args.jobs.asks takes (λ session mail none. none) c.requires.jobs.asks),
     )
 
 pub end_run-requires-clause-run : goal.end_run-requires-clause-run
@@ -141,7 +141,7 @@ end_run-requires-clause-run g c κs within =
     let finals_count : length (session_works_of opened.schema opened.publisher.published c.args.jobs.finals opened.mails.final_outs.items) ≡ length c.args.jobs.finals =
     omega (arith, ap length final, c.seat_sessions-finals.result.ok.0, c.seat_sessions-finals.ensures.len.0, c.into_vec-final_jobs.result.ok.0, ap length c.into_vec-final_jobs.ensures) in
     subst (IsRun c.run_together.new.feeds.items c.run_together.new.later.building c.run_together.new.later.asks.items) (sym final)
-    (is_run g.I.Source.left g.I.Source.faults g.O.Sink.held g.O.Sink.faults g.O.Sink.name g.V.CubeView.is_stat opened.schema c.args.jobs opened.draws opened.publisher.published opened.ends.items opened.mails.ins opened.mails.outs.items opened.mails.final_outs.items
+    (is_run (ends_of g.I.Source g.O.Sink) g.V.CubeView.is_stat opened.schema c.args.jobs opened.draws opened.publisher.published opened.ends.items opened.mails.ins opened.mails.outs.items opened.mails.final_outs.items
     c.run_together.new.feeds.items (work_state opened.draws c.new-builder.result opened.mails.ins) c.run_together.new.later.building c.run_together.new.later.asks.items
     (seats_at g at.After-new-builder) (have_fed g at.After-run_together (seated_feeds g at.After-seat_feeds-works)) (have_asked g at.After-run_together (seated_asks g at.After-seat_sessions-asks)) (has_built g at.After-run_together) asks_count finals_count)
 
@@ -166,6 +166,6 @@ returns g c =
     let building = c.run_together.new.later.building in
     let asks = c.run_together.new.later.asks.items in
     let over = subst (λ l. EndsRun (ends_of g.I.Source g.O.Sink) g.V.CubeView.is_stat works building asks l c.end_run.result) (seated_finals g at.After-seat_sessions-finals) c.end_run.ensures in
-    crewed g.I.Source.left g.I.Source.faults g.O.Sink.held g.O.Sink.faults g.O.Sink.name g.V.CubeView.is_stat opened.schema c.args.jobs c.transcript_laws.ensures.stays opened.draws opened.publisher.published opened.ends.items opened.mails.ins opened.mails.outs.items opened.mails.final_outs.items
+    crewed (ends_of g.I.Source g.O.Sink) g.V.CubeView.is_stat opened.schema c.args.jobs c.transcript_laws.ensures.stays opened.draws opened.publisher.published opened.ends.items opened.mails.ins opened.mails.outs.items opened.mails.final_outs.items
     works (work_state opened.draws c.new-builder.result opened.mails.ins) building asks c.end_run.result
     (seats_at g at.After-new-builder) (have_fed g at.After-run_together (seated_feeds g at.After-seat_feeds-works)) (have_asked g at.After-run_together (seated_asks g at.After-seat_sessions-asks)) (has_built g at.After-run_together) over

@@ -1,7 +1,8 @@
 use Rattle.std.proofs.Common.{arith, true, false, length, ap}
 use Rattle.cube_crew.proofs.Zips.{AllZip-length}
-use Rattle.cube_crew.specs.Crewed.{LeavesTranscript, answered_over}
+use Rattle.cube_crew.specs.Crewed.{LeavesTranscript, answered_over, closing_of}
 use Rattle.cube_store.specs.Numbers.{OwnsAllButRoot}
+use Rattle.live_session.specs.State.{ends_of}
 use Rattle.run_stages.specs.declared.done.RunDone.{RunDone}
 use Rattle.world_core.specs.Interleaving.{entry_points}
 use Rattle.plan_run.proofs.run.run_parts.Goals as goal
@@ -12,8 +13,8 @@ close_run-requires-clause-room g c κs within =
     let ran = c.in-Ok.ensures.crewed in
     let parts = c.args.parts in
     let schema = c.args.plan.now.schema in
-    let asks = AllZip-length (LeavesTranscript g.P.In.Source.left g.P.In.Source.faults g.P.Out.Sink.held g.P.Out.Sink.faults g.P.Out.Sink.name OwnsAllButRoot schema false crewed.closed crewed.starved (answered_over crewed.closed crewed.journal crewed.drawn)) parts.asks crewed.asks ran.asks in
-    let finals = AllZip-length (LeavesTranscript g.P.In.Source.left g.P.In.Source.faults g.P.Out.Sink.held g.P.Out.Sink.faults g.P.Out.Sink.name OwnsAllButRoot schema true crewed.closed crewed.starved (answered_over crewed.closed crewed.journal crewed.drawn)) parts.finals crewed.finals ran.finals in
+    let asks = AllZip-length (LeavesTranscript (ends_of g.P.In.Source g.P.Out.Sink) OwnsAllButRoot schema false (closing_of crewed)) parts.asks crewed.asks ran.asks in
+    let finals = AllZip-length (LeavesTranscript (ends_of g.P.In.Source g.P.Out.Sink) OwnsAllButRoot schema true (closing_of crewed)) parts.finals crewed.finals ran.finals in
     let same_asks = ap (λ (d : RunDone g.row.P-In.Denot g.row.P-Out.Denot). length d.asks) c.run_done_of.ensures in
     let same_finals = ap (λ (d : RunDone g.row.P-In.Denot g.row.P-Out.Denot). length d.finals) c.run_done_of.ensures in
     omega (arith, asks, finals, same_asks, same_finals, c.requires.room)

@@ -7,14 +7,15 @@ use Rattle.live_session.proofs.Refused.{refused_at_too_much, taken_at_end}
 use Rattle.live_session.proofs.RunSteps.{costs_at_end, took_nothing, took_on}
 use Rattle.live_session.proofs.Running.{after_turn, all_ended, all_too_much, answered_on, done_fault, has_ended, mail_same, not_last, replied_not_last, skipped_not_last, some_on, still_going}
 use Rattle.live_session.proofs.SoFarLaws.{answered_nothing}
+use Rattle.live_session.specs.State.{ends_of}
 use Rattle.session_core.proofs.SoFar.{fault_is}
 use Rattle.live_session.proofs.session.Session.run.Goals as goal
 
 pub turns-init : goal.turns-init
 turns-init g c = record {
   between = record {
-    so_far = answered_nothing g.I.Source.left g.I.Source.faults g.O.Sink.held c.args.viewer.schema g.V.CubeView.is_stat c.args.mail.now.takes false (news_of c.args.viewer.shown c.args.viewer.learned c.args.mail.now) c.args.self.now (omega arith);
-    finals = if_some c.args.viewer.last (λ w last. answered_nothing g.I.Source.left g.I.Source.faults g.O.Sink.held c.args.viewer.schema g.V.CubeView.is_stat c.args.mail.now.takes true (news_of w w c.args.mail.now) c.args.self.now (omega arith));
+    so_far = answered_nothing (ends_of g.I.Source g.O.Sink) c.args.viewer.schema g.V.CubeView.is_stat c.args.mail.now.takes false (news_of c.args.viewer.shown c.args.viewer.learned c.args.mail.now) c.args.self.now (omega arith);
+    finals = if_some c.args.viewer.last (λ w last. answered_nothing (ends_of g.I.Source g.O.Sink) c.args.viewer.schema g.V.CubeView.is_stat c.args.mail.now.takes true (news_of w w c.args.mail.now) c.args.self.now (omega arith));
     going = c.requires.1;
     pair = c.requires.0;
     source = refl;
@@ -44,7 +45,7 @@ turns-preserved-in-Ok-Skipped g c =
           (shown_numbers after g.met.V.CubeView.structure)
           turn.turned.turned turn.faults turn.viewer turn.costs.mail turn.so_far turn.finals;
       took = took_on g.I.Source g.V.CubeView c.args.viewer.schema c.args.self.now.source c.args.steps.now c.turns.viewer.shown.points after.shown.points c.turns.self.source c.turn-after.new.self.source c.turns.steps c.turn-after.new.steps after.shown_view.value after.schema (turn.viewer.same_schema ∙ was.between.viewer.same_schema) turn.viewer.goes.seen was.took
-          (λ ended. absurd (false≢true (sym (still_going g.I.Source.left g.I.Source.faults g.O.Sink.held g.V.CubeView.is_stat c.args.mail.now.takes false (news_of c.turns.viewer.shown c.turns.viewer.learned c.turns.mail) (news_of after.shown after.learned c.turn-after.new.mail) c.args.self.now c.turns.self c.turn-after.new.self _ (shown_numbers after g.met.V.CubeView.structure) c.turns.viewer.schema c.turn-after.result.1 c.in-Ok-Skipped.field-0 (not_last _ _ (rw c.in-Ok-Skipped.is at c.in-Ok-Skipped.field-0-is) skipped_not_last) c.in-Ok-Skipped.is turn.turned.turned) ∙ ended)))
+          (λ ended. absurd (false≢true (sym (still_going (ends_of g.I.Source g.O.Sink) g.V.CubeView.is_stat c.args.mail.now.takes false (news_of c.turns.viewer.shown c.turns.viewer.learned c.turns.mail) (news_of after.shown after.learned c.turn-after.new.mail) c.args.self.now c.turns.self c.turn-after.new.self _ (shown_numbers after g.met.V.CubeView.structure) c.turns.viewer.schema c.turn-after.result.1 c.in-Ok-Skipped.field-0 (not_last _ _ (rw c.in-Ok-Skipped.is at c.in-Ok-Skipped.field-0-is) skipped_not_last) c.in-Ok-Skipped.is turn.turned.turned) ∙ ended)))
           turn.costs.steps;
     }
 
@@ -60,7 +61,7 @@ turns-preserved g c =
           (shown_numbers after g.met.V.CubeView.structure)
           turn.turned.turned turn.faults turn.viewer turn.costs.mail turn.so_far turn.finals;
       took = took_on g.I.Source g.V.CubeView c.args.viewer.schema c.args.self.now.source c.args.steps.now c.turns.viewer.shown.points after.shown.points c.turns.self.source c.turn-after.new.self.source c.turns.steps c.turn-after.new.steps after.shown_view.value after.schema (turn.viewer.same_schema ∙ was.between.viewer.same_schema) turn.viewer.goes.seen was.took
-          (λ ended. absurd (false≢true (sym (still_going g.I.Source.left g.I.Source.faults g.O.Sink.held g.V.CubeView.is_stat c.args.mail.now.takes false (news_of c.turns.viewer.shown c.turns.viewer.learned c.turns.mail) (news_of after.shown after.learned c.turn-after.new.mail) c.args.self.now c.turns.self c.turn-after.new.self _ (shown_numbers after g.met.V.CubeView.structure) c.turns.viewer.schema c.turn-after.result.1 c.in-Ok-Replied.field-0 (not_last _ _ (rw c.in-Ok-Replied.is at c.in-Ok-Replied.field-0-is) replied_not_last) c.in-Ok-Replied.is turn.turned.turned) ∙ ended)))
+          (λ ended. absurd (false≢true (sym (still_going (ends_of g.I.Source g.O.Sink) g.V.CubeView.is_stat c.args.mail.now.takes false (news_of c.turns.viewer.shown c.turns.viewer.learned c.turns.mail) (news_of after.shown after.learned c.turn-after.new.mail) c.args.self.now c.turns.self c.turn-after.new.self _ (shown_numbers after g.met.V.CubeView.structure) c.turns.viewer.schema c.turn-after.result.1 c.in-Ok-Replied.field-0 (not_last _ _ (rw c.in-Ok-Replied.is at c.in-Ok-Replied.field-0-is) replied_not_last) c.in-Ok-Replied.is turn.turned.turned) ∙ ended)))
           turn.costs.steps;
     }
 
@@ -69,19 +70,19 @@ returns-in-Err-clause-done g c =
     let was = c.turns.invariant.between in
     let turn = c.turn-after.ensures in
     let after = c.turn-after.result.0 in
-    done_fault g.I.Source.left g.I.Source.faults g.O.Sink.held g.V.CubeView.is_stat c.args.mail.now.takes false (news_of c.turns.viewer.shown c.turns.viewer.learned c.turns.mail) (news_of after.shown after.learned c.turn-after.new.mail) c.args.self.now c.turns.self c.turn-after.new.self c.turns.viewer.schema c.args.viewer.schema c.turn-after.result.1 c.in-Err.fault was.viewer.same_schema c.in-Err.is turn.so_far was.so_far
+    done_fault (ends_of g.I.Source g.O.Sink) g.V.CubeView.is_stat c.args.mail.now.takes false (news_of c.turns.viewer.shown c.turns.viewer.learned c.turns.mail) (news_of after.shown after.learned c.turn-after.new.mail) c.args.self.now c.turns.self c.turn-after.new.self c.turns.viewer.schema c.args.viewer.schema c.turn-after.result.1 c.in-Err.fault was.viewer.same_schema c.in-Err.is turn.so_far was.so_far
 
 pub returns-in-Ok-Ended-clause-finals : goal.returns-in-Ok-Ended-clause-finals
 returns-in-Ok-Ended-clause-finals g c =
     let was = c.turns.invariant.between in
     let turn = c.turn-after.ensures in
-    some_on c.args.viewer.last c.turns.viewer.last was.viewer.same_last (λ w. answered_on g.I.Source.left g.I.Source.faults g.O.Sink.held g.V.CubeView.is_stat c.args.mail.now.takes true (news_of w w c.turns.mail) (news_of w w c.turn-after.new.mail) c.args.self.now c.turns.self c.turn-after.new.self c.turns.viewer.schema c.args.viewer.schema c.turn-after.result.1 c.in-Ok-Ended.field-0 was.viewer.same_schema c.in-Ok-Ended.is) turn.finals was.finals
+    some_on c.args.viewer.last c.turns.viewer.last was.viewer.same_last (λ w. answered_on (ends_of g.I.Source g.O.Sink) g.V.CubeView.is_stat c.args.mail.now.takes true (news_of w w c.turns.mail) (news_of w w c.turn-after.new.mail) c.args.self.now c.turns.self c.turn-after.new.self c.turns.viewer.schema c.args.viewer.schema c.turn-after.result.1 c.in-Ok-Ended.field-0 was.viewer.same_schema c.in-Ok-Ended.is) turn.finals was.finals
 
 pub returns-in-Err-clause-finals : goal.returns-in-Err-clause-finals
 returns-in-Err-clause-finals g c =
     let was = c.turns.invariant.between in
     let turn = c.turn-after.ensures in
-    some_on c.args.viewer.last c.turns.viewer.last was.viewer.same_last (λ w. done_fault g.I.Source.left g.I.Source.faults g.O.Sink.held g.V.CubeView.is_stat c.args.mail.now.takes true (news_of w w c.turns.mail) (news_of w w c.turn-after.new.mail) c.args.self.now c.turns.self c.turn-after.new.self c.turns.viewer.schema c.args.viewer.schema c.turn-after.result.1 c.in-Err.fault was.viewer.same_schema c.in-Err.is) turn.finals was.finals
+    some_on c.args.viewer.last c.turns.viewer.last was.viewer.same_last (λ w. done_fault (ends_of g.I.Source g.O.Sink) g.V.CubeView.is_stat c.args.mail.now.takes true (news_of w w c.turns.mail) (news_of w w c.turn-after.new.mail) c.args.self.now c.turns.self c.turn-after.new.self c.turns.viewer.schema c.args.viewer.schema c.turn-after.result.1 c.in-Err.fault was.viewer.same_schema c.in-Err.is) turn.finals was.finals
 
 pub returns-in-Ok-Ended-clause-script : goal.returns-in-Ok-Ended-clause-script
 returns-in-Ok-Ended-clause-script g c =
@@ -89,18 +90,18 @@ returns-in-Ok-Ended-clause-script g c =
     let turn = c.turn-after.ensures in
     let after = c.turn-after.result.0 in
     let last = rw c.in-Ok-Ended.is at c.in-Ok-Ended.field-0-is in record {
-      all = all_ended g.I.Source.left g.I.Source.faults g.O.Sink.held g.V.CubeView.is_stat c.args.mail.now.takes false (news_of c.turns.viewer.shown c.turns.viewer.learned c.turns.mail) (news_of after.shown after.learned c.turn-after.new.mail) c.args.self.now c.turns.self c.turn-after.new.self
+      all = all_ended (ends_of g.I.Source g.O.Sink) g.V.CubeView.is_stat c.args.mail.now.takes false (news_of c.turns.viewer.shown c.turns.viewer.learned c.turns.mail) (news_of after.shown after.learned c.turn-after.new.mail) c.args.self.now c.turns.self c.turn-after.new.self
           (IsShownTo after)
           (shown_numbers after g.met.V.CubeView.structure)
           c.turns.viewer.schema c.args.viewer.schema c.turn-after.result.1 c.in-Ok-Ended.field-0 was.viewer.same_schema c.in-Ok-Ended.is last was.going was.so_far turn.turned.turned;
       too_much = λ e. cc;
       refused = (
-        taken_at_end g.I.Source.left g.I.Source.faults g.O.Sink.held g.V.CubeView.is_stat c.args.mail.now.takes false (news_of c.turns.viewer.shown c.turns.viewer.learned c.turns.mail) (news_of after.shown after.learned c.turn-after.new.mail) c.args.self.now c.turns.self c.turn-after.new.self
+        taken_at_end (ends_of g.I.Source g.O.Sink) g.V.CubeView.is_stat c.args.mail.now.takes false (news_of c.turns.viewer.shown c.turns.viewer.learned c.turns.mail) (news_of after.shown after.learned c.turn-after.new.mail) c.args.self.now c.turns.self c.turn-after.new.self
             (IsShownTo after)
             c.turns.viewer.schema c.args.viewer.schema c.turn-after.result.1 c.in-Ok-Ended.field-0 was.viewer.same_schema c.in-Ok-Ended.is last was.going was.so_far turn.turned.turned,
         λ e. cc,
       );
-      ended = has_ended g.I.Source.left g.I.Source.faults g.O.Sink.held g.V.CubeView.is_stat c.args.mail.now.takes false (news_of c.turns.viewer.shown c.turns.viewer.learned c.turns.mail) (news_of after.shown after.learned c.turn-after.new.mail) c.args.self.now c.turns.self c.turn-after.new.self
+      ended = has_ended (ends_of g.I.Source g.O.Sink) g.V.CubeView.is_stat c.args.mail.now.takes false (news_of c.turns.viewer.shown c.turns.viewer.learned c.turns.mail) (news_of after.shown after.learned c.turn-after.new.mail) c.args.self.now c.turns.self c.turn-after.new.self
           (IsShownTo after)
           (shown_numbers after g.met.V.CubeView.structure)
           c.turns.viewer.schema c.turn-after.result.1 c.in-Ok-Ended.field-0 c.in-Ok-Ended.is last turn.turned.turned;
@@ -112,12 +113,12 @@ returns-in-Err-clause-script g c =
     let turn = c.turn-after.ensures in
     let after = c.turn-after.result.0 in record {
       all = tt;
-      too_much = λ e. all_too_much g.I.Source.left g.I.Source.faults g.O.Sink.held g.V.CubeView.is_stat c.args.mail.now.takes false (news_of c.turns.viewer.shown c.turns.viewer.learned c.turns.mail) (news_of after.shown after.learned c.turn-after.new.mail) c.args.self.now c.turns.self c.turn-after.new.self
-          {put_faults = g.O.Sink.faults} c.args.viewer.schema c.turn-after.result.1 c.in-Err.fault c.in-Err.is (fault_is {T = Unit {0}} c.in-Err.fault _ e) was.going was.so_far turn.faults.0;
+      too_much = λ e. all_too_much (ends_of g.I.Source g.O.Sink) g.V.CubeView.is_stat c.args.mail.now.takes false (news_of c.turns.viewer.shown c.turns.viewer.learned c.turns.mail) (news_of after.shown after.learned c.turn-after.new.mail) c.args.self.now c.turns.self c.turn-after.new.self
+          c.args.viewer.schema c.turn-after.result.1 c.in-Err.fault c.in-Err.is (fault_is {T = Unit {0}} c.in-Err.fault _ e) was.going was.so_far turn.faults.0;
       refused = (
         tt,
-        λ e. refused_at_too_much g.I.Source.left g.I.Source.faults g.O.Sink.held g.V.CubeView.is_stat c.args.mail.now.takes false (news_of c.turns.viewer.shown c.turns.viewer.learned c.turns.mail) (news_of after.shown after.learned c.turn-after.new.mail) c.args.self.now c.turns.self c.turn-after.new.self
-            {put_faults = g.O.Sink.faults} c.args.viewer.schema c.turn-after.result.1 c.in-Err.fault c.in-Err.is (fault_is {T = Unit {0}} c.in-Err.fault _ e) was.going was.so_far turn.faults.0,
+        λ e. refused_at_too_much (ends_of g.I.Source g.O.Sink) g.V.CubeView.is_stat c.args.mail.now.takes false (news_of c.turns.viewer.shown c.turns.viewer.learned c.turns.mail) (news_of after.shown after.learned c.turn-after.new.mail) c.args.self.now c.turns.self c.turn-after.new.self
+            c.args.viewer.schema c.turn-after.result.1 c.in-Err.fault c.in-Err.is (fault_is {T = Unit {0}} c.in-Err.fault _ e) was.going was.so_far turn.faults.0,
       );
       ended = (of_err _ c.turn-after.result.1 c.in-Err.fault c.in-Err.is turn.faults.0.ended).0;
     }

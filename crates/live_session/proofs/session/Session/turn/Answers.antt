@@ -4,6 +4,7 @@ use Rattle.live_session.specs.Answered.{Answered, IsBroken}
 use Rattle.live_session.specs.Bounds.{TakesSteps}
 use Rattle.live_session.specs.News.{news_of}
 use Rattle.live_session.specs.Saying.{IsNewsOf, IsShownTo}
+use Rattle.live_session.specs.State.{ends_of}
 use Rattle.live_session.specs.declared.turn.Turn.{Turn}
 use Rattle.live_session.proofs.OneTurn.{end_of, faults_after, has_news, if_some, known_some, may_ask, of_fault, prefix-same, reads_of, same_fault, shown_numbers, whole_news}
 use Rattle.live_session.proofs.SoFarLaws.{done_turn, goes_final, goes_within}
@@ -16,7 +17,7 @@ use Rattle.live_session.proofs.session.Session.turn.Goals as goal
 
 pub returns-then-self-clause-turned : goal.returns-then-self-clause-turned
 returns-then-self-clause-turned g c = record {
-  turned = turned_ended g.I.Source.left g.I.Source.faults g.O.Sink.held c.args.viewer.schema _ _ _ c.args.self.now refl (ap (λ s. s.ended) (sym c.self.view_is) ∙ c.if-self.true);
+  turned = turned_ended (ends_of g.I.Source g.O.Sink) c.args.viewer.schema _ _ _ c.args.self.now refl (ap (λ s. s.ended) (sym c.self.view_is) ∙ c.if-self.true);
   broken = λ e. cc;
 }
 
@@ -32,12 +33,12 @@ returns-in-Ok-Some-clause-turned g c =
     let reads = reads_of g.I.Source.left g.I.Source.faults g.O.Sink.held c.args.viewer.schema c.schema.result.now c.args.self.now c.read_next.new.self c.in-Ok-Some.field-0 c.in-Ok-Some.parsed c.schema.ensures c.in-Ok-Some.field-0-is read.asked in
     let keeps : Keeps c.args.self.now c.read_next.new.self = (c.read_next.ensures.same.0, c.read_next.ensures.same.1, c.read_next.ensures.same.2, read.lacked) in record {
       turned =
-          turned_answered g.I.Source.left g.I.Source.faults g.O.Sink.held c.args.viewer.schema A a b c.finish-turn.result c.args.self.now c.read_next.new.self c.finish-turn.new.self c.in-Ok-Some.parsed reads keeps c.finish-turn.ensures.source news
+          turned_answered (ends_of g.I.Source g.O.Sink) c.args.viewer.schema A a b c.finish-turn.result c.args.self.now c.read_next.new.self c.finish-turn.new.self c.in-Ok-Some.parsed reads keeps c.finish-turn.ensures.source news
           (subst (λ (z : Schema). IfOk c.finish-turn.result (Answered g.O.Sink.held z A a b c.read_next.new.self c.finish-turn.new.self c.in-Ok-Some.parsed)) line.same.1
           (c.finish-turn.ensures.puts.answered a b news (λ look. refl, refl)));
       broken = λ e.
           let faulty = of_fault _ c.finish-turn.result _ c.finish-turn.ensures.faults.ended e in
-          breaks_off g.I.Source.left g.I.Source.faults g.O.Sink.held c.args.viewer.schema A a b c.args.self.now c.read_next.new.self c.finish-turn.new.self c.in-Ok-Some.parsed reads keeps c.finish-turn.ensures.source news (faulty.1, faulty.2)
+          breaks_off (ends_of g.I.Source g.O.Sink) c.args.viewer.schema A a b c.args.self.now c.read_next.new.self c.finish-turn.new.self c.in-Ok-Some.parsed reads keeps c.finish-turn.ensures.source news (faulty.1, faulty.2)
           (subst (λ (z : Schema). IsBroken g.O.Sink.held z A a b c.read_next.new.self c.finish-turn.new.self c.in-Ok-Some.parsed) line.same.1
           (c.finish-turn.ensures.puts.broken a b news (λ look. refl, refl) e));
     }
@@ -54,10 +55,10 @@ pub returns-in-Ok-Some-clause-so_far : goal.returns-in-Ok-Some-clause-so_far
 returns-in-Ok-Some-clause-so_far g c start taken s =
     let viewer = c.answer_line-viewer.result.0 in
     let line = c.answer_line-viewer.ensures in
-    done_turn g.I.Source.left g.I.Source.faults g.O.Sink.held c.args.viewer.schema g.V.CubeView.is_stat taken false
+    done_turn (ends_of g.I.Source g.O.Sink) c.args.viewer.schema g.V.CubeView.is_stat taken false
     (IsShownTo viewer)
     (shown_numbers viewer g.met.V.CubeView.structure)
-    (news_of c.args.viewer.shown c.args.viewer.learned c.args.mail.now) (news_of viewer.shown viewer.learned c.answer_line-viewer.new.mail) start c.args.self.now c.finish-turn.new.self {put_faults = g.O.Sink.faults}
+    (news_of c.args.viewer.shown c.args.viewer.learned c.args.mail.now) (news_of viewer.shown viewer.learned c.answer_line-viewer.new.mail) start c.args.self.now c.finish-turn.new.self
     (goes_within c.args.viewer.schema g.V.CubeView.is_stat (news_of c.args.viewer.shown c.args.viewer.learned c.args.mail.now) (news_of viewer.shown viewer.learned c.answer_line-viewer.new.mail) line.goes.goes.seen line.goes.goes.told)
     c.finish-turn.result (ap (λ s. s.ended) (sym c.self.view_is) ∙ c.if-self.false) line.goes.mail.rises s
     (returns-in-Ok-Some-clause-turned g c).turned (returns-in-Ok-Some-clause-turned g c).broken (returns-in-Ok-Some-clause-faults g c).0
@@ -65,7 +66,7 @@ returns-in-Ok-Some-clause-so_far g c start taken s =
 pub returns-in-Ok-None-clause-turned : goal.returns-in-Ok-None-clause-turned
 returns-in-Ok-None-clause-turned g c =
     let ends = c.in-Ok-None.ensures.reads.end (ap (λ o. Ok o) c.in-Ok-None.field-0-is) in record {
-      turned = turned_end g.I.Source.left g.I.Source.faults g.O.Sink.held c.args.viewer.schema _ _ _ c.args.self.now c.read_next.new.self refl
+      turned = turned_end (ends_of g.I.Source g.O.Sink) c.args.viewer.schema _ _ _ c.args.self.now c.read_next.new.self refl
           (end_of g.I.Source.left g.I.Source.faults g.O.Sink.held c.schema.result.now c.args.self.now c.read_next.new.self c.in-Ok-None.field-0 c.in-Ok-None.field-0-is c.in-Ok-None.ensures.reads.asked)
           ends.1 ends.0 c.read_next.ensures.same.0 c.read_next.ensures.same.1 c.read_next.ensures.same.2 c.in-Ok-None.ensures.reads.lacked;
       broken = λ e. cc;
@@ -80,7 +81,7 @@ returns-in-Err-clause-turned g c = record {
 pub returns-in-Err-clause-so_far : goal.returns-in-Err-clause-so_far
 returns-in-Err-clause-so_far g c start taken s =
     let news = news_of c.args.viewer.shown c.args.viewer.learned c.args.mail.now in
-    done_turn g.I.Source.left g.I.Source.faults g.O.Sink.held c.args.viewer.schema g.V.CubeView.is_stat taken false g.V.CubeView.is_stat (λ stat m. m) news news start c.args.self.now c.read_next.new.self {put_faults = g.O.Sink.faults}
+    done_turn (ends_of g.I.Source g.O.Sink) c.args.viewer.schema g.V.CubeView.is_stat taken false g.V.CubeView.is_stat (λ stat m. m) news news start c.args.self.now c.read_next.new.self
     (goes_within c.args.viewer.schema g.V.CubeView.is_stat news news (prefix-same c.args.viewer.shown.points c.args.viewer.shown.points refl) (prefix-same c.args.viewer.learned.points c.args.viewer.learned.points refl))
     (Err c.in-Err.fault) (ap (λ s. s.ended) (sym c.self.view_is) ∙ c.if-self.false) (omega arith) s tt
     (λ e. absurd (c.in-Err.ensures.no_write (ap (λ f. Err f) (fault_is {T = Turn} c.in-Err.fault _ e))))
@@ -99,17 +100,17 @@ returns-in-Ok-Some-clause-finals g c =
     let news = whole_news p w c.args.mail.now c.answer_line-viewer.new.mail line.goes.mail.asked in
     let reads = reads_of g.I.Source.left g.I.Source.faults g.O.Sink.held z c.schema.result.now c.args.self.now c.read_next.new.self c.in-Ok-Some.field-0 p c.schema.ensures c.in-Ok-Some.field-0-is c.in-Ok-Some.ensures.reads.asked in
     let is : IsNewsOf viewer.shown viewer.learned p b = (λ look. known_some _ c.args.viewer.last w last (line.goes.look look).1, (known_some _ viewer.last w (line.same.0 ∙ last) viewer.within).1) in
-    done_turn g.I.Source.left g.I.Source.faults g.O.Sink.held z g.V.CubeView.is_stat taken true A
+    done_turn (ends_of g.I.Source g.O.Sink) z g.V.CubeView.is_stat taken true A
     (shown_numbers viewer g.met.V.CubeView.structure)
-    a b start c.args.self.now c.finish-turn.new.self {put_faults = g.O.Sink.faults} (goes_final z g.V.CubeView.is_stat w c.args.mail.now c.answer_line-viewer.new.mail)
+    a b start c.args.self.now c.finish-turn.new.self (goes_final z g.V.CubeView.is_stat w c.args.mail.now c.answer_line-viewer.new.mail)
     c.finish-turn.result (ap (λ s. s.ended) (sym c.self.view_is) ∙ c.if-self.false) line.goes.mail.rises s
-    (turned_answered g.I.Source.left g.I.Source.faults g.O.Sink.held z A a b c.finish-turn.result c.args.self.now c.read_next.new.self c.finish-turn.new.self p reads
+    (turned_answered (ends_of g.I.Source g.O.Sink) z A a b c.finish-turn.result c.args.self.now c.read_next.new.self c.finish-turn.new.self p reads
     (c.read_next.ensures.same.0, c.read_next.ensures.same.1, c.read_next.ensures.same.2, c.in-Ok-Some.ensures.reads.lacked) c.finish-turn.ensures.source news
     (subst (λ (y : Schema). IfOk c.finish-turn.result (Answered g.O.Sink.held y A a b c.read_next.new.self c.finish-turn.new.self p)) line.same.1
     (c.finish-turn.ensures.puts.answered a b news is)))
     (λ e.
     let faulty = of_fault _ c.finish-turn.result _ c.finish-turn.ensures.faults.ended e in
-    breaks_off g.I.Source.left g.I.Source.faults g.O.Sink.held z A a b c.args.self.now c.read_next.new.self c.finish-turn.new.self p reads
+    breaks_off (ends_of g.I.Source g.O.Sink) z A a b c.args.self.now c.read_next.new.self c.finish-turn.new.self p reads
     (c.read_next.ensures.same.0, c.read_next.ensures.same.1, c.read_next.ensures.same.2, c.in-Ok-Some.ensures.reads.lacked) c.finish-turn.ensures.source news (faulty.1, faulty.2)
     (subst (λ (y : Schema). IsBroken g.O.Sink.held y A a b c.read_next.new.self c.finish-turn.new.self p) line.same.1
     (c.finish-turn.ensures.puts.broken a b news is e)))
@@ -119,7 +120,7 @@ pub returns-in-Err-clause-finals : goal.returns-in-Err-clause-finals
 returns-in-Err-clause-finals g c =
     if_some c.args.viewer.last (λ w last start taken s.
     let news = news_of w w c.args.mail.now in
-    done_turn g.I.Source.left g.I.Source.faults g.O.Sink.held c.args.viewer.schema g.V.CubeView.is_stat taken true g.V.CubeView.is_stat (λ stat m. m) news news start c.args.self.now c.read_next.new.self {put_faults = g.O.Sink.faults}
+    done_turn (ends_of g.I.Source g.O.Sink) c.args.viewer.schema g.V.CubeView.is_stat taken true g.V.CubeView.is_stat (λ stat m. m) news news start c.args.self.now c.read_next.new.self
     (goes_final c.args.viewer.schema g.V.CubeView.is_stat w c.args.mail.now c.args.mail.now)
     (Err c.in-Err.fault) (ap (λ s. s.ended) (sym c.self.view_is) ∙ c.if-self.false) (omega arith) s tt
     (λ e. absurd (c.in-Err.ensures.no_write (ap (λ f. Err f) (fault_is {T = Turn} c.in-Err.fault _ e))))
