@@ -6,10 +6,11 @@ use Rattle.cube_view.specs.declared.schema.Schema.{Schema}
 use Rattle.cube_view.specs.declared.spot.Spot.{Spot}
 use Rattle.cube_view.specs.declared.stat.Stat.{Stat}
 use Rattle.cube_view.specs.declared.view.CubeView as CubeView
-use Rattle.live_session.specs.News.{AsksMail, Goes, GoesFor, HasNews, KeepsViewer, LearnsTaken, MayAsk, asks_news, news_of, takes_for}
+use Rattle.live_session.specs.News.{AsksFor, AsksMail, EndsView, Goes, GoesFor, HasNews, KeepsViewer, LearnsTaken, MayAsk, asks_news, news_of, takes_for}
 use Rattle.live_session.specs.Saying.{IsShownTo}
 use Rattle.live_session.specs.State.{SessionState}
 use Rattle.live_session.specs.Turned.{HasFaults, is_no_memory}
+use Rattle.live_session.specs.Viewers.{AsksViewer, IsSameViewer, ends_view}
 use Rattle.live_session.proofs.NextReply.{prefix-longer}
 use Rattle.live_session.proofs.Turning.{Reads}
 use Rattle.mailbox.specs.Ends.{OutEnd}
@@ -17,10 +18,12 @@ use Rattle.outer_io.specs.Counts.{next_count}
 use Rattle.outer_io.specs.Cutting.{Cutter}
 use Rattle.outer_io.specs.Faults.{HasCause}
 use Rattle.outer_io.specs.Progress.{PassesAll}
+use Rattle.outer_io.specs.declared.source.Source as Source
 use Rattle.published_pair.specs.Rules.{Known}
 use Rattle.published_pair.specs.declared.told.Told.{Told}
 use Rattle.published_pair.specs.declared.viewer.Viewer.{Viewer}
 use Rattle.query_syntax.specs.declared.query.Parsed.{Parsed}
+use Rattle.query_syntax.specs.declared.query.Parsed.TheVariants.{Skip}
 use Rattle.session_core.specs.Asked.{asks_look}
 use Rattle.session_core.specs.Turns.{AsksNext}
 use Rattle.session_core.proofs.SoFar.{fault_is}
@@ -69,6 +72,14 @@ goes_unseen shown learned last shown' learned' same told = record {
   seen = prefix-same shown.points shown'.points (ap (λ (k : Known). k.points) same);
   told = told;
   ended = inl same;
+}
+
+-- a viewer that nothing changed
+pub same_viewer : (shown learned : Known) (last : Option Known) (schema : Schema) → KeepsViewer shown learned last schema shown learned last schema
+same_viewer shown learned last schema = record {
+  goes = goes_unseen shown learned last shown learned refl (prefix-same learned.points learned.points refl);
+  same_last = refl;
+  same_schema = refl;
 }
 
 ended_on : (shown : Known) (last last' : Option Known) (mid now : Known) → last' ≡ last → (mid ≡ shown) ⊎ IfSome last (λ w. mid.points ≡ w.points) → (now ≡ mid) ⊎ IfSome last' (λ w. now.points ≡ w.points) → (now ≡ shown) ⊎ IfSome last (λ w. now.points ≡ w.points)
@@ -129,6 +140,27 @@ learns_on learned learned' mail mail' mail'' goes was asks =
           (All-weaker (λ (t : Told). IsPrefix t.front.points learned.points) (λ (t : Told). IsPrefix t.front.points learned'.points) (λ t p. IsPrefix-then t.front.points learned.points learned'.points p goes) was.0 was.2)
           now.2,
     )
+
+-- where nothing is asked
+pub asks_nothing : (ends : EndsView) → AsksFor Skip ends ends
+asks_nothing ends = record {
+  valid = refl;
+  goes = record {
+    goes = (same_viewer ends.shown ends.learned ends.last ends.schema).goes;
+    look = λ e. cc;
+    unseen = λ e. refl;
+    unasked = λ e. (refl, refl);
+    mail = record { mailbox = refl; pair = refl; asked = refl; rises = omega arith; learns = learns_nothing ends.learned ends.mail ends.mail refl };
+  };
+  takes = record { told = None; taken = refl; learns = refl };
+}
+
+-- a turn that read no line, after which the session is at its end
+pub asks_no_line : {I O V C : Type 0} {members : CubeView.Ghosts V C} (script : Source.Ghosts I) (viewer : Viewer V C members) (mail : OutEnd) (before after : SessionState I O) → after.ended ≡ true → IsSameViewer viewer viewer × AsksViewer script viewer mail before viewer mail after
+asks_no_line script viewer mail before after ended = (
+  same_viewer viewer.shown viewer.learned viewer.last viewer.schema,
+  record { asked = Skip; read = inr (refl, ended); asks = asks_nothing (ends_view viewer mail) },
+)
 
 -- what answering a line changes where all is known already
 pub whole_news : (p : Parsed) (whole : Known) (mail mail' : OutEnd) → mail'.takes ≡ takes_for p mail.takes → HasNews p (news_of whole whole mail) (news_of whole whole mail')

@@ -19,15 +19,6 @@ use Rattle.published_pair.specs.Rules.{Known}
 use Rattle.session_core.specs.declared.fault.SessionFault.{SessionFault}
 use Rattle.session_core.specs.declared.fault.SessionFault.TheVariants as fault
 
-pub not_last : (t u : Turn) → t ≡ u → u ≢ turn.Ended → t ≢ turn.Ended
-not_last t u is ne e = ne (sym is ∙ e)
-
-pub skipped_not_last : turn.Skipped ≢ turn.Ended
-skipped_not_last e = cc
-
-pub replied_not_last : turn.Replied ≢ turn.Ended
-replied_not_last e = cc
-
 -- two facts of the same value, where there is one, give a third
 pub some_on : {A : Type 0} {P Q R : A → Type 0} (o o' : Option A) → o' ≡ o → ((x : A) → P x → Q x → R x) → IfSome o' P → IfSome o Q → IfSome o R
 some_on {P = P} None o' same gives p q = tt
@@ -68,7 +59,7 @@ module _ {I O : Type 0} (ends : SessionEnds I O) (is_stat : Stat → Type 0) (ta
     turn_goes z turn.Replied ne d = d.answer.5
     turn_goes z turn.Ended ne d = absurd (ne refl)
 
-    pub still_going : (z : Schema) (r : Result Turn SessionFault) (t : Turn) → t ≢ turn.Ended → r ≡ Ok t → IfOk r (Turned ends z A a b before after) → after.ended ≡ false
+    still_going : (z : Schema) (r : Result Turn SessionFault) (t : Turn) → t ≢ turn.Ended → r ≡ Ok t → IfOk r (Turned ends z A a b before after) → after.ended ≡ false
     still_going z r t ne is d = turn_goes z t ne (of_ok (Turned ends z A a b before after) r t is d)
 
     -- it came one line further, within the limit

@@ -6,9 +6,10 @@ use Rattle.cube_view.specs.Points.{Point}
 use Rattle.cube_view.specs.declared.schema.Schema.{Schema}
 use Rattle.cube_view.specs.declared.spot.Spot.{Spot}
 use Rattle.cube_view.specs.declared.stat.Stat.{Stat}
+use Rattle.cube_view.specs.declared.view.CubeView as CubeView
 use Rattle.live_session.specs.News.{News, seen_asked}
-use Rattle.live_session.specs.Saying.{IsNewsOf, Says, SaysOver}
-use Rattle.published_pair.specs.Rules.{Known}
+use Rattle.live_session.specs.Saying.{IsNewsOf, IsShownTo, Says, SaysOver}
+use Rattle.published_pair.specs.declared.viewer.Viewer.{Viewer}
 use Rattle.query_syntax.specs.Tables.{table}
 use Rattle.query_syntax.specs.declared.query.Parsed.{Parsed}
 use Rattle.query_syntax.specs.declared.query.Parsed.TheVariants as parsed
@@ -123,14 +124,14 @@ module _ (schema : Schema) (is_stat : Stat → Type 0) (shown : List Point) (tol
   over_shown (Err e) asked says = tt
 
 -- it is said over what is shown and told now
-pub says_news : (schema : Schema) (is_stat : Stat → Type 0) (shown learned : Known) (p : Parsed) (news : News) (s : Served) → IsNewsOf shown learned p news → SaysOver schema is_stat shown.points (length learned.points) p s → Says schema is_stat news.shown (length news.told) p s
-says_news schema is_stat shown learned p news s is says = subst (λ xs. Says schema is_stat news.shown (length xs) p s) is.1 (says news.shown is.0)
+pub says_news : {V C : Type 0} {members : CubeView.Ghosts V C} (viewer : Viewer V C members) (p : Parsed) (news : News) (s : Served) → IsNewsOf viewer p news → SaysOver viewer.schema (IsShownTo viewer) viewer.shown.points (length viewer.learned.points) p s → Says viewer.schema (IsShownTo viewer) news.shown (length news.told) p s
+says_news viewer p news s is says = subst (λ xs. Says viewer.schema (IsShownTo viewer) news.shown (length xs) p s) is.1 (says news.shown is.0)
 
 -- and the number that is printed is that of what is shown now
-pub seen_news : (shown learned : Known) (p : Parsed) (news : News) → IsNewsOf shown learned p news → seen_asked (length shown.points) p ≡ seen_asked (length news.shown) p
-seen_news shown learned p news is = here (asks_look p) is.0
+pub seen_news : {V C : Type 0} {members : CubeView.Ghosts V C} (viewer : Viewer V C members) (p : Parsed) (news : News) → IsNewsOf viewer p news → seen_asked (length viewer.shown.points) p ≡ seen_asked (length news.shown) p
+seen_news viewer p news is = here (asks_look p) is.0
   where
-    here : (b : Bool) → (b ≡ true → shown.points ≡ news.shown) → (if b then Some (length shown.points) else None) ≡ (if b then Some (length news.shown) else None)
+    here : (b : Bool) → (b ≡ true → viewer.shown.points ≡ news.shown) → (if b then Some (length viewer.shown.points) else None) ≡ (if b then Some (length news.shown) else None)
     here true look = ap (λ l. Some (length l)) (look refl)
     here false look = refl
 

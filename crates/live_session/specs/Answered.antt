@@ -68,6 +68,6 @@ module _ {I O : Type 0} (held : O → Option (List ℕ)) (schema : Schema) (is_s
 -- What is put for what a line means, by what this viewer was shown and told for it, with this answer
 pub record PutsFor {I O V C : Type 0} {members : CubeView.Ghosts V C} (held : O → Option (List ℕ)) (viewer : Viewer V C members) (before after : SessionState I O) (p : Parsed) (result : Result Turn SessionFault) : Type 0 where
   -- without a fault the replies to it are put, whatever it changed of the session's news
-  pub answered : (a b : News) → HasNews p a b → IsNewsOf viewer.shown viewer.learned p b → IfOk result (Answered held viewer.schema (IsShownTo viewer) a b before after p)
+  pub answered : (a b : News) → HasNews p a b → IsNewsOf viewer p b → IfOk result (Answered held viewer.schema (IsShownTo viewer) a b before after p)
   -- where the put fails a part of the reply to it is
-  pub broken : (a b : News) → HasNews p a b → IsNewsOf viewer.shown viewer.learned p b → IsErrOf result fault.Write → IsBroken held viewer.schema (IsShownTo viewer) a b before after p
+  pub broken : (a b : News) → HasNews p a b → IsNewsOf viewer p b → IsErrOf result fault.Write → IsBroken held viewer.schema (IsShownTo viewer) a b before after p

@@ -1,12 +1,13 @@
 -- What a session is shown and told, and what a line asks of it.
-use Rattle.std.specs.Prelude.{◌≡◌, ℕ, ◌≤◌, ◌⊎◌, Bool, true, false, not, if◌then◌else◌, List, [], ◌∷◌, ◌++◌, All, Option, Some, None, IfSome}
+use Rattle.std.specs.Prelude.{◌≡◌, ℕ, ◌≤◌, ◌⊎◌, max, Bool, true, false, not, if◌then◌else◌, List, [], ◌∷◌, ◌++◌, All, length, Option, Some, None, IfSome, IsTrue}
 use Rattle.cube_view.specs.Points.{Point}
 use Rattle.cube_view.specs.declared.schema.Schema.{Schema}
-use Rattle.mailbox.specs.Ends.{OutEnd}
+use Rattle.mailbox.specs.Ends.{OutEnd, and_taken}
 use Rattle.outer_io.specs.Counts.{next_count}
 use Rattle.outer_io.specs.Lines.{Line}
 use Rattle.published_pair.specs.Rules.{Known}
 use Rattle.published_pair.specs.declared.told.Told.{Told}
+use Rattle.query_syntax.specs.Meaning.{asks_valid}
 use Rattle.query_syntax.specs.declared.query.Parsed.{Parsed}
 use Rattle.query_syntax.specs.declared.query.Parsed.TheVariants.{Skip, Ask, Fault}
 use Rattle.session_core.specs.Asked.{asks_look, ends, line_meaning}
@@ -119,3 +120,44 @@ pub record GoesFor (p : Parsed) (shown learned : Known) (last : Option Known) (o
   pub unasked : asks_news p ≡ false → (learned' ≡ learned) × (out' ≡ out)
   -- and exactly then the mailbox was asked
   pub mail : AsksMail (takes_for p out.takes) learned' out out'
+
+-- What a viewer has learned once it learns a told list: the longer one, of which both are prefixes
+pub record IsLonger (learned told now : Known) : Type 0 where
+  pub prefixes : IsPrefix learned.points now.points × IsPrefix told.points now.points
+  pub greatest : length now.points ≡ max (length learned.points) (length told.points)
+
+-- what is learned of a told list, if there is one: the longer list
+abbrev pub LearnsTold : Option Told → Known → Known → Type 0
+LearnsTold None learned now = now ≡ learned
+LearnsTold (Some told) learned now = IsLonger learned told.front now
+
+-- What is taken of the mailbox and learned: nothing, or one told list
+pub record TakesOne (learned : Known) (out : OutEnd) (learned' : Known) (out' : OutEnd) : Type 0 where
+  -- the told list, if there is one
+  pub told : Option Told
+  -- it is all that was taken
+  pub taken : out'.taken ≡ and_taken out.taken told
+  -- and all that was learned
+  pub learns : LearnsTold told learned learned'
+
+-- A session's viewer and its end of a mailbox, as contracts see them
+pub record EndsView : Type 0 where
+  -- the list that the viewer was shown last
+  pub shown : Known
+  -- the longest list that it has learned
+  pub learned : Known
+  -- the ended list, once it has learned that
+  pub last : Option Known
+  -- its schema
+  pub schema : Schema
+  -- the end of its mailbox that takes
+  pub mail : OutEnd
+
+-- What a line of this meaning asks of a viewer and its end of a mailbox, and what that leaves of them
+pub record AsksFor (p : Parsed) (before after : EndsView) : Type 0 where
+  -- the schema takes its query, if it asks one
+  pub valid : IsTrue (asks_valid before.schema p)
+  -- the viewer's lists and the mailbox's end go on as it asks
+  pub goes : GoesFor p before.shown before.learned before.last before.mail after.shown after.learned after.mail
+  -- and what was taken is learned
+  pub takes : TakesOne before.learned before.mail after.learned after.mail

@@ -5,7 +5,6 @@ use Rattle.cube_view.specs.declared.schema.Schema.{Schema}
 use Rattle.cube_view.specs.declared.stat.Stat.{Stat}
 use Rattle.cube_view.specs.declared.view.CubeView as CubeView
 use Rattle.live_session.specs.News.{News, seen_asked}
-use Rattle.published_pair.specs.Rules.{Known}
 use Rattle.published_pair.specs.declared.viewer.Viewer.{Viewer}
 use Rattle.query_syntax.specs.declared.query.Parsed.{Parsed}
 use Rattle.query_syntax.specs.declared.query.Parsed.TheVariants.{Skip}
@@ -38,6 +37,6 @@ pub record IsServed {V C E : Type 0} {members : CubeView.Ghosts V C} (viewer : V
   -- or want of memory, only where the line asks for a reply
   pub no_memory : OnErr served (asks_reply p ≡ true)
 
--- the news are those of a viewer that knows these lists: what it was told, and what it was shown where the line asks for a look
-abbrev pub IsNewsOf : Known → Known → Parsed → News → Type 0
-IsNewsOf shown learned p news = (asks_look p ≡ true → shown.points ≡ news.shown) × (learned.points ≡ news.told)
+-- the news are those of this viewer: what it was told, and what it was shown where the line asks for a look
+abbrev pub IsNewsOf : {V C : Type 0} {members : CubeView.Ghosts V C} → Viewer V C members → Parsed → News → Type 0
+IsNewsOf viewer p news = (asks_look p ≡ true → viewer.shown.points ≡ news.shown) × (viewer.learned.points ≡ news.told)

@@ -1,7 +1,7 @@
 //! What is answered to a line, by what the mailbox holds and the viewer is shown.
 ghost use Rattle.std.specs.Prelude.{◌≡◌, ◌≤◌, true, false, IsTrue, IfSome};
 ghost use Rattle.live_session.specs.Bounds.{TakesSteps};
-ghost use Rattle.live_session.specs.News.{AsksMail, GoesFor, asks_news, takes_for};
+ghost use Rattle.live_session.specs.News.{AsksMail, GoesFor, TakesOne, asks_news, takes_for};
 ghost use Rattle.live_session.specs.Saying.{IsServed};
 ghost use Rattle.published_pair.specs.Pair.{Fresh};
 ghost use Rattle.query_syntax.specs.Meaning.{asks_valid};
@@ -32,6 +32,7 @@ fn catch_up<V: Grow, R: Wait>(
     ensures learned { IsPrefix viewer.learned.points result.learned.points }
     ensures unasked { asks_news parsed.now ≡ false → (result.learned ≡ viewer.learned) × (mail.new ≡ mail.old) }
     ensures mail { AsksMail (takes_for parsed.now mail.old.takes) result.learned mail.old mail.new }
+    ensures takes { TakesOne viewer.learned mail.old result.learned mail.new }
 {
     let mut viewer = viewer;
     if asks_news(parsed) {
@@ -81,6 +82,7 @@ pub(crate) fn answer_line<V: Grow, R: Wait, L: Ledger>(
     requires valid { IsTrue (asks_valid viewer.schema parsed.now) }
     ensures served { IsServed result.0 parsed.now result.1 }
     ensures goes { GoesFor parsed.now viewer.shown viewer.learned viewer.last mail.old result.0.shown result.0.learned mail.new }
+    ensures takes { TakesOne viewer.learned mail.old result.0.learned mail.new }
     ensures same { (result.0.last ≡ viewer.last) × (result.0.schema ≡ viewer.schema) }
     ensures steps { TakesSteps V.CubeView result.0.shown_view.value viewer.schema result.0.shown.points parsed.now steps.old steps.new }
 {

@@ -8,7 +8,7 @@ ghost use Rattle.live_session.specs.Reading.{ReadsNext};
 ghost use Rattle.live_session.specs.Saying.{IsServed};
 ghost use Rattle.live_session.specs.State.{SessionState, ends_of, new_session};
 ghost use Rattle.live_session.specs.Turned.{HasFaults, HasTurned, listed};
-ghost use Rattle.live_session.specs.Viewers.{DoneBy, DoneFinally, IsSameViewer, KeepsFinals, KeepsSoFar, ShowsSame, news};
+ghost use Rattle.live_session.specs.Viewers.{AsksViewer, DoneBy, DoneFinally, IsSameViewer, KeepsFinals, KeepsSoFar, ShowsSame, news};
 ghost use Rattle.outer_io.specs.Bytes.{GainsPart};
 ghost use Rattle.outer_io.specs.Cutting.{IsNew};
 ghost use Rattle.outer_io.specs.Lines.{input_limit};
@@ -247,7 +247,7 @@ impl<I: Source, O: Sink> Session<I, O> {
         ensures turned { HasTurned (ends_of I.Source O.Sink) result.0 viewer.schema (news viewer mail.old) (news result.0 mail.new) self.old self.new result.1 }
         ensures ended { self.old.ended ≡ true → (result.1 ≡ Ok Turn.Ended) × (self.new ≡ self.old) × (mail.new ≡ mail.old) × ShowsSame viewer result.0 }
         ensures faults { HasFaults I.left I.faults O.held O.faults self.old self.new result.1 × (O.name self.new.sink ≡ O.name self.old.sink) }
-        ensures viewer { IsSameViewer viewer result.0 }
+        ensures viewer { IsSameViewer viewer result.0 × AsksViewer I.Source viewer mail.old self.old result.0 mail.new self.new }
         ensures costs { TurnCosts I.Source result.0 mail.old mail.new self.old self.new steps.old steps.new }
         ensures so_far { KeepsSoFar (ends_of I.Source O.Sink) V.is_stat viewer (news viewer mail.old) (news result.0 mail.new) self.old self.new result.1 }
         ensures finals { KeepsFinals (ends_of I.Source O.Sink) V.is_stat viewer mail.old mail.new self.old self.new result.1 }
@@ -295,8 +295,7 @@ impl<I: Source, O: Sink> Session<I, O> {
             viewer = after;
             match turn {
                 Ok(Turn::Ended) => return (viewer, Ok(())),
-                Ok(Turn::Skipped) => {}
-                Ok(Turn::Replied) => {}
+                Ok(_) => {}
                 Err(fault) => return (viewer, Err(fault)),
             }
         }

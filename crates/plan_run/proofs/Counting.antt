@@ -15,10 +15,6 @@ use Rattle.run_files.specs.GivingBack.{faulty}
 use Rattle.session_core.specs.declared.fault.SessionFault.{SessionFault}
 use Rattle.session_core.specs.declared.fault.SessionFault.TheVariants as fault
 
--- a count that rose and rose again
-pub rose_both : (j k a b c : ℕ) → RoseBy j a b → RoseBy k b c → RoseBy (j + k) a c
-rose_both j k a b c one two = (omega (arith, one.0, two.0), omega (arith, one.0, one.1, two.0, two.1))
-
 -- the count of mapped items
 pub count-map : {A B : Type 0} (f : A → B) (q : B → Bool) (xs : List A) → count_by q (map f xs) ≡ count_by (λ x. q (f x)) xs
 count-map f q [] = refl

@@ -7,6 +7,7 @@ use Rattle.cube_schema.specs.Files.{output_names}
 use Rattle.cube_schema.specs.Repeats.{outputs}
 use Rattle.cube_schema.specs.declared.plan.Plan.{Plan}
 use Rattle.feed_queue.specs.Journal.{journal_text}
+use Rattle.feed_reader.proofs.FeedStart.{some_each}
 use Rattle.feed_reader.specs.Feeds.{feed_head}
 use Rattle.feed_reader.specs.declared.header.HeadFault.{HeadFault}
 use Rattle.outer_io.proofs.ToldLaws.{Told-each, Told-some}
@@ -22,10 +23,6 @@ use Rattle.run_files.specs.Outside.{at, file_of, PlaceSeen, Puts, SinkSeen}
 use Rattle.run_files.specs.declared.stop.Stop.{Stop}
 use Rattle.run_files.specs.declared.stop.Stop.TheVariants.{NoMemory, PlanRefused, ReadFault, WriteFault, FeedRefused}
 use Rattle.world_core.specs.declared.entry.Entry.{Entry}
-
-some_each : {A : Type 0} (o : Option A) (P Q : A → Type 0) → ((x : A) → P x → Q x) → IsSomeAnd o P → IsSomeAnd o Q
-some_each None P Q f some = absurd some
-some_each (Some x) P Q f some = f x some
 
 -- the outputs of a plan are some
 outputs_some : (before after makes : List (List ℕ)) (plan : Plan) → after ≡ before ++ makes → after ≡ before ++ output_names plan → makes ≢ []

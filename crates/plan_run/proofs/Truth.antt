@@ -20,6 +20,7 @@ use Rattle.cube_store.specs.Numbers.{OwnsAllButRoot}
 use Rattle.cube_view.specs.Points.{Point}
 use Rattle.feed_queue.specs.Journal.{journal_text}
 use Rattle.feed_reader.specs.Feeds.{accepted, points_in}
+use Rattle.outer_io.proofs.CountLaws.{RoseBy-add}
 use Rattle.outer_io.proofs.ToldLaws.{Told-some}
 use Rattle.outer_io.specs.Bytes.{Gains, GainsPart}
 use Rattle.outer_io.specs.Faults.{Rose, RoseBy}
@@ -30,7 +31,7 @@ use Rattle.outer_io.specs.declared.fault.IoFault.{IoFault}
 use Rattle.outer_io.specs.declared.fault.IoFault.TheVariants as io
 use Rattle.plan_run.proofs.Answering.{HasRun, answers_script, stops_script}
 use Rattle.plan_run.proofs.Causes.{FeedCause, SessionCause}
-use Rattle.plan_run.proofs.Counting.{count-map, rose_both, unread_feeds, unread_scripts}
+use Rattle.plan_run.proofs.Counting.{count-map, unread_feeds, unread_scripts}
 use Rattle.plan_run.proofs.Fronts.{answered_front, interleaves_fronts}
 use Rattle.plan_run.proofs.Holding.{all_held}
 use Rattle.plan_run.proofs.Joined.{All-unmapped, End}
@@ -207,7 +208,7 @@ module _ {P I O T : Type 0} (p : PlaceSeen P) (i : SourceSeen I) (s : SinkSeen O
       count-map script_counts script_unread crewed.asks ∙ sym (unread_scripts i.faults s.faults crewed.asks ask_causes) in
       let ended : count_by script_unread (map script_counts crewed.finals) ≡ faulty (map (λ (d : SessionDone I O). i.faults d.source) crewed.finals) =
       count-map script_counts script_unread crewed.finals ∙ sym (unread_scripts i.faults s.faults crewed.finals final_causes) in
-      let rose = rose_both _ _ _ _ _ (rose_both _ _ _ _ _ back.feeds_back.rose back.asks_back.rose) back.finals_back.rose in
+      let rose = RoseBy-add _ _ _ _ _ (RoseBy-add _ _ _ _ _ back.feeds_back.rose back.asks_back.rose) back.finals_back.rose in
       let same : read_stops account ≡ faulty (map (λ (d : FeedDone I). i.faults d.source) crewed.feeds) + faulty (map (λ (d : SessionDone I O). i.faults d.source) crewed.asks) + faulty (map (λ (d : SessionDone I O). i.faults d.source) crewed.finals) =
       omega (arith, fed, asked, ended) in
       subst (λ k. RoseBy k (p.read_faults place) (p.read_faults place')) (sym same) (subst (RoseBy _ (p.read_faults place)) (sym (closes.journal.read_faults ∙ back.sinks_back.read_faults)) rose)

@@ -1,9 +1,8 @@
 -- What a turn of a session does is a run of steps.
-use Rattle.std.proofs.Common.{◌≡◌, ℕ, Bool, true, false, if◌then◌else◌, List, [], ◌∷◌, ◌++◌, All, length, length-append, Option, Some, None, IfSome, inl, inr, refl, sym, ap, ◌∙◌, subst, arith, ⊎_elim}
+use Rattle.std.proofs.Common.{◌≡◌, ℕ, Bool, true, false, if◌then◌else◌, [], ◌∷◌, Option, Some, None, IfSome, refl, sym, ap, ◌∙◌, subst}
 use Rattle.std.specs.Prelude.{IsTrue, slice_get}
-use Rattle.std.proofs.lemmas.List.{append_cancel_left}
 use Rattle.cube_view.specs.declared.schema.Schema.{Schema}
-use Rattle.live_session.specs.News.{AsksMail, MayAsk, asks_news}
+use Rattle.live_session.specs.News.{AsksFor, EndsView, LearnsTold, asks_news}
 use Rattle.mailbox.specs.Ends.{OutEnd, and_taken, mail_out}
 use Rattle.outer_io.specs.Counts.{next_count}
 use Rattle.published_pair.specs.Pair.{Sees}
@@ -15,41 +14,15 @@ use Rattle.query_syntax.specs.declared.query.Parsed.TheVariants.{Skip, Ask, Faul
 use Rattle.query_syntax.specs.declared.query.Query.{Query}
 use Rattle.session_core.specs.Asked.{asks_look, is_look}
 use Rattle.world_core.specs.PairFact.{IsPrefix}
-use Rattle.run_law.specs.Moves.{IsLastIn, IsLonger, having_asked, having_looked, knows, looked, with_session}
-use Rattle.run_law.specs.Turns.{EndsView, LeadTo, LearnsTold, LooksThen, ShowsSession, TakesOne, TurnIsSteps, TurnsFor, ask_steps, caught_up}
+use Rattle.run_law.specs.Moves.{IsLastIn, having_asked, having_looked, knows, looked, with_session}
+use Rattle.run_law.specs.Turns.{LeadTo, LooksThen, ShowsSession, TurnIsSteps, ask_steps, caught_up}
 use Rattle.run_law.specs.Views.{RunView, SessionView}
 use Rattle.run_law.specs.declared.step.Step.TheVariants as step
 use Rattle.run_law.proofs.Places.{set_at_own}
 
--- lists and ends with the same parts
-same_list : (x y : Known) → x.book ≡ y.book → x.points ≡ y.points → x ≡ y
-same_list x y book points = λ i. record { book = book i; points = points i }
-
+-- ends with the same parts
 same_out : (x y : OutEnd) → x.mailbox ≡ y.mailbox → x.pair ≡ y.pair → x.takes ≡ y.takes → x.taken ≡ y.taken → x ≡ y
 same_out x y mailbox pair takes taken = λ i. record { mailbox = mailbox i; pair = pair i; takes = takes i; taken = taken i }
-
--- a list is not one longer
-not_longer : {X : Type 0} (xs : List X) (x : X) → xs ≡ xs ++ x ∷ [] → ⊥
-not_longer xs x same =
-    let l = ap length same in
-    let n = length-append xs (x ∷ []) in
-    omega (arith, l, n)
-
--- what is taken is a prefix of what is learned
-taken_within : (learned : Known) (out out' : OutEnd) (t : Told) → MayAsk learned out out' → out'.taken ≡ out.taken ++ t ∷ [] → IsPrefix t.front.points learned.points
-taken_within learned out out' t (inl same) taken = absurd (not_longer out.taken t (sym (ap (λ (m : OutEnd). m.taken) same) ∙ taken))
-taken_within learned out out' t (inr asks) taken =
-    let one : asks.learns.0 ≡ t ∷ [] = append_cancel_left out.taken asks.learns.0 (t ∷ []) (sym asks.learns.1 ∙ taken) in
-    subst (All (λ (x : Told). IsPrefix x.front.points learned.points)) one asks.learns.2 0 t (omega arith)
-
--- what a viewer has learned of a told list, if there is one
-abbrev HasLearned : Option Told → Known → Known → Type 0
-HasLearned None learned now = now ≡ learned
-HasLearned (Some told) learned now = IsLonger learned told.front now
-
-has_learned : (told : Option Told) (learned now : Known) (out out' : OutEnd) → IsPrefix learned.points now.points → MayAsk now out out' → out'.taken ≡ and_taken out.taken told → LearnsTold told learned now → HasLearned told learned now
-has_learned None learned now out out' on asks taken same = same
-has_learned (Some t) learned now out out' on asks taken greatest = record { prefixes = (on, taken_within now out out' t asks taken); greatest = greatest }
 
 module _ (schema : Schema) (room s : ℕ) (a : RunView) (session : SessionView) (at : slice_get a.sessions s ≡ Some session) where
   -- the session once it has asked its mailbox and learned what it took
@@ -57,7 +30,7 @@ module _ (schema : Schema) (room s : ℕ) (a : RunView) (session : SessionView) 
   with_news told now = record (having_asked session told) { learned = now }
 
   -- it asks, and learns what it takes
-  asking : (told : Option Told) (now : Known) → IfSome told (IsLastIn session) → HasLearned told session.learned now
+  asking : (told : Option Told) (now : Known) → IfSome told (IsLastIn session) → LearnsTold told session.learned now
       → LeadTo schema room a (ask_steps s told) (λ c. slice_get c.sessions s ≡ Some (with_news told now))
   asking None now last same = (
     with_session a s (having_asked session None),
@@ -78,39 +51,35 @@ module _ (schema : Schema) (room s : ℕ) (a : RunView) (session : SessionView) 
         set_at_own mid.sessions s asked (with_news (Some t) now) here,
       )
 
-module _ (room s : ℕ) (before after : EndsView) (p : Parsed) (turns : TurnsFor p before after) where
+module _ (room s : ℕ) (before after : EndsView) (p : Parsed) (turns : AsksFor p before after) where
+  abbrev told : Option Told
+  told = turns.takes.told
+
   -- asks of the mailbox
 
-  module _ (told : Option Told) (takes : TakesOne p told before after) where
-    -- what is left of its end
-    mail_is : (asked : Bool) → asks_news p ≡ asked → after.mail ≡ mail_out before.mail.mailbox before.mail.pair (if asked then next_count before.mail.takes else before.mail.takes) (and_taken before.mail.taken told)
-    mail_is asked is =
-        same_out after.mail _
-        (⊎_elim (λ (same : after.mail ≡ before.mail). ap (λ (m : OutEnd). m.mailbox) same) (λ (asks : AsksMail (next_count before.mail.takes) after.learned before.mail after.mail). asks.mailbox) turns.mail)
-        (⊎_elim (λ (same : after.mail ≡ before.mail). ap (λ (m : OutEnd). m.pair) same) (λ (asks : AsksMail (next_count before.mail.takes) after.learned before.mail after.mail). asks.pair) turns.mail)
-        (turns.news.takes ∙ ap (λ (b : Bool). if b then next_count before.mail.takes else before.mail.takes) is)
-        takes.taken
+  -- what is left of its end
+  mail_is : (asked : Bool) → asks_news p ≡ asked → after.mail ≡ mail_out before.mail.mailbox before.mail.pair (if asked then next_count before.mail.takes else before.mail.takes) (and_taken before.mail.taken told)
+  mail_is asked is =
+      let mail = turns.goes.mail in
+      same_out after.mail _ mail.mailbox mail.pair (mail.asked ∙ ap (λ (b : Bool). if b then next_count before.mail.takes else before.mail.takes) is) turns.takes.taken
 
-    news_runs : (a : RunView) (shows : ShowsSession a s before) → IfSome told (IsLastIn shows.session) → (asked : Bool) → asks_news p ≡ asked
-        → LeadTo before.schema room a (if asked then ask_steps s told else []) (λ c. ShowsSession c s (caught_up before after))
-    news_runs a shows last true is =
-        let learned = has_learned told before.learned after.learned before.mail after.mail turns.viewer.goes.told turns.mail takes.taken takes.learned in
-        let run = asking before.schema room s a shows.session shows.at told after.learned last (subst (λ (l : Known). HasLearned told l after.learned) (sym shows.learned) learned) in (
-          run.0,
-          run.1,
-          record {
-            session = with_news before.schema room s a shows.session shows.at told after.learned;
-            at = run.2;
-            shown = shows.shown;
-            learned = refl;
-            taken = ap (λ (m : OutEnd). mail_out m.mailbox m.pair (next_count m.takes) (and_taken m.taken told)) shows.taken ∙ sym (mail_is true is);
-          },
-        )
-    news_runs a shows last false is =
-        let none = takes.unasked is in
-        let same : after.mail ≡ before.mail = mail_is false is ∙ ap (λ (t : Option Told). mail_out before.mail.mailbox before.mail.pair before.mail.takes (and_taken before.mail.taken t)) none in
-        let learned : after.learned ≡ before.learned = subst (λ (t : Option Told). LearnsTold t before.learned after.learned) none takes.learned in
-        (a, refl, record { session = shows.session; at = shows.at; shown = shows.shown; learned = shows.learned ∙ sym learned; taken = shows.taken ∙ sym same })
+  news_runs : (a : RunView) (shows : ShowsSession a s before) → IfSome told (IsLastIn shows.session) → (asked : Bool) → asks_news p ≡ asked
+      → LeadTo before.schema room a (if asked then ask_steps s told else []) (λ c. ShowsSession c s (caught_up before after))
+  news_runs a shows last true is =
+      let run = asking before.schema room s a shows.session shows.at told after.learned last (subst (λ (l : Known). LearnsTold told l after.learned) (sym shows.learned) turns.takes.learns) in (
+        run.0,
+        run.1,
+        record {
+          session = with_news before.schema room s a shows.session shows.at told after.learned;
+          at = run.2;
+          shown = shows.shown;
+          learned = refl;
+          taken = ap (λ (m : OutEnd). mail_out m.mailbox m.pair (next_count m.takes) (and_taken m.taken told)) shows.taken ∙ sym (mail_is true is);
+        },
+      )
+  news_runs a shows last false is =
+      let same = turns.goes.unasked is in
+      (a, refl, record { session = shows.session; at = shows.at; shown = shows.shown; learned = shows.learned ∙ sym same.0; taken = shows.taken ∙ sym same.1 })
 
   -- looks
 
@@ -121,18 +90,17 @@ module _ (room s : ℕ) (before after : EndsView) (p : Parsed) (turns : TurnsFor
     -- where the line asks for none
     unlooked : asks_look p ≡ false → LeadTo before.schema room a [] (λ b. ShowsSession b s after)
     unlooked is =
-        let same : after.shown ≡ before.shown = same_list after.shown before.shown turns.viewer.goes.pair (turns.news.unseen is) in
-        (a, refl, record { session = session; at = shows.at; shown = shows.shown ∙ sym same; learned = shows.learned; taken = shows.taken })
+        (a, refl, record { session = session; at = shows.at; shown = shows.shown ∙ sym (turns.goes.unseen is); learned = shows.learned; taken = shows.taken })
 
     module _ (is : after.shown ≡ a.builder.published) where
       -- what the viewer knew is so
       same_pair : first_word_of session.shown.book ≡ first_word_of a.builder.published.book
-      same_pair = ap (λ (l : Known). first_word_of l.book) shows.shown ∙ ap first_word_of (sym turns.viewer.goes.pair) ∙ ap (λ (l : Known). first_word_of l.book) is
+      same_pair = ap (λ (l : Known). first_word_of l.book) shows.shown ∙ ap first_word_of (sym turns.goes.goes.pair) ∙ ap (λ (l : Known). first_word_of l.book) is
 
       seen_before : IsPrefix session.shown.points a.builder.published.points
       seen_before =
           subst (λ (l : Known). IsPrefix l.points a.builder.published.points) (sym shows.shown)
-          (subst (λ (l : Known). IsPrefix before.shown.points l.points) is turns.viewer.goes.seen)
+          (subst (λ (l : Known). IsPrefix before.shown.points l.points) is turns.goes.goes.seen)
 
       sees : Sees (knows before.schema session.shown) a.builder.published.points a.builder.published before.schema (knows before.schema after.shown)
       sees = record { told = refl; before = (same_pair, refl, seen_before); after = ap (knows before.schema) is }
@@ -146,16 +114,16 @@ module _ (room s : ℕ) (before after : EndsView) (p : Parsed) (turns : TurnsFor
             record { session = now; at = set_at_own a.sessions s session now shows.at; shown = refl; learned = shows.learned; taken = shows.taken },
           )
 
-look_runs : (room s : ℕ) (before after : EndsView) (p : Parsed) → TurnsFor p before after → IsTrue (asks_valid before.schema p) → LooksThen room s p before after
-look_runs room s before after Skip turns valid a shows is = unlooked room s before after Skip turns a shows refl
-look_runs room s before after (Fault fault word) turns valid a shows is = unlooked room s before after (Fault fault word) turns a shows refl
-look_runs room s before after (Ask q) turns valid a shows is =
+look_runs : (room s : ℕ) (before after : EndsView) (p : Parsed) → AsksFor p before after → LooksThen room s p before after
+look_runs room s before after Skip turns a shows is = unlooked room s before after Skip turns a shows refl
+look_runs room s before after (Fault fault word) turns a shows is = unlooked room s before after (Fault fault word) turns a shows refl
+look_runs room s before after (Ask q) turns a shows is =
     elim (is_look q.verb) as (λ b. is_look q.verb ≡ b → LeadTo before.schema room a (if b then step.Look s q ∷ [] else []) (λ c. ShowsSession c s after)) [
-      | true ↦ λ look. looks room s before after (Ask q) turns a shows (is look) q valid
+      | true ↦ λ look. looks room s before after (Ask q) turns a shows (is look) q turns.valid
       | false ↦ λ none. unlooked room s before after (Ask q) turns a shows none
     ] refl
 
 pub turn_is_steps : TurnIsSteps
-turn_is_steps room s a before after shows p told turns valid takes last =
-    let run = news_runs room s before after p turns told takes a shows last (asks_news p) refl in
-    (run.0, run.1, (run.2, look_runs room s before after p turns valid))
+turn_is_steps room s a before after shows p turns last =
+    let run = news_runs room s before after p turns a shows last (asks_news p) refl in
+    (run.0, run.1, (run.2, look_runs room s before after p turns))

@@ -1,5 +1,5 @@
 -- What each step of a run changes, by the relations that the calls of its ends ensure.
-use Rattle.std.specs.Prelude.{◌≡◌, ℕ, ◌-◌, ◌≤◌, ◌<◌, max, Bool, true, false, if◌then◌else◌, List, [], ◌∷◌, ◌++◌, length, Option, Some, IfSome, slice_get, slice_set, Result, Ok, Err}
+use Rattle.std.specs.Prelude.{◌≡◌, ℕ, ◌-◌, ◌≤◌, ◌<◌, Bool, true, false, if◌then◌else◌, List, [], ◌∷◌, ◌++◌, length, Option, Some, IfSome, slice_get, slice_set, Result, Ok, Err}
 use Rattle.builder_core.specs.Builder.{BuilderState, KeepsJournal}
 use Rattle.builder_core.specs.Taking.{IsTaking, fills_batch, wants_memory}
 use Rattle.builder_core.specs.declared.taken.Taken.{Taken}
@@ -7,6 +7,7 @@ use Rattle.cube_view.specs.declared.schema.Schema.{Schema}
 use Rattle.feed_queue.specs.Ends.{FeedState, MaySend, having_sent, having_drawn}
 use Rattle.feed_queue.specs.declared.item.Item.{Item}
 use Rattle.feed_queue.specs.declared.item.Item.TheVariants.{One, End}
+use Rattle.live_session.specs.News.{IsLonger}
 use Rattle.mailbox.specs.Ends.{mail_in, mail_out, and_taken, lengths_of}
 use Rattle.mailbox.specs.Rule.{IsLastPut}
 use Rattle.outer_io.specs.Counts.{next_count}
@@ -21,7 +22,6 @@ use Rattle.query_syntax.specs.declared.query.Choice.TheVariants as choice
 use Rattle.query_syntax.specs.declared.query.Query.{Query}
 use Rattle.query_syntax.specs.declared.query.Verb.TheVariants.{Count}
 use Rattle.world_core.specs.Interleaving.{entry_points}
-use Rattle.world_core.specs.PairFact.{IsPrefix}
 use Rattle.run_law.specs.Views.{RunView, SessionView}
 
 -- Feeder f sends the item, where the queue has room
@@ -117,11 +117,6 @@ pub record Asks (s : ℕ) (a b : RunView) : Type 0 where
   pub told : Option Told
   pub of : IfSome told (IsLastIn session)
   pub after : b ≡ with_session a s (having_asked session told)
-
--- What a viewer has learned once it learns a told list: the longer one, of which both are prefixes
-pub record IsLonger (learned told now : Known) : Type 0 where
-  pub prefixes : IsPrefix learned.points now.points × IsPrefix told.points now.points
-  pub greatest : length now.points ≡ max (length learned.points) (length told.points)
 
 -- Session s learns what it took
 pub record Learns (s : ℕ) (a b : RunView) : Type 0 where

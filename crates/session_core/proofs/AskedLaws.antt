@@ -4,18 +4,11 @@ use Rattle.std.proofs.Math.Bool.{or-true}
 use Rattle.std.proofs.lemmas.Bool.{false≢true}
 use Rattle.cube_view.specs.declared.schema.Schema.{Schema}
 use Rattle.outer_io.specs.Lines.{Line}
+use Rattle.query_syntax.proofs.WholeTexts.{or_false_left, or_false_right}
 use Rattle.query_syntax.specs.declared.query.Parsed.{Parsed}
 use Rattle.query_syntax.specs.declared.query.Parsed.TheVariants as parsed
 use Rattle.session_core.specs.Asked.{asked, asked_then, asks_reply, asks_to_end, ends, line_meaning}
 use Rattle.session_core.specs.Scripts.{has_quit, is_quit}
-
-or_left : (a b : Bool) → a || b ≡ false → a ≡ false
-or_left true b e = e
-or_left false b e = refl
-
-or_right : (a b : Bool) → a || b ≡ false → b ≡ false
-or_right true b e = absurd (false≢true (sym e))
-or_right false b e = e
 
 then_goes_on : (p : Parsed) (ps qs : List Parsed) → asks_to_end p ≡ false → asked_then p (ps ++ qs) ≡ asked_then p ps ++ qs
 then_goes_on parsed.Skip ps qs e = refl
@@ -60,8 +53,8 @@ module _ (schema : Schema) where
   pub asked-append : (xs ys : List Line) → has_quit schema xs ≡ false → asked schema (xs ++ ys) ≡ asked schema xs ++ asked schema ys
   asked-append [] ys none = refl
   asked-append (x ∷ xs) ys none =
-      ap (asked_then (line_meaning schema x)) (asked-append xs ys (or_right _ _ none))
-      ∙ then_goes_on (line_meaning schema x) (asked schema xs) (asked schema ys) (or_left _ _ none)
+      ap (asked_then (line_meaning schema x)) (asked-append xs ys (or_false_right _ _ none))
+      ∙ then_goes_on (line_meaning schema x) (asked schema xs) (asked schema ys) (or_false_left _ _ none)
 
   -- what comes after a `quit` is not asked
   pub asked-quit : (xs : List Line) (x : Line) (ys : List Line) → has_quit schema xs ≡ false → is_quit schema x ≡ true → asked schema (xs ++ x ∷ ys) ≡ asked schema xs
@@ -72,8 +65,8 @@ module _ (schema : Schema) where
   pub has_quit-push : (xs : List Line) (x : Line) → has_quit schema xs ≡ false → is_quit schema x ≡ false → has_quit schema (xs ++ x ∷ []) ≡ false
   has_quit-push [] x none e = ap (λ b. b || false) e
   has_quit-push (y ∷ xs) x none e =
-      ap (λ b. b || has_quit schema (xs ++ x ∷ [])) (or_left (is_quit schema y) (has_quit schema xs) none)
-      ∙ has_quit-push xs x (or_right (is_quit schema y) (has_quit schema xs) none) e
+      ap (λ b. b || has_quit schema (xs ++ x ∷ [])) (or_false_left (is_quit schema y) (has_quit schema xs) none)
+      ∙ has_quit-push xs x (or_false_right (is_quit schema y) (has_quit schema xs) none) e
 
   -- one is among all lines where it is among some
   pub has_quit-at : (xs : List Line) (x : Line) (ys : List Line) → is_quit schema x ≡ true → has_quit schema (xs ++ x ∷ ys) ≡ true

@@ -15,7 +15,7 @@ returns-in-Ok-Skipped-clause-puts g c =
     let shown = IsShownTo viewer in record {
       answered = λ a b news is.
           answered_skip g.O.Sink.held viewer.schema shown a b c.args.self.now c.args.self.now p c.in-Ok-Skipped.field-0 c.in-Ok-Skipped.field-0-is
-          (says_news viewer.schema shown viewer.shown viewer.learned p b c.in-Ok-Skipped.field-0 is
+          (says_news viewer p b c.in-Ok-Skipped.field-0 is
           (of_ok (SaysOver viewer.schema shown viewer.shown.points (length viewer.learned.points) p) c.args.served c.in-Ok-Skipped.field-0 c.in-Ok-Skipped.is c.requires.served.says))
           refl c.requires.open;
       broken = λ a b news is e. cc;
@@ -28,7 +28,7 @@ returns-in-Ok-Quit-clause-puts g c =
     let shown = IsShownTo viewer in record {
       answered = λ a b news is.
           answered_quit g.O.Sink.held viewer.schema shown a b c.args.self.now _ p c.in-Ok-Quit.field-0 c.in-Ok-Quit.field-0-is
-          (says_news viewer.schema shown viewer.shown viewer.learned p b c.in-Ok-Quit.field-0 is
+          (says_news viewer p b c.in-Ok-Quit.field-0 is
           (of_ok (SaysOver viewer.schema shown viewer.shown.points (length viewer.learned.points) p) c.args.served c.in-Ok-Quit.field-0 c.in-Ok-Quit.is c.requires.served.says))
           (ap (λ (s : SessionState _ _). s.sink) c.self.view_is) (ap (λ (s : SessionState _ _). s.replies) c.self.view_is) (ap (λ (s : SessionState _ _). s.seens) c.self.view_is) (ap (λ (s : SessionState _ _). s.lacked) c.self.view_is) refl;
       broken = λ a b news is e. cc;
@@ -44,14 +44,14 @@ returns-in-Ok-Reply-clause-puts g c =
           answered_reply g.O.Sink.held viewer.schema shown a b c.args.self.now c.put-turn.new.self p
           news.goes_on.0 (prefix-longer a.told b.told news.goes_on.1) (fresh_length a.told b.told b.shown p news.goes_on.1 news.fresh)
           c.put-turn.result c.in-Ok-Reply.field-0 c.as_slice.result.now c.in-Ok-Reply.line c.seen_asked-seen.result c.in-Ok-Reply.field-0-is c.as_slice.ensures
-          (c.seen_asked-seen.ensures ∙ ap (λ n. seen_asked n p) c.seen.ensures ∙ seen_news viewer.shown viewer.learned p b is)
-          (says_news viewer.schema shown viewer.shown viewer.learned p b c.in-Ok-Reply.field-0 is said)
+          (c.seen_asked-seen.ensures ∙ ap (λ n. seen_asked n p) c.seen.ensures ∙ seen_news viewer p b is)
+          (says_news viewer p b c.in-Ok-Reply.field-0 is said)
           c.put-turn.ensures.put;
       broken = λ a b news is e.
           broken_reply g.O.Sink.held viewer.schema shown a b c.args.self.now c.put-turn.new.self p
           news.goes_on.0 (prefix-longer a.told b.told news.goes_on.1) (fresh_length a.told b.told b.shown p news.goes_on.1 news.fresh)
           c.in-Ok-Reply.field-0 c.as_slice.result.now c.in-Ok-Reply.line c.in-Ok-Reply.field-0-is c.as_slice.ensures
-          (says_news viewer.schema shown viewer.shown viewer.learned p b c.in-Ok-Reply.field-0 is said)
+          (says_news viewer p b c.in-Ok-Reply.field-0 is said)
           (c.put-turn.ensures.write e).0 (c.put-turn.ensures.write e).1;
     }
 

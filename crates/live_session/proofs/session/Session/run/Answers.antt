@@ -1,11 +1,11 @@
-use Rattle.std.proofs.Common.{◌∙◌, sym, refl, arith, true, false}
+use Rattle.std.proofs.Common.{◌∙◌, sym, refl, arith, rules, true, false}
 use Rattle.std.proofs.lemmas.Bool.{false≢true}
 use Rattle.live_session.specs.News.{news_of}
 use Rattle.live_session.specs.Saying.{IsShownTo}
-use Rattle.live_session.proofs.OneTurn.{goes_unseen, if_some, keeps_on, learns_nothing, learns_on, of_err, prefix-same, shown_numbers}
+use Rattle.live_session.proofs.OneTurn.{if_some, keeps_on, learns_nothing, learns_on, of_err, same_viewer, shown_numbers}
 use Rattle.live_session.proofs.Refused.{refused_at_too_much, taken_at_end}
 use Rattle.live_session.proofs.RunSteps.{costs_at_end, took_nothing, took_on}
-use Rattle.live_session.proofs.Running.{after_turn, all_ended, all_too_much, answered_on, done_fault, has_ended, mail_same, not_last, replied_not_last, skipped_not_last, some_on, still_going}
+use Rattle.live_session.proofs.Running.{after_turn, all_ended, all_too_much, answered_on, done_fault, has_ended, mail_same, some_on}
 use Rattle.live_session.proofs.SoFarLaws.{answered_nothing}
 use Rattle.live_session.specs.State.{ends_of}
 use Rattle.session_core.proofs.SoFar.{fault_is}
@@ -20,11 +20,7 @@ turns-init g c = record {
     pair = c.requires.0;
     source = refl;
     sink = refl;
-    viewer = record {
-      goes = goes_unseen c.args.viewer.shown c.args.viewer.learned c.args.viewer.last c.args.viewer.shown c.args.viewer.learned refl (prefix-same c.args.viewer.learned.points c.args.viewer.learned.points refl);
-      same_last = refl;
-      same_schema = refl;
-    };
+    viewer = same_viewer c.args.viewer.shown c.args.viewer.learned c.args.viewer.last c.args.viewer.schema;
     mailbox = refl;
     mail_pair = refl;
     learns = learns_nothing c.args.viewer.learned c.args.mail.now c.args.mail.now refl;
@@ -33,35 +29,19 @@ turns-init g c = record {
   took = took_nothing g.I.Source g.V.CubeView c.args.viewer.schema c.args.self.now.source c.args.steps.now c.args.viewer.shown.points;
 }
 
-pub turns-preserved-in-Ok-Skipped : goal.turns-preserved-in-Ok-Skipped
-turns-preserved-in-Ok-Skipped g c =
-    let turn = c.turn-after.ensures in
-    let after = c.turn-after.result.0 in
-    let was = c.turns.invariant in
-    record {
-      between =
-          after_turn _ after.shown after.learned after.last after.schema c.turn-after.new.mail c.turn-after.new.self c.turn-after.result.1 c.in-Ok-Skipped.field-0 c.turns.invariant.between c.in-Ok-Skipped.is
-          (not_last _ _ (rw c.in-Ok-Skipped.is at c.in-Ok-Skipped.field-0-is) skipped_not_last)
-          (shown_numbers after g.met.V.CubeView.structure)
-          turn.turned.turned turn.faults turn.viewer turn.costs.mail turn.so_far turn.finals;
-      took = took_on g.I.Source g.V.CubeView c.args.viewer.schema c.args.self.now.source c.args.steps.now c.turns.viewer.shown.points after.shown.points c.turns.self.source c.turn-after.new.self.source c.turns.steps c.turn-after.new.steps after.shown_view.value after.schema (turn.viewer.same_schema ∙ was.between.viewer.same_schema) turn.viewer.goes.seen was.took
-          (λ ended. absurd (false≢true (sym (still_going (ends_of g.I.Source g.O.Sink) g.V.CubeView.is_stat c.args.mail.now.takes false (news_of c.turns.viewer.shown c.turns.viewer.learned c.turns.mail) (news_of after.shown after.learned c.turn-after.new.mail) c.args.self.now c.turns.self c.turn-after.new.self _ (shown_numbers after g.met.V.CubeView.structure) c.turns.viewer.schema c.turn-after.result.1 c.in-Ok-Skipped.field-0 (not_last _ _ (rw c.in-Ok-Skipped.is at c.in-Ok-Skipped.field-0-is) skipped_not_last) c.in-Ok-Skipped.is turn.turned.turned) ∙ ended)))
-          turn.costs.steps;
-    }
-
 pub turns-preserved : goal.turns-preserved
 turns-preserved g c =
     let turn = c.turn-after.ensures in
     let after = c.turn-after.result.0 in
     let was = c.turns.invariant in
+    let between =
+    after_turn (IsShownTo after) after.shown after.learned after.last after.schema c.turn-after.new.mail c.turn-after.new.self c.turn-after.result.1 c.in-Ok.field-0 was.between c.in-Ok.is (search rules)
+    (shown_numbers after g.met.V.CubeView.structure)
+    turn.turned.turned turn.faults turn.viewer.0 turn.costs.mail turn.so_far turn.finals in
     record {
-      between =
-          after_turn _ after.shown after.learned after.last after.schema c.turn-after.new.mail c.turn-after.new.self c.turn-after.result.1 c.in-Ok-Replied.field-0 c.turns.invariant.between c.in-Ok-Replied.is
-          (not_last _ _ (rw c.in-Ok-Replied.is at c.in-Ok-Replied.field-0-is) replied_not_last)
-          (shown_numbers after g.met.V.CubeView.structure)
-          turn.turned.turned turn.faults turn.viewer turn.costs.mail turn.so_far turn.finals;
-      took = took_on g.I.Source g.V.CubeView c.args.viewer.schema c.args.self.now.source c.args.steps.now c.turns.viewer.shown.points after.shown.points c.turns.self.source c.turn-after.new.self.source c.turns.steps c.turn-after.new.steps after.shown_view.value after.schema (turn.viewer.same_schema ∙ was.between.viewer.same_schema) turn.viewer.goes.seen was.took
-          (λ ended. absurd (false≢true (sym (still_going (ends_of g.I.Source g.O.Sink) g.V.CubeView.is_stat c.args.mail.now.takes false (news_of c.turns.viewer.shown c.turns.viewer.learned c.turns.mail) (news_of after.shown after.learned c.turn-after.new.mail) c.args.self.now c.turns.self c.turn-after.new.self _ (shown_numbers after g.met.V.CubeView.structure) c.turns.viewer.schema c.turn-after.result.1 c.in-Ok-Replied.field-0 (not_last _ _ (rw c.in-Ok-Replied.is at c.in-Ok-Replied.field-0-is) replied_not_last) c.in-Ok-Replied.is turn.turned.turned) ∙ ended)))
+      between = between;
+      took = took_on g.I.Source g.V.CubeView c.args.viewer.schema c.args.self.now.source c.args.steps.now c.turns.viewer.shown.points after.shown.points c.turns.self.source c.turn-after.new.self.source c.turns.steps c.turn-after.new.steps after.shown_view.value after.schema (turn.viewer.0.same_schema ∙ was.between.viewer.same_schema) turn.viewer.0.goes.seen was.took
+          (λ ended. absurd (false≢true (sym between.going ∙ ended)))
           turn.costs.steps;
     }
 
@@ -124,33 +104,33 @@ returns-in-Err-clause-script g c =
     }
 
 pub returns-in-Ok-Ended-clause-viewer : goal.returns-in-Ok-Ended-clause-viewer
-returns-in-Ok-Ended-clause-viewer g c = keeps_on c.turns.invariant.between.viewer c.turn-after.ensures.viewer
+returns-in-Ok-Ended-clause-viewer g c = keeps_on c.turns.invariant.between.viewer c.turn-after.ensures.viewer.0
 
 pub returns-in-Err-clause-viewer : goal.returns-in-Err-clause-viewer
-returns-in-Err-clause-viewer g c = keeps_on c.turns.invariant.between.viewer c.turn-after.ensures.viewer
+returns-in-Err-clause-viewer g c = keeps_on c.turns.invariant.between.viewer c.turn-after.ensures.viewer.0
 
 pub returns-in-Ok-Ended-clause-names : goal.returns-in-Ok-Ended-clause-names
 returns-in-Ok-Ended-clause-names g c =
     let was = c.turns.invariant.between in
     let turn = c.turn-after.ensures in
     let names = mail_same c.turn-after.result.0.learned c.turns.mail c.turn-after.new.mail turn.costs.mail in
-    (turn.faults.1 ∙ was.name, (names.0 ∙ was.mailbox, names.1 ∙ was.mail_pair, learns_on c.turns.viewer.learned c.turn-after.result.0.learned c.args.mail.now c.turns.mail c.turn-after.new.mail turn.viewer.goes.told was.learns turn.costs.mail))
+    (turn.faults.1 ∙ was.name, (names.0 ∙ was.mailbox, names.1 ∙ was.mail_pair, learns_on c.turns.viewer.learned c.turn-after.result.0.learned c.args.mail.now c.turns.mail c.turn-after.new.mail turn.viewer.0.goes.told was.learns turn.costs.mail))
 
 pub returns-in-Err-clause-names : goal.returns-in-Err-clause-names
 returns-in-Err-clause-names g c =
     let was = c.turns.invariant.between in
     let turn = c.turn-after.ensures in
     let names = mail_same c.turn-after.result.0.learned c.turns.mail c.turn-after.new.mail turn.costs.mail in
-    (turn.faults.1 ∙ was.name, (names.0 ∙ was.mailbox, names.1 ∙ was.mail_pair, learns_on c.turns.viewer.learned c.turn-after.result.0.learned c.args.mail.now c.turns.mail c.turn-after.new.mail turn.viewer.goes.told was.learns turn.costs.mail))
+    (turn.faults.1 ∙ was.name, (names.0 ∙ was.mailbox, names.1 ∙ was.mail_pair, learns_on c.turns.viewer.learned c.turn-after.result.0.learned c.args.mail.now c.turns.mail c.turn-after.new.mail turn.viewer.0.goes.told was.learns turn.costs.mail))
 
 pub returns-in-Ok-Ended-clause-costs : goal.returns-in-Ok-Ended-clause-costs
 returns-in-Ok-Ended-clause-costs g c =
     let turn = c.turn-after.ensures in
     let was = c.turns.invariant in
-    costs_at_end g.I.Source g.V.CubeView c.turn-after.result.0 c.args.viewer.schema c.args.self.now.source c.turns.self.source c.turn-after.new.self.source c.args.steps.now c.turns.steps c.turn-after.new.steps c.turns.viewer.shown.points (turn.viewer.same_schema ∙ was.between.viewer.same_schema) turn.viewer.goes.seen was.took turn.costs.steps
+    costs_at_end g.I.Source g.V.CubeView c.turn-after.result.0 c.args.viewer.schema c.args.self.now.source c.turns.self.source c.turn-after.new.self.source c.args.steps.now c.turns.steps c.turn-after.new.steps c.turns.viewer.shown.points (turn.viewer.0.same_schema ∙ was.between.viewer.same_schema) turn.viewer.0.goes.seen was.took turn.costs.steps
 
 pub returns-in-Err-clause-costs : goal.returns-in-Err-clause-costs
 returns-in-Err-clause-costs g c =
     let turn = c.turn-after.ensures in
     let was = c.turns.invariant in
-    costs_at_end g.I.Source g.V.CubeView c.turn-after.result.0 c.args.viewer.schema c.args.self.now.source c.turns.self.source c.turn-after.new.self.source c.args.steps.now c.turns.steps c.turn-after.new.steps c.turns.viewer.shown.points (turn.viewer.same_schema ∙ was.between.viewer.same_schema) turn.viewer.goes.seen was.took turn.costs.steps
+    costs_at_end g.I.Source g.V.CubeView c.turn-after.result.0 c.args.viewer.schema c.args.self.now.source c.turns.self.source c.turn-after.new.self.source c.args.steps.now c.turns.steps c.turn-after.new.steps c.turns.viewer.shown.points (turn.viewer.0.same_schema ∙ was.between.viewer.same_schema) turn.viewer.0.goes.seen was.took turn.costs.steps

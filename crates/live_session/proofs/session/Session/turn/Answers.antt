@@ -1,4 +1,5 @@
-use Rattle.std.proofs.Common.{◌∷◌, [], inr, IfOk, ◌∙◌, ap, sym, subst, refl, true, false, Ok, Err, arith}
+use Rattle.std.proofs.Common.{◌∷◌, [], inl, inr, IfOk, ◌∙◌, ap, sym, subst, refl, true, false, Ok, Err, arith}
+use Rattle.std.specs.Prelude.{IsTrue}
 use Rattle.cube_view.specs.declared.schema.Schema.{Schema}
 use Rattle.live_session.specs.Answered.{Answered, IsBroken}
 use Rattle.live_session.specs.Bounds.{TakesSteps}
@@ -6,9 +7,10 @@ use Rattle.live_session.specs.News.{news_of}
 use Rattle.live_session.specs.Saying.{IsNewsOf, IsShownTo}
 use Rattle.live_session.specs.State.{ends_of}
 use Rattle.live_session.specs.declared.turn.Turn.{Turn}
-use Rattle.live_session.proofs.OneTurn.{end_of, faults_after, has_news, if_some, known_some, may_ask, of_fault, prefix-same, reads_of, same_fault, shown_numbers, whole_news}
+use Rattle.live_session.proofs.OneTurn.{asks_no_line, end_of, faults_after, has_news, if_some, known_some, may_ask, of_fault, prefix-same, reads_of, same_fault, shown_numbers, whole_news}
 use Rattle.live_session.proofs.SoFarLaws.{done_turn, goes_final, goes_within}
 use Rattle.outer_io.specs.Progress.{Passes}
+use Rattle.query_syntax.specs.Meaning.{asks_valid}
 use Rattle.query_syntax.specs.declared.query.Parsed.{Parsed}
 use Rattle.session_core.specs.Asked.{line_meaning}
 use Rattle.session_core.proofs.SoFar.{fault_is}
@@ -20,6 +22,9 @@ returns-then-self-clause-turned g c = record {
   turned = turned_ended (ends_of g.I.Source g.O.Sink) c.args.viewer.schema _ _ _ c.args.self.now refl (ap (λ s. s.ended) (sym c.self.view_is) ∙ c.if-self.true);
   broken = λ e. cc;
 }
+
+pub returns-then-self-clause-viewer : goal.returns-then-self-clause-viewer
+returns-then-self-clause-viewer g c = asks_no_line g.I.Source c.args.viewer c.args.mail.now c.args.self.now c.args.self.now (ap (λ s. s.ended) (sym c.self.view_is) ∙ c.if-self.true)
 
 pub returns-in-Ok-Some-clause-turned : goal.returns-in-Ok-Some-clause-turned
 returns-in-Ok-Some-clause-turned g c =
@@ -72,6 +77,12 @@ returns-in-Ok-None-clause-turned g c =
       broken = λ e. cc;
     }
 
+pub returns-in-Ok-None-clause-viewer : goal.returns-in-Ok-None-clause-viewer
+returns-in-Ok-None-clause-viewer g c = asks_no_line g.I.Source c.args.viewer c.args.mail.now c.args.self.now c.read_next.new.self (c.in-Ok-None.ensures.reads.end (ap (λ o. Ok o) c.in-Ok-None.field-0-is)).0
+
+pub returns-in-Err-clause-viewer : goal.returns-in-Err-clause-viewer
+returns-in-Err-clause-viewer g c = asks_no_line g.I.Source c.args.viewer c.args.mail.now c.args.self.now c.read_next.new.self c.in-Err.ensures.faults.ended.0
+
 pub returns-in-Err-clause-turned : goal.returns-in-Err-clause-turned
 returns-in-Err-clause-turned g c = record {
   turned = tt;
@@ -99,7 +110,7 @@ returns-in-Ok-Some-clause-finals g c =
     let b = news_of w w c.answer_line-viewer.new.mail in
     let news = whole_news p w c.args.mail.now c.answer_line-viewer.new.mail line.goes.mail.asked in
     let reads = reads_of g.I.Source.left g.I.Source.faults g.O.Sink.held z c.schema.result.now c.args.self.now c.read_next.new.self c.in-Ok-Some.field-0 p c.schema.ensures c.in-Ok-Some.field-0-is c.in-Ok-Some.ensures.reads.asked in
-    let is : IsNewsOf viewer.shown viewer.learned p b = (λ look. known_some _ c.args.viewer.last w last (line.goes.look look).1, (known_some _ viewer.last w (line.same.0 ∙ last) viewer.within).1) in
+    let is : IsNewsOf viewer p b = (λ look. known_some _ c.args.viewer.last w last (line.goes.look look).1, (known_some _ viewer.last w (line.same.0 ∙ last) viewer.within).1) in
     done_turn (ends_of g.I.Source g.O.Sink) z g.V.CubeView.is_stat taken true A
     (shown_numbers viewer g.met.V.CubeView.structure)
     a b start c.args.self.now c.finish-turn.new.self (goes_final z g.V.CubeView.is_stat w c.args.mail.now c.answer_line-viewer.new.mail)
@@ -140,3 +151,21 @@ returns-in-Ok-Some-clause-costs g c =
         subst (λ (z : Schema). TakesSteps g.V.CubeView viewer.shown_view.value z viewer.shown.points (line_meaning z reads.0) c.args.steps.now c.answer_line-viewer.new.steps) (sym line.same.1) (subst (λ (m : Parsed). TakesSteps g.V.CubeView viewer.shown_view.value c.args.viewer.schema viewer.shown.points m c.args.steps.now c.answer_line-viewer.new.steps) reads.2 line.steps),
       );
     }
+
+pub returns-in-Ok-Some-clause-viewer : goal.returns-in-Ok-Some-clause-viewer
+returns-in-Ok-Some-clause-viewer g c =
+    let line = c.answer_line-viewer.ensures in
+    let p = c.in-Ok-Some.parsed in
+    let read = c.in-Ok-Some.ensures.reads in
+    let reads = reads_of g.I.Source.left g.I.Source.faults g.O.Sink.held c.args.viewer.schema c.schema.result.now c.args.self.now c.read_next.new.self c.in-Ok-Some.field-0 p c.schema.ensures c.in-Ok-Some.field-0-is read.asked in (
+      record { goes = line.goes.goes; same_last = line.same.0; same_schema = line.same.1 },
+      record {
+        asked = p;
+        read = inl (reads.0, subst (λ s. Passes g.I.Source.left g.I.Source.faults c.args.self.now.source s (reads.0 ∷ [])) (sym c.finish-turn.ensures.source) reads.1.passed, reads.2);
+        asks = record {
+          valid = subst (λ (z : Schema). IsTrue (asks_valid z p)) c.schema.ensures (known_some (λ (q : Parsed). IsTrue (asks_valid c.schema.result.now q)) c.in-Ok-Some.field-0 p c.in-Ok-Some.field-0-is read.valid);
+          goes = line.goes;
+          takes = line.takes;
+        };
+      },
+    )
