@@ -10,7 +10,7 @@ use Rattle.node_arena.proofs.Linked.{linked-lt}
 use Rattle.point_insert.proofs.Visits.{homes_same, holds_same}
 use Rattle.proper_path.proofs.Dims.{stops_at_time}
 use Rattle.proper_path.proofs.Links.{table_link}
-use Rattle.group_insert.specs.Added.{IsAdded}
+use Rattle.proper_path.specs.Changes.{IsAdded}
 use Rattle.group_insert.specs.Halfway.{LeadsRight, WillHaveTwo, IsHalfwayBefore}
 use Rattle.group_insert.specs.Later.{PutOff, link_address, IsPutOff, IsPut}
 use Rattle.group_insert.specs.Turns.{EndedBefore, EndedAfter, IsOpenAbove}

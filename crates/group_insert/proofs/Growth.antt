@@ -1,21 +1,21 @@
 -- The arena grows while a group is inserted.
-use Rattle.std.proofs.Common.{◌≡◌, ℕ, ◌<◌, true, ◌⊎◌, inl, inr, List, ◌∷◌, ◌++◌, Some, Contains, length, refl, sym, ap, ◌∙◌, subst}
+use Rattle.std.proofs.Common.{◌≡◌, ℕ, ◌<◌, ◌⊎◌, inl, inr, List, ◌∷◌, ◌++◌, Some, Contains, length, refl, sym, ap, ◌∙◌, subst}
 use Rattle.std.proofs.lemmas.List.Elements.{Contains-append_left}
 use Rattle.std.proofs.lemmas.List.{map-append}
 use Rattle.cube_view.specs.Walks.{Step, Walk, SpotPath, Under, HasSpot}
 use Rattle.cube_view.proofs.Walking.{under_before}
-use Rattle.node_arena.specs.Amounts.{Weighted, spots_in, amount_under}
+use Rattle.node_arena.specs.Amounts.{Weighted, spots_in}
 use Rattle.node_arena.specs.Calls.{copied}
 use Rattle.node_arena.specs.Shape.{home_of, HasHomes}
-use Rattle.node_arena.specs.Slots.{proper, target, Slot, link_of, slot_of, is_table, count}
+use Rattle.node_arena.specs.Slots.{proper, target, Slot, link_of, slot_of}
 use Rattle.node_arena.specs.declared.link.Link.{Link}
 use Rattle.node_arena.proofs.Reaching.{target-lt}
 use Rattle.proper_path.specs.Changes.{IsGrown, Came, of_new, of_set, of_old, of_none}
 use Rattle.proper_path.specs.Making.{State, home, AddsSlot, Makes, has, copies, adds}
-use Rattle.proper_path.proofs.Between.{CountsAt, tables_grown}
+use Rattle.proper_path.proofs.Between.{tables_grown, counts_grown}
 use Rattle.proper_path.proofs.Grow.{holds_grown}
 use Rattle.proper_path.proofs.Homes.{IsFree, homes_grown, grown_homes, grown_home, KeepsHomes, keeps_homes, cases_grown}
-use Rattle.group_insert.specs.Halfway.{LeadsRight, IsVisitedBy, CountsWithin, IsHalfway, IsHalfwayBefore}
+use Rattle.group_insert.specs.Halfway.{LeadsRight, IsVisitedBy, IsHalfway, IsHalfwayBefore}
 use Rattle.group_insert.specs.Later.{PutOff, IsPut}
 use Rattle.group_insert.specs.Turns.{EndedBefore, IsOpenAbove}
 use Rattle.group_insert.proofs.LinksPutOff.{puts_grown}
@@ -50,24 +50,6 @@ visited_grown_by old new homes g done put i e s G H here fresh V = record {
         pick (inr x) = inr x
     links j f d q c u (inr x) = absurd (fresh (subst done (ap (grown_home homes i e) x ∙ K.is_new) d))
 
-counts_grown_by : (dims : ℕ) (old new : List Slot) (homes : List Walk) (i : ℕ) (e : Step) (s : Slot) (h g : List Weighted) (done : Walk → Type 0) → IsGrown old new i e s → HasHomes old homes → CountsWithin old homes h g done → CountsAt dims (e ∷ home_of homes i) s h → (done (e ∷ home_of homes i) → ⊥) → CountsWithin new (grown_homes homes i e) h g done
-counts_grown_by dims old new homes i e s h g done G H C at fresh = record {
-  still = λ j bin l t d. still j bin t d (cases_grown (length old) j (length new) G.size l);
-  now = λ j bin l t d. now j bin t d (cases_grown (length old) j (length new) G.size l);
-}
-  where
-    K : KeepsHomes old homes i e
-    K = keeps_homes old homes i e H
-
-    still : (j bin : ℕ) → is_table (slot_of new j) ≡ true → (done (grown_home homes i e j) → ⊥) → (j < length old) ⊎ (j ≡ length old) → count (slot_of new j) bin ≡ amount_under h (grown_home homes i e j) bin
-    still j bin t d (inl l) = G.old_count j bin l ∙ (C.still j bin l (sym (G.old_kind j l) ∙ t) (λ w. d (subst done (sym (K.was j l)) w)) ∙ ap (λ z. amount_under h z bin) (sym (K.was j l)))
-    still j bin t d (inr x) =
-        ap (λ z. count (slot_of new z) bin) x ∙ (G.new_count bin ∙ (at.counts bin (sym G.new_kind ∙ (ap (λ z. is_table (slot_of new z)) (sym x) ∙ t)) ∙ ap (λ z. amount_under h z bin) (sym K.is_new ∙ ap (grown_home homes i e) (sym x))))
-
-    now : (j bin : ℕ) → is_table (slot_of new j) ≡ true → done (grown_home homes i e j) → (j < length old) ⊎ (j ≡ length old) → count (slot_of new j) bin ≡ amount_under (g ++ h) (grown_home homes i e j) bin
-    now j bin t d (inl l) = G.old_count j bin l ∙ (C.now j bin l (sym (G.old_kind j l) ∙ t) (subst done (K.was j l) d) ∙ ap (λ z. amount_under (g ++ h) z bin) (sym (K.was j l)))
-    now j bin t d (inr x) = absurd (fresh (subst done (ap (grown_home homes i e) x ∙ K.is_new) d))
-
 -- a slot that stands well is added at a link of an open node
 pub halfway_grown : (dims : ℕ) (old new : List Slot) (homes : List Walk) (h g : List Weighted) (done open' : Walk → Type 0) (put : List PutOff) (i : ℕ) (e : Step) (s : Slot) → IsGrown old new i e s → IsHalfway dims old homes h g done open' put → IsFree old i e → HasSpot (spots_in g) (e ∷ home_of homes i) → IsTurnOf g done open' (home_of homes i) → IsFresh done open' (e ∷ home_of homes i) → StandsIn dims old homes i e s h g → IsHalfway dims new (grown_homes homes i e) h g done open' put
 halfway_grown dims old new homes h g done open' put i e s G M free w T F st = record {
@@ -76,7 +58,7 @@ halfway_grown dims old new homes h g done open' put i e s G M free w T F st = re
   holds = holds_grown old new homes i e s (spots_in h) (spots_in (g ++ h)) G M.has_homes M.holds st.holds (spot_of_group g h (e ∷ home_of homes i) w);
   untouched = λ j f l d o is. untouched j f l d o is (G.came j f);
   visited = visited_grown_by old new homes g done put i e s G M.has_homes T.not_done fresh M.visited;
-  counted = counts_grown_by dims old new homes i e s h g done G M.has_homes M.counted st.counted fresh;
+  counted = counts_grown dims old new homes i e s h (g ++ h) done G M.has_homes M.counted st.counted fresh;
   shares = shares_grown_by old new homes g done open' put i e s G M.has_homes T F st.shares M.shares;
   later = puts_grown old new homes h g done put i e s G M.has_homes fresh M.later;
 }

@@ -1,5 +1,5 @@
 -- The visit of a node of one label ends: it shares its child's content.
-use Rattle.std.proofs.Common.{◌≡◌, ℕ, ◌<◌, ◌≤◌, Bool, true, false, ◌⊎◌, inl, inr, List, ◌∷◌, Some, Contains, length, refl, sym, ap, ◌∙◌, subst, subst₂, arith, true≢false}
+use Rattle.std.proofs.Common.{◌≡◌, ℕ, ◌<◌, ◌≤◌, Bool, true, false, ◌⊎◌, inl, inr, List, ◌∷◌, ◌++◌, Some, Contains, length, refl, sym, ap, ◌∙◌, subst, subst₂, arith, true≢false}
 use Rattle.std.proofs.lemmas.List.Elements.{All-contains}
 use Rattle.cube_view.specs.Walks.{Step, down, across, Walk, SpotPath, Under, HasSpot, dimension}
 use Rattle.cube_view.proofs.Walking.{under_before}
@@ -10,7 +10,9 @@ use Rattle.node_arena.specs.declared.link.Link.{Link}
 use Rattle.node_arena.proofs.Labelled.{same_down}
 use Rattle.proper_path.specs.Changes.{IsRelinked}
 use Rattle.proper_path.specs.Order.{IsAbove, itself}
+use Rattle.point_insert.proofs.Cases.{one_child_leads}
 use Rattle.proper_path.proofs.Dims.{goes_across}
+use Rattle.proper_path.proofs.Shares.{MayLead}
 use Rattle.proper_path.proofs.Steps.{keeps-trans}
 use Rattle.group_insert.specs.Halfway.{LeadsRight, WillHaveTwo, IsHalfwayBefore, IsHalfwayAfter}
 use Rattle.group_insert.specs.Later.{PutOff, IsPutOff, IsPut}
@@ -18,8 +20,9 @@ use Rattle.group_insert.specs.Turns.{EndedBefore, EndedAfter, IsOpenAbove}
 use Rattle.group_insert.specs.Visits.{ArePoints, HasVisitedAll, IsLabelOf, HasOneLabel, IsGone, IsAmong}
 use Rattle.group_insert.proofs.Earlier.{lesser_earlier}
 use Rattle.group_insert.proofs.VisitEnd.{IsFinished, node_ends, last_label}
-use Rattle.group_insert.proofs.OneChild.{one_child_leads, one_child_right}
-use Rattle.group_insert.proofs.SharedLink.{MayLead, halfway_relinked}
+use Rattle.group_insert.proofs.OneChild.{one_child_right}
+use Rattle.group_insert.proofs.SharedLink.{halfway_relinked}
+use Rattle.group_insert.proofs.StartEnd.{old_spot}
 use Rattle.group_insert.proofs.SharedContent.{turn_before}
 
 module _ (dims : ℕ) (h g : List Weighted) (old mid : List Slot) (homes : List Walk) (before put : List PutOff) (i l from : ℕ) (P : ArePoints dims h g) (lt : i < length old) (nd : is_table (slot_of old i) ≡ false) (w : HasSpot (spots_in g) (home_of homes i)) (T : HasOneLabel old homes g i l) (A : IsAmong dims h g old homes i (Some l) from mid before put) (none : (n : ℕ) (q : SpotPath) → from ≤ n → Contains (spots_in g) q → Under q (down n ∷ home_of homes i) → ⊥) where
@@ -115,8 +118,8 @@ module _ (dims : ℕ) (h g : List Weighted) (old mid : List Slot) (homes : List 
     O : HasOneChild mid i l (proper child.0)
     O = record { is = child.1; only = alone }
 
-    may : MayLead mid A.homes' h g i (target c) across
-    may = one_child_leads dims mid A.homes' h g (EndedBefore g (down from ∷ home_of A.homes' i)) (IsOpenAbove (down from ∷ home_of A.homes' i)) put i l (proper child.0) c w.spot M (P.alike w.spot w.is_in) lies O is A.content
+    may : MayLead mid A.homes' (spots_in h) (spots_in (g ++ h)) i (target c) across
+    may = one_child_leads mid A.homes' (spots_in h) (spots_in (g ++ h)) M.has_homes M.holds w.spot (λ q d. P.alike w.spot w.is_in q (old_spot g h q d)) i l (proper child.0) c O lies is A.content
 
     M' : IsHalfwayBefore dims new A.homes' h g put (down from ∷ home_of A.homes' i)
     M' = halfway_relinked dims mid new A.homes' h g (EndedBefore g (down from ∷ home_of A.homes' i)) (IsOpenAbove (down from ∷ home_of A.homes' i)) put i (target c) across M R

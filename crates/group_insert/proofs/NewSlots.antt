@@ -1,19 +1,19 @@
 -- The slots that may be added while a group is inserted: an empty one, and the copy of a target that is not visited yet.
 use Rattle.std.proofs.Common.{◌≡◌, ℕ, ◌<◌, true, inr, ◌↔◌, List, ◌∷◌, ◌++◌, Some, None, length, sym, ◌∙◌}
 use Rattle.cube_view.specs.Walks.{Step, Walk, HasSpot, dimension}
-use Rattle.cube_view.proofs.Walking.{coarser_under, step_across_finer, under_before}
-use Rattle.node_arena.specs.Amounts.{Weighted, spots_in, amount_under}
+use Rattle.cube_view.proofs.Walking.{step_across_finer, under_before}
+use Rattle.node_arena.specs.Amounts.{Weighted, spots_in}
 use Rattle.node_arena.specs.Calls.{copied}
 use Rattle.node_arena.specs.Shape.{home_of, HasHomes}
-use Rattle.node_arena.specs.Slots.{proper, shared, Slot, link, link_of, slot_of, is_table, count}
+use Rattle.node_arena.specs.Slots.{proper, shared, Slot, link, link_of, slot_of, is_table}
 use Rattle.node_arena.specs.declared.link.Link.{Link}
-use Rattle.node_arena.proofs.Amounting.{amount-none, amount_along}
+use Rattle.node_arena.proofs.Amounting.{amount-none}
 use Rattle.proper_path.specs.Order.{IsBefore}
 use Rattle.proper_path.proofs.Above.{comes_before}
-use Rattle.proper_path.proofs.Between.{CountsAt, copy_kind}
+use Rattle.proper_path.proofs.Between.{CountsAt, copy_counts}
 use Rattle.proper_path.proofs.Grow.{HoldsAt, IsAlike, alike, copy_holds, copy_fits, IsEmpty, empty_holds, empty_fits}
 use Rattle.proper_path.proofs.Homes.{IsFree, FitsUnder, home_free}
-use Rattle.proper_path.proofs.Links.{proper≢shared, link-copied, share-some, count-copied, is_table-copied}
+use Rattle.proper_path.proofs.Links.{proper≢shared, link-copied, share-some}
 use Rattle.group_insert.specs.Halfway.{IsHalfway}
 use Rattle.group_insert.specs.Later.{PutOff}
 use Rattle.group_insert.proofs.SharedContent.{IsFresh, StandsShared, copy_shares, empty_shares}
@@ -41,7 +41,7 @@ pub copy_stands_in : (dims : ℕ) (slots : List Slot) (homes : List Walk) (h g :
 copy_stands_in dims slots homes h g done open' put i t e M F there is = record {
   fits = copy_fits slots homes M.has_homes (e ∷ home_of homes i) t A.coarser;
   holds = copy_holds slots homes (spots_in h) (spots_in (g ++ h)) M.has_homes M.holds (e ∷ home_of homes i) t lt A;
-  counted = record { kind = copy_kind dims slots homes M.has_tables (e ∷ home_of homes i) t lt A.coarser; counts = counts };
+  counted = copy_counts dims slots homes h (g ++ h) done M.has_tables M.counted (e ∷ home_of homes i) t lt A (λ k. fresh);
   wanted = wanted;
   shares = copy_shares slots homes done open' put i t e M.has_homes is before F M.later.ended M.shares;
 }
@@ -57,12 +57,6 @@ copy_stands_in dims slots homes h g done open' put i t e M F there is = record {
 
     fresh : done (home_of homes t) → ⊥
     fresh d = F.not_done (home_of homes t) (inr before) d
-
-    counts : (bin : ℕ) → is_table (copied (slot_of slots t)) ≡ true → count (copied (slot_of slots t)) bin ≡ amount_under h (e ∷ home_of homes i) bin
-    counts bin k =
-        let k' : is_table (slot_of slots t) ≡ true = sym (is_table-copied (slot_of slots t)) ∙ k in
-        count-copied (slot_of slots t) bin ∙ (M.counted.still t bin lt k' fresh
-        ∙ sym (amount_along h (e ∷ home_of homes i) (home_of homes t) A.agrees (λ q c u. coarser_under A.coarser q u) bin))
 
     wanted : (f : Step) (l : Link) → link (copied (slot_of slots t)) f ≡ Some l → HasSpot (spots_in h) (f ∷ e ∷ home_of homes i)
     wanted f l x =

@@ -46,14 +46,18 @@ begins_labels slots homes g i H lt free = record {
     go j l (in_content f) = absurd (none_below slots homes H i across lt free j l f)
     go j l (in_lesser k x f) = absurd (omega (arith, x))
 
--- from the content to the labels
-pub content_to_labels : (slots : List Slot) (homes : List Walk) (g : List Weighted) (a : Walk) → IsSameTurn slots homes g (EndedAfter g (across ∷ a)) (IsOpenAbove (across ∷ a)) (EndedBefore g (down 0 ∷ a)) (IsOpenAbove (down 0 ∷ a))
-content_to_labels slots homes g a = record {
+-- from a step of a node to a label, before which its visits are those up to the end of the step
+after_step : (slots : List Slot) (homes : List Walk) (g : List Weighted) (a : Walk) (e : Step) (k : ℕ) → ((b : Walk) → IsEarlier b (e ∷ a) ⊎ IsAbove (e ∷ a) b → IsEarlier b (down k ∷ a)) → ((b : Walk) → EarlierDown k a b → IsEarlier b (e ∷ a) ⊎ IsAbove (e ∷ a) b) → IsSameTurn slots homes g (EndedAfter g (e ∷ a)) (IsOpenAbove (e ∷ a)) (EndedBefore g (down k ∷ a)) (IsOpenAbove (down k ∷ a))
+after_step slots homes g a e k to back = record {
   to = λ b d. (d.0, to b d.1);
   back = λ j l d. (d.0, back (home_of homes j) (earlier_down d.1));
   holds = λ b d. d.0;
   wider = λ b o. open_other b o;
 }
+
+-- from the content to the labels
+pub content_to_labels : (slots : List Slot) (homes : List Walk) (g : List Weighted) (a : Walk) → IsSameTurn slots homes g (EndedAfter g (across ∷ a)) (IsOpenAbove (across ∷ a)) (EndedBefore g (down 0 ∷ a)) (IsOpenAbove (down 0 ∷ a))
+content_to_labels slots homes g a = after_step slots homes g a across 0 to back
   where
     to : (b : Walk) → IsEarlier b (across ∷ a) ⊎ IsAbove (across ∷ a) b → IsEarlier b (down 0 ∷ a)
     to b (inl r) = earlier_below (earlier_across r) (further itself)
@@ -92,12 +96,7 @@ over_labels slots homes g a k m le none = record {
 
 -- after a label
 pub past_label : (slots : List Slot) (homes : List Walk) (g : List Weighted) (a : Walk) (k : ℕ) → IsSameTurn slots homes g (EndedAfter g (down k ∷ a)) (IsOpenAbove (down k ∷ a)) (EndedBefore g (down (k + 1) ∷ a)) (IsOpenAbove (down (k + 1) ∷ a))
-past_label slots homes g a k = record {
-  to = λ b d. (d.0, to b d.1);
-  back = λ j l d. (d.0, back (home_of homes j) (earlier_down d.1));
-  holds = λ b d. d.0;
-  wider = λ b o. open_other b o;
-}
+past_label slots homes g a k = after_step slots homes g a (down k) (k + 1) to back
   where
     to : (b : Walk) → IsEarlier b (down k ∷ a) ⊎ IsAbove (down k ∷ a) b → IsEarlier b (down (k + 1) ∷ a)
     to b (inl r) = go (earlier_down r)

@@ -1,26 +1,25 @@
--- A node that has one child, old and new together: it may share that child's content, and the content is right for the group.
-use Rattle.std.proofs.Common.{◌≡◌, ℕ, ◌<◌, Bool, true, false, ◌⊎◌, inl, inr, List, [], ◌∷◌, ◌++◌, Some, Contains, length, refl, sym, ap, ◌∙◌, subst, arith, true≢false}
-use Rattle.cube_view.specs.Walks.{down, across, Walk, SpotPath, Under, Finer, top, by_down, by_across, longer, IsCoarser, HasSpot, dimension}
-use Rattle.cube_view.proofs.Walking.{coarser_under, under_before, finer-trans}
+-- A node that has one child, old and new together: it has no content of its own, and that of the child is right for the group.
+use Rattle.std.proofs.Common.{◌≡◌, ℕ, ◌<◌, Bool, false, ◌⊎◌, inl, inr, List, [], ◌∷◌, ◌++◌, Some, Contains, refl, sym, ap, ◌∙◌, subst, arith, true≢false}
+use Rattle.cube_view.specs.Walks.{down, across, Walk, SpotPath, Under, Finer, top, by_down, by_across, longer, HasSpot, dimension}
+use Rattle.cube_view.proofs.Walking.{under_before}
 use Rattle.node_arena.specs.Amounts.{Weighted, spots_in}
-use Rattle.node_arena.specs.Shape.{home_of, HasHomes, HasOneChild, SharesContent}
+use Rattle.node_arena.specs.Shape.{home_of, HasHomes, SharesContent}
 use Rattle.node_arena.specs.Slots.{proper, shared, target, Slot, link_of}
 use Rattle.node_arena.specs.declared.link.Link.{Link}
 use Rattle.node_arena.proofs.Linked.{linked-lt, link_cases}
 use Rattle.node_arena.proofs.Reaching.{target-lt, link_coarser}
 use Rattle.point_insert.proofs.Cases.{next_label, within_down, across_within}
+use Rattle.proper_path.specs.Making.{AllOfShape}
 use Rattle.proper_path.proofs.Homes.{IsFree, home_free}
 use Rattle.proper_path.proofs.Links.{proper≢shared}
 use Rattle.group_insert.specs.Halfway.{LeadsRight, WillHaveTwo, IsHalfway}
 use Rattle.group_insert.specs.Later.{PutOff, IsPut}
-use Rattle.group_insert.specs.Visits.{AreOfShape}
-use Rattle.group_insert.proofs.SharedLink.{MayLead}
 use Rattle.group_insert.proofs.SharedContent.{one_not_two}
 use Rattle.group_insert.proofs.NewSlots.{shared_free}
 use Rattle.group_insert.proofs.StartEnd.{old_spot}
 
 -- a node that has no other child than at the label of the group's points has no content of its own
-pub one_child_free : (dims : ℕ) (slots : List Slot) (homes : List Walk) (h g : List Weighted) (done open' : Walk → Type 0) (put : List PutOff) (i label : ℕ) (p : SpotPath) → ((m : ℕ) → IsPut put i (down m) → ⊥) → IsHalfway dims slots homes h g done open' put → AreOfShape (g ++ h) p → Under p (down label ∷ home_of homes i) → (done (home_of homes i) → ⊥) → (open' (home_of homes i) → ⊥) → ((m : ℕ) (k : Link) → link_of slots i (down m) ≡ Some k → m ≡ label) → IsFree slots i across
+pub one_child_free : (dims : ℕ) (slots : List Slot) (homes : List Walk) (h g : List Weighted) (done open' : Walk → Type 0) (put : List PutOff) (i label : ℕ) (p : SpotPath) → ((m : ℕ) → IsPut put i (down m) → ⊥) → IsHalfway dims slots homes h g done open' put → AllOfShape (spots_in (g ++ h)) p → Under p (down label ∷ home_of homes i) → (done (home_of homes i) → ⊥) → (open' (home_of homes i) → ⊥) → ((m : ℕ) (k : Link) → link_of slots i (down m) ≡ Some k → m ≡ label) → IsFree slots i across
 one_child_free dims slots homes h g done open' put i label p none M shape u d o only j is = go (M.shares.shares i label l o (record { is = is'; only = only }))
   where
     w : HasSpot (spots_in h) (across ∷ home_of homes i)
@@ -42,35 +41,7 @@ one_child_free dims slots homes h g done open' put i label p none M shape u d o 
     go (inl c) = proper≢shared j (target c.content) (let x : Some (proper j) ≡ Some (shared (target c.content)) = sym is ∙ c.of_node in cc)
     go (inr t) = one_not_two slots put i label l (record { is = is'; only = only }) none t
 
--- the content of the only child, which all points go down to, may be shared
-pub one_child_leads : (dims : ℕ) (slots : List Slot) (homes : List Walk) (h g : List Weighted) (done open' : Walk → Type 0) (put : List PutOff) (i label : ℕ) (k w : Link) (p : SpotPath) → IsHalfway dims slots homes h g done open' put → AreOfShape (g ++ h) p → Under p (down label ∷ home_of homes i) → HasOneChild slots i label k → link_of slots (target k) across ≡ Some w → IsFree slots i across → MayLead slots homes h g i (target w) across
-one_child_leads dims slots homes h g done open' put i label k w p M shape u O is free = record {
-  free = free;
-  in_range = target-lt slots homes M.has_homes (target k) across w is;
-  coarser = finer-trans to_child (link_coarser slots homes M.has_homes (target k) across w is);
-  wanted = let r = M.holds.wanted (target k) across w is in record { spot = r.spot; is_in = r.is_in; lies = coarser_under to_child r.spot r.lies };
-  agrees = agrees;
-}
-  where
-    to_node : Finer true (home_of homes i) (home_of homes (target k))
-    to_node = within_down (link_coarser slots homes M.has_homes i (down label) k O.is)
-
-    to_child : IsCoarser (across ∷ home_of homes i) (across ∷ home_of homes (target k))
-    to_child = by_across to_node
-
-    lt : i < length slots
-    lt = linked-lt slots i (down label) k O.is
-
-    agrees : (q : SpotPath) → Contains (spots_in h) q → Under q (across ∷ home_of homes i) → Under q (home_of homes (target w))
-    agrees q c v =
-        let m = next_label q p (shape q (old_spot g h q c)) (home_of homes i) label (under_before q across (home_of homes i) v) u in
-        let r = M.holds.needed i (down m.0) lt (record { spot = q; is_in = c; lies = m.1 }) in
-        let e : m.0 ≡ label = O.only m.0 r.link r.is in
-        let down_q : Under q (down label ∷ home_of homes i) = subst (λ z. Under q (down z ∷ home_of homes i)) e m.1 in
-        let at_child : Under q (home_of homes (target k)) = M.holds.agrees i (down label) k O.is q c down_q in
-        M.holds.agrees (target k) across w is q c (across_within q to_node at_child v)
-
--- and its home holds each point of the group that goes across, once the child has been visited
+-- the home of an only child's content holds each point of the group that goes across, once the child has been visited
 pub one_child_right : (dims : ℕ) (slots : List Slot) (homes : List Walk) (h g : List Weighted) (done open' : Walk → Type 0) (put : List PutOff) (i label : ℕ) (k w : Link) → IsHalfway dims slots homes h g done open' put → link_of slots i (down label) ≡ Some k → done (home_of homes (target k)) → link_of slots (target k) across ≡ Some w → (q : SpotPath) → Contains (spots_in g) q → Under q (home_of homes (target k)) → Under q (across ∷ home_of homes i) → Under q (home_of homes (target w))
 one_child_right dims slots homes h g done open' put i label k w M is d content q c u v =
     go (M.visited.links (target k) across (target-lt slots homes M.has_homes i (down label) k is) d q c (across_within q (within_down (link_coarser slots homes M.has_homes i (down label) k is)) u v))

@@ -17,7 +17,8 @@ use Rattle.point_insert.specs.Known.{total_weight}
 use Rattle.point_insert.proofs.Light.{table_light}
 use Rattle.proper_path.specs.Paths.{point_path, level_of, paths_of}
 use Rattle.proper_path.proofs.Labels.{length-path_of}
-use Rattle.group_insert.specs.Added.{IsAdded, amount_in, part_weight}
+use Rattle.proper_path.specs.Changes.{IsAdded}
+use Rattle.group_insert.specs.Added.{amount_in, part_weight}
 use Rattle.group_insert.specs.Labels.{label_at, HasLabel, IsLeastFrom, TellsOneLabel}
 use Rattle.group_insert.specs.Parts.{part_of}
 use Rattle.group_insert.specs.Later.{PutOff}

@@ -13,8 +13,9 @@ use Rattle.node_arena.specs.Slots.{Slot, node, table, empty_node, slot_of, count
 use Rattle.node_arena.specs.Calls.{with_run, table_add_many, table_add_run}
 use Rattle.arena_undo.proofs.RunTrail.{run_none, table_add_run-cons}
 use Rattle.proper_path.proofs.Leaving.{turned}
-use Rattle.proper_path.proofs.Links.{slot-set_same}
-use Rattle.group_insert.specs.Added.{IsAdded, IsOneBin, IsRunOf, amount_in, part_weight}
+use Rattle.arena_undo.proofs.Backward.{slot-set}
+use Rattle.proper_path.specs.Changes.{IsAdded}
+use Rattle.group_insert.specs.Added.{IsOneBin, IsRunOf, amount_in, part_weight}
 use Rattle.group_insert.proofs.TableAmounts.{added_none, added_more}
 
 -- how much one point has in a bin
@@ -152,7 +153,7 @@ run_steps old mid new i from to part run A R e =
 pub run_totals : (old mid new : List Slot) (i total from to : ℕ) (part : List Point) (run : List (ℕ × ℕ)) → IsAdded old mid i (λ bin. amount_in (take from part) bin) → IsRunOf part from to run → total_count (counts_of (slot_of mid i)) ≡ total + part_weight (take from part) → new ≡ table_add_run mid i run → total_count (counts_of (slot_of new i)) ≡ total + part_weight (take to part)
 run_totals old mid new i total from to part run A R is e =
     let t = total_with_run (slot_of mid i) run (A.old_kind i ∙ A.kind) in
-    let s = ap (λ z. total_count (counts_of (slot_of z i))) e ∙ ap (λ s. total_count (counts_of s)) (slot-set_same mid i (with_run (slot_of mid i) run) (let p = A.place in let z = A.size in omega (arith, p, z))) in
+    let s = ap (λ z. total_count (counts_of (slot_of z i))) e ∙ ap (λ s. total_count (counts_of s)) (slot-set mid i (with_run (slot_of mid i) run) (let p = A.place in let z = A.size in omega (arith, p, z))) in
     let r = R.total in
     omega (arith, t, s, r, is)
 

@@ -1,26 +1,19 @@
 -- A link of an open node becomes shared while a group is inserted.
-use Rattle.std.proofs.Common.{◌≡◌, ℕ, ◌<◌, true, ◌⊎◌, inl, inr, ◌↔◌, List, ◌∷◌, ◌++◌, Contains, length, sym, ◌∙◌, subst, arith}
-use Rattle.cube_view.specs.Walks.{Step, Walk, SpotPath, Under, HasSpot, IsCoarser, dimension}
+use Rattle.std.proofs.Common.{◌≡◌, ℕ, true, ◌⊎◌, inl, inr, ◌↔◌, List, ◌++◌, sym, ◌∙◌, subst, arith}
+use Rattle.cube_view.specs.Walks.{Step, Walk, SpotPath, dimension}
 use Rattle.node_arena.specs.Amounts.{Weighted, spots_in}
 use Rattle.node_arena.specs.Shape.{home_of}
 use Rattle.node_arena.specs.Slots.{shared, Slot}
 use Rattle.point_insert.proofs.Visits.{homes_relinked, holds_relinked}
 use Rattle.proper_path.specs.Changes.{IsRelinked}
-use Rattle.proper_path.proofs.Homes.{IsFree}
+use Rattle.proper_path.proofs.Shares.{MayLead}
 use Rattle.group_insert.specs.Halfway.{LeadsRight, IsHalfway}
 use Rattle.group_insert.specs.Later.{PutOff, IsPut}
 use Rattle.group_insert.proofs.LinksPutOff.{puts_relinked}
 use Rattle.group_insert.proofs.SharedContent.{IsTurnOf, shares_relinked_by}
 
--- the link of node i may lead to u as a shared one
-pub record MayLead (slots : List Slot) (homes : List Walk) (h g : List Weighted) (i u : ℕ) (e : Step) : Type 0 where
-  pub free : IsFree slots i e
-  pub in_range : u < length slots
-  pub coarser : IsCoarser (e ∷ home_of homes i) (home_of homes u)
-  pub wanted : HasSpot (spots_in (g ++ h)) (e ∷ home_of homes i)
-  pub agrees : (q : SpotPath) → Contains (spots_in h) q → Under q (e ∷ home_of homes i) → Under q (home_of homes u)
-
-pub halfway_relinked : (dims : ℕ) (old new : List Slot) (homes : List Walk) (h g : List Weighted) (done open' : Walk → Type 0) (put : List PutOff) (i u : ℕ) (e : Step) → IsHalfway dims old homes h g done open' put → IsRelinked old new i e (shared u) → IsTurnOf g done open' (home_of homes i) → MayLead old homes h g i u e → IsHalfway dims new homes h g done open' put
+-- the link of an open node is made a shared one that it may be
+pub halfway_relinked : (dims : ℕ) (old new : List Slot) (homes : List Walk) (h g : List Weighted) (done open' : Walk → Type 0) (put : List PutOff) (i u : ℕ) (e : Step) → IsHalfway dims old homes h g done open' put → IsRelinked old new i e (shared u) → IsTurnOf g done open' (home_of homes i) → MayLead old homes (spots_in h) (spots_in (g ++ h)) i u e → IsHalfway dims new homes h g done open' put
 halfway_relinked dims old new homes h g done open' put i u e M R T may = record {
   has_homes = homes_relinked old new homes i u e M.has_homes R may.free may.in_range may.coarser;
   has_tables = record { tables = λ j l. subst (λ x. (x ≡ true) ↔ (dimension (home_of homes j) ≡ dims)) (sym (R.old_kind j)) (M.has_tables.tables j (omega (arith, R.size))) };

@@ -2,9 +2,9 @@
 use Rattle.std.proofs.Common.{◌≡◌, ℕ, ◌+◌, ◌<◌, true, cond, eqb, List, [], length, refl, sym, ◌∙◌, subst, arith}
 use Rattle.node_arena.specs.Slots.{Slot, slot_of, count, is_table}
 use Rattle.node_arena.specs.Calls.{table_add_many}
-use Rattle.proper_path.specs.Changes.{IsCounted}
+use Rattle.proper_path.specs.Changes.{IsCounted, IsAdded}
 use Rattle.proper_path.proofs.Calls.{counts_more}
-use Rattle.group_insert.specs.Added.{IsAdded, amount_in}
+use Rattle.group_insert.specs.Added.{amount_in}
 
 -- before the first point
 pub added_none : (slots : List Slot) (i : ℕ) → i < length slots → is_table (slot_of slots i) ≡ true → IsAdded slots slots i (λ bin. amount_in [] bin)

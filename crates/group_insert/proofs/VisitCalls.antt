@@ -16,10 +16,10 @@ use Rattle.node_arena.specs.Shape.{home_of, HasOneChild}
 use Rattle.node_arena.specs.Slots.{proper, shared, target, Slot, link_of, slot_of, counts_of, is_table}
 use Rattle.time_table.specs.Counts.{total_count}
 use Rattle.point_insert.specs.Visited.{IsFilled}
-use Rattle.proper_path.specs.Changes.{IsRelinked}
+use Rattle.proper_path.specs.Changes.{IsRelinked, IsAdded}
 use Rattle.proper_path.specs.Stepped.{IsStepped, LeadsInside}
 use Rattle.proper_path.proofs.Calls.{relink_content}
-use Rattle.group_insert.specs.Added.{IsAdded, amount_in, part_weight}
+use Rattle.group_insert.specs.Added.{amount_in, part_weight}
 use Rattle.group_insert.specs.Halfway.{LeadsRight}
 use Rattle.group_insert.specs.Labels.{IsLeastFrom, points_at, label_at, TellsOneLabel, TellsOnlyLabel}
 use Rattle.group_insert.specs.Parts.{part_of}

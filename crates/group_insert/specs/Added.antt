@@ -1,9 +1,7 @@
--- What a time table is once it has taken points.
-use Rattle.std.specs.Prelude.{◌≡◌, ℕ, ◌+◌, ◌<◌, ◌≤◌, true, ◌==◌, if◌then◌else◌, List, length, take, sum_by}
+-- What a time table takes of points.
+use Rattle.std.specs.Prelude.{◌≡◌, ℕ, ◌+◌, ◌<◌, ◌≤◌, ◌==◌, if◌then◌else◌, List, length, take, sum_by}
 use Rattle.time_table.specs.Counts.{IsBinRun, amount_at, run_total}
 use Rattle.cube_view.specs.Points.{Point, spot_of, weight_of_point}
-use Rattle.cube_view.specs.Walks.{Step}
-use Rattle.node_arena.specs.Slots.{Slot, link_of, slot_of, count, is_table}
 
 -- how much the points weigh that have the bin, and how much all of them
 abbrev pub amount_in : List Point → ℕ → ℕ
@@ -11,16 +9,6 @@ amount_in points bin = sum_by (λ p. if (spot_of p).bin == bin then weight_of_po
 
 abbrev pub part_weight : List Point → ℕ
 part_weight points = sum_by (λ p. weight_of_point p) points
-
--- the table i counts so much more in each bin, and nothing else has changed
-pub record IsAdded (old new : List Slot) (i : ℕ) (more : ℕ → ℕ) : Type 0 where
-  pub size : length new ≡ length old
-  pub place : i < length old
-  pub kind : is_table (slot_of old i) ≡ true
-  pub links : (j : ℕ) (f : Step) → link_of new j f ≡ link_of old j f
-  pub here : (b : ℕ) → count (slot_of new i) b ≡ count (slot_of old i) b + more b
-  pub old_count : (j b : ℕ) → (j ≡ i → ⊥) → count (slot_of new j) b ≡ count (slot_of old j) b
-  pub old_kind : (j : ℕ) → is_table (slot_of new j) ≡ is_table (slot_of old j)
 
 -- the points from one place to another have one bin, and weigh n together
 pub record IsOneBin (part : List Point) (from to bin n : ℕ) : Type 0 where

@@ -1,11 +1,12 @@
 -- The invariant of a group's insertion, between two visits. g is the group and h what was counted before; `done` says of an
 -- address that its visit has ended, `open` that it has begun and not ended, and `put` has the links that are put off.
-use Rattle.std.specs.Prelude.{◌≡◌, ℕ, ◌<◌, true, ◌⊎◌, List, ◌∷◌, ◌++◌, length, Some, All, Contains}
+use Rattle.std.specs.Prelude.{◌≡◌, ℕ, ◌<◌, ◌⊎◌, List, ◌∷◌, ◌++◌, length, Some, All, Contains}
 use Rattle.cube_view.specs.Walks.{Step, down, Walk, SpotPath, Under, HasSpot}
-use Rattle.node_arena.specs.Amounts.{Weighted, spots_in, amount_under}
+use Rattle.node_arena.specs.Amounts.{Weighted, spots_in}
 use Rattle.node_arena.specs.Shape.{home_of, HasHomes, HoldsSpots, HasTables, IsLinked, HasOneChild, SharesContent}
-use Rattle.node_arena.specs.Slots.{proper, target, Slot, link_of, slot_of, count, is_table}
+use Rattle.node_arena.specs.Slots.{proper, target, Slot, link_of}
 use Rattle.node_arena.specs.declared.link.Link.{Link}
+use Rattle.proper_path.specs.Midway.{CountsBetween}
 use Rattle.group_insert.specs.Later.{PutOff, link_address, IsPutOff, IsPut, AreInOrder}
 use Rattle.group_insert.specs.Turns.{EndedBefore, EndedAfter, IsOpenAbove}
 
@@ -28,11 +29,6 @@ pub record IsVisitedBy (slots : List Slot) (homes : List Walk) (g : List Weighte
   pub holds : (a : Walk) → done a → HasSpot (spots_in g) a
   pub links : (i : ℕ) (e : Step) → i < length slots → done (home_of homes i) → (q : SpotPath) → Contains (spots_in g) q → Under q (e ∷ home_of homes i) →
       LeadsRight slots homes i e q ⊎ IsPut put i e
-
--- a table counts the group exactly when its visit has ended
-pub record CountsWithin (slots : List Slot) (homes : List Walk) (h g : List Weighted) (done : Walk → Type 0) : Type 0 where
-  pub still : (i bin : ℕ) → i < length slots → is_table (slot_of slots i) ≡ true → (done (home_of homes i) → ⊥) → count (slot_of slots i) bin ≡ amount_under h (home_of homes i) bin
-  pub now : (i bin : ℕ) → i < length slots → is_table (slot_of slots i) ≡ true → done (home_of homes i) → count (slot_of slots i) bin ≡ amount_under (g ++ h) (home_of homes i) bin
 
 -- the content of only children
 pub record SharesWithin (slots : List Slot) (homes : List Walk) (done open' : Walk → Type 0) (put : List PutOff) : Type 0 where
@@ -61,7 +57,7 @@ pub record IsHalfway (dims : ℕ) (slots : List Slot) (homes : List Walk) (h g :
   pub untouched : (i : ℕ) (e : Step) (l : Link) → (done (home_of homes i) → ⊥) → (open' (home_of homes i) → ⊥) → link_of slots i e ≡ Some l → HasSpot (spots_in h) (e ∷ home_of homes i)
   -- where visits have ended links are right for g too, and tables count g
   pub visited : IsVisitedBy slots homes g done put
-  pub counted : CountsWithin slots homes h g done
+  pub counted : CountsBetween slots homes h (g ++ h) done
   pub shares : SharesWithin slots homes done open' put
   pub later : PutsOff slots homes h g done put
 

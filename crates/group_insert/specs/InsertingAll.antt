@@ -1,11 +1,16 @@
 -- What the insertion of a group does to the slots of a cube.
-use Rattle.std.specs.Prelude.{ℕ, ◌<◌, ◌^◌, List, ◌++◌, Contains}
+use Rattle.std.specs.Prelude.{◌≡◌, ℕ, ◌<◌, ◌^◌, IsTrue, List, ◌++◌, All, Contains, length}
+use Rattle.cube_view.specs.Places.{time_dim}
+use Rattle.cube_view.specs.Points.{Point}
+use Rattle.cube_view.specs.Validity.{sound}
 use Rattle.cube_view.specs.Walks.{Walk}
+use Rattle.cube_view.specs.declared.schema.Schema.{Schema}
 use Rattle.node_arena.specs.Amounts.{Weighted, spots_in}
 use Rattle.node_arena.specs.Shape.{HasShape}
 use Rattle.node_arena.specs.Slots.{Slot}
 use Rattle.point_insert.specs.Known.{total_weight}
 use Rattle.proper_path.specs.Making.{IsSpotOf, AllOfShape}
+use Rattle.proper_path.specs.Paths.{paths_of}
 
 -- the slots have a cube's shape over the points h, and those of g may join them
 pub record IsInsertableAll (dims : ℕ) (g : List Weighted) (slots : List Slot) (homes : List Walk) (h : List Weighted) : Type 0 where
@@ -21,6 +26,17 @@ pub record CanInsertAll (dims : ℕ) (g : List Weighted) (slots : List Slot) : T
   pub homes : List Walk
   pub points : List Weighted
   pub known : IsInsertableAll dims g slots homes points
+
+-- points of a group may be added at the root
+pub record TakesGroup (schema : Schema) (points : List Point) (slots : List Slot) (root : ℕ) : Type 0 where
+  -- each of them is sound
+  pub all_sound : All (λ p. IsTrue (sound schema p)) points
+  -- there is one
+  pub some : 0 < length points
+  -- the root is the first slot
+  pub at_first : root ≡ 0
+  -- they may join the points over which the slots have the shape
+  pub known : ∥ CanInsertAll (time_dim schema) (paths_of schema points) slots ∥₁
 
 -- homes are known with which the slots have the shape over these points
 pub record HasInserted (dims : ℕ) (h : List Weighted) (slots : List Slot) : Type 0 where

@@ -1,6 +1,6 @@
 -- What holds where a group visits a slot with the points that its home holds, and afterwards.
 use Rattle.std.specs.Prelude.{◌≡◌, ℕ, ◌+◌, ◌<◌, ◌≤◌, ◌^◌, Bool, true, IsTrue, List, [], ◌∷◌, ◌++◌, Option, Some, None, All, Contains, length, slice_range}
-use Rattle.cube_view.specs.Places.{time_dim}
+use Rattle.cube_view.specs.Places.{deepest, time_dim}
 use Rattle.cube_view.specs.Points.{Point}
 use Rattle.cube_view.specs.Validity.{sound}
 use Rattle.cube_view.specs.Walks.{down, Walk, SpotPath, Under, dimension}
@@ -145,3 +145,14 @@ pub record HasPartAt (schema : Schema) (pile : List Point) (at end : ℕ) : Type
   pub ordered : at ≤ end
   pub within : end ≤ length pile
   pub all_sound : All (λ p. IsTrue (sound schema p)) pile
+
+-- a place, its part of the pile and the links that were put off are such that a visit may go on from there
+pub record CanVisitHere (schema : Schema) (place : Place) (pile : List Point) (put : List PutOffLink) : Type 0 where
+  -- the dimension comes before time
+  pub dim : (1 ≤ place.dim) × (place.dim < time_dim schema)
+  -- the place is no deeper than its dimension goes
+  pub level : place.level ≤ deepest schema place.dim
+  -- the part stands in the pile
+  pub part : HasPartAt schema pile place.part.at place.part.end
+  -- the dimensions that the links name are those of ways
+  pub put_off : AreEntries put

@@ -5,19 +5,15 @@ use Rattle.node_arena.specs.Amounts.{Weighted, spots_in}
 use Rattle.node_arena.specs.Shape.{home_of, IsLinked}
 use Rattle.node_arena.specs.Slots.{proper, Slot, link_of}
 use Rattle.node_arena.specs.declared.link.Link.{Link}
-use Rattle.proper_path.specs.Making.{IsSpotOf, Keeps}
-use Rattle.proper_path.specs.Order.{IsAbove, shape_of}
+use Rattle.proper_path.specs.Making.{IsSpotOf, Keeps, AllOfShape}
+use Rattle.proper_path.specs.Order.{IsAbove}
 use Rattle.proper_path.specs.Rooted.{state}
 use Rattle.group_insert.specs.Halfway.{IsHalfwayBefore, IsHalfwayAfter}
 use Rattle.group_insert.specs.Later.{PutOff, IsPut}
 
--- all spots have as many labels in each dimension as p
-abbrev pub AreOfShape : List Weighted → SpotPath → Type 0
-AreOfShape all p = (q : SpotPath) → Contains (spots_in all) q → shape_of q ≡ shape_of p
-
 -- the points of the group fit the cube and those that it counts
 pub record ArePoints (dims : ℕ) (h g : List Weighted) : Type 0 where
-  pub alike : (p : SpotPath) → Contains (spots_in g) p → AreOfShape (g ++ h) p
+  pub alike : (p : SpotPath) → Contains (spots_in g) p → AllOfShape (spots_in (g ++ h)) p
   pub spots : (p : SpotPath) → Contains (spots_in g) p → IsSpotOf dims p
 
 -- the list has entries more, of nodes at or below the address

@@ -5,7 +5,8 @@ ghost use Rattle.cube_view.specs.Validity.{sound};
 ghost use Rattle.node_arena.specs.Calls.{table_add_many, table_add_run};
 ghost use Rattle.time_table.specs.Counts.{IsBinRun, run_total, total_count};
 ghost use Rattle.node_arena.specs.Slots.{IsTable, slot_of, counts_of};
-ghost use Rattle.group_insert.specs.Added.{IsAdded, IsOneBin, IsRunOf, amount_in, part_weight};
+ghost use Rattle.proper_path.specs.Changes.{IsAdded};
+ghost use Rattle.group_insert.specs.Added.{IsOneBin, IsRunOf, amount_in, part_weight};
 
 use arena_undo::Work;
 use cube_view::{Point, Schema};

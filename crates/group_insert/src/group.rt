@@ -1,10 +1,9 @@
 //! The insertion of a group of points.
-ghost use Rattle.std.specs.Prelude.{◌≡◌, ◌<◌, length, All, IsTrue, OnOk};
+ghost use Rattle.std.specs.Prelude.{◌≡◌, OnOk};
 ghost use Rattle.cube_view.specs.Places.{time_dim};
-ghost use Rattle.cube_view.specs.Validity.{sound};
 ghost use Rattle.probe_core.specs.Blanks.{IsBlankOf};
 ghost use Rattle.proper_path.specs.Paths.{paths_of};
-ghost use Rattle.group_insert.specs.InsertingAll.{CanInsertAll, InsertsAll};
+ghost use Rattle.group_insert.specs.InsertingAll.{TakesGroup, InsertsAll};
 ghost use Rattle.group_insert.specs.Visiting.{root_of};
 
 use crate::put_off::PutOffLink;
@@ -28,10 +27,7 @@ pub fn add_group(
     points: &[Point],
     root: SlotId,
 ) -> Result<(), NoMemory>
-    requires sound { All (λ p. IsTrue (sound schema.now p)) points.now }
-    requires some { 0 < length points.now }
-    requires root { root.0 ≡ 0 }
-    requires known { ∥ CanInsertAll (time_dim schema.now) (paths_of schema.now points.now) work.old.slots ∥₁ }
+    requires { TakesGroup schema.now points.now work.old.slots root.0 }
     ensures inserted { OnOk result (InsertsAll (time_dim schema.now) (paths_of schema.now points.now) work.old.slots work.new.slots) }
     ensures start { work.new.start ≡ work.old.start }
 {
@@ -65,10 +61,7 @@ fn add_counted<L: Ledger>(
     blank: Blank,
 ) -> Result<(), NoMemory>
     requires blank { IsBlankOf L.name L.parts blank }
-    requires sound { All (λ p. IsTrue (sound schema.now p)) points.now }
-    requires some { 0 < length points.now }
-    requires root { root.0 ≡ 0 }
-    requires known { ∥ CanInsertAll (time_dim schema.now) (paths_of schema.now points.now) work.old.slots ∥₁ }
+    requires group { TakesGroup schema.now points.now work.old.slots root.0 }
     ensures inserted { OnOk result (InsertsAll (time_dim schema.now) (paths_of schema.now points.now) work.old.slots work.new.slots) }
     ensures start { work.new.start ≡ work.old.start }
 {

@@ -3,7 +3,7 @@ ghost use Rattle.std.specs.Prelude.{◌≡◌, ◌+◌, ◌<◌, ◌≤◌, Some
 ghost use Rattle.cube_view.specs.Places.{deepest, time_dim};
 ghost use Rattle.group_insert.specs.Labels.{TellsNextLabel};
 ghost use Rattle.group_insert.specs.Visiting.{part_at, CanVisitPart, VisitsPart, CanPass, PassesTo, PassesContent, PassesLabels};
-ghost use Rattle.group_insert.specs.Visiting.{CanShare, SharesOnly, HasPartAt, AreEntries};
+ghost use Rattle.group_insert.specs.Visiting.{CanShare, SharesOnly, CanVisitHere, AreEntries};
 
 use crate::count::count_part;
 use crate::node::{only_label, own_child, own_content};
@@ -81,9 +81,7 @@ pub fn visit<L: Ledger>(
     place: &Place,
     steps: &mut Steps<L>,
 ) -> Result<(), NoMemory>
-    requires dim { (1 ≤ place.now.dim) × (place.now.dim < time_dim schema.now) }
-    requires level { place.now.level ≤ deepest schema.now place.now.dim }
-    requires part { HasPartAt schema.now pile.old.items place.now.part.at place.now.part.end × AreEntries put_off.old.items }
+    requires here { CanVisitHere schema.now place.now pile.old.items put_off.old.items }
     requires known { ∥ CanVisitPart schema.now work.old.slots place.now pile.old.items put_off.old.items ∥₁ }
     ensures visited { OnOk result (VisitsPart schema.now work.old.slots work.new.slots place.now pile.old.items put_off.old.items put_off.new.items) }
     ensures settled { OnOk result (place.now.dim ≡ 1 → length put_off.new.items ≡ length put_off.old.items) }
@@ -109,9 +107,7 @@ fn visit_node<L: Ledger>(
     place: &Place,
     steps: &mut Steps<L>,
 ) -> Result<(), NoMemory>
-    requires dim { (1 ≤ place.now.dim) × (place.now.dim < time_dim schema.now) }
-    requires level { place.now.level ≤ deepest schema.now place.now.dim }
-    requires part { HasPartAt schema.now pile.old.items place.now.part.at place.now.part.end × AreEntries put_off.old.items }
+    requires here { CanVisitHere schema.now place.now pile.old.items put_off.old.items }
     requires known { ∥ CanVisitPart schema.now work.old.slots place.now pile.old.items put_off.old.items ∥₁ }
     ensures visited { OnOk result (VisitsPart schema.now work.old.slots work.new.slots place.now pile.old.items put_off.old.items put_off.new.items) }
     ensures pile { OnOk result ((pile.new.items ≡ pile.old.items) × AreEntries put_off.new.items) }
@@ -146,9 +142,7 @@ fn visit_content<L: Ledger>(
     place: &Place,
     steps: &mut Steps<L>,
 ) -> Result<(), NoMemory>
-    requires dim { (1 ≤ place.now.dim) × (place.now.dim < time_dim schema.now) }
-    requires level { place.now.level ≤ deepest schema.now place.now.dim }
-    requires part { HasPartAt schema.now pile.old.items place.now.part.at place.now.part.end × AreEntries put_off.old.items }
+    requires here { CanVisitHere schema.now place.now pile.old.items put_off.old.items }
     requires known { ∥ CanVisitPart schema.now work.old.slots place.now pile.old.items put_off.old.items ∥₁ }
     ensures passed { OnOk result (PassesContent schema.now work.old.slots work.new.slots place.now pile.old.items put_off.old.items put_off.new.items) }
     ensures pile { OnOk result ((pile.new.items ≡ pile.old.items) × AreEntries put_off.new.items) }
@@ -180,9 +174,8 @@ fn visit_labels<L: Ledger>(
     wide: bool,
     steps: &mut Steps<L>,
 ) -> Result<(), NoMemory>
-    requires dim { (1 ≤ place.now.dim) × (place.now.dim < time_dim schema.now) }
+    requires here { CanVisitHere schema.now place.now pile.old.items put_off.old.items }
     requires level { place.now.level < deepest schema.now place.now.dim }
-    requires part { HasPartAt schema.now pile.old.items place.now.part.at place.now.part.end × AreEntries put_off.old.items }
     requires known { ∥ CanPass schema.now work.old.slots place.now pile.old.items put_off.old.items wide 0 ∥₁ }
     ensures passed { OnOk result (PassesLabels schema.now work.old.slots work.new.slots place.now pile.old.items put_off.old.items put_off.new.items wide) }
     ensures pile { OnOk result ((pile.new.items ≡ pile.old.items) × AreEntries put_off.new.items) }
@@ -217,9 +210,8 @@ fn visit_label<L: Ledger>(
     label: u8,
     steps: &mut Steps<L>,
 ) -> Result<(), NoMemory>
-    requires dim { (1 ≤ place.now.dim) × (place.now.dim < time_dim schema.now) }
+    requires here { CanVisitHere schema.now place.now pile.old.items put_off.old.items }
     requires level { place.now.level < deepest schema.now place.now.dim }
-    requires part { HasPartAt schema.now pile.old.items place.now.part.at place.now.part.end × AreEntries put_off.old.items }
     requires next { TellsNextLabel schema.now place.now.dim (place.now.level + 1) from (part_at place.now pile.old.items) (Some label) }
     requires known { ∥ CanPass schema.now work.old.slots place.now pile.old.items put_off.old.items wide from ∥₁ }
     ensures passed { OnOk result (PassesTo schema.now work.old.slots work.new.slots place.now pile.old.items put_off.old.items put_off.new.items wide from label) }

@@ -5,14 +5,14 @@ use Rattle.cube_view.specs.Walks.{Step, down, across, Walk, SpotPath, Cursor, af
 use Rattle.proper_path.specs.Order.{shape_of}
 use Rattle.node_arena.specs.declared.link.Link.{Link}
 use Rattle.node_arena.specs.Slots.{proper, target, Slot, link_of, slot_of, count, is_table}
-use Rattle.node_arena.specs.Shape.{home_of, HasHomes, IsLinked, HasOneChild, IsShaped}
+use Rattle.node_arena.specs.Shape.{home_of, HasHomes, HoldsSpots, IsLinked, HasOneChild, IsShaped}
 use Rattle.proper_path.specs.Making.{AllOfShape}
 use Rattle.proper_path.specs.Midway.{IsGrowing, IsMidway}
 use Rattle.cube_view.proofs.Walking.{coarser_under, under_before, Contains-cons, Contains-cases, begun, under-some, loosen, finer_cursor, finer-trans}
 use Rattle.node_arena.proofs.Linked.{linked-lt}
 use Rattle.proper_path.proofs.Homes.{IsFree}
 use Rattle.node_arena.proofs.Reaching.{link_coarser, target-lt}
-use Rattle.proper_path.proofs.Shares.{MayShare}
+use Rattle.proper_path.proofs.Shares.{MayLead, MayShare}
 use Rattle.point_insert.specs.Visited.{HasPathChild}
 use Rattle.point_insert.proofs.Visits.{IsReady}
 use Rattle.node_arena.specs.Amounts.{Weighted, spots_in, amount_under}
@@ -100,19 +100,18 @@ ready slots homes p H i P l is holds = record { links = links }
     links (down m) u = path_ready slots homes p H i P m u
     links across u = (l, is, holds u)
 
--- case 1: the node has one child, which was visited, and takes its content
-pub one_child_shares : (dims : ℕ) (slots : List Slot) (homes : List Walk) (h : List Weighted) (p : Weighted) (done : Walk → Type 0) (updated : List ℕ) → IsMidway dims slots homes h p done updated → AllOfShape (spots_in h) p.spot → (i label : ℕ) (k w : Link) → HasOneChild slots i label k → Under p.spot (down label ∷ home_of homes i) → link_of slots (target k) across ≡ Some w → IsFree slots i across → (done (home_of homes i) → ⊥) → MayShare slots homes h p done i (target w) across
-one_child_shares dims slots homes h p done updated M shape i label k w O u is free fresh = record {
+-- the content of an only child, which all points go down to, may be shared
+pub one_child_leads : (slots : List Slot) (homes : List Walk) (sure all : List SpotPath) → HasHomes slots homes → HoldsSpots slots homes sure all → (p : SpotPath) → AllOfShape sure p → (i label : ℕ) (k w : Link) → HasOneChild slots i label k → Under p (down label ∷ home_of homes i) → link_of slots (target k) across ≡ Some w → IsFree slots i across → MayLead slots homes sure all i (target w) across
+one_child_leads slots homes sure all H S p shape i label k w O u is free = record {
   free = free;
-  in_range = target-lt slots homes M.has_homes (target k) across w is;
-  coarser = finer-trans to_child (link_coarser slots homes M.has_homes (target k) across w is);
-  wanted = let r = M.holds.wanted (target k) across w is in record { spot = r.spot; is_in = r.is_in; lies = coarser_under to_child r.spot r.lies };
+  in_range = target-lt slots homes H (target k) across w is;
+  coarser = finer-trans to_child (link_coarser slots homes H (target k) across w is);
+  wanted = let r = S.wanted (target k) across w is in record { spot = r.spot; is_in = r.is_in; lies = coarser_under to_child r.spot r.lies };
   agrees = agrees;
-  open_node = fresh;
 }
   where
     to_node : Finer true (home_of homes i) (home_of homes (target k))
-    to_node = within_down (link_coarser slots homes M.has_homes i (down label) k O.is)
+    to_node = within_down (link_coarser slots homes H i (down label) k O.is)
 
     to_child : IsCoarser (across ∷ home_of homes i) (across ∷ home_of homes (target k))
     to_child = by_across to_node
@@ -120,14 +119,21 @@ one_child_shares dims slots homes h p done updated M shape i label k w O u is fr
     lt : i < length slots
     lt = linked-lt slots i (down label) k O.is
 
-    agrees : (q : SpotPath) → Contains (spots_in h) q → Under q (across ∷ home_of homes i) → Under q (home_of homes (target w))
+    agrees : (q : SpotPath) → Contains sure q → Under q (across ∷ home_of homes i) → Under q (home_of homes (target w))
     agrees q c v =
-        let m = next_label q p.spot (shape q c) (home_of homes i) label (under_before q across (home_of homes i) v) u in
-        let r = M.holds.needed i (down m.0) lt (record { spot = q; is_in = c; lies = m.1 }) in
+        let m = next_label q p (shape q c) (home_of homes i) label (under_before q across (home_of homes i) v) u in
+        let r = S.needed i (down m.0) lt (record { spot = q; is_in = c; lies = m.1 }) in
         let e : m.0 ≡ label = O.only m.0 r.link r.is in
         let down_q : Under q (down label ∷ home_of homes i) = subst (λ z. Under q (down z ∷ home_of homes i)) e m.1 in
-        let at_child : Under q (home_of homes (target k)) = M.holds.agrees i (down label) k O.is q c down_q in
-        M.holds.agrees (target k) across w is q c (across_within q to_node at_child v)
+        let at_child : Under q (home_of homes (target k)) = S.agrees i (down label) k O.is q c down_q in
+        S.agrees (target k) across w is q c (across_within q to_node at_child v)
+
+-- case 1: the node has one child, which was visited, and takes its content
+pub one_child_shares : (dims : ℕ) (slots : List Slot) (homes : List Walk) (h : List Weighted) (p : Weighted) (done : Walk → Type 0) (updated : List ℕ) → IsMidway dims slots homes h p done updated → AllOfShape (spots_in h) p.spot → (i label : ℕ) (k w : Link) → HasOneChild slots i label k → Under p.spot (down label ∷ home_of homes i) → link_of slots (target k) across ≡ Some w → IsFree slots i across → (done (home_of homes i) → ⊥) → MayShare slots homes h p done i (target w) across
+one_child_shares dims slots homes h p done updated M shape i label k w O u is free fresh = record {
+  leads = one_child_leads slots homes (spots_in h) (spots_in (p ∷ h)) M.has_homes M.holds p.spot shape i label k w O u is free;
+  open_node = fresh;
+}
 
 -- so p, which goes to the child, goes on to the content's home
 pub one_child_ready : (dims : ℕ) (slots : List Slot) (homes : List Walk) (h : List Weighted) (p : Weighted) (done : Walk → Type 0) (updated : List ℕ) → IsMidway dims slots homes h p done updated → (i label : ℕ) (k w : Link) → link_of slots i (down label) ≡ Some k → Under p.spot (home_of homes (target k)) → done (home_of homes (target k)) → link_of slots (target k) across ≡ Some w → Under p.spot (across ∷ home_of homes i) → Under p.spot (home_of homes (target w))

@@ -30,8 +30,8 @@ tables_grown dims old new homes i e s G H T kind = record { tables = λ j l. tab
     tables j (inl l) = subst₂ (λ x y. (x ≡ true) ↔ (dimension y ≡ dims)) (sym (G.old_kind j l)) (sym (K.was j l)) (T.tables j l)
     tables j (inr x) = subst₂ (λ x y. (x ≡ true) ↔ (dimension y ≡ dims)) (sym G.new_kind ∙ ap (λ z. is_table (slot_of new z)) (sym x)) (sym K.is_new ∙ ap (grown_home homes i e) (sym x)) kind
 
-pub counts_grown : (dims : ℕ) (old new : List Slot) (homes : List Walk) (i : ℕ) (e : Step) (s : Slot) (h : List Weighted) (p : Weighted) (done : Walk → Type 0) → IsGrown old new i e s → HasHomes old homes → CountsBetween old homes h p done → CountsAt dims (e ∷ home_of homes i) s h → (done (e ∷ home_of homes i) → ⊥) → CountsBetween new (grown_homes homes i e) h p done
-counts_grown dims old new homes i e s h p done G H C at fresh = record {
+pub counts_grown : (dims : ℕ) (old new : List Slot) (homes : List Walk) (i : ℕ) (e : Step) (s : Slot) (h all : List Weighted) (done : Walk → Type 0) → IsGrown old new i e s → HasHomes old homes → CountsBetween old homes h all done → CountsAt dims (e ∷ home_of homes i) s h → (done (e ∷ home_of homes i) → ⊥) → CountsBetween new (grown_homes homes i e) h all done
+counts_grown dims old new homes i e s h all done G H C at fresh = record {
   still = λ j bin l t d. still j bin t d (cases_grown (length old) j (length new) G.size l);
   now = λ j bin l t d. now j bin t d (cases_grown (length old) j (length new) G.size l);
 }
@@ -44,8 +44,8 @@ counts_grown dims old new homes i e s h p done G H C at fresh = record {
     still j bin t d (inr x) =
         ap (λ z. count (slot_of new z) bin) x ∙ (G.new_count bin ∙ (at.counts bin (sym G.new_kind ∙ (ap (λ z. is_table (slot_of new z)) (sym x) ∙ t)) ∙ ap (λ z. amount_under h z bin) (sym K.is_new ∙ ap (grown_home homes i e) (sym x))))
 
-    now : (j bin : ℕ) → is_table (slot_of new j) ≡ true → done (grown_home homes i e j) → (j < length old) ⊎ (j ≡ length old) → count (slot_of new j) bin ≡ amount_under (p ∷ h) (grown_home homes i e j) bin
-    now j bin t d (inl l) = G.old_count j bin l ∙ (C.now j bin l (sym (G.old_kind j l) ∙ t) (subst done (K.was j l) d) ∙ ap (λ z. amount_under (p ∷ h) z bin) (sym (K.was j l)))
+    now : (j bin : ℕ) → is_table (slot_of new j) ≡ true → done (grown_home homes i e j) → (j < length old) ⊎ (j ≡ length old) → count (slot_of new j) bin ≡ amount_under all (grown_home homes i e j) bin
+    now j bin t d (inl l) = G.old_count j bin l ∙ (C.now j bin l (sym (G.old_kind j l) ∙ t) (subst done (K.was j l) d) ∙ ap (λ z. amount_under all z bin) (sym (K.was j l)))
     now j bin t d (inr x) = absurd (fresh (subst done (ap (grown_home homes i e) x ∙ K.is_new) d))
 
 pub visited_grown : (old new : List Slot) (homes : List Walk) (i : ℕ) (e : Step) (s : Slot) (p : Weighted) (done : Walk → Type 0) → IsGrown old new i e s → HasHomes old homes → IsVisited old homes p done → (done (home_of homes i) → ⊥) → (done (e ∷ home_of homes i) → ⊥) → IsVisited new (grown_homes homes i e) p done
@@ -95,7 +95,7 @@ growing_grown dims old new homes i e s h p done G M may st = record {
   has_tables = tables_grown dims old new homes i e s G M.has_homes M.has_tables st.counted.kind;
   holds = holds_grown old new homes i e s (spots_in h) (spots_in (p ∷ h)) G M.has_homes M.holds st.holds (record { spot = p.spot; is_in = Contains-head (spots_in h) p.spot; lies = may.lies });
   visited = visited_grown old new homes i e s p done G M.has_homes M.visited may.open_node may.open_link;
-  counted = counts_grown dims old new homes i e s h p done G M.has_homes M.counted st.counted may.open_link;
+  counted = counts_grown dims old new homes i e s h (p ∷ h) done G M.has_homes M.counted st.counted may.open_link;
 }
 
 pub midway_grown : (dims : ℕ) (old new : List Slot) (homes : List Walk) (i : ℕ) (e : Step) (s : Slot) (h : List Weighted) (p : Weighted) (done : Walk → Type 0) (updated : List ℕ) → IsGrown old new i e s → IsMidway dims old homes h p done updated → MayGrow old homes i e p done → StandsAt dims old homes (e ∷ home_of homes i) s h p → IsMidway dims new (grown_homes homes i e) h p done updated
@@ -108,12 +108,22 @@ midway_grown dims old new homes i e s h p done updated G M may st = record {
 pub copy_kind : (dims : ℕ) (slots : List Slot) (homes : List Walk) → HasTables dims slots homes → (a : Walk) (t : ℕ) → t < length slots → IsCoarser a (home_of homes t) → (is_table (copied (slot_of slots t)) ≡ true) ↔ (dimension a ≡ dims)
 copy_kind dims slots homes T a t lt co = subst₂ (λ x y. (x ≡ true) ↔ (y ≡ dims)) (sym (is_table-copied (slot_of slots t))) (sym (dimension-finer co)) (T.tables t lt)
 
+-- .. and has its count, where a table has not been visited
+pub copy_counts : (dims : ℕ) (slots : List Slot) (homes : List Walk) (h all : List Weighted) (done : Walk → Type 0) → HasTables dims slots homes → CountsBetween slots homes h all done → (a : Walk) (t : ℕ) → t < length slots → IsAlike homes a t (spots_in h) → (is_table (slot_of slots t) ≡ true → done (home_of homes t) → ⊥) → CountsAt dims a (copied (slot_of slots t)) h
+copy_counts dims slots homes h all done T C a t lt A old = record {
+  kind = copy_kind dims slots homes T a t lt A.coarser;
+  counts = λ bin k.
+      let k' : is_table (slot_of slots t) ≡ true = sym (is_table-copied (slot_of slots t)) ∙ k in
+      count-copied (slot_of slots t) bin ∙ (C.still t bin lt k' (old k')
+      ∙ sym (amount_along h a (home_of homes t) A.agrees (λ q c u. coarser_under A.coarser q u) bin));
+}
+
 -- the shallow copy of a shared link's target stands well; a table must not have been visited
 pub copy_stands : (dims : ℕ) (slots : List Slot) (homes : List Walk) (h : List Weighted) (p : Weighted) (done : Walk → Type 0) → IsGrowing dims slots homes h p done → (i t : ℕ) (e : Step) → link_of slots i e ≡ Some (shared t) → (is_table (slot_of slots t) ≡ true → done (home_of homes t) → ⊥) → StandsAt dims slots homes (e ∷ home_of homes i) (copied (slot_of slots t)) h p
 copy_stands dims slots homes h p done M i t e is old = record {
   fits = copy_fits slots homes M.has_homes (e ∷ home_of homes i) t A.coarser;
   holds = copy_holds slots homes (spots_in h) (spots_in (p ∷ h)) M.has_homes M.holds (e ∷ home_of homes i) t lt A;
-  counted = record { kind = copy_kind dims slots homes M.has_tables (e ∷ home_of homes i) t lt A.coarser; counts = counts };
+  counted = copy_counts dims slots homes h (p ∷ h) done M.has_tables M.counted (e ∷ home_of homes i) t lt A old;
 }
   where
     A : IsAlike homes (e ∷ home_of homes i) t (spots_in h)
@@ -121,12 +131,6 @@ copy_stands dims slots homes h p done M i t e is old = record {
 
     lt : t < length slots
     lt = (M.has_homes.finer i t e is).0
-
-    counts : (bin : ℕ) → is_table (copied (slot_of slots t)) ≡ true → count (copied (slot_of slots t)) bin ≡ amount_under h (e ∷ home_of homes i) bin
-    counts bin k =
-        let k' : is_table (slot_of slots t) ≡ true = sym (is_table-copied (slot_of slots t)) ∙ k in
-        count-copied (slot_of slots t) bin ∙ (M.counted.still t bin lt k' (old k')
-        ∙ sym (amount_along h (e ∷ home_of homes i) (home_of homes t) A.agrees (λ q c u. coarser_under A.coarser q u) bin))
 
 -- an empty slot stands well where no link is
 pub empty_stands : (dims : ℕ) (slots : List Slot) (homes : List Walk) (h : List Weighted) (p : Weighted) (done : Walk → Type 0) → IsGrowing dims slots homes h p done → (i : ℕ) (e : Step) (s : Slot) → i < length slots → link_of slots i e ≡ None → IsEmpty s → (is_table s ≡ true) ↔ (dimension (e ∷ home_of homes i) ≡ dims) → StandsAt dims slots homes (e ∷ home_of homes i) s h p

@@ -7,7 +7,8 @@ use Rattle.node_arena.specs.declared.link.Link.{Link}
 use Rattle.node_arena.specs.Slots.{proper, shared, Slot, node, table, empty_node, child, link, count, is_table, slot_of, link_of}
 use Rattle.proper_path.specs.Changes.{IsGrown, Came, of_new, of_set, of_old, of_none, IsRelinked, IsCounted}
 use Rattle.node_arena.specs.Calls.{with_child, with_link, put, relink, with_content, with_many, put_child, set_child, set_content, table_add_many}
-use Rattle.proper_path.proofs.Links.{same_place, slot-set_same, slot-set_other, slot-push_old, slot-push_new}
+use Rattle.arena_undo.proofs.Backward.{slot-set}
+use Rattle.proper_path.proofs.Links.{same_place, slot-set_other, slot-push_old, slot-push_new}
 use Rattle.time_table.specs.Counts.{BinCounts, count_of, add_many}
 use Rattle.time_table.proofs.AddLaws.{count_of-add_many}
 
@@ -121,7 +122,7 @@ grows slots i e s new lt S = record {
     fits = omega (arith, length_push slots s)
 
     at_i : slot_of (set (slots ++ s ∷ []) i new) i ≡ new
-    at_i = slot-set_same (slots ++ s ∷ []) i new fits
+    at_i = slot-set (slots ++ s ∷ []) i new fits
 
     at_new : slot_of (set (slots ++ s ∷ []) i new) (length slots) ≡ s
     at_new = slot-set_other (slots ++ s ∷ []) i (length slots) new (λ x. omega arith) ∙ slot-push_new slots s
@@ -171,7 +172,7 @@ relinks slots i e new l lt S = record {
     next = set slots i new
 
     at_i : slot_of (set slots i new) i ≡ new
-    at_i = slot-set_same slots i new lt
+    at_i = slot-set slots i new lt
 
     old_link : (j : ℕ) (f : Step) → (j ≡ i → f ≡ e → ⊥) → (j ≡ i) ⊎ (j ≡ i → ⊥) → link_of next j f ≡ link_of slots j f
     old_link j f n (inl x) = ap (λ z. link_of next z f) x ∙ (ap (λ z. link z f) at_i ∙ (S.elsewhere f (n x) ∙ ap (λ z. link_of slots z f) (sym x)))
@@ -223,7 +224,7 @@ counts_more slots i bin n lt t = record {
     next = set slots i (with_many (slot_of slots i) bin n)
 
     at_i : slot_of next i ≡ new
-    at_i = slot-set_same slots i new lt
+    at_i = slot-set slots i new lt
 
     links : (j : ℕ) (f : Step) → (j ≡ i) ⊎ (j ≡ i → ⊥) → link_of next j f ≡ link_of slots j f
     links j f (inl x) = ap (λ z. link_of next z f) x ∙ (ap (λ z. link z f) at_i ∙ (added_link (slot_of slots i) bin n f ∙ ap (λ z. link_of slots z f) (sym x)))

@@ -1,5 +1,5 @@
 -- What the links and rows of an arena are after one change.
-use Rattle.std.proofs.Common.{◌≡◌, ℕ, ◌<◌, Bool, true, false, cond, eqb, ◌⊎◌, inl, inr, List, [], ◌∷◌, ◌++◌, map, Option, Some, None, set, length, refl, sym, ap, ◌∙◌, true≢false, get_or-set_same, get_or-set_other}
+use Rattle.std.proofs.Common.{◌≡◌, ℕ, ◌<◌, Bool, true, false, cond, eqb, ◌⊎◌, inl, inr, List, [], ◌∷◌, ◌++◌, map, Option, Some, None, set, length, refl, sym, ap, ◌∙◌, true≢false, get_or-set_other}
 use Rattle.std.proofs.lemmas.List.{get_or_append_left, get_or_push}
 use Rattle.std.proofs.lemmas.Bool.{cases_eq}
 use Rattle.cube_view.specs.Walks.{Step, down, across}
@@ -20,10 +20,7 @@ cases_step (down l) across = inr (λ e. cc)
 cases_step across (down m) = inr (λ e. cc)
 cases_step across across = inl refl
 
--- a slot is set
-pub slot-set_same : (slots : List Slot) (i : ℕ) (s : Slot) → i < length slots → slot_of (set slots i s) i ≡ s
-slot-set_same slots i s l = get_or-set_same slots i s empty_node l
-
+-- another slot is set
 pub slot-set_other : (slots : List Slot) (i j : ℕ) (s : Slot) → (j ≡ i → ⊥) → slot_of (set slots i s) j ≡ slot_of slots j
 slot-set_other slots i j s n = get_or-set_other slots i j s empty_node n
 

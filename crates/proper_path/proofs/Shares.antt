@@ -101,13 +101,18 @@ shares_grown old new homes i e s p done G H F closed u here there two S = record
     many j to label is v (of_old lt ne el) = more j lt (S.many j to label (sym el ∙ is) (subst (λ z. Under p.spot (down label ∷ z)) (K.was j lt) v))
     many j to label is v (of_none el) = absurd cc
 
--- the content link of node i, which is not visited yet, is set to lead to u as a shared link
-pub record MayShare (slots : List Slot) (homes : List Walk) (h : List Weighted) (p : Weighted) (done : Walk → Type 0) (i u : ℕ) (e : Step) : Type 0 where
+-- the link of node i may lead to u as a shared one, where `sure` are the old spots and `all` the new ones too
+pub record MayLead (slots : List Slot) (homes : List Walk) (sure all : List SpotPath) (i u : ℕ) (e : Step) : Type 0 where
   pub free : IsFree slots i e
   pub in_range : u < length slots
   pub coarser : IsCoarser (e ∷ home_of homes i) (home_of homes u)
-  pub wanted : HasSpot (spots_in (p ∷ h)) (e ∷ home_of homes i)
-  pub agrees : (q : SpotPath) → Contains (spots_in h) q → Under q (e ∷ home_of homes i) → Under q (home_of homes u)
+  pub wanted : HasSpot all (e ∷ home_of homes i)
+  pub agrees : (q : SpotPath) → Contains sure q → Under q (e ∷ home_of homes i) → Under q (home_of homes u)
+
+-- the link of node i, which is not visited yet, is set to lead to u as a shared link
+pub record MayShare (slots : List Slot) (homes : List Walk) (h : List Weighted) (p : Weighted) (done : Walk → Type 0) (i u : ℕ) (e : Step) : Type 0 where
+  pub leads : MayLead slots homes (spots_in h) (spots_in (p ∷ h)) i u e
+  pub open leads use *
   pub open_node : done (home_of homes i) → ⊥
 
 -- the content of a node on p's path that isn't visited yet is shared anew

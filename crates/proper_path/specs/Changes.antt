@@ -33,12 +33,16 @@ pub record IsRelinked (old new : List Slot) (i : ℕ) (e : Step) (l : Link) : Ty
   pub old_count : (j bin : ℕ) → count (slot_of new j) bin ≡ count (slot_of old j) bin
   pub old_kind : (j : ℕ) → is_table (slot_of new j) ≡ is_table (slot_of old j)
 
--- the table i counts n more at the bin
-pub record IsCounted (old new : List Slot) (i bin n : ℕ) : Type 0 where
+-- the table i counts so much more in each bin, and nothing else has changed
+pub record IsAdded (old new : List Slot) (i : ℕ) (more : ℕ → ℕ) : Type 0 where
   pub size : length new ≡ length old
   pub place : i < length old
   pub kind : is_table (slot_of old i) ≡ true
   pub links : (j : ℕ) (f : Step) → link_of new j f ≡ link_of old j f
-  pub here : (b : ℕ) → count (slot_of new i) b ≡ count (slot_of old i) b + cond (eqb bin b) n 0
+  pub here : (b : ℕ) → count (slot_of new i) b ≡ count (slot_of old i) b + more b
   pub old_count : (j b : ℕ) → (j ≡ i → ⊥) → count (slot_of new j) b ≡ count (slot_of old j) b
   pub old_kind : (j : ℕ) → is_table (slot_of new j) ≡ is_table (slot_of old j)
+
+-- it counts n more at the bin
+abbrev pub IsCounted : List Slot → List Slot → ℕ → ℕ → ℕ → Type 0
+IsCounted old new i bin n = IsAdded old new i (λ b. cond (eqb bin b) n 0)

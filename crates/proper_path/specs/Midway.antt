@@ -19,10 +19,10 @@ pub record IsVisited (slots : List Slot) (homes : List Walk) (p : Weighted) (don
   pub links : (i : ℕ) (e : Step) → i < length slots → done (home_of homes i) → Under p.spot (e ∷ home_of homes i) →
       (l : Link) × (link_of slots i e ≡ Some l) × Under p.spot (home_of homes (target l))
 
--- a table counts p exactly when its visit has ended
-pub record CountsBetween (slots : List Slot) (homes : List Walk) (h : List Weighted) (p : Weighted) (done : Walk → Type 0) : Type 0 where
+-- a table counts all points exactly when its visit has ended, and the old ones h until then
+pub record CountsBetween (slots : List Slot) (homes : List Walk) (h all : List Weighted) (done : Walk → Type 0) : Type 0 where
   pub still : (i bin : ℕ) → i < length slots → is_table (slot_of slots i) ≡ true → (done (home_of homes i) → ⊥) → count (slot_of slots i) bin ≡ amount_under h (home_of homes i) bin
-  pub now : (i bin : ℕ) → i < length slots → is_table (slot_of slots i) ≡ true → done (home_of homes i) → count (slot_of slots i) bin ≡ amount_under (p ∷ h) (home_of homes i) bin
+  pub now : (i bin : ℕ) → i < length slots → is_table (slot_of slots i) ≡ true → done (home_of homes i) → count (slot_of slots i) bin ≡ amount_under all (home_of homes i) bin
 
 -- the updated set
 pub record HasUpdated (slots : List Slot) (homes : List Walk) (done : Walk → Type 0) (updated : List ℕ) : Type 0 where
@@ -51,7 +51,7 @@ pub record IsGrowing (dims : ℕ) (slots : List Slot) (homes : List Walk) (h : L
   pub has_tables : HasTables dims slots homes
   pub holds : HoldsSpots slots homes (spots_in h) (spots_in (p ∷ h))
   pub visited : IsVisited slots homes p done
-  pub counted : CountsBetween slots homes h p done
+  pub counted : CountsBetween slots homes h (p ∷ h) done
 
 -- the invariant without shared content
 pub record IsMidway (dims : ℕ) (slots : List Slot) (homes : List Walk) (h : List Weighted) (p : Weighted) (done : Walk → Type 0) (updated : List ℕ) : Type 0 where

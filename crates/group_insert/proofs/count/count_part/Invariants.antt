@@ -1,7 +1,8 @@
 use Rattle.std.proofs.Common.{◌≡◌, ◌+◌, ◌-◌, take, length}
 use Rattle.time_table.specs.Counts.{total_count}
 use Rattle.node_arena.specs.Slots.{slot_of, counts_of}
-use Rattle.group_insert.specs.Added.{IsAdded, amount_in, part_weight}
+use Rattle.proper_path.specs.Changes.{IsAdded}
+use Rattle.group_insert.specs.Added.{amount_in, part_weight}
 use Rattle.group_insert.proofs.count.count_part.Given as goal
 
 abbrev pub invariant-loop-from : goal.invariant-loop-from
