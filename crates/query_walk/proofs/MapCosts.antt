@@ -1,5 +1,5 @@
 -- What the tiles of a map cost, quadrant by quadrant.
-use Rattle.std.proofs.Common.{◌≡◌, ℕ, suc, ◌+◌, ◌-◌, ◌*◌, ◌<◌, ◌≤◌, Bool, true, ltb, List, length, sym, ◌∙◌, ap, subst, arith}
+use Rattle.std.proofs.Common.{◌≡◌, ℕ, suc, ◌+◌, ◌*◌, ◌<◌, ◌≤◌, Bool, true, ltb, List, length, sym, ◌∙◌, ap, subst, arith}
 use Rattle.std.proofs.Math.Nat.{add-mul, mul-le-mul_right}
 use Rattle.std.proofs.lemmas.Bool.{lt-ltb}
 use Rattle.cube_view.proofs.Costing.{cost_if-true, has_spot-quadrant}
@@ -52,12 +52,10 @@ module _ (costs : ViewCosts) (z : Schema) (h : List Point) (q : Query) (n : ℕ)
   pub paid_in_all : (levels l start new : ℕ) → levels ≡ suc n → l < 4 → new ≤ start + paid (l + 1) → new ≤ start + areas_cost costs z h q levels t
   paid_in_all levels l start new is lt so_far =
       let e = ap (λ (k : ℕ). areas_cost costs z h q k t) is in
-      let s = sum_upto-rises each (l + 1) (4 - (l + 1)) in
-      let four : l + 1 + (4 - (l + 1)) ≡ 4 = omega (arith, lt) in
-      let f = ap (sum_upto each) four in
       let more : l + 1 ≤ 4 = omega (arith, lt) in
+      let s = sum_upto-rises each (l + 1) 4 more in
       let d = mul-le-mul_right (costs.down_cost (region_address t)) more in
-      omega (arith, so_far, e, s, f, d)
+      omega (arith, so_far, e, s, d)
 
   -- all four quadrants
   pub paid_whole : (levels l start new : ℕ) → levels ≡ suc n → 4 ≤ l → l ≤ 4 → new ≤ start + paid l → new ≤ start + areas_cost costs z h q levels t

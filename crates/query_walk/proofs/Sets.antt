@@ -19,6 +19,7 @@ use Rattle.query_syntax.specs.declared.query.Choice.{Choice}
 use Rattle.query_syntax.specs.declared.query.Choice.TheVariants.{All, Only}
 use Rattle.query_syntax.specs.declared.query.Query.{Query}
 use Rattle.query_walk.specs.Walks.{is_in_span, is_under_in, meets_from, is_left, is_left_in_set, are_walkable, IsAtCategory, HasChoicesFrom}
+use Rattle.query_walk.proofs.Valid.{AsksFor}
 
 abbrev in_set : List Bool → ℕ → Bool
 in_set set x = get_or set x false
@@ -209,14 +210,14 @@ module _ (z : Schema) (q : Query) (a : Address) (k : ℕ) (h : List Point) where
   below_all set v end = amount-same (is_left_below z q a k set v) (is_left_in_set z q a k set) (λ s. ap (λ b. is_under z a s && (b && meets_from q (k + 1) s)) (all_below set (value_of s k) v end)) h
 
   -- the set of category k
-  pub set_left : (set : List Bool) → k < length q.sets → get_or q.sets k All ≡ Only set → amount (is_left_in_set z q a k set) h ≡ amount (is_left z q a k) h
-  set_left set lt is = amount-same (is_left_in_set z q a k set) (is_left z q a k) (λ s. ap (λ b. is_under z a s && b) (sym (meets_next q k s (Only set) lt is))) h
+  pub set_left : (set : List Bool) → AsksFor z q.sets k (Only set) → amount (is_left_in_set z q a k set) h ≡ amount (is_left z q a k) h
+  set_left set only = amount-same (is_left_in_set z q a k set) (is_left z q a k) (λ s. ap (λ b. is_under z a s && b) (sym (meets_next q k s (Only set) only.within only.choice))) h
 
   -- any value of category k
-  pub any_value : (b : Address) → b ≡ next_dim a → k < length q.sets → get_or q.sets k All ≡ All → amount (is_left z q b (k + 1)) h ≡ amount (is_left z q a k) h
-  any_value b next lt is =
+  pub any_value : (b : Address) → b ≡ next_dim a → AsksFor z q.sets k All → amount (is_left z q b (k + 1)) h ≡ amount (is_left z q a k) h
+  any_value b next all =
       ap (λ (x : Address). amount (is_left z q x (k + 1)) h) next
-      ∙ amount-same (is_left z q (next_dim a) (k + 1)) (is_left z q a k) (λ s. ap (λ b. is_under z a s && b) (sym (meets_next q k s All lt is))) h
+      ∙ amount-same (is_left z q (next_dim a) (k + 1)) (is_left z q a k) (λ s. ap (λ b. is_under z a s && b) (sym (meets_next q k s All all.within all.choice))) h
 
   -- nothing below the value
   pub none_at : (v : ℕ) → k < 4 → IsAtCategory a k → amount (is_below z a v) h ≡ 0 → 0 ≡ amount (is_left z q (next_dim (longer a v)) (k + 1)) h

@@ -7,16 +7,19 @@ use Rattle.cube_view.specs.Points.{Point}
 use Rattle.cube_view.specs.declared.spot.Spot.{Spot}
 use Rattle.tile_drill.specs.Series.{FitsEach, GainsEach}
 
-module _ (h : List Point) (p r : ℕ → Spot → Bool) where
-  -- tests that have the same amounts
-  pub gains_same : ((i : ℕ) → amount (p i) h ≡ amount (r i) h) → (old new : List ℕ) → GainsEach p old new h → GainsEach r old new h
-  gains_same same old new gains = record {
+-- By the tests of the one family and of the other, the list has the same amounts.
+pub record HasSame (h : List Point) (p r : ℕ → Spot → Bool) : Type 0 where
+  pub each : (i : ℕ) → amount (p i) h ≡ amount (r i) h
+
+module _ {h : List Point} {p r : ℕ → Spot → Bool} (same : HasSame h p r) where
+  pub gains_same : {old new : List ℕ} → GainsEach p old new h → GainsEach r old new h
+  gains_same gains = record {
     long = gains.long;
-    sums = λ i lt. let g = gains.sums i lt in let e = same i in omega (arith, g, e);
+    sums = λ i lt. let g = gains.sums i lt in let e = same.each i in omega (arith, g, e);
   }
 
-  pub fits_same : ((i : ℕ) → amount (p i) h ≡ amount (r i) h) → (sums : List ℕ) → FitsEach r sums h → FitsEach p sums h
-  fits_same same sums fits i lt = let f = fits i lt in let e = same i in omega (arith, f, e)
+  pub fits_same : (sums : List ℕ) → FitsEach r sums h → FitsEach p sums h
+  fits_same sums fits i lt = let f = fits i lt in let e = same.each i in omega (arith, f, e)
 
 -- tests that no spot of the list passes
 pub gains_nothing : (h : List Point) (p : ℕ → Spot → Bool) → ((i : ℕ) → 0 ≡ amount (p i) h) → (sums : List ℕ) → GainsEach p sums sums h

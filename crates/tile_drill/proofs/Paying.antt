@@ -1,5 +1,5 @@
 -- What the rows of a table cost, one after the other.
-use Rattle.std.proofs.Common.{◌≡◌, ℕ, ◌+◌, ◌-◌, ◌<◌, ◌≤◌, Bool, true, ltb, List, length, ◌∙◌, ap, arith}
+use Rattle.std.proofs.Common.{◌≡◌, ℕ, ◌+◌, ◌<◌, ◌≤◌, Bool, true, ltb, List, length, ◌∙◌, ap, arith}
 use Rattle.std.proofs.lemmas.Bool.{lt-ltb}
 use Rattle.cube_view.specs.Bag.{amount, anywhere}
 use Rattle.cube_view.specs.Costs.{ViewCosts, cost_if, is_found}
@@ -30,12 +30,9 @@ module _ (costs : ViewCosts) (z : Schema) (h : List Point) (q : Query) (k : ℕ)
   -- no more than all values, after the walk to the region
   pub values_paid : (values : List (List ℕ)) (v start mid new : ℕ) → values ≡ values_at z.categories k → v ≤ length values → mid ≤ start + region_cost costs z h q → new ≤ mid + sum_upto value_cost v → new ≤ start + values_cost costs z h q k
   values_paid values v start mid new same le space so_far =
-      let n = length (values_at z.categories k) in
       let count = ap length same in
-      let all : v + (n - v) ≡ n = omega (arith, le, count) in
-      let r = sum_upto-rises value_cost v (n - v) in
-      let e = ap (sum_upto value_cost) all in
-      omega (arith, r, e, space, so_far)
+      let r = sum_upto-rises value_cost v (length (values_at z.categories k)) (omega (arith, le, count)) in
+      omega (arith, r, space, so_far)
 
 -- What a series costs
 

@@ -16,10 +16,12 @@ use Rattle.query_syntax.specs.declared.query.Choice.TheVariants.{All, Only}
 use Rattle.query_syntax.specs.declared.query.Query.{Query}
 use Rattle.query_walk.proofs.Sets.{any_value, below_all, below_no, below_none, below_yes, box_is, is_left_below, none_in_bag, none_in_region, set_left, time_left}
 use Rattle.query_walk.proofs.Spans.{before_end}
-use Rattle.query_walk.specs.Walks.{is_left_in_set, meets_from, IsAtCategory, HasChoicesFrom}
+use Rattle.query_walk.proofs.Valid.{asks_there, below_four, AsksFor}
+use Rattle.query_walk.specs.Walks.{is_left_in_set, meets_from, AsksAtCategory, HasChoicesFrom}
 use Rattle.cube_view.specs.Found.{totals_before}
 use Rattle.tile_drill.specs.Series.{row_at_value, row_left, row_span, row_under, AreRowTotals, FitsEach, GainsEach}
 use Rattle.tile_drill.specs.declared.sums.Series.{Series}
+use Rattle.tile_drill.proofs.Gaining.{HasSame}
 
 -- the bins of a row are in order
 pub row_order : (s : Series) (i : ℕ) → (row_span s i).from ≤ (row_span s i).to
@@ -46,38 +48,45 @@ without_bound true false j r e = e
 without_bound false i j r e = e
 
 module _ (z : Schema) (s : Series) (h : List Point) (a : Address) (k : ℕ) where
+  -- under an address that is the same
+  pub same_row : {b : Address} → b ≡ a → HasSame h (row_left z s b k) (row_left z s a k)
+  same_row is = record { each = λ i. ap (λ (x : Address). amount (row_left z s x k i) h) is }
+
   abbrev row : ℕ → Query
   row i = with_span s.query (row_span s i)
 
   -- where no category is left
-  pub time_row : HasChoicesFrom z s.query k → k ≡ length z.categories → (i : ℕ) → amount (row_under z s a i) h ≡ amount (row_left z s a k i) h
-  time_row has end i = time_left z (row i) a k h (record { few = has.few; wide = has.wide; choices = has.choices; order = row_order s i }) end
+  pub time_row : HasChoicesFrom z s.query k → k ≡ length z.categories → HasSame h (row_under z s a) (row_left z s a k)
+  time_row has end = record { each = λ i. time_left z (row i) a k h (record { few = has.few; wide = has.wide; choices = has.choices; order = row_order s i }) end }
 
   -- any value of category k
-  pub any_row : (b : Address) → b ≡ next_dim a → k < length s.query.sets → get_or s.query.sets k All ≡ All → (i : ℕ) → amount (row_left z s b (k + 1) i) h ≡ amount (row_left z s a k i) h
-  any_row b next lt is i = any_value z (row i) a k h b next lt is
+  pub any_row : {b : Address} → b ≡ next_dim a → AsksFor z s.query.sets k All → HasSame h (row_left z s b (k + 1)) (row_left z s a k)
+  any_row {b = b} next all = record { each = λ i. any_value z (row i) a k h b next all }
 
-  module _ (set : List Bool) (lt : k < length s.query.sets) (is : get_or s.query.sets k All ≡ Only set) where
+  module _ (set : List Bool) (walk : AsksAtCategory z s.query a k) (is : get_or s.query.sets k All ≡ Only set) where
+    all_left : (i : ℕ) → amount (is_left_in_set z (row i) a k set) h ≡ amount (row_left z s a k i) h
+    all_left i = set_left z (row i) a k h set (asks_there z s.query k walk is)
+
     pub row_none : (i : ℕ) → 0 ≡ amount (row_below z s a k set 0 i) h
     row_none i = below_none z (row i) a k h set
 
-    pub row_all : (v : ℕ) → HasNoneFrom set v → (i : ℕ) → amount (row_below z s a k set v i) h ≡ amount (row_left z s a k i) h
-    row_all v none i = below_all z (row i) a k h set v none ∙ set_left z (row i) a k h set lt is
+    pub row_all : (v : ℕ) → HasNoneFrom set v → HasSame h (row_below z s a k set v) (row_left z s a k)
+    row_all v none = record { each = λ i. below_all z (row i) a k h set v none ∙ all_left i }
 
     -- one value more, where it is not in the set
-    pub row_no : (v : ℕ) → get_or set v false ≡ false → (i : ℕ) → amount (row_below z s a k set v i) h ≡ amount (row_below z s a k set (v + 1) i) h
-    row_no v is_out i = sym (below_no z (row i) a k h set v is_out)
+    pub row_no : (v : ℕ) → get_or set v false ≡ false → HasSame h (row_below z s a k set v) (row_below z s a k set (v + 1))
+    row_no v is_out = record { each = λ i. sym (below_no z (row i) a k h set v is_out) }
 
-    module _ (v : ℕ) (few : k < 4) (free : IsAtCategory a k) (is_in : get_or set v false ≡ true) where
+    module _ (v : ℕ) (is_in : get_or set v false ≡ true) where
       -- and where it is
       pub row_yes : (i : ℕ) → amount (row_below z s a k set (v + 1) i) h ≡ amount (row_below z s a k set v i) h + amount (row_at_value z s a k v i) h
-      row_yes i = below_yes z (row i) a k h set v few free is_in
+      row_yes i = below_yes z (row i) a k h set v (below_four z k walk.category) walk.here is_in
 
       -- which is within the whole set
       pub row_within : (i : ℕ) → amount (row_below z s a k set v i) h + amount (row_at_value z s a k v i) h ≤ amount (row_left z s a k i) h
       row_within i =
           let e = row_yes i in
-          let all = set_left z (row i) a k h set lt is in
+          let all = all_left i in
           let less = amount-less (row_below z s a k set (v + 1) i) (is_left_in_set z (row i) a k set) (λ t passes. without_bound (is_under z a t) (get_or set (get_or t.values k 0) false) (ltb (get_or t.values k 0) (v + 1)) (meets_from (row i) (k + 1) t) passes) h in
           omega (arith, e, all, less)
 

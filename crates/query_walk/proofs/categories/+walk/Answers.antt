@@ -2,19 +2,17 @@ use Rattle.std.proofs.Common.{◌≡◌, ℕ, cond, false, get_or, length, ◌+�
 use Rattle.std.specs.Coded.{le_prop}
 use Rattle.std.proofs.Math.Logic.{∥∥₁_elim}
 use Rattle.std.proofs.lemmas.Bool.{cond-true}
-use Rattle.std.proofs.lemmas.List.{get_or_default}
 use Rattle.cube_view.proofs.Amounts.{none-anywhere}
 use Rattle.cube_view.proofs.Weighing.{IsBag-small}
 use Rattle.cube_view.specs.Places.{next_dim}
 use Rattle.cube_view.specs.declared.address.Address.{Address}
 use Rattle.cube_view.specs.declared.schema.Schema.{Schema}
 use Rattle.query_syntax.specs.Items.{HasNoneFrom}
-use Rattle.query_syntax.specs.declared.query.Choice.TheVariants.{All}
 use Rattle.query_walk.specs.Costs.{choices_from, rest_cost, choice_value_cost}
 use Rattle.query_walk.proofs.Costing.{next_choice, no_choices, value_is}
-use Rattle.query_walk.proofs.Sums.{sum_upto-more, sum_upto-rises, sum_upto-same}
+use Rattle.query_walk.proofs.Sums.{sum_over-within, sum_upto-more}
 use Rattle.query_walk.proofs.Sets as sets
-use Rattle.query_walk.proofs.Valid.{at_category, below_four, choices_next}
+use Rattle.query_walk.proofs.Valid.{asks_for, below_four, choices_next}
 use Rattle.query_walk.proofs.categories.+walk.Goals.{total_in_set-then-has, total_in_set-else-has}
 use Rattle.query_walk.proofs.categories.+walk.Goals as goal
 
@@ -39,21 +37,21 @@ total_from-returns-then-k-len-clause-total g t c h counts =
 pub total_from-total_from-requires-clause-choices : goal.total_from-total_from-requires-clause-choices
 total_from-total_from-requires-clause-choices g t c κs within =
     let z = g.V.CubeView.schema c.args.view.now in
-    let at = at_category c.schema.result.now z c.args.query.now c.args.k c.len.result c.schema.ensures c.len.ensures c.if-k-len.false c.requires.choices in
-    choices_next z c.args.query.now c.args.k c.requires.choices at.0
+    let all = asks_for z c.args.query.now c.args.k _ c.schema.ensures c.len.ensures c.if-k-len.false c.requires.choices c.in-All.is in
+    choices_next z c.args.query.now c.args.k c.requires.choices all.category
 
 pub total_from-returns-in-Some-clause-total : goal.total_from-returns-in-Some-clause-total
 total_from-returns-in-Some-clause-total g t c h counts =
     let z = g.V.CubeView.schema c.args.view.now in
-    let at = at_category c.schema.result.now z c.args.query.now c.args.k c.len.result c.schema.ensures c.len.ensures c.if-k-len.false c.requires.choices in
-    c.total_from.ensures.total h counts ∙ sets.any_value z c.args.query.now (g.V.CubeView.address c.args.view.now c.args.cursor) c.args.k h _ c.in-Some.ensures.place.1 at.1 (get_or_default c.args.query.now.sets c.args.k All _ at.1 ∙ c.in-All.is)
+    let all = asks_for z c.args.query.now c.args.k _ c.schema.ensures c.len.ensures c.if-k-len.false c.requires.choices c.in-All.is in
+    c.total_from.ensures.total h counts ∙ sets.any_value z c.args.query.now (g.V.CubeView.address c.args.view.now c.args.cursor) c.args.k h _ c.in-Some.ensures.place.1 all
 
 pub total_from-returns-in-Some-clause-cost : goal.total_from-returns-in-Some-clause-cost
 total_from-returns-in-Some-clause-cost g t c h counts =
     let z = g.V.CubeView.schema c.args.view.now in
     let costs = g.V.CubeView.costs c.args.view.now in
-    let at = at_category c.schema.result.now z c.args.query.now c.args.k c.len.result c.schema.ensures c.len.ensures c.if-k-len.false c.requires.choices in
-    let e = ap (λ cs. rest_cost costs z h cs (g.V.CubeView.address c.args.view.now c.args.cursor)) (next_choice z c.args.query.now c.args.k All at.0 at.1 (get_or_default c.args.query.now.sets c.args.k All _ at.1 ∙ c.in-All.is)) in
+    let all = asks_for z c.args.query.now c.args.k _ c.schema.ensures c.len.ensures c.if-k-len.false c.requires.choices c.in-All.is in
+    let e = ap (λ cs. rest_cost costs z h cs (g.V.CubeView.address c.args.view.now c.args.cursor)) (next_choice z c.args.query.now c.args.k all) in
     let next = ap (λ (a : Address). rest_cost costs z h (choices_from z c.args.query.now (c.args.k + 1)) a) c.in-Some.ensures.place.1 in
     let rest = c.total_from.ensures.cost h counts in
     omega (arith, e, next, c.in-Some.ensures.cost, rest)
@@ -65,22 +63,22 @@ pub total_from-returns-in-None-clause-cost : goal.total_from-returns-in-None-cla
 total_from-returns-in-None-clause-cost g t c h counts =
     let z = g.V.CubeView.schema c.args.view.now in
     let costs = g.V.CubeView.costs c.args.view.now in
-    let at = at_category c.schema.result.now z c.args.query.now c.args.k c.len.result c.schema.ensures c.len.ensures c.if-k-len.false c.requires.choices in
-    let e = ap (λ cs. rest_cost costs z h cs (g.V.CubeView.address c.args.view.now c.args.cursor)) (next_choice z c.args.query.now c.args.k All at.0 at.1 (get_or_default c.args.query.now.sets c.args.k All _ at.1 ∙ c.in-All.is)) in
+    let all = asks_for z c.args.query.now c.args.k _ c.schema.ensures c.len.ensures c.if-k-len.false c.requires.choices c.in-All.is in
+    let e = ap (λ cs. rest_cost costs z h cs (g.V.CubeView.address c.args.view.now c.args.cursor)) (next_choice z c.args.query.now c.args.k all) in
     omega (arith, e, c.in-None.ensures.cost)
 
 pub total_from-returns-in-Only-clause-total : goal.total_from-returns-in-Only-clause-total
 total_from-returns-in-Only-clause-total g t c h counts =
     let z = g.V.CubeView.schema c.args.view.now in
-    let at = at_category c.schema.result.now z c.args.query.now c.args.k c.len.result c.schema.ensures c.len.ensures c.if-k-len.false c.requires.choices in
-    c.total_in_set.ensures.total h counts ∙ sets.set_left z c.args.query.now (g.V.CubeView.address c.args.view.now c.args.cursor) c.args.k h _ at.1 (get_or_default c.args.query.now.sets c.args.k All _ at.1 ∙ c.in-Only.is)
+    let only = asks_for z c.args.query.now c.args.k _ c.schema.ensures c.len.ensures c.if-k-len.false c.requires.choices c.in-Only.is in
+    c.total_in_set.ensures.total h counts ∙ sets.set_left z c.args.query.now (g.V.CubeView.address c.args.view.now c.args.cursor) c.args.k h _ only
 
 pub total_from-returns-in-Only-clause-cost : goal.total_from-returns-in-Only-clause-cost
 total_from-returns-in-Only-clause-cost g t c h counts =
     let z = g.V.CubeView.schema c.args.view.now in
     let costs = g.V.CubeView.costs c.args.view.now in
-    let at = at_category c.schema.result.now z c.args.query.now c.args.k c.len.result c.schema.ensures c.len.ensures c.if-k-len.false c.requires.choices in
-    let e = ap (λ cs. rest_cost costs z h cs (g.V.CubeView.address c.args.view.now c.args.cursor)) (next_choice z c.args.query.now c.args.k _ at.0 at.1 (get_or_default c.args.query.now.sets c.args.k All _ at.1 ∙ c.in-Only.is)) in
+    let only = asks_for z c.args.query.now c.args.k _ c.schema.ensures c.len.ensures c.if-k-len.false c.requires.choices c.in-Only.is in
+    let e = ap (λ cs. rest_cost costs z h cs (g.V.CubeView.address c.args.view.now c.args.cursor)) (next_choice z c.args.query.now c.args.k only) in
     let rest = c.total_in_set.ensures.cost h counts in
     omega (arith, e, rest)
 
@@ -155,9 +153,7 @@ pub total_in_set-returns-clause-cost : goal.total_in_set-returns-clause-cost
 total_in_set-returns-clause-cost g t c h counts =
     let z = g.V.CubeView.schema c.args.view.now in
     let cost = choice_value_cost (g.V.CubeView.costs c.args.view.now) z h (choices_from z c.args.query.now (c.args.k + 1)) (g.V.CubeView.address c.args.view.now c.args.cursor) in
-    let of : ℕ → ℕ = λ v. cond (get_or c.args.set.now v false) (cost v) 0 in
-    let at = c.loop-value.value in
-    let more = sum_upto-rises of at (256 - at) in
-    let e = sum_upto-same of (at + (256 - at)) (length c.args.set.now) (let w = c.requires.wide in omega (arith, w, c.end-value-end.ensures.within)) in
+    let wide = c.requires.wide in
+    let within = sum_over-within c.args.set.now cost c.loop-value.value (omega (arith, wide, c.end-value-end.ensures.within)) in
     let so_far = c.loop-value.invariant.cost h counts in
-    omega (arith, e, more, so_far)
+    omega (arith, within, so_far)

@@ -1,23 +1,21 @@
 use Rattle.std.proofs.Common.{◌≡◌, ℕ, cond, false, List, get_or, length, ◌+◌, ◌-◌, ◌∙◌, sym, ap, subst, arith}
 use Rattle.std.proofs.lemmas.Bool.{cond-true}
-use Rattle.std.proofs.lemmas.List.{get_or_default}
 use Rattle.cube_view.proofs.Amounts.{none-anywhere}
-use Rattle.cube_view.specs.Bag.{amount}
-use Rattle.cube_view.specs.Places.{next_dim}
+use Rattle.cube_view.specs.Places.{longer, next_dim}
 use Rattle.cube_view.specs.declared.address.Address.{Address}
 use Rattle.cube_view.specs.declared.schema.Schema.{Schema}
 use Rattle.query_syntax.specs.Items.{HasNoneFrom}
 use Rattle.query_syntax.specs.Parts.{with_span}
-use Rattle.query_syntax.specs.declared.query.Choice.TheVariants.{All, Only}
+use Rattle.query_syntax.specs.declared.query.Choice.TheVariants.{All}
 use Rattle.query_walk.specs.Costs.{choices_from, value_walk_cost, walk_cost}
-use Rattle.query_walk.proofs.Costing.{next_choice, no_choices, value_walk_is}
+use Rattle.query_walk.proofs.Costing.{next_choice, no_choices, set_within, value_walk_is}
 use Rattle.query_walk.proofs.Sets.{none_at}
-use Rattle.query_walk.proofs.Sums.{sum_upto-more, sum_upto-rises, sum_upto-same}
-use Rattle.query_walk.proofs.Valid.{at_category, below_four, choices_next}
+use Rattle.query_walk.proofs.Sums.{sum_upto-more}
+use Rattle.query_walk.proofs.Valid.{asks_for, asks_there, below_four, choices_next}
 use Rattle.tile_drill.specs.Costs.{ends_cost}
-use Rattle.tile_drill.specs.Series.{row_at_value, row_left, row_span, row_under, GainsEach}
+use Rattle.tile_drill.specs.Series.{row_at_value, row_left, row_span, GainsEach}
 use Rattle.tile_drill.proofs.Gaining.{fits_after, fits_same, gains_more, gains_nothing, gains_same}
-use Rattle.tile_drill.proofs.Rows.{any_row, row_all, row_below, row_no, row_none, row_within, row_yes, time_row}
+use Rattle.tile_drill.proofs.Rows.{any_row, row_all, row_below, row_no, row_none, row_within, row_yes, same_row, time_row}
 use Rattle.tile_drill.proofs.sums.+walk.Goals.{add_in_set-then-has, add_in_set-else-has}
 use Rattle.tile_drill.proofs.sums.+walk.Goals as goal
 
@@ -27,17 +25,15 @@ pub add_from-add_rows-requires-clause-fits : goal.add_from-add_rows-requires-cla
 add_from-add_rows-requires-clause-fits g t c κs within h counts =
     let z = g.V.CubeView.schema c.args.view.now in
     let a = g.V.CubeView.address c.args.view.now c.args.cursor in
-    let s = c.args.series.now in
     let count = ap (λ (y : Schema). length y.categories) c.schema.ensures in
-    fits_same h (row_under z s a) (row_left z s a c.args.k) (time_row z s h a c.args.k c.requires.choices (c.if-k-len.true ∙ (c.len.ensures ∙ count))) c.args.sums.now (c.requires.fits h counts)
+    fits_same (time_row z c.args.series.now h a c.args.k c.requires.choices (c.if-k-len.true ∙ (c.len.ensures ∙ count))) c.args.sums.now (c.requires.fits h counts)
 
 pub add_from-returns-then-k-len-clause-sums : goal.add_from-returns-then-k-len-clause-sums
 add_from-returns-then-k-len-clause-sums g t c h counts =
     let z = g.V.CubeView.schema c.args.view.now in
     let a = g.V.CubeView.address c.args.view.now c.args.cursor in
-    let s = c.args.series.now in
     let count = ap (λ (y : Schema). length y.categories) c.schema.ensures in
-    gains_same h (row_under z s a) (row_left z s a c.args.k) (time_row z s h a c.args.k c.requires.choices (c.if-k-len.true ∙ (c.len.ensures ∙ count))) _ _ (c.add_rows.ensures.sums h counts)
+    gains_same (time_row z c.args.series.now h a c.args.k c.requires.choices (c.if-k-len.true ∙ (c.len.ensures ∙ count))) (c.add_rows.ensures.sums h counts)
 
 pub add_from-returns-then-k-len-clause-cost : goal.add_from-returns-then-k-len-clause-cost
 add_from-returns-then-k-len-clause-cost g t c h counts =
@@ -54,26 +50,22 @@ pub add_from-add_from-requires-clause-choices : goal.add_from-add_from-requires-
 add_from-add_from-requires-clause-choices g t c κs within =
     let z = g.V.CubeView.schema c.args.view.now in
     let s = c.args.series.now in
-    let at = at_category c.schema.result.now z s.query c.args.k c.len.result c.schema.ensures c.len.ensures c.if-k-len.false c.requires.choices in
-    choices_next z s.query c.args.k c.requires.choices at.0
+    let all = asks_for z s.query c.args.k _ c.schema.ensures c.len.ensures c.if-k-len.false c.requires.choices c.in-All.is in
+    choices_next z s.query c.args.k c.requires.choices all.category
 
 pub add_from-add_from-requires-clause-fits : goal.add_from-add_from-requires-clause-fits
 add_from-add_from-requires-clause-fits g t c κs within h counts =
     let z = g.V.CubeView.schema c.args.view.now in
-    let a = g.V.CubeView.address c.args.view.now c.args.cursor in
     let s = c.args.series.now in
-    let b = g.V.CubeView.address c.args.view.now c.in-Some.next in
-    let at = at_category c.schema.result.now z s.query c.args.k c.len.result c.schema.ensures c.len.ensures c.if-k-len.false c.requires.choices in
-    fits_same h (row_left z s b (c.args.k + 1)) (row_left z s a c.args.k) (any_row z s h a c.args.k b c.in-Some.ensures.place.1 at.1 (get_or_default s.query.sets c.args.k All _ at.1 ∙ c.in-All.is)) c.args.sums.now (c.requires.fits h counts)
+    let all = asks_for z s.query c.args.k _ c.schema.ensures c.len.ensures c.if-k-len.false c.requires.choices c.in-All.is in
+    fits_same (any_row z s h (g.V.CubeView.address c.args.view.now c.args.cursor) c.args.k c.in-Some.ensures.place.1 all) c.args.sums.now (c.requires.fits h counts)
 
 pub add_from-returns-in-Some-clause-sums : goal.add_from-returns-in-Some-clause-sums
 add_from-returns-in-Some-clause-sums g t c h counts =
     let z = g.V.CubeView.schema c.args.view.now in
-    let a = g.V.CubeView.address c.args.view.now c.args.cursor in
     let s = c.args.series.now in
-    let b = g.V.CubeView.address c.args.view.now c.in-Some.next in
-    let at = at_category c.schema.result.now z s.query c.args.k c.len.result c.schema.ensures c.len.ensures c.if-k-len.false c.requires.choices in
-    gains_same h (row_left z s b (c.args.k + 1)) (row_left z s a c.args.k) (any_row z s h a c.args.k b c.in-Some.ensures.place.1 at.1 (get_or_default s.query.sets c.args.k All _ at.1 ∙ c.in-All.is)) _ _ (c.add_from.ensures.sums h counts)
+    let all = asks_for z s.query c.args.k _ c.schema.ensures c.len.ensures c.if-k-len.false c.requires.choices c.in-All.is in
+    gains_same (any_row z s h (g.V.CubeView.address c.args.view.now c.args.cursor) c.args.k c.in-Some.ensures.place.1 all) (c.add_from.ensures.sums h counts)
 
 pub add_from-returns-in-Some-clause-cost : goal.add_from-returns-in-Some-clause-cost
 add_from-returns-in-Some-clause-cost g t c h counts =
@@ -81,8 +73,8 @@ add_from-returns-in-Some-clause-cost g t c h counts =
     let costs = g.V.CubeView.costs c.args.view.now in
     let s = c.args.series.now in
     let end = ends_cost costs (s.rows + 1) in
-    let at = at_category c.schema.result.now z s.query c.args.k c.len.result c.schema.ensures c.len.ensures c.if-k-len.false c.requires.choices in
-    let e = ap (λ cs. walk_cost costs z h end cs (g.V.CubeView.address c.args.view.now c.args.cursor)) (next_choice z s.query c.args.k All at.0 at.1 (get_or_default s.query.sets c.args.k All _ at.1 ∙ c.in-All.is)) in
+    let all = asks_for z s.query c.args.k _ c.schema.ensures c.len.ensures c.if-k-len.false c.requires.choices c.in-All.is in
+    let e = ap (λ cs. walk_cost costs z h end cs (g.V.CubeView.address c.args.view.now c.args.cursor)) (next_choice z s.query c.args.k all) in
     let next = ap (λ (b : Address). walk_cost costs z h end (choices_from z s.query (c.args.k + 1)) b) c.in-Some.ensures.place.1 in
     let rest = c.add_from.ensures.cost h counts in
     omega (arith, e, next, c.in-Some.ensures.cost, rest)
@@ -96,15 +88,15 @@ add_from-returns-in-None-clause-cost g t c h counts =
     let z = g.V.CubeView.schema c.args.view.now in
     let costs = g.V.CubeView.costs c.args.view.now in
     let s = c.args.series.now in
-    let at = at_category c.schema.result.now z s.query c.args.k c.len.result c.schema.ensures c.len.ensures c.if-k-len.false c.requires.choices in
-    let e = ap (λ cs. walk_cost costs z h (ends_cost costs (s.rows + 1)) cs (g.V.CubeView.address c.args.view.now c.args.cursor)) (next_choice z s.query c.args.k All at.0 at.1 (get_or_default s.query.sets c.args.k All _ at.1 ∙ c.in-All.is)) in
+    let all = asks_for z s.query c.args.k _ c.schema.ensures c.len.ensures c.if-k-len.false c.requires.choices c.in-All.is in
+    let e = ap (λ cs. walk_cost costs z h (ends_cost costs (s.rows + 1)) cs (g.V.CubeView.address c.args.view.now c.args.cursor)) (next_choice z s.query c.args.k all) in
     omega (arith, e, c.in-None.ensures.cost)
 
 pub add_from-add_in_set-requires-clause-set : goal.add_from-add_in_set-requires-clause-set
 add_from-add_in_set-requires-clause-set g t c κs within =
+    let z = g.V.CubeView.schema c.args.view.now in
     let s = c.args.series.now in
-    let at = at_category c.schema.result.now (g.V.CubeView.schema c.args.view.now) s.query c.args.k c.len.result c.schema.ensures c.len.ensures c.if-k-len.false c.requires.choices in
-    get_or_default s.query.sets c.args.k All _ at.1 ∙ c.in-Only.is
+    (asks_for z s.query c.args.k _ c.schema.ensures c.len.ensures c.if-k-len.false c.requires.choices c.in-Only.is).choice
 
 -- Each value of a set
 
@@ -112,8 +104,9 @@ pub add_in_set-loop-value-init : goal.add_in_set-loop-value-init
 add_in_set-loop-value-init g t c = record {
   sums = λ h counts.
       let z = g.V.CubeView.schema c.args.view.now in
+      let s = c.args.series.now in
       let a = g.V.CubeView.address c.args.view.now c.args.cursor in
-      gains_nothing h (row_below z c.args.series.now a c.args.k c.args.set.now 0) (row_none z c.args.series.now h a c.args.k c.args.set.now (let few = below_four z c.args.k c.requires.walk.category in let wide = c.requires.walk.choices.wide in omega (arith, wide, few)) c.requires.set) c.args.sums.now;
+      gains_nothing h (row_below z s a c.args.k c.args.set.now 0) (row_none z s h a c.args.k c.args.set.now c.requires.walk c.requires.set) c.args.sums.now;
   cost = λ h counts. omega arith;
 }
 
@@ -131,10 +124,8 @@ add_in_set-add_at_value-requires-clause-fits g t c κs within h counts =
     let s = c.args.series.now in
     let k = c.args.k in
     let v = c.loop-value.value in
-    let wide = c.requires.walk.choices.wide in
-    let few = below_four z k c.requires.walk.category in
     fits_after h (row_below z s a k c.args.set.now v) (row_at_value z s a k v) (row_left z s a k) c.args.sums.now c.loop-value.sums (c.loop-value.invariant.sums h counts)
-    (row_within z s h a k c.args.set.now (omega (arith, wide, few)) c.requires.set v few c.requires.walk.here (sym c.has.ensures ∙ c.if-has.true)) (c.requires.fits h counts)
+    (row_within z s h a k c.args.set.now c.requires.walk c.requires.set v (sym c.has.ensures ∙ c.if-has.true)) (c.requires.fits h counts)
 
 pub add_in_set-loop-value-preserved : goal.add_in_set-loop-value-preserved
 add_in_set-loop-value-preserved g t c =
@@ -144,17 +135,15 @@ add_in_set-loop-value-preserved g t c =
     let s = c.args.series.now in
     let k = c.args.k in
     let v = c.loop-value.value in
-    let few = below_four z k c.requires.walk.category in
-    let wide = c.requires.walk.choices.wide in
     record {
       sums = λ h counts.
           let so_far = c.loop-value.invariant.sums h counts in
           elim c.if-has.branch [
             | add_in_set-then-has w ↦ subst (λ (now : List ℕ). GainsEach (row_below z s a k c.args.set.now (v + 1)) c.args.sums.now now h) (sym w.sums-is)
                 (gains_more h (row_below z s a k c.args.set.now v) (row_at_value z s a k v) (row_below z s a k c.args.set.now (v + 1)) c.args.sums.now c.loop-value.sums so_far
-                (row_yes z s h a k c.args.set.now (omega (arith, wide, few)) c.requires.set v few c.requires.walk.here (sym c.has.ensures ∙ w.if-has.true)) _ (w.add_at_value.ensures.sums h counts))
+                (row_yes z s h a k c.args.set.now c.requires.walk c.requires.set v (sym c.has.ensures ∙ w.if-has.true)) _ (w.add_at_value.ensures.sums h counts))
             | add_in_set-else-has w ↦ subst (λ (now : List ℕ). GainsEach (row_below z s a k c.args.set.now (v + 1)) c.args.sums.now now h) (sym w.sums-is)
-                (gains_same h (row_below z s a k c.args.set.now v) (row_below z s a k c.args.set.now (v + 1)) (row_no z s h a k c.args.set.now (omega (arith, wide, few)) c.requires.set v (sym c.has.ensures ∙ w.if-has.false)) _ _ so_far)
+                (gains_same (row_no z s h a k c.args.set.now c.requires.walk c.requires.set v (sym c.has.ensures ∙ w.if-has.false)) so_far)
           ];
       cost = λ h counts.
           let cost = value_walk_cost costs z h (ends_cost costs (s.rows + 1)) (choices_from z s.query (k + 1)) a in
@@ -171,31 +160,19 @@ add_in_set-returns-clause-sums g t c h counts =
     let z = g.V.CubeView.schema c.args.view.now in
     let a = g.V.CubeView.address c.args.view.now c.args.cursor in
     let s = c.args.series.now in
-    let k = c.args.k in
-    let wide = c.requires.walk.choices.wide in
-    let few = below_four z k c.requires.walk.category in
     let end : c.end-value-end.result ≡ c.loop-value.value = omega (arith, c.end-value-end.ensures.within) in
-    gains_same h (row_below z s a k c.args.set.now c.loop-value.value) (row_left z s a k)
-    (row_all z s h a k c.args.set.now (omega (arith, wide, few)) c.requires.set c.loop-value.value (subst (HasNoneFrom c.args.set.now) end c.end-value-end.ensures.none)) _ _ (c.loop-value.invariant.sums h counts)
+    gains_same (row_all z s h a c.args.k c.args.set.now c.requires.walk c.requires.set c.loop-value.value (subst (HasNoneFrom c.args.set.now) end c.end-value-end.ensures.none)) (c.loop-value.invariant.sums h counts)
 
 pub add_in_set-returns-clause-cost : goal.add_in_set-returns-clause-cost
 add_in_set-returns-clause-cost g t c h counts =
     let z = g.V.CubeView.schema c.args.view.now in
     let costs = g.V.CubeView.costs c.args.view.now in
-    let a = g.V.CubeView.address c.args.view.now c.args.cursor in
     let s = c.args.series.now in
-    let k = c.args.k in
-    let end = ends_cost costs (s.rows + 1) in
-    let wide = c.requires.walk.choices.wide in
-    let few = below_four z k c.requires.walk.category in
-    let cost = value_walk_cost costs z h end (choices_from z s.query (k + 1)) a in
-    let all = ap (λ cs. walk_cost costs z h end cs a) (next_choice z s.query k (Only c.args.set.now) c.requires.walk.category (omega (arith, wide, few)) c.requires.set) in
-    let of : ℕ → ℕ = λ v. cond (get_or c.args.set.now v false) (cost v) 0 in
-    let at = c.loop-value.value in
-    let more = sum_upto-rises of at (256 - at) in
-    let e = sum_upto-same of (at + (256 - at)) (length c.args.set.now) (let w = c.requires.wide in omega (arith, w, c.end-value-end.ensures.within)) in
+    let wide = c.requires.wide in
+    let only = asks_there z s.query c.args.k c.requires.walk c.requires.set in
+    let within = set_within costs z h (ends_cost costs (s.rows + 1)) s.query (g.V.CubeView.address c.args.view.now c.args.cursor) c.args.k c.args.set.now c.loop-value.value only (omega (arith, wide, c.end-value-end.ensures.within)) in
     let so_far = c.loop-value.invariant.cost h counts in
-    omega (arith, all, e, more, so_far)
+    omega (arith, within, so_far)
 
 -- One value
 
@@ -212,18 +189,14 @@ add_at_value-add_from-requires-clause-choices g t c κs within = choices_next (g
 pub add_at_value-add_from-requires-clause-fits : goal.add_at_value-add_from-requires-clause-fits
 add_at_value-add_from-requires-clause-fits g t c κs within h counts =
     let z = g.V.CubeView.schema c.args.view.now in
-    let a = g.V.CubeView.address c.args.view.now c.args.cursor in
-    let s = c.args.series.now in
-    let b = g.V.CubeView.address c.args.view.now c.in-Some-across.next in
-    fits_same h (row_left z s b (c.args.k + 1)) (row_at_value z s a c.args.k c.args.value) (λ i. ap (λ (x : Address). amount (row_left z s x (c.args.k + 1) i) h) (c.in-Some-across.ensures.place.1 ∙ ap next_dim c.in-Some.ensures.place.1)) c.args.sums.now (c.requires.fits h counts)
+    let deeper = longer (g.V.CubeView.address c.args.view.now c.args.cursor) c.args.value in
+    fits_same (same_row z c.args.series.now h (next_dim deeper) (c.args.k + 1) (c.in-Some-across.ensures.place.1 ∙ ap next_dim c.in-Some.ensures.place.1)) c.args.sums.now (c.requires.fits h counts)
 
 pub add_at_value-returns-in-Some-across-clause-sums : goal.add_at_value-returns-in-Some-across-clause-sums
 add_at_value-returns-in-Some-across-clause-sums g t c h counts =
     let z = g.V.CubeView.schema c.args.view.now in
-    let a = g.V.CubeView.address c.args.view.now c.args.cursor in
-    let s = c.args.series.now in
-    let b = g.V.CubeView.address c.args.view.now c.in-Some-across.next in
-    gains_same h (row_left z s b (c.args.k + 1)) (row_at_value z s a c.args.k c.args.value) (λ i. ap (λ (x : Address). amount (row_left z s x (c.args.k + 1) i) h) (c.in-Some-across.ensures.place.1 ∙ ap next_dim c.in-Some.ensures.place.1)) _ _ (c.add_from.ensures.sums h counts)
+    let deeper = longer (g.V.CubeView.address c.args.view.now c.args.cursor) c.args.value in
+    gains_same (same_row z c.args.series.now h (next_dim deeper) (c.args.k + 1) (c.in-Some-across.ensures.place.1 ∙ ap next_dim c.in-Some.ensures.place.1)) (c.add_from.ensures.sums h counts)
 
 pub add_at_value-returns-in-Some-across-clause-cost : goal.add_at_value-returns-in-Some-across-clause-cost
 add_at_value-returns-in-Some-across-clause-cost g t c h counts =
