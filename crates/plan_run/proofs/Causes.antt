@@ -9,6 +9,7 @@ use Rattle.crew_feeder.specs.declared.job.FeedJob.{FeedJob}
 use Rattle.crew_session.specs.Work.{ending_fault}
 use Rattle.crew_session.specs.declared.done.SessionDone.{SessionDone}
 use Rattle.cube_crew.specs.Crewed.{FeedsLeave, LeavesFeed, LeavesTranscript, closing}
+use Rattle.cube_schema.specs.declared.plan.Plan.{Plan}
 use Rattle.cube_view.specs.Points.{Point}
 use Rattle.cube_view.specs.declared.schema.Schema.{Schema}
 use Rattle.cube_view.specs.declared.stat.Stat.{Stat}
@@ -20,8 +21,11 @@ use Rattle.outer_io.specs.Lines.{Line}
 use Rattle.outer_io.specs.declared.cutter.CutFault.{CutFault}
 use Rattle.outer_io.specs.declared.cutter.CutFault.TheVariants as cut
 use Rattle.plan_run.specs.Parts.{ends_seen}
-use Rattle.run_files.specs.Outside.{SinkSeen, SourceSeen}
+use Rattle.run_files.specs.Outside.{at, parts_seen, PlaceSeen, SinkSeen, SourceSeen}
+use Rattle.run_files.specs.declared.stop.Stop.{Stop}
 use Rattle.run_opening.specs.Ready.{IsSessionOf}
+use Rattle.run_stages.specs.Closing.{ClosesRun}
+use Rattle.run_stages.specs.declared.done.RunDone.{RunDone}
 use Rattle.session_core.specs.declared.fault.SessionFault.{SessionFault}
 use Rattle.session_core.specs.declared.fault.SessionFault.TheVariants as fault
 
@@ -36,6 +40,27 @@ pub record SessionCause {I O : Type 0} (faults : I → ℕ) (put_faults : O → 
   pub read_quiet : done.fault ≢ Some fault.Read → faults done.source ≡ 0
   pub write : done.fault ≡ Some fault.Write → Rose 0 (put_faults done.sink)
   pub write_quiet : done.fault ≢ Some fault.Write → put_faults done.sink ≡ 0
+
+-- A run was closed, and its parts met faults exactly where these ended them.
+pub record RunCause {P I O T : Type 0} (p : PlaceSeen P) (i : SourceSeen I) (s : SinkSeen O) (t : SinkSeen T) (plan : Plan) (done : RunDone I O) (place place' : P) (out out' : T) (result : Result (Unit {0}) Stop) : Type 0 where
+  -- the journal had met none before
+  pub fresh : s.faults done.journal ≡ 0
+  pub feeds : All (FeedCause i.faults) done.feeds
+  pub asks : All (SessionCause i.faults s.faults) done.asks
+  pub finals : All (SessionCause i.faults s.faults) done.finals
+  pub closes : ClosesRun plan done (parts_seen p i s) t (at place out) (at place' out') result
+
+-- how many faults the source of a feed met
+abbrev pub feed_count : {I : Type 0} → SourceSeen I → FeedDone I → ℕ
+feed_count i feed = i.faults feed.source
+
+-- and that of a session
+abbrev pub session_count : {I O : Type 0} → SourceSeen I → SessionDone I O → ℕ
+session_count i session = i.faults session.source
+
+-- the sink of a session
+abbrev pub sink_of : {I O : Type 0} → SessionDone I O → O
+sink_of session = session.sink
 
 rose_from : (a b c : ℕ) → b ≡ a → Rose b c → Rose a c
 rose_from a b c same rose = subst (λ n. Rose n c) same rose

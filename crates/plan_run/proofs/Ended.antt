@@ -22,7 +22,7 @@ use Rattle.outer_io.specs.Faults.{Rose, RoseBy}
 use Rattle.outer_io.specs.Files.{Files, HasFile, file_or_empty}
 use Rattle.outer_io.specs.Told.{Told}
 use Rattle.outer_io.specs.declared.fault.IoFault.TheVariants as io
-use Rattle.plan_run.proofs.Causes.{FeedCause, SessionCause, feed_causes, session_causes}
+use Rattle.plan_run.proofs.Causes.{FeedCause, RunCause, SessionCause, feed_causes, session_causes}
 use Rattle.plan_run.proofs.Joined.{End, ended}
 use Rattle.plan_run.proofs.Landed.{some_is, told_pair}
 use Rattle.plan_run.proofs.Named.{KeepsOthers-twice, dones_named, names_of, names_then, sessions_named}
@@ -273,14 +273,17 @@ module _ {P T : Type 0} (p : PlaceSeen P) (t : SinkSeen T) where
         refused : result ≡ Err FeedRefused → Told (p.files place) (λ files. HasRefusedInput files plan)
         refused e = told_by (p.files place) (λ files. HasRefusedInput files plan) (λ files told. is_refused e files told)
 
+        cause : RunCause p i s t plan done mid place' out1 out' result
+        cause = record { fresh = ready.journal.fresh; feeds = feeds; asks = asks; finals = finals; closes = closes }
+
         not_plan : result ≢ Err PlanRefused
-        not_plan e = closing_not_plan p i s t plan (run_done_of crewed parts.journal) mid place' out1 out' result ready.journal.fresh feeds asks finals closes e
+        not_plan e = closing_not_plan cause e
 
         read_rose : result ≡ Err ReadFault → Rose (p.read_faults place) (p.read_faults place')
-        read_rose e = subst (λ n. Rose n (p.read_faults place')) read_before (closing_read p i s t plan (run_done_of crewed parts.journal) mid place' out1 out' result ready.journal.fresh feeds asks finals closes e)
+        read_rose e = subst (λ n. Rose n (p.read_faults place')) read_before (closing_read cause e)
 
         write_rose : result ≡ Err WriteFault → Rose (p.write_faults place) (p.write_faults place') ⊎ Rose (t.faults out) (t.faults out')
-        write_rose e = written (closing_write p i s t plan (run_done_of crewed parts.journal) mid place' out1 out' result ready.journal.fresh feeds asks finals closes e)
+        write_rose e = written (closing_write cause e)
           where
             written : Rose (p.write_faults mid) (p.write_faults place') ⊎ Rose (t.faults out1) (t.faults out') → Rose (p.write_faults place) (p.write_faults place') ⊎ Rose (t.faults out) (t.faults out')
             written (inl rose) = inl (subst (λ n. Rose n (p.write_faults place')) write_before rose)
@@ -290,13 +293,13 @@ module _ {P T : Type 0} (p : PlaceSeen P) (t : SinkSeen T) where
 
         -- the counts that stand still, by how late in the order of causes the end comes
         reads_stand : 3 ≤ rank_end result → p.read_faults place' ≡ p.read_faults place
-        reads_stand late = read_still p i s t plan done mid place' out1 out' result ready.journal.fresh feeds asks finals closes late ∙ read_before
+        reads_stand late = read_still cause late ∙ read_before
 
         all_stand : 4 ≤ rank_end result → StandStill p t (at place out) (at place' out')
         all_stand late = (
           reads_stand (omega (arith, late)),
-          write_still p i s t plan done mid place' out1 out' result ready.journal.fresh feeds asks finals closes late ∙ write_before,
-          put_still p i s t plan done mid place' out1 out' result ready.journal.fresh feeds asks finals closes late ∙ silent.faults,
+          write_still cause late ∙ write_before,
+          put_still cause late ∙ silent.faults,
         )
 
         counts : CountsAt p t (at place out) (at place' out') result

@@ -7,14 +7,14 @@ use Rattle.cube_schema.specs.declared.plan.Plan.{Plan}
 use Rattle.outer_io.specs.Faults.{Rose}
 use Rattle.outer_io.specs.declared.fault.IoFault.TheVariants as io
 use Rattle.plan_run.proofs.Blamed.{AnyOf, all_err, any_in, any_left, any_mapped, any_right, any_unmapped, any_with, feed_not_plan, feed_not_write, feed_read_end, session_not_plan, session_read_end, session_write_end, some_faulty, write_failed, write_not_plan, write_not_read}
-use Rattle.plan_run.proofs.Causes.{FeedCause, SessionCause}
+use Rattle.plan_run.proofs.Causes.{FeedCause, RunCause, SessionCause, feed_count, session_count, sink_of}
 use Rattle.run_files.proofs.Counts.{counts_failed, counts_grow, rose_from_before, rose_later, rose_once}
 use Rattle.run_files.specs.GivingBack.{TakesSources}
-use Rattle.run_files.specs.Outside.{at, parts_seen, PlaceSeen, SinkSeen, SourceSeen}
+use Rattle.run_files.specs.Outside.{PlaceSeen, SinkSeen, SourceSeen}
 use Rattle.run_files.specs.Stops.{write_end}
 use Rattle.run_files.specs.declared.stop.Stop.{Stop}
 use Rattle.run_files.specs.declared.stop.Stop.TheVariants.{NoMemory, PlanRefused, ReadFault, WriteFault}
-use Rattle.run_stages.specs.Closing.{ClosesRun, threads_end}
+use Rattle.run_stages.specs.Closing.{threads_end}
 use Rattle.run_stages.specs.Ends.{feed_end, feeds_end, session_end, sessions_end, starved_end}
 use Rattle.run_stages.specs.declared.done.RunDone.{RunDone}
 
@@ -22,17 +22,8 @@ pub starved_of : (starved : Bool) (e : Stop) → e ≢ NoMemory → starved_end 
 starved_of true e other is = other (sym (cc is))
 starved_of false e other is = cc is
 
-module _ {P I O T : Type 0} (p : PlaceSeen P) (i : SourceSeen I) (s : SinkSeen O) (t : SinkSeen T) (plan : Plan) (done : RunDone I O) (place place' : P) (out out' : T) (result : Result (Unit {0}) Stop)
-    (fresh : s.faults done.journal ≡ 0) (feeds : All (FeedCause i.faults) done.feeds) (asks : All (SessionCause i.faults s.faults) done.asks) (finals : All (SessionCause i.faults s.faults) done.finals)
-    (closes : ClosesRun plan done (parts_seen p i s) t (at place out) (at place' out') result) where
-  abbrev feed_count : FeedDone I → ℕ
-  feed_count feed = i.faults feed.source
-
-  abbrev session_count : SessionDone I O → ℕ
-  session_count session = i.faults session.source
-
-  abbrev sink_of : SessionDone I O → O
-  sink_of session = session.sink
+module _ {P I O T : Type 0} {p : PlaceSeen P} {i : SourceSeen I} {s : SinkSeen O} {t : SinkSeen T} {plan : Plan} {done : RunDone I O} {place place' : P} {out out' : T} {result : Result (Unit {0}) Stop} (run : RunCause p i s t plan done place place' out out' result) where
+  open run use {fresh, feeds, asks, finals, closes}
 
   abbrev MetFault : ℕ → Type 0
   MetFault n = Rose 0 n
@@ -49,16 +40,16 @@ module _ {P I O T : Type 0} (p : PlaceSeen P) (i : SourceSeen I) (s : SinkSeen O
   rose_by : (before after : P) (counts : List ℕ) → TakesSources p before after counts → AnyOf MetFault counts → Rose (p.read_faults before) (p.read_faults after)
   rose_by before after counts takes any = rose_once _ _ _ (some_faulty counts any) takes.rose
 
-  fed_read : feeds_end done.feeds ≡ Err ReadFault → AnyOf MetFault (map feed_count done.feeds)
+  fed_read : feeds_end done.feeds ≡ Err ReadFault → AnyOf MetFault (map (feed_count i) done.feeds)
   fed_read is =
-      any_mapped feed_count MetFault done.feeds
-      (any_with (λ (d : FeedDone I). feed_end d.fault ≡ Err ReadFault) (FeedCause i.faults) (λ d. MetFault (feed_count d)) done.feeds (λ d end cause. cause.read (feed_read_end d.fault end))
+      any_mapped (feed_count i) MetFault done.feeds
+      (any_with (λ (d : FeedDone I). feed_end d.fault ≡ Err ReadFault) (FeedCause i.faults) (λ d. MetFault (feed_count i d)) done.feeds (λ d end cause. cause.read (feed_read_end d.fault end))
       (any_unmapped (λ (d : FeedDone I). feed_end d.fault) (λ end. end ≡ Err ReadFault) done.feeds (all_err (map (λ (d : FeedDone I). feed_end d.fault) done.feeds) ReadFault is)) feeds)
 
-  sessions_read : (sessions : List (SessionDone I O)) → All (SessionCause i.faults s.faults) sessions → sessions_end sessions ≡ Err ReadFault → AnyOf MetFault (map session_count sessions)
+  sessions_read : (sessions : List (SessionDone I O)) → All (SessionCause i.faults s.faults) sessions → sessions_end sessions ≡ Err ReadFault → AnyOf MetFault (map (session_count i) sessions)
   sessions_read sessions causes is =
-      any_mapped session_count MetFault sessions
-      (any_with (λ (d : SessionDone I O). session_end d.fault ≡ Err ReadFault) (SessionCause i.faults s.faults) (λ d. MetFault (session_count d)) sessions (λ d end cause. cause.read (session_read_end d.fault end))
+      any_mapped (session_count i) MetFault sessions
+      (any_with (λ (d : SessionDone I O). session_end d.fault ≡ Err ReadFault) (SessionCause i.faults s.faults) (λ d. MetFault (session_count i d)) sessions (λ d end cause. cause.read (session_read_end d.fault end))
       (any_unmapped (λ (d : SessionDone I O). session_end d.fault) (λ end. end ≡ Err ReadFault) sessions (all_err (map (λ (d : SessionDone I O). session_end d.fault) sessions) ReadFault is)) causes)
 
   -- what the place's count is from the last source on

@@ -22,6 +22,12 @@ module _ {P T : Type 0} (p : PlaceSeen P) (t : SinkSeen T) (place mid : P) (out 
   abbrev pub Unplanned : Stop → Type 0
   Unplanned stop = (Some stop ≡ Some NoMemory) ⊎ (Some stop ≡ Some ReadFault) ⊎ (Some stop ≡ Some PlanRefused)
 
+  -- no other stop is unplanned
+  unplanned_is : (stop : Stop) → stop ≢ NoMemory → stop ≢ ReadFault → stop ≢ PlanRefused → ¬ Unplanned stop
+  unplanned_is stop memory read plan (inl e) = memory (cc e)
+  unplanned_is stop memory read plan (inr (inl e)) = read (cc e)
+  unplanned_is stop memory read plan (inr (inr e)) = plan (cc e)
+
   abbrev pub InOrder : Stop → List (List ℕ) → List (List ℕ) → Plan → Type 0
   InOrder stop opens makes plan = (later : List (List ℕ)) × (opens ≡ name ∷ later) × OpensInOrder p t plan (at place out) (at mid out1) later makes (Some stop)
 
@@ -40,24 +46,14 @@ module _ {P T : Type 0} (p : PlaceSeen P) (t : SinkSeen T) (place mid : P) (out 
 
   -- opening puts no more than the line of that feed, so it leaves the count of the sink
   pub opening_put : (stop : Stop) (plan : Option Plan) (opens makes : List (List ℕ)) → stop ≡ FeedRefused → (plan ≡ None → Unplanned stop) → IfSome plan (InOrder stop opens makes) → t.faults out1 ≡ t.faults out
-  opening_put stop None opens makes is unplanned order = absurd (none (unplanned refl))
-    where
-      none : ¬ Unplanned stop
-      none (inl e) = cc (e, is)
-      none (inr (inl e)) = cc (e, is)
-      none (inr (inr e)) = cc (e, is)
+  opening_put stop None opens makes is unplanned order = absurd (unplanned_is stop (λ e. cc (e, is)) (λ e. cc (e, is)) (λ e. cc (e, is)) (unplanned refl))
   opening_put stop (Some plan) opens makes is unplanned (later, e, inr scripts) = absurd (scripts.ends.1 (ap (λ s. Some s) is))
   opening_put stop (Some plan) opens makes is unplanned (later, e, inl feeds) = (feeds.refused (ap (λ s. Some s) is)).refuses.says.faults
 
   -- which count rose where it ends by a write fault
   pub opening_write : (stop : Stop) (plan : Option Plan) (opens makes : List (List ℕ)) → stop ≡ WriteFault → (plan ≡ None → Unplanned stop) → IfSome plan (InOrder stop opens makes)
       → Rose (p.write_faults place) (p.write_faults mid) ⊎ Rose (t.faults out) (t.faults out1)
-  opening_write stop None opens makes is unplanned order = absurd (none (unplanned refl))
-    where
-      none : ¬ Unplanned stop
-      none (inl e) = cc (e, is)
-      none (inr (inl e)) = cc (e, is)
-      none (inr (inr e)) = cc (e, is)
+  opening_write stop None opens makes is unplanned order = absurd (unplanned_is stop (λ e. cc (e, is)) (λ e. cc (e, is)) (λ e. cc (e, is)) (unplanned refl))
   opening_write stop (Some plan) opens makes is unplanned (later, e, inl feeds) = inr (feeds.unsaid (ap (λ s. Some s) is)).refuses.says.faults
   opening_write stop (Some plan) opens makes is unplanned (later, e, inr scripts) = inl (scripts.write (ap (λ s. Some s) is))
 

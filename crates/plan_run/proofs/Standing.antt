@@ -9,15 +9,15 @@ use Rattle.outer_io.specs.declared.cutter.CutFault.{CutFault}
 use Rattle.outer_io.specs.declared.cutter.CutFault.TheVariants as cut
 use Rattle.outer_io.specs.declared.fault.IoFault.{IoFault}
 use Rattle.outer_io.specs.declared.fault.IoFault.TheVariants as io
-use Rattle.plan_run.proofs.Causes.{FeedCause, SessionCause}
+use Rattle.plan_run.proofs.Causes.{RunCause, SessionCause, feed_count, session_count, sink_of}
 use Rattle.plan_run.proofs.Joined.{All-unmapped, End, written_well}
 use Rattle.plan_run.proofs.Ranked.{ComesFirst, rank_end, within}
 use Rattle.plan_run.proofs.Refused.{write_not_refused}
-use Rattle.run_files.specs.Outside.{at, parts_seen, PlaceSeen, Puts, SinkSeen, SourceSeen}
+use Rattle.run_files.specs.Outside.{PlaceSeen, Puts, SinkSeen, SourceSeen}
 use Rattle.run_files.specs.Stops.{write_end}
 use Rattle.run_files.specs.declared.stop.Stop.{Stop}
 use Rattle.run_files.specs.declared.stop.Stop.TheVariants.{NoMemory, PlanRefused, ReadFault, WriteFault, FeedRefused}
-use Rattle.run_stages.specs.Closing.{ClosesRun, run_text, threads_end}
+use Rattle.run_stages.specs.Closing.{run_text, threads_end}
 use Rattle.run_stages.specs.Ends.{feed_end, feeds_end, session_end, sessions_end, starved_end}
 use Rattle.run_stages.specs.declared.done.RunDone.{RunDone}
 use Rattle.session_core.specs.declared.fault.SessionFault.{SessionFault}
@@ -55,17 +55,8 @@ not_failed : (r : Result (Unit {0}) IoFault) → r ≡ Ok tt → ¬ IsErrOf r io
 not_failed (Ok x) is bad = cc bad
 not_failed (Err e) is bad = cc is
 
-module _ {P I O T : Type 0} (p : PlaceSeen P) (i : SourceSeen I) (s : SinkSeen O) (t : SinkSeen T) (plan : Plan) (done : RunDone I O) (place place' : P) (out out' : T) (result : Result (Unit {0}) Stop)
-    (fresh : s.faults done.journal ≡ 0) (feeds : All (FeedCause i.faults) done.feeds) (asks : All (SessionCause i.faults s.faults) done.asks) (finals : All (SessionCause i.faults s.faults) done.finals)
-    (closes : ClosesRun plan done (parts_seen p i s) t (at place out) (at place' out') result) where
-  abbrev feed_count : FeedDone I → ℕ
-  feed_count feed = i.faults feed.source
-
-  abbrev session_count : SessionDone I O → ℕ
-  session_count session = i.faults session.source
-
-  abbrev sink_of : SessionDone I O → O
-  sink_of session = session.sink
+module _ {P I O T : Type 0} {p : PlaceSeen P} {i : SourceSeen I} {s : SinkSeen O} {t : SinkSeen T} {plan : Plan} {done : RunDone I O} {place place' : P} {out out' : T} {result : Result (Unit {0}) Stop} (run : RunCause p i s t plan done place place' out out' result) where
+  open run use {fresh, feeds, asks, finals, closes}
 
   abbrev IsZero : ℕ → Type 0
   IsZero n = n ≡ 0
@@ -89,15 +80,15 @@ module _ {P I O T : Type 0} (p : PlaceSeen P) (i : SourceSeen I) (s : SinkSeen O
 
   -- ---- reading
 
-  fed_quiet : 3 ≤ rank_end result → All IsZero (map feed_count done.feeds)
+  fed_quiet : 3 ≤ rank_end result → All IsZero (map (feed_count i) done.feeds)
   fed_quiet late =
       let ends = All-unmapped (λ (d : FeedDone I). feed_end d.fault) (λ (e : End). 3 ≤ rank_end e) done.feeds (within 3 (map (λ (d : FeedDone I). feed_end d.fault) done.feeds) (four_ends 3 late 1 well (omega arith))) in
-      All-map IsZero feed_count done.feeds (λ k d low. (feeds k d low).quiet (late_feed _ (ends k d low)))
+      All-map IsZero (feed_count i) done.feeds (λ k d low. (feeds k d low).quiet (late_feed _ (ends k d low)))
 
-  sources_quiet : (sessions : List (SessionDone I O)) → All (SessionCause i.faults s.faults) sessions → 3 ≤ rank_end (sessions_end sessions) → All IsZero (map session_count sessions)
+  sources_quiet : (sessions : List (SessionDone I O)) → All (SessionCause i.faults s.faults) sessions → 3 ≤ rank_end (sessions_end sessions) → All IsZero (map (session_count i) sessions)
   sources_quiet sessions causes late =
       let ends = session_ends 3 sessions late in
-      All-map IsZero session_count sessions (λ k d low. (causes k d low).read_quiet (late_session _ (ends k d low)))
+      All-map IsZero (session_count i) sessions (λ k d low. (causes k d low).read_quiet (late_session _ (ends k d low)))
 
   pub read_still : 3 ≤ rank_end result → p.read_faults place' ≡ p.read_faults place
   read_still late =
