@@ -79,7 +79,7 @@ def main():
     words.add_argument("programs", nargs="*", metavar="PROGRAM")
     words.add_argument("--groups")
     words.add_argument("--records", type=int, default=200_000)
-    words.add_argument("--kinds", type=lambda text: text.split(","), default=[*KINDS])
+    words.add_argument("--kinds", type=lambda text: text.split(","), default=["generated", "city", "checkins"])
     words.add_argument("--batches", type=numbers, default=[1, 64, 1024, 16384, 65536])
     words.add_argument("--feeds", type=numbers, default=[1, 8])
     words.add_argument("--rounds", type=int, default=1)

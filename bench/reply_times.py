@@ -9,7 +9,8 @@ image: of `load` with no line, and of the functions that write the image.
 NANOCUBE is bench/nanocube.rs, built: plain Rust that inserts the same records, reads the same scripts, answers and prints, and
 measures that part of itself. It has no `told`, `best` and faults. What it prints has to be what the first PROGRAM prints.
 
-Records are those of load_times.py: generated (one category) for all lines but `cross`, which is asked of a city's."""
+Records are those of load_times.py: generated (one category) for all lines but `cross`, which is asked of a city's of three types and
+of one of four."""
 import argparse, json, os, re, shutil, subprocess, tempfile
 
 from runs import KINDS, step, timed
@@ -35,6 +36,7 @@ LINES = {
     "best 6 10": ("generated", 200, lambda n: ["best 6 10"] * n),
     "sum 77 (a fault)": ("generated", 400_000, lambda n: ["sum 77"] * n),
     "cross type district (3 by 2)": ("city", 400_000, lambda n: ["cross type district"] * n),
+    "cross type district (4 by 2)": ("city4", 400_000, lambda n: ["cross type district"] * n),
 }
 
 

@@ -1,7 +1,8 @@
-"""Records of three kinds, their feeds and plans, and a timed run of the program, for the scripts beside this one.
+"""Records of four kinds, their feeds and plans, and a timed run of the program, for the scripts beside this one.
 
 generated: depth 10, one category of four values, 1,024 bins, as bench/nanocube.rs has them.
-city: a month of incidents at depth 16, 64 by 64 places, two categories, hours.
+city: a month of incidents at depth 16, 64 by 64 places, two categories of three and of two values, hours.
+city4: the same with four values of the first category.
 checkins: depth 15, hour and weekday, 170,000 places round 400 towns, of which few are visited often, in rising order of time."""
 import os, random, subprocess, time
 
@@ -53,11 +54,11 @@ def generated(records):
         yield s >> 54, (s >> 44) % 1024, [(s >> 42) % 4], (s >> 32) % 1024
 
 
-def city(records):
+def city(records, types=3):
     s = 1
     for i in range(records):
         s = step(s)
-        yield 16800 + (s >> 58), 24300 + (s >> 50) % 64, [(s >> 40) % 3, (s >> 33) % 2], 1357016400 + i * 2678400 // records
+        yield 16800 + (s >> 58), 24300 + (s >> 50) % 64, [(s >> 40) % types, (s >> 33) % 2], 1357016400 + i * 2678400 // records
 
 
 def checkins(records):
@@ -76,4 +77,6 @@ def checkins(records):
 
 KINDS = {"generated": Kind(10, [("kind", list("abcd"))], 1, 0, generated),
          "city": Kind(16, [("type", ["THEFT", "MOTOR VEHICLE THEFT", "BATTERY"]), ("district", ["001", "002"])], 3600, 1357016400, city),
+         "city4": Kind(16, [("type", ["THEFT", "MOTOR VEHICLE THEFT", "BATTERY", "FRAUD"]), ("district", ["001", "002"])], 3600, 1357016400,
+                       lambda records: city(records, 4)),
          "checkins": Kind(15, [("hour", [str(n) for n in range(24)]), ("day", [str(n) for n in range(7)])], 3600, 0, checkins)}
