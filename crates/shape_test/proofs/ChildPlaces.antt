@@ -1,14 +1,35 @@
 -- The places of a node's children.
-use Rattle.std.proofs.Common.{◌≡◌, ℕ, ◌+◌, ◌<◌, ◌≤◌, length, take, drop, get_or, zero, suc, [], ◌∷◌, None, Some, slice_get, inl, inr, refl, sym, ap, ◌∙◌, arith}
+use Rattle.std.proofs.Common.{◌≡◌, ℕ, ◌+◌, ◌<◌, ◌≤◌, List, length, take, drop, get_or, zero, suc, [], ◌∷◌, None, Some, slice_get, inl, inr, refl, sym, ap, subst, ◌∙◌, arith}
 use Rattle.std.proofs.lemmas.Bool.{cases_lt}
 use Rattle.std.proofs.lemmas.List.{length-take-le, length-drop, get_or-take, get_or-drop, get_or_default}
 use Rattle.probe_core.specs.Places.{IsPlace}
 use Rattle.node_arena.specs.declared.link.Link.{Link}
-use Rattle.node_arena.specs.Slots.{Children, IsRising, child_label}
+use Rattle.node_arena.specs.Slots.{Children, IsRising, Slot, child_label, children_of, slot_of}
+use Rattle.shape_test.specs.Links.{IsFirstLink}
+
+-- A loop over the children of slot i has come to a label, and to the place of the first child from there on.
+pub record HasComeToLabel (slots : List Slot) (i from at : ℕ) : Type 0 where
+  -- labels are bytes
+  pub last : from ≤ 256
+  -- each child before the place has a label of its own
+  pub few : at ≤ from
+  pub place : IsPlace child_label from (children_of (slot_of slots i)) at
 
 -- before the first label there is no child
-pub at_start : (cs : Children) → IsPlace child_label 0 cs 0
-at_start cs = record { within = omega arith; lesser = λ k d less. absurd (omega (arith, less)); others = λ k d less. omega arith }
+pub at_start : (slots : List Slot) (i : ℕ) → HasComeToLabel slots i 0 0
+at_start slots i = record {
+  last = omega arith;
+  few = omega arith;
+  place = record { within = omega arith; lesser = λ k d less. absurd (omega (arith, less)); others = λ k d less. omega arith };
+}
+
+-- behind a child it goes on at the next place
+pub behind_child : {slots : List Slot} {i from at label : ℕ} {c : ℕ × Link} → HasComeToLabel slots i from at → IsFirstLink slots i from c → IsPlace child_label (c.0 + 1) (children_of (slot_of slots i)) (at + 1) → label ≡ c.0 → HasComeToLabel slots i (label + 1) (at + 1)
+behind_child {slots = slots} {i = i} {at = at} so_far child place is = record {
+  last = let s = child.small in omega (arith, s, is);
+  few = let n = so_far.few in let low = child.low in omega (arith, n, low, is);
+  place = subst (λ n. IsPlace child_label (n + 1) (children_of (slot_of slots i)) (at + 1)) (sym is) place;
+}
 
 -- behind a child all labels are past its own
 pub place_more : (cs : Children) (i : ℕ) (c : ℕ × Link) → IsRising cs → i < length cs → c ≡ get_or cs i c → IsPlace child_label (c.0 + 1) cs (i + 1)

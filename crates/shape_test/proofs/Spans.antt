@@ -61,14 +61,25 @@ above_push homes spans h s same A new i d l = go (cases_lt i (length spans))
 
 module _ (moves home : List Move) (spans : List Span) (s : Span) (A : AreSpans moves spans) (start : s.start ≡ length moves) (end : s.end ≡ length (moves ++ home)) where
   -- a home more
-  pub spanned_push : spanned (moves ++ home) (spans ++ s ∷ []) ≡ spanned moves spans ++ home ∷ []
+  spanned_push : spanned (moves ++ home) (spans ++ s ∷ []) ≡ spanned moves spans ++ home ∷ []
   spanned_push = map-append (span_moves (moves ++ home)) spans (s ∷ []) ∙ ap₂ (λ (hs : List (List Move)) (h : List Move). hs ++ h ∷ []) (spanned_more moves home spans A.within) (last_span moves home s start end)
 
-  pub spans_push : (s.above < length spans → home ≡ s.step ∷ get_or (spanned moves spans) s.above []) → AreSpans (moves ++ home) (spans ++ s ∷ [])
+  spans_push : (s.above < length spans → home ≡ s.step ∷ get_or (spanned moves spans) s.above []) → AreSpans (moves ++ home) (spans ++ s ∷ [])
   spans_push named = record {
     within = All-push (IsSpan (length (moves ++ home))) spans s (within_more moves home spans A.within) (let n = length-append moves home in omega (arith, n, start, end), let e = end in omega (arith, e));
     above = subst (λ (homes : List (List Move)). (i : ℕ) (d : Span) → i < length (spans ++ s ∷ []) → HasAbove homes i (get_or (spans ++ s ∷ []) i d)) (sym spanned_push) (above_push (spanned moves spans) spans home s (length-map spans (span_moves moves)) A.above named);
   }
+
+-- Homes lie in steps as they did in fewer, with one more behind them.
+pub record HasHomeMore (moves : List Move) (spans : List Span) (home now : List Move) (all : List Span) : Type 0 where
+  pub fit : AreSpans now all
+  pub put : spanned now all ≡ spanned moves spans ++ home ∷ []
+
+-- a home whose steps and place were put behind all others
+pub home_put : (moves home now : List Move) (spans all : List Span) (s : Span) → AreSpans moves spans → now ≡ moves ++ home → all ≡ spans ++ s ∷ [] → s.start ≡ length moves → s.end ≡ length now → (s.above < length spans → home ≡ s.step ∷ get_or (spanned moves spans) s.above []) → HasHomeMore moves spans home now all
+home_put moves home now spans all s A steps places start end named =
+    let past : s.end ≡ length (moves ++ home) = end ∙ ap length steps in
+    rw (steps, places) (record { fit = spans_push moves home spans s A start past named; put = spanned_push moves home spans s A start past })
 
 -- a home that is there, by its place
 span_there : (moves : List Move) (spans : List Span) (i : ℕ) (s : Span) → i < length spans → s ≡ get_or spans i s → span_moves moves s ≡ get_or (spanned moves spans) i []

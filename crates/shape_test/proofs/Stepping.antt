@@ -19,39 +19,33 @@ abbrev steps_over : List ℕ → ℕ
 steps_over [] = 0
 steps_over (n ∷ later) = suc (n + steps_over later)
 
+-- one level less is left after a step down
+level_taken : (n : ℕ) (later : List ℕ) (c : Levels) → level_down n later ≡ Some c → (n ≡ suc c.rest) × (steps_over later ≡ steps_over c.later)
+level_taken zero later c e = absurd cc
+level_taken (suc n) later c e =
+    let same : record { rest = n; later = later } ≡ c = cc in
+    (ap (λ (z : Levels). suc z.rest) same, ap (λ (z : Levels). steps_over z.later) same)
+
+-- a step across and the levels of the dimension are what was to come
+dimension_begun : (later : List ℕ) (c : Levels) → level_across later ≡ Some c → steps_over later ≡ suc (c.rest + steps_over c.later)
+dimension_begun [] c e = absurd cc
+dimension_begun (n ∷ later) c e =
+    let same : record { rest = n; later = later } ≡ c = cc in
+    ap (λ (z : Levels). suc (z.rest + steps_over z.later)) same
+
 -- an address and what it has left are no more steps than that
 left_steps : (levels : List ℕ) (a : Walk) (c : Levels) → left levels a ≡ Some c → length a + c.rest + steps_over c.later < steps_over levels
-left_steps levels [] c e = let r = go levels e in omega (arith, r)
-  where
-    go : (levels : List ℕ) → level_across levels ≡ Some c → c.rest + steps_over c.later < steps_over levels
-    go [] x = absurd cc
-    go (n ∷ later) x =
-        let s : record { rest = n; later = later } ≡ c = cc in
-        let r : n ≡ c.rest = ap (λ (z : Levels). z.rest) s in
-        let l = ap (λ (z : Levels). steps_over z.later) s in
-        omega (arith, r, l)
+left_steps levels [] c e = let d = dimension_begun levels c e in omega (arith, d)
 left_steps levels (down l ∷ a) c e =
     let b = level_begun (left levels a) (down l) c e in
-    go b.0.rest b.0.later b.2 (left_steps levels a b.0 b.1)
-  where
-    go : (n : ℕ) (later : List ℕ) → level_down n later ≡ Some c → length a + n + steps_over later < steps_over levels → suc (length a) + c.rest + steps_over c.later < steps_over levels
-    go zero later x r = absurd cc
-    go (suc n) later x r =
-        let s : record { rest = n; later = later } ≡ c = cc in
-        let p : n ≡ c.rest = ap (λ (z : Levels). z.rest) s in
-        let q = ap (λ (z : Levels). steps_over z.later) s in
-        omega (arith, r, p, q)
+    let t = level_taken b.0.rest b.0.later c b.2 in
+    let r = left_steps levels a b.0 b.1 in
+    omega (arith, r, t.0, t.1)
 left_steps levels (across ∷ a) c e =
     let b = level_begun (left levels a) across c e in
-    go b.0.rest b.0.later b.2 (left_steps levels a b.0 b.1)
-  where
-    go : (n : ℕ) (later : List ℕ) → level_across later ≡ Some c → length a + n + steps_over later < steps_over levels → suc (length a) + c.rest + steps_over c.later < steps_over levels
-    go n [] x r = absurd cc
-    go n (m ∷ later) x r =
-        let s : record { rest = m; later = later } ≡ c = cc in
-        let p : m ≡ c.rest = ap (λ (z : Levels). z.rest) s in
-        let q = ap (λ (z : Levels). steps_over z.later) s in
-        omega (arith, r, p, q)
+    let d = dimension_begun b.0.later c b.2 in
+    let r = left_steps levels a b.0 b.1 in
+    omega (arith, r, d)
 
 none_left : (n : ℕ) → eqb n 0 ≡ false → 0 < n
 none_left zero e = absurd cc
@@ -59,57 +53,33 @@ none_left (suc n) e = omega arith
 
 -- a whole address and what it has left are all steps
 whole_steps : (levels : List ℕ) (a : Walk) (c : Levels) → left levels a ≡ Some c → is_whole levels a ≡ true → length a + c.rest + steps_over c.later + 1 ≡ steps_over levels
-whole_steps levels [] c e w = let r = go levels e in omega (arith, r)
-  where
-    go : (levels : List ℕ) → level_across levels ≡ Some c → c.rest + steps_over c.later + 1 ≡ steps_over levels
-    go [] x = absurd cc
-    go (n ∷ later) x =
-        let s : record { rest = n; later = later } ≡ c = cc in
-        let r : n ≡ c.rest = ap (λ (z : Levels). z.rest) s in
-        let l = ap (λ (z : Levels). steps_over z.later) s in
-        omega (arith, r, l)
+whole_steps levels [] c e w = let d = dimension_begun levels c e in omega (arith, d)
 whole_steps levels (down l ∷ a) c e w =
     let b = level_begun (left levels a) (down l) c e in
-    go b.0.rest b.0.later b.2 (whole_steps levels a b.0 b.1 w)
-  where
-    go : (n : ℕ) (later : List ℕ) → level_down n later ≡ Some c → length a + n + steps_over later + 1 ≡ steps_over levels → suc (length a) + c.rest + steps_over c.later + 1 ≡ steps_over levels
-    go zero later x r = absurd cc
-    go (suc n) later x r =
-        let s : record { rest = n; later = later } ≡ c = cc in
-        let p : n ≡ c.rest = ap (λ (z : Levels). z.rest) s in
-        let q = ap (λ (z : Levels). steps_over z.later) s in
-        omega (arith, r, p, q)
+    let t = level_taken b.0.rest b.0.later c b.2 in
+    let r = whole_steps levels a b.0 b.1 w in
+    omega (arith, r, t.0, t.1)
 whole_steps levels (across ∷ a) c e w =
     let b = level_begun (left levels a) across c e in
     let s = and_parts (is_whole levels a) (is_deepest (left levels a)) w in
     let z = eqb-true b.0.rest 0 (sym (ap is_deepest b.1) ∙ s.1) in
-    go b.0.rest b.0.later b.2 z (whole_steps levels a b.0 b.1 s.0)
-  where
-    go : (n : ℕ) (later : List ℕ) → level_across later ≡ Some c → n ≡ 0 → length a + n + steps_over later + 1 ≡ steps_over levels → suc (length a) + c.rest + steps_over c.later + 1 ≡ steps_over levels
-    go n [] x z r = absurd cc
-    go n (m ∷ later) x z r =
-        let s : record { rest = m; later = later } ≡ c = cc in
-        let p : m ≡ c.rest = ap (λ (z : Levels). z.rest) s in
-        let q = ap (λ (z : Levels). steps_over z.later) s in
-        omega (arith, r, z, p, q)
+    let d = dimension_begun b.0.later c b.2 in
+    let r = whole_steps levels a b.0 b.1 s.0 in
+    omega (arith, r, z, d)
 
 -- those of any other address are fewer
 part_steps : (levels : List ℕ) (a : Walk) (c : Levels) → left levels a ≡ Some c → is_whole levels a ≡ false → length a + c.rest + steps_over c.later + 1 < steps_over levels
 part_steps levels [] c e w = absurd cc
 part_steps levels (down l ∷ a) c e w =
     let b = level_begun (left levels a) (down l) c e in
-    go b.0.rest b.0.later b.2 (part_steps levels a b.0 b.1 w)
-  where
-    go : (n : ℕ) (later : List ℕ) → level_down n later ≡ Some c → length a + n + steps_over later + 1 < steps_over levels → suc (length a) + c.rest + steps_over c.later + 1 < steps_over levels
-    go zero later x r = absurd cc
-    go (suc n) later x r =
-        let s : record { rest = n; later = later } ≡ c = cc in
-        let p : n ≡ c.rest = ap (λ (z : Levels). z.rest) s in
-        let q = ap (λ (z : Levels). steps_over z.later) s in
-        omega (arith, r, p, q)
+    let t = level_taken b.0.rest b.0.later c b.2 in
+    let r = part_steps levels a b.0 b.1 w in
+    omega (arith, r, t.0, t.1)
 part_steps levels (across ∷ a) c e w =
     let b = level_begun (left levels a) across c e in
-    go b.0.rest b.0.later b.2 (few b.0 b.1 (is_whole levels a) refl (λ x. part_steps levels a b.0 b.1 x))
+    let d = dimension_begun b.0.later c b.2 in
+    let r = few b.0 b.1 (is_whole levels a) refl (λ x. part_steps levels a b.0 b.1 x) in
+    omega (arith, r, d)
   where
     few : (b : Levels) → left levels a ≡ Some b → (t : Bool) → is_whole levels a ≡ t → (is_whole levels a ≡ false → length a + b.rest + steps_over b.later + 1 < steps_over levels) → length a + steps_over b.later + 1 < steps_over levels
     few b x false y rest = let r = rest y in omega (arith, r)
@@ -118,14 +88,6 @@ part_steps levels (across ∷ a) c e w =
         let z = none_left b.rest (sym (ap is_deepest x) ∙ u) in
         let r = whole_steps levels a b x y in
         omega (arith, r, z)
-
-    go : (n : ℕ) (later : List ℕ) → level_across later ≡ Some c → length a + steps_over later + 1 < steps_over levels → suc (length a) + c.rest + steps_over c.later + 1 < steps_over levels
-    go n [] x r = absurd cc
-    go n (m ∷ later) x r =
-        let s : record { rest = m; later = later } ≡ c = cc in
-        let p : m ≡ c.rest = ap (λ (z : Levels). z.rest) s in
-        let q = ap (λ (z : Levels). steps_over z.later) s in
-        omega (arith, r, p, q)
 
 -- over n categories and to time
 category_steps : (schema : Schema) (n d : ℕ) → 2 ≤ d → d + n ≡ time_dim schema → steps_over (levels_from schema d (suc n)) ≡ 2 * n + 1

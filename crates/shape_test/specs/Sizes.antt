@@ -14,13 +14,29 @@ use Rattle.node_arena.specs.Shape.{home_of, HasShape}
 use Rattle.node_arena.specs.Slots.{Slot, slot_of, counts_of}
 use Rattle.node_arena.specs.Stats.{capped}
 use Rattle.image_shape.specs.Laws.{AllTablesCounted}
+use Rattle.shape_test.specs.Filled.{HasSmallBins}
 use Rattle.shape_test.specs.Fits.{bag_sum, least_points, least_size, Fits}
+use Rattle.shape_test.specs.Homes.{walks_of}
 use Rattle.shape_test.specs.Labels.{labels_fit}
+use Rattle.shape_test.specs.Places.{ArePlaces}
+use Rattle.shape_test.specs.declared.home.Move.{Move}
+use Rattle.shape_test.specs.declared.place.Place.{Place}
 use Rattle.shape_test.specs.declared.size.BagSize.{BagSize}
 
 -- each label of each home is one of the schema
 abbrev pub HasLabels : Schema → List Slot → List Walk → Type 0
 HasLabels schema slots homes = (i : ℕ) → i < length slots → IsTrue (labels_fit schema (home_of homes i))
+
+-- Slots with homes and places of a schema, of whose bag the size can be told.
+pub record AreSizable (schema : Schema) (slots : List Slot) (homes : List (List Move)) (places : List Place) : Type 0 where
+  pub few : length slots < 2 ^ 32
+  -- each slot has a home, and this a place
+  pub size : length homes ≡ length slots
+  pub placed : ArePlaces schema (walks_of homes) places
+  -- each label is one of the schema
+  pub labels : HasLabels schema slots (walks_of homes)
+  -- each bin has 32 bits
+  pub bins : HasSmallBins slots
 
 -- both numbers, as far as 64 bits count
 abbrev pub capped_size : ℕ → ℕ → BagSize

@@ -1,5 +1,5 @@
 //! The homes of slots in one list of steps.
-ghost use Rattle.std.specs.Prelude.{◌≡◌, ◌<◌, ◌++◌, ◌∷◌, [], length, slice_index_or, IfSome, OnOk};
+ghost use Rattle.std.specs.Prelude.{◌≡◌, ◌<◌, ◌++◌, ◌∷◌, [], length, slice_index_or, IfSome, OnErr, OnOk};
 ghost use Rattle.shape_test.specs.Spans.{spanned, with_step, AreSpans};
 
 use crate::home::Move;
@@ -104,6 +104,17 @@ impl HomeList {
     }
 }
 
+/// Adds where a home lies; for want of memory all homes lie as before.
+fn add_span(spans: &mut Vec<Span>, span: Span) -> Result<(), NoMemory>
+    ensures added { OnOk result (spans.new.items ≡ spans.old.items ++ span ∷ []) }
+    ensures unchanged { OnErr result (spans.new.items ≡ spans.old.items) }
+{
+    match spans.push(span) {
+        Ok(()) => Ok(()),
+        Err(_) => Err(NoMemory),
+    }
+}
+
 /// Puts a home behind others, which is an earlier one of them with a step before it. Its steps are copied once.
 fn put_step(
     moves: &mut Vec<Move>,
@@ -130,9 +141,7 @@ fn put_step(
         step,
         above,
     };
-    let Ok(()) = spans.push(span) else {
-        return Err(NoMemory);
-    };
+    add_span(spans, span)?;
     Ok(())
 }
 
@@ -152,8 +161,6 @@ fn put_home(moves: &mut Vec<Move>, spans: &mut Vec<Span>, home: &[Move]) -> Resu
         step: Move::Across,
         above: spans.len(),
     };
-    let Ok(()) = spans.push(span) else {
-        return Err(NoMemory);
-    };
+    add_span(spans, span)?;
     Ok(())
 }

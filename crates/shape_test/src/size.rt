@@ -10,8 +10,8 @@ ghost use Rattle.shape_test.specs.Filled.{HasSmallBins};
 ghost use Rattle.shape_test.specs.Fits.{IsSizeOf, least_points, slots_bag};
 ghost use Rattle.shape_test.specs.Homes.{walk_of, walks_of};
 ghost use Rattle.shape_test.specs.Labels.{labels_fit, schema_levels};
-ghost use Rattle.shape_test.specs.Places.{ArePlaces, place_at};
-ghost use Rattle.shape_test.specs.Sizes.{HasLabels, TellsLight, TellsPoints, size_of, table_size};
+ghost use Rattle.shape_test.specs.Places.{place_at};
+ghost use Rattle.shape_test.specs.Sizes.{AreSizable, TellsLight, TellsPoints, size_of, table_size};
 
 use crate::home::Move;
 use crate::home_list::HomeList;
@@ -155,11 +155,7 @@ fn bag_size<L: Ledger>(
     places: &List<Place>,
     steps: &mut Steps<L>,
 ) -> BagSize
-    requires few { length arena.now < 2 ^ 32 }
-    requires homes { length homes.now ≡ length arena.now }
-    requires places { ArePlaces schema.now (walks_of homes.now) places.now }
-    requires labels { HasLabels schema.now arena.now (walks_of homes.now) }
-    requires bins { HasSmallBins arena.now }
+    requires { AreSizable schema.now arena.now homes.now places.now }
     ensures { result ≡ size_of (slots_bag schema.now arena.now (walks_of homes.now)) }
 {
     let mut size = NOTHING;
@@ -198,11 +194,7 @@ pub fn size_fits<L: Ledger>(
     size: u64,
     steps: &mut Steps<L>,
 ) -> bool
-    requires few { length arena.now < 2 ^ 32 }
-    requires homes { length homes.now ≡ length arena.now }
-    requires places { ArePlaces schema.now (walks_of homes.now) places.now }
-    requires labels { HasLabels schema.now arena.now (walks_of homes.now) }
-    requires bins { HasSmallBins arena.now }
+    requires { AreSizable schema.now arena.now homes.now places.now }
     ensures { IsTrue result ↔ IsSizeOf schema.now (slots_bag schema.now arena.now (walks_of homes.now)) size }
 {
     is_size(schema, bag_size(schema, arena, homes, places, steps), size)

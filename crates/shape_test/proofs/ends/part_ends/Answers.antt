@@ -1,21 +1,18 @@
-use Rattle.std.proofs.Common.{◌≡◌, ℕ, ◌+◌, ◌<◌, List, ◌++◌, length, sym, ap, ◌∙◌, subst, arith}
+use Rattle.std.proofs.Common.{◌≡◌, ℕ, ◌+◌, ◌<◌, List, ◌++◌, length, sym, ap, ◌∙◌, subst}
 use Rattle.std.specs.Option.{option_to_list}
 use Rattle.std.proofs.lemmas.List.Elements.{All-nil}
-use Rattle.probe_core.specs.Places.{IsPlace}
 use Rattle.node_arena.specs.declared.link.SlotId.{SlotId}
-use Rattle.node_arena.specs.Slots.{children_of, slot_of, child_label}
+use Rattle.node_arena.specs.Slots.{children_of, slot_of}
 use Rattle.shape_test.specs.Ends.{ends_count, end_count, AreEnds}
 use Rattle.shape_test.specs.Homes.{way_of}
-use Rattle.shape_test.proofs.ChildPlaces.{at_start}
+use Rattle.shape_test.proofs.ChildPlaces.{at_start, behind_child}
 use Rattle.shape_test.proofs.Adding.{sum_upto, part_of, upto_zero, add_part, all_parts}
 use Rattle.shape_test.proofs.Summing.{ends_more, ends_within}
 use Rattle.shape_test.proofs.ends.part_ends.Goals as goal
 
 pub loop-label-init : goal.loop-label-init
 loop-label-init g c = record {
-  last = omega arith;
-  few = omega arith;
-  place = at_start (children_of (slot_of c.args.arena.now c.args.id.0));
+  so_far = at_start c.args.arena.now c.args.id.0;
   counted = λ bin. ap (λ (es : List SlotId). ends_count c.args.arena.now es bin) c.clear.ensures.items ∙ sym (upto_zero (part_of c.args.arena.now c.args.id.0 (way_of c.args.way.now) bin) (children_of (slot_of c.args.arena.now c.args.id.0)));
   within = subst (AreEnds c.args.arena.now) (sym c.clear.ensures.items) (All-nil (λ (e : SlotId). e.0 < length c.args.arena.now));
 }
@@ -24,9 +21,7 @@ pub loop-label-preserved : goal.loop-label-preserved
 loop-label-preserved g c =
     let added : c.add_end.new.ends.items ≡ c.loop-label.ends.items ++ option_to_list c.content_end.result = c.in_ok-add_end.ensures {u = tt} in
     record {
-      last = let s = c.in-Some.ensures.child.small in let f = c.from-from.ensures in omega (arith, s, f);
-      few = let n = c.loop-label.invariant.few in let low = c.in-Some.ensures.child.low in let f = c.from-from.ensures in omega (arith, n, low, f);
-      place = subst (λ n. IsPlace child_label (n + 1) (children_of (slot_of c.args.arena.now c.args.id.0)) (c.loop-label.i + 1)) (sym c.from-from.ensures) c.in-Some.ensures.place;
+      so_far = behind_child c.loop-label.invariant.so_far c.in-Some.ensures.child c.in-Some.ensures.place c.from-from.ensures;
       counted = λ bin.
           ap (λ (es : List SlotId). ends_count c.args.arena.now es bin) added ∙ (ends_more c.args.arena.now c.loop-label.ends.items c.content_end.result bin ∙ (add_part c.args.arena.now c.args.id.0 (way_of c.args.way.now) bin c.loop-label.from c.in-Some.label c.in-Some.link (ends_count c.args.arena.now c.loop-label.ends.items bin) (end_count c.args.arena.now c.content_end.result bin) c.in-Some.ensures.child (c.loop-label.invariant.counted bin) (c.content_end.ensures.counted bin) ∙ ap (λ (n : ℕ). sum_upto (part_of c.args.arena.now c.args.id.0 (way_of c.args.way.now) bin) (n + 1) (children_of (slot_of c.args.arena.now c.args.id.0))) (sym c.from-from.ensures)));
       within = subst (AreEnds c.args.arena.now) (sym added) (ends_within c.args.arena.now c.loop-label.ends.items c.content_end.result c.loop-label.invariant.within c.content_end.ensures.in_range);

@@ -1,5 +1,4 @@
 use Rattle.std.proofs.Common.{refl}
-use Rattle.node_arena.specs.Slots.{children_of, slot_of}
 use Rattle.shape_test.proofs.ChildPlaces.{at_start}
 use Rattle.shape_test.proofs.Filling.{some_child, no_child}
 use Rattle.shape_test.proofs.filled.has_child.Goals as goal
@@ -11,4 +10,4 @@ pub returns-in-None : goal.returns-in-None
 returns-in-None c = (λ y. absurd cc, λ h. absurd (no_child c.args.arena.now c.args.id.0 c.in-None.ensures.child h))
 
 pub first_child-requires-clause-place : goal.first_child-requires-clause-place
-first_child-requires-clause-place c = at_start (children_of (slot_of c.args.arena.now c.args.id.0))
+first_child-requires-clause-place c = (at_start c.args.arena.now c.args.id.0).place

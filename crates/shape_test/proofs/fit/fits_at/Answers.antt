@@ -7,8 +7,8 @@ use Rattle.shape_test.proofs.fit.fits_at.Goals as goal
 pub size_fits-requires : goal.size_fits-requires
 size_fits-requires g c = record {
   few = c.requires.few;
-  places = c.requires.places;
-  homes = sym (length-map c.args.homes.now walk_of) ∙ c.requires.homes.owned.size;
+  placed = c.requires.places;
+  size = sym (length-map c.args.homes.now walk_of) ∙ c.requires.homes.owned.size;
   labels = (c.in_ok-slots_fit.ensures.0 c.if-not-branch.false).labels;
   bins = c.requires.testable.bins;
 }

@@ -1,17 +1,15 @@
-use Rattle.std.proofs.Common.{◌≡◌, ℕ, ◌-◌, ◌<◌, ◌≤◌, Some}
-use Rattle.probe_core.specs.Places.{IsPlace}
+use Rattle.std.proofs.Common.{◌≡◌, ℕ, ◌-◌, ◌<◌, Some}
 use Rattle.cube_view.specs.Walks.{down}
 use Rattle.node_arena.specs.declared.link.Link.{Link}
-use Rattle.node_arena.specs.Slots.{link_of, child_label, children_of, slot_of}
+use Rattle.node_arena.specs.Slots.{link_of}
 use Rattle.shape_test.specs.Homes.{walks_of}
 use Rattle.shape_test.specs.Links.{LinkFits}
+use Rattle.shape_test.proofs.ChildPlaces.{HasComeToLabel}
 use Rattle.shape_test.proofs.links.children_fit.Given as goal
 
 abbrev pub invariant-loop-label : goal.invariant-loop-label
 invariant-loop-label l = record {
-  last : l.from ≤ 256;
-  few : l.i ≤ l.from;
-  place : IsPlace child_label l.from (children_of (slot_of l.arena l.id.0)) l.i;
+  so_far : HasComeToLabel l.arena l.id.0 l.from l.i;
   fit : (m : ℕ) (k : Link) → m < l.from → link_of l.arena l.id.0 (down m) ≡ Some k → LinkFits (walks_of l.homes) l.id.0 (down m) k;
 }
 

@@ -1,15 +1,14 @@
 use Rattle.std.proofs.Common.{◌≡◌, Bool, true, ℕ, ◌-◌, List, [], ◌∷◌, ◌++◌, length, take, refl, sym, ap, ◌∙◌, subst, arith, ◌+◌}
 use Rattle.std.proofs.lemmas.Result.{IfOk-weaker}
-use Rattle.probe_core.specs.Places.{IsPlace}
 use Rattle.cube_view.specs.Walks.{down, across}
 use Rattle.node_arena.specs.declared.link.Link.{Link}
-use Rattle.node_arena.specs.Slots.{target, child_label, children_of, slot_of}
+use Rattle.node_arena.specs.Slots.{target}
 use Rattle.image_shape.specs.Ways.{Way}
 use Rattle.shape_test.specs.Agreeing.{AllAgree, BinsAgree, CountedAgree, RowsAgree}
 use Rattle.shape_test.specs.Homes.{way_of}
 use Rattle.shape_test.specs.declared.home.Move.{Move}
 use Rattle.shape_test.specs.declared.home.Move.TheVariants.{Down, Across}
-use Rattle.shape_test.proofs.ChildPlaces.{at_start}
+use Rattle.shape_test.proofs.ChildPlaces.{at_start, behind_child}
 use Rattle.shape_test.proofs.Agreement.{none_counted, at_end, end_agrees, past_table, children_agree, child_agrees, longer_way, one_less}
 use Rattle.shape_test.proofs.Childwise.{one_more, no_more}
 use Rattle.shape_test.proofs.Ending.{two_off}
@@ -46,9 +45,7 @@ loop-label-preserved g t c =
     let added : c.add_value.new.way ≡ c.args.way.now ++ Down c.in-Some-first_child.label ∷ Across ∷ [] = c.in_ok-add_value.ensures {u = tt} ∙ ap (λ (w : List Move). w ++ Down c.in-Some-first_child.label ∷ Across ∷ []) c.loop-label.invariant.same in
     let here = subst (λ (w : Way). CountedAgree c.args.arena.now c.args.side w (target c.in-Some-first_child.child) (c.args.left - 1)) (longer_way c.args.way.now c.add_value.new.way c.in-Some-first_child.label added) (c.in_ok-agrees.ensures.told c.if-not-agrees.false) in
     record {
-      last = let s = c.in-Some-first_child.ensures.child.small in let f = c.from-from.ensures in omega (arith, s, f);
-      few = let n = c.loop-label.invariant.few in let low = c.in-Some-first_child.ensures.child.low in let f = c.from-from.ensures in omega (arith, n, low, f);
-      place = subst (λ n. IsPlace child_label (n + 1) (children_of (slot_of c.args.arena.now (target c.in-Some.content))) (c.loop-label.i + 1)) (sym c.from-from.ensures) c.in-Some-first_child.ensures.place;
+      so_far = behind_child c.loop-label.invariant.so_far c.in-Some-first_child.ensures.child c.in-Some-first_child.ensures.place c.from-from.ensures;
       same = c.drop_value.ensures ∙ (ap (λ (w : List Move). take (length w - 2) w) (c.in_ok-agrees.ensures.same ∙ added) ∙ two_off c.args.way.now (Down c.in-Some-first_child.label) Across);
       agree = λ m k lt e. one_more c.args.arena.now (target c.in-Some.content) c.loop-label.from (λ (n : ℕ) (l : Link). CountedAgree c.args.arena.now c.args.side (way_of c.args.way.now ++ down n ∷ across ∷ []) (target l) (c.args.left - 1)) c.loop-label.invariant.agree c.in-Some-first_child.label c.in-Some-first_child.child c.in-Some-first_child.ensures.child here m k (let f = c.from-from.ensures in omega (arith, f, lt)) e;
     }
@@ -59,9 +56,7 @@ returns-clause-told g t c = λ y.
 
 pub loop-label-init : goal.loop-label-init
 loop-label-init g t c = record {
-  last = omega arith;
-  few = omega arith;
-  place = at_start (children_of (slot_of c.args.arena.now (target c.in-Some.content)));
+  so_far = at_start c.args.arena.now (target c.in-Some.content);
   same = refl;
   agree = λ m k lt e. absurd (omega (arith, lt));
 }
