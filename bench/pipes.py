@@ -29,9 +29,10 @@ def waits_of(pid):
 
 
 class Run:
-    """A run of a plan in a folder of its own, whose feeds and asks are pipes, and the outputs of the asks too."""
+    """A run of a plan in a folder of its own, whose feeds and asks are pipes, and the outputs of the asks too. `piped` names the pipes
+    where they are others, and `call` is the form of the program with its words."""
 
-    def __init__(self, program, plan, limit, finals=(), words=(), piped=None):
+    def __init__(self, program, plan, limit, finals=(), words=(), piped=None, call=("run", "plan.json")):
         self.folder = tempfile.mkdtemp(prefix="pipes-")
         self.end, self.stuck, self.plan, self.most = time.monotonic() + limit, None, plan, 0.0
         outputs = [ask + ".out" for ask in plan["asks"]]
@@ -42,7 +43,7 @@ class Run:
                 it.write(text)
         self.report = open(self.path("report.txt"), "w+b")
         self.began = time.monotonic()
-        self.child = subprocess.Popen([*words, program, "run", "plan.json"], cwd=self.folder, stdin=subprocess.DEVNULL,
+        self.child = subprocess.Popen([*words, program, *call], cwd=self.folder, stdin=subprocess.DEVNULL,
                                       stdout=self.report)
         self.watch = threading.Timer(limit, self.give_up)
         self.watch.daemon = True

@@ -14,9 +14,6 @@ TESTS = {
     "time_table_tests": ("keeps_its_counts_where_an_addition_is_refused", "1,000 additions to 300 bins"),
     "cube_callers": ("a_refused_insertion_changes_nothing", "a cube's fourth insertion"),
     "group_insert_tests": ("a_refused_group_changes_nothing", "64 points as a group into a cube of 200"),
-    "image_callers": ("ends_where_memory_is_wanted", "a cube saved and loaded"),
-    "builder_callers": ("ends_where_memory_is_wanted", "two feeders and the builder, over plain cubes and over cubes"),
-    "crew_callers": ("ends_where_memory_is_wanted", "two feeders, the builder and a session, over plain cubes"),
 }
 
 

@@ -1,4 +1,4 @@
-//! Schemas and points that the tests of several crates share.
+//! Schemas, points and tiles that the tests of several crates share.
 //!
 //! The crate stands on `cube_view` and `outer_io`. Nothing but tests uses it.
 //!
@@ -12,7 +12,7 @@ ghost use Rattle.std.specs.Prelude.{◌≡◌, IfOk, ◌∷◌, []};
 ghost use Rattle.cube_view.specs.Points.{point_at};
 ghost use Rattle.example_schemas.specs.Examples.{named_category, kinds, two_categories};
 
-use cube_view::{Category, Point, Schema, Spot};
+use cube_view::{Category, Point, Schema, Spot, Tile};
 use outer_io::{List, NoMemory, Text};
 use std::alloc::Global;
 
@@ -57,4 +57,11 @@ pub fn point(x: u32, y: u32, value: u8, bin: u32) -> Point
         bin,
     };
     Point { spot, weight: 1 }
+}
+
+/// The tile of that level, column and row.
+pub fn tile(z: u8, x: u32, y: u32) -> Tile
+    ensures { result ≡ record { z = z; x = x; y = y } }
+{
+    Tile { z, x, y }
 }

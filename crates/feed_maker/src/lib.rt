@@ -1,6 +1,5 @@
 //! A feed that is made from two numbers, so that a run over it can be repeated by anybody. [`GenSource`] is a source of
-//! its bytes, which are the definition `generated_feed` of `specs/GeneratedFeed.antt`. [`Endless`] is a source without
-//! end, for tests of what is too much.
+//! its bytes, which are the definition `generated_feed` of `specs/GeneratedFeed.antt`.
 //!
 //! It stands on `outer_io`, which says what a source is. What its rows mean under a plan is left to whoever reads them.
 //!
@@ -12,7 +11,6 @@
 //! ```
 #![tactic(auto)]
 
-mod endless;
 mod line;
 mod rest;
 mod rows;
@@ -20,5 +18,4 @@ mod source;
 #[cfg(test)]
 mod tests;
 
-pub use endless::Endless;
 pub use source::GenSource;

@@ -1,2 +1,0 @@
-mod NewFeeds
-mod Taken

@@ -1,4 +1,0 @@
-use Rattle.session_core_tests.proofs.serving_tests.check.Given as goal
-
-abbrev pub ghosts-check_in : goal.ghosts-check_in
-ghosts-check_in g a = record { name = a.blank.name; parts = a.blank.parts }

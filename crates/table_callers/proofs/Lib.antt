@@ -1,3 +1,0 @@
-mod Maps
-mod Totals
-mod Windows
