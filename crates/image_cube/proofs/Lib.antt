@@ -2,6 +2,7 @@ mod Fitted
 mod Imaged
 mod Known
 mod Loaded
+pub mod Parsed
 mod Parted
 mod Placed
 mod PointPaths

@@ -7,7 +7,7 @@ use Rattle.node_arena.specs.declared.link.SlotId.{SlotId}
 use Rattle.cube_store.specs.Counted.{CountsPoints}
 use Rattle.cube_store.specs.declared.cube.Cube.{Cube}
 use Rattle.image_parse.specs.Laws.{TellsOneMeaning}
-use Rattle.image_read.specs.Read.{IsFitImage}
+use Rattle.image_cube.specs.Read.{IsFitImage}
 use Rattle.image_cube.specs.CubeImages.{IsCubeImage, IsCubeOfImage}
 
 module _ (one : TellsOneMeaning) (schema : Schema) (bytes : List ℕ) (slots : List Slot) (root size : ℕ) (F : IsFitImage schema bytes slots size) (top : root ≡ 0) (h : List Point) where

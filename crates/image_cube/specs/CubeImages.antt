@@ -9,8 +9,8 @@ use Rattle.cube_store.specs.Counted.{CountsPoints}
 use Rattle.cube_store.specs.Holding.{CubeCounts}
 use Rattle.cube_store.specs.declared.cube.Cube.{Cube}
 use Rattle.cube_image.specs.Image.{HasLongImage}
-use Rattle.image_read.specs.Read.{IsFitImage, Refuses}
-use Rattle.image_read.specs.declared.fault.ImageFault.{ImageFault}
+use Rattle.image_cube.specs.Read.{IsFitImage, Refuses}
+use Rattle.image_cube.specs.declared.fault.ImageFault.{ImageFault}
 
 -- Points that records of the schema can be, in bins of 32 bits.
 pub record AreRecords (schema : Schema) (h : List Point) : Type 0 where

@@ -1,1 +1,2 @@
 pub mod CubeImages
+pub mod Read

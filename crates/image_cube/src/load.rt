@@ -1,10 +1,11 @@
 //! The cube of an image.
 ghost use Rattle.image_cube.specs.CubeImages.{LoadsCube};
 
+use crate::fault::ImageFault;
+use crate::read::read_image;
 use cube_store::Cube;
 use cube_view::Schema;
 use image_parse::image_parse_laws;
-use image_read::{ImageFault, read_image};
 use shape_test::size_laws;
 use std::alloc::Global;
 

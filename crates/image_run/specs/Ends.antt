@@ -5,9 +5,9 @@ use Rattle.cube_store.specs.Numbers.{OwnsAllButRoot}
 use Rattle.cube_view.specs.Points.{Point}
 use Rattle.cube_view.specs.declared.schema.Schema.{Schema}
 use Rattle.image_cube.specs.CubeImages.{IsCubeImage}
-use Rattle.image_read.specs.Read.{Refuses}
-use Rattle.image_read.specs.declared.fault.ImageFault.{ImageFault}
-use Rattle.image_read.specs.declared.fault.ImageFault.TheVariants as image_fault
+use Rattle.image_cube.specs.Read.{Refuses}
+use Rattle.image_cube.specs.declared.fault.ImageFault.{ImageFault}
+use Rattle.image_cube.specs.declared.fault.ImageFault.TheVariants as image_fault
 use Rattle.image_run.specs.Faults.{HasLoadFaults}
 use Rattle.image_run.specs.Lines.{image_line}
 use Rattle.image_run.specs.Names.{ImageNames}

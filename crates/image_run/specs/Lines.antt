@@ -1,7 +1,7 @@
 -- The lines that a run of an image prints. Each ends with a line feed.
 use Rattle.std.specs.Prelude.{ℕ, List, [], ◌∷◌, ◌++◌, codes}
-use Rattle.image_read.specs.declared.fault.ImageFault.{ImageFault}
-use Rattle.image_read.specs.declared.fault.ImageFault.TheVariants as fault
+use Rattle.image_cube.specs.declared.fault.ImageFault.{ImageFault}
+use Rattle.image_cube.specs.declared.fault.ImageFault.TheVariants as fault
 
 -- the name of a fault of an image
 abbrev pub image_fault_text : ImageFault → List ℕ

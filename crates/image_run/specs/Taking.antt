@@ -3,9 +3,9 @@ use Rattle.std.specs.Prelude.{◌≢◌, ℕ, List, Option, Some, None, Result, 
 use Rattle.cube_store.specs.declared.cube.Cube.{Cube}
 use Rattle.cube_view.specs.declared.schema.Schema.{Schema}
 use Rattle.image_cube.specs.CubeImages.{IsCubeOfImage}
-use Rattle.image_read.specs.Read.{Refuses}
-use Rattle.image_read.specs.declared.fault.ImageFault.{ImageFault}
-use Rattle.image_read.specs.declared.fault.ImageFault.TheVariants as image_fault
+use Rattle.image_cube.specs.Read.{Refuses}
+use Rattle.image_cube.specs.declared.fault.ImageFault.{ImageFault}
+use Rattle.image_cube.specs.declared.fault.ImageFault.TheVariants as image_fault
 use Rattle.image_run.specs.Lines.{image_line}
 use Rattle.run_files.specs.Outside.{FailsToPut, Puts, Silent, SinkSeen}
 use Rattle.run_files.specs.declared.stop.Stop.{Stop}

@@ -2,7 +2,7 @@
 ghost use Rattle.std.specs.Prelude.{◌≡◌, ◌++◌, IfOk, OnOk, string_bytes};
 ghost use Rattle.image_run.specs.Lines.{image_fault_text, image_line};
 
-use image_read::ImageFault;
+use image_cube::ImageFault;
 use outer_io::{List, NoMemory};
 use std::alloc::{AllocError, Global};
 

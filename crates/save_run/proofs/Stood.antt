@@ -7,7 +7,7 @@ use Rattle.cube_store.specs.declared.cube.Cube.{Cube}
 use Rattle.cube_view.specs.declared.schema.Schema.{Schema}
 use Rattle.feed_reader.proofs.FeedStart.{some_each}
 use Rattle.image_cube.specs.CubeImages.{AreRecords, HasLongCubeImage, IsCubeImage}
-use Rattle.image_read.specs.declared.fault.ImageFault.TheVariants as image_fault
+use Rattle.image_cube.specs.declared.fault.ImageFault.TheVariants as image_fault
 use Rattle.image_run.specs.Lines.{image_line}
 use Rattle.image_run.specs.declared.end.ImageEnd.{ImageEnd}
 use Rattle.image_run.specs.declared.end.ImageEnd.TheVariants.{Done, Refused}

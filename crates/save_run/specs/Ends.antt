@@ -1,7 +1,7 @@
 -- How saving the cube of a plan's feeds ends, and what it leaves of a place and a sink.
 use Rattle.std.specs.Prelude.{◌≡◌, ◌⊎◌, ℕ, List, [], ◌∷◌, ◌++◌, take, Option, Some, None, IfSome, IsSomeAnd, Result, Ok, Err}
 use Rattle.cube_schema.specs.declared.plan.Plan.{Plan}
-use Rattle.image_read.specs.declared.fault.ImageFault.TheVariants as image_fault
+use Rattle.image_cube.specs.declared.fault.ImageFault.TheVariants as image_fault
 use Rattle.image_run.specs.Lines.{image_line}
 use Rattle.image_run.specs.declared.end.ImageEnd.{ImageEnd}
 use Rattle.image_run.specs.declared.end.ImageEnd.TheVariants.{Done, Refused}

@@ -1,7 +1,7 @@
 //! The slots and the size of an image.
 ghost use Rattle.probe_core.specs.Blanks.{IsBlankOf};
 ghost use Rattle.shape_test.specs.Testable.{AreTestable};
-ghost use Rattle.image_read.specs.Read.{FitsSlots, ReadsImage};
+ghost use Rattle.image_cube.specs.Read.{FitsSlots, ReadsImage};
 
 use crate::fault::ImageFault;
 use cube_image::MOST_BYTES;

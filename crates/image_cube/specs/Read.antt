@@ -3,8 +3,8 @@ use Rattle.std.specs.Prelude.{◌≡◌, ℕ, ◌<◌, ◌≤◌, List, length, 
 use Rattle.cube_image.specs.Image.{IsImageOf, most_bytes}
 use Rattle.cube_view.specs.declared.schema.Schema.{Schema}
 use Rattle.image_parse.specs.Images.{IsImage, IsNoImage}
-use Rattle.image_read.specs.declared.fault.ImageFault.{ImageFault}
-use Rattle.image_read.specs.declared.fault.ImageFault.TheVariants.{TooLong, NotImage, NotShape, NoMemory}
+use Rattle.image_cube.specs.declared.fault.ImageFault.{ImageFault}
+use Rattle.image_cube.specs.declared.fault.ImageFault.TheVariants.{TooLong, NotImage, NotShape, NoMemory}
 use Rattle.node_arena.specs.declared.link.SlotId.{SlotId}
 use Rattle.node_arena.specs.Slots.{Slot}
 use Rattle.shape_test.specs.Fits.{Fits}

@@ -20,9 +20,9 @@ use Rattle.shape_test.specs.Sizes.{TellsLight}
 use Rattle.shape_test.specs.Testable.{AreTestable}
 use Rattle.time_table.specs.Counts.{BinCounts, count_of, total_count}
 use Rattle.time_table.proofs.AddLaws.{count_of-empty}
-use Rattle.image_read.specs.Read.{ReadSlots, IsFitImage, IsUnfitImage, ReadsImage, FitsSlots}
-use Rattle.image_read.specs.declared.fault.ImageFault.{ImageFault}
-use Rattle.image_read.specs.declared.fault.ImageFault.TheVariants.{TooLong, NotImage, NotShape, NoMemory}
+use Rattle.image_cube.specs.Read.{ReadSlots, IsFitImage, IsUnfitImage, ReadsImage, FitsSlots}
+use Rattle.image_cube.specs.declared.fault.ImageFault.{ImageFault}
+use Rattle.image_cube.specs.declared.fault.ImageFault.TheVariants.{TooLong, NotImage, NotShape, NoMemory}
 
 -- labels are bytes
 children_small : (n from : ℕ) (cs : Children) (label : ℕ) (l : Link) → AreChildren n from cs → child cs label ≡ Some l → label < 256

@@ -16,7 +16,7 @@ pub enum ImageFault {
 
 impl From<NoMemory> for ImageFault {
     ghost use Rattle.std.specs.Prelude.{◌≡◌};
-    ghost use Rattle.image_read.specs.declared.fault.ImageFault.TheVariants.{NoMemory as Starved};
+    ghost use Rattle.image_cube.specs.declared.fault.ImageFault.TheVariants.{NoMemory as Starved};
 
     ghost from_gives = { λ _ fault. fault ≡ Starved };
 
