@@ -1,5 +1,5 @@
 //! Cross tables.
-ghost use Rattle.std.specs.Prelude.{◌≡◌, ℕ, ◌+◌, ◌<◌, ◌≤◌, ◌++◌, IsTrue, IfOk, OnOk, length};
+ghost use Rattle.std.specs.Prelude.{◌≡◌, ℕ, ◌+◌, ◌<◌, ◌≤◌, [], ◌++◌, IsTrue, IfOk, OnOk, length};
 ghost use Rattle.std.specs.List.{flat_map, range_with_len};
 ghost use Rattle.cross_table.specs.Costs.{within_cost, pairs_cost, cross_cost};
 ghost use Rattle.cross_table.specs.Pairs.{cost_of_both, row_of_both, rows_within_value, total_of_both};
@@ -123,6 +123,22 @@ fn push_rows_within<V: CubeView, L: Ledger>(
     Ok(())
 }
 
+/// No rows yet, with room for one of each value of the first category and each value of the second.
+fn room_for_rows(
+    alloc: Global,
+    schema: &Schema,
+    first: usize,
+    second: usize,
+) -> Result<List<RowOut>, NoMemory>
+    requires first { first < length schema.now.categories }
+    requires second { second < length schema.now.categories }
+    ensures { IfOk result (λ rows. rows ≡ []) }
+{
+    let mut rows = List::new(alloc);
+    rows.reserve(value_texts(schema, first).len() * value_texts(schema, second).len())?;
+    Ok(rows)
+}
+
 /// The rows of a cross table: those within each value of the first category.
 fn cross_rows<V: CubeView, L: Ledger>(
     alloc: Global,
@@ -138,7 +154,7 @@ fn cross_rows<V: CubeView, L: Ledger>(
     ensures rows { IfOk result (λ rows. EachListOf V.CubeView view.now (λ h. rows ≡ cross_rows_of (V.schema view.now) query.now h first second)) }
     ensures cost { TakesUpTo V.CubeView view.now steps.old steps.new (λ costs schema h. pairs_cost costs schema h query.now first second) }
 {
-    let mut rows = List::new(alloc);
+    let mut rows = room_for_rows(alloc, view.schema(), first, second)?;
     let region = region_cursor(view, &query.region, steps);
     for value in 0..value_texts(view.schema(), first).len() {
         let one = CategoryValue {

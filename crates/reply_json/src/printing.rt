@@ -10,7 +10,7 @@ ghost use Rattle.reply_json.specs.Validity.{is_valid_reply};
 ghost use Rattle.reply_json.specs.Types.{IsCount, RowFits, ReplyFits};
 
 use crate::Reply;
-use crate::put::{digits_before, item_before, put_number, put_text};
+use crate::put::{digits_before, item_before, put_number, put_text, put_two_texts};
 use cube_view::{Stat, Tile};
 use outer_io::{List, NoMemory, put, put_byte};
 use query_syntax::{QueryFault, RowOut, Table};
@@ -100,10 +100,7 @@ fn put_items(out: &mut Vec<u8>, row: &RowOut) -> Result<(), NoMemory>
         RowOut::Area(tile, total) => put_area(out, *tile, *total),
         RowOut::Bin(start, total) => put_bin(out, *start, *total),
         RowOut::Pair(first, second, total) => {
-            put_text(out, first.as_str())?;
-            put_byte(out, b',')?;
-            put_text(out, second.as_str())?;
-            put_byte(out, b',')?;
+            put_two_texts(out, first.as_str(), second.as_str())?;
             put_total(out, *total)
         }
     }
@@ -115,9 +112,10 @@ fn put_row(out: &mut Vec<u8>, later: bool, row: &RowOut) -> Result<(), NoMemory>
     ensures fits { OnOk result (RowFits row.now) }
 {
     if later {
-        put_byte(out, b',')?;
+        put(out, b",[")?;
+    } else {
+        put_byte(out, b'[')?;
     }
-    put_byte(out, b'[')?;
     put_items(out, row)
 }
 
