@@ -6,7 +6,7 @@ use Rattle.std.proofs.lemmas.Bool.{and_parts, ltb-true, ltb-false, lt-ltb, le-lt
 use Rattle.std.proofs.lemmas.List.Elements.{recursion_from_All}
 use Rattle.cube_view.proofs.Amounts.{amount-nil, amount-cons, amount-same, amount-none, amount-split}
 use Rattle.cube_view.proofs.OneWeight.{one_if, weigh}
-use Rattle.cube_view.proofs.SchemaBounds.{few_categories}
+use Rattle.cube_view.proofs.SchemaBounds.{each_in_range, few_categories}
 use Rattle.cube_view.specs.Bag.{amount}
 use Rattle.cube_view.specs.Limits.{category_in_range, is_between, is_category_name, is_value}
 use Rattle.cube_view.specs.Points.{Point, spot_of, weight_of_point}
@@ -19,7 +19,6 @@ use Rattle.cross_table.proofs.Paying.{cost_more, number_of_values, values_under}
 use Rattle.cross_table.specs.Ranking.{total_of_row}
 use Rattle.cross_table.specs.Sums.{CrossSum}
 use Rattle.cross_table.specs.Verbs.{is_cross}
-use Rattle.query_syntax.proofs.SchemaLimits.{categories-limits}
 use Rattle.query_syntax.proofs.ValidParts.{valid_parts}
 use Rattle.query_syntax.specs.Boxes.{Box, box, inside, total}
 use Rattle.query_syntax.specs.CrossTables.{pair_row, rows_within, cross_rows, values_of_category}
@@ -94,7 +93,7 @@ sound_value : (z : Schema) (k : ℕ) (x : Point) → k < length z.categories →
 sound_value z k x lt is =
     let s = spot_of x in
     let fit = and_parts (tile_fits z.depth s) (values_fit z.categories s.values) (and_parts (fits z s) (is_weight (weight_of_point x)) is).0 in
-    fitting_value z.categories s.values k (and_parts _ _ (categories-limits z)).1 fit.1 lt
+    fitting_value z.categories s.values k (each_in_range z) fit.1 lt
 
 -- a test that each point of a list passes changes nothing
 none_lost : (p t : Spot → Bool) (h : List Point) → AllByRecursion (λ x. t (spot_of x) ≡ true) h → amount (λ s. p s && t s) h ≡ amount p h

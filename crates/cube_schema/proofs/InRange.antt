@@ -1,9 +1,7 @@
 -- A draft of which no member is out of its range.
-use Rattle.std.proofs.Common.{◌≡◌, ℕ, ◌≤◌, Bool, true, false, cond, not, List, [], ◌∷◌, find, Some, None, refl}
-use Rattle.std.specs.Prelude.{nat_le}
+use Rattle.std.proofs.Common.{◌≡◌, Bool, true, false, cond, not, List, [], ◌∷◌, find, Some, None, refl}
 use Rattle.std.specs.List.{AllByRecursion}
-use Rattle.std.proofs.lemmas.Bool.{and_parts, leb-true, not-false}
-use Rattle.cube_view.specs.Limits.{is_between}
+use Rattle.std.proofs.lemmas.Bool.{not-false}
 use Rattle.cube_schema.specs.declared.draft.Draft.{Draft}
 use Rattle.cube_schema.specs.declared.member.Member.TheVariants.{Asks, Batch, Categories, Depth, Feeds, Finals, Journal, Version, Weight, Width}
 use Rattle.cube_schema.specs.Members.{plan_members}
@@ -47,11 +45,3 @@ are_in_range draft e =
       weight = not-false _ each.1.1.1.1.1.1.1.1.1.0;
       width = not-false _ each.1.1.1.1.1.1.1.1.1.1.0;
     }
-
--- a number between two bounds is from the first on
-pub at_least : (low high n : ℕ) → is_between low high n ≡ true → low ≤ n
-at_least low high n e = leb-true low n (and_parts (nat_le low n) (nat_le n high) e).0
-
--- a number between two bounds is at most the second
-pub at_most : (low high n : ℕ) → is_between low high n ≡ true → n ≤ high
-at_most low high n e = leb-true n high (and_parts (nat_le low n) (nat_le n high) e).1

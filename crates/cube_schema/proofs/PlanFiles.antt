@@ -14,7 +14,8 @@ use Rattle.cube_schema.specs.Files.{input_names, output_names, NamesFiles}
 use Rattle.cube_schema.specs.Meaning.{IsPrintable}
 use Rattle.cube_schema.specs.Ranges.{is_file_name, are_files}
 use Rattle.cube_schema.specs.Repeats.{outputs, file_names}
-use Rattle.cube_schema.proofs.InRange.{are_in_range, at_least, at_most}
+use Rattle.cube_schema.proofs.InRange.{are_in_range}
+use Rattle.cube_view.proofs.SchemaBounds.{between_low, between_high}
 use Rattle.cube_schema.proofs.Distinct.{same_text-sym, files_are_distinct}
 
 -- where no element passes, each fails
@@ -51,7 +52,7 @@ reordered plan =
 some_files : (least : ℕ) (names : List (List ℕ)) → are_files least names ≡ true → (least ≤ length names) × (length names ≤ 8)
 some_files least names e =
     let count = (and_parts (is_between least 8 (length names)) (list_all is_file_name names) e).0 in
-    (at_least least 8 (length names) count, at_most least 8 (length names) count)
+    (between_low least 8 (length names) count, between_high least 8 (length names) count)
 
 pub names_files : (plan : Plan) → IsPrintable plan → NamesFiles plan
 names_files plan is =

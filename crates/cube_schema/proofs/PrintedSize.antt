@@ -17,7 +17,8 @@ use Rattle.cube_schema.specs.Versions.{version_of}
 use Rattle.cube_schema.specs.Printed.{texts_value, category_value, categories_value, weight_member, draft_members, draft_value}
 use Rattle.cube_schema.specs.Ranges.{is_file_name, are_files, first_out_of_range}
 use Rattle.cube_schema.specs.Meaning.{longest_plan}
-use Rattle.cube_schema.proofs.InRange.{are_in_range, at_most}
+use Rattle.cube_schema.proofs.InRange.{are_in_range}
+use Rattle.cube_view.proofs.SchemaBounds.{between_high}
 use Rattle.cube_schema.proofs.Limits.{version-is}
 
 -- ---- how deep it nests
@@ -146,20 +147,20 @@ each_passes p Q then (x ∷ xs) e =
     (then x both.0, each_passes p Q then xs both.1)
 
 value_len : (value : List ℕ) → is_value value ≡ true → length (compact_text (string value)) ≤ 386
-value_len value e = quoted_len 64 value (at_most 1 64 (length value) (and_parts _ _ e).0)
+value_len value e = quoted_len 64 value (between_high 1 64 (length value) (and_parts _ _ e).0)
 
 file_len : (name : List ℕ) → is_file_name name ≡ true → length (compact_text (string name)) ≤ 386
-file_len name e = quoted_len 64 name (at_most 1 64 (length name) (and_parts _ _ (and_parts _ _ e).0).0)
+file_len name e = quoted_len 64 name (between_high 1 64 (length name) (and_parts _ _ (and_parts _ _ e).0).0)
 
 files_len : (least : ℕ) (names : List (List ℕ)) → are_files least names ≡ true → length (compact_text (texts_value names)) ≤ 3098
 files_len least names e =
     let both = and_parts _ _ e in
-    let few : length names ≤ 8 = at_most least 8 (length names) both.0 in
+    let few : length names ≤ 8 = between_high least 8 (length names) both.0 in
     omega (arith, array_len 386 string names (each_passes is_file_name _ file_len names both.1))
 
 -- a category's name, or a weight column's, has at most 32 bytes
 name_few : (name : List ℕ) → is_category_name name ≡ true → length name ≤ 32
-name_few name e = at_most 1 32 (length name) (and_parts (is_between 1 32 (length name)) (list_all is_name_byte name) e).0
+name_few name e = between_high 1 32 (length name) (and_parts (is_between 1 32 (length name)) (list_all is_name_byte name) e).0
 
 version_few : (weight : Option (List ℕ)) → version_of weight ≤ 2
 version_few None = omega arith
@@ -205,7 +206,7 @@ category_len c e =
     let parts = and_parts (is_category_name c.name && is_between 1 256 (length c.values)) (list_all is_value c.values) e in
     let front = and_parts (is_category_name c.name) (is_between 1 256 (length c.values)) parts.0 in
     let name : IsShort 194 (string c.name) = record { bytes = quoted_len 32 c.name (name_few c.name front.0) } in
-    let many : length c.values ≤ 256 = at_most 1 256 (length c.values) front.1 in
+    let many : length c.values ≤ 256 = between_high 1 256 (length c.values) front.1 in
     let values : IsShort 99074 (texts_value c.values) = record { bytes = omega (arith, array_len 386 string c.values (each_passes is_value _ value_len c.values parts.1)) } in
     let inside : AreShort false 99999 (category_members c) = then_short 194 99200 name (then_short 99074 1 values none_short (omega arith) (omega arith)) (omega arith) (omega arith) in
     object_len (category_members c) 99999 inside
@@ -224,8 +225,8 @@ pub draft_short : (draft : Draft) → first_out_of_range draft ≡ None → draf
 unfolding draft_value
 draft_short draft ranges start width =
     let r = are_in_range draft ranges in
-    let depth : draft.depth ≤ 20 = at_most 1 20 draft.depth r.depth in
-    let batch : draft.batch ≤ 65536 = at_most 1 65536 draft.batch r.batch in
+    let depth : draft.depth ≤ 20 = between_high 1 20 draft.depth r.depth in
+    let batch : draft.batch ≤ 65536 = between_high 1 65536 draft.batch r.batch in
     let version = version-is draft ranges in
     let small_version = version_few draft.weight in
     let small : 10 ≤ 10 = omega arith in

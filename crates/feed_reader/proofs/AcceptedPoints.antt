@@ -2,10 +2,11 @@
 use Rattle.std.proofs.Common.{◌≡◌, ◌∙◌, sym, ap, ℕ, ◌^◌, ◌<◌, ◌≤◌, Bool, true, false, ◌&&◌, ◌==◌, eqb-true, ltb-true, nat_le, nat_lt, List, [], ◌∷◌, ◌++◌, All, drop, length, length-append, map, take, Option, Some, None, Result, Ok, Err, arith, refl}
 use Rattle.std.specs.Prelude.{⊤}
 use Rattle.std.specs.List.{list_all, zip}
-use Rattle.std.proofs.lemmas.Bool.{and_parts, leb-false, leb-true}
+use Rattle.std.proofs.lemmas.Bool.{and_parts, leb-false}
 use Rattle.std.proofs.lemmas.List.{length-map, length-take}
 use Rattle.std.proofs.lemmas.List.Elements.{All-cons, All-nil}
-use Rattle.cube_view.specs.Limits.{categories_in_range, category_in_range, is_between, is_category_name, is_value, numbers_in_range, parts_in_range, texts_distinct, weight_in_range}
+use Rattle.cube_view.specs.Limits.{category_in_range, is_between, is_category_name, is_value}
+use Rattle.cube_view.proofs.SchemaBounds.{between_high, each_in_range}
 use Rattle.cube_view.specs.Validity.{fits, is_weight, sound, tile_fits, values_fit, weight_is_told}
 use Rattle.cube_view.specs.declared.category.Category.{Category}
 use Rattle.cube_view.specs.declared.schema.Schema.{Schema}
@@ -88,7 +89,7 @@ most_values : (c : Category) → category_in_range c ≡ true → length c.value
 most_values c h =
     let named = (and_parts (is_category_name c.name && is_between 1 256 (length c.values)) (list_all is_value c.values) h).0 in
     let between = (and_parts (is_category_name c.name) (is_between 1 256 (length c.values)) named).1 in
-    leb-true (length c.values) 256 (and_parts (nat_le 1 (length c.values)) (nat_le (length c.values) 256) between).1
+    between_high 1 256 (length c.values) between
 
 values_small : (categories : List Category) (values : List ℕ) → list_all category_in_range categories ≡ true → values_fit categories values ≡ true → All (λ v. v < 256) values
 values_small categories [] ranges fit = All-nil (λ v. v < 256)
@@ -102,12 +103,6 @@ values_small (c ∷ categories) (v ∷ values) ranges fit =
     let less = ltb-true v (length c.values) parts.0 in
     let most = most_values c each.0 in
     All-cons (λ v. v < 256) v values (omega (arith, less, most)) (values_small categories values each.1 parts.1)
-
-categories_ranged : (z : Schema) → list_all category_in_range z.categories ≡ true
-categories_ranged z =
-    let limits = and_parts (parts_in_range z.depth z.categories z.width z.batch z.weight) (texts_distinct z.categories z.weight) z.limits in
-    let parts = and_parts (numbers_in_range z.depth z.width z.batch && categories_in_range z.categories) (weight_in_range z.weight) limits.0 in
-    (and_parts (nat_le (length z.categories) 4) (list_all category_in_range z.categories) (and_parts (numbers_in_range z.depth z.width z.batch) (categories_in_range z.categories) parts.0).1).1
 
 -- ---- points
 
@@ -128,7 +123,7 @@ row_accepted schema (row.Point p) is ranged =
       of_schema = is;
       bin = ranged.0;
       values = ranged.1;
-      bytes = values_small schema.categories p.spot.values (categories_ranged schema) values;
+      bytes = values_small schema.categories p.spot.values (each_in_range schema) values;
     }
 
 line_accepted : (schema : Schema) (places : List ℕ) (line : Line) → length places ≡ needed_count schema → IsAcceptedRow schema (row_of_line schema places line)

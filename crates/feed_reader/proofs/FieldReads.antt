@@ -50,7 +50,8 @@ comma_ends : (rest : List ℕ) (fields : List (List ℕ)) (field : List ℕ) →
 unfolding next_record
 comma_ends rest fields field = refl
 
-last_ends : (fields : List (List ℕ)) (field : List ℕ) → next_record default_config st.InField fields field [] ≡ Some (fields ++ field ∷ [], st.StartRecord, [])
+-- where the bytes end in a field, the record ends with it
+pub last_ends : (fields : List (List ℕ)) (field : List ℕ) → next_record default_config st.InField fields field [] ≡ Some (fields ++ field ∷ [], st.StartRecord, [])
 unfolding next_record
 last_ends fields field = refl
 

@@ -75,22 +75,29 @@ first_none remaining a b line fields start mark read =
     let reads = rw (start.config, start.state, start.source, strip_bom_is line mark) at read.0 in
     unmarked line mark ∙ none_read line (reads_none _ _ _ _ _ reads)
 
-pub second_none : {R : Type 0} (remaining : R → Option (List ℕ)) (a b d : Reader R) (line : List ℕ) (fields more : List (List ℕ)) → IsReaderOf remaining a line → begins_with_mark line ≡ false
-    → ReadRecord remaining a b true fields → ReadRecord remaining b d false more → record_of line ≡ Some fields
-second_none remaining a b d line fields more start mark read next =
-    let reads = rw (start.config, start.state, start.source, strip_bom_is line mark) at read.0 in
-    let first = reads_found st.StartRecord b.state line (pending_of (remaining b.rdr) b) fields reads in
-    let then = rw (read.2, start.config, source_after remaining b read.1, first.1) at next.0 in
-    unmarked line mark ∙ one_read line (fields, b.state, first.0) first.2 (reads_none _ _ _ _ _ then)
+-- two reads of a reader of one line: the first finds a record, the second another one or none
+pub record ReadsTwice {R : Type 0} (remaining : R → Option (List ℕ)) (a b d : Reader R) (line : List ℕ) (fields more : List (List ℕ)) (found : Bool) : Type 0 where
+  -- the line is all that the reader is over
+  pub start : IsReaderOf remaining a line
+  -- no byte order mark stands in front of it
+  pub mark : begins_with_mark line ≡ false
+  pub read : ReadRecord remaining a b true fields
+  pub next : ReadRecord remaining b d found more
 
-pub second_found : {R : Type 0} (remaining : R → Option (List ℕ)) (a b d : Reader R) (line : List ℕ) (fields more : List (List ℕ)) → IsReaderOf remaining a line → begins_with_mark line ≡ false
-    → ReadRecord remaining a b true fields → ReadRecord remaining b d true more → record_of line ≡ None
-second_found remaining a b d line fields more start mark read next =
-    let reads = rw (start.config, start.state, start.source, strip_bom_is line mark) at read.0 in
+pub second_none : {R : Type 0} (remaining : R → Option (List ℕ)) (a b d : Reader R) (line : List ℕ) (fields more : List (List ℕ)) → ReadsTwice remaining a b d line fields more false → record_of line ≡ Some fields
+second_none remaining a b d line fields more two =
+    let reads = rw (two.start.config, two.start.state, two.start.source, strip_bom_is line two.mark) at two.read.0 in
     let first = reads_found st.StartRecord b.state line (pending_of (remaining b.rdr) b) fields reads in
-    let then = rw (read.2, start.config, source_after remaining b read.1, first.1) at next.0 in
+    let then = rw (two.read.2, two.start.config, source_after remaining b two.read.1, first.1) at two.next.0 in
+    unmarked line two.mark ∙ one_read line (fields, b.state, first.0) first.2 (reads_none _ _ _ _ _ then)
+
+pub second_found : {R : Type 0} (remaining : R → Option (List ℕ)) (a b d : Reader R) (line : List ℕ) (fields more : List (List ℕ)) → ReadsTwice remaining a b d line fields more true → record_of line ≡ None
+second_found remaining a b d line fields more two =
+    let reads = rw (two.start.config, two.start.state, two.start.source, strip_bom_is line two.mark) at two.read.0 in
+    let first = reads_found st.StartRecord b.state line (pending_of (remaining b.rdr) b) fields reads in
+    let then = rw (two.read.2, two.start.config, source_after remaining b two.read.1, first.1) at two.next.0 in
     let second = reads_found b.state d.state first.0 (pending_of (remaining d.rdr) d) more then in
-    unmarked line mark ∙ two_read line (fields, b.state, first.0) (more, d.state, second.0) first.2 second.2
+    unmarked line two.mark ∙ two_read line (fields, b.state, first.0) (more, d.state, second.0) first.2 second.2
 
 -- a line that begins a record is read from the start of a field
 field_begins : (line : List ℕ) → begins_record line ≡ true → next_record default_config st.StartRecord [] [] line ≡ next_record default_config st.StartField [] [] line

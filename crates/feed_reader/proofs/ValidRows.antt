@@ -71,22 +71,18 @@ told : (column : Option (List ℕ)) (fields : List (List ℕ)) → weight_is_tol
 told None fields = refl
 told (Some name) fields = refl
 
-point_of-valid : (schema : Schema) (x y time : List ℕ) (weight : Option (List ℕ)) (fields : List (List ℕ)) → length fields ≡ length schema.categories → weight_is_told schema.weight (weight_in weight) ≡ true
-    → first_fault (faults_of schema x y time weight fields) ≡ None → valid schema (point_of schema x y time weight fields) ≡ true
-point_of-valid schema x y time weight fields same one none =
-    let each = first_fault_none (faults_of schema x y time weight fields) none in
-    let low_x = below (number x) (2 ^ schema.depth) (fault_if_none (nat_le (2 ^ schema.depth) (number x)) (fault.BadTile column.X) (each 4)) in
-    let low_y = below (number y) (2 ^ schema.depth) (fault_if_none (nat_le (2 ^ schema.depth) (number y)) (fault.BadTile column.Y) (each 5)) in
-    let fit = known_fit 4 schema.categories fields same (nowhere is_unknown (zip schema.categories fields) (unmapped (first_unknown schema.categories fields) (each 6))) in
-    let heavy = not-false (is_weight (weight_in weight)) (fault_if_none (not (is_weight (weight_in weight))) fault.BadWeight (each 9)) in
-    rw (low_x, low_y, fit, heavy) one
-
 parts-valid : (schema : Schema) (x y time : List ℕ) (weight : Option (List ℕ)) (fields : List (List ℕ)) → length fields ≡ length schema.categories → weight_is_told schema.weight (weight_in weight) ≡ true
     → IsValidRow schema (row_of_parts schema x y time weight fields)
 parts-valid schema x y time weight fields same one = by (first_fault (faults_of schema x y time weight fields)) refl
   where
     by : (o : Option RowFault) → first_fault (faults_of schema x y time weight fields) ≡ o → IsValidRow schema (row_unless o (point_of schema x y time weight fields))
-    by None e = point_of-valid schema x y time weight fields same one e
+    by None e =
+        let each = first_fault_none (faults_of schema x y time weight fields) e in
+        let low_x = below (number x) (2 ^ schema.depth) (fault_if_none (nat_le (2 ^ schema.depth) (number x)) (fault.BadTile column.X) (each 4)) in
+        let low_y = below (number y) (2 ^ schema.depth) (fault_if_none (nat_le (2 ^ schema.depth) (number y)) (fault.BadTile column.Y) (each 5)) in
+        let fit = known_fit 4 schema.categories fields same (nowhere is_unknown (zip schema.categories fields) (unmapped (first_unknown schema.categories fields) (each 6))) in
+        let heavy = not-false (is_weight (weight_in weight)) (fault_if_none (not (is_weight (weight_in weight))) fault.BadWeight (each 9)) in
+        rw (low_x, low_y, fit, heavy) one
     by (Some f) e = tt
 
 fields-valid : (schema : Schema) (places : List ℕ) (fields : List (List ℕ)) → length places ≡ needed_count schema → IsValidRow schema (row_of_fields schema (texts_at fields places))

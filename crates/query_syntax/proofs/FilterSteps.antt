@@ -35,7 +35,8 @@ count-set sets k choice l fresh =
     let sums : count_by is_some (slice_set sets k (Some choice)) + weight (get_or sets k None) ≡ count_by is_some sets + 1 = sum_by-set weight sets k (Some choice) None l in
     omega arith
 
-one_if-le : (b : Bool) → one_if b ≤ 1
+-- a test counts at most one
+pub one_if-le : (b : Bool) → one_if b ≤ 1
 one_if-le true = omega arith
 one_if-le false = omega arith
 

@@ -12,8 +12,8 @@ use Rattle.cube_view.specs.Limits.{all_distinct, has_text, same_text}
 use Rattle.cube_view.specs.declared.category.Category.{Category}
 use Rattle.query_syntax.specs.Items.{values_at, has_item}
 use Rattle.query_syntax.specs.declared.query.Choice.{Choice}
-use Rattle.query_syntax.proofs.WholeTexts.{not_false, or_false_left, or_false_right}
-use Rattle.std.proofs.lemmas.Bool.{and_parts}
+use Rattle.query_syntax.proofs.WholeTexts.{or_false_left, or_false_right}
+use Rattle.std.proofs.lemmas.Bool.{and_parts, not-true}
 
 abbrev first_place : {X : Type 0} → (X → Bool) → List X → ℕ
 first_place p [] = 0
@@ -41,7 +41,7 @@ none_at same f (y ∷ front) x back h = none_at same f front x back (or_false_ri
 not_before : {X : Type 0} (f : X → List ℕ) (front : List X) (x : X) (back : List X) → all_distinct (map f (front ++ x ∷ back)) ≡ true → list_any (λ y. bytes_eq (f y) (f x)) front ≡ false
 not_before f [] x back h = refl
 not_before f (y ∷ front) x back h =
-    let other : bytes_eq (f y) (f x) ≡ false = texts_ties (f y) (f x) ∙ none_at (same_text (f y)) f front x back (not_false _ ((and_parts (not (has_text (map f (front ++ x ∷ back)) (f y))) _ h).0)) in
+    let other : bytes_eq (f y) (f x) ≡ false = texts_ties (f y) (f x) ∙ none_at (same_text (f y)) f front x back (not-true _ ((and_parts (not (has_text (map f (front ++ x ∷ back)) (f y))) _ h).0)) in
     rw (other) (not_before f front x back ((and_parts (not (has_text (map f (front ++ x ∷ back)) (f y))) _ h).1))
 
 pub same_bytes : (t : List ℕ) → bytes_eq t t ≡ true

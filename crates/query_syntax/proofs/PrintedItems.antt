@@ -3,7 +3,7 @@ use Rattle.std.proofs.Common.{◌≡◌, ℕ, ◌+◌, Bool, true, false, List, 
 use Rattle.std.specs.Prelude.{not, ◌==◌, nat_le, map, replicate, position, slice_set, option_and_then, option_map}
 use Rattle.std.specs.List.{list_all, list_any, join_with_byte}
 use Rattle.std.specs.Str.{bytes_eq}
-use Rattle.std.proofs.lemmas.Bool.{false≢true, and_parts, and_from}
+use Rattle.std.proofs.lemmas.Bool.{false≢true, and_parts, and_from, not-true}
 use Rattle.std.proofs.lemmas.Bool.Decides.{nat_tests}
 use Rattle.std.proofs.lemmas.List.{length-append, map-id}
 use Rattle.std.proofs.Math.Seq.{set-append_seam, take-append_seam, drop-append-add}
@@ -18,7 +18,7 @@ use Rattle.query_syntax.specs.declared.query.Choice.TheVariants.{Only}
 use Rattle.query_syntax.proofs.Places.{position_at, position_of, values_at-seam, has_item-seam}
 use Rattle.query_syntax.proofs.PrintedNumbers.{some_from_length}
 use Rattle.query_syntax.proofs.Quoting.{no_quote, filter_same, bare-in_quotes, well_quoted_plain, well_quoted_between}
-use Rattle.query_syntax.proofs.WholeTexts.{stays_whole, not_false, all_weaker, is_plain, plain_whole, whole-append, pieces_joined, value_whole_in_item, value_whole_in_line, quotes_parity, is_word}
+use Rattle.query_syntax.proofs.WholeTexts.{stays_whole, all_weaker, is_plain, plain_whole, whole-append, pieces_joined, value_whole_in_item, value_whole_in_line, quotes_parity, is_word}
 
 -- no value has a quote
 abbrev pub are_unquoted : List (List ℕ) → Bool
@@ -169,9 +169,9 @@ unfolding item_at has_even_quotes are_well_quoted category_number
 item_reads pre c cs front back n set names distinct range size choice =
     let unquoted = values_unquoted c range in
     let text : List ℕ = join_with_byte bar (value_texts set c.values) in
-    let none : list_any (λ b. b) (drop (length c.values) set) ≡ false = not_false _ ((and_parts _ (not (list_any (λ b. b) (drop (length c.values) set))) choice).1) in
+    let none : list_any (λ b. b) (drop (length c.values) set) ≡ false = not-true _ ((and_parts _ (not (list_any (λ b. b) (drop (length c.values) set))) choice).1) in
     let three = (and_parts _ (not (list_any (λ b. b) (drop (length c.values) set))) choice).0 in
-    let part : is_full (length c.values) set ≡ false = not_false _ ((and_parts _ (not (is_full (length c.values) set)) three).1) in
+    let part : is_full (length c.values) set ≡ false = not-true _ ((and_parts _ (not (is_full (length c.values) set)) three).1) in
     let two = (and_parts _ (not (is_full (length c.values) set)) three).0 in
     let some : list_any (λ b. b) set ≡ true = (and_parts _ (list_any (λ b. b) set) two).1 in
     let wide : (length set == 256) ≡ true = (and_parts (length set == 256) _ two).0 in

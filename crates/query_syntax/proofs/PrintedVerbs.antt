@@ -4,7 +4,7 @@ use Rattle.std.specs.Prelude.{nat_le, nat_lt, map, not, ◌==◌, ◌&&◌}
 use Rattle.std.specs.Fmt.{decimal}
 use Rattle.std.specs.List.{list_all}
 use Rattle.std.proofs.Math.Pow.{pow_mono}
-use Rattle.std.proofs.lemmas.Bool.{leb-true, ltb-true, false≢true, and_parts, and_from}
+use Rattle.std.proofs.lemmas.Bool.{leb-true, ltb-true, false≢true, and_parts, and_from, not-true}
 use Rattle.std.proofs.lemmas.List.{length-append}
 use Rattle.std.proofs.lemmas.Bool.Decides.{nat_tests}
 use Rattle.cube_view.specs.Limits.{all_distinct, category_in_range, is_between}
@@ -23,8 +23,8 @@ use Rattle.query_syntax.specs.declared.query.Verb.TheVariants.{Count, Hist, Map,
 use Rattle.query_syntax.proofs.Places.{position_of}
 use Rattle.query_syntax.proofs.PrintedItems.{name_is_word}
 use Rattle.query_syntax.proofs.PrintedNumbers.{decimal_reads, number_reads, decimal_is_word, decimal_whole_in_line, decimal_whole_in_tile}
-use Rattle.query_syntax.proofs.SchemaLimits.{between_high}
-use Rattle.query_syntax.proofs.WholeTexts.{not_false, stays_whole, whole-append, piece_alone, piece_cut, is_word}
+use Rattle.cube_view.proofs.SchemaBounds.{between_high}
+use Rattle.query_syntax.proofs.WholeTexts.{stays_whole, whole-append, piece_alone, piece_cut, is_word}
 
 -- categories
 
@@ -78,7 +78,7 @@ small_side depth few = pow_mono few
 pub two_known : (count k l : ℕ) → nat_lt k count && nat_lt l count && not (k == l) ≡ true → (k < count) × (l < count) × ((k == l) ≡ false)
 two_known count k l h =
     let two = (and_parts _ (not (k == l)) h).0 in
-    (ltb-true k count ((and_parts _ (nat_lt l count) two).0), ltb-true l count ((and_parts (nat_lt k count) _ two).1), not_false _ ((and_parts (nat_lt k count && nat_lt l count) _ h).1))
+    (ltb-true k count ((and_parts _ (nat_lt l count) two).0), ltb-true l count ((and_parts (nat_lt k count) _ two).1), not-true _ ((and_parts (nat_lt k count && nat_lt l count) _ h).1))
 
 pub verb_reads : (depth : ℕ) (categories : List Category) (verb : Verb) (rest : List (List ℕ)) → depth ≤ 20 → all_distinct (map (λ (c : Category). c.name) categories) ≡ true → verb_in_range depth (length categories) verb ≡ true
     → verb_at depth categories (verb_name verb ∷ (verb_texts categories verb ++ rest)) ≡ Ok (verb, rest)

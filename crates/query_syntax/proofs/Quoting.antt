@@ -8,6 +8,7 @@ use Rattle.std.proofs.lemmas.Bool.{false≢true, and_parts, and_from}
 use Rattle.std.proofs.lemmas.List.{append_cancel_right}
 use Rattle.std.proofs.lemmas.Slice.Eq.{bytes_eq-Decides}
 use Rattle.outer_io.specs.Lines.{onto_first}
+use Rattle.cube_view.proofs.Walking.{iff_same}
 use Rattle.query_syntax.specs.Words.{quote, bar, cut_pieces, pieces_from, cuts, quoted_after}
 use Rattle.query_syntax.specs.Items.{is_quote, bare, in_quotes, is_well_quoted, are_well_quoted}
 
@@ -17,11 +18,6 @@ no_quote b = not (is_quote b)
 -- the text is what a piece is without two quotes around it
 abbrev pub Unquotes : List ℕ → List ℕ → Type 0
 Unquotes piece text = (piece ≡ in_quotes text) ⊎ ((text ≡ piece) × ((t : List ℕ) → piece ≢ in_quotes t))
-
-pub same_bools : (a b : Bool) → (a ≡ true → b ≡ true) → (b ≡ true → a ≡ true) → a ≡ b
-same_bools true b f g = sym (f refl)
-same_bools false true f g = g refl
-same_bools false false f g = refl
 
 pub filter_same : {X : Type 0} (p : X → Bool) (xs : List X) → list_all p xs ≡ true → filter p xs ≡ xs
 filter_same p [] h = refl
@@ -54,7 +50,8 @@ or_cases : (a b : Bool) → a || b ≡ true → (a ≡ true) ⊎ (b ≡ true)
 or_cases true b h = inl refl
 or_cases false b h = inr h
 
-or_left : (a b : Bool) → a ≡ true → a || b ≡ true
+-- where the first of two tests holds, one of both does
+pub or_left : (a b : Bool) → a ≡ true → a || b ≡ true
 or_left a b h = rw h refl
 
 pub well_quoted_cases : (piece : List ℕ) → is_well_quoted piece ≡ true → (piece ≡ bare piece) ⊎ (piece ≡ in_quotes (bare piece))
@@ -94,7 +91,7 @@ text_is_bare piece text u h =
 
 pub quotes_test : (piece text : List ℕ) → Unquotes piece text → list_all no_quote text ≡ is_well_quoted piece
 quotes_test piece text u =
-    same_bools (list_all no_quote text) (is_well_quoted piece)
+    iff_same (list_all no_quote text) (is_well_quoted piece)
     (λ h. elim u [
       | inl q ↦ well_quoted_between piece (q ∙ ap in_quotes (sym (filter_same no_quote text h) ∙ sym (ap bare q ∙ bare-in_quotes text)))
       | inr n ↦ well_quoted_plain piece (let same : bare piece ≡ piece = filter_same no_quote piece (ap (list_all no_quote) (sym n.0) ∙ h) in sym same)

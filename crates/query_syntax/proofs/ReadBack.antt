@@ -3,7 +3,7 @@ use Rattle.std.proofs.Common.{◌≡◌, ℕ, ◌+◌, ◌≤◌, Bool, true, fa
 use Rattle.std.specs.Prelude.{not, ◌&&◌, ◌||◌, ◌==◌, map, replicate}
 use Rattle.std.specs.List.{list_all}
 use Rattle.std.specs.Str.{is_utf8}
-use Rattle.std.proofs.lemmas.Bool.{eqb-true, false≢true, and_parts, and_from}
+use Rattle.std.proofs.lemmas.Bool.{eqb-true, false≢true, and_parts, and_from, not-true}
 use Rattle.std.proofs.lemmas.List.Folds.{list_all-append}
 use Rattle.cube_view.specs.Limits.{all_distinct, category_in_range, column_names, parts_in_range, texts_distinct, values_distinct, with_weight}
 use Rattle.cube_view.proofs.SchemaBounds.{depth_bounds}
@@ -27,19 +27,16 @@ use Rattle.query_syntax.specs.declared.query.Verb.{Verb}
 use Rattle.query_syntax.specs.declared.query.Verb.TheVariants.{Count, Hist, Map, Series, Window, Cross, Best, Stat, Told, Quit}
 use Rattle.query_syntax.proofs.PrintedFilters.{Says, filters_with, region_said, said, span_said, nones, region_reads, span_reads, items_read, region_texts_are_words, span_texts_are_words, choices_texts_are_words, region_back, span_back, choices_back, no_items, none_said}
 use Rattle.query_syntax.proofs.PrintedVerbs.{verb_reads, verb_name_is_word, verb_texts_are_words, small_tile}
-use Rattle.query_syntax.proofs.SchemaLimits.{categories-limits}
+use Rattle.cube_view.proofs.SchemaBounds.{each_in_range}
 use Rattle.query_syntax.proofs.Sets.{or_all}
 use Rattle.query_syntax.proofs.ValidParts.{valid_parts}
 use Rattle.query_syntax.specs.Queries.{ValidParts}
-use Rattle.query_syntax.proofs.WholeTexts.{is_word, not_false, words_listed}
+use Rattle.query_syntax.proofs.WholeTexts.{is_word, words_listed}
 
 -- what the limits of a schema give
 
 shallow : (schema : Schema) → schema.depth ≤ 20
 shallow schema = (depth_bounds schema).1
-
-each_in_range : (schema : Schema) → list_all category_in_range schema.categories ≡ true
-each_in_range schema = (and_parts _ (list_all category_in_range schema.categories) (categories-limits schema)).1
 
 all_texts_distinct : (schema : Schema) → texts_distinct schema.categories schema.weight ≡ true
 all_texts_distinct schema =
@@ -93,7 +90,8 @@ filters_say schema q v takes =
     region_reads schema q.verb q.region (nones q.sets) (choices_texts schema.categories q.sets ++ span_texts q.time) (filters_of q) (shallow schema) v.region takes (λ e. own_bins (is_window q.verb) (is_whole_space q.region) v.window (not_whole q.region e)) items in
     λ n. ap (λ (k : ℕ). words_read schema q.verb Name (filters_with None (replicate k None) None) n (filter_texts schema q)) (sym places) ∙ whole n
 
-or_rest : (a b : Bool) → a || b ≡ true → a ≡ false → b ≡ true
+-- where one of two tests holds and the first does not, the second does
+pub or_rest : (a b : Bool) → a || b ≡ true → a ≡ false → b ≡ true
 or_rest true b h e = absurd (false≢true (sym e))
 or_rest false b h e = h
 
@@ -126,7 +124,7 @@ query_back schema q v =
 query_reads : (schema : Schema) (q : Query) → ValidParts schema q → query_of schema (verb_name q.verb ∷ further_texts schema q) ≡ Ok q
 unfolding query_of query_after_verb filters_at
 query_reads schema q v =
-    let deep : is_too_deep schema.depth q.region.z q.verb ≡ false = not_false _ v.deep in
+    let deep : is_too_deep schema.depth q.region.z q.verb ≡ false = not-true _ v.deep in
     ap (λ (ws : List (List ℕ)). query_of schema (verb_name q.verb ∷ ws)) (further_are schema q)
     ∙ ap (λ (r : Result (Verb × List (List ℕ)) WordFault). r >>= λ verb. query_after_verb schema verb.0 verb.1) (verb_reads schema.depth schema.categories q.verb (filter_texts schema q) (shallow schema) (names_distinct schema) v.verb)
     ∙ ap (λ (r : Result Filters WordFault). r >>= λ filters. query_if_fits schema (query_with q.verb filters)) (says_by (takes_filters q.verb) schema q refl v (verb_words q.verb + 1))

@@ -1,26 +1,15 @@
 -- What the limits of a schema give.
 use Rattle.std.proofs.Common.{◌≡◌, ℕ, zero, suc, ◌<◌, ◌≤◌, true, List, [], ◌∷◌, length, get_or, refl, arith}
-use Rattle.std.specs.Prelude.{nat_le, ◌&&◌, is_some, Option}
+use Rattle.std.specs.Prelude.{is_some, Option}
 use Rattle.std.specs.List.{list_all}
 use Rattle.std.proofs.lemmas.Bool.{and_parts}
-use Rattle.std.proofs.lemmas.Bool.Decides.{nat_tests}
-use Rattle.cube_view.specs.Limits.{category_in_range, categories_in_range, is_between, numbers_in_range, parts_in_range, texts_distinct, weight_in_range}
+use Rattle.cube_view.specs.Limits.{category_in_range}
+use Rattle.cube_view.proofs.SchemaBounds.{between_high, each_in_range}
 use Rattle.cube_view.specs.declared.category.Category.{Category}
 use Rattle.cube_view.specs.declared.schema.Schema.{Schema}
 use Rattle.query_syntax.specs.Items.{values_at, has_item}
 use Rattle.query_syntax.specs.Spelling.{name_at}
 use Rattle.query_syntax.specs.declared.query.Choice.{Choice}
-
--- a number between two bounds is at most the second
-pub between_high : (low high n : ℕ) → is_between low high n ≡ true → n ≤ high
-between_high low high n h = grind (arith, nat_tests, (and_parts (nat_le low n) (nat_le n high) h).1)
-
--- the categories of a schema are within their limits
-pub categories-limits : (z : Schema) → categories_in_range z.categories ≡ true
-categories-limits z =
-    let limits = and_parts (parts_in_range z.depth z.categories z.width z.batch z.weight) (texts_distinct z.categories z.weight) z.limits in
-    let parts = and_parts (numbers_in_range z.depth z.width z.batch && categories_in_range z.categories) (weight_in_range z.weight) limits.0 in
-    (and_parts _ _ parts.0).1
 
 few_of_each : (categories : List Category) (k : ℕ) → list_all category_in_range categories ≡ true → k < length categories → length (values_at categories k) ≤ 256
 few_of_each [] k h l = absurd (omega arith)
@@ -29,7 +18,7 @@ few_of_each (c ∷ categories) (suc k) h l = few_of_each categories k ((and_part
 
 -- a category has at most 256 values
 pub few_values : (z : Schema) (k : ℕ) → k < length z.categories → length (values_at z.categories k) ≤ 256
-few_values z k l = few_of_each z.categories k ((and_parts _ _ (categories-limits z)).1) l
+few_values z k l = few_of_each z.categories k (each_in_range z) l
 
 -- the values of a category by its place
 pub values_at-get : (categories : List Category) (k : ℕ) (d : Category) → k < length categories → values_at categories k ≡ (get_or categories k d).values

@@ -9,6 +9,7 @@ use Rattle.std.proofs.lemmas.List.Elements.{filter-append}
 use Rattle.std.proofs.lemmas.Grind.{flat_map-append}
 use Rattle.cube_view.specs.Places.{shifted, longer_tile, tile_within}
 use Rattle.cube_view.specs.declared.address.Tile.{Tile}
+use Rattle.cube_view.proofs.Shifting.{by_one}
 use Rattle.query_syntax.specs.Queries.{whole_space}
 use Rattle.query_syntax.specs.TileOrder.{quadrants, tiles_of_level, tiles_inside}
 
@@ -51,9 +52,6 @@ within_quadrant r t l le lt =
     let y = shifted_half r.z t.z t.y (l / 2) le (omega (arith, lt)) in
     let deep : leb r.z (t.z + 1) ≡ leb r.z t.z = le-leb r.z (t.z + 1) (omega (arith, le)) ∙ sym (le-leb r.z t.z le) in
     λ i. (deep i && eqb (x i) r.x) && eqb (y i) r.y
-
-by_one : (n : ℕ) → n / 2 ^ 0 ≡ n
-by_one n = omega arith
 
 -- Filters
 

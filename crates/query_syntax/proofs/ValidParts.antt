@@ -10,7 +10,7 @@ use Rattle.query_syntax.specs.Verbs.{bins, most_rows, takes_filters, is_series, 
 use Rattle.query_syntax.specs.declared.query.Query.{Query}
 use Rattle.query_syntax.specs.declared.query.Verb.{Verb}
 use Rattle.query_syntax.specs.declared.query.Verb.TheVariants.{Hist, Map, Series}
-use Rattle.query_syntax.proofs.SchemaLimits.{between_high}
+use Rattle.cube_view.proofs.SchemaBounds.{between_high}
 use Rattle.std.proofs.lemmas.Bool.{and_parts}
 
 -- a valid query has each part

@@ -3,7 +3,7 @@ use Rattle.std.proofs.Common.{◌≡◌, ℕ, ◌+◌, ◌%◌, Bool, true, fals
 use Rattle.std.specs.Prelude.{not, ◌&&◌, ◌||◌, ◌==◌, filter, count_by}
 use Rattle.std.specs.List.{list_all, list_any, flat_map, join_with_byte}
 use Rattle.std.proofs.Math.Bool.{and-false}
-use Rattle.std.proofs.lemmas.Bool.{false≢true, and_parts, and_from}
+use Rattle.std.proofs.lemmas.Bool.{false≢true, and_parts, and_from, not-true}
 use Rattle.std.proofs.lemmas.List.Sums.{sum_by-cons}
 use Rattle.outer_io.specs.Lines.{onto_first}
 use Rattle.query_syntax.specs.Items.{is_quote, in_quotes}
@@ -16,10 +16,6 @@ use Rattle.query_syntax.proofs.Quoting.{no_quote, filter_same}
 abbrev pub stays_whole : ℕ → Bool → List ℕ → Bool
 stays_whole mark quoted [] = not quoted
 stays_whole mark quoted (b ∷ bytes) = not (cuts mark quoted b) && stays_whole mark (quoted_after quoted b) bytes
-
-pub not_false : (b : Bool) → not b ≡ true → b ≡ false
-not_false true h = sym h
-not_false false h = refl
 
 pub or_false_left : (a b : Bool) → a || b ≡ false → a ≡ false
 or_false_left true b h = h
@@ -38,13 +34,13 @@ all_weaker p q f (x ∷ xs) h = and_from (q x) _ (f x ((and_parts (p x) _ h).0))
 pub piece_alone : (mark : ℕ) (quoted : Bool) (w : List ℕ) → stays_whole mark quoted w ≡ true → pieces_from mark quoted w ≡ w ∷ []
 piece_alone mark quoted [] h = refl
 piece_alone mark quoted (b ∷ w) h =
-    pieces_from-uncut mark quoted b w (not_false _ ((and_parts (not (cuts mark quoted b)) _ h).0))
+    pieces_from-uncut mark quoted b w (not-true _ ((and_parts (not (cuts mark quoted b)) _ h).0))
     ∙ ap (onto_first b) (piece_alone mark (quoted_after quoted b) w ((and_parts (not (cuts mark quoted b)) _ h).1))
 
 pub piece_cut : (mark : ℕ) (quoted : Bool) (w rest : List ℕ) → stays_whole mark quoted w ≡ true → pieces_from mark quoted (w ++ mark ∷ rest) ≡ w ∷ pieces_from mark false rest
-piece_cut mark quoted [] rest h = pieces_from-cut mark quoted mark rest (is_cut mark mark quoted refl (not_false quoted h))
+piece_cut mark quoted [] rest h = pieces_from-cut mark quoted mark rest (is_cut mark mark quoted refl (not-true quoted h))
 piece_cut mark quoted (b ∷ w) rest h =
-    pieces_from-uncut mark quoted b (w ++ mark ∷ rest) (not_false _ ((and_parts (not (cuts mark quoted b)) _ h).0))
+    pieces_from-uncut mark quoted b (w ++ mark ∷ rest) (not-true _ ((and_parts (not (cuts mark quoted b)) _ h).0))
     ∙ ap (onto_first b) (piece_cut mark (quoted_after quoted b) w rest ((and_parts (not (cuts mark quoted b)) _ h).1))
 
 abbrev pub after_mark : ℕ → List ℕ → List ℕ
@@ -68,7 +64,7 @@ pieces_joined mark w ws h = ap (pieces_from mark false) (join_is mark w ws) ∙ 
 -- what stays whole
 
 pub whole-append : (mark : ℕ) (quoted : Bool) (u v : List ℕ) → stays_whole mark quoted u ≡ true → stays_whole mark quoted (u ++ v) ≡ stays_whole mark false v
-whole-append mark quoted [] v h = ap (λ (q : Bool). stays_whole mark q v) (not_false quoted h)
+whole-append mark quoted [] v h = ap (λ (q : Bool). stays_whole mark q v) (not-true quoted h)
 whole-append mark quoted (b ∷ u) v h =
     ap (λ (t : Bool). t && stays_whole mark (quoted_after quoted b) (u ++ v)) ((and_parts (not (cuts mark quoted b)) _ h).0)
     ∙ whole-append mark (quoted_after quoted b) u v ((and_parts (not (cuts mark quoted b)) _ h).1)
@@ -81,21 +77,21 @@ pub plain_whole : (mark : ℕ) (w : List ℕ) → list_all (is_plain mark) w ≡
 plain_whole mark [] h = refl
 plain_whole mark (b ∷ w) h =
     let plain : is_plain mark b ≡ true = (and_parts (is_plain mark b) _ h).0 in
-    let other : (b == mark) ≡ false = not_false _ ((and_parts _ (not (b == quote)) plain).0) in
-    let unquoted : (b == quote) ≡ false = not_false _ ((and_parts (not (b == mark)) _ plain).1) in
+    let other : (b == mark) ≡ false = not-true _ ((and_parts _ (not (b == quote)) plain).0) in
+    let unquoted : (b == quote) ≡ false = not-true _ ((and_parts (not (b == mark)) _ plain).1) in
     rw (other, unquoted) (plain_whole mark w ((and_parts (is_plain mark b) _ h).1))
 
 quoted_whole : (mark : ℕ) (w : List ℕ) → (quote == mark) ≡ false → list_all no_quote w ≡ true → stays_whole mark true (w ++ quote ∷ []) ≡ true
 quoted_whole mark [] e h = rw e refl
 quoted_whole mark (b ∷ w) e h =
-    let unquoted : (b == quote) ≡ false = not_false _ ((and_parts (no_quote b) _ h).0) in
+    let unquoted : (b == quote) ≡ false = not-true _ ((and_parts (no_quote b) _ h).0) in
     rw (and-false (b == mark), unquoted) (quoted_whole mark w e ((and_parts (no_quote b) _ h).1))
 
 bare_plain : (mark : ℕ) → ((b : ℕ) → needs_quotes b ≡ false → (b == mark) ≡ false) → (v : List ℕ) → list_any needs_quotes v ≡ false → list_all no_quote v ≡ true → list_all (is_plain mark) v ≡ true
 bare_plain mark f [] h k = refl
 bare_plain mark f (b ∷ v) h k =
     let other : (b == mark) ≡ false = f b (or_false_left (needs_quotes b) _ h) in
-    let unquoted : (b == quote) ≡ false = not_false _ ((and_parts (no_quote b) _ k).0) in
+    let unquoted : (b == quote) ≡ false = not-true _ ((and_parts (no_quote b) _ k).0) in
     rw (other, unquoted) (bare_plain mark f v (or_false_right (needs_quotes b) _ h) ((and_parts (no_quote b) _ k).1))
 
 value_by : (mark : ℕ) (quotes : Bool) (v : List ℕ) → (quote == mark) ≡ false → ((b : ℕ) → needs_quotes b ≡ false → (b == mark) ≡ false) → list_all no_quote v ≡ true → quotes ≡ list_any needs_quotes v → stays_whole mark false (cond quotes (in_quotes v) v) ≡ true
@@ -120,7 +116,7 @@ parity_step false true n h = omega arith
 parity_step false false n h = omega arith
 
 pub quotes_parity : (mark : ℕ) (quoted : Bool) (w : List ℕ) → stays_whole mark quoted w ≡ true → count_by is_quote w % 2 ≡ one_open quoted
-quotes_parity mark quoted [] h = rw (not_false quoted h) refl
+quotes_parity mark quoted [] h = rw (not-true quoted h) refl
 quotes_parity mark quoted (b ∷ w) h =
     ap (λ (n : ℕ). n % 2) (sum_by-cons (λ x. cond (is_quote x) 1 0) b w)
     ∙ parity_step (is_quote b) quoted (count_by is_quote w) (quotes_parity mark (quoted_after quoted b) w ((and_parts (not (cuts mark quoted b)) _ h).1))

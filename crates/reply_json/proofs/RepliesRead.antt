@@ -184,10 +184,12 @@ none_taken bytes refused = here (is_utf8 bytes) refl
     here true is = ap (option_and_then reply_of) (refused (IsUtf8-from_is_utf8 bytes is))
     here false is = refl
 
-abbrev some_reply : Reply → Option Reply
+-- an answer that is a reply
+abbrev pub some_reply : Reply → Option Reply
 some_reply reply = Some reply
 
-one_reply : (a b : Reply) → some_reply a ≡ some_reply b → a ≡ b
+-- a reply is told by the option that has it
+pub one_reply : (a b : Reply) → some_reply a ≡ some_reply b → a ≡ b
 one_reply a b e = cc
 
 -- bytes are the text of no other reply than the one taken out of them

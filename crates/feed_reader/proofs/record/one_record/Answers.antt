@@ -17,7 +17,7 @@ returns-then-more c =
     let ready : Ready c.read_byte_record.new.self = inl (c.in-Ok.ensures.ready start.untrimmed) in
     let next = rw c.if-more.true at c.in-Ok-read_byte_record.ensures.reads (read.3 ∙ start.untrimmed) ready in
     sym (second_found (λ (s : Bor (List ℕ)). Some s.now) c.reader-reader.result c.read_byte_record.new.self c.read_byte_record-2.new.self c.args.line.now
-    (fields_of c.read_byte_record.new.row) (fields_of c.read_byte_record-2.new.row) start c.requires read next)
+    (fields_of c.read_byte_record.new.row) (fields_of c.read_byte_record-2.new.row) (record { start = start; mark = c.requires; read = read; next = next }))
 
 pub returns : goal.returns
 returns c =
@@ -26,4 +26,4 @@ returns c =
     let ready : Ready c.read_byte_record.new.self = inl (c.in-Ok.ensures.ready start.untrimmed) in
     let next = rw c.if-more.false at c.in-Ok-read_byte_record.ensures.reads (read.3 ∙ start.untrimmed) ready in
     sym (second_none (λ (s : Bor (List ℕ)). Some s.now) c.reader-reader.result c.read_byte_record.new.self c.read_byte_record-2.new.self c.args.line.now
-    (fields_of c.read_byte_record.new.row) (fields_of c.read_byte_record-2.new.row) start c.requires read next)
+    (fields_of c.read_byte_record.new.row) (fields_of c.read_byte_record-2.new.row) (record { start = start; mark = c.requires; read = read; next = next }))
