@@ -50,10 +50,11 @@ fn text_of(alloc: Global, schema: &Schema, of: CategoryValue) -> Result<Text, No
 }
 
 /// How much the bag has in the query's box that has both values, where the walk to the region has ended with that cursor,
-/// or with none.
+/// or with none. `alone` is the query with the first value alone in its set, which all rows within that value share.
 fn total_of_pair<V: CubeView, L: Ledger>(
     view: &V,
     query: &Query,
+    alone: &Query,
     first: CategoryValue,
     second: CategoryValue,
     region: Option<V::Cursor>,
@@ -62,22 +63,22 @@ fn total_of_pair<V: CubeView, L: Ledger>(
     requires walk { HasWalked (V.weight_at view.now) (V.seen view.now) (V.schema view.now) query.now (V.stands view.now) (V.address view.now) region }
     requires first { IsValue (V.schema view.now) first.category first.value }
     requires second { IsValue (V.schema view.now) second.category second.value }
+    requires alone { alone.now ≡ with_one_value query.now first.category first.value }
     ensures total { EachListOf V.CubeView view.now (λ h. result ≡ total_of_both (V.schema view.now) query.now h first second) }
     ensures cost { TakesUpTo V.CubeView view.now steps.old steps.new (λ costs schema h. cost_of_both costs schema h query.now first second) }
 {
     if !query.sets[first.category].has(first.value) {
         return 0;
     }
-    let mut alone = *query;
-    alone.set_one_value(first.category, first.value);
-    value_total(view, &alone, second.category, second.value, region, steps)
+    value_total(view, alone, second.category, second.value, region, steps)
 }
 
-/// The row of both values.
+/// The row of both values, with `alone` as there.
 fn row_of_pair<V: CubeView, L: Ledger>(
     alloc: Global,
     view: &V,
     query: &Query,
+    alone: &Query,
     first: CategoryValue,
     second: CategoryValue,
     region: Option<V::Cursor>,
@@ -86,10 +87,11 @@ fn row_of_pair<V: CubeView, L: Ledger>(
     requires walk { HasWalked (V.weight_at view.now) (V.seen view.now) (V.schema view.now) query.now (V.stands view.now) (V.address view.now) region }
     requires first { IsValue (V.schema view.now) first.category first.value }
     requires second { IsValue (V.schema view.now) second.category second.value }
+    requires alone { alone.now ≡ with_one_value query.now first.category first.value }
     ensures row { IfOk result (λ row. EachListOf V.CubeView view.now (λ h. row ≡ row_of_both (V.schema view.now) query.now h first second)) }
     ensures cost { TakesUpTo V.CubeView view.now steps.old steps.new (λ costs schema h. cost_of_both costs schema h query.now first second) }
 {
-    let total = total_of_pair(view, query, first, second, region, steps);
+    let total = total_of_pair(view, query, alone, first, second, region, steps);
     let first = text_of(alloc, view.schema(), first)?;
     let second = text_of(alloc, view.schema(), second)?;
     Ok(RowOut::Pair(first, second, total))
@@ -112,12 +114,14 @@ fn push_rows_within<V: CubeView, L: Ledger>(
     ensures rows { OnOk result (EachListOf V.CubeView view.now (λ h. rows.new ≡ rows.old ++ rows_within_value (V.schema view.now) query.now h first second)) }
     ensures cost { TakesUpTo V.CubeView view.now steps.old steps.new (λ costs schema h. within_cost costs schema h query.now first.category second first.value) }
 {
+    let mut alone = *query;
+    alone.set_one_value(first.category, first.value);
     for value in 0..value_texts(view.schema(), second).len() {
         let other = CategoryValue {
             category: second,
             value: value as u8,
         };
-        let row = row_of_pair(alloc, view, query, first, other, region, steps)?;
+        let row = row_of_pair(alloc, view, query, &alone, first, other, region, steps)?;
         rows.add(row)?;
     }
     Ok(())

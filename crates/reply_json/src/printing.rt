@@ -1,6 +1,7 @@
 //! A reply as text, put piece by piece at the end of one buffer.
-ghost use Rattle.std.specs.Prelude.{◌≡◌, ◌∷◌, [], ◌++◌, decimal, false, map, IfOk, OnOk, IsTrue};
+ghost use Rattle.std.specs.Prelude.{◌≡◌, ◌+◌, ◌≤◌, ◌∷◌, [], ◌++◌, decimal, false, length, map, IfOk, OnOk, IsTrue};
 ghost use Rattle.std.specs.List.{All};
+ghost use Rattle.json.specs.Print.{escape};
 ghost use Rattle.serde_json.specs.View.{items_of};
 ghost use Rattle.serde_json.specs.Written.{comma_if, compact_text, items_text};
 ghost use Rattle.query_syntax.specs.declared.table.RowOut.{RowOut};
@@ -10,9 +11,10 @@ ghost use Rattle.reply_json.specs.Validity.{is_valid_reply};
 ghost use Rattle.reply_json.specs.Types.{IsCount, RowFits, ReplyFits};
 
 use crate::Reply;
-use crate::put::{digits_before, item_before, put_number, put_text, put_two_texts};
+use crate::plain::are_plain;
+use crate::put::{bytes_before, digits_before, item_before, put_number, put_text};
 use cube_view::{Stat, Tile};
-use outer_io::{List, NoMemory, put, put_byte};
+use outer_io::{List, NoMemory, Text, put, put_byte};
 use query_syntax::{QueryFault, RowOut, Table};
 use std::alloc::Global;
 
@@ -85,6 +87,38 @@ fn put_area(out: &mut Vec<u8>, tile: Tile, total: u64) -> Result<(), NoMemory>
     put(out, &end[at..])
 }
 
+// Puts two texts without escapes, a total and the closing bracket of their row, from the last byte to the first.
+fn put_short_pair(out: &mut Vec<u8>, first: &str, second: &str, total: u64) -> Result<(), NoMemory>
+    requires short { length first.now + length second.now ≤ 64 }
+    requires first { escape first.now ≡ first.now }
+    requires second { escape second.now ≡ second.now }
+    ensures text { OnOk result (out.new.items ≡ out.old.items ++ items_text false (items_of (row_items (RowOut.Pair first.now second.now total)))) }
+    ensures fits { RowFits (RowOut.Pair first.now second.now total) }
+{
+    let mut end = [b']'; 96];
+    let at = digits_before(&mut end, 95, total);
+    let at = bytes_before(&mut end, at, second.as_bytes());
+    let at = bytes_before(&mut end, at, first.as_bytes());
+    put(out, &end[at..])
+}
+
+// Puts two texts, a total and the closing bracket of their row. Most names of values are so short that it is one put.
+fn put_pair(out: &mut Vec<u8>, first: &Text, second: &Text, total: u64) -> Result<(), NoMemory>
+    ensures text { OnOk result (out.new.items ≡ out.old.items ++ items_text false (items_of (row_items (RowOut.Pair first.now second.now total)))) }
+    ensures fits { OnOk result (RowFits (RowOut.Pair first.now second.now total)) }
+{
+    let (first, second) = (first.as_str(), second.as_str());
+    let is_short = first.len() <= 32 && second.len() <= 32;
+    if is_short && are_plain(first.as_bytes()) && are_plain(second.as_bytes()) {
+        return put_short_pair(out, first, second, total);
+    }
+    put_text(out, first)?;
+    put_byte(out, b',')?;
+    put_text(out, second)?;
+    put_byte(out, b',')?;
+    put_total(out, total)
+}
+
 // Puts what stands in a row, and its closing bracket.
 fn put_items(out: &mut Vec<u8>, row: &RowOut) -> Result<(), NoMemory>
     ensures text { OnOk result (out.new.items ≡ out.old.items ++ items_text false (items_of (row_items row.now))) }
@@ -99,10 +133,7 @@ fn put_items(out: &mut Vec<u8>, row: &RowOut) -> Result<(), NoMemory>
         }
         RowOut::Area(tile, total) => put_area(out, *tile, *total),
         RowOut::Bin(start, total) => put_bin(out, *start, *total),
-        RowOut::Pair(first, second, total) => {
-            put_two_texts(out, first.as_str(), second.as_str())?;
-            put_total(out, *total)
-        }
+        RowOut::Pair(first, second, total) => put_pair(out, first, second, *total),
     }
 }
 
@@ -112,10 +143,9 @@ fn put_row(out: &mut Vec<u8>, later: bool, row: &RowOut) -> Result<(), NoMemory>
     ensures fits { OnOk result (RowFits row.now) }
 {
     if later {
-        put(out, b",[")?;
-    } else {
-        put_byte(out, b'[')?;
+        put_byte(out, b',')?;
     }
+    put_byte(out, b'[')?;
     put_items(out, row)
 }
 

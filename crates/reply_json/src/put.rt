@@ -1,6 +1,6 @@
 //! Numbers and texts that are put at the end of bytes.
-ghost use Rattle.std.specs.Prelude.{◌≡◌, ◌+◌, ◌≤◌, [], ◌∷◌, ◌++◌, decimal, drop, OnOk, IsTrue};
-ghost use Rattle.json.specs.Print.{escape, quoted};
+ghost use Rattle.std.specs.Prelude.{◌≡◌, ◌+◌, ◌≤◌, [], ◌∷◌, ◌++◌, decimal, drop, length, OnOk, IsTrue};
+ghost use Rattle.json.specs.Print.{quoted};
 ghost use Rattle.reply_json.specs.Types.{IsCount};
 
 use crate::plain::are_plain;
@@ -29,32 +29,6 @@ pub fn put_text(out: &mut Vec<u8>, text: &str) -> Result<(), NoMemory>
     put(out, text.as_bytes())?;
     put_byte(out, b'"')?;
     Ok(())
-}
-
-/// Puts two texts in quotes, each with a comma behind it.
-pub fn put_two_texts(out: &mut Vec<u8>, first: &str, second: &str) -> Result<(), NoMemory>
-    ensures { OnOk result (out.new.items ≡ out.old.items ++ (quoted first.now ++ 44 ∷ quoted second.now ++ 44 ∷ [])) }
-{
-    if are_plain(first.as_bytes()) && are_plain(second.as_bytes()) {
-        return put_two_plain(out, first, second);
-    }
-    put_text(out, first)?;
-    put_byte(out, b',')?;
-    put_text(out, second)?;
-    put_byte(out, b',')
-}
-
-/// The same of texts that have no escape: what stands between them is one put.
-fn put_two_plain(out: &mut Vec<u8>, first: &str, second: &str) -> Result<(), NoMemory>
-    requires first { escape first.now ≡ first.now }
-    requires second { escape second.now ≡ second.now }
-    ensures { OnOk result (out.new.items ≡ out.old.items ++ (quoted first.now ++ 44 ∷ quoted second.now ++ 44 ∷ [])) }
-{
-    put_byte(out, b'"')?;
-    put(out, first.as_bytes())?;
-    put(out, b"\",\"")?;
-    put(out, second.as_bytes())?;
-    put(out, b"\",")
 }
 
 /// Puts a text in quotes, with an escape for each byte that has one.
@@ -94,4 +68,20 @@ pub fn item_before(buffer: &mut [u8; 96], place: usize, number: u64) -> usize
 {
     buffer[place - 1] = b',';
     digits_before(buffer, place - 1, number)
+}
+
+/// The same of bytes in quotes with a comma after them.
+pub fn bytes_before(buffer: &mut [u8; 96], place: usize, bytes: &[u8]) -> usize
+    requires within { place ≤ 96 }
+    requires room { length bytes.now + 3 ≤ place }
+    ensures near { place ≡ result + (length bytes.now + 3) }
+    ensures written { drop result buffer.new ≡ 34 ∷ bytes.now ++ 34 ∷ 44 ∷ drop place buffer.old }
+{
+    let end = place - 2;
+    let start = end - bytes.len();
+    buffer[place - 1] = b',';
+    buffer[end] = b'"';
+    buffer[start..end].copy_from_slice(bytes);
+    buffer[start - 1] = b'"';
+    start - 1
 }

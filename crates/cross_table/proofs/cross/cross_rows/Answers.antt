@@ -26,7 +26,7 @@ push_rows_within-requires-clause-walk g c κs within = record {
 pub push_rows_within-requires-clause-first : goal.push_rows_within-requires-clause-first
 push_rows_within-requires-clause-first g c κs within =
     let z = g.V.CubeView.schema c.args.view.now in
-    let count = texts_counted c.schema.result.now z c.args.first c.value_texts-value-end.result.now c.schema.ensures c.value_texts-value-end.ensures.texts in
+    let count = texts_counted c.schema-2.result.now z c.args.first c.value_texts-value-end.result.now c.schema-2.ensures c.value_texts-value-end.ensures.texts in
     (c.requires.first, omega (arith, count, c.loop-value-test.true))
 
 pub loop-value-preserved : goal.loop-value-preserved
@@ -45,7 +45,7 @@ returns g c =
     let z = g.V.CubeView.schema c.args.view.now in
     let costs = g.V.CubeView.costs c.args.view.now in
     let q = c.args.query.now in
-    let count = texts_counted c.schema.result.now z c.args.first c.value_texts-value-end.result.now c.schema.ensures c.value_texts-value-end.ensures.texts in
+    let count = texts_counted c.schema-2.result.now z c.args.first c.value_texts-value-end.result.now c.schema-2.ensures c.value_texts-value-end.ensures.texts in
     let all : c.loop-value.value ≡ number_of_values z c.args.first = omega (arith, count, c.loop-value-test.false, c.loop-value.auto.value-end) in
     record {
       rows = λ h counts. c.loop-value.invariant.rows h counts ∙ ap (λ (n : ℕ). flat_map (rows_within z q h c.args.first c.args.second) (values_under n)) all;
@@ -62,5 +62,5 @@ returns-in_err-push_rows_within-clause-cost g c h counts =
     let q = c.args.query.now in
     let space = c.region_cursor-region.ensures.cost h counts in
     let cost = within_cost costs z h q c.args.first c.args.second in
-    let paid = paid_to_value c.schema.result.now z c.args.first c.value_texts-value-end.result.now cost c.loop-value.value c.region_cursor-region.new.steps c.loop-value.steps _ c.schema.ensures c.value_texts-value-end.ensures.texts (omega (arith, c.loop-value-test.true)) (c.loop-value.invariant.cost h counts) (c.push_rows_within.ensures.cost h counts) in
+    let paid = paid_to_value c.schema-2.result.now z c.args.first c.value_texts-value-end.result.now cost c.loop-value.value c.region_cursor-region.new.steps c.loop-value.steps _ c.schema-2.ensures c.value_texts-value-end.ensures.texts (omega (arith, c.loop-value-test.true)) (c.loop-value.invariant.cost h counts) (c.push_rows_within.ensures.cost h counts) in
     omega (arith, space, paid)

@@ -20,18 +20,18 @@ value_total-requires-clause-walk g c κs within =
     let z = V.schema view in
     let first = c.requires.first in
     let walked = walked_value _ _ z c.args.query.now (V.stands view) (V.address view) c.args.region c.requires.walk c.args.first.category c.args.first.value first.0 (value_small z c.args.first.category c.args.first.value first) in
-    subst (λ (q : Query). HasWalked (V.weight_at view) (V.seen view) z q (V.stands view) (V.address view) c.args.region) (sym c.set_one_value.ensures) walked
+    subst (λ (q : Query). HasWalked (V.weight_at view) (V.seen view) z q (V.stands view) (V.address view) c.args.region) (sym c.requires.alone) walked
 
 pub returns-clause-total : goal.returns-clause-total
 returns-clause-total g c h counts =
     let z = g.V.CubeView.schema c.args.view.now in
     c.value_total.ensures.total h counts
-    ∙ (ap (λ (p : Query). total z (with_value (box p) c.args.second.category c.args.second.value) h) c.set_one_value.ensures
+    ∙ (ap (λ (p : Query). total z (with_value (box p) c.args.second.category c.args.second.value) h) c.requires.alone
     ∙ pair_asked z c.args.query.now h c.args.first.category c.args.second.category c.args.first.value c.args.second.value c.requires.walk.has_box c.requires.first c.requires.second _ (sym c.has.ensures ∙ c.if-not-has.false))
 
 pub returns-clause-cost : goal.returns-clause-cost
 returns-clause-cost g c h counts =
     let z = g.V.CubeView.schema c.args.view.now in
-    let same = ap (λ (p : Query). from_region_cost (g.V.CubeView.costs c.args.view.now) z h (with_one_value p c.args.second.category c.args.second.value)) c.set_one_value.ensures in
+    let same = ap (λ (p : Query). from_region_cost (g.V.CubeView.costs c.args.view.now) z h (with_one_value p c.args.second.category c.args.second.value)) c.requires.alone in
     let step = c.value_total.ensures.cost h counts in
     omega (arith, same, step)
