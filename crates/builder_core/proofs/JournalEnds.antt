@@ -9,7 +9,7 @@ use Rattle.published_pair.specs.Rules.{Known}
 use Rattle.world_core.specs.Interleaving.{entry_points}
 use Rattle.world_core.specs.PairFact.{IsPrefix}
 use Rattle.world_core.specs.declared.entry.Entry.{Entry}
-use Rattle.world_core.proofs.Worlds.{IsPrefix-then}
+use Rattle.world_core.proofs.Prefixes.{IsPrefix-then}
 use Rattle.feed_queue.specs.Items.{entries_in}
 use Rattle.feed_queue.specs.declared.item.Item.{Item}
 use Rattle.builder_core.specs.Builder.{BuilderState, KeepsJournal, IsBuilder, builder_state, pair_state}

@@ -16,7 +16,7 @@ use Rattle.mailbox.specs.Ends.{InEnd}
 use Rattle.outer_io.specs.declared.fault.NoMemory.{NoMemory}
 use Rattle.world_core.specs.PairFact.{IsPrefix}
 use Rattle.world_core.specs.declared.entry.Entry.{Entry}
-use Rattle.world_core.proofs.Worlds.{IsPrefix-then}
+use Rattle.world_core.proofs.Prefixes.{IsPrefix-then}
 use Rattle.crew_builder.specs.Built.{IsNewWork, IsBuilt, IsSameEnd, IsSameMails}
 use Rattle.crew_builder.specs.Steps.{TakesNext, IsStep}
 use Rattle.crew_builder.specs.Telling.{multiples_up_to, having_put, having_answered}

@@ -1,5 +1,5 @@
 -- What the end of a run makes of its works.
-use Rattle.std.proofs.Common.{◌≡◌, ℕ, Bool, true, false, ◌||◌, List, All, map, Option, sym, ap, ◌∙◌, subst}
+use Rattle.std.proofs.Common.{◌≡◌, Bool, true, false, ◌||◌, List, All, map, sym, ap, ◌∙◌, subst}
 use Rattle.std.specs.List.{AllZip}
 use Rattle.std.proofs.lemmas.List.Elements.{All-weaker}
 use Rattle.builder_core.specs.Builder.{BuilderState}
@@ -20,7 +20,7 @@ use Rattle.mailbox.specs.Ends.{InEnd}
 use Rattle.published_pair.specs.Rules.{Known}
 use Rattle.world_core.specs.Interleaving.{IsInterleaving, entry_points, list_of}
 use Rattle.world_core.specs.PairFact.{IsPrefix}
-use Rattle.world_core.proofs.Worlds.{IsPrefix-then}
+use Rattle.world_core.proofs.Prefixes.{IsPrefix-then}
 use Rattle.world_core.specs.declared.entry.Entry.{Entry}
 use Rattle.cube_crew.proofs.Answering.{or_false}
 use Rattle.cube_crew.proofs.Zips.{AllZip-weaker}

@@ -3,7 +3,6 @@ use Rattle.std.proofs.Common.{◌≡◌, ◌≢◌, ℕ, ◌≤◌, Bool, true, 
 use Rattle.std.proofs.lemmas.List.Elements.{All-append, All-nil, All-weaker}
 use Rattle.cube_view.specs.Points.{Point}
 use Rattle.cube_view.specs.declared.schema.Schema.{Schema}
-use Rattle.cube_view.specs.declared.spot.Spot.{Spot}
 use Rattle.cube_view.specs.declared.stat.Stat.{Stat}
 use Rattle.cube_view.specs.declared.view.CubeView as CubeView
 use Rattle.live_session.specs.News.{AsksFor, AsksMail, EndsView, Goes, GoesFor, HasNews, KeepsViewer, LearnsTaken, MayAsk, asks_news, news_of, takes_for}
@@ -29,7 +28,7 @@ use Rattle.session_core.specs.Turns.{AsksNext}
 use Rattle.session_core.proofs.SoFar.{fault_is}
 use Rattle.session_core.specs.declared.fault.SessionFault.{SessionFault}
 use Rattle.session_core.specs.declared.fault.SessionFault.TheVariants as fault
-use Rattle.world_core.proofs.Worlds.{IsPrefix-then}
+use Rattle.world_core.proofs.Prefixes.{IsPrefix-then}
 use Rattle.world_core.specs.PairFact.{IsPrefix}
 
 -- what is known of an answer that is `Ok`, or that is a fault

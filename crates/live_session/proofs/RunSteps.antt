@@ -15,7 +15,7 @@ use Rattle.outer_io.proofs.ProgressLaws.{passes_none, passes_on}
 use Rattle.published_pair.specs.declared.viewer.Viewer.{Viewer}
 use Rattle.session_core.specs.Asked.{line_meaning}
 use Rattle.world_core.specs.PairFact.{IsPrefix}
-use Rattle.world_core.proofs.Worlds.{IsPrefix-then}
+use Rattle.world_core.proofs.Prefixes.{IsPrefix-then}
 use Rattle.live_session.proofs.OneTurn.{prefix-same}
 
 -- the list that was shown in a turn is a front of another

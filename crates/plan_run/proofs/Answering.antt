@@ -45,7 +45,7 @@ use Rattle.session_core.specs.declared.fault.SessionFault.{SessionFault}
 use Rattle.session_core.specs.declared.fault.SessionFault.TheVariants as fault
 use Rattle.world_core.specs.Interleaving.{entry_points}
 use Rattle.world_core.specs.PairFact.{IsPrefix}
-use Rattle.world_core.proofs.Worlds.{IsPrefix-then}
+use Rattle.world_core.proofs.Prefixes.{IsPrefix-then}
 
 abbrev Ending : Type 0
 Ending = Result (Unit {0}) SessionFault

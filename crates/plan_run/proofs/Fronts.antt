@@ -6,7 +6,7 @@ use Rattle.cube_crew.specs.Crewed.{answered_over}
 use Rattle.cube_view.specs.Points.{Point}
 use Rattle.plan_run.specs.Interrupted.{InterleavesFronts}
 use Rattle.world_core.proofs.Interleavings.{prefixes_interleave}
-use Rattle.world_core.proofs.Worlds.{IsPrefix-then}
+use Rattle.world_core.proofs.Prefixes.{IsPrefix-then}
 use Rattle.world_core.specs.Interleaving.{IsInterleaving, entry_points, list_of}
 use Rattle.world_core.specs.PairFact.{IsPrefix}
 use Rattle.world_core.specs.declared.entry.Entry.{Entry}

@@ -1,7 +1,7 @@
-pub mod Beginnings
-pub mod Histories
-pub mod Absorbing
-pub mod Adding
-pub mod Turning
-pub mod Lasting
-pub mod StepLaws
+mod CopyPoints
+mod Histories
+mod LastLists
+mod NoteRule
+mod PairRule
+mod Prefixes
+mod StepLaws

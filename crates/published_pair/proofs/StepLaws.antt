@@ -2,19 +2,18 @@
 use Rattle.std.proofs.Common.{◌≡◌, ℕ, suc, List, [], ◌∷◌, ◌++◌, length, Option, Some, None, IfSome, refl, ap, sym, ◌∙◌}
 use mathlib.Core.Option.{some}
 use lib.ListN.{get_elem?}
-use Rattle.std.proofs.lemmas.List.{get_or-set_same, length-map}
+use Rattle.std.proofs.lemmas.List.{get_or-set_same}
 use Rattle.std.proofs.lemmas.List.Elements.{All-nil, All-cons}
 use Rattle.cube_view.specs.Points.{Point}
 use Rattle.cube_view.specs.declared.schema.Schema.{Schema}
 use Rattle.query_syntax.specs.Tables.{table}
-use Rattle.world_core.specs.Interleaving.{entry_points}
 use Rattle.world_core.specs.PairFact.{IsPrefix, pair_fact}
-use Rattle.world_core.specs.declared.entry.Entry.{Entry}
+use Rattle.world_core.proofs.Entries.{length-entry_points}
 use Rattle.published_pair.specs.Pair.{Knows}
 use Rattle.published_pair.specs.PairLaws.{lists_seen, FreshIsPairFact, RuleIsPairFact, LookingIsLook}
 use Rattle.published_pair.specs.Rules.{Known}
 use Rattle.published_pair.specs.declared.names.Names.{Names}
-use Rattle.published_pair.proofs.Beginnings.{two_prefixes}
+use Rattle.published_pair.proofs.Prefixes.{two_prefixes}
 
 seen_fact : (h : List Point) (f : Known) (z : Schema) (views : List (Option Names)) → ((seat : ℕ) (v : Option Names) → get_elem? views seat ≡ some v → IfSome v (Knows h f.book z)) → pair_fact h (lists_seen views)
 seen_fact h f z [] each = All-nil _
@@ -26,9 +25,6 @@ seen_fact h f z (Some n ∷ views) each =
 pub rule_is_pair_fact : RuleIsPairFact
 rule_is_pair_fact h f z views kept = seen_fact h f z views kept.named
 
-points_length : (entries : List Entry) → length (entry_points entries) ≡ length entries
-points_length entries = length-map entries (λ (e : Entry). e.point)
-
 pub looking_is_look : LookingIsLook
 looking_is_look schema w s q before None h f z sees is below = tt
 looking_is_look schema w s q before (Some n) h f z sees is below =
@@ -36,7 +32,7 @@ looking_is_look schema w s q before (Some n) h f z sees is below =
     let list = seen ∙ is in
     record {
       list = list;
-      seen = get_or-set_same w.seen s (length w.journal) 0 below ∙ sym (ap length list ∙ points_length w.journal);
+      seen = get_or-set_same w.seen s (length w.journal) 0 below ∙ sym (ap length list ∙ length-entry_points w.journal);
       shot = ap (λ (l : List Point). w.shots ++ record { session = s; table = table schema q l } ∷ []) (sym list);
     }
 

@@ -115,7 +115,7 @@ impl<V: Grow> PublisherOf<Of<V>> {
         Ok(())
     }
 
-    #[tactic(auto, using(crate::proofs::Beginnings::taken_prefix))]
+    #[tactic(auto, using(crate::proofs::Prefixes::taken_prefix))]
     // Sends the copies all that was appended since, as one operation, notes it as published, and sends them the list that
     // they then stand at.
     pub(crate) fn note<R: Wait>(&mut self, rt: &R) -> Result<(), NoMemory>
@@ -144,7 +144,7 @@ impl<V: Grow> PublisherOf<Of<V>> {
         }
     }
 
-    #[tactic(auto, using(crate::proofs::Beginnings::prefix_self))]
+    #[tactic(auto, using(crate::proofs::Prefixes::prefix_self))]
     /// Shows viewers each point that was appended, and answers how many there are. After a refusal they see what they saw.
     pub fn publish<R: Wait>(&mut self, rt: &R) -> Result<u64, NoMemory>
         ensures published { IfOk result (λ n. (self.new.published.points ≡ self.old.appended.items) × (n ≡ length self.old.appended.items)) }

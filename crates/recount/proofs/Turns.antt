@@ -12,7 +12,7 @@ use Rattle.world_core.proofs.Entries.{entries_of-append, entry_points-append, nu
 use Rattle.recount.specs.Agreement.{AreJournalEntries}
 use Rattle.recount.specs.Faults.{HasNextNumber}
 use Rattle.recount.proofs.EntryTexts.{feeder_bounds}
-use Rattle.recount.proofs.TwoFronts.{All-middle}
+use Rattle.world_core.proofs.Lists.{All-middle}
 
 -- the entries are numbered from 0 on
 abbrev IsNumbered : ℕ → List Entry → Type 0

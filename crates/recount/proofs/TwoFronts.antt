@@ -13,11 +13,6 @@ pub Each-All : {A : Type 0} (P : A → Type 0) (xs : List A) → All P xs → Ea
 Each-All P [] all = tt
 Each-All P (x ∷ xs) all = (All-head P x xs all, Each-All P xs (All-tail P x xs all))
 
--- the item in the middle is such
-pub All-middle : {A : Type 0} (P : A → Type 0) (xs : List A) (x : A) (ys : List A) → All P (xs ++ x ∷ ys) → P x
-All-middle P [] x ys all = All-head P x ys all
-All-middle P (w ∷ xs) x ys all = All-middle P xs x ys (All-tail P w (xs ++ x ∷ ys) all)
-
 -- the first items go on into the second, and the text after them with their lines
 pub record GoesOn {A : Type 0} (line : A → List ℕ) (ls : List A) (x : List ℕ) (ms : List A) : Type 0 where
   pub item : A

@@ -9,7 +9,8 @@ use Rattle.feed_queue.specs.declared.item.Item.TheVariants as item
 use Rattle.feed_queue.proofs.SentLists.{length-new_feeds}
 use Rattle.world_core.specs.Machine.{first_world, after_events}
 use Rattle.world_core.specs.declared.world.World.{World}
-use Rattle.world_core.proofs.Worlds.{IsPrefix-then, after_events-append}
+use Rattle.world_core.proofs.Prefixes.{IsPrefix-then}
+use Rattle.world_core.proofs.Worlds.{after_events-append}
 use Rattle.run_law.specs.Moves.{Sends}
 use Rattle.run_law.specs.RunLaws.{StepIsItsEvent, RunIsOfTheMachine}
 use Rattle.run_law.specs.Standing.{GoOnFrom, StandsWith}

@@ -1,7 +1,7 @@
 -- Entries of a feeder that are numbered in order.
 use Rattle.std.proofs.Common.{◌≡◌, ◌≢◌, ℕ, zero, suc, ◌+◌, eqb, eq-eqb, ne_eqb, cond, List, [], ◌∷◌, ◌++◌, length, take, refl, sym, ap, ◌∙◌, arith}
 use Rattle.std.proofs.lemmas.List.Elements.{filter-append}
-use Rattle.std.proofs.lemmas.List.{map-append}
+use Rattle.std.proofs.lemmas.List.{length-map, map-append}
 use Rattle.std.proofs.Math.Seq.{take-append_seam}
 use Rattle.cube_view.specs.Points.{Point}
 use Rattle.world_core.specs.Interleaving.{entry, numbered, entries_of, entry_points}
@@ -13,6 +13,9 @@ entries_of-append f a b = filter-append (λ (e : Entry). eqb e.feeder f) a b
 
 pub entry_points-append : (a b : List Entry) → entry_points (a ++ b) ≡ entry_points a ++ entry_points b
 entry_points-append a b = map-append (λ (e : Entry). e.point) a b
+
+pub length-entry_points : (entries : List Entry) → length (entry_points entries) ≡ length entries
+length-entry_points entries = length-map entries (λ (e : Entry). e.point)
 
 pub numbered-append : (f n : ℕ) (a b : List Point) → numbered f n (a ++ b) ≡ numbered f n a ++ numbered f (n + length a) b
 numbered-append f n [] b = let e : n ≡ n + 0 = omega arith in ap (λ k. numbered f k b) e

@@ -1,29 +1,24 @@
 -- Laws of interleavings.
-use Rattle.std.proofs.Common.{◌≡◌, ℕ, ◌+◌, ◌<◌, ◌≤◌, Bool, List, [], ◌∷◌, ◌++◌, All, length, length-append, map, refl, sym, subst, ap, ◌∙◌, arith}
-use Rattle.std.specs.List.{sum_by, flat_map, range_with_len}
-use Rattle.std.proofs.Math.ListN.{get_or-append}
-use Rattle.std.proofs.lemmas.List.{length-map}
-use Rattle.std.proofs.lemmas.List.Sums.{sum_by-cons, sum_by-append}
+use Rattle.std.proofs.Common.{◌≡◌, ℕ, ◌+◌, ◌<◌, ◌≤◌, Bool, List, [], ◌∷◌, ◌++◌, All, length, refl, sym, subst, ap, ◌∙◌, arith}
+use Rattle.std.specs.List.{sum, sum_by, flat_map, range_with_len}
+use Rattle.std.proofs.Math.Seq.{take-append_seam}
+use Rattle.std.proofs.lemmas.List.Elements.{All-take}
+use Rattle.std.proofs.lemmas.List.Sums.{sum_by-cons, sum_by-append, sum-map}
 use Rattle.std.proofs.lemmas.List.Concat.{length-flat_map}
+use Rattle.std.proofs.lemmas.Simd.{map-map}
 use Rattle.cube_view.specs.Bag.{gives, amount}
 use Rattle.cube_view.specs.Points.{Point}
 use Rattle.cube_view.specs.declared.spot.Spot.{Spot}
 use Rattle.world_core.specs.Interleaving.{entries_of, entry_points, IsInterleaving, sum_of_feeders, lists_joined}
 use Rattle.world_core.specs.InterleavingLaws.{PrefixesInterleave, CountsInterleave, ListsAreDetermined, AmountsInterleave, TablesInterleave}
 use Rattle.world_core.specs.declared.entry.Entry.{Entry}
-use Rattle.world_core.proofs.Entries.{entries_of-append, entry_points-numbered, front_numbered, front_points}
+use Rattle.world_core.proofs.Entries.{entries_of-append, entry_points-numbered, length-entry_points, front_numbered, front_points}
 use Rattle.world_core.proofs.FeederSums.{range_same, sum_by_feeders}
 use Rattle.world_core.proofs.SameTables.{table-same}
 
--- the front of a list of which each element passes
-all_front : {X : Type 0} (P : X → Type 0) (front more : List X) → All P (front ++ more) → All P front
-all_front P front more all i d lt =
-    let l = length-append front more in
-    subst P (get_or-append front more d i lt) (all i d (omega (arith, l, lt)))
-
 IsInterleaving-front : (feeders : ℕ) (lists : ℕ → List Point) (front more : List Entry) → IsInterleaving feeders lists (front ++ more) → IsInterleaving feeders (λ f. entry_points (entries_of f front)) front
 IsInterleaving-front feeders lists front more is = record {
-  known = all_front (λ (e : Entry). (1 ≤ e.feeder) × (e.feeder ≤ feeders)) front more is.known;
+  known = subst (All (λ (e : Entry). (1 ≤ e.feeder) × (e.feeder ≤ feeders))) (take-append_seam front more) (All-take (λ (e : Entry). (1 ≤ e.feeder) × (e.feeder ≤ feeders)) (length front) (front ++ more) is.known);
   each = λ f low high. front_numbered f 0 (entries_of f front) (entries_of f more) (lists f) (sym (entries_of-append f front more) ∙ is.each f low high);
 }
 
@@ -40,21 +35,16 @@ pub lists_are_determined : ListsAreDetermined
 lists_are_determined feeders lists others entries a b f low high =
     sym (entry_points-numbered f 0 (lists f)) ∙ (ap entry_points (sym (a.each f low high) ∙ b.each f low high) ∙ entry_points-numbered f 0 (others f))
 
-sum_by-map : {X Y : Type 0} (g : Y → ℕ) (v : X → Y) (xs : List X) → sum_by g (map v xs) ≡ sum_by (λ x. g (v x)) xs
-sum_by-map g v [] = refl
-sum_by-map g v (x ∷ xs) =
-    let rest = sum_by-map g v xs in
-    let a = sum_by-cons g (v x) (map v xs) in
-    let b = sum_by-cons (λ y. g (v y)) x xs in
-    omega (arith, rest, a, b)
+-- a sum over the entries' points is a sum over the entries
+sum_by-entry_points : (g : Point → ℕ) (entries : List Entry) → sum_by g (entry_points entries) ≡ sum_by (λ (e : Entry). g e.point) entries
+sum_by-entry_points g entries = sym (sum-map g (entry_points entries)) ∙ (ap sum (map-map g (λ (e : Entry). e.point) entries) ∙ sum-map (λ (e : Entry). g e.point) entries)
 
 -- a sum over the entries' points is the sum of the lists' sums
 sums_interleave : (g : Point → ℕ) (feeders : ℕ) (lists : ℕ → List Point) (entries : List Entry) → IsInterleaving feeders lists entries → sum_by g (entry_points entries) ≡ sum_of_feeders feeders (λ f. sum_by g (lists f))
 sums_interleave g feeders lists entries is =
-    let point : Entry → Point = λ e. e.point in
     let own : (f : ℕ) → 1 ≤ f → f < 1 + feeders → sum_by (λ (e : Entry). g e.point) (entries_of f entries) ≡ sum_by g (lists f) = λ f low high.
-    sym (sum_by-map g point (entries_of f entries)) ∙ ap (sum_by g) (ap entry_points (is.each f low (omega (arith, high))) ∙ entry_points-numbered f 0 (lists f)) in
-    sum_by-map g point entries
+    sym (sum_by-entry_points g (entries_of f entries)) ∙ ap (sum_by g) (ap entry_points (is.each f low (omega (arith, high))) ∙ entry_points-numbered f 0 (lists f)) in
+    sum_by-entry_points g entries
     ∙ (sum_by_feeders (λ (e : Entry). g e.point) feeders entries is.known
     ∙ range_same (λ f. sum_by (λ (e : Entry). g e.point) (entries_of f entries)) (λ f. sum_by g (lists f)) 1 feeders own)
 
@@ -66,7 +56,7 @@ ones (x ∷ xs) = let rest = ones xs in let a = sum_by-cons (λ _. 1) x xs in om
 pub counts_interleave : CountsInterleave
 counts_interleave feeders lists entries is =
     let same = range_same (λ f. length (lists f)) (λ f. sum_by (λ _. 1) (lists f)) 1 feeders (λ f low high. ones (lists f)) in
-    ones entries ∙ (sym (sum_by-map (λ _. 1) (λ (e : Entry). e.point) entries) ∙ (sums_interleave (λ _. 1) feeders lists entries is ∙ sym same))
+    ones entries ∙ (sym (sum_by-entry_points (λ _. 1) entries) ∙ (sums_interleave (λ _. 1) feeders lists entries is ∙ sym same))
 
 -- an amount of the entries' points is the sum of the lists' amounts
 pub amounts_interleave : AmountsInterleave
@@ -89,4 +79,4 @@ amount-joined test feeders lists = sum_by-flat_map (gives test) lists (range_wit
 pub tables_interleave : TablesInterleave
 tables_interleave feeders lists entries is schema q = table-same schema q (entry_points entries) (lists_joined feeders lists)
     (λ test. amounts_interleave feeders lists entries is test ∙ sym (amount-joined test feeders lists))
-    (length-map entries (λ (e : Entry). e.point) ∙ (counts_interleave feeders lists entries is ∙ sym (length-flat_map lists (range_with_len 1 feeders))))
+    (length-entry_points entries ∙ (counts_interleave feeders lists entries is ∙ sym (length-flat_map lists (range_with_len 1 feeders))))

@@ -3,7 +3,7 @@ use Rattle.std.proofs.Common.{◌≡◌, ℕ, ◌+◌, ◌-◌, ◌<◌, ◌≤�
 use Rattle.std.specs.Prelude.{slice_get}
 use Rattle.std.proofs.Math.Seq.{take-append_seam, get_or-append_seam}
 use Rattle.std.proofs.lemmas.Bool.{cases_lt, and_parts, leb-true}
-use Rattle.std.proofs.lemmas.List.{append-nil, take-append-drop, length-map, length-replicate, length-set, get_or_past}
+use Rattle.std.proofs.lemmas.List.{append-nil, take-append-drop, length-replicate, length-set, get_or_past}
 use Rattle.std.proofs.lemmas.List.Elements.{All-nil, All-push, All-set, All-replicate, All-weaker, All-map, All-get_or}
 use Rattle.std.proofs.lemmas.Option.{slice_get-get_or}
 use Rattle.cube_view.specs.Points.{Point}
@@ -20,21 +20,9 @@ use Rattle.world_core.specs.declared.event.Event.{Event}
 use Rattle.world_core.specs.declared.event.Event.TheVariants.{Push, Pop, Publish, Tell, Look}
 use Rattle.world_core.specs.declared.world.Shot.{Shot}
 use Rattle.world_core.specs.declared.world.World.{World}
-use Rattle.world_core.proofs.Ordering.{IsPushedFrom, IsPushedFrom-start, IsPushedFrom-push}
-
--- Prefixes
-
-IsPrefix-itself : {A : Type 0} (xs : List A) → IsPrefix xs xs
-IsPrefix-itself xs = ([], sym (append-nil xs))
-
-pub IsPrefix-then : {A : Type 0} (xs ys zs : List A) → IsPrefix xs ys → IsPrefix ys zs → IsPrefix xs zs
-IsPrefix-then xs ys zs a b = (a.0 ++ b.0, b.1 ∙ (ap (λ l. l ++ b.0) a.1 ∙ append_assoc xs a.0 b.0))
-
-IsPrefix-length : {A : Type 0} (xs ys : List A) → IsPrefix xs ys → length xs ≤ length ys
-IsPrefix-length xs ys a = let l = length-append xs a.0 in let m = ap length a.1 in omega (arith, l, m)
-
-pub IsPrefix-take : {A : Type 0} (xs ys : List A) → IsPrefix xs ys → take (length xs) ys ≡ xs
-IsPrefix-take xs ys a = ap (take (length xs)) a.1 ∙ take-append_seam xs a.0
+use Rattle.world_core.proofs.Entries.{length-entry_points}
+use Rattle.world_core.proofs.FeedOrder.{IsPushedFrom, IsPushedFrom-start, IsPushedFrom-push}
+use Rattle.world_core.proofs.Prefixes.{IsPrefix-itself, IsPrefix-length, IsPrefix-take, IsPrefix-then}
 
 -- Events
 
@@ -153,7 +141,7 @@ module _ (feeds : List (List Point)) (sessions : ℕ) where
       sizes = (length-set w.seen s (length w.journal) ∙ kept.sizes.0, kept.sizes.1);
       seen = All-set (λ n. n ≤ length w.journal) w.seen s (length w.journal) (omega arith) kept.seen;
       told = kept.told;
-      shown = All-push (λ (shot : Shot). shot.table.seen ≤ length w.journal) w.shots (shot_of schema s q w.journal) kept.shown (let l = length-map w.journal (λ (e : Entry). e.point) in omega (arith, l));
+      shown = All-push (λ (shot : Shot). shot.table.seen ≤ length w.journal) w.shots (shot_of schema s q w.journal) kept.shown (let l = length-entry_points w.journal in omega (arith, l));
     }
 
   Kept-happens : (schema : Schema) (room : ℕ) (w : World) (e : Event) → Kept feeds sessions w → is_possible schema room w e ≡ true → Kept feeds sessions (happens schema w e)

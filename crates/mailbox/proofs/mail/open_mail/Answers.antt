@@ -1,5 +1,5 @@
-use Rattle.std.proofs.Common.{refl, rules}
-use Rattle.mailbox.proofs.Keeping.{new_place, may_name, may_begin, may_part}
+use Rattle.std.proofs.Common.{rules}
+use Rattle.mailbox.proofs.MailboxRule.{new_place, may_name, may_begin, may_part}
 use Rattle.mailbox.proofs.mail.open_mail.Goals as goal
 
 pub ruled-requires-clause-rule : goal.ruled-requires-clause-rule

@@ -1,7 +1,7 @@
 use Rattle.std.proofs.Common.{◌≡◌, sym, ◌∙◌, ap, arith}
 use Rattle.std.proofs.lemmas.Bool.Decides.{nat_tests}
 use Rattle.published_pair.specs.Notes.{batches_of}
-use Rattle.published_pair.proofs.Adding.{adds_moves, was_added}
+use Rattle.published_pair.proofs.NoteRule.{adds_moves, was_added}
 use Rattle.published_pair.proofs.book.write_behind.Goals as goal
 
 pub compare_exchange-found-requires : goal.compare_exchange-found-requires

@@ -1,5 +1,5 @@
 use Rattle.std.proofs.Common.{◌≡◌, [], drop, ap, sym, ◌∙◌, rules}
-use Rattle.published_pair.proofs.Beginnings.{take_same}
+use Rattle.published_pair.proofs.Prefixes.{take_same}
 use Rattle.published_pair.proofs.opening.open.Goals as goal
 
 pub invariant_of-publisher-clause-within : goal.invariant_of-publisher-clause-within

@@ -1,6 +1,6 @@
 use Rattle.std.proofs.Common.{◌≡◌, IfOk, take, length, arith}
 use Rattle.world_core.proofs.Lightness.{journal_light}
-use Rattle.world_core.proofs.Running.{world_of-next, keeps_order_so_far, order_if_ok, looks_if_ok, last_world}
+use Rattle.world_core.proofs.MachineEvents.{world_of-next, keeps_order_so_far, order_if_ok, looks_if_ok, last_world}
 use Rattle.world_core.specs.Machine.{world_of}
 use Rattle.world_core.specs.Parts.{world_now}
 use Rattle.world_core.proofs.runs.run.Goals as goal

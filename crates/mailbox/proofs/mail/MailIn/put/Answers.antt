@@ -1,7 +1,7 @@
 use Rattle.std.proofs.Common.{◌∙◌, ap, sym}
 use Rattle.crossbeam_queue.specs.Passes.{ruled_capacity}
 use Rattle.mailbox.specs.Ends.{InEnd}
-use Rattle.mailbox.proofs.Keeping.{may_put, may_put_after, may_remove}
+use Rattle.mailbox.proofs.MailboxRule.{may_put, may_put_after, may_remove}
 use Rattle.mailbox.proofs.mail.MailIn.put.Goals as goal
 
 pub force_push_as-requires-clause-push : goal.force_push_as-requires-clause-push

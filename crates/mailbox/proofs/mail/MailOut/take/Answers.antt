@@ -1,4 +1,4 @@
-use Rattle.mailbox.proofs.Keeping.{may_take}
+use Rattle.mailbox.proofs.MailboxRule.{may_take}
 use Rattle.mailbox.proofs.mail.MailOut.take.Goals as goal
 
 pub pop_as-requires-clause-rule : goal.pop_as-requires-clause-rule

@@ -5,7 +5,7 @@ use Rattle.cube_view.specs.Points.{Point}
 use mathlib.Core.List.{IsPrefix as IsFront}
 use Rattle.world_core.specs.PairFact.{IsPrefix}
 use Rattle.published_pair.specs.declared.note.Note.{Note}
-use Rattle.published_pair.proofs.Beginnings.{prefix_of, prefix_shorter}
+use Rattle.published_pair.proofs.Prefixes.{prefix_of, prefix_shorter}
 use Rattle.published_pair.proofs.Histories.{points_prefix}
 use Rattle.published_pair.proofs.book.Front.goes_on.Goals as goal
 

@@ -2,7 +2,7 @@ use Rattle.std.proofs.Common.{◌≤◌, ap, subst, arith, length, List}
 use mathlib.Core.List.{IsPrefix as IsFront}
 use Rattle.published_pair.specs.Notes.{noted_points}
 use Rattle.published_pair.specs.declared.note.Note.{Note}
-use Rattle.published_pair.proofs.Beginnings.{prefix_of, prefix_shorter}
+use Rattle.published_pair.proofs.Prefixes.{prefix_of, prefix_shorter}
 use Rattle.published_pair.proofs.Histories.{points_prefix}
 use Rattle.published_pair.proofs.book.Front.longer.Goals as goal
 

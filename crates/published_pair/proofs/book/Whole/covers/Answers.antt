@@ -3,7 +3,7 @@ use mathlib.Core.List.{IsPrefix as IsFront}
 use Rattle.world_core.specs.PairFact.{IsPrefix}
 use Rattle.published_pair.specs.Notes.{batches_of}
 use Rattle.published_pair.specs.declared.note.Note.{Note}
-use Rattle.published_pair.proofs.Beginnings.{prefix_of}
+use Rattle.published_pair.proofs.Prefixes.{prefix_of}
 use Rattle.published_pair.proofs.Histories.{covered, points_whole}
 use Rattle.published_pair.proofs.book.Whole.covers.Goals as goal
 

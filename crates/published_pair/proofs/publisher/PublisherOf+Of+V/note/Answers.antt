@@ -1,10 +1,10 @@
 use Rattle.std.proofs.Common.{List, ◌++◌, sym, ◌∙◌, ap, ap₂, append-nil}
 use Rattle.cube_view.specs.Points.{Point}
-use Rattle.world_core.proofs.Worlds.{IsPrefix-take, IsPrefix-then}
+use Rattle.world_core.proofs.Prefixes.{IsPrefix-take, IsPrefix-then}
 use Rattle.published_pair.specs.Pair.{standing}
 use Rattle.published_pair.specs.Rules.{Known}
-use Rattle.published_pair.proofs.Absorbing.{sent_points, sent_schema, sent_whole}
-use Rattle.published_pair.proofs.Beginnings.{taken_prefix}
+use Rattle.published_pair.proofs.CopyPoints.{sent_points, sent_schema, sent_whole}
+use Rattle.published_pair.proofs.Prefixes.{taken_prefix}
 use Rattle.published_pair.proofs.publisher.PublisherOf+Of+V.note.Goals as goal
 use Rattle.published_pair.proofs.publisher.PublisherOf+Of+V.note.Goals.{in-Ok-append, in-Err}
 

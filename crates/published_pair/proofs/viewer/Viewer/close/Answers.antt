@@ -1,4 +1,4 @@
-use Rattle.published_pair.proofs.Lasting.{both_covered}
+use Rattle.published_pair.proofs.LastLists.{both_covered}
 use Rattle.published_pair.proofs.viewer.Viewer.close.Goals as goal
 
 pub returns-clause-within : goal.returns-clause-within

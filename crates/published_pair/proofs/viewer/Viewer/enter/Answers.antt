@@ -1,13 +1,13 @@
 use Rattle.std.proofs.Common.{◌≡◌, rules, refl, Some}
+use Rattle.world_core.proofs.Prefixes.{IsPrefix-itself}
 use Rattle.published_pair.specs.Pair.{names}
-use Rattle.published_pair.proofs.Beginnings.{prefix_self}
-use Rattle.published_pair.proofs.Lasting.{shows_all}
+use Rattle.published_pair.proofs.LastLists.{shows_all}
 use Rattle.published_pair.proofs.Turning as turning
 use Rattle.published_pair.proofs.viewer.Viewer.enter.Goals as goal
 
 pub enter_as-requires : goal.enter_as-requires
 enter_as-requires g c x views kept at =
-    let t = turning.turns x.history.items x.history.items x.front x.front _ _ refl refl (prefix_self x.history.items) kept.told views _ _ kept at in
+    let t = turning.turns x.history.items x.history.items x.front x.front _ _ refl refl (IsPrefix-itself x.history.items) kept.told views _ _ kept at in
     (Some (names x.front.book (g.V.CubeView.schema x.view) x.history.items), t.0, t.1)
 
 pub invariant_of-result-then-goes_on-clause-within : goal.invariant_of-result-then-goes_on-clause-within

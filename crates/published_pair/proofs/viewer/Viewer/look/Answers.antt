@@ -1,6 +1,6 @@
 use Rattle.std.proofs.Common.{List, ap, subst}
 use Rattle.cube_view.specs.Points.{Point}
-use Rattle.world_core.proofs.Worlds.{IsPrefix-then}
+use Rattle.world_core.proofs.Prefixes.{IsPrefix-then}
 use Rattle.world_core.specs.PairFact.{IsPrefix}
 use Rattle.published_pair.proofs.viewer.Viewer.look.Goals as goal
 

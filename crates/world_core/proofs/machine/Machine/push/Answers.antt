@@ -1,6 +1,6 @@
 use Rattle.std.proofs.Common.{length, refl, ◌∙◌}
 use Rattle.world_core.specs.Parts.{world_now}
-use Rattle.world_core.proofs.Running.{push_world}
+use Rattle.world_core.proofs.MachineEvents.{push_world}
 use Rattle.world_core.proofs.machine.Machine.push.Goals as goal
 
 pub returns-in-Ok : goal.returns-in-Ok

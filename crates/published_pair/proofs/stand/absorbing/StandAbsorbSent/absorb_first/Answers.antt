@@ -3,7 +3,7 @@ use Rattle.std.specs.List.{list_all}
 use Rattle.cube_view.specs.Points.{Point}
 use Rattle.cube_view.specs.Validity.{sound}
 use Rattle.cube_view.specs.declared.schema.Schema.{Schema}
-use Rattle.published_pair.proofs.Absorbing.{all_absorbed, not_absorbed}
+use Rattle.published_pair.proofs.CopyPoints.{all_absorbed, not_absorbed}
 use Rattle.published_pair.proofs.stand.absorbing.StandAbsorbSent.absorb_first.Goals as goal
 use Rattle.published_pair.proofs.stand.absorbing.StandAbsorbSent.absorb_first.Goals.{then-not-has_room-via-then-not-has_room, then-not-has_room-via-else-not-has_room+then-not-are_sound}
 

@@ -9,7 +9,7 @@ use Rattle.cube_view.specs.Points.{Point}
 use Rattle.published_pair.specs.declared.note.Note.{Note}
 use Rattle.published_pair.specs.Notes.{open_of, EndsOnce}
 use Rattle.published_pair.specs.Rules.{IsKept, AddsNote}
-use Rattle.published_pair.proofs.Beginnings.{prefix_of, prefix_whole}
+use Rattle.published_pair.proofs.Prefixes.{prefix_of, prefix_whole}
 use Rattle.published_pair.proofs.Histories.{ends_once}
 
 abbrev shown : List Note → List Note

@@ -6,12 +6,11 @@ use Rattle.atomic_table.proofs.Lists.{at_set, at_snoc}
 use Rattle.cube_view.specs.Points.{Point}
 use Rattle.cube_view.specs.declared.schema.Schema.{Schema}
 use Rattle.logbook.specs.Pages.{Book}
-use Rattle.world_core.proofs.Worlds.{IsPrefix-then}
+use Rattle.world_core.proofs.Prefixes.{IsPrefix-itself, IsPrefix-then}
 use Rattle.world_core.specs.PairFact.{IsPrefix}
 use Rattle.published_pair.specs.declared.names.Names.{Names}
 use Rattle.published_pair.specs.Rules.{Known, first_word_of}
 use Rattle.published_pair.specs.Pair.{KeepsPair, Knows, Sees, names}
-use Rattle.published_pair.proofs.Beginnings.{prefix_self}
 
 abbrev KnowsIf : List Point → Known → Schema → Option Names → Type 0
 KnowsIf h f z v = IfSome v (Knows h f.book z)
@@ -54,13 +53,4 @@ pub turns : (h h' : List Point) (f f' : Known) (z z' : Schema) → f'.book ≡ f
 turns h h' f f' z z' book schema on told views seat v kept at =
     let moved : (u : Option Names) → KnowsIf h f z u → KnowsIf h' f' z' u = knows_on h h' f.book f'.book z z' book schema on in
     let all : KeepsPair h' f' z' views = record { told = told; named = λ j u e. moved u (kept.named j u e) } in
-    (knows_set h' f' z' views all seat (Some (names f'.book z' h')) (refl, refl, prefix_self h'), record { told = told; before = moved v (kept.named seat v at); after = refl })
-
--- an end that knows the pair and saw a list sees a copy of that pair that goes on from the list
-pub sees_names : (b : Book) (z : Schema) (s : List Point) (v : Option Names) (h : List Point) (f : Known) (y : Schema) (w : Option Names) → v ≡ Some (names b z s) → Sees v h f y w
-    → (f.book ≡ b) × (y ≡ z) × IsPrefix s h × (h ≡ f.points) × (w ≡ Some (names b z f.points))
-sees_names b z s v h f y w is sees =
-    let k : Knows h f.book y (names b z s) = subst (λ (u : Option Names). IfSome u (Knows h f.book y)) is sees.before in
-    let book : f.book ≡ b = ap (λ n. n.book) (sym k.0) in
-    let schema : y ≡ z = sym k.1 in
-    (book, schema, k.2, sees.told, sees.after ∙ (λ i. Some (names (book i) (schema i) (sees.told i))))
+    (knows_set h' f' z' views all seat (Some (names f'.book z' h')) (refl, refl, IsPrefix-itself h'), record { told = told; before = moved v (kept.named seat v at); after = refl })

@@ -1,12 +1,12 @@
 -- Entries that keep the order of the feeds, while further points are pushed.
 use Rattle.std.proofs.Common.{◌≡◌, ◌≢◌, ℕ, suc, ◌+◌, ◌-◌, ◌≤◌, List, [], ◌∷◌, ◌++◌, All, length, set, refl, sym, subst, ap, ◌∙◌, arith, ⊎_elim, append_assoc}
 use Rattle.std.proofs.lemmas.Bool.{cases_eq}
-use Rattle.std.proofs.lemmas.List.{append-nil, length-map, length-set, get_or-set_same, get_or-set_other}
+use Rattle.std.proofs.lemmas.List.{append-nil, length-set, get_or-set_same, get_or-set_other}
 use Rattle.std.proofs.lemmas.List.Elements.{All-nil, All-cons, All-append}
 use Rattle.cube_view.specs.Points.{Point}
 use Rattle.world_core.specs.Interleaving.{entry, numbered, entries_of, entry_points, list_of}
 use Rattle.world_core.specs.declared.entry.Entry.{Entry}
-use Rattle.world_core.proofs.Entries.{entries_of-append, entry_points-append, numbered-append, entry_points-numbered, entries_of-numbered, entries_of-numbered_other}
+use Rattle.world_core.proofs.Entries.{length-entry_points, entries_of-append, entry_points-append, numbered-append, entry_points-numbered, entries_of-numbered, entries_of-numbered_other}
 
 -- the entries were pushed from the feeds, in order, and these rests are left
 pub record IsPushedFrom (feeds : List (List Point)) (es : List Entry) (rest : List (List Point)) : Type 0 where
@@ -50,7 +50,7 @@ module _ (feeds : List (List Point)) (es : List Entry) (rest : List (List Point)
   own_each : entries_of g more ≡ numbered g 0 (entry_points (entries_of g more))
   own_each =
       let points = entry_points (entries_of g es) in
-      let k : n ≡ 0 + length points = let l = length-map (entries_of g es) (λ (e : Entry). e.point) in omega (arith, l) in
+      let k : n ≡ 0 + length points = let l = length-entry_points (entries_of g es) in omega (arith, l) in
       own_entries
       ∙ (ap (λ l. l ++ numbered g n ps) (is.each g low high_feeds)
       ∙ (ap (λ j. numbered g 0 points ++ numbered g j ps) k

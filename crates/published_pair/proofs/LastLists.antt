@@ -5,7 +5,7 @@ use Rattle.logbook.specs.Pages.{Book}
 use Rattle.world_core.specs.PairFact.{IsPrefix}
 use Rattle.published_pair.specs.Rules.{Known}
 use Rattle.published_pair.specs.Pair.{Fresh}
-use Rattle.published_pair.proofs.Beginnings.{prefix_both}
+use Rattle.published_pair.proofs.Prefixes.{prefix_both}
 
 -- no less than the ended list, and a prefix of it, is the ended list
 pub shows_all : (o : Option Known) (b d : Book) (shown learned : List Point) → b ≡ d → IfSome o (λ w. (w.book ≡ b) × (learned ≡ w.points)) → IfSome o (λ w. IsPrefix shown w.points) → IsPrefix learned shown

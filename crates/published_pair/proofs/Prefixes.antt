@@ -3,15 +3,12 @@ use Rattle.std.proofs.Common.{◌≡◌, ◌≤◌, List, [], ◌∷◌, ◌++�
 use Rattle.std.proofs.lemmas.List.{take-append-drop}
 use Rattle.std.proofs.lemmas.List.Elements.{All-nil, All-push}
 use mathlib.Core.List.{IsPrefix as IsFront}
-use Rattle.world_core.proofs.Worlds.{IsPrefix-take}
+use Rattle.world_core.proofs.Prefixes.{IsPrefix-take}
 use Rattle.world_core.specs.PairFact.{IsPrefix, pair_fact}
 
 -- the book's prefixes and the machine's are the same
 pub prefix_of : {A : Type 0} (xs ys : List A) → IsFront xs ys → IsPrefix xs ys
 prefix_of xs ys p = (p.0, sym p.1)
-
-pub prefix_self : {A : Type 0} (xs : List A) → IsPrefix xs xs
-prefix_self xs = ([], sym (append-nil xs))
 
 -- of two prefixes of one list the shorter is one of the longer
 pub prefix_shorter : {A : Type 0} (xs ys zs : List A) → IsPrefix xs zs → IsPrefix ys zs → length xs ≤ length ys → IsPrefix xs ys

@@ -7,6 +7,7 @@ use lib.ListN.{get_elem?}
 use Rattle.crossbeam_queue.specs.Fifo.{Pushes, Pops, PopsFrom, PushesAfter, Forks}
 use Rattle.published_pair.specs.Rules.{Known}
 use Rattle.published_pair.specs.declared.told.Told.{Told}
+use Rattle.world_core.proofs.Lists.{one_item}
 use Rattle.mailbox.specs.declared.place.Letter.{Letter}
 use Rattle.mailbox.specs.declared.place.Letter.TheVariants.{Opens, Brings}
 use Rattle.mailbox.specs.declared.place.Putting.{Putting}
@@ -15,14 +16,6 @@ use Rattle.mailbox.specs.declared.place.View.{View}
 use Rattle.mailbox.specs.declared.place.View.TheVariants.{Fresh, Opening, Whole, Puts, Replaces, Takes}
 use Rattle.mailbox.specs.Rule.{putting, taking, FitsPlace, IsLastTaken, IsMailbox, KeepsMail}
 use Rattle.mailbox.specs.Steps.{naming_view, named_view, putter_view, removed_view, taker_view, after_letter, IsTake, Took}
-
--- the one view of a mailbox that is not open yet
-sole_view : (x v : View) (pass : ℕ) → get_elem? (x ∷ []) pass ≡ some v → (pass ≡ 0) × (x ≡ v)
-sole_view x v zero e = (refl, some-injective x v e)
-sole_view x v (suc pass) e = absurd (some-ne-none v (sym e))
-
-sole_of : (views : List View) (x v : View) (pass : ℕ) → views ≡ x ∷ [] → get_elem? views pass ≡ some v → (pass ≡ 0) × (x ≡ v)
-sole_of views x v pass are at = sole_view x v pass (ap (λ l. get_elem? l pass) (sym are) ∙ at)
 
 -- the two views of one that is open
 two_views : (x y v : View) (pass : ℕ) → get_elem? (x ∷ y ∷ []) pass ≡ some v → ((pass ≡ 0) × (x ≡ v)) ⊎ ((pass ≡ 1) × (y ≡ v))
@@ -49,9 +42,9 @@ IsPutView (Replaces w) = Unit {0}
 IsPutView (Takes t) = ⊥
 
 is_mailbox : (letters : List Letter) (views : List View) (pass : ℕ) (v : View) → IsOpenView v → KeepsMail letters views → get_elem? views pass ≡ some v → IsMailbox letters views
-is_mailbox letters views pass v is_open (inl n) at = absurd (subst IsOpenView (sym (sole_of views Fresh v pass n.views_are at).1) is_open)
-is_mailbox letters views pass v is_open (inr (inl o)) at = absurd (subst IsOpenView (sym (sole_of views (Opening o.name.front) v pass o.views_are at).1) is_open)
-is_mailbox letters views pass v is_open (inr (inr (inl w))) at = absurd (subst IsOpenView (sym (sole_of views (Whole w.pair) v pass w.views_are at).1) is_open)
+is_mailbox letters views pass v is_open (inl n) at = absurd (subst IsOpenView (sym (one_item views Fresh v pass n.views_are at).1) is_open)
+is_mailbox letters views pass v is_open (inr (inl o)) at = absurd (subst IsOpenView (sym (one_item views (Opening o.name.front) v pass o.views_are at).1) is_open)
+is_mailbox letters views pass v is_open (inr (inr (inl w))) at = absurd (subst IsOpenView (sym (one_item views (Whole w.pair) v pass w.views_are at).1) is_open)
 is_mailbox letters views pass v is_open (inr (inr (inr box))) at = box
 
 -- the pass of the end that puts is the first
@@ -91,10 +84,10 @@ new_place = inl (record { letters_are = refl; views_are = refl })
 
 names_from : (n pass : ℕ) (t : Told) → Pushes KeepsMail n pass Fresh (Opens t) (λ w. w ≡ naming_view (Opens t))
 names_from n pass t letters views room (inl k) at =
-    let e = sole_of views Fresh Fresh pass k.views_are at in
+    let e = one_item views Fresh Fresh pass k.views_are at in
     (naming_view (Opens t), inr (inl (record { name = t; letters_are = ap (λ l. l ++ Opens t ∷ []) k.letters_are; views_are = λ i. set (k.views_are i) (e.0 i) (naming_view (Opens t)) })), refl)
-names_from n pass t letters views room (inr (inl o)) at = absurd (let e : Opening o.name.front ≡ Fresh = (sole_of views (Opening o.name.front) Fresh pass o.views_are at).1 in cc)
-names_from n pass t letters views room (inr (inr (inl w))) at = absurd (let e : Whole w.pair ≡ Fresh = (sole_of views (Whole w.pair) Fresh pass w.views_are at).1 in cc)
+names_from n pass t letters views room (inr (inl o)) at = absurd (let e : Opening o.name.front ≡ Fresh = (one_item views (Opening o.name.front) Fresh pass o.views_are at).1 in cc)
+names_from n pass t letters views room (inr (inr (inl w))) at = absurd (let e : Whole w.pair ≡ Fresh = (one_item views (Whole w.pair) Fresh pass w.views_are at).1 in cc)
 names_from n pass t letters views room (inr (inr (inr box))) at = absurd (open_view letters views pass Fresh box at)
 
 -- the pair's name may go in
@@ -105,11 +98,11 @@ tail_of_sole : (x y : Letter) (l : List Letter) → x ∷ l ≡ y ∷ [] → l �
 tail_of_sole x y l e = cc
 
 begins_from : (pass : ℕ) (p : Known) → Pops KeepsMail pass (Opening p) (λ x w. w ≡ named_view (Opening p))
-begins_from pass p x letters views (inl k) at = absurd (let e : Fresh ≡ Opening p = (sole_of views Fresh (Opening p) pass k.views_are at).1 in cc)
+begins_from pass p x letters views (inl k) at = absurd (let e : Fresh ≡ Opening p = (one_item views Fresh (Opening p) pass k.views_are at).1 in cc)
 begins_from pass p x letters views (inr (inl o)) at =
-    let e = sole_of views (Opening o.name.front) (Opening p) pass o.views_are at in
+    let e = one_item views (Opening o.name.front) (Opening p) pass o.views_are at in
     (Whole p, inr (inr (inl (record { pair = p; letters_are = tail_of_sole x (Opens o.name) letters o.letters_are; views_are = λ i. set (o.views_are i) (e.0 i) (Whole p) }))), refl)
-begins_from pass p x letters views (inr (inr (inl w))) at = absurd (let e : Whole w.pair ≡ Opening p = (sole_of views (Whole w.pair) (Opening p) pass w.views_are at).1 in cc)
+begins_from pass p x letters views (inr (inr (inl w))) at = absurd (let e : Whole w.pair ≡ Opening p = (one_item views (Whole w.pair) (Opening p) pass w.views_are at).1 in cc)
 begins_from pass p x letters views (inr (inr (inr box))) at = absurd (open_view (x ∷ letters) views pass (Opening p) box at)
 
 -- the pair's name may come out
@@ -117,10 +110,10 @@ pub may_begin : (pass : ℕ) (v : View) (p : Known) → v ≡ Opening p → Pops
 may_begin pass v p is = subst (λ (u : View). Pops KeepsMail pass u (λ x w. w ≡ named_view u)) (sym is) (begins_from pass p)
 
 parts_from : (pass : ℕ) (p : Known) → Forks KeepsMail pass (Whole p) (putter_view (Whole p)) (taker_view (Whole p))
-parts_from pass p letters views (inl k) at = absurd (let e : Fresh ≡ Whole p = (sole_of views Fresh (Whole p) pass k.views_are at).1 in cc)
-parts_from pass p letters views (inr (inl o)) at = absurd (let e : Opening o.name.front ≡ Whole p = (sole_of views (Opening o.name.front) (Whole p) pass o.views_are at).1 in cc)
+parts_from pass p letters views (inl k) at = absurd (let e : Fresh ≡ Whole p = (one_item views Fresh (Whole p) pass k.views_are at).1 in cc)
+parts_from pass p letters views (inr (inl o)) at = absurd (let e : Opening o.name.front ≡ Whole p = (one_item views (Opening o.name.front) (Whole p) pass o.views_are at).1 in cc)
 parts_from pass p letters views (inr (inr (inl w))) at =
-    let e = sole_of views (Whole w.pair) (Whole p) pass w.views_are at in
+    let e = one_item views (Whole w.pair) (Whole p) pass w.views_are at in
     inr (inr (inr (record {
       putter = Puts (putting p []);
       taker = taking p [];
