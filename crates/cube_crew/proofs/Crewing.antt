@@ -1,5 +1,5 @@
 -- What a whole run leaves, from what its parts leave.
-use Rattle.std.proofs.Common.{◌≡◌, ◌≢◌, ℕ, Bool, true, false, List, All, length, map, Option, Some, sym, ap, ◌∙◌, subst}
+use Rattle.std.proofs.Common.{◌≡◌, ◌≢◌, ℕ, Bool, true, false, List, All, length, map, Some, sym, ap, ◌∙◌, subst}
 use Rattle.std.specs.List.{AllZip}
 use Rattle.std.proofs.lemmas.List.Elements.{All-map}
 use Rattle.atomic_table.specs.Seated.{TableId}
@@ -26,9 +26,9 @@ use Rattle.live_session.specs.TranscriptLaws.{StaysTranscript}
 use Rattle.mailbox.specs.Ends.{InEnd, OutEnd}
 use Rattle.outer_io.specs.declared.cutter.CutFault.TheVariants as cut
 use Rattle.published_pair.specs.Rules.{Known}
-use Rattle.world_core.specs.Interleaving.{IsInterleaving, entry_points, list_of}
+use Rattle.world_core.specs.Interleaving.{IsInterleaving, list_of}
 use Rattle.cube_crew.proofs.Answering.{ask_mails, asks_give, asks_leave, finals_leave, work_mails}
-use Rattle.feed_queue.proofs.SentLists.{length-new_feeds}
+use Rattle.feed_queue.proofs.InTurn.{length-new_feeds}
 use Rattle.cube_crew.proofs.Feeding.{IsNewEnd, feeds_leave, new_ends}
 use Rattle.cube_crew.proofs.Seating.{Seats}
 use Rattle.cube_crew.proofs.Zips.{AllZip-map, AllZip-right}

@@ -1,5 +1,5 @@
 -- What a run begins with once its works are made, and what it is once they have run.
-use Rattle.std.proofs.Common.{◌≡◌, ℕ, ◌+◌, ◌≤◌, ◌&&◌, true, false, nat_le, List, [], All, length, map, Option, refl, sym, ap, ◌∙◌, subst, arith}
+use Rattle.std.proofs.Common.{◌≡◌, ℕ, ◌+◌, ◌≤◌, ◌&&◌, true, false, nat_le, List, [], All, length, map, refl, sym, ap, ◌∙◌, subst, arith}
 use Rattle.std.specs.List.{AllZip}
 use Rattle.std.proofs.lemmas.Bool.{and_parts, leb-true}
 use Rattle.std.proofs.lemmas.List.Elements.{All-weaker}
@@ -19,12 +19,11 @@ use Rattle.cube_view.specs.Limits.{categories_in_range, is_between, numbers_in_r
 use Rattle.cube_view.specs.declared.schema.Schema.{Schema}
 use Rattle.cube_view.specs.declared.stat.Stat.{Stat}
 use Rattle.feed_queue.specs.Ends.{AreInTurn, DrawState, FeedState, draw_state, new_feeds}
-use Rattle.feed_queue.proofs.InTurn.{new_feeds_in_turn}
+use Rattle.feed_queue.proofs.InTurn.{length-new_feeds, new_feeds_in_turn}
 use Rattle.live_session.specs.State.{SessionEnds}
 use Rattle.mailbox.specs.Ends.{InEnd, OutEnd}
 use Rattle.published_pair.specs.Rules.{Known}
 use Rattle.cube_crew.proofs.Answering.{all_works, ran_pairs}
-use Rattle.feed_queue.proofs.SentLists.{length-new_feeds}
 use Rattle.cube_crew.proofs.Feeding.{IsNewEnd, fed_ended, fed_in_turn, fed_lanes, new_ends, works_ends, works_lanes}
 use Rattle.cube_crew.proofs.Zips.{AllZip-left}
 

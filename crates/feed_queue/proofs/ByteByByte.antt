@@ -3,8 +3,9 @@ use Rattle.std.proofs.Common.{◌≡◌, ◌≢◌, ℕ, ◌+◌, ◌≤◌, ◌
 use Rattle.std.proofs.lemmas.Bool.Decides.{eqb_tells}
 use Rattle.std.proofs.lemmas.Grind.{take_at_read}
 use Rattle.std.proofs.lemmas.List.{take-append-drop}
+use Rattle.std.proofs.lemmas.Option.{same_Some}
 use Rattle.feed_queue.specs.NumberReading.{after_digit, ReadSoFar, ended_by_space, with_number, after_byte, read_on, numbers_read, line_numbers}
-use Rattle.feed_queue.proofs.NumberLines.{read_append, read_none, option_cases, none_some, same_some}
+use Rattle.feed_queue.proofs.NumberLines.{read_append, read_none, option_cases, none_some}
 
 -- what is claimed of an answer that is none
 pub if_none : {A : Type 0} (answer : Option A) (P : Type 0) → P → IfNone answer P
@@ -20,7 +21,7 @@ read_next line i b d numbers number low is so_far =
     ap (read_on start) ((take_at_read line i d low).1 ∙ ap (λ x. take i line ++ x ∷ []) (sym is)) ∙ read_append start (take i line) (b ∷ []) ∙ ap (λ s. read_on s (b ∷ [])) so_far
 
 same_pair : (p q : List ℕ × Option ℕ) → ◌≡◌ {A = ReadSoFar} (Some p) (Some q) → p.0 ≡ q.0
-same_pair p q e = ap (λ (r : List ℕ × Option ℕ). r.0) (same_some p q e)
+same_pair p q e = ap (λ (r : List ℕ × Option ℕ). r.0) (same_Some p q e)
 
 spaced_longer : (numbers more : List ℕ) (number next : Option ℕ) → ended_by_space numbers number ≡ Some (more, next) → length numbers ≤ length more
 spaced_longer numbers more None next e = none_some (more, next) e
@@ -44,7 +45,7 @@ byte_longer numbers more number next b e =
 
 line_longer : (line numbers all : List ℕ) (number : Option ℕ) → numbers_read (read_on (Some (numbers, number)) line) ≡ Some all → length numbers ≤ length all
 line_longer [] numbers all None e = none_some all e
-line_longer [] numbers all (Some n) e = let l = length-append numbers (n ∷ []) in let m = ap length (same_some (numbers ++ n ∷ []) all e) in omega (arith, l, m)
+line_longer [] numbers all (Some n) e = let l = length-append numbers (n ∷ []) in let m = ap length (same_Some (numbers ++ n ∷ []) all e) in omega (arith, l, m)
 line_longer (b ∷ line) numbers all number e = ⊎_elim
     (λ (none : after_byte numbers number b ≡ None). none_some all (sym (ap (λ s. numbers_read (read_on s line)) none ∙ ap numbers_read (read_none line)) ∙ e))
     (λ (t : (s : List ℕ × Option ℕ) × (after_byte numbers number b ≡ Some s)).

@@ -1,14 +1,13 @@
 -- Ends that stand in the order of their numbers.
-use Rattle.std.proofs.Common.{◌≡◌, ℕ, zero, suc, ◌+◌, ◌-◌, ◌≤◌, ◌<◌, eqb, eq-eqb, ne_eqb, true, false, cond, List, [], ◌∷◌, ◌++◌, map, get_or, refl, sym, ap, ◌∙◌, arith}
+use Rattle.std.proofs.Common.{◌≡◌, ℕ, zero, suc, ◌+◌, ◌-◌, ◌≤◌, ◌<◌, eqb, eq-eqb, ne_eqb, true, false, cond, List, [], ◌∷◌, ◌++◌, length, length-append, map, get_or, refl, sym, ap, ◌∙◌, arith}
 use Rattle.std.proofs.lemmas.List.{map-append}
 use Rattle.std.specs.List.{range_with_len}
+use Rattle.atomic_table.specs.Seated.{TableId}
+use Rattle.cube_view.specs.declared.schema.Schema.{Schema}
 use Rattle.world_core.specs.Interleaving.{numbered, list_of, IsInterleaving}
 use Rattle.world_core.specs.declared.entry.Entry.{Entry}
+use Rattle.world_core.proofs.Lists.{cons-parts}
 use Rattle.feed_queue.specs.Ends.{FeedState, feed_state, new_feeds, sent_by, is_among, sent_lists, AreInTurn, EndsInTurn, NewFeedsInTurn}
-
--- the first number of a range that a first end stands at
-head_of : (a b : ℕ) (xs ys : List ℕ) → a ∷ xs ≡ b ∷ ys → (a ≡ b) × (xs ≡ ys)
-head_of a b xs ys e = (cc, cc)
 
 not_empty : (a : ℕ) (xs : List ℕ) → [] ≡ a ∷ xs → ⊥
 not_empty a xs e = cc
@@ -19,11 +18,11 @@ found : (ends : List FeedState) (k n j : ℕ) → map (λ (end : FeedState). end
 found ends k zero j e low = absurd (omega arith)
 found [] k (suc n) j e low = absurd (not_empty k (range_with_len (k + 1) n) e)
 found (end ∷ ends) k (suc n) zero e low =
-    let own = (head_of end.feeder k _ _ e).0 in
+    let own = (cons-parts end.feeder k (map (λ (it : FeedState). it.feeder) ends) (range_with_len (k + 1) n) e).0 in
     let same : eqb end.feeder (k + 0) ≡ true = eq-eqb end.feeder (k + 0) (omega arith) in
     (ap (λ b. cond b true (is_among ends (k + 0))) same, ap (λ b. cond b end.points (sent_by ends (k + 0))) same)
 found (end ∷ ends) k (suc n) (suc j) e low =
-    let parts = head_of end.feeder k _ _ e in
+    let parts = cons-parts end.feeder k (map (λ (it : FeedState). it.feeder) ends) (range_with_len (k + 1) n) e in
     let own = parts.0 in
     let other = ne_eqb end.feeder (k + suc j) (λ (s : end.feeder ≡ k + suc j). omega (arith, own)) in
     let at : k + 1 + j ≡ k + suc j = omega arith in
@@ -62,3 +61,11 @@ new_feeds_in_turn lane schema (suc n) =
     map-append number (new_feeds lane schema n) (feed_state lane schema (n + 1) [] false ∷ [])
     ∙ (λ i. new_feeds_in_turn lane schema n i ++ e i ∷ [])
     ∙ sym (range_more 1 n)
+
+-- there is an end for each feeder
+pub length-new_feeds : (lane : TableId) (schema : Schema) (n : ℕ) → length (new_feeds lane schema n) ≡ n
+length-new_feeds lane schema zero = refl
+length-new_feeds lane schema (suc n) =
+    let l = length-append (new_feeds lane schema n) (feed_state lane schema (n + 1) [] false ∷ []) in
+    let rest = length-new_feeds lane schema n in
+    omega (arith, l, rest)

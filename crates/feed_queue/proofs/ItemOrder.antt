@@ -7,7 +7,6 @@ use Rattle.cube_view.specs.Points.{Point}
 use Rattle.world_core.specs.Interleaving.{entry, entries_of, numbered}
 use Rattle.feed_queue.specs.declared.item.Item.{Item}
 use Rattle.feed_queue.specs.declared.item.Item.TheVariants.{One, End}
-use Rattle.feed_queue.specs.Ends.{DrawState, having_drawn}
 use Rattle.feed_queue.specs.Items.{feeder_of, items_of, entries_in, ends_in, has_end, count_entries, stream_from, ComesNext, IsInOrder}
 
 pub items_append : (f : ℕ) (a b : List Item) → items_of f (a ++ b) ≡ items_of f a ++ items_of f b
@@ -78,9 +77,6 @@ ended_last n (One x ∷ a) b o e = ended_last (n + 1) a b o.1 e
 ended_last n (End g m ∷ []) b o e = o.1
 ended_last n (End g m ∷ x ∷ a) b o e = absurd (cons_not_nil [] x (a ++ b) o.1)
 
-eqb_same : (n : ℕ) → eqb n n ≡ true
-eqb_same n = eq-eqb n n refl
-
 -- the items of an item alone
 pub own_item : (f : ℕ) (i : Item) → feeder_of i ≡ f → items_of f (i ∷ []) ≡ i ∷ []
 own_item f i e = ap (λ b. cond b (i ∷ []) []) (eq-eqb (feeder_of i) f e)
@@ -141,15 +137,3 @@ has_end_end f is g n = ap ends_in (items_append f is (End g n ∷ [])) ∙ ends_
     an_end true false = refl
     an_end false true = refl
     an_end false false = refl
-
--- the entries that were drawn, with one entry more
-pub entries_in-entry : (before after : DrawState) (i : Item) (e : Entry) (kept more : List Entry) → after ≡ having_drawn before i → i ≡ One e → kept ≡ entries_in before.drawn → more ≡ kept ++ e ∷ [] → more ≡ entries_in after.drawn
-entries_in-entry before after i e kept more drawn is so_far pushed =
-    pushed ∙ ap (λ l. l ++ e ∷ []) so_far ∙ sym (entries_append before.drawn (One e ∷ []))
-    ∙ ap (λ x. entries_in (before.drawn ++ x ∷ [])) (sym is) ∙ ap (λ (end : DrawState). entries_in end.drawn) (sym drawn)
-
--- and with an End more
-pub entries_in-end : (before after : DrawState) (i : Item) (f n : ℕ) (kept : List Entry) → after ≡ having_drawn before i → i ≡ End f n → kept ≡ entries_in before.drawn → kept ≡ entries_in after.drawn
-entries_in-end before after i f n kept drawn is so_far =
-    so_far ∙ sym (append-nil (entries_in before.drawn)) ∙ sym (entries_append before.drawn (End f n ∷ []))
-    ∙ ap (λ x. entries_in (before.drawn ++ x ∷ [])) (sym is) ∙ ap (λ (end : DrawState). entries_in end.drawn) (sym drawn)

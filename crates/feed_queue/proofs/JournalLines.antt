@@ -4,11 +4,12 @@ use Rattle.std.proofs.lemmas.Grind.{flat_map-append}
 use Rattle.std.proofs.lemmas.List.{append-nil}
 use Rattle.std.specs.Fmt.{decimal}
 use Rattle.std.specs.List.{flat_map}
+use Rattle.std.proofs.lemmas.Option.{same_Some}
 use Rattle.cube_view.specs.declared.schema.Schema.{Schema}
 use Rattle.feed_queue.specs.Journal.{number_text, told_weight, entry_numbers, entry_text, IsEntryOf}
 use Rattle.feed_queue.specs.NumberReading.{line_numbers, spaced_number, entry_of_numbers, HasNumbersOf}
 use Rattle.feed_queue.proofs.EntryNumbers.{numbers_again, entry_again, numbers_few, numbers_small}
-use Rattle.feed_queue.proofs.NumberLines.{numbers_of_text, text_of_numbers, same_some}
+use Rattle.feed_queue.proofs.NumberLines.{numbers_of_text, text_of_numbers}
 use Rattle.world_core.specs.declared.entry.Entry.{Entry}
 
 -- a line of numbers, as the first and the others after spaces
@@ -29,7 +30,7 @@ module _ (schema : Schema) (line : List ℕ) where
   module _ (numbers : List ℕ) (read : line_numbers line ≡ Some numbers) where
     -- its numbers are the entry's
     pub numbers_are : (e : Entry) → IsEntryOf schema e → line ≡ entry_text schema e → entry_numbers schema e ≡ numbers
-    numbers_are e is same = same_some _ _ (sym (line_is e is same) ∙ read)
+    numbers_are e is same = same_Some _ _ (sym (line_is e is same) ∙ read)
 
     -- the entry that has them is the entry
     pub entry_is : (found e : Entry) → HasNumbersOf schema numbers found → IsEntryOf schema e → line ≡ entry_text schema e → found ≡ e

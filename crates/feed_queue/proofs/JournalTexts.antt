@@ -2,16 +2,15 @@
 use Rattle.std.proofs.Common.{◌≡◌, ℕ, List, [], ◌∷◌, ◌++◌, Some, None, sym, refl, ap, ◌∙◌, append_assoc, arith}
 use Rattle.std.proofs.lemmas.List.{append-nil}
 use Rattle.std.proofs.lemmas.List.Elements.{All-tail}
+use Rattle.std.proofs.lemmas.Option.{same_Some}
 use Rattle.cube_view.specs.declared.schema.Schema.{Schema}
 use Rattle.feed_queue.specs.Journal.{entry_text, entry_line, journal_text, IsEntryOf, LinesArePrefixFree, JournalsAreOfOne}
 use Rattle.feed_queue.specs.NumberReading.{ReadSoFar, after_byte, read_on, numbers_read, line_numbers, entry_of_numbers}
 use Rattle.feed_queue.proofs.EntryNumbers.{entry_again}
 use Rattle.feed_queue.proofs.JournalLines.{line_is}
-use Rattle.feed_queue.proofs.NumberLines.{read_none, none_some, same_some}
+use Rattle.feed_queue.proofs.NumberLines.{read_none, none_some}
 use Rattle.world_core.specs.declared.entry.Entry.{Entry}
-
-same_heads : (a b : ℕ) (x y : List ℕ) → a ∷ x ≡ b ∷ y → (a ≡ b) × (x ≡ y)
-same_heads a b x y e = (cc, cc)
+use Rattle.world_core.proofs.Lists.{cons-parts}
 
 -- no line of numbers goes on over a line feed
 feed_stops : (s : ReadSoFar) (b : ℕ) (line : List ℕ) → 10 ≡ b → read_on s (b ∷ line) ≡ None
@@ -21,12 +20,12 @@ feed_stops (Some (numbers, Some n)) b line is = ap (λ x. read_on (Some (numbers
 
 -- where a text begins with two lines of numbers, each with its line feed, they are one
 first_line : (s : ReadSoFar) (a b x y : List ℕ) → (read_on s a ≡ None → ⊥) → (read_on s b ≡ None → ⊥) → a ++ (10 ∷ x) ≡ b ++ (10 ∷ y) → (a ≡ b) × (x ≡ y)
-first_line s [] [] x y whole other e = (refl, (same_heads 10 10 x y e).1)
-first_line s [] (c ∷ b) x y whole other e = absurd (other (feed_stops s c b (same_heads 10 c x (b ++ (10 ∷ y)) e).0))
-first_line s (c ∷ a) [] x y whole other e = absurd (whole (feed_stops s c a (sym (same_heads c 10 (a ++ (10 ∷ x)) y e).0)))
+first_line s [] [] x y whole other e = (refl, (cons-parts 10 10 x y e).1)
+first_line s [] (c ∷ b) x y whole other e = absurd (other (feed_stops s c b (cons-parts 10 c x (b ++ (10 ∷ y)) e).0))
+first_line s (c ∷ a) [] x y whole other e = absurd (whole (feed_stops s c a (sym (cons-parts c 10 (a ++ (10 ∷ x)) y e).0)))
 first_line None (c ∷ a) (d ∷ b) x y whole other e = absurd (whole refl)
 first_line (Some (numbers, number)) (c ∷ a) (d ∷ b) x y whole other e =
-    let heads = same_heads c d (a ++ (10 ∷ x)) (b ++ (10 ∷ y)) e in
+    let heads = cons-parts c d (a ++ (10 ∷ x)) (b ++ (10 ∷ y)) e in
     let rest = first_line (after_byte numbers number c) a b x y whole (λ none. other (ap (λ k. read_on (Some (numbers, number)) (k ∷ b)) (sym heads.0) ∙ none)) heads.1 in
     ((λ i. heads.0 i ∷ rest.0 i), rest.1)
 
@@ -39,7 +38,7 @@ module _ (schema : Schema) where
   same_text a b is isb e =
       let left = line_is schema (entry_text schema a) a is refl in
       let right = line_is schema (entry_text schema a) b isb e in
-      sym (entry_again schema a is) ∙ ap (entry_of_numbers schema) (same_some _ _ (sym left ∙ right)) ∙ entry_again schema b isb
+      sym (entry_again schema a is) ∙ ap (entry_of_numbers schema) (same_Some _ _ (sym left ∙ right)) ∙ entry_again schema b isb
 
   -- so are entries whose lines stand at the front of one text, and what follows is the same
   fronts : (a b : Entry) (x y : List ℕ) → IsEntryOf schema a → IsEntryOf schema b → entry_line schema a ++ x ≡ entry_line schema b ++ y → (a ≡ b) × (x ≡ y)

@@ -1,18 +1,17 @@
-mod ByteByByte
-mod Drawing
+pub mod ByteByByte
+mod DrawnItems
 pub mod EndCounts
 pub mod EntryNumbers
 pub mod InTurn
 pub mod ItemOrder
-mod Joining
+mod JoinedPasses
 mod JournalLines
 mod JournalTexts
-mod Keeping
+mod LaneRule
+mod LaneViews
 mod MachineSteps
 mod NumberLines
-mod Opening
-mod Running
-mod Sending
-pub mod SentLists
-mod Settling
+mod OpenedLanes
+mod SentItems
+mod SettledEnds
 mod Updates

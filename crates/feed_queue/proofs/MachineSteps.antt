@@ -17,7 +17,7 @@ use Rattle.feed_queue.specs.declared.item.Slot.TheVariants.{Opens, Carries}
 use Rattle.feed_queue.specs.declared.line.Feeding.{Feeding}
 use Rattle.feed_queue.specs.declared.line.View.TheVariants.{Fresh, Opening, Draws, Feeds, Spent}
 use Rattle.feed_queue.proofs.ItemOrder.{entries_append}
-use Rattle.feed_queue.proofs.Running.{numbered_off}
+use Rattle.feed_queue.proofs.LaneViews.{numbered_off}
 
 queued_append : (a b : List Slot) → queued_entries (a ++ b) ≡ queued_entries a ++ queued_entries b
 queued_append [] b = refl

@@ -6,6 +6,7 @@ use Rattle.std.specs.List.{flat_map}
 use Rattle.std.proofs.lemmas.Bool.Decides.{nat_tests, eqb_tells, leb_tells}
 use Rattle.std.proofs.lemmas.Fmt.{decimal_digit, decimal_step, decimal_by_steps}
 use Rattle.std.proofs.lemmas.List.{append-nil}
+use Rattle.std.proofs.lemmas.Option.{same_Some}
 use Rattle.std.proofs.lemmas.List.Elements.{All-append, All-cons, All-tail}
 use Rattle.feed_queue.specs.Journal.{number_text}
 use Rattle.feed_queue.specs.NumberReading.{longer_number, after_digit, ReadSoFar, ended_by_space, with_number, after_byte, read_on, numbers_read, line_numbers}
@@ -111,21 +112,18 @@ option_cases (Some a) = inr (a, refl)
 pub none_some : {A B : Type 0} (a : A) → None ≡ Some a → B
 none_some a e = absurd (let f : None ≡ Some a = e in cc)
 
-pub same_some : {A : Type 0} (a b : A) → Some a ≡ Some b → a ≡ b
-same_some a b e = cc
-
 digit_range : (b : ℕ) → is_ascii_digit b ≡ true → (48 ≤ b) × (b ≤ 57)
 digit_range b h = grind (arith, nat_tests, h)
 
 -- a number and a digit more make a number whose text has that digit more
 digit_makes : (number : Option ℕ) (b d m : ℕ) → b ≡ 48 + d → d < 10 → longer_number number d ≡ Some m → (m < 2 ^ 32) × (digits_of number ++ b ∷ [] ≡ decimal m)
 digit_makes None b d m is low e =
-    let same : d ≡ m = same_some d m e in
+    let same : d ≡ m = same_Some d m e in
     (omega (arith, same, low), ap (λ k. k ∷ []) is ∙ sym (decimal_digit d low) ∙ ap decimal same)
 digit_makes (Some zero) b d m is low e = none_some m e
 digit_makes (Some (suc n)) b d m is low e = ⊎_elim
     (λ (t : (ltb (10 * suc n + d) (2 ^ 32) ≡ true) × (suc (10 * suc n + d) ≤ 2 ^ 32)).
-    let same : 10 * suc n + d ≡ m = same_some _ m (sym (ap (λ b. cond b (Some (10 * suc n + d)) None) t.0) ∙ e) in
+    let same : 10 * suc n + d ≡ m = same_Some _ m (sym (ap (λ b. cond b (Some (10 * suc n + d)) None) t.0) ∙ e) in
     let small : m < 2 ^ 32 = omega (arith, same, t.1) in
     let tens : m / 10 ≡ suc n = omega (arith, same, low) in
     let ones : 48 + m % 10 ≡ b = omega (arith, same, low, is) in
@@ -184,7 +182,7 @@ digit_more b line all numbers number rest small (inr (m, some)) e =
 read_is_text : (line all : List ℕ) → IsRest line all
 read_is_text [] all numbers None small last e = none_some all e
 read_is_text [] all numbers (Some n) small last e =
-    let same : numbers ++ n ∷ [] ≡ all = same_some _ all e in
+    let same : numbers ++ n ∷ [] ≡ all = same_Some _ all e in
     (append-nil _ ∙ whole_text numbers n ∙ ap number_text same, subst AreSmall same (and_last numbers n small last))
 read_is_text (b ∷ line) all numbers number small last e =
     let rest = read_is_text line all in

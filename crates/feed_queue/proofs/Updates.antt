@@ -1,6 +1,5 @@
--- Functions with one value changed, and what holds of all items.
-use Rattle.std.proofs.Common.{◌≡◌, ◌≢◌, ℕ, ⊎_elim, eqb, eq-eqb, ne_eqb, true, false, cond, List, [], ◌∷◌, ◌++◌, All, sym, ap, subst, arith}
-use Rattle.std.proofs.lemmas.List.Elements.{All-append, All-cons, All-tail}
+-- Functions with one value changed.
+use Rattle.std.proofs.Common.{◌≡◌, ◌≢◌, ℕ, ⊎_elim, eqb, eq-eqb, ne_eqb, true, false, cond, sym, ap, subst}
 use Rattle.std.proofs.lemmas.Bool.Decides.{eqb_tells}
 
 -- a function with one value changed
@@ -18,17 +17,3 @@ updated_cases P f w g here else h = ⊎_elim
     (λ (t : (eqb h f ≡ true) × (h ≡ f)). subst (P h) (sym (updated_here f w g h t.1)) (subst (λ (k : ℕ). P k w) (sym t.1) here))
     (λ (t : (eqb h f ≡ false) × (h ≢ f)). subst (P h) (sym (updated_else f w g h t.1)) (else h t.1))
     (eqb_tells h f)
-
-pub all_weaker : {A : Type 0} (P Q : A → Type 0) → ((x : A) → P x → Q x) → (xs : List A) → All P xs → All Q xs
-all_weaker P Q f xs h = λ k d less. f _ (h k d less)
-
-pub all_and_last : {A : Type 0} (P : A → Type 0) (xs : List A) (x : A) → All P xs → P x → All P (xs ++ x ∷ [])
-all_and_last P xs x h p = All-append P xs (x ∷ []) h (All-cons P x [] p (λ k d less. absurd (omega arith)))
-
-pub all_inside : {A : Type 0} (P : A → Type 0) (a : List A) (x : A) (b : List A) → All P (a ++ x ∷ b) → P x
-all_inside P [] x b h = h 0 x (omega arith)
-all_inside P (y ∷ a) x b h = all_inside P a x b (All-tail P y (a ++ x ∷ b) h)
-
-pub all_before : {A : Type 0} (P : A → Type 0) (a b : List A) → All P (a ++ b) → All P a
-all_before P [] b h = λ k d less. absurd (omega arith)
-all_before P (x ∷ a) b h = All-cons P x a (h 0 x (omega arith)) (all_before P a b (All-tail P x (a ++ b) h))

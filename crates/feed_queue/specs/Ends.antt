@@ -60,15 +60,6 @@ having_sent end (End f n) = feed_state end.lane end.schema end.feeder end.points
 abbrev pub having_sent_all : FeedState → List Point → FeedState
 having_sent_all end points = feed_state end.lane end.schema end.feeder (end.points ++ points) true
 
--- the end has sent nothing, and may send all these points
-pub record MaySendAll (end : FeedState) (points : List Point) : Type 0 where
-  -- it has sent nothing
-  pub new : (end.points ≡ []) × (end.ended ≡ false)
-  -- they are fewer than 2^32 - 1
-  pub few : length points < 2 ^ 32 - 1
-  -- each is valid
-  pub valid : All (λ (p : Point). IsTrue (valid end.schema p)) points
-
 -- the drawing end once it has drawn the item
 abbrev pub having_drawn : DrawState → Item → DrawState
 having_drawn end i = draw_state end.lane end.schema end.feeders (end.drawn ++ i ∷ [])

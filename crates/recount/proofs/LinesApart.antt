@@ -1,5 +1,5 @@
 -- A text begins with one line at most.
-use Rattle.std.proofs.Common.{◌≡◌, ℕ, ◌+◌, eqb, eq-eqb, false, List, [], ◌∷◌, ◌++◌, length, take, refl, sym, ap, ◌∙◌, append_assoc, arith, length-append, Option, Some, None, IfNone}
+use Rattle.std.proofs.Common.{◌≡◌, ℕ, ◌+◌, eqb, eq-eqb, false, List, [], ◌∷◌, ◌++◌, length, take, refl, sym, ap, ◌∙◌, append_assoc, arith, length-append}
 use Rattle.std.proofs.Math.Seq.{take-append_seam}
 use Rattle.std.proofs.lemmas.Bool.{false≢true}
 use Rattle.outer_io.specs.Pieces.{NoFeed}
@@ -33,8 +33,3 @@ pub whole_line : (text a x : List ℕ) (n : ℕ) → text ≡ a ++ (10 ∷ x) �
 whole_line text a x n e same =
     let k : n + 1 ≡ length (a ++ (10 ∷ [])) = let l = length-append a (10 ∷ []) in omega (arith, l, same) in
     ap (take (n + 1)) (e ∙ sym (append_assoc a (10 ∷ []) x)) ∙ ap (λ j. take j ((a ++ (10 ∷ [])) ++ x)) k ∙ take-append_seam (a ++ (10 ∷ [])) x
-
--- what is claimed of an answer that is none
-pub if_none : {A : Type 0} (answer : Option A) (P : Type 0) → P → IfNone answer P
-if_none None P p = p
-if_none (Some a) P p = tt

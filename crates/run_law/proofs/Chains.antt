@@ -6,7 +6,7 @@ use Rattle.cube_view.specs.declared.schema.Schema.{Schema}
 use Rattle.feed_queue.specs.Ends.{FeedState, having_sent}
 use Rattle.feed_queue.specs.declared.item.Item.{Item}
 use Rattle.feed_queue.specs.declared.item.Item.TheVariants as item
-use Rattle.feed_queue.proofs.SentLists.{length-new_feeds}
+use Rattle.feed_queue.proofs.InTurn.{length-new_feeds}
 use Rattle.world_core.specs.Machine.{first_world, after_events}
 use Rattle.world_core.specs.declared.world.World.{World}
 use Rattle.world_core.proofs.Prefixes.{IsPrefix-then}

@@ -7,7 +7,7 @@ use Rattle.cube_view.specs.Points.{Point}
 use Rattle.cube_view.specs.declared.schema.Schema.{Schema}
 use Rattle.feed_queue.specs.Ends.{FeedState, DrawState, feed_state, new_feeds, sent_lists}
 use Rattle.feed_queue.specs.Items.{entries_in}
-use Rattle.feed_queue.proofs.SentLists.{length-new_feeds}
+use Rattle.feed_queue.proofs.InTurn.{length-new_feeds}
 use Rattle.published_pair.specs.Rules.{Known}
 use Rattle.published_pair.specs.declared.told.Told.{Told}
 use Rattle.world_core.specs.Interleaving.{numbered, entries_of, entry_points, list_of}

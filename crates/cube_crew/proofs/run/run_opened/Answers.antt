@@ -1,4 +1,4 @@
-use Rattle.std.proofs.Common.{arith, ◌≡◌, true, false, All, length, sym, ap, subst, ◌∙◌}
+use Rattle.std.proofs.Common.{arith, ◌≡◌, true, All, length, sym, ap, subst, ◌∙◌}
 use Rattle.std.specs.List.{AllZip}
 use Rattle.std.proofs.lemmas.List.Elements.{All-same}
 use Rattle.crew_builder.specs.Built.{IsBuilt}
@@ -14,12 +14,12 @@ use Rattle.live_session.specs.State.{ends_of}
 use Rattle.mailbox.specs.Ends.{OutEnd}
 use Rattle.cube_crew.proofs.Answering.{all_works}
 use Rattle.cube_crew.proofs.Crewing.{crewed}
-use Rattle.feed_queue.proofs.SentLists.{length-new_feeds}
+use Rattle.feed_queue.proofs.InTurn.{length-new_feeds}
 use Rattle.cube_crew.proofs.Feeding.{IsNewEnd, new_ends, works_ready}
 use Rattle.cube_crew.proofs.Seating.{Seats, batch_bounds, is_run, seats_of}
 use Rattle.cube_crew.proofs.Zips.{AllZip-length, AllZip-right}
 use Rattle.cube_crew.proofs.run.run_opened.Given.{Over}
-use Rattle.cube_crew.proofs.run.run_opened.Goals.{After-new, After-new-builder, After-run_together, After-seat_feeds-works, After-seat_sessions-asks, After-seat_sessions-finals}
+use Rattle.cube_crew.proofs.run.run_opened.Goals.{After-new-builder, After-run_together, After-seat_feeds-works, After-seat_sessions-asks, After-seat_sessions-finals}
 use Rattle.cube_crew.proofs.run.run_opened.Goals as goal
 
 -- what the run begins with

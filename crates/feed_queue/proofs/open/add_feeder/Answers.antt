@@ -1,4 +1,4 @@
-use Rattle.feed_queue.proofs.Keeping.{may_split}
+use Rattle.feed_queue.proofs.LaneRule.{may_split}
 use Rattle.feed_queue.proofs.open.add_feeder.Goals as goal
 
 pub another-part-requires-clause-rule : goal.another-part-requires-clause-rule

@@ -1,5 +1,5 @@
 use Rattle.std.proofs.Common.{rules}
-use Rattle.feed_queue.proofs.Opening.{new_feeds_push}
+use Rattle.feed_queue.proofs.OpenedLanes.{new_feeds_push}
 use Rattle.feed_queue.proofs.open.open_lane.Goals as goal
 
 pub loop-made-preserved : goal.loop-made-preserved

@@ -1,5 +1,5 @@
 use Rattle.std.proofs.Common.{refl, rules}
-use Rattle.feed_queue.proofs.Keeping.{may_open, may_begin, new_lane}
+use Rattle.feed_queue.proofs.LaneRule.{may_open, may_begin, new_lane}
 use Rattle.feed_queue.proofs.steps.open_line.Goals as goal
 
 pub ruled-requires-clause-rule : goal.ruled-requires-clause-rule

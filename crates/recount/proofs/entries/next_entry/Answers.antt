@@ -1,5 +1,5 @@
 use Rattle.recount.proofs.EntryTexts.{begins_none, begins_with, no_entry}
-use Rattle.recount.proofs.LinesApart.{if_none}
+use Rattle.feed_queue.proofs.ByteByByte.{if_none}
 use Rattle.recount.proofs.entries.next_entry.Goals as goal
 
 pub returns-in_err-first-clause-none : goal.returns-in_err-first-clause-none

@@ -2,7 +2,8 @@ use Rattle.std.proofs.Common.{◌∷◌, ◌++◌, ◌+◌, ◌-◌, ◌≤◌, 
 use Rattle.std.proofs.lemmas.List.{take_all, length-take-le}
 use Rattle.outer_io.specs.Pieces.{NoFeed}
 use Rattle.outer_io.proofs.Feeds.{first_feed-None, first_feed-Some}
-use Rattle.recount.proofs.LinesApart.{if_none, whole_line}
+use Rattle.feed_queue.proofs.ByteByByte.{if_none}
+use Rattle.recount.proofs.LinesApart.{whole_line}
 use Rattle.recount.proofs.lines.first_line.Goals as goal
 
 pub returns-in_err-at-clause-none : goal.returns-in_err-at-clause-none

@@ -1,7 +1,7 @@
 use Rattle.std.proofs.Common.{rules}
-use Rattle.feed_queue.proofs.Keeping.{may_settle}
+use Rattle.feed_queue.proofs.LaneRule.{may_settle}
 use Rattle.feed_queue.proofs.InTurn.{interleaves_in_turn}
-use Rattle.feed_queue.proofs.Settling.{settled_interleaves, settled_counts}
+use Rattle.feed_queue.proofs.SettledEnds.{settled_interleaves, settled_counts}
 use Rattle.feed_queue.proofs.draw.DrawEnd.settle.Goals as goal
 
 pub learn_as-requires-clause-rule : goal.learn_as-requires-clause-rule

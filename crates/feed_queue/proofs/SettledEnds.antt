@@ -35,15 +35,6 @@ whole_of drawn f (e ∷ es) ended all among = ⊎_elim
     (r.0, r.1 ∙ ap (λ c. stream_from f 0 (cond c e.points (sent_by es f)) r.0) (sym t.0)))
     (eqb_tells e.feeder f)
 
-pub interleaves : (d : Drawing) (es : List FeedState) → IsSettled d → d.joined ≡ map feeding_of es → ((f : ℕ) → 1 ≤ f → f ≤ d.made → is_among es f ≡ true) → ((f : ℕ) → 1 ≤ f → f ≤ d.made → has_end f d.drawn ≡ true)
-    → IsInterleaving d.made (sent_by es) (entries_in d.drawn)
-interleaves d es s is each ends = record {
-  known = entries_all (λ f. (1 ≤ f) × (f ≤ d.made)) d.drawn s.from;
-  each = λ f low high.
-      let r = whole_of d.drawn f es (ends f low high) (subst (All (Whole d.drawn)) is s.whole) (each f low high) in
-      entries_items f d.drawn ∙ ap entries_in r.1 ∙ entries_stream f 0 (sent_by es f) r.0;
-}
-
 past : (P : Item → Type 0) (i : Item) (is : List Item) (b : Bool) → All P (cond b (i ∷ is) is) → All P is
 past P i is true h = All-tail P i is h
 past P i is false h = h
@@ -60,24 +51,33 @@ counted lists f n [] true e = All-cons (TellsCount lists) (End f n) [] (omega ar
 counted lists f n [] false e = λ k d less. absurd (omega arith)
 counted lists f n (p ∷ ps) b e = All-cons (TellsCount lists) (One (entry f n p)) (stream_from f (n + 1) ps b) tt (counted lists f (n + 1) ps b (omega arith))
 
-pub counts : (d : Drawing) (es : List FeedState) → IsSettled d → d.joined ≡ map feeding_of es → ((f : ℕ) → 1 ≤ f → f ≤ d.made → is_among es f ≡ true) → ((f : ℕ) → 1 ≤ f → f ≤ d.made → has_end f d.drawn ≡ true)
-    → All (TellsCount (sent_by es)) d.drawn
-counts d es s is each ends = by_feeder (TellsCount (sent_by es)) (λ f. (1 ≤ f) × (f ≤ d.made)) d.drawn
-    (λ f (ok : (1 ≤ f) × (f ≤ d.made)).
-    let r = whole_of d.drawn f es (ends f ok.0 ok.1) (subst (All (Whole d.drawn)) is s.whole) (each f ok.0 ok.1) in
-    subst (All (TellsCount (sent_by es))) (sym r.1) (counted (sent_by es) f 0 (sent_by es f) r.0 (omega arith)))
-    s.from
+module _ (d : Drawing) (es : List FeedState) (s : IsSettled d) (is : d.joined ≡ map feeding_of es) (each : (f : ℕ) → 1 ≤ f → f ≤ d.made → is_among es f ≡ true) (ends : (f : ℕ) → 1 ≤ f → f ≤ d.made → has_end f d.drawn ≡ true) where
+  -- what was drawn of a feeder that is among them is all that it has sent
+  drawn_whole : (f : ℕ) → 1 ≤ f → f ≤ d.made → (b : Bool) × (items_of f d.drawn ≡ stream_from f 0 (sent_by es f) b)
+  drawn_whole f low high = whole_of d.drawn f es (ends f low high) (subst (All (Whole d.drawn)) is s.whole) (each f low high)
 
-module _ (v w : View) (d : DrawState) (es : List FeedState) where
-  settled : v ≡ Draws (drawing d.schema d.drawn d.feeders []) → w ≡ all_joined v es → Settles w → IsSettled (drawing d.schema d.drawn d.feeders (map feeding_of es))
-  settled e f s = subst Settles (f ∙ ap (λ (u : View). all_joined u es) e) s
+  interleaves : IsInterleaving d.made (sent_by es) (entries_in d.drawn)
+  interleaves = record {
+    known = entries_all (λ f. (1 ≤ f) × (f ≤ d.made)) d.drawn s.from;
+    each = λ f low high. let r = drawn_whole f low high in entries_items f d.drawn ∙ ap entries_in r.1 ∙ entries_stream f 0 (sent_by es f) r.0;
+  }
 
-  pub settled_interleaves : v ≡ Draws (drawing d.schema d.drawn d.feeders []) → w ≡ all_joined v es → Settles w
-      → ((f : ℕ) → 1 ≤ f → f ≤ d.feeders → is_among es f ≡ true) → ((f : ℕ) → 1 ≤ f → f ≤ d.feeders → has_end f d.drawn ≡ true)
-      → (out : List Entry) → out ≡ entries_in d.drawn → IsInterleaving d.feeders (sent_by es) out
-  settled_interleaves e f s each ends out is = subst (IsInterleaving d.feeders (sent_by es)) (sym is) (interleaves (drawing d.schema d.drawn d.feeders (map feeding_of es)) es (settled e f s) refl each ends)
+  counts : All (TellsCount (sent_by es)) d.drawn
+  counts = by_feeder (TellsCount (sent_by es)) (λ f. (1 ≤ f) × (f ≤ d.made)) d.drawn
+      (λ f (ok : (1 ≤ f) × (f ≤ d.made)).
+      let r = drawn_whole f ok.0 ok.1 in
+      subst (All (TellsCount (sent_by es))) (sym r.1) (counted (sent_by es) f 0 (sent_by es f) r.0 (omega arith)))
+      s.from
 
-  pub settled_counts : v ≡ Draws (drawing d.schema d.drawn d.feeders []) → w ≡ all_joined v es → Settles w
-      → ((f : ℕ) → 1 ≤ f → f ≤ d.feeders → is_among es f ≡ true) → ((f : ℕ) → 1 ≤ f → f ≤ d.feeders → has_end f d.drawn ≡ true)
-      → All (TellsCount (sent_by es)) d.drawn
-  settled_counts e f s each ends = counts (drawing d.schema d.drawn d.feeders (map feeding_of es)) es (settled e f s) refl each ends
+module _ (v w : View) (d : DrawState) (es : List FeedState) (e : v ≡ Draws (drawing d.schema d.drawn d.feeders [])) (f : w ≡ all_joined v es) (s : Settles w) (each : (f : ℕ) → 1 ≤ f → f ≤ d.feeders → is_among es f ≡ true) (ends : (f : ℕ) → 1 ≤ f → f ≤ d.feeders → has_end f d.drawn ≡ true) where
+  abbrev drawing_end : Drawing
+  drawing_end = drawing d.schema d.drawn d.feeders (map feeding_of es)
+
+  settled : IsSettled drawing_end
+  settled = subst Settles (f ∙ ap (λ (u : View). all_joined u es) e) s
+
+  pub settled_interleaves : (out : List Entry) → out ≡ entries_in d.drawn → IsInterleaving d.feeders (sent_by es) out
+  settled_interleaves out is = subst (IsInterleaving d.feeders (sent_by es)) (sym is) (interleaves drawing_end es settled refl each ends)
+
+  pub settled_counts : All (TellsCount (sent_by es)) d.drawn
+  settled_counts = counts drawing_end es settled refl each ends

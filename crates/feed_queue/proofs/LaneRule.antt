@@ -12,10 +12,10 @@ use Rattle.feed_queue.specs.declared.line.View.{View}
 use Rattle.feed_queue.specs.declared.line.View.TheVariants.{Fresh, Opening, Draws, Feeds, Spent}
 use Rattle.feed_queue.specs.Rule.{KeepsLane, opening_view}
 use Rattle.feed_queue.specs.Steps.{begun_view, ViewSends, ViewDraws, after_slot, IsDraw, split_left, split_right, joined_with, Settles}
-use Rattle.feed_queue.proofs.Opening.{opens, begins, splits}
-use Rattle.feed_queue.proofs.Sending.{sends, entry_on, end_on}
-use Rattle.feed_queue.proofs.Drawing.{draws}
-use Rattle.feed_queue.proofs.Joining.{joins, settles}
+use Rattle.feed_queue.proofs.OpenedLanes.{opens, begins, splits}
+use Rattle.feed_queue.proofs.SentItems.{sends, entry_on, end_on}
+use Rattle.feed_queue.proofs.DrawnItems.{draws}
+use Rattle.feed_queue.proofs.JoinedPasses.{joins, settles}
 
 pub may_push : (n pass : ℕ) (v : View) (i : Item) → ViewSends v i → Pushes KeepsLane n pass v (Carries i) (λ w. w ≡ after_slot v (Carries i))
 may_push n pass Fresh i h = absurd h

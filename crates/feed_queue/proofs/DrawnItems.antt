@@ -1,5 +1,7 @@
 -- An item that is drawn keeps the rule.
-use Rattle.std.proofs.Common.{◌≡◌, ◌≢◌, ℕ, ◌≤◌, ⊎_elim, IsTrue, List, [], ◌∷◌, ◌++◌, All, map, set, sym, refl, ap, ◌∙◌, subst, append_assoc}
+use Rattle.std.proofs.Common.{◌≡◌, ◌≢◌, ℕ, ◌≤◌, ⊎_elim, IsTrue, List, [], ◌∷◌, ◌++◌, All, length, map, set, sym, refl, ap, ◌∙◌, subst, append_assoc}
+use Rattle.std.proofs.Math.Seq.{take-append_seam}
+use Rattle.std.proofs.lemmas.List.Elements.{All-take}
 use mathlib.Core.Option.{some}
 use lib.ListN.{get_elem?}
 use Rattle.crossbeam_queue.specs.Fifo.{Pops}
@@ -14,16 +16,13 @@ use Rattle.feed_queue.specs.Items.{feeder_of, items_of, valid_item, stream_from}
 use Rattle.feed_queue.specs.Rule.{IsKnown, KeepsLane}
 use Rattle.feed_queue.specs.Steps.{drawing_after, IsDraw}
 use Rattle.feed_queue.proofs.ItemOrder.{next_in, drawn_ordered}
-use Rattle.feed_queue.proofs.Updates.{all_inside, all_before}
-use Rattle.feed_queue.proofs.Running.{running, RunsAt, draws_at, moved}
-
-pub slot_is : (x y : Slot) (l m : List Slot) → x ∷ l ≡ y ∷ m → (y ≡ x) × (l ≡ m)
-slot_is x y l m e = (cc, cc)
+use Rattle.world_core.proofs.Lists.{All-middle, cons-parts}
+use Rattle.feed_queue.proofs.LaneViews.{running, RunsAt, draws_at, moved}
 
 pub draws_from : (x : Slot) (items : List Slot) (views : List View) (pass : ℕ) (d : Drawing) (q : List Item) → RunsAt (x ∷ items) views pass d q → (w : View) × KeepsLane items (set views pass w) × IsDraw (Draws d) x w
 draws_from x items views pass d [] r = absurd (let e : x ∷ items ≡ [] = r.held in cc)
 draws_from x items views pass d (i ∷ q) r =
-    let is : (Carries i ≡ x) × (items ≡ map Carries q) = slot_is x (Carries i) items (map Carries q) r.held in
+    let is : (x ≡ Carries i) × (items ≡ map Carries q) = cons-parts x (Carries i) items (map Carries q) r.held in
     let e : Drawing = drawing_after d i in
     let f : ℕ = feeder_of i in
     let same : d.drawn ++ i ∷ q ≡ (d.drawn ++ i ∷ []) ++ q = sym (append_assoc d.drawn (i ∷ []) q) in
@@ -38,13 +37,13 @@ draws_from x items views pass d (i ∷ q) r =
           (subst (All (λ (y : Item). (1 ≤ feeder_of y) × (feeder_of y ≤ d.made))) same r.from)
           (subst (All (λ (y : Item). IsTrue (valid_item d.schema y))) same r.valid)
           r.joined,
-      subst (λ (y : Slot). IsDraw (Draws d) y (Draws e)) is.0 (
+      subst (λ (y : Slot). IsDraw (Draws d) y (Draws e)) (sym is.0) (
         refl,
         record {
-          from = all_inside (λ (y : Item). (1 ≤ feeder_of y) × (feeder_of y ≤ d.made)) d.drawn i q r.from;
-          valid = all_inside (λ (y : Item). IsTrue (valid_item d.schema y)) d.drawn i q r.valid;
-          all_from = all_before (λ (y : Item). (1 ≤ feeder_of y) × (feeder_of y ≤ d.made)) (d.drawn ++ i ∷ []) q (subst (All (λ (y : Item). (1 ≤ feeder_of y) × (feeder_of y ≤ d.made))) same r.from);
-          all_valid = all_before (λ (y : Item). IsTrue (valid_item d.schema y)) (d.drawn ++ i ∷ []) q (subst (All (λ (y : Item). IsTrue (valid_item d.schema y))) same r.valid);
+          from = All-middle (λ (y : Item). (1 ≤ feeder_of y) × (feeder_of y ≤ d.made)) d.drawn i q r.from;
+          valid = All-middle (λ (y : Item). IsTrue (valid_item d.schema y)) d.drawn i q r.valid;
+          all_from = subst (All (λ (y : Item). (1 ≤ feeder_of y) × (feeder_of y ≤ d.made))) (take-append_seam (d.drawn ++ i ∷ []) q) (All-take (λ (y : Item). (1 ≤ feeder_of y) × (feeder_of y ≤ d.made)) (length (d.drawn ++ i ∷ [])) ((d.drawn ++ i ∷ []) ++ q) (subst (All (λ (y : Item). (1 ≤ feeder_of y) × (feeder_of y ≤ d.made))) same r.from));
+          all_valid = subst (All (λ (y : Item). IsTrue (valid_item d.schema y))) (take-append_seam (d.drawn ++ i ∷ []) q) (All-take (λ (y : Item). IsTrue (valid_item d.schema y)) (length (d.drawn ++ i ∷ [])) ((d.drawn ++ i ∷ []) ++ q) (subst (All (λ (y : Item). IsTrue (valid_item d.schema y))) same r.valid));
           all_ordered = λ g. drawn_ordered (d.drawn ++ i ∷ []) q g (r.now g).feeder (r.now g).points (r.now g).ended (ap (items_of g) (sym same) ∙ r.flow g);
           next = next_in d.drawn q i f (r.now f).points (r.now f).ended refl (r.flow f ∙ ap (λ g. stream_from g 0 (r.now f).points (r.now f).ended) (r.named f).0);
         },

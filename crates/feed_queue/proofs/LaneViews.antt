@@ -1,12 +1,13 @@
 -- A lane that runs: its rule, and the views of its passes.
-use Rattle.std.proofs.Common.{◌≡◌, ℕ, zero, suc, ◌≤◌, ◌<◌, ◌⊎◌, inl, inr, ⊎_elim, leb, true, false, IsTrue, List, [], ◌∷◌, ◌++◌, All, Option, Some, None, map, sym, refl, ap, ◌∙◌, subst, arith}
+use Rattle.std.proofs.Common.{◌≡◌, ℕ, zero, suc, ◌≤◌, ◌<◌, ◌⊎◌, inl, inr, ⊎_elim, leb, true, false, IsTrue, List, ◌++◌, All, Option, Some, None, map, sym, refl, ap, ◌∙◌, subst, arith}
 use Rattle.std.proofs.lemmas.Bool.Decides.{leb_tells}
-use mathlib.Core.Option.{some, some-injective, some-ne-none}
+use mathlib.Core.Option.{some}
 use lib.ListN.{get_elem?}
 use Rattle.world_core.specs.declared.entry.Entry.{Entry}
 use Rattle.cube_view.specs.declared.schema.Schema.{Schema}
 use Rattle.world_core.specs.Interleaving.{entries_of}
 use Rattle.world_core.specs.LaneFact.{lane_fact}
+use Rattle.world_core.proofs.Lists.{one_item}
 use Rattle.feed_queue.specs.declared.item.Item.{Item}
 use Rattle.feed_queue.specs.declared.item.Slot.{Slot}
 use Rattle.feed_queue.specs.declared.item.Slot.TheVariants.{Carries}
@@ -56,23 +57,15 @@ running items views drawer d now seat queue held known named flow later from val
   joined = joined;
 }))
 
--- the one view of a lane that does not run yet
-pub only_view : (x v : View) (pass : ℕ) → get_elem? (x ∷ []) pass ≡ some v → (pass ≡ 0) × (x ≡ v)
-only_view x v zero e = (refl, some-injective x v e)
-only_view x v (suc pass) e = absurd (some-ne-none v (sym e))
-
-pub one_view : (views : List View) (x v : View) (pass : ℕ) → views ≡ x ∷ [] → get_elem? views pass ≡ some v → (pass ≡ 0) × (x ≡ v)
-one_view views x v pass are at = only_view x v pass (ap (λ l. get_elem? l pass) (sym are) ∙ at)
-
 -- a feeder's pass runs
 pub feeds_run : (items : List Slot) (views : List View) (pass : ℕ) (w : Feeding) → KeepsLane items views → get_elem? views pass ≡ some (Feeds w) → IsRunning items views
-feeds_run items views pass w (inl n) at = absurd (let e : Fresh ≡ Feeds w = (one_view views Fresh (Feeds w) pass n.views_are at).1 in cc)
-feeds_run items views pass w (inr (inl o)) at = absurd (let e : Opening o.schema ≡ Feeds w = (one_view views (Opening o.schema) (Feeds w) pass o.views_are at).1 in cc)
+feeds_run items views pass w (inl n) at = absurd (let e : Fresh ≡ Feeds w = (one_item views Fresh (Feeds w) pass n.views_are at).1 in cc)
+feeds_run items views pass w (inr (inl o)) at = absurd (let e : Opening o.schema ≡ Feeds w = (one_item views (Opening o.schema) (Feeds w) pass o.views_are at).1 in cc)
 feeds_run items views pass w (inr (inr r)) at = r
 
 pub draws_run : (items : List Slot) (views : List View) (pass : ℕ) (d : Drawing) → KeepsLane items views → get_elem? views pass ≡ some (Draws d) → IsRunning items views
-draws_run items views pass d (inl n) at = absurd (let e : Fresh ≡ Draws d = (one_view views Fresh (Draws d) pass n.views_are at).1 in cc)
-draws_run items views pass d (inr (inl o)) at = absurd (let e : Opening o.schema ≡ Draws d = (one_view views (Opening o.schema) (Draws d) pass o.views_are at).1 in cc)
+draws_run items views pass d (inl n) at = absurd (let e : Fresh ≡ Draws d = (one_item views Fresh (Draws d) pass n.views_are at).1 in cc)
+draws_run items views pass d (inr (inl o)) at = absurd (let e : Opening o.schema ≡ Draws d = (one_item views (Opening o.schema) (Draws d) pass o.views_are at).1 in cc)
 draws_run items views pass d (inr (inr r)) at = r
 
 -- what a running lane knows, by the view of its drawing end and what its queue holds

@@ -1,5 +1,7 @@
 -- A feeder's pass that comes back keeps the rule, which then tells that all was drawn.
-use Rattle.std.proofs.Common.{◌≡◌, ◌≢◌, ℕ, ◌≤◌, ⊎_elim, true, List, [], ◌∷◌, ◌++◌, Option, Some, None, set, sym, refl, ap, ◌∙◌, subst}
+use Rattle.std.proofs.Common.{◌≡◌, ◌≢◌, ℕ, ◌≤◌, ⊎_elim, true, List, [], ◌∷◌, ◌++◌, All, length, Option, Some, None, set, sym, refl, ap, ◌∙◌, subst}
+use Rattle.std.proofs.Math.Seq.{take-append_seam}
+use Rattle.std.proofs.lemmas.List.Elements.{All-push, All-take, All-weaker}
 use mathlib.Core.Option.{some}
 use lib.ListN.{get_elem?}
 use Rattle.crossbeam_queue.specs.Fifo.{Merges, Learns}
@@ -13,8 +15,8 @@ use Rattle.feed_queue.specs.Items.{feeder_of, items_of, has_end}
 use Rattle.feed_queue.specs.Rule.{stream, IsKnown, KeepsLane}
 use Rattle.feed_queue.specs.Steps.{drawing, joined_with, Settles}
 use Rattle.feed_queue.proofs.ItemOrder.{all_drawn}
-use Rattle.feed_queue.proofs.Updates.{updated, updated_here, updated_else, updated_cases, all_weaker, all_and_last, all_before}
-use Rattle.feed_queue.proofs.Running.{running, draws_at, same_seat, moved, numbered_off}
+use Rattle.feed_queue.proofs.Updates.{updated, updated_here, updated_else, updated_cases}
+use Rattle.feed_queue.proofs.LaneViews.{running, draws_at, same_seat, moved, numbered_off}
 
 pub none_stays : (f : ℕ) (seat : ℕ → Option ℕ) (g : ℕ) → seat g ≡ None → updated f None seat g ≡ None
 none_stays f seat = updated_cases (λ (g : ℕ) (o : Option ℕ). seat g ≡ None → o ≡ None) f None seat (λ h. refl) (λ g ne h. h)
@@ -44,8 +46,8 @@ joins pass d other w items views k at two at' =
     running items (set vs other Spent) pass e r.now seat q r.held known r.named r.flow
     (λ g h. (none_stays f r.seat g (r.later g h).0, (r.later g h).1))
     r.from r.valid
-    (all_and_last (λ (x : Feeding). (x.feeder ≤ d.made) × (seat x.feeder ≡ None) × (x ≡ r.now x.feeder)) d.joined w
-    (all_weaker (λ (x : Feeding). (x.feeder ≤ d.made) × (r.seat x.feeder ≡ None) × (x ≡ r.now x.feeder)) (λ (x : Feeding). (x.feeder ≤ d.made) × (seat x.feeder ≡ None) × (x ≡ r.now x.feeder))
+    (All-push (λ (x : Feeding). (x.feeder ≤ d.made) × (seat x.feeder ≡ None) × (x ≡ r.now x.feeder)) d.joined w
+    (All-weaker (λ (x : Feeding). (x.feeder ≤ d.made) × (r.seat x.feeder ≡ None) × (x ≡ r.now x.feeder)) (λ (x : Feeding). (x.feeder ≤ d.made) × (seat x.feeder ≡ None) × (x ≡ r.now x.feeder))
     (λ x h. (h.0, none_stays f r.seat x.feeder h.1, h.2)) d.joined r.joined)
     (off.1, updated_here f None r.seat f refl, here.1))
 
@@ -55,7 +57,7 @@ settles pass d items views k at =
     let q = (draws_at items views pass d k at).0 in
     let r = (draws_at items views pass d k at).1 in
     record {
-      from = all_before (λ (i : Item). (1 ≤ feeder_of i) × (feeder_of i ≤ d.made)) d.drawn q r.from;
-      whole = all_weaker (λ (w : Feeding). (w.feeder ≤ d.made) × (r.seat w.feeder ≡ None) × (w ≡ r.now w.feeder)) (λ (w : Feeding). has_end w.feeder d.drawn ≡ true → items_of w.feeder d.drawn ≡ stream w)
+      from = subst (All (λ (i : Item). (1 ≤ feeder_of i) × (feeder_of i ≤ d.made))) (take-append_seam d.drawn q) (All-take (λ (i : Item). (1 ≤ feeder_of i) × (feeder_of i ≤ d.made)) (length d.drawn) (d.drawn ++ q) r.from);
+      whole = All-weaker (λ (w : Feeding). (w.feeder ≤ d.made) × (r.seat w.feeder ≡ None) × (w ≡ r.now w.feeder)) (λ (w : Feeding). has_end w.feeder d.drawn ≡ true → items_of w.feeder d.drawn ≡ stream w)
           (λ w h ended. all_drawn d.drawn q w.feeder w.points w.ended (r.flow w.feeder ∙ ap stream (sym h.2)) ended) d.joined r.joined;
     }

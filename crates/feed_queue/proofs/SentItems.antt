@@ -1,6 +1,7 @@
 -- An item that is sent keeps the rule.
 use Rattle.std.proofs.Common.{◌≡◌, ◌≢◌, ℕ, ◌+◌, ◌≤◌, ⊎_elim, false, IsTrue, List, [], ◌∷◌, ◌++◌, All, Some, None, length, set, sym, refl, ap, ◌∙◌, subst, append_assoc, arith}
 use Rattle.std.proofs.lemmas.List.{append-nil, map-append}
+use Rattle.std.proofs.lemmas.List.Elements.{All-push, All-weaker}
 use mathlib.Core.Option.{some}
 use lib.ListN.{get_elem?}
 use Rattle.crossbeam_queue.specs.Fifo.{Pushes}
@@ -19,8 +20,8 @@ use Rattle.feed_queue.specs.Items.{feeder_of, items_of, valid_item, stream_from}
 use Rattle.feed_queue.specs.Rule.{stream, IsKnown, KeepsLane}
 use Rattle.feed_queue.specs.Steps.{feeding_after}
 use Rattle.feed_queue.proofs.ItemOrder.{items_append, stream_more, stream_end, own_item, other_item}
-use Rattle.feed_queue.proofs.Updates.{updated, updated_here, updated_else, updated_cases, all_weaker, all_and_last}
-use Rattle.feed_queue.proofs.Running.{running, feeds_run, runs_at, some_not_none, same_seat, moved, numbered_off}
+use Rattle.feed_queue.proofs.Updates.{updated, updated_here, updated_else, updated_cases}
+use Rattle.feed_queue.proofs.LaneViews.{running, feeds_run, runs_at, some_not_none, same_seat, moved, numbered_off}
 
 pub sent_schema : (w : Feeding) (i : Item) → (feeding_after w i).schema ≡ w.schema
 sent_schema w (One e) = refl
@@ -67,10 +68,10 @@ sends n pass w i mine fit more items views room k at =
           flow
           (λ g h. let none = r.later g h in (none.0, updated_else f u r.now g (λ (same : g ≡ f). some_not_none pass (r.seat f) here.0 (subst (λ (y : ℕ). r.seat y ≡ None) same none.0)) ∙ none.1))
           (subst (All (λ (x : Item). (1 ≤ feeder_of x) × (feeder_of x ≤ d.made))) (append_assoc d.drawn q (i ∷ []))
-          (all_and_last (λ (x : Item). (1 ≤ feeder_of x) × (feeder_of x ≤ d.made)) (d.drawn ++ q) i r.from (subst (λ (y : ℕ). (1 ≤ y) × (y ≤ d.made)) (sym mine) off)))
+          (All-push (λ (x : Item). (1 ≤ feeder_of x) × (feeder_of x ≤ d.made)) (d.drawn ++ q) i r.from (subst (λ (y : ℕ). (1 ≤ y) × (y ≤ d.made)) (sym mine) off)))
           (subst (All (λ (x : Item). IsTrue (valid_item d.schema x))) (append_assoc d.drawn q (i ∷ []))
-          (all_and_last (λ (x : Item). IsTrue (valid_item d.schema x)) (d.drawn ++ q) i r.valid (subst (λ (z : Schema). IsTrue (valid_item z i)) schema fit)))
-          (all_weaker (λ (x : Feeding). (x.feeder ≤ d.made) × (r.seat x.feeder ≡ None) × (x ≡ r.now x.feeder)) (λ (x : Feeding). (x.feeder ≤ d.made) × (r.seat x.feeder ≡ None) × (x ≡ now x.feeder))
+          (All-push (λ (x : Item). IsTrue (valid_item d.schema x)) (d.drawn ++ q) i r.valid (subst (λ (z : Schema). IsTrue (valid_item z i)) schema fit)))
+          (All-weaker (λ (x : Feeding). (x.feeder ≤ d.made) × (r.seat x.feeder ≡ None) × (x ≡ r.now x.feeder)) (λ (x : Feeding). (x.feeder ≤ d.made) × (r.seat x.feeder ≡ None) × (x ≡ now x.feeder))
           (λ x h. (h.0, h.1, h.2 ∙ sym (updated_else f u r.now x.feeder (λ (same : x.feeder ≡ f). some_not_none pass (r.seat f) here.0 (subst (λ (y : ℕ). r.seat y ≡ None) same h.1))))) d.joined r.joined),
       refl,
     )

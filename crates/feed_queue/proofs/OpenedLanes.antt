@@ -1,5 +1,6 @@
 -- How a lane is opened: the schema goes in and comes out, and each feeder gets its pass.
 use Rattle.std.proofs.Common.{◌≡◌, ◌≢◌, ℕ, zero, suc, ◌+◌, ◌≤◌, ◌<◌, ◌⊎◌, inl, inr, ⊎_elim, false, List, [], ◌∷◌, ◌++◌, Option, Some, None, length, set, sym, refl, ap, ◌∙◌, subst, arith, add-one}
+use Rattle.std.proofs.lemmas.List.Elements.{All-weaker}
 use mathlib.Core.Option.{some, some-injective, some-ne-none}
 use lib.ListN.{get_elem?}
 use Rattle.crossbeam_queue.specs.Fifo.{Pushes, Pops, Forks}
@@ -14,8 +15,9 @@ use Rattle.feed_queue.specs.declared.line.View.TheVariants.{Fresh, Opening, Draw
 use Rattle.feed_queue.specs.Items.{feeder_of}
 use Rattle.feed_queue.specs.Rule.{new_feeding, opening_view, IsKnown, KeepsLane}
 use Rattle.feed_queue.specs.Steps.{begun_view, drawing, split_left, split_right}
-use Rattle.feed_queue.proofs.Updates.{updated, updated_here, updated_else, all_weaker}
-use Rattle.feed_queue.proofs.Running.{running, only_view, one_view, draws_at, some_not_none, moved}
+use Rattle.world_core.proofs.Lists.{cons-parts, one_item}
+use Rattle.feed_queue.proofs.Updates.{updated, updated_here, updated_else}
+use Rattle.feed_queue.proofs.LaneViews.{running, draws_at, some_not_none, moved}
 use Rattle.atomic_table.specs.Seated.{TableId}
 use Rattle.feed_queue.specs.Ends.{FeedState, feed_state, new_feeds}
 use Rattle.feed_queue.specs.Passes.{known_schema}
@@ -23,34 +25,28 @@ use Rattle.feed_queue.specs.Passes.{known_schema}
 -- the schema goes in
 pub opens : (n pass : ℕ) (s : Slot) (z : Schema) → opening_view s ≡ Opening z → Pushes KeepsLane n pass Fresh s (λ w. w ≡ opening_view s)
 opens n pass s z is items views room (inl k) at =
-    let e = one_view views Fresh Fresh pass k.views_are at in
+    let e = one_item views Fresh Fresh pass k.views_are at in
     (opening_view s, inr (inl (record { slot = s; schema = z; named = is; slots_are = ap (λ l. l ++ s ∷ []) k.slots_are; views_are = (λ i. set (k.views_are i) (e.0 i) (opening_view s)) ∙ ap (λ v. v ∷ []) is })), refl)
-opens n pass s z is items views room (inr (inl o)) at = absurd (let e : Opening o.schema ≡ Fresh = (one_view views (Opening o.schema) Fresh pass o.views_are at).1 in cc)
+opens n pass s z is items views room (inr (inl o)) at = absurd (let e : Opening o.schema ≡ Fresh = (one_item views (Opening o.schema) Fresh pass o.views_are at).1 in cc)
 opens n pass s z is items views room (inr (inr r)) at = absurd (r.known pass Fresh at)
 
 pub first_known : (z : Schema) (pass : ℕ) (v : View) → get_elem? (Draws (drawing z [] 0 []) ∷ []) pass ≡ some v → IsKnown 0 (drawing z [] 0 []) (new_feeding z) (λ f. None) pass v
 first_known z pass v at =
-    let e = only_view (Draws (drawing z [] 0 [])) v pass at in
+    let e = one_item (Draws (drawing z [] 0 []) ∷ []) (Draws (drawing z [] 0 [])) v pass refl at in
     subst (λ (x : ℕ × View). IsKnown 0 (drawing z [] 0 []) (new_feeding z) (λ f. None) x.0 x.1) (λ i. (sym e.0 i, e.1 i)) (refl, refl)
 
 pub first : (z : Schema) → KeepsLane [] (Draws (drawing z [] 0 []) ∷ [])
 first z = running [] (Draws (drawing z [] 0 []) ∷ []) 0 (drawing z [] 0 []) (new_feeding z) (λ f. None) [] refl (first_known z) (λ f. (refl, refl)) (λ f. refl) (λ f none. (refl, refl))
     (λ k d less. absurd (omega arith)) (λ k d less. absurd (omega arith)) (λ k d less. absurd (omega arith))
 
-pub opening_is : (z y : Schema) → Opening z ≡ Opening y → z ≡ y
-opening_is z y e = cc
-
-pub tail_nil : (x y : Slot) (l : List Slot) → x ∷ l ≡ y ∷ [] → l ≡ []
-tail_nil x y l e = cc
-
 -- and comes out
 pub begins : (pass : ℕ) (z : Schema) → Pops KeepsLane pass (Opening z) (λ x w. w ≡ begun_view (Opening z))
-begins pass z x items views (inl k) at = absurd (let e : Fresh ≡ Opening z = (one_view views Fresh (Opening z) pass k.views_are at).1 in cc)
+begins pass z x items views (inl k) at = absurd (let e : Fresh ≡ Opening z = (one_item views Fresh (Opening z) pass k.views_are at).1 in cc)
 begins pass z x items views (inr (inl o)) at =
-    let e = one_view views (Opening o.schema) (Opening z) pass o.views_are at in
+    let e = one_item views (Opening o.schema) (Opening z) pass o.views_are at in
     let w : View = begun_view (Opening z) in
     let vs : set views pass w ≡ w ∷ [] = λ i. set (o.views_are i) (e.0 i) w in
-    let none : items ≡ [] = tail_nil x o.slot items o.slots_are in
+    let none : items ≡ [] = (cons-parts x o.slot items [] o.slots_are).1 in
     (w, subst (λ (y : List Slot × List View). KeepsLane y.0 y.1) (λ i. (sym none i, sym vs i)) (first z), refl)
 begins pass z x items views (inr (inr r)) at = absurd (r.known pass (Opening z) at)
 
@@ -85,9 +81,9 @@ splits pass d items views k at =
     running items (vs ++ new ∷ []) pass e r.now seat q r.held known r.named r.flow
     (λ g h. let past : (g ≡ 0) ⊎ (d.made < g) = ⊎_elim (λ (t : g ≡ 0). inl t) (λ (t : d.made + 1 < g). inr (omega arith)) h in
     (updated_else f (Some (length vs)) r.seat g (⊎_elim (λ (t : g ≡ 0). λ (same : g ≡ f). omega arith) (λ (t : d.made + 1 < g). λ (same : g ≡ f). omega arith) h) ∙ (r.later g past).0, (r.later g past).1))
-    (all_weaker (λ (i : Item). (1 ≤ feeder_of i) × (feeder_of i ≤ d.made)) (λ (i : Item). (1 ≤ feeder_of i) × (feeder_of i ≤ f)) (λ i h. (h.0, omega (arith, h.1))) (d.drawn ++ q) r.from)
+    (All-weaker (λ (i : Item). (1 ≤ feeder_of i) × (feeder_of i ≤ d.made)) (λ (i : Item). (1 ≤ feeder_of i) × (feeder_of i ≤ f)) (λ i h. (h.0, omega (arith, h.1))) (d.drawn ++ q) r.from)
     r.valid
-    (all_weaker (λ (w : Feeding). (w.feeder ≤ d.made) × (r.seat w.feeder ≡ None) × (w ≡ r.now w.feeder)) (λ (w : Feeding). (w.feeder ≤ f) × (seat w.feeder ≡ None) × (w ≡ r.now w.feeder))
+    (All-weaker (λ (w : Feeding). (w.feeder ≤ d.made) × (r.seat w.feeder ≡ None) × (w ≡ r.now w.feeder)) (λ (w : Feeding). (w.feeder ≤ f) × (seat w.feeder ≡ None) × (w ≡ r.now w.feeder))
     (λ w h. (omega (arith, h.0), updated_else f (Some (length vs)) r.seat w.feeder (λ (same : w.feeder ≡ f). omega (arith, h.0)) ∙ h.1, h.2)) d.joined r.joined)
 
 -- the list of new ends grows by the next one
