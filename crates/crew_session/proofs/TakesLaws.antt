@@ -16,7 +16,7 @@ use Rattle.query_syntax.specs.declared.query.Query.{Query}
 use Rattle.reply_json.specs.declared.reply.Reply.{Reply}
 use Rattle.session_core.specs.Asked.{asked, asked_then, ends, line_meaning}
 use Rattle.session_core.specs.Transcript.{AllAnswered, Answers}
-use Rattle.session_core.proofs.Own.{one_reply}
+use Rattle.reply_json.proofs.RepliesRead.{one_reply}
 
 -- how many of the replies print a number
 abbrev numbers_in : List Reply → ℕ

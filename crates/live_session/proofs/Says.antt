@@ -1,10 +1,8 @@
 -- What is said to a line is the reply to what it asks.
 use Rattle.std.proofs.Common.{◌≡◌, ℕ, Bool, true, false, not, if◌then◌else◌, List, [], length, Some, None, Result, Ok, Err, IfOk, refl, sym, ap, ◌∙◌, subst}
 use Rattle.std.proofs.lemmas.Bool.{false≢true}
-use Rattle.cube_view.specs.Bag.{Counts}
 use Rattle.cube_view.specs.Points.{Point}
 use Rattle.cube_view.specs.declared.schema.Schema.{Schema}
-use Rattle.cube_view.specs.declared.spot.Spot.{Spot}
 use Rattle.cube_view.specs.declared.stat.Stat.{Stat}
 use Rattle.cube_view.specs.declared.view.CubeView as CubeView
 use Rattle.live_session.specs.News.{News, seen_asked}
@@ -24,7 +22,8 @@ use Rattle.session_core.specs.Serving.{Serves}
 use Rattle.session_core.specs.Transcript.{IsReply}
 use Rattle.session_core.specs.declared.serving.Served.{Served}
 use Rattle.session_core.specs.declared.serving.Served.TheVariants as served
-use Rattle.session_core.proofs.Own.{one_reply, reply_own}
+use Rattle.reply_json.proofs.RepliesRead.{one_reply}
+use Rattle.session_core.proofs.OwnReplies.{reply_own}
 
 module _ (schema : Schema) (is_stat : Stat → Type 0) (h : List Point) (told : ℕ) where
   verb_asks : (stat : Stat) (q : Query) (v : Verb) (reply : Reply) → query_reply stat schema h told q v ≡ Some reply → not (ends v) ≡ true

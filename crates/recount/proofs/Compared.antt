@@ -10,7 +10,7 @@ use Rattle.reply_json.specs.declared.reply.Reply.{Reply}
 use Rattle.session_core.specs.Asked.{asked_reply, reply_line}
 use Rattle.session_core.specs.Serving.{Serves}
 use Rattle.session_core.specs.declared.serving.Served.TheVariants as served
-use Rattle.session_core.proofs.Own.{one_reply, some_reply}
+use Rattle.reply_json.proofs.RepliesRead.{one_reply, some_reply}
 use Rattle.recount.proofs.ReplyTexts.{same_line}
 
 module _ (schema : Schema) (stat : Stat) (h : List Point) (told : ℕ) where

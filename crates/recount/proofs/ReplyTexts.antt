@@ -18,7 +18,7 @@ use Rattle.reply_json.specs.Validity.{is_valid_reply}
 use Rattle.reply_json.specs.declared.reply.Reply.{Reply}
 use Rattle.reply_json.proofs.OneLine.{reply_one_line}
 use Rattle.session_core.specs.Asked.{asked_reply, query_reply, reply_line}
-use Rattle.session_core.proofs.Own.{one_reply}
+use Rattle.reply_json.proofs.RepliesRead.{one_reply}
 use Rattle.session_core.proofs.Texts.{reply_text-same}
 use Rattle.recount.specs.Agreement.{MayAnswer}
 use Rattle.recount.specs.Faults.{IsPrintableReply, BeginsWithReply}

@@ -16,7 +16,7 @@ use Rattle.query_syntax.specs.declared.table.RowOut.{RowOut}
 use Rattle.query_syntax.specs.declared.table.Table.{Table}
 use Rattle.reply_json.specs.declared.reply.Reply.{Reply}
 use Rattle.session_core.specs.Asked.{asked_reply, query_reply}
-use Rattle.session_core.proofs.Own.{one_reply}
+use Rattle.reply_json.proofs.RepliesRead.{one_reply}
 use Rattle.reply_sums.specs.AddingUp.{AddsUp}
 use Rattle.reply_sums.specs.Additive.{adds_up, verb_adds_up}
 use Rattle.reply_sums.specs.Sums.{HaveNoSum, IsSum, sum_of_query, sum_of_rows, sum_tables}

@@ -1,7 +1,7 @@
 -- Laws of what lines ask, one after another.
 use Rattle.std.proofs.Common.{◌≡◌, Bool, true, false, not, ◌||◌, if◌then◌else◌, List, [], ◌∷◌, ◌++◌, refl, sym, ◌∙◌, ap, append-nil}
 use Rattle.std.proofs.Math.Bool.{or-true}
-use Rattle.std.proofs.lemmas.Bool.{false≢true}
+use Rattle.std.proofs.lemmas.Bool.{false≢true, not-true}
 use Rattle.cube_view.specs.declared.schema.Schema.{Schema}
 use Rattle.outer_io.specs.Lines.{Line}
 use Rattle.query_syntax.proofs.WholeTexts.{or_false_left, or_false_right}
@@ -41,11 +41,7 @@ asked_then-reply (parsed.Fault fault word) e = refl
 
 pub reply-goes_on : (p : Parsed) → asks_reply p ≡ true → asks_to_end p ≡ false
 reply-goes_on parsed.Skip e = refl
-reply-goes_on (parsed.Ask q) e = here (ends q.verb) e
-  where
-    here : (b : Bool) → not b ≡ true → b ≡ false
-    here true e = absurd (false≢true e)
-    here false e = refl
+reply-goes_on (parsed.Ask q) e = not-true (ends q.verb) e
 reply-goes_on (parsed.Fault fault word) e = refl
 
 module _ (schema : Schema) where

@@ -1,9 +1,9 @@
-pub mod LineServed
 pub mod AskedLaws
-pub mod Own
-pub mod Transcripts
-pub mod Finals
-pub mod Replying
+mod FinalTranscripts
+mod GainedReplies
+mod LineServed
+pub mod OwnReplies
 pub mod SoFar
-pub mod WholeScripts
 pub mod Texts
+pub mod Transcripts
+pub mod WholeScripts

@@ -16,7 +16,7 @@ use Rattle.session_core.specs.Turns.{GoesOn, Stops}
 use Rattle.session_core.specs.declared.fault.SessionFault.{SessionFault}
 use Rattle.session_core.specs.declared.fault.SessionFault.TheVariants as fault
 use Rattle.session_core.proofs.AskedLaws.{asked-append, asked-quit, has_quit-push, has_quit-at}
-use Rattle.session_core.proofs.Replying.{gained_lacking, gained_none, gained_on, some_on, some_all, front_of}
+use Rattle.session_core.proofs.GainedReplies.{gained_lacking, gained_none, gained_on, some_on, some_all, front_of}
 
 size_kept : (a b : Option ℕ) (P : ℕ → Type 0) → Told a (λ n. b ≡ Some n) → Told b P → Told a P
 size_kept a b P e p = Told-each a (λ n. b ≡ Some n) P (λ n is. subst (λ (o : Option ℕ). Told o P) is p) e

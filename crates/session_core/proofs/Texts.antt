@@ -6,7 +6,7 @@ use Rattle.cube_view.specs.Points.{Point}
 use Rattle.cube_view.specs.declared.schema.Schema.{Schema}
 use Rattle.cube_view.specs.declared.stat.Stat.{Stat}
 use Rattle.outer_io.specs.Lines.{pieces}
-use Rattle.outer_io.specs.Pieces.{NoFeed}
+use Rattle.outer_io.proofs.LineLists.{pieces-piece}
 use Rattle.query_syntax.specs.declared.query.Parsed.{Parsed}
 use Rattle.session_core.specs.Asked.{reply_line}
 use Rattle.reply_json.specs.Printed.{reply_text}
@@ -14,9 +14,8 @@ use Rattle.reply_json.specs.Reading.{reply_in}
 use Rattle.reply_json.specs.Types.{ReplyFits}
 use Rattle.reply_json.specs.declared.reply.Reply.{Reply}
 use Rattle.reply_json.proofs.OneLine.{reply_one_line}
-use Rattle.reply_json.proofs.RepliesRead.{text_back}
-use Rattle.session_core.specs.Transcript.{Answers, AllAnswered, IsTranscript, IsTranscriptText, replies_text}
-use Rattle.session_core.proofs.Own.{one_reply}
+use Rattle.reply_json.proofs.RepliesRead.{one_reply, text_back}
+use Rattle.session_core.specs.Transcript.{Answers, AllAnswered, IsTranscript, replies_text}
 
 -- the replies that are read in a text, line by line
 abbrev pub replies_in : List ℕ → List Reply
@@ -27,10 +26,6 @@ abbrev pub AllFit : List Reply → Type 0
 AllFit [] = ⊤
 AllFit (reply ∷ replies) = ReplyFits reply × AllFit replies
 
-piece_first : (piece rest : List ℕ) → NoFeed piece → pieces (piece ++ 10 ∷ rest) ≡ piece ∷ pieces rest
-piece_first [] rest h = refl
-piece_first (b ∷ piece) rest h = rw (h.0, piece_first piece rest h.1) refl
-
 line_is : (reply : Reply) (later : List ℕ) → reply_line reply ++ later ≡ reply_text reply ++ 10 ∷ later
 unfolding reply_line
 line_is reply later = append_assoc (reply_text reply) (10 ∷ []) later
@@ -40,7 +35,7 @@ pub text_pieces : (replies : List Reply) → AllFit replies → pieces (replies_
 text_pieces [] fit = refl
 text_pieces (reply ∷ replies) fit =
     ap pieces (line_is reply (replies_text replies))
-    ∙ piece_first (reply_text reply) (replies_text replies) (reply_one_line reply fit.0)
+    ∙ pieces-piece (reply_text reply) (replies_text replies) (reply_one_line reply fit.0)
     ∙ ap (λ ls. reply_text reply ∷ ls) (text_pieces replies fit.1)
 
 texts_back : (replies : List Reply) → AllFit replies → filter_map reply_in (map reply_text replies) ≡ replies
@@ -75,16 +70,6 @@ module _ (schema : Schema) (is_stat : Stat → Type 0) (lacks final : Bool) (l :
   -- and so a text is a transcript of at most one list of replies
   pub transcript_one : (ps qs : List Parsed) (replies others : List Reply) → IsTranscript schema is_stat final l u lacks ps replies → IsTranscript schema is_stat final l u lacks qs others → replies_text replies ≡ replies_text others → replies ≡ others
   transcript_one ps qs replies others t s same = sym (transcript_tells ps replies t) ∙ ap replies_in same ∙ transcript_tells qs others s
-
-  -- so a text is a transcript exactly where the replies that are read in it are one, and their text is it
-  pub text_decides : (ps : List Parsed) (text : List ℕ) → IsTranscriptText schema is_stat final l u lacks ps text → IsTranscript schema is_stat final l u lacks ps (replies_in text) × (text ≡ replies_text (replies_in text))
-  text_decides ps text (replies, t, e) =
-      let same : replies ≡ replies_in text = sym (ap replies_in e ∙ transcript_tells ps replies t) in
-      (subst (IsTranscript schema is_stat final l u lacks ps) same t, e ∙ ap replies_text same)
-
-  -- and the other way round
-  pub text_decided : (ps : List Parsed) (text : List ℕ) → IsTranscript schema is_stat final l u lacks ps (replies_in text) × (text ≡ replies_text (replies_in text)) → IsTranscriptText schema is_stat final l u lacks ps text
-  text_decided ps text (t, e) = (replies_in text, t, e)
 
 -- replies of one text are one reply
 pub reply_text-same : (a b : Reply) → ReplyFits a → ReplyFits b → reply_text a ≡ reply_text b → a ≡ b

@@ -1,14 +1,15 @@
 -- Laws of transcripts: within longer lists, where memory may lack, and one after another.
 use Rattle.std.proofs.Common.{◌≡◌, ℕ, ◌≤◌, max, inl, inr, Bool, true, false, List, [], ◌∷◌, ◌++◌, length, take, ap, ◌∙◌, arith, length-append, sym, append-nil}
+use Rattle.std.proofs.lemmas.Grind.{flat_map-append}
 use Rattle.std.proofs.lemmas.List.{take-append-le}
 use mathlib.Core.List.{IsPrefix}
 use Rattle.cube_view.specs.Points.{Point}
 use Rattle.cube_view.specs.declared.schema.Schema.{Schema}
 use Rattle.cube_view.specs.declared.stat.Stat.{Stat}
 use Rattle.query_syntax.specs.declared.query.Parsed.{Parsed}
-use Rattle.session_core.specs.Asked.{asked_reply}
+use Rattle.session_core.specs.Asked.{asked_reply, reply_line}
 use Rattle.reply_json.specs.declared.reply.Reply.{Reply}
-use Rattle.session_core.specs.Transcript.{seen_in, told_in, stat_in, IsUpTo, MayCome, NeverFalls, MayPrint, IsReply, Answers, AllAnswered, IsTranscript}
+use Rattle.session_core.specs.Transcript.{seen_in, told_in, stat_in, IsUpTo, MayCome, NeverFalls, MayPrint, IsReply, Answers, AllAnswered, IsTranscript, replies_text}
 
 up_to_weaker : (final : Bool) (most n : ℕ) → IsUpTo final most n → n ≤ most
 up_to_weaker false most n e = e
@@ -133,14 +134,13 @@ module _ (schema : Schema) (is_stat : Stat → Type 0) where
         order = falls_append lacks true l u ps replies others 0 0 (omega arith) (omega arith) t.each follows t.order;
       }
 
-  -- one more reply at the end
-  pub transcript_push : (lacks lacks' final : Bool) (l h : List Point) (u v : ℕ) (ps : List Parsed) (replies : List Reply) (p : Parsed) (reply : Reply) → (lacks ≡ true → lacks' ≡ true) → IsPrefix l h → u ≤ v → MayCome (length l) u reply → IsTranscript schema is_stat final l u lacks ps replies → Answers schema is_stat false h v lacks' p reply → IsTranscript schema is_stat false h v lacks' (ps ++ p ∷ []) (replies ++ reply ∷ [])
-  transcript_push lacks lacks' final l h u v ps replies p reply may g q next t a =
-      transcript_append lacks lacks' final false l h u v ps (p ∷ []) replies (reply ∷ []) may g q t (record { each = (a, tt); order = (may_come_less 0 (length l) 0 u reply (omega arith) (omega arith) next, tt) }) (next, tt)
-
   -- where nothing was asked, no replies are a transcript
   pub transcript_none : (lacks final : Bool) (l : List Point) (u : ℕ) → IsTranscript schema is_stat final l u lacks [] []
   transcript_none lacks final l u = record { each = tt; order = tt }
+
+-- the text of replies and more replies
+pub replies_text-append : (rs ss : List Reply) → replies_text (rs ++ ss) ≡ replies_text rs ++ replies_text ss
+replies_text-append rs ss = flat_map-append reply_line rs ss
 
 -- numbers that meet one test meet another
 module _ (schema : Schema) (A B : Stat → Type 0) (weaker : (stat : Stat) → A stat → B stat) where

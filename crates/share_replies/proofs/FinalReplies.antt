@@ -15,7 +15,7 @@ use Rattle.reply_json.specs.declared.reply.Reply.{Reply}
 use Rattle.reply_sums.specs.Additive.{adds_up, verb_adds_up}
 use Rattle.session_core.specs.Asked.{asked_reply, query_reply}
 use Rattle.session_core.specs.Transcript.{IsReply, MayPrint, seen_in, stat_in, told_in}
-use Rattle.session_core.proofs.Own.{one_reply, some_reply}
+use Rattle.reply_json.proofs.RepliesRead.{one_reply, some_reply}
 use Rattle.share_replies.specs.Shares.{AnyStat, Share}
 use Rattle.share_replies.specs.Sums.{is_of_kind, kind_fits}
 

@@ -10,7 +10,7 @@ use Rattle.reply_json.specs.Types.{ReplyFits}
 use Rattle.reply_sums.specs.Additive.{adds_up}
 use Rattle.run_files.specs.Outside.{Puts, SinkSeen}
 use Rattle.session_core.specs.Asked.{reply_line}
-use Rattle.session_core.proofs.Own.{reply_own}
+use Rattle.session_core.proofs.OwnReplies.{reply_own}
 use Rattle.share_replies.specs.Refusals.{total_of_sum, totals_of}
 use Rattle.share_replies.specs.Shares.{AnyStat, Share}
 use Rattle.share_replies.specs.Sums.{IsSumOver, SumsOver}

@@ -2,7 +2,7 @@ use Rattle.std.proofs.Common.{refl, arith}
 use Rattle.std.proofs.Math.Bool.{Bool-set}
 use Rattle.std.proofs.Math.Logic.{∥∥₁_elim}
 use Rattle.session_core.proofs.AskedLaws.{reply-goes_on}
-use Rattle.session_core.proofs.Replying.{skipped_goes_on, skipped_gains, quit_ends, reply_goes_on, reply_gains, reply_some, lack_gains, lack_some, broke_off}
+use Rattle.session_core.proofs.GainedReplies.{skipped_goes_on, skipped_gains, quit_ends, reply_goes_on, reply_gains, reply_some, lack_gains, lack_some, broke_off}
 use Rattle.session_core.proofs.answering.put_answer.Goals as goal
 
 pub returns-in-Ok-Skipped-clause-goes_on : goal.returns-in-Ok-Skipped-clause-goes_on

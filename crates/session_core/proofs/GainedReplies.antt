@@ -1,6 +1,5 @@
 -- Replies that a sink gains, one after another.
 use Rattle.std.proofs.Common.{◌≡◌, ℕ, ◌≤◌, Bool, true, false, if◌then◌else◌, List, [], ◌∷◌, ◌++◌, length, Option, Some, Result, Ok, Err, IsErrOf, inl, inr, refl, sym, ap, ◌∙◌, subst, append-nil}
-use Rattle.std.proofs.lemmas.Grind.{flat_map-append}
 use Rattle.std.specs.Result.{IsErrAnd}
 use Rattle.cube_view.specs.Points.{Point}
 use Rattle.cube_view.specs.declared.schema.Schema.{Schema}
@@ -24,9 +23,9 @@ use Rattle.session_core.specs.declared.fault.SessionFault.TheVariants as fault
 use Rattle.session_core.specs.declared.serving.Served.{Served}
 use Rattle.session_core.specs.declared.serving.Served.TheVariants as served
 use Rattle.session_core.proofs.AskedLaws.{asked_then-reply}
-use Rattle.session_core.proofs.Finals.{final_transcript}
-use Rattle.session_core.proofs.Own.{reply_own}
-use Rattle.session_core.proofs.Transcripts.{all_append, transcript_lacking}
+use Rattle.session_core.proofs.FinalTranscripts.{final_transcript}
+use Rattle.session_core.proofs.OwnReplies.{reply_own}
+use Rattle.session_core.proofs.Transcripts.{all_append, replies_text-append, transcript_lacking}
 
 lack_line : reply_line Reply.NoMemory ≡ reply_text Reply.NoMemory ++ 10 ∷ []
 unfolding reply_line
@@ -93,9 +92,6 @@ module _ (schema : Schema) (stat : Stat) (h : List Point) (told : ℕ) where
     replies_on ps qs rs ss first next =
         final_transcript schema (λ s. s ≡ stat) may_lack h told few (ps ++ qs) (rs ++ ss) (all_append schema (λ s. s ≡ stat) may_lack true h told ps qs rs ss first.each next.each)
 
-    text_on : (rs ss : List Reply) → replies_text (rs ++ ss) ≡ replies_text rs ++ replies_text ss
-    text_on rs ss = flat_map-append reply_line rs ss
-
     -- no replies
     pub gained_none : (a : Option (List ℕ)) → GainsReplies schema (λ s. s ≡ stat) h told may_lack a a []
     gained_none a = ([], replies_none, gains_none a)
@@ -103,12 +99,12 @@ module _ (schema : Schema) (stat : Stat) (h : List Point) (told : ℕ) where
     -- replies, and further ones
     pub gained_on : (a b c : Option (List ℕ)) (ps qs : List Parsed) → GainsReplies schema (λ s. s ≡ stat) h told may_lack a b ps → GainsReplies schema (λ s. s ≡ stat) h told may_lack b c qs → GainsReplies schema (λ s. s ≡ stat) h told may_lack a c (ps ++ qs)
     gained_on a b c ps qs (rs, first, gained) (ss, next, more) =
-        (rs ++ ss, replies_on ps qs rs ss first next, subst (Gains a c) (sym (text_on rs ss)) (gains_on a b c (replies_text rs) (replies_text ss) gained more))
+        (rs ++ ss, replies_on ps qs rs ss first next, subst (Gains a c) (sym (replies_text-append rs ss)) (gains_on a b c (replies_text rs) (replies_text ss) gained more))
 
     -- replies, and a part of further ones
     pub some_on : (a b c : Option (List ℕ)) (ps qs : List Parsed) → GainsReplies schema (λ s. s ≡ stat) h told may_lack a b ps → GainsSome schema (λ s. s ≡ stat) h told may_lack b c qs → GainsSome schema (λ s. s ≡ stat) h told may_lack a c (ps ++ qs)
     some_on a b c ps qs (rs, first, gained) (ss, next, some) =
-        (rs ++ ss, replies_on ps qs rs ss first next, subst (GainsPart a c) (ap (λ t. replies_text rs ++ t) (append-nil (replies_text ss)) ∙ sym (text_on rs ss)) (part_on a b c (replies_text rs) (replies_text ss) [] gained some))
+        (rs ++ ss, replies_on ps qs rs ss first next, subst (GainsPart a c) (ap (λ t. replies_text rs ++ t) (append-nil (replies_text ss)) ∙ sym (replies_text-append rs ss)) (part_on a b c (replies_text rs) (replies_text ss) [] gained some))
 
     -- all of them are a part
     pub some_all : (a b : Option (List ℕ)) (ps : List Parsed) → GainsReplies schema (λ s. s ≡ stat) h told may_lack a b ps → GainsSome schema (λ s. s ≡ stat) h told may_lack a b ps

@@ -1,5 +1,5 @@
 -- The reply over a list of points is one with the numbers that it prints.
-use Rattle.std.proofs.Common.{◌≡◌, ℕ, true, List, length, take, take_all, Some, Option, refl, ap, subst, arith}
+use Rattle.std.proofs.Common.{◌≡◌, ℕ, true, List, length, take, take_all, Some, refl, ap, subst, arith}
 use Rattle.cube_view.specs.Points.{Point}
 use Rattle.cube_view.specs.declared.schema.Schema.{Schema}
 use Rattle.cube_view.specs.declared.stat.Stat.{Stat}
@@ -12,13 +12,8 @@ use Rattle.query_syntax.specs.declared.query.Verb.TheVariants as verb
 use Rattle.session_core.specs.Asked.{asked_reply, query_reply}
 use Rattle.reply_json.specs.Types.{ReplyFits}
 use Rattle.reply_json.specs.declared.reply.Reply.{Reply}
+use Rattle.reply_json.proofs.RepliesRead.{one_reply, some_reply}
 use Rattle.session_core.specs.Transcript.{seen_in, told_in, stat_in, MayPrint, IsReply}
-
-abbrev pub some_reply : Reply → Option Reply
-some_reply reply = Some reply
-
-pub one_reply : (a b : Reply) → some_reply a ≡ some_reply b → a ≡ b
-one_reply a b e = cc
 
 module _ (schema : Schema) (is_stat : Stat → Type 0) (h : List Point) (told : ℕ) where
   -- the reply has its own numbers, and they are all there is
