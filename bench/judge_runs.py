@@ -1,48 +1,51 @@
 """judge_runs.py PROGRAM RUNS: runs a plan of 8 feeds of 2,000 records with 8 asks of 500 lines that often, and judges what
 each run leaves, by plain counts over its journal and by PROGRAM recount. It prints what was seen, and ends with 1 at the first
 line that is wrong."""
-import collections, json, os, random, subprocess, sys, tempfile
+import json, os, random, subprocess, sys, tempfile, typing
 
 FEEDS, RECORDS, ASKS, LINES = 8, 2_000, 8, 500
 DEPTH, VALUES, BINS = 10, "abcd", 1_024
+# The bits of a number with a free place before each. Of a tile's x and y these make the labels from the root to it, as one number.
+SPREAD = [sum(((number >> i) & 1) << 2 * i for i in range(DEPTH)) for number in range(1 << DEPTH)]
+
+
+class Table(typing.NamedTuple):
+    """The rows of a line's table, as texts without their totals, in order. A row may be hidden until a record counts to it."""
+
+    heads: list
+    rows_of: typing.Callable    # The row to which each of these records counts, by its place; -1 where it counts to none.
+    hides: bool = False
 
 
 def one_count(rng):
-    """A `count` with every filter, and which records it counts."""
+    """A `count` with every filter, and its table."""
     z = rng.randrange(1, 4)
     x, y, value, low = rng.randrange(1 << z), rng.randrange(1 << z), rng.randrange(4), rng.randrange(BINS)
     shift = DEPTH - z
     line = f"count in {z}/{x}/{y} with kind={VALUES[value]} time {low} {BINS}"
-    return line, lambda r: 0 if (r[0] >> shift, r[1] >> shift, r[2]) == (x, y, value) and r[3] >= low else None
+    return line, Table(["["], lambda records: [0 if (r[0] >> shift, r[1] >> shift, r[2]) == (x, y, value) and r[3] >= low else -1
+                                               for r in records])
+
+
+def map_of(down):
+    """The tiles so many levels down, in the order of their labels."""
+    shift, tiles = DEPTH - down, range(1 << down)
+    order = sorted((SPREAD[x] + 2 * SPREAD[y], x, y) for x in tiles for y in tiles)
+    return Table([f"[{down},{x},{y}," for _, x, y in order],
+                 lambda records: [SPREAD[r[0] >> shift] + 2 * SPREAD[r[1] >> shift] for r in records], True)
+
+
+def series_of(width, rows):
+    """So many intervals from bin 0."""
+    return Table([f"[{width * row}," for row in range(rows)],
+                 lambda records: [r[3] // width if r[3] < width * rows else -1 for r in records])
 
 
 def queries(rng):
-    """Lines of scripts, and to which row of its table a record counts, if to any."""
-    lines = dict(one_count(rng) for _ in range(4))
-    lines["count"] = lambda r: 0
-    lines["hist kind"] = lambda r: r[2]
-    lines["map 1"] = lambda r: (r[0] >> 9, r[1] >> 9)
-    lines["map 5"] = lambda r: (r[0] >> 5, r[1] >> 5)
-    lines["series 0 256 4"] = lambda r: r[3] >> 8
-    lines["series 0 1 1000"] = lambda r: r[3] if r[3] < 1000 else None
-    return lines
-
-
-def path(tile):
-    """The labels from the root to a tile, as one number."""
-    return sum(((tile[0] >> i) & 1) + 2 * ((tile[1] >> i) & 1) << 2 * i for i in range(DEPTH))
-
-
-def rows_of(line, counts):
-    """The rows that the line's table has with these counts."""
-    words = line.split()
-    if words[0] == "count":
-        return [[counts[0]]]
-    if words[0] == "hist":
-        return [[value, counts[v]] for v, value in enumerate(VALUES)]
-    if words[0] == "map":
-        return [[int(words[1]), *tile, counts[tile]] for tile in sorted(counts, key=path)]
-    return [[int(words[2]) * row, counts[row]] for row in range(int(words[3]))]
+    """Lines of scripts, each with its table."""
+    return dict([*(one_count(rng) for _ in range(4)), ("count", Table(["["], lambda records: [0] * len(records))),
+                 ("hist kind", Table([f'["{value}",' for value in VALUES], lambda records: [r[2] for r in records])),
+                 ("map 1", map_of(1)), ("map 5", map_of(5)), ("series 0 256 4", series_of(256, 4)), ("series 0 1 1000", series_of(1, 1000))])
 
 
 def write(folder, name, lines):
@@ -54,10 +57,10 @@ def make(folder, rng, asked):
     """Writes plan, feeds and scripts. The records of each feed, and the lines of each script."""
     feeds, scripts = [], []
     for f in range(FEEDS):
-        feeds.append([tuple(map(rng.randrange, (1024, 1024, 4, BINS))) for _ in range(RECORDS)])
+        feeds.append(list(zip(*(rng.choices(range(size), k=RECORDS) for size in (1024, 1024, 4, BINS)))))
         write(folder, f"feed{f}.csv", ["x,y,kind,time"] + [f"{x},{y},{VALUES[v]},{t}" for x, y, v, t in feeds[f]])
     for a in range(ASKS):
-        scripts.append([rng.choice([*asked, "told"]) for _ in range(LINES)])
+        scripts.append(rng.choices([*asked, "told"], k=LINES))
         write(folder, f"ask{a}.txt", scripts[a])
     plan = {"asks": [f"ask{a}.txt" for a in range(ASKS)], "batch": 64,
             "categories": [{"name": "kind", "values": list(VALUES)}], "depth": DEPTH,
@@ -69,39 +72,72 @@ def make(folder, rng, asked):
 
 def journal_of(folder, feeds):
     """The journal's records, which are each feed's records in that feed's order, and nothing else."""
-    records, next_of = [], [0] * FEEDS
-    for line in open(os.path.join(folder, "journal.txt")):
-        feeder, number, *record = map(int, line.split())
-        assert number == next_of[feeder - 1], line
-        assert tuple(record) == feeds[feeder - 1][number], line
-        next_of[feeder - 1] += 1
-        records.append(tuple(record))
-    assert next_of == [RECORDS] * FEEDS, next_of
+    records = []
+    left = [iter([(f"{f + 1} {n} {x} {y} {v} {t}\n", (x, y, v, t)) for n, (x, y, v, t) in enumerate(feed)]) for f, feed in enumerate(feeds)]
+    with open(os.path.join(folder, "journal.txt")) as it:
+        for line in it:
+            text, record = next(left[int(line[0]) - 1], (None, None))
+            assert line == text, line
+            records.append(record)
+    assert len(records) == FEEDS * RECORDS, len(records)
     return records
 
 
-def judge(folder, name, lines, asked, records):
-    """Judges the replies to one script. The different numbers of points that they print as seen."""
-    with open(os.path.join(folder, name + ".out")) as it:
-        replies = it.read().split("\n")
-    assert replies.pop() == "" and len(replies) == len(lines), name
-    counted = {line: [0, collections.Counter()] for line in asked}
+def number_of(reply):
+    """The number at the end of a reply: how many records it has seen, or tells of."""
+    return int(reply[reply.rindex(":") + 1:-1])
+
+
+def judge_order(name, lines, replies, most):
+    """Sees that no reply to a script has seen less than one before it. The replies to tables: the line, how many records were seen, and the text."""
+    assert len(replies) == len(lines), (name, len(replies))
     seen = told = 0
-    fronts = set()
     for line, reply in zip(lines, replies):
-        got = json.loads(reply)
+        number = number_of(reply)
         if line == "told":
-            assert told <= got["told"] <= len(records), (name, line, reply)
-            told = got["told"]
-            continue
-        assert max(seen, told) <= got["seen"] <= len(records), (name, line, reply)
-        seen = got["seen"]
-        done, counts = counted[line]
-        counts.update(row for row in map(asked[line], records[done:seen]) if row is not None)
-        counted[line][0] = seen
-        assert got["rows"] == rows_of(line, counts), (name, line, reply)
-        fronts.add(seen)
-    return fronts
+            assert told <= number <= most and reply == f'{{"told":{number}}}', (name, line, reply)
+            told = number
+        else:
+            assert max(seen, told) <= number <= most, (name, line, reply)
+            seen = number
+            yield line, seen, reply
+
+
+def judge_table(line, table, records, replies):
+    """Judges all replies to a line, with the least seen first, by plain counts. Each text is wanted byte by byte; from one to the next only the
+    rows of records that came between are written anew."""
+    rows = table.rows_of(records)
+    totals = [0] * (len(table.heads) + 1)    # The last is of the records that count to no row.
+    texts = ["" if table.hides else f"{head}0]" for head in table.heads]
+    done, wanted = -1, ""
+    for seen, reply in replies:
+        if seen > done:
+            new = rows[max(done, 0):seen]
+            for row in new:
+                totals[row] += 1
+            for row in set(new) - {-1}:
+                texts[row] = f"{table.heads[row]}{totals[row]}]"
+            done, wanted = seen, f'{{"rows":[{",".join(filter(None, texts))}],"seen":{seen}}}'
+        assert reply == wanted, (line, reply, wanted)
+
+
+def judge(scripts, outs, asked, records):
+    """Judges the replies to all scripts, each a list of lines. The different numbers of records that they have seen."""
+    replies_to = {line: [] for line in asked}
+    for a, (lines, replies) in enumerate(zip(scripts, outs)):
+        for line, seen, reply in judge_order(f"ask{a}.txt", lines, replies, len(records)):
+            replies_to[line].append((seen, reply))
+    for line, replies in replies_to.items():
+        judge_table(line, asked[line], records, sorted(replies))
+    return {seen for replies in replies_to.values() for seen, _ in replies}
+
+
+def lines_in(path):
+    """The lines of a file, which ends with a line feed."""
+    with open(path) as it:
+        *lines, rest = it.read().split("\n")
+    assert rest == "", (path, rest)
+    return lines
 
 
 def main():
@@ -115,10 +151,10 @@ def main():
             out = subprocess.run([program, "run", "plan.json"], cwd=folder, capture_output=True, text=True)
             assert out.returncode == 0, (run, out)
             records = journal_of(folder, feeds)
-            seen = set()
-            for a, lines in enumerate(scripts):
-                seen |= judge(folder, f"ask{a}.txt", lines, asked, records)
-                replies += len(lines)
+            outs = [lines_in(os.path.join(folder, f"ask{a}.txt.out")) for a in range(ASKS)]
+            seen = judge(scripts, outs, asked, records)
+            replies += sum(map(len, outs))
+            for a in range(ASKS):
                 words = ["recount", "plan.json", "journal.txt", f"ask{a}.txt", f"ask{a}.txt.out"]
                 audit = subprocess.run([program, *words], cwd=folder, capture_output=True, text=True)
                 assert audit.stdout == f"recount: {LINES} replies agree, 0 without memory\n", (run, audit)

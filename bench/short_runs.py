@@ -3,6 +3,8 @@
 
 Runs each PROGRAM over pipes again and again, and ends with 1 where a run hangs (it is killed after 20 s, or 120 s where it is judged),
 leaves what is wrong, or ends more than a second after its writers. On a machine that other work shares the last may be the load's.
+Each minute it says how many runs were right so far, and also where SIGTERM or SIGINT ends a series, once the runs that are under way
+have ended.
 
 three: N runs (10,000), B of them side by side (4), of three records from two feeds and an ask, with random pauses of up to 10 ms
 between the writes, some of which end in mid-line.
@@ -15,6 +17,7 @@ from judge_runs import ASKS, FEEDS, journal_of, judge, make, queries
 from pipes import Run, Stuck, plan_of, write_all
 
 LATE = 1
+STOP = threading.Event()
 
 
 def three_run(program, rng, _):
@@ -78,7 +81,7 @@ def judged_run(program, rng, pause):
         fds, ask_fds, replies = run.open_all(b"x,y,kind,time\n")
         texts = [open(os.path.join(source, f"feed{f}.csv"), "rb").read().split(b"\n", 1)[1] for f in range(FEEDS)]
         texts += [open(os.path.join(source, f"ask{a}.txt"), "rb").read() for a in range(ASKS)]
-        outs = [bytearray() for _ in range(ASKS)]
+        outs = [[] for _ in range(ASKS)]
         writers = [threading.Thread(target=write_in_pieces, args=(fd, text, random.Random(rng.random()), pause))
                    for fd, text in zip(fds + ask_fds, texts)]
         readers = [threading.Thread(target=read_all, args=(it, out)) for it, out in zip(replies, outs)]
@@ -92,12 +95,8 @@ def judged_run(program, rng, pause):
         for one in readers:
             one.join()
         assert status == 0, (status, report)
-        records = journal_of(run.folder, feeds)
-        for a, lines in enumerate(scripts):
-            os.remove(run.path(f"ask{a}.txt.out"))
-            with open(run.path(f"ask{a}.txt.out"), "wb") as it:
-                it.write(outs[a])
-            judge(run.folder, f"ask{a}.txt", lines, asked, records)
+        assert all(out.pop() == b"" for out in outs), "a reply ends in mid-line"
+        judge(scripts, [[line.decode() for line in out] for out in outs], asked, journal_of(run.folder, feeds))
         return late
 
 
@@ -113,11 +112,24 @@ def write_in_pieces(fd, text, rng, pause):
 
 
 def read_all(replies, out):
+    """All lines of a pipe, and what stands after the last line feed."""
     try:
         while replies.more():
-            out += b"".join(line + b"\n" for line in replies.lines)
+            out += replies.lines
+        out.append(replies.held)
     finally:
         replies.close()
+
+
+def sums_of(lates):
+    """How many runs were right, and how long after their writers they ended."""
+    lates = sorted(lates)
+    if not lates:
+        return "no run has ended"
+    slow = sum(late > LATE for late in lates)
+    median, most = lates[len(lates) // 2], lates[int(0.99 * len(lates))]
+    return (f"{len(lates)} runs right, {slow} ended more than {LATE} s after their writers: median {1000 * median:.1f} ms, "
+            f"99th percentile {1000 * most:.1f} ms, latest {1000 * lates[-1]:.1f} ms")
 
 
 def runs_of(program, one_run, runs, beside, seed, pause):
@@ -127,27 +139,38 @@ def runs_of(program, one_run, runs, beside, seed, pause):
     def work():
         while True:
             with lock:
-                if not left or faults:
+                if not left or faults or STOP.is_set():
                     return
                 number = left.pop()
             try:
                 lates.append(one_run(program, random.Random(seed * 1_000_003 + number), pause))
-            except (AssertionError, Stuck, OSError) as fault:
+            except (AssertionError, Stuck, OSError, ValueError, LookupError) as fault:
                 faults.append((number, fault))
 
     workers = [threading.Thread(target=work) for _ in range(beside)]
     for worker in workers:
         worker.start()
-    for worker in workers:
-        worker.join()
-    if faults:
-        print(f"FAILED {program}: run {faults[0][0]}: {faults[0][1]!r:.1500}", flush=True)
+    told = time.monotonic()
+    while any(worker.is_alive() for worker in workers):
+        workers[0].join(0.1)
+        time.sleep(0 if workers[0].is_alive() else 0.1)
+        if time.monotonic() - told > 60:
+            told = time.monotonic()
+            print(f"{program}: of {runs} so far {sums_of(lates)}", flush=True)
+    if STOP.is_set():
+        print(f"{program}: stopped, of {runs} {sums_of(lates)}", flush=True)
         return False
-    lates.sort()
-    slow = sum(late > LATE for late in lates)
-    print(f"{program}: {runs} runs right, none hangs, {slow} ended more than {LATE} s after their writers: median {1000 * lates[runs // 2]:.1f} ms, 99th percentile "
-          f"{1000 * lates[int(0.99 * runs)]:.1f} ms, latest {1000 * lates[-1]:.1f} ms", flush=True)
-    return not slow
+    if faults:
+        print(f"FAILED {program}: run {faults[0][0]}: {faults[0][1]!r:.1500}; {sums_of(lates)}", flush=True)
+        return False
+    print(f"{program}: none hangs, {sums_of(lates)}", flush=True)
+    return not any(late > LATE for late in lates)
+
+
+def stop(number, _):
+    """Lets the runs that are under way end, and none begin. At a second signal the script ends at once."""
+    STOP.set()
+    signal.signal(number, signal.SIG_DFL)
 
 
 def main():
@@ -160,6 +183,8 @@ def main():
     words.add_argument("--seed", type=int, default=1)
     given = words.parse_args()
     signal.signal(signal.SIGPIPE, signal.SIG_IGN)
+    for number in (signal.SIGINT, signal.SIGTERM):
+        signal.signal(number, stop)
     good = True
     for program in map(os.path.abspath, given.programs):
         one_run, runs, beside = (three_run, 10_000, 4) if given.what == "three" else (judged_run, 1_000, 1)
