@@ -1,5 +1,6 @@
 """Usage: live_times.py idle PROGRAM.. [--seconds S]
        live_times.py latency PROGRAM.. [--seconds S] [--batches 1,64] [--rates 1,10000,100000] [--asks 1,8] [--records city]
+                             [--prober PROBER] [--pauses 2]
        live_times.py memory PROGRAM.. [--counts 3600,100000,1000000] [--records city]
        live_times.py city PROGRAM.. [--counts 1000000] [--batches 64] [--rounds 3] [--processors 4,2] [--pipes]
 
@@ -9,7 +10,9 @@ idle: the share of a processor that a run takes whose feeds and asks are open an
 latency: from a record written to the reply that counts it, while other records come from a feed of their own at each rate and the
 asks are answered one line after the other: median and 99th percentile over S seconds (10), how many were timed, the replies a second
 of all asks, and how many records a second were taken, where these are fewer than were to come. A record that is timed comes by a
-second feed, and at batch 64 is published with records of the other.
+second feed, and at batch 64 is published with records of the other. Between a reply and the next record that is timed passes a random
+time of up to so many milliseconds (2). This script sleeps until a reply has come, and its wake is in each time; PROBER, which is built
+from bench/prober.rs, never sleeps. It has the last processor for itself, and the program and what writes the other records have the rest.
 memory: the most memory of a run with so many records, which is an hour of them at that number over 3,600 a second.
 city: a run of so many records of a city's export from 8 feeds at each batch, by the clock and in processor time, on so many processors
 (`taskset`), and beside it what reading and two insertions of each record take on one thread, which is measured on `save`.
@@ -94,8 +97,10 @@ def idle(program, seconds):
 
 # latency
 
-def arrive(fd, records, rate, done):
-    """Writes records at that rate, those that are due each millisecond, until the file `done` is there."""
+def arrive(fd, records, rate, done, prober):
+    """Writes records at that rate, those that are due each millisecond, until the file `done` is there. It leaves a prober its processor."""
+    if prober:
+        os.sched_setaffinity(0, apart()[0])
     lines, sent, begun = lines_of(records, 20_000, 7), 0, time.monotonic()
     while not os.path.exists(done):
         due = min(int((time.monotonic() - begun) * rate) - sent, 2_000)
@@ -117,12 +122,8 @@ def counted(reply):
     return int(reply[10:reply.index(b"]")])
 
 
-def probes(fd, ask, replies, records, seconds):
+def probes(fd, ask, replies, record, line, seconds, pause):
     """The seconds from each record written to the reply that counts it. It asks again until one does."""
-    record, line = probe_of(records)
-    write_all(ask, line)
-    assert counted(replies.next()) == 0
-    os.set_blocking(replies.fd, True)       # the program has opened it, and a reply is one put
     times, end = [], time.perf_counter() + seconds
     now = 0.0
     while now < end:
@@ -137,26 +138,47 @@ def probes(fd, ask, replies, records, seconds):
                 break
             if now > end:
                 return times
-        time.sleep(random.random() / 500)
+        time.sleep(random.random() * pause / 1000)
     return times
+
+
+def apart():
+    """The processors of the program, and that of a prober that never sleeps."""
+    *most, last = sorted(os.sched_getaffinity(0))
+    return most, last
+
+
+def spun_probes(prober, fds, record, line, seconds, pause):
+    """The same by the prober, on its processor."""
+    words = ["taskset", "-c", str(apart()[1]), prober, *map(str, fds), record, line, str(seconds), str(pause)]
+    out = subprocess.run(words, pass_fds=fds, check=True, stdout=subprocess.PIPE).stdout
+    return [int(word) / 1e9 for word in out.split()]
 
 
 def quantile(times, part):
     return sorted(times)[min(len(times) - 1, int(part * len(times)))] * 1e6
 
 
-def latency(program, records, batch, rate, asks, seconds):
-    run = Run(program, plan_over(records, 2, asks, batch), 8 * seconds + 60)
+def latency(program, records, batch, rate, asks, seconds, prober, pause):
+    words = ["taskset", "-c", ",".join(map(str, apart()[0]))] if prober else []
+    run = Run(program, plan_over(records, 2, asks, batch), 8 * seconds + 60, words=words)
     done, children = run.path("done"), []
     try:
         fds, ask_fds, replies = run.open_all(header_of(records))
-        children.append(fork_off([fds[0]], arrive, fds[0], records, rate, done))
+        children.append(fork_off([fds[0]], arrive, fds[0], records, rate, done, prober))
         for a in range(1, asks):
             children.append(fork_off([ask_fds[a], replies[a].fd], ask_on, ask_fds[a], replies[a], probe_of(records)[1], done))
         os.close(fds[0])
         close_all(ask_fds[1:])
+        record, line = probe_of(records)
+        write_all(ask_fds[0], line)
+        assert counted(replies[0].next()) == 0
+        os.set_blocking(replies[0].fd, True)       # the program has opened it, and a reply is one put
         begun = time.monotonic()
-        times = probes(fds[1], ask_fds[0], replies[0], records, seconds)
+        if prober:
+            times = spun_probes(prober, [fds[1], ask_fds[0], replies[0].fd], record, line, seconds, pause)
+        else:
+            times = probes(fds[1], ask_fds[0], replies[0], record, line, seconds, pause)
         took, busy = time.monotonic() - begun, run.processors()
         write_all(ask_fds[0], b"told\n")
         taken = (int(os.read(replies[0].fd, 4096)[8:-2]) - len(times)) / took
@@ -171,7 +193,8 @@ def latency(program, records, batch, rate, asks, seconds):
         timed = (f"median {quantile(times, 0.5):.0f} us, 99th percentile {quantile(times, 0.99):.0f} us, {len(times)} timed"
                  if times else "none timed")
         least = "" if rate * took < 20 or taken > 0.95 * rate else f", of which only {taken:.0f} a second are taken"
-        print(f"{program}: batch {batch}, {rate} records a second{least}, {asks} asks: {timed}; {answered / took:.0f} replies a second, "
+        paused = f", up to {pause:g} ms apart" if pause != 2 else ""
+        print(f"{program}: batch {batch}, {rate} records a second{least}, {asks} asks{paused}: {timed}; {answered / took:.0f} replies a second, "
               f"{100 * busy / took:.0f} % of a processor", flush=True)
     finally:
         if run.child.poll() is None:
@@ -322,9 +345,12 @@ def main():
     words.add_argument("--rounds", type=int, default=3)
     words.add_argument("--processors", type=numbers, default=[4, 2])
     words.add_argument("--pipes", action="store_true")
+    words.add_argument("--prober")
+    words.add_argument("--pauses", type=lambda text: [float(word) for word in text.split(",")], default=[2.0])
     given = words.parse_args()
     signal.signal(signal.SIGPIPE, signal.SIG_IGN)
     programs = [os.path.abspath(program) for program in given.programs]
+    prober = given.prober and os.path.abspath(given.prober)
     if given.what == "city":
         for batch in given.batches or [64]:
             city(programs, (given.counts or [1_000_000])[0], batch, given.rounds, given.processors, given.pipes)
@@ -339,8 +365,9 @@ def main():
         for batch in given.batches or [1, 64]:
             for rate in given.rates:
                 for asks in given.asks:
-                    for program in programs:
-                        latency(program, given.records, batch, rate, asks, given.seconds)
+                    for pause in given.pauses:
+                        for program in programs:
+                            latency(program, given.records, batch, rate, asks, given.seconds, prober, pause)
 
 
 if __name__ == "__main__":

@@ -2,7 +2,7 @@
 beside its peer in the same run, and prints each command with what it printed and the machine's load before it.
 
 PROGRAM is crates/cube_main/out/cube_main, as `./nanocube` builds it; BEFORE an earlier one, which is measured beside it where
-a section compares programs. The peers are built in FOLDER (a new one): bench/groups.rs, nanocube.rs and tables.rs by `rustc`,
+a section compares programs. The peers are built in FOLDER (a new one): bench/groups.rs, nanocube.rs, prober.rs and tables.rs by `rustc`,
 bench/feed_lines.rs by `cargo` with the crate `csv`, bench/refuse.c by `gcc`. A section whose peer cannot be built is skipped
 and named. bench/gate_times, which measures the gate, and a first build are not among them: each takes the whole machine."""
 import argparse, os, shutil, subprocess, sys, tempfile, time
@@ -23,6 +23,7 @@ SECTIONS = {
     "images": ["{bench}/measure.sh --unproved image_times", "python3 {bench}/run_times.py {program} image"],
     "runs": ["python3 {bench}/run_times.py {program} city", "python3 {bench}/run_times.py {program} big", "python3 {bench}/run_times.py {program} recount"],
     "pipes": ["python3 {bench}/soak.py {program}", "python3 {bench}/live_times.py idle {both}", "python3 {bench}/live_times.py latency {both} --seconds 3",
+              "python3 {bench}/live_times.py latency {both} --prober {prober} --batches 1 --rates 1,10000 --asks 1 --pauses 2,100",
               "python3 {bench}/live_times.py city {both} --rounds 1", "python3 {bench}/live_times.py memory {program} --counts 3600,100000,1000000,4000000",
               "python3 {bench}/short_runs.py three {program} --runs 10000 --beside 4", "python3 {bench}/short_runs.py judged {program} --runs 1000 --beside 4"],
     "scaling": ["python3 {bench}/scaling.py {program}"],
@@ -57,7 +58,7 @@ def build_peers(folder):
     """The path of each peer that could be built."""
     cargo_project(f"{folder}/feed_lines")
     commands = {name: (f"{folder}/{name}", ["rustc", "-O", "--edition", "2021", f"{BENCH}/{name}.rs", "-o", f"{folder}/{name}"])
-                for name in ("groups", "nanocube", "tables")}
+                for name in ("groups", "nanocube", "prober", "tables")}
     commands["feed_lines"] = (f"{folder}/feed_lines/target/release/feed_lines",
                               ["cargo", "build", "--release", "--quiet", "--manifest-path", f"{folder}/feed_lines/Cargo.toml"])
     commands["refuse"] = (f"{folder}/refuse.so", ["gcc", "-shared", "-fPIC", "-o", f"{folder}/refuse.so", f"{BENCH}/refuse.c"])

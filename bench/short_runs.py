@@ -1,8 +1,9 @@
-"""Usage: short_runs.py three PROGRAM.. [--runs N] [--beside B] [--seed N]
-       short_runs.py judged PROGRAM.. [--runs N] [--beside B] [--pause S] [--seed N]
+"""Usage: short_runs.py three PROGRAM.. [--runs N] [--beside B] [--limit S] [--seed N]
+       short_runs.py judged PROGRAM.. [--runs N] [--beside B] [--limit S] [--pause S] [--seed N]
 
-Runs each PROGRAM over pipes again and again, and ends with 1 where a run hangs (it is killed after 20 s, or 120 s where it is judged),
-leaves what is wrong, or ends more than a second after its writers. On a machine that other work shares the last may be the load's.
+Runs each PROGRAM over pipes again and again, and ends with 1 where a run hangs (it is killed after a limit of 20 s, or 120 s where it
+is judged), leaves what is wrong, or ends more than a second after its writers. On a machine that other work shares the last may be the
+load's, and where that leaves little for this script it wants a higher limit.
 Each minute it says how many runs were right so far, and also where SIGTERM or SIGINT ends a series, once the runs that are under way
 have ended.
 
@@ -20,10 +21,10 @@ LATE = 1
 STOP = threading.Event()
 
 
-def three_run(program, rng, _):
+def three_run(program, rng, limit, _):
     """How long after its writers' end a run of three records ended."""
     plan = plan_of(2, 1, rng.choice([1, 2, 64]), 3, [("kind", ["a", "b"])], 10)
-    with Run(program, plan, 20) as run:
+    with Run(program, plan, limit) as run:
         fds, asks, replies = run.open_all(b"x,y,kind,time\n")
         lines = [b"1,2,a,30\n", b"7,7,b,9\n", b"0,0,a,0\n"]
         of_feed = [rng.randrange(2) for _ in lines]
@@ -70,11 +71,11 @@ def judge_three(run, status, report, of_feed, asked, replies):
     assert entries == sorted((f + 1, n) for f in range(2) for n in range(counts[f])), entries
 
 
-def judged_run(program, rng, pause):
+def judged_run(program, rng, limit, pause):
     """How long after its writers' end a run of judge_runs.py's kind ended, over pipes."""
     asked = queries(rng)
     plan = plan_of(FEEDS, ASKS, 64, 10, [("kind", list("abcd"))])
-    with Run(program, plan, 120) as run:
+    with Run(program, plan, limit) as run:
         source = run.path("written")
         os.mkdir(source)
         feeds, scripts = make(source, rng, asked)
@@ -117,6 +118,8 @@ def read_all(replies, out):
         while replies.more():
             out += replies.lines
         out.append(replies.held)
+    except Stuck:
+        pass    # The run is stuck too, or is judged without its last line.
     finally:
         replies.close()
 
@@ -132,7 +135,7 @@ def sums_of(lates):
             f"99th percentile {1000 * most:.1f} ms, latest {1000 * lates[-1]:.1f} ms")
 
 
-def runs_of(program, one_run, runs, beside, seed, pause):
+def runs_of(program, one_run, runs, beside, seed, *words):
     """So many runs, so many of them side by side. Whether all was as it should be."""
     lates, faults, left, lock = [], [], list(range(runs)), threading.Lock()
 
@@ -143,7 +146,7 @@ def runs_of(program, one_run, runs, beside, seed, pause):
                     return
                 number = left.pop()
             try:
-                lates.append(one_run(program, random.Random(seed * 1_000_003 + number), pause))
+                lates.append(one_run(program, random.Random(seed * 1_000_003 + number), *words))
             except (AssertionError, Stuck, OSError, ValueError, LookupError) as fault:
                 faults.append((number, fault))
 
@@ -157,11 +160,11 @@ def runs_of(program, one_run, runs, beside, seed, pause):
         if time.monotonic() - told > 60:
             told = time.monotonic()
             print(f"{program}: of {runs} so far {sums_of(lates)}", flush=True)
-    if STOP.is_set():
-        print(f"{program}: stopped, of {runs} {sums_of(lates)}", flush=True)
-        return False
     if faults:
         print(f"FAILED {program}: run {faults[0][0]}: {faults[0][1]!r:.1500}; {sums_of(lates)}", flush=True)
+        return False
+    if STOP.is_set():
+        print(f"{program}: stopped, of {runs} {sums_of(lates)}", flush=True)
         return False
     print(f"{program}: none hangs, {sums_of(lates)}", flush=True)
     return not any(late > LATE for late in lates)
@@ -179,6 +182,7 @@ def main():
     words.add_argument("programs", nargs="+", metavar="PROGRAM")
     words.add_argument("--runs", type=int)
     words.add_argument("--beside", type=int)
+    words.add_argument("--limit", type=float)
     words.add_argument("--pause", type=float, default=0.15)
     words.add_argument("--seed", type=int, default=1)
     given = words.parse_args()
@@ -187,8 +191,8 @@ def main():
         signal.signal(number, stop)
     good = True
     for program in map(os.path.abspath, given.programs):
-        one_run, runs, beside = (three_run, 10_000, 4) if given.what == "three" else (judged_run, 1_000, 1)
-        good &= runs_of(program, one_run, given.runs or runs, given.beside or beside, given.seed, given.pause)
+        one_run, runs, beside, limit = (three_run, 10_000, 4, 20) if given.what == "three" else (judged_run, 1_000, 1, 120)
+        good &= runs_of(program, one_run, given.runs or runs, given.beside or beside, given.seed, given.limit or limit, given.pause)
     return 0 if good else 1
 
 
