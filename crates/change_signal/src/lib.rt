@@ -31,11 +31,17 @@ use std::time::Duration;
 /// No sleep is longer, in milliseconds.
 const LONGEST_SLEEP: u64 = 10;
 
+/// Where waits sleep one after the other in spite of their yields, one of so many yields all the same. It is a power of two.
+const VAIN_WAITS: u64 = 16;
+
 /// By what threads are told of a change that they may sleep for.
 #[derive(Drop)]
 pub struct Signal {
     /// It is odd from the moment at which a thread is about to sleep until the next notice, which makes it even.
     word: AtomicU64,
+    /// How many waits have slept, one after the other, since the yields of one were enough. From twice `VAIN_WAITS` it goes
+    /// back to once.
+    vain: AtomicU64,
 }
 
 /// One wait of a thread: how often it has tried, and what the word was when it said last that it is about to sleep.
@@ -44,6 +50,10 @@ pub struct Waiting {
     backoff: Backoff,
     /// How often it yields yet, after the first tries, before it sleeps.
     yields: u32,
+    /// Whether it has yet to learn of the signal if yields are worth it.
+    is_new: bool,
+    /// How many waits before it have slept.
+    vain: u64,
     said: u64,
 }
 
@@ -53,11 +63,14 @@ impl Waiting {
         Waiting::yielding(0)
     }
 
-    /// The same, which yields so many times more before it sleeps. It is for what is mostly over sooner than a sleeper wakes.
+    /// The same, which yields so many times more before it sleeps, where waits before it did not sleep in spite of that. It is
+    /// for what is mostly over soon, where the wake of a sleeper would be felt.
     pub fn yielding(yields: u32) -> Waiting {
         Waiting {
             backoff: Backoff::new(),
             yields,
+            is_new: true,
+            vain: 0,
             said: 0,
         }
     }
@@ -68,22 +81,44 @@ impl Signal {
     pub fn new() -> Signal {
         Signal {
             word: AtomicU64::new(0),
+            vain: AtomicU64::new(0),
         }
     }
 
     /// Waits a moment, after a try that failed. The first eleven times it spins or yields, and then it yields as often as the
-    /// wait was told. Then it takes turns: at one call it says that it is about to sleep, and at the next, if there was no
-    /// notice since, it sleeps.
+    /// wait was told, if that is worth it. Then it takes turns: at one call it says that it is about to sleep, and at the next,
+    /// if there was no notice since, it sleeps.
     pub fn pause<R: Wait>(&self, rt: &R, waiting: &mut Waiting) {
         if !waiting.backoff.is_completed() {
             waiting.backoff.snooze();
             return;
+        }
+        if waiting.is_new {
+            self.weigh(waiting);
         }
         if waiting.yields > 0 {
             waiting.yields -= 1;
             yield_now();
             return;
         }
+        self.sleep(rt, waiting);
+    }
+
+    /// Takes a wait its yields, where those before it have slept in spite of theirs. Of waits that sleep one after the other the
+    /// first three, the 5th, the 9th and the 17th yield, and then each 16th. So a thread for which there is seldom something
+    /// to do yields seldom, and soon finds out where that has changed.
+    fn weigh(&self, waiting: &mut Waiting) {
+        waiting.is_new = false;
+        waiting.vain = self.vain.load(Ordering::SeqCst);
+        if waiting.vain & waiting.vain.wrapping_sub(1) != 0 {
+            waiting.yields = 0;
+        }
+        // That stands if the wait is over before it sleeps.
+        self.vain.store(0, Ordering::SeqCst);
+    }
+
+    /// Says that the thread is about to sleep, or sleeps if it has said so and there was no notice since.
+    fn sleep<R: Wait>(&self, rt: &R, waiting: &mut Waiting) {
         let said = self.word.fetch_or(1, Ordering::SeqCst) | 1;
         if waiting.said == said {
             // The caller has tried since it said so, in vain. Whoever changed what it tries after that has made the word
@@ -94,6 +129,12 @@ impl Signal {
         } else {
             // A change from now on finds the word odd. One that came before is found by the caller's next try.
             waiting.said = said;
+            let next = if waiting.vain < 2 * VAIN_WAITS - 1 {
+                waiting.vain + 1
+            } else {
+                VAIN_WAITS
+            };
+            self.vain.store(next, Ordering::SeqCst);
         }
     }
 

@@ -13,6 +13,11 @@ use outer_io::NoMemory;
 use std::alloc::Global;
 use std::sync::Wait;
 
+/// How often the drawing end yields before it sleeps, which takes some two milliseconds. To wake it takes 20 microseconds or
+/// more, which whoever asks for the record would feel. So where items come 500 times a second or more it is awake for them.
+/// Where they come more seldom, most of its waits sleep at once (`Signal::pause`).
+const YIELDS_FOR_ITEMS: u32 = 4_000;
+
 /// Sends an item, and waits while the queue is full. It wakes the drawing end where that sleeps.
 pub(crate) fn push<R: Wait>(rt: &R, lane: &Lane, pass: &mut LanePass, item: Item)
     requires queue { IsPassOf lane.now.line pass.old }
@@ -54,7 +59,7 @@ pub(crate) fn wait_pop<R: Wait>(rt: &R, lane: &Lane, pass: &mut LanePass) -> Ite
     ensures queue { IsSamePass pass.old pass.new }
     ensures drawn { IsDraw (view pass.old) (Carries result) (view pass.new) }
 {
-    let mut waiting = Waiting::new();
+    let mut waiting = Waiting::yielding(YIELDS_FOR_ITEMS);
     for _ in rt.forever() {
         if let Some(item) = pop(rt, &lane.line, pass) {
             return item;
