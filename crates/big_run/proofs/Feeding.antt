@@ -1,23 +1,22 @@
 -- What the two feeds of a large run leave where memory was found.
 use Rattle.std.proofs.Common.{◌≡◌, ◌≢◌, ℕ, ◌<◌, ◌≤◌, List, [], ◌∷◌, map, length, Option, Some, None, refl, ap, ◌∙◌, arith, IsSomeAnd}
-use Rattle.crew_feeder.specs.Leaving.{GivesUntil}
-use Rattle.crew_feeder.specs.RowCounts.{count_blank, count_refused}
-use Rattle.crew_feeder.specs.declared.job.FeedDone.{FeedDone}
-use Rattle.crew_feeder.specs.declared.job.FeedJob.{FeedJob}
+use Rattle.crew_feeder.specs.Leaving.{GivesUntil, feed_counts}
+use Rattle.crew_feeder.specs.declared.done.FeedDone.{FeedDone}
 use Rattle.cube_crew.specs.Crewed.{FeedsLeave, LeavesFeed, feed_rows}
 use Rattle.cube_view.specs.Points.{Point}
 use Rattle.cube_view.specs.declared.schema.Schema.{Schema}
 use Rattle.feed_maker.specs.GeneratedFeed.{generated_feed}
 use Rattle.feed_reader.proofs.FeedStart.{some_told}
 use Rattle.feed_reader.specs.Feeds.{accepted, points_in, rows}
+use Rattle.feed_reader.specs.RowCounts.{count_blank, count_refused}
 use Rattle.feed_reader.specs.Rows.{row_of_line}
+use Rattle.feed_reader.specs.declared.job.FeedJob.{FeedJob}
 use Rattle.outer_io.specs.Cutting.{Cutter, input_size, lines_left}
 use Rattle.outer_io.specs.Lines.{Line, input_limit}
 use Rattle.outer_io.specs.Told.{Told}
 use Rattle.outer_io.specs.declared.cutter.CutFault.{CutFault}
 use Rattle.outer_io.specs.declared.cutter.CutFault.TheVariants as cut
 use Rattle.run_report.specs.Lines.{counts_line}
-use Rattle.run_stages.specs.Counted.{feed_counts}
 use Rattle.big_run.specs.BuiltIn.{big_schema}
 use Rattle.big_run.specs.Parts.{IsFeed}
 use Rattle.big_run.specs.Sources.{left_in, no_faults}

@@ -2,6 +2,7 @@
 use Rattle.std.proofs.Common.{◌≡◌, ℕ, ◌≤◌, true, false, None, List, [], ◌∷◌, map, drop, length, Option, Ok, Err, refl, ap, sym, ◌∙◌, subst, arith, IsSomeAnd}
 use Rattle.csv.specs.Machine.{next_record}
 use Rattle.csv.specs.Reading.{records_from}
+use Rattle.cube_view.specs.declared.schema.Schema.{Schema}
 use Rattle.feed_maker.proofs.Feeds.{length-generated_feed, pieces-generated_feed}
 use Rattle.feed_maker.specs.GeneratedFeed.{generated_columns, generated_feed, generated_rows}
 use Rattle.feed_reader.proofs.FeedLaws.{head_of_lines-cons}
@@ -11,8 +12,7 @@ use Rattle.feed_reader.specs.Headers.{head_of}
 use Rattle.feed_reader.specs.Reading.{IsHeadRefused, ReadsHeader}
 use Rattle.feed_reader.specs.Rows.{row_of_line}
 use Rattle.feed_reader.specs.declared.header.HeadFault.{HeadFault}
-use Rattle.crew_feeder.specs.declared.job.FeedJob.{FeedJob}
-use Rattle.cube_view.specs.declared.schema.Schema.{Schema}
+use Rattle.feed_reader.specs.declared.job.FeedJob.{FeedJob}
 use Rattle.outer_io.proofs.LineLists.{counted-within}
 use Rattle.outer_io.specs.Cutting.{Cutter, IsNew, lines_left}
 use Rattle.outer_io.specs.Lines.{Line, Bytes, input_limit, lines, lines_of, pieces}

@@ -8,27 +8,27 @@ use Rattle.std.proofs.lemmas.Bool.{and_parts}
 use Rattle.std.proofs.lemmas.Bool.Decides.{nat_tests}
 use Rattle.std.proofs.lemmas.Fmt.{digits_decimal, digits_value-decimal}
 use Rattle.std.proofs.lemmas.List.{append-nil}
+use Rattle.std.proofs.lemmas.Str.Parse.{IsDigitsTest, IsNumeralModel, numerals_by_value}
+use Rattle.std.proofs.lemmas.Fmt.{decimal_is_IsNumeral}
+use Rattle.std.proofs.lemmas.List.Folds.{list_all-append}
 use Rattle.csv.specs.Machine.{next_record}
 use Rattle.csv.specs.Reading.{default_config}
 use Rattle.csv.specs.declared.parser.State.TheVariants as st
+use Rattle.cube_view.specs.Points.{Point}
+use Rattle.feed_maker.proofs.Feeds.{few_digits}
 use Rattle.feed_maker.specs.GeneratedFeed.{generated_row, generated_rows, next_state}
 use Rattle.feed_reader.proofs.LineRecords.{whole_record}
 use Rattle.feed_reader.specs.Records.{begins_with_mark, record_of}
 use Rattle.feed_reader.specs.Regular.{begins_record}
+use Rattle.feed_reader.specs.RowCounts.{count_accepted, count_blank, count_refused}
 use Rattle.feed_reader.specs.Rows.{fault_if, faults_of, first_fault, first_unknown, number, point_of, row_of, row_of_line, row_of_record, row_unless, unknown_value}
 use Rattle.feed_reader.specs.declared.column.Column.TheVariants as column
 use Rattle.feed_reader.specs.declared.row.Row.{Row}
 use Rattle.feed_reader.specs.declared.row.Row.TheVariants as row
 use Rattle.feed_reader.specs.declared.row.RowFault.{RowFault}
 use Rattle.feed_reader.specs.declared.row.RowFault.TheVariants as fault
-use Rattle.feed_maker.proofs.Feeds.{few_digits}
-use Rattle.crew_feeder.specs.RowCounts.{count_accepted, count_blank, count_refused}
-use Rattle.cube_view.specs.Points.{Point}
-use Rattle.std.proofs.lemmas.Str.Parse.{IsDigitsTest, IsNumeralModel, numerals_by_value}
 use Rattle.outer_io.specs.Decimals.{is_decimal}
 use Rattle.outer_io.specs.Lines.{Bytes, line_of, lines_of, pieces, without_return}
-use Rattle.std.proofs.lemmas.Fmt.{decimal_is_IsNumeral}
-use Rattle.std.proofs.lemmas.List.Folds.{list_all-append}
 use Rattle.big_run.specs.BuiltIn.{big_schema, letter_kind}
 
 tells_digits : IsDigitsTest (λ ds. list_all is_ascii_digit ds ≡ true)

@@ -3,7 +3,7 @@ use Rattle.std.proofs.Common.{◌≡◌, ◌≢◌, ℕ, Bool, true, false, List
 use Rattle.std.specs.Prelude.{codes}
 use Rattle.std.specs.List.{AllZip}
 use Rattle.std.proofs.lemmas.List.{append-nil}
-use Rattle.crew_feeder.specs.declared.job.FeedDone.{FeedDone}
+use Rattle.crew_feeder.specs.declared.done.FeedDone.{FeedDone}
 use Rattle.crew_session.specs.declared.done.SessionDone.{SessionDone}
 use Rattle.cube_crew.specs.Crewed.{FeedsLeave, IsCrewed, LeavesTranscript, answered_over, closing, closing_of}
 use Rattle.cube_crew.specs.declared.jobs.Crewed.{Crewed}
@@ -20,7 +20,7 @@ use Rattle.big_run.proofs.Feeding.{FeedsEach, counts_line-given, sent-given, two
 use Rattle.big_run.specs.BuiltIn.{ask_script, big_schema, final_script}
 use Rattle.big_run.specs.Parts.{HasJobs, script_session}
 use Rattle.big_run.specs.Printed.{CameBackWhole, printed, printed_parts}
-use Rattle.big_run.specs.Sources.{left_in, no_faults, still_ends, still_faults, still_held, still_name}
+use Rattle.big_run.specs.Sources.{left_in, no_faults, still_ends}
 use Rattle.big_run.specs.Text.{big_points, big_text}
 use Rattle.big_run.specs.declared.source.RunSource.{RunSource}
 

@@ -1,19 +1,19 @@
 -- What a large run begins with: two feeds and two sessions.
 use Rattle.std.specs.Prelude.{◌≡◌, ℕ, ◌≤◌, false, List, [], ◌∷◌, ◌++◌, map, None, IsSomeAnd}
-use Rattle.big_run.specs.BuiltIn.{ask_script, big_schema, final_script}
-use Rattle.big_run.specs.Sources.{left_in}
-use Rattle.big_run.specs.declared.source.RunSource.{RunSource}
-use Rattle.big_run.specs.declared.source.RunSource.TheVariants.{Held}
-use Rattle.crew_feeder.specs.declared.job.FeedJob.{FeedJob}
 use Rattle.cube_crew.specs.declared.jobs.Jobs.{Jobs}
 use Rattle.feed_maker.specs.GeneratedFeed.{generated_feed}
 use Rattle.feed_reader.specs.Feeds.{rows}
 use Rattle.feed_reader.specs.Rows.{row_of_line}
+use Rattle.feed_reader.specs.declared.job.FeedJob.{FeedJob}
 use Rattle.live_session.specs.State.{SessionState, new_session}
 use Rattle.outer_io.specs.Cutting.{input_size, lines_left}
 use Rattle.outer_io.specs.Lines.{input_limit}
 use Rattle.outer_io.specs.Memory.{StillOutput, new_still_output}
 use Rattle.outer_io.specs.Progress.{IsGoing}
+use Rattle.big_run.specs.BuiltIn.{ask_script, big_schema, final_script}
+use Rattle.big_run.specs.Sources.{left_in}
+use Rattle.big_run.specs.declared.source.RunSource.{RunSource}
+use Rattle.big_run.specs.declared.source.RunSource.TheVariants.{Held}
 
 -- A job whose cutter has given the first line of a generated feed of so many rows from a state
 pub record IsFeed (state count : ℕ) (job : FeedJob RunSource) : Type 0 where

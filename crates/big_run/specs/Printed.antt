@@ -1,12 +1,12 @@
 -- What is printed of a run that has ended.
 use Rattle.std.specs.Prelude.{◌≡◌, ℕ, List, [], ◌∷◌, ◌++◌, codes, length}
-use Rattle.big_run.specs.declared.source.RunSource.{RunSource}
-use Rattle.crew_feeder.specs.declared.job.FeedDone.{FeedDone}
+use Rattle.crew_feeder.specs.Leaving.{feed_counts}
+use Rattle.crew_feeder.specs.declared.done.FeedDone.{FeedDone}
 use Rattle.crew_session.specs.declared.done.SessionDone.{SessionDone}
 use Rattle.cube_crew.specs.declared.jobs.Crewed.{Crewed}
 use Rattle.outer_io.specs.Memory.{StillOutput}
 use Rattle.run_report.specs.Lines.{counts_line}
-use Rattle.run_stages.specs.Counted.{feed_counts}
+use Rattle.big_run.specs.declared.source.RunSource.{RunSource}
 
 -- the run had two feeds, a session beside them and one after them
 abbrev pub CameBackWhole : Crewed RunSource StillOutput → Type 0

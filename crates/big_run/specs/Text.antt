@@ -1,6 +1,7 @@
 -- What a large run writes: two lines of its report, and the replies over all records.
 use Rattle.std.specs.Prelude.{ℕ, List, ◌++◌, codes, length, None}
 use Rattle.std.specs.List.{filter_map}
+use Rattle.feed_reader.specs.RowCounts.{counts_of_rows}
 use Rattle.big_run.specs.BuiltIn.{big_schema, final_script}
 use Rattle.cube_view.specs.Points.{Point}
 use Rattle.cube_view.specs.declared.stat.Stat.{Stat}
@@ -10,7 +11,6 @@ use Rattle.outer_io.specs.Lines.{lines}
 use Rattle.query_syntax.specs.declared.query.Parsed.{Parsed}
 use Rattle.reply_json.specs.declared.reply.Reply.{Reply}
 use Rattle.run_report.specs.Lines.{counts_line}
-use Rattle.run_report.specs.Reports.{counts_of_rows}
 use Rattle.session_core.specs.Asked.{asked, asked_reply}
 use Rattle.session_core.specs.Transcript.{replies_text}
 

@@ -4,10 +4,9 @@ ghost use Rattle.big_run.specs.BuiltIn.{big_schema};
 ghost use Rattle.big_run.specs.Parts.{AddsFeed, AreFeeds, IsFeed};
 
 use crate::source::RunSource;
-use crew_feeder::FeedJob;
 use cube_view::Schema;
 use feed_maker::GenSource;
-use feed_reader::{NoHeader, read_header};
+use feed_reader::{FeedJob, NoHeader, read_header};
 use outer_io::{LineCutter, List, NoMemory};
 use std::alloc::Global;
 

@@ -1,15 +1,14 @@
 //! What a run prints.
 ghost use Rattle.std.specs.Prelude.{◌≡◌, ◌++◌, [], ◌∷◌, false, codes, length, IfOk, OnOk};
-ghost use Rattle.big_run.specs.Printed.{CameBackWhole, printed};
 ghost use Rattle.run_report.specs.Lines.{counts_line};
-ghost use Rattle.run_stages.specs.Counted.{feed_counts};
+ghost use Rattle.big_run.specs.Printed.{CameBackWhole, printed};
 
 use crate::source::RunSource;
-use crew_feeder::FeedDone;
 use crew_session::SessionDone;
 use cube_crew::Crewed;
+use feed_reader::FeedCounts;
 use outer_io::{List, NoMemory, StillSink};
-use run_report::{FeedCounts, push_counts};
+use run_report::push_counts;
 use std::alloc::{AllocError, Global};
 
 /// The lines of the two feeds, and then the replies.
@@ -27,27 +26,6 @@ fn parts_text(
     let mut text = lines.into_bytes();
     text.extend_from_slice(replies)?;
     Ok(text)
-}
-
-/// What is counted of a feed, whose source is dropped.
-fn counts_of(done: FeedDone<RunSource>) -> FeedCounts
-    ensures { result ≡ feed_counts done }
-{
-    let FeedDone {
-        source: _,
-        accepted,
-        blank,
-        refused,
-        first,
-        fault,
-    } = done;
-    FeedCounts {
-        accepted,
-        blank,
-        refused,
-        fault,
-        first,
-    }
 }
 
 /// The sink of a session, all else of which is dropped.
@@ -114,7 +92,8 @@ pub(crate) fn print_run(
         closed: _,
     } = crewed;
     let (first, second) = both_of(feeds);
-    let (first, second) = (counts_of(first), counts_of(second));
+    let (_source, first) = first.into_counts();
+    let (_source, second) = second.into_counts();
     let _unused = sink_of(only_of(asks));
     let sink = sink_of(only_of(finals));
     if starved {

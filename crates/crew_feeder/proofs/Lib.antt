@@ -1,2 +1,2 @@
-pub mod RowLists
+mod WorkRows
 mod Reading

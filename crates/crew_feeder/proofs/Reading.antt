@@ -7,6 +7,7 @@ use Rattle.feed_reader.proofs.FewPoints.{points_in-length}
 use Rattle.feed_reader.specs.Feeds.{points_in}
 use Rattle.feed_reader.specs.Headings.{Heading}
 use Rattle.feed_reader.specs.Reading.{ReadsRow}
+use Rattle.feed_reader.specs.RowCounts.{is_blank_row, is_refused_row}
 use Rattle.feed_reader.specs.Rows.{row_of_line}
 use Rattle.feed_reader.specs.declared.row.Row.{Row}
 use Rattle.feed_reader.specs.declared.row.Row.TheVariants as row
@@ -21,10 +22,9 @@ use Rattle.outer_io.specs.Told.{Told}
 use Rattle.outer_io.specs.declared.cutter.CutFault.{CutFault}
 use Rattle.outer_io.specs.declared.cutter.CutFault.TheVariants as fault
 use Rattle.crew_feeder.specs.Leaving.{GivesUntil, HasFed, HasFirst, HasTaken}
-use Rattle.crew_feeder.specs.RowCounts.{is_blank_row, is_refused_row}
 use Rattle.crew_feeder.specs.Taking.{IsReady, having_ended, having_taken_row}
 use Rattle.crew_feeder.specs.declared.work.FeedWork.{FeedWork}
-use Rattle.crew_feeder.proofs.RowLists.{taken_alike, taken_more}
+use Rattle.crew_feeder.proofs.WorkRows.{taken_alike, taken_more}
 
 later_of : {A : Type 0} (o : Option (List A)) (all lines : List A) → IsSomeAnd o (λ rest. all ≡ lines ++ rest) → (later : List A) × (all ≡ lines ++ later)
 later_of None all lines h = absurd h

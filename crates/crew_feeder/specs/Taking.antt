@@ -1,14 +1,13 @@
 -- A feeder's work, and what it does with a row.
-use Rattle.std.specs.Prelude.{◌≡◌, ℕ, ◌+◌, true, false, List, [], ◌∷◌, ◌++◌, take, None}
+use Rattle.std.specs.Prelude.{◌≡◌, ℕ, ◌+◌, true, false, [], ◌∷◌, ◌++◌, None}
 use Rattle.cube_view.specs.Points.{Point}
 use Rattle.cube_view.specs.declared.schema.Schema.{Schema}
 use Rattle.feed_queue.specs.Ends.{FeedState, feed_state}
+use Rattle.feed_reader.specs.RowCounts.{having_kept}
+use Rattle.feed_reader.specs.declared.job.FeedJob.{FeedJob}
 use Rattle.feed_reader.specs.declared.row.Row.{Row}
 use Rattle.feed_reader.specs.declared.row.Row.TheVariants as row
 use Rattle.outer_io.specs.Progress.{IsGoing}
-use Rattle.crew_feeder.specs.RowCounts.{kept_refusals}
-use Rattle.crew_feeder.specs.declared.job.FeedJob.{FeedJob}
-use Rattle.crew_feeder.specs.declared.refusal.Refusal.{Refusal}
 use Rattle.crew_feeder.specs.declared.work.FeedWork.{FeedWork}
 
 -- the work of a job whose feeder has this end, before its run
@@ -35,10 +34,6 @@ having_fed end p = feed_state end.lane end.schema end.feeder (end.points ++ p �
 -- the end once it has sent its End
 abbrev pub having_ended : FeedState → FeedState
 having_ended end = feed_state end.lane end.schema end.feeder end.points true
-
--- the refusals once they keep one more, if there are not enough
-abbrev pub having_kept : List Refusal → Refusal → List Refusal
-having_kept first refusal = take kept_refusals (first ++ refusal ∷ [])
 
 -- the work once it has taken a row, whose line has this number
 abbrev pub having_taken_row : {I : Type 0} → FeedWork I → ℕ → Row → FeedWork I

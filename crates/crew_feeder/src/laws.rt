@@ -1,6 +1,7 @@
 //! That a feeder's work may go to another thread.
 
-use crate::{FeedDone, FeedJob, FeedWork};
+use crate::{FeedDone, FeedWork};
+use feed_reader::FeedJob;
 use outer_io::Source;
 
 /// Only a type whose values may go to another thread can be named here.

@@ -5,10 +5,10 @@ ghost use Rattle.feed_reader.specs.Rows.{IsValidRow};
 ghost use Rattle.crew_feeder.specs.Leaving.{HasFed};
 ghost use Rattle.crew_feeder.specs.Taking.{IsReady, having_ended, having_fed, having_taken_row, new_work};
 
-use crate::{FeedDone, FeedJob, FirstRefusals, Refusal};
+use crate::FeedDone;
 use cube_view::{Point, Schema};
 use feed_queue::{Ended, FeedEnd, Item};
-use feed_reader::{Header, Row, next_row};
+use feed_reader::{FeedJob, FirstRefusals, Header, Refusal, Row, next_row};
 use outer_io::{CutFault, LineCutter, Source};
 use std::alloc::Global;
 use std::sync::Wait;

@@ -7,19 +7,14 @@ use Rattle.crew_builder.specs.Built.{IsBuilt}
 use Rattle.crew_builder.specs.Telling.{told_lengths}
 use Rattle.crew_builder.specs.Work.{BuilderWorkState as Building}
 use Rattle.crew_feeder.specs.Leaving.{HasFed}
-use Rattle.crew_feeder.specs.declared.job.FeedDone.{FeedDone}
+use Rattle.crew_feeder.specs.declared.done.FeedDone.{FeedDone}
 use Rattle.crew_feeder.specs.declared.work.FeedWork.{FeedWork}
 use Rattle.crew_session.specs.Leaves.{LeavesSession}
 use Rattle.crew_session.specs.Work.{WorkState}
-use Rattle.cube_crew.specs.Crewed.{FeedsLeave, FoundAll, IsCrewed, answered_over}
-use Rattle.cube_crew.specs.Ending.{EndsRun, IsWithin}
-use Rattle.cube_crew.specs.Opened.{IsMail}
-use Rattle.cube_crew.specs.Works.{end_of, fed_of, session_works_of, works_of}
-use Rattle.cube_crew.specs.declared.jobs.Crewed.{Crewed}
-use Rattle.cube_crew.specs.declared.jobs.Jobs.{Jobs}
 use Rattle.cube_view.specs.Points.{Point}
 use Rattle.cube_view.specs.declared.schema.Schema.{Schema}
 use Rattle.cube_view.specs.declared.stat.Stat.{Stat}
+use Rattle.feed_queue.proofs.InTurn.{length-new_feeds}
 use Rattle.feed_queue.specs.Ends.{DrawState, FeedState, sent_lists}
 use Rattle.live_session.specs.State.{SessionEnds}
 use Rattle.live_session.specs.TranscriptLaws.{StaysTranscript}
@@ -27,8 +22,13 @@ use Rattle.mailbox.specs.Ends.{InEnd, OutEnd}
 use Rattle.outer_io.specs.declared.cutter.CutFault.TheVariants as cut
 use Rattle.published_pair.specs.Rules.{Known}
 use Rattle.world_core.specs.Interleaving.{IsInterleaving, list_of}
+use Rattle.cube_crew.specs.Crewed.{FeedsLeave, FoundAll, IsCrewed, answered_over}
+use Rattle.cube_crew.specs.Ending.{EndsRun, IsWithin}
+use Rattle.cube_crew.specs.Opened.{IsMail}
+use Rattle.cube_crew.specs.Works.{end_of, fed_of, session_works_of, works_of}
+use Rattle.cube_crew.specs.declared.jobs.Crewed.{Crewed}
+use Rattle.cube_crew.specs.declared.jobs.Jobs.{Jobs}
 use Rattle.cube_crew.proofs.Answering.{ask_mails, asks_give, asks_leave, finals_leave, work_mails}
-use Rattle.feed_queue.proofs.InTurn.{length-new_feeds}
 use Rattle.cube_crew.proofs.Feeding.{IsNewEnd, feeds_leave, new_ends}
 use Rattle.cube_crew.proofs.Seating.{Seats}
 use Rattle.cube_crew.proofs.Zips.{AllZip-map, AllZip-right}

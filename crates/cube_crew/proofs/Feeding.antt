@@ -6,7 +6,7 @@ use Rattle.std.proofs.lemmas.List.Elements.{All-cons, All-head, All-nil, All-pus
 use Rattle.atomic_table.specs.Seated.{TableId}
 use Rattle.crew_feeder.specs.Leaving.{HasFed}
 use Rattle.crew_feeder.specs.Taking.{IsReady, new_work}
-use Rattle.crew_feeder.specs.declared.job.FeedJob.{FeedJob}
+use Rattle.feed_reader.specs.declared.job.FeedJob.{FeedJob}
 use Rattle.crew_feeder.specs.declared.work.FeedWork.{FeedWork}
 use Rattle.cube_crew.specs.Crewed.{FeedsLeave, LeavesFeed, feed_rows}
 use Rattle.cube_crew.specs.Works.{end_of, fed_of, works_of}

@@ -1,12 +1,12 @@
 -- What a run begins with.
 use Rattle.std.specs.Prelude.{◌≡◌, ℕ, ◌≤◌, [], All, length}
-use Rattle.crew_feeder.specs.declared.job.FeedJob.{FeedJob}
 use Rattle.crew_session.specs.Work.{HadNoTurn}
-use Rattle.cube_crew.specs.declared.jobs.Jobs.{Jobs}
 use Rattle.cube_view.specs.Bag.{Counts}
 use Rattle.cube_view.specs.declared.schema.Schema.{Schema}
 use Rattle.cube_view.specs.declared.spot.Spot.{Spot}
+use Rattle.feed_reader.specs.declared.job.FeedJob.{FeedJob}
 use Rattle.outer_io.specs.Progress.{IsGoing}
+use Rattle.cube_crew.specs.declared.jobs.Jobs.{Jobs}
 
 -- two empty views of one schema
 abbrev pub AreEmptyViews : {V : Type 0} → (V → Spot → ℕ) → (V → ℕ) → (V → Schema) → V → V → Type 0

@@ -3,18 +3,16 @@ use Rattle.std.specs.Prelude.{◌≡◌, ◌≢◌, ℕ, ◌+◌, Bool, true, fa
 use Rattle.std.specs.List.{AllZip}
 use Rattle.crew_builder.specs.Telling.{told_lengths}
 use Rattle.crew_feeder.specs.Leaving.{GivesUntil}
-use Rattle.crew_feeder.specs.RowCounts.{count_blank, count_refused, first_refusals}
-use Rattle.crew_feeder.specs.declared.job.FeedDone.{FeedDone}
-use Rattle.crew_feeder.specs.declared.job.FeedJob.{FeedJob}
+use Rattle.crew_feeder.specs.declared.done.FeedDone.{FeedDone}
 use Rattle.crew_session.specs.Work.{ending_fault, last_number}
 use Rattle.crew_session.specs.declared.done.SessionDone.{SessionDone}
-use Rattle.cube_crew.specs.declared.jobs.Crewed.{Crewed}
-use Rattle.cube_crew.specs.declared.jobs.Jobs.{Jobs}
 use Rattle.cube_view.specs.Points.{Point}
 use Rattle.cube_view.specs.declared.schema.Schema.{Schema}
 use Rattle.cube_view.specs.declared.stat.Stat.{Stat}
 use Rattle.feed_reader.specs.Feeds.{points_in}
+use Rattle.feed_reader.specs.RowCounts.{count_blank, count_refused, first_refusals}
 use Rattle.feed_reader.specs.Rows.{row_of_line}
+use Rattle.feed_reader.specs.declared.job.FeedJob.{FeedJob}
 use Rattle.feed_reader.specs.declared.row.Row.{Row}
 use Rattle.live_session.specs.Refusing.{TellsRefused}
 use Rattle.live_session.specs.SoFar.{AnswersAll, HasDone, moment}
@@ -30,6 +28,8 @@ use Rattle.session_core.specs.declared.fault.SessionFault.TheVariants as fault
 use Rattle.world_core.specs.Interleaving.{IsInterleaving, entry_points, list_of}
 use Rattle.world_core.specs.PairFact.{IsPrefix}
 use Rattle.world_core.specs.declared.entry.Entry.{Entry}
+use Rattle.cube_crew.specs.declared.jobs.Crewed.{Crewed}
+use Rattle.cube_crew.specs.declared.jobs.Jobs.{Jobs}
 
 -- the rows of lines under the header of a job
 abbrev pub feed_rows : {I : Type 0} → FeedJob I → List Line → List Row

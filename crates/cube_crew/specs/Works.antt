@@ -1,12 +1,12 @@
 -- The works of a run, and what they give back.
 use Rattle.std.specs.Prelude.{◌≡◌, List, [], ◌∷◌, length, Some, None, Ok}
 use Rattle.crew_feeder.specs.Taking.{new_work}
-use Rattle.crew_feeder.specs.declared.job.FeedJob.{FeedJob}
-use Rattle.crew_feeder.specs.declared.job.FeedDone.{FeedDone}
+use Rattle.crew_feeder.specs.declared.done.FeedDone.{FeedDone}
 use Rattle.crew_feeder.specs.declared.work.FeedWork.{FeedWork}
 use Rattle.crew_session.specs.Work.{WorkState}
 use Rattle.cube_view.specs.declared.schema.Schema.{Schema}
 use Rattle.feed_queue.specs.Ends.{FeedState}
+use Rattle.feed_reader.specs.declared.job.FeedJob.{FeedJob}
 use Rattle.live_session.specs.State.{SessionState}
 use Rattle.mailbox.specs.Ends.{OutEnd}
 use Rattle.published_pair.specs.Rules.{Known}

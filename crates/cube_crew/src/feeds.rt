@@ -5,9 +5,10 @@ ghost use Rattle.crew_feeder.specs.Leaving.{HasFed};
 ghost use Rattle.crew_feeder.specs.Taking.{IsReady};
 ghost use Rattle.cube_crew.specs.Works.{end_of, fed_of, works_of};
 
-use crew_feeder::{FeedDone, FeedJob, FeedWork, FirstRefusals};
+use crew_feeder::{FeedDone, FeedWork};
 use cube_view::Schema;
 use feed_queue::{Ended, FeedEnd};
+use feed_reader::{FeedJob, FirstRefusals};
 use outer_io::Source;
 use std::alloc::Global;
 use std::sync::Wait;

@@ -4,9 +4,9 @@ ghost use Rattle.cube_crew.specs.Begins.{AreEmptyViews};
 ghost use Rattle.cube_crew.specs.Opened.{AreMails, IsNewLane, IsNewTo, IsUntaken};
 
 use crate::rooms::first_refusals;
-use crew_feeder::FirstRefusals;
 use cube_view::{Grow, Schema};
 use feed_queue::{DrawEnd, FeedEnd, open_lane};
+use feed_reader::FirstRefusals;
 use mailbox::{MailIn, MailOut, open_mail};
 use outer_io::{List, NoMemory};
 use published_pair::{Publisher, Viewer, open};

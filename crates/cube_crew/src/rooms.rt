@@ -1,8 +1,8 @@
 //! Room for all that a run gives back.
 ghost use Rattle.std.specs.Prelude.{◌≡◌, ◌≤◌, [], All, IfOk, OnOk, vec_len, vec_capacity};
 
-use crew_feeder::FirstRefusals;
 use feed_queue::Ended;
+use feed_reader::FirstRefusals;
 use outer_io::NoMemory;
 use std::alloc::{AllocError, Global};
 

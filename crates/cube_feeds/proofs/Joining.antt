@@ -10,15 +10,14 @@ use Rattle.cube_store.specs.declared.cube.Cube.{Cube}
 use Rattle.cube_view.specs.Points.{Point}
 use Rattle.cube_view.specs.declared.schema.Schema.{Schema}
 use Rattle.feed_reader.specs.Feeds.{points_in}
+use Rattle.feed_reader.specs.declared.counts.FeedCounts.{FeedCounts}
+use Rattle.feed_reader.specs.declared.job.FeedJob.{FeedJob}
 use Rattle.feed_reader.specs.declared.row.Row.{Row}
-use Rattle.outer_io.specs.Cutting.{Cutter}
 use Rattle.outer_io.specs.Faults.{HasCause, Rose}
 use Rattle.outer_io.specs.Lines.{input_limit}
 use Rattle.outer_io.specs.Progress.{IsTooLarge}
 use Rattle.outer_io.specs.declared.cutter.CutFault.{CutFault}
 use Rattle.outer_io.specs.declared.cutter.CutFault.TheVariants as fault
-use Rattle.run_files.specs.declared.feeds.HeadedFeed.{HeadedFeed}
-use Rattle.run_report.specs.declared.counts.FeedCounts.{FeedCounts}
 use Rattle.cube_feeds.specs.Counting.{JoinsFeed}
 use Rattle.cube_feeds.specs.Grouping.{GroupsCount, grouped_size}
 use Rattle.cube_feeds.specs.Taking.{AreQuiet, EndsBy, HasRows, IsUnread, TakesAll, counts_at_end}
@@ -35,9 +34,9 @@ same_at n xs ys d e =
     let here : (l : List _) → get_or l n d ≡ get_or (drop n l) 0 d = λ l. ap (λ k. get_or l k d) (sym (add-zero n)) ∙ sym (get_or-drop n l 0 d) in
     here xs ∙ ap (λ l. get_or l 0 d) e ∙ sym (here ys)
 
-module _ {S : Type 0} (left : S → Option (List ℕ)) (faults : S → ℕ) (schema : Schema) (before : List (HeadedFeed (Cutter S))) where
+module _ {S : Type 0} (left : S → Option (List ℕ)) (faults : S → ℕ) (schema : Schema) (before : List (FeedJob S)) where
   -- the first so many of the feeds were read into the cube
-  pub record HasTaken (n : ℕ) (now : List (HeadedFeed (Cutter S))) (grouped : GroupedCube) (counts : List FeedCounts) : Type 0 where
+  pub record HasTaken (n : ℕ) (now : List (FeedJob S)) (grouped : GroupedCube) (counts : List FeedCounts) : Type 0 where
     pub rows : List (List Row)
     pub read : AllZip (HasRows left faults) (take n before) rows
     pub schema_is : grouped.cube.schema ≡ schema
@@ -50,7 +49,7 @@ module _ {S : Type 0} (left : S → Option (List ℕ)) (faults : S → ℕ) (sch
 
   -- feeds of which the header alone was read are quiet
   pub all_quiet : All (IsUnread left faults schema) before → AreQuiet left faults before
-  all_quiet unread = All-weaker (IsUnread left faults schema) (λ (feed : HeadedFeed (Cutter S)). faults feed.cutter.source ≡ 0) (λ feed is. is.quiet) before unread
+  all_quiet unread = All-weaker (IsUnread left faults schema) (λ (feed : FeedJob S). faults feed.cutter.source ≡ 0) (λ feed is. is.quiet) before unread
 
   -- before the first feed
   pub begins : (grouped : GroupedCube) (counts : List FeedCounts) → grouped.cube.schema ≡ schema → GroupsCount grouped [] → counts ≡ [] → All (IsUnread left faults schema) before → HasTaken 0 before grouped counts
@@ -60,25 +59,25 @@ module _ {S : Type 0} (left : S → Option (List ℕ)) (faults : S → ℕ) (sch
     schema_is = schema_is;
     points = empty;
     counts_are = none;
-    quiet = All-weaker (IsUnread left faults schema) (λ (feed : HeadedFeed (Cutter S)). faults feed.cutter.source ≡ 0) (λ feed is. is.quiet) before unread;
+    quiet = All-weaker (IsUnread left faults schema) (λ (feed : FeedJob S). faults feed.cutter.source ≡ 0) (λ feed is. is.quiet) before unread;
     rest = refl;
     whole = refl;
     few = let none = counted_size grouped [] empty in omega (arith, none);
   }
 
   -- all feeds were read, and the points that were gathered last are inserted
-  pub all_taken : (now : List (HeadedFeed (Cutter S))) (n : ℕ) (grouped : GroupedCube) (counts : List FeedCounts) (cube : Cube) → n ≡ length before → HasTaken n now grouped counts → cube.schema ≡ grouped.cube.schema
+  pub all_taken : (now : List (FeedJob S)) (n : ℕ) (grouped : GroupedCube) (counts : List FeedCounts) (cube : Cube) → n ≡ length before → HasTaken n now grouped counts → cube.schema ≡ grouped.cube.schema
       → ((h : List Point) → GroupsCount grouped h → CubeCounts cube h) → TakesAll left faults schema before now cube counts
   all_taken now n grouped counts cube all on same counted = record {
     rows = on.rows;
-    read = subst (λ (feeds : List (HeadedFeed (Cutter S))). AllZip (HasRows left faults) feeds on.rows) (take_all n before (omega (arith, all))) on.read;
+    read = subst (λ (feeds : List (FeedJob S)). AllZip (HasRows left faults) feeds on.rows) (take_all n before (omega (arith, all))) on.read;
     schema_is = same ∙ on.schema_is;
     points = counted (flat_map points_in on.rows) on.points;
     counts_are = on.counts_are;
     quiet = on.quiet;
   }
 
-  module _ (n : ℕ) (now : List (HeadedFeed (Cutter S))) (grouped : GroupedCube) (counts : List FeedCounts) (on : HasTaken n now grouped counts) (d : HeadedFeed (Cutter S)) (lt : n < length before) where
+  module _ (n : ℕ) (now : List (FeedJob S)) (grouped : GroupedCube) (counts : List FeedCounts) (on : HasTaken n now grouped counts) (d : FeedJob S) (lt : n < length before) where
     next_is : get_or now n d ≡ get_or before n d
     next_is = same_at n now before d on.rest
 
@@ -86,10 +85,10 @@ module _ {S : Type 0} (left : S → Option (List ℕ)) (faults : S → ℕ) (sch
     pub next_unread : All (IsUnread left faults schema) before → IsUnread left faults schema (get_or now n d)
     next_unread unread = subst (IsUnread left faults schema) (sym next_is) (unread n d lt)
 
-    module _ (after : HeadedFeed (Cutter S)) where
+    module _ (after : FeedJob S) where
       -- the feeds are quiet where it is
       pub quiet_on : faults after.cutter.source ≡ 0 → AreQuiet left faults (set now n after)
-      quiet_on quiet = All-set (λ (feed : HeadedFeed (Cutter S)). faults feed.cutter.source ≡ 0) now n after quiet on.quiet
+      quiet_on quiet = All-set (λ (feed : FeedJob S). faults feed.cutter.source ≡ 0) now n after quiet on.quiet
 
       -- a feed more is read
       pub one_more : (grouped' : GroupedCube) (of_feed : FeedCounts) (counts' : List FeedCounts) → JoinsFeed left faults (get_or now n d) grouped grouped' of_feed → grouped'.cube.schema ≡ grouped.cube.schema → grouped_size grouped' ≤ grouped_size grouped + input_limit
@@ -98,7 +97,7 @@ module _ {S : Type 0} (left : S → Option (List ℕ)) (faults : S → ℕ) (sch
           let more : take (n + 1) before ≡ take n before ++ get_or now n d ∷ [] = take_more before n d lt ∙ ap (λ feed. take n before ++ feed ∷ []) (sym next_is) in
           record {
             rows = on.rows ++ taken.rows ∷ [];
-            read = subst (λ (feeds : List (HeadedFeed (Cutter S))). AllZip (HasRows left faults) feeds (on.rows ++ taken.rows ∷ [])) (sym more) (all_zipped_more (HasRows left faults) (take n before) on.rows (get_or now n d) taken.rows on.read taken.read);
+            read = subst (λ (feeds : List (FeedJob S)). AllZip (HasRows left faults) feeds (on.rows ++ taken.rows ∷ [])) (sym more) (all_zipped_more (HasRows left faults) (take n before) on.rows (get_or now n d) taken.rows on.read taken.read);
             schema_is = schema_is ∙ on.schema_is;
             points = subst (λ points. GroupsCount grouped' points) (flat_map_more points_in [] on.rows taken.rows) (taken.points (flat_map points_in on.rows) on.points);
             counts_are = counted ∙ ap (λ cs. cs ++ of_feed ∷ []) on.counts_are ∙ ap (λ c. map counts_at_end on.rows ++ c ∷ []) taken.counts_are ∙ sym (map_push counts_at_end on.rows taken.rows);
@@ -117,7 +116,7 @@ module _ {S : Type 0} (left : S → Option (List ℕ)) (faults : S → ℕ) (sch
         pub ends_by : (f : CutFault) → r ≡ Err f → EndsBy left faults before (set now n after) f
         ends_by fault.Read met =
             let rose = subst (λ k. Rose k (faults after.cutter.source)) (next_unread unread).quiet (cause.rose met) in
-            any-set (λ (feed : HeadedFeed (Cutter S)). Rose 0 (faults feed.cutter.source)) now n after (omega (arith, lt, on.whole)) rose
+            any-set (λ (feed : FeedJob S). Rose 0 (faults feed.cutter.source)) now n after (omega (arith, lt, on.whole)) rose
         ends_by fault.TooMuch met =
             ((n, get_or now n d, lt, get_or_default before n (get_or now n d) d lt ∙ sym next_is, too_much met), quiet_on (stays_quiet (λ read. cc)))
         ends_by fault.NoMemory met = quiet_on (stays_quiet (λ read. cc))

@@ -7,6 +7,8 @@ use Rattle.feed_reader.specs.Feeds.{points_in}
 use Rattle.feed_reader.specs.Headings.{Heading}
 use Rattle.feed_reader.specs.Reading.{ReadsRow}
 use Rattle.feed_reader.specs.Rows.{row_of_line}
+use Rattle.feed_reader.specs.declared.counts.FeedCounts.{FeedCounts}
+use Rattle.feed_reader.specs.declared.job.FeedJob.{FeedJob}
 use Rattle.feed_reader.specs.declared.row.Row.{Row}
 use Rattle.outer_io.proofs.ProgressLaws.{passes_all, passes_none, passes_on}
 use Rattle.outer_io.specs.Cuts.{IsEnd}
@@ -16,8 +18,6 @@ use Rattle.outer_io.specs.Lines.{Line, input_limit}
 use Rattle.outer_io.specs.Progress.{IsGoing, Passes, PassesAll}
 use Rattle.outer_io.specs.declared.cutter.CutFault.{CutFault}
 use Rattle.outer_io.specs.declared.cutter.CutFault.TheVariants as fault
-use Rattle.run_files.specs.declared.feeds.HeadedFeed.{HeadedFeed}
-use Rattle.run_report.specs.declared.counts.FeedCounts.{FeedCounts}
 use Rattle.cube_feeds.specs.Counting.{JoinsFeed, tally_counts, having_counted, tally_of}
 use Rattle.cube_feeds.specs.Grouping.{GroupsCount, GroupsTake, grouped_size}
 use Rattle.cube_feeds.specs.declared.grouped_cube.GroupedCube.{GroupedCube}
@@ -41,13 +41,13 @@ takes_on : (a b c : GroupedCube) (rows : List Row) (row : Row) → GroupsTake a 
 takes_on a b c rows row p q h counts =
     subst (λ points. GroupsCount c points) (append_assoc h (points_in rows) (points_in (row ∷ [])) ∙ ap (λ points. h ++ points) (sym (points_in-append rows (row ∷ [])))) (q (h ++ points_in rows) (p h counts))
 
-module _ {S : Type 0} (left : S → Option (List ℕ)) (faults : S → ℕ) (start : HeadedFeed (Cutter S)) (before : GroupedCube) where
+module _ {S : Type 0} (left : S → Option (List ℕ)) (faults : S → ℕ) (start : FeedJob S) (before : GroupedCube) where
   -- what a line's row is
   abbrev pub row_at : Line → Row
   row_at line = row_of_line start.header.schema start.header.places line
 
   -- the rows of some lines of a feed that was as at first were taken, and it goes on
-  pub record GoesOn (feed : HeadedFeed (Cutter S)) (grouped : GroupedCube) (tally : Tally) : Type 0 where
+  pub record GoesOn (feed : FeedJob S) (grouped : GroupedCube) (tally : Tally) : Type 0 where
     pub lines : List Line
     pub passed : Passes left faults start.cutter feed.cutter lines
     pub going : IsGoing feed.cutter
@@ -74,7 +74,7 @@ module _ {S : Type 0} (left : S → Option (List ℕ)) (faults : S → ℕ) (sta
     counted = counted;
   }
 
-  module _ (feed : HeadedFeed (Cutter S)) (grouped : GroupedCube) (tally : Tally) (on : GoesOn feed grouped tally) where
+  module _ (feed : FeedJob S) (grouped : GroupedCube) (tally : Tally) (on : GoesOn feed grouped tally) where
     rows_few : length (map row_at on.lines) < input_limit
     rows_few = omega (arith, on.given, on.few, length-map on.lines row_at)
 
@@ -86,7 +86,7 @@ module _ {S : Type 0} (left : S → Option (List ℕ)) (faults : S → ℕ) (sta
         (omega (arith, few.0, rows), omega (arith, few.1, rows), omega (arith, few.2, rows), omega (arith, on.given, on.few, on.size))
 
     -- a row more is read and taken
-    pub takes_row : (after : HeadedFeed (Cutter S)) (grouped' : GroupedCube) (tally' : Tally) (found : Row × ℕ) (schema : Schema) → schema ≡ start.header.schema → ReadsRow left faults schema feed.header.places feed.cutter after.cutter found → after.header ≡ feed.header
+    pub takes_row : (after : FeedJob S) (grouped' : GroupedCube) (tally' : Tally) (found : Row × ℕ) (schema : Schema) → schema ≡ start.header.schema → ReadsRow left faults schema feed.header.places feed.cutter after.cutter found → after.header ≡ feed.header
         → tally' ≡ having_counted tally found.1 found.0 → GroupsTake grouped grouped' (points_in (found.0 ∷ [])) → grouped'.cube.schema ≡ grouped.cube.schema → grouped_size grouped' ≤ grouped_size grouped + 1 → GoesOn after grouped' tally'
     takes_row after grouped' tally' found schema same reads header counted points schema_is size =
         let line = reads.0 in

@@ -2,12 +2,12 @@
 use Rattle.std.proofs.Common.{◌≡◌, ℕ, ◌+◌, ◌≤◌, Bool, cond, List, [], ◌∷◌, ◌++◌, length, take, count_by, refl, sym, ◌∙◌, ap, arith, append-nil, add-zero}
 use Rattle.std.proofs.lemmas.List.{length_push}
 use Rattle.std.proofs.lemmas.List.Sums.{count_by-le-length, sum_by-append}
-use Rattle.crew_feeder.proofs.RowLists.{first_more, take_twice}
-use Rattle.crew_feeder.specs.RowCounts.{count_accepted, count_blank, count_refused, first_refusals, is_blank_row, is_refused_row, kept_refusals, refusals_from}
-use Rattle.crew_feeder.specs.Taking.{having_kept}
 use Rattle.feed_reader.proofs.FeedLaws.{points_in-append}
 use Rattle.feed_reader.proofs.FewPoints.{points_in-length}
+use Rattle.feed_reader.proofs.RowLists.{first_more, take_twice}
 use Rattle.feed_reader.specs.Feeds.{points_in}
+use Rattle.feed_reader.specs.RowCounts.{count_accepted, count_blank, count_refused, first_refusals, is_blank_row, is_refused_row, kept_refusals, refusals_from}
+use Rattle.feed_reader.specs.RowCounts.{having_kept}
 use Rattle.feed_reader.specs.declared.row.Row.{Row}
 use Rattle.feed_reader.specs.declared.row.Row.TheVariants as row
 use Rattle.cube_feeds.specs.Counting.{having_counted, tally_of}

@@ -1,13 +1,12 @@
 -- What is counted row by row, and what one feed adds to a cube and its gathered points.
 use Rattle.std.specs.Prelude.{◌≡◌, ℕ, ◌+◌, List, Option, None}
-use Rattle.crew_feeder.specs.RowCounts.{count_accepted, count_blank, count_refused, first_refusals}
-use Rattle.crew_feeder.specs.Taking.{having_kept}
 use Rattle.feed_reader.specs.Feeds.{points_in}
+use Rattle.feed_reader.specs.RowCounts.{count_accepted, count_blank, count_refused, first_refusals}
+use Rattle.feed_reader.specs.RowCounts.{having_kept}
+use Rattle.feed_reader.specs.declared.counts.FeedCounts.{FeedCounts}
+use Rattle.feed_reader.specs.declared.job.FeedJob.{FeedJob}
 use Rattle.feed_reader.specs.declared.row.Row.{Row}
 use Rattle.feed_reader.specs.declared.row.Row.TheVariants as row
-use Rattle.outer_io.specs.Cutting.{Cutter}
-use Rattle.run_files.specs.declared.feeds.HeadedFeed.{HeadedFeed}
-use Rattle.run_report.specs.declared.counts.FeedCounts.{FeedCounts}
 use Rattle.cube_feeds.specs.Grouping.{GroupsTake}
 use Rattle.cube_feeds.specs.Taking.{HasRows, counts_at_end}
 use Rattle.cube_feeds.specs.declared.grouped_cube.GroupedCube.{GroupedCube}
@@ -28,7 +27,7 @@ abbrev pub tally_counts : Tally → FeedCounts
 tally_counts tally = record { accepted = tally.accepted; blank = tally.blank; refused = tally.refused; first = tally.first; fault = None }
 
 -- A feed was read to its end: the points among its rows were taken, and this is what is counted of them
-pub record JoinsFeed {S : Type 0} (left : S → Option (List ℕ)) (faults : S → ℕ) (feed : HeadedFeed (Cutter S)) (before after : GroupedCube) (counts : FeedCounts) : Type 0 where
+pub record JoinsFeed {S : Type 0} (left : S → Option (List ℕ)) (faults : S → ℕ) (feed : FeedJob S) (before after : GroupedCube) (counts : FeedCounts) : Type 0 where
   -- the rows of the feed
   pub rows : List Row
   pub read : HasRows left faults feed rows

@@ -1,10 +1,10 @@
 //! The cube of the records of feeds, which are read one after another on one thread.
 //!
-//! [`cube_of_feeds`] reads the rows of feeds whose headers were read, feed by feed, and inserts the points among them into
-//! a new cube, in order. Of each feed it says how many rows were accepted, blank and refused, and which were refused first,
-//! as a run of threads does. The first fault of a cutter ends all. What it answers is `TakesFeeds` of `specs/Taking.antt`.
-//! The crate stands on `feed_reader` for rows, on `cube_store` for the cube and on `crew_feeder` for what is kept of
-//! refusals. Where the feeds come from, and what becomes of the cube, is left to the crates above.
+//! [`cube_of_feeds`] reads the rows of feeds whose headers were read, feed by feed, and inserts the points among them
+//! into a new cube, in order. Of each feed it says how many rows were accepted, blank and refused, and which were
+//! refused first, as a run of threads does. The first fault of a cutter ends all. What it answers is `TakesFeeds` of
+//! `specs/Taking.antt`. The crate stands on `feed_reader` for rows and what is counted of them, and on `cube_store` for
+//! the cube. Where the feeds come from, and what becomes of the cube, is left to the crates above.
 //!
 //! ```text
 //! let mut feeds = open_feeds(alloc, &plan.schema, names, &mut place, &mut out)?.into_vec();

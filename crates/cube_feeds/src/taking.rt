@@ -1,21 +1,19 @@
 //! Feeds read into a cube.
 ghost use Rattle.std.specs.Prelude.{◌≡◌, ◌+◌, ◌≤◌, All, IfOk, IsErrOf, OnOk, length};
-ghost use Rattle.cube_feeds.specs.Counting.{JoinsFeed};
-ghost use Rattle.cube_feeds.specs.Grouping.{grouped_size};
-ghost use Rattle.cube_feeds.specs.Taking.{IsUnread, TakesFeeds};
 ghost use Rattle.cube_view.specs.Bag.{most_points};
 ghost use Rattle.outer_io.specs.Faults.{HasCause};
 ghost use Rattle.outer_io.specs.Lines.{input_limit};
 ghost use Rattle.outer_io.specs.Progress.{IsTooLarge};
+ghost use Rattle.cube_feeds.specs.Counting.{JoinsFeed};
+ghost use Rattle.cube_feeds.specs.Grouping.{grouped_size};
+ghost use Rattle.cube_feeds.specs.Taking.{IsUnread, TakesFeeds};
 
 use crate::grouped_cube::GroupedCube;
 use crate::tally::{Tally, take_row};
 use cube_store::Cube;
 use cube_view::Schema;
-use feed_reader::next_row;
-use outer_io::{CutFault, LineCutter, List, Source};
-use run_files::HeadedFeed;
-use run_report::FeedCounts;
+use feed_reader::{FeedCounts, FeedJob, next_row};
+use outer_io::{CutFault, List, Source};
 use std::alloc::Global;
 
 /// Reads the rows of all lines that the feed has left, takes the points among them behind the others, and counts the
@@ -23,7 +21,7 @@ use std::alloc::Global;
 fn take_feed<S: Source>(
     alloc: Global,
     schema: &Schema,
-    feed: &mut HeadedFeed<LineCutter<S>>,
+    feed: &mut FeedJob<S>,
     grouped: &mut GroupedCube,
 ) -> Result<FeedCounts, CutFault>
     requires unread { IsUnread S.left S.faults schema.now feed.old }
@@ -51,7 +49,7 @@ fn take_feed<S: Source>(
 pub fn cube_of_feeds<S: Source>(
     alloc: Global,
     schema: &Schema,
-    feeds: &mut [HeadedFeed<LineCutter<S>>],
+    feeds: &mut [FeedJob<S>],
 ) -> Result<(Cube, List<FeedCounts>), CutFault>
     requires few { length feeds.old ≤ 8 }
     requires unread { All (IsUnread S.left S.faults schema.now) feeds.old }

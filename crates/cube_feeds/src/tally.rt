@@ -1,16 +1,14 @@
 //! The counts of a feed while it is read.
 ghost use Rattle.std.specs.Prelude.{◌≡◌, ◌+◌, ◌^◌, ◌<◌, ◌≤◌, [], ◌∷◌, IfOk, OnOk};
-ghost use Rattle.cube_feeds.specs.Counting.{having_counted, tally_counts, tally_of};
-ghost use Rattle.cube_feeds.specs.Grouping.{GroupsTake, grouped_size};
 ghost use Rattle.cube_view.specs.Bag.{most_points};
 ghost use Rattle.feed_reader.specs.Feeds.{points_in};
 ghost use Rattle.feed_reader.specs.Rows.{IsValidRow};
+ghost use Rattle.cube_feeds.specs.Counting.{having_counted, tally_counts, tally_of};
+ghost use Rattle.cube_feeds.specs.Grouping.{GroupsTake, grouped_size};
 
 use crate::grouped_cube::GroupedCube;
-use crew_feeder::{FirstRefusals, Refusal};
-use feed_reader::Row;
+use feed_reader::{FeedCounts, FirstRefusals, Refusal, Row};
 use outer_io::NoMemory;
-use run_report::FeedCounts;
 use std::alloc::Global;
 
 /// Of the rows of a feed so far: how many were accepted, blank and refused, and which were refused first.

@@ -12,3 +12,4 @@ pub mod FeedLaws
 pub mod Stepping
 pub mod AcceptedPoints
 pub mod FewPoints
+pub mod RowLists

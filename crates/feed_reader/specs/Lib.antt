@@ -7,4 +7,5 @@ pub mod Headers
 pub mod Rows
 pub mod Feeds
 pub mod Reading
+pub mod RowCounts
 pub mod Accepting

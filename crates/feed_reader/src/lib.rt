@@ -3,10 +3,12 @@
 //! A line is read by itself. What a field and a record are is `csv`'s own definition, which `record_of` of
 //! `specs/Records.antt` cites; a regular line is split in place, and every other line is read by `csv`. What the bytes mean is the definition `head_of` of
 //! `specs/Headers.antt` for a header and `row_of` of `specs/Rows.antt` for a row; [`Header::read`] and [`Header::row`]
-//! answer exactly that. [`read_header`] and [`next_row`] take the lines from a cutter. `accepted` of `specs/Feeds.antt`
-//! says which points a whole feed has, and [`accepted_laws`] what is known of them. The crate stands on `cube_view` for
-//! schemas and points and on `outer_io` for lines; where the points go, and what is said of refused rows, is left to the
-//! crates above.
+//! answer exactly that. [`read_header`] and [`next_row`] take the lines from a cutter: a [`FeedJob`] is a cutter that has
+//! given the header's line, and the header. `accepted` of `specs/Feeds.antt` says which points a whole feed has, and
+//! [`accepted_laws`] what is known of them. How many of some rows are accepted, blank and refused, and which refusals come
+//! first, are the definitions of `specs/RowCounts.antt`; [`FeedCounts`] has such counts, and [`FirstRefusals`] keeps the
+//! refusals. The crate stands on `cube_view` for schemas and points and on `outer_io` for lines; where the points go, and
+//! what is said of refused rows, is left to the crates above.
 //!
 //! ```text
 //! let header = Header::read(alloc, &schema, b"id,x,y,kind,time")?;
@@ -16,18 +18,24 @@
 #![tactic(auto)]
 
 mod column;
+mod counts;
 mod feed;
 mod fields;
 mod header;
 mod held;
+mod job;
 mod laws;
 mod line_parts;
 mod record;
+mod refusal;
 mod regular;
 mod row;
 
 pub use column::Column;
+pub use counts::FeedCounts;
 pub use feed::{NoHeader, next_row, read_header};
 pub use header::{HeadFault, Header};
+pub use job::FeedJob;
 pub use laws::accepted_laws;
+pub use refusal::{FirstRefusals, Refusal};
 pub use row::{Row, RowFault};

@@ -1,9 +1,8 @@
 //! Reports of runs that memory, a put or a limit stopped, byte by byte.
-use crew_feeder::Refusal;
 use cube_schema::{Plan, PlanFault, read_plan};
-use feed_reader::{Column, HeadFault, RowFault};
+use feed_reader::{Column, FeedCounts, HeadFault, Refusal, RowFault};
 use outer_io::{CutFault, List, NoMemory};
-use run_report::{FeedCounts, ScriptCounts, header_refused, plan_refused, report};
+use run_report::{ScriptCounts, header_refused, plan_refused, report};
 use session_core::SessionFault;
 use std::alloc::Global;
 use std::process::Abort;

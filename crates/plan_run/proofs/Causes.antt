@@ -4,8 +4,7 @@ use Rattle.std.specs.Prelude.{IsErrOf}
 use Rattle.std.specs.List.{AllZip}
 use Rattle.std.proofs.lemmas.List.Elements.{All-cons, All-head, All-nil, All-tail}
 use Rattle.crew_feeder.specs.Leaving.{GivesUntil}
-use Rattle.crew_feeder.specs.declared.job.FeedDone.{FeedDone}
-use Rattle.crew_feeder.specs.declared.job.FeedJob.{FeedJob}
+use Rattle.crew_feeder.specs.declared.done.FeedDone.{FeedDone}
 use Rattle.crew_session.specs.Work.{ending_fault}
 use Rattle.crew_session.specs.declared.done.SessionDone.{SessionDone}
 use Rattle.cube_crew.specs.Crewed.{FeedsLeave, LeavesFeed, LeavesTranscript, closing}
@@ -13,6 +12,7 @@ use Rattle.cube_schema.specs.declared.plan.Plan.{Plan}
 use Rattle.cube_view.specs.Points.{Point}
 use Rattle.cube_view.specs.declared.schema.Schema.{Schema}
 use Rattle.cube_view.specs.declared.stat.Stat.{Stat}
+use Rattle.feed_reader.specs.declared.job.FeedJob.{FeedJob}
 use Rattle.live_session.specs.State.{SessionState}
 use Rattle.outer_io.specs.Cutting.{Cutter}
 use Rattle.outer_io.specs.Faults.{Rose}
@@ -20,7 +20,6 @@ use Rattle.outer_io.specs.Files.{Files}
 use Rattle.outer_io.specs.Lines.{Line}
 use Rattle.outer_io.specs.declared.cutter.CutFault.{CutFault}
 use Rattle.outer_io.specs.declared.cutter.CutFault.TheVariants as cut
-use Rattle.plan_run.specs.Parts.{ends_seen}
 use Rattle.run_files.specs.Outside.{at, parts_seen, PlaceSeen, SinkSeen, SourceSeen}
 use Rattle.run_files.specs.declared.stop.Stop.{Stop}
 use Rattle.run_opening.specs.Ready.{IsSessionOf}
@@ -28,6 +27,7 @@ use Rattle.run_stages.specs.Closing.{ClosesRun}
 use Rattle.run_stages.specs.declared.done.RunDone.{RunDone}
 use Rattle.session_core.specs.declared.fault.SessionFault.{SessionFault}
 use Rattle.session_core.specs.declared.fault.SessionFault.TheVariants as fault
+use Rattle.plan_run.specs.Parts.{ends_seen}
 
 -- A feed's source met faults exactly where reading ended the feed
 pub record FeedCause {I : Type 0} (faults : I → ℕ) (done : FeedDone I) : Type 0 where

@@ -3,8 +3,10 @@ use Rattle.std.proofs.Common.{◌≡◌, ◌≢◌, ℕ, Bool, true, false, List
 use Rattle.std.specs.List.{AllZip}
 use mathlib.Core.List.{map-map}
 use Rattle.std.proofs.lemmas.List.Elements.{All-cons, All-head, All-nil, All-tail}
-use Rattle.crew_feeder.specs.declared.job.FeedDone.{FeedDone}
-use Rattle.crew_feeder.specs.declared.job.FeedJob.{FeedJob}
+use Rattle.crew_feeder.specs.Leaving.{feed_counts}
+use Rattle.crew_feeder.specs.declared.done.FeedDone.{FeedDone}
+use Rattle.feed_reader.specs.RowCounts.{counts_of_rows}
+use Rattle.feed_reader.specs.declared.job.FeedJob.{FeedJob}
 use Rattle.crew_session.specs.declared.done.SessionDone.{SessionDone}
 use Rattle.cube_crew.proofs.Zips.{AllZip-map, AllZip-then}
 use Rattle.cube_crew.specs.Crewed.{FeedsLeave, LeavesTranscript, closing}
@@ -26,8 +28,7 @@ use Rattle.plan_run.specs.Parts.{ends_seen}
 use Rattle.reply_json.specs.declared.reply.Reply.{Reply}
 use Rattle.run_files.specs.Outside.{SinkSeen, SourceSeen}
 use Rattle.run_opening.specs.Ready.{IsJobOf, IsSessionOf}
-use Rattle.run_report.specs.Reports.{counts_of_rows}
-use Rattle.run_stages.specs.Counted.{feed_counts, script_counts}
+use Rattle.run_stages.specs.Counted.{script_counts}
 use Rattle.session_core.specs.Scripts.{is_script_refused}
 use Rattle.session_core.specs.Transcript.{replies_text}
 

@@ -3,17 +3,17 @@ use Rattle.std.proofs.Common.{◌≡◌, ◌≢◌, ◌+◌, ◌==◌, ℕ, zero
 use Rattle.std.specs.Prelude.{count_by}
 use Rattle.std.proofs.lemmas.List.Elements.{All-head, All-tail}
 use Rattle.std.proofs.lemmas.List.Sums.{sum_by-cons}
-use Rattle.crew_feeder.specs.declared.job.FeedDone.{FeedDone}
+use Rattle.crew_feeder.specs.declared.done.FeedDone.{FeedDone}
 use Rattle.crew_session.specs.declared.done.SessionDone.{SessionDone}
-use Rattle.outer_io.specs.Faults.{Rose, RoseBy}
+use Rattle.outer_io.specs.Faults.{Rose}
 use Rattle.outer_io.specs.declared.cutter.CutFault.{CutFault}
 use Rattle.outer_io.specs.declared.cutter.CutFault.TheVariants as cut
-use Rattle.plan_run.proofs.Causes.{FeedCause, SessionCause}
-use Rattle.plan_run.specs.Interrupted.{is_script_unread, is_unread}
 use Rattle.run_files.proofs.Counts.{faulty-cons}
 use Rattle.run_files.specs.GivingBack.{faulty}
 use Rattle.session_core.specs.declared.fault.SessionFault.{SessionFault}
 use Rattle.session_core.specs.declared.fault.SessionFault.TheVariants as fault
+use Rattle.plan_run.proofs.Causes.{FeedCause, SessionCause}
+use Rattle.plan_run.specs.Interrupted.{is_script_unread, is_unread}
 
 -- the count of mapped items
 pub count-map : {A B : Type 0} (f : A → B) (q : B → Bool) (xs : List A) → count_by q (map f xs) ≡ count_by (λ x. q (f x)) xs

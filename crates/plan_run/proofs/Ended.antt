@@ -1,12 +1,11 @@
 -- How a run ends, by how it was opened and by what became of its parts.
-use Rattle.std.proofs.Common.{◌≡◌, ◌≢◌, ◌⊎◌, inl, inr, ℕ, Bool, true, false, List, [], ◌∷◌, ◌++◌, All, map, Option, Some, None, Result, Ok, Err, IsSomeAnd, OnOk, ◌≤◌, refl, sym, ap, subst, ◌∙◌, arith}
+use Rattle.std.proofs.Common.{◌≡◌, ◌≢◌, ◌⊎◌, inl, inr, ℕ, Bool, true, false, List, [], ◌∷◌, ◌++◌, All, map, Option, Some, None, Result, Ok, Err, IsSomeAnd, ◌≤◌, refl, sym, ap, subst, ◌∙◌, arith}
 use Rattle.std.proofs.lemmas.List.{map-append}
 use Rattle.std.specs.Prelude.{Contains, IfSome}
 use Rattle.std.specs.FinMap.{get}
 use Rattle.std.specs.List.{AllZip}
 use Rattle.std.proofs.lemmas.List.Elements.{All-weaker}
-use Rattle.crew_feeder.specs.declared.job.FeedDone.{FeedDone}
-use Rattle.crew_feeder.specs.declared.job.FeedJob.{FeedJob}
+use Rattle.crew_feeder.specs.declared.done.FeedDone.{FeedDone}
 use Rattle.crew_session.specs.declared.done.SessionDone.{SessionDone}
 use Rattle.cube_crew.proofs.Zips.{AllZip-right}
 use Rattle.cube_crew.specs.Crewed.{IsCrewed, LeavesTranscript, answered_over, closing_of}
@@ -16,30 +15,13 @@ use Rattle.cube_schema.specs.Repeats.{outputs}
 use Rattle.cube_schema.specs.declared.plan.Plan.{Plan}
 use Rattle.cube_store.specs.Numbers.{OwnsAllButRoot}
 use Rattle.feed_reader.specs.Feeds.{is_feed_refused}
+use Rattle.feed_reader.specs.declared.job.FeedJob.{FeedJob}
 use Rattle.live_session.specs.State.{SessionState}
-use Rattle.outer_io.proofs.ToldLaws.{Told-each, Told-some}
+use Rattle.outer_io.proofs.ToldLaws.{Told-some}
 use Rattle.outer_io.specs.Faults.{Rose, RoseBy}
 use Rattle.outer_io.specs.Files.{Files, HasFile, file_or_empty}
 use Rattle.outer_io.specs.Told.{Told}
 use Rattle.outer_io.specs.declared.fault.IoFault.TheVariants as io
-use Rattle.plan_run.proofs.Causes.{FeedCause, RunCause, SessionCause, feed_causes, session_causes}
-use Rattle.plan_run.proofs.Joined.{End, ended}
-use Rattle.plan_run.proofs.Landed.{some_is, told_pair}
-use Rattle.plan_run.proofs.Named.{KeepsOthers-twice, dones_named, names_of, names_then, sessions_named}
-use Rattle.plan_run.proofs.Blamed.{AnyOf, all_err, any_in, any_left, any_right, any_unmapped}
-use Rattle.plan_run.proofs.OneJournal.{EntryLaws}
-use Rattle.plan_run.proofs.Raised.{closing_not_plan, closing_read, closing_write, starved_of}
-use Rattle.plan_run.proofs.Refused.{large_feeds, refused_scripts, write_not_refused}
-use Rattle.plan_run.proofs.Ranked.{rank_end}
-use Rattle.plan_run.proofs.Said.{InOrder, Unplanned, opening_headed, opening_put, opening_unmade, opening_write}
-use Rattle.plan_run.proofs.Standing.{put_still, read_still, write_still}
-use Rattle.plan_run.proofs.Whole.{completed}
-use Rattle.plan_run.proofs.Truth.{account, account_is, begins_files, holds_files, kept_found, kept_well, kept_where, reads_counted, said_found, said_lost, wrote_found, wrote_well, wrote_where}
-use Rattle.plan_run.proofs.Unreported.{empty_made, given_back_empty}
-use Rattle.plan_run.specs.Completed.{IsCompleted}
-use Rattle.plan_run.specs.Ends.{EndsUnderPlan, HasBegun, HasRefusedInput, HasReported, LacksPlan, LacksReport, RunEnds}
-use Rattle.plan_run.specs.Interrupted.{Account, BeginsFiles, HoldsFiles, account_text, read_stops}
-use Rattle.plan_run.specs.Parts.{GivesBack, RunsParts, ends_seen, jobs_of, run_done_of}
 use Rattle.run_files.proofs.Emptied.{told_still}
 use Rattle.run_files.proofs.Putting.{fails_after, puts_after, silent_after}
 use Rattle.run_files.proofs.Stages.{all_empty, all_made, all_opened, KeepsOthers-after, KeepsOthers-more, KeepsOthers-one}
@@ -60,7 +42,24 @@ use Rattle.run_stages.specs.Ends.{feed_end, feeds_end, session_end, sessions_end
 use Rattle.run_stages.specs.declared.done.RunDone.{RunDone}
 use Rattle.session_core.proofs.WholeScripts.{told_by}
 use Rattle.session_core.specs.Scripts.{is_script_refused}
-use Rattle.world_core.specs.Interleaving.{entry_points}
+use Rattle.plan_run.proofs.Causes.{FeedCause, RunCause, SessionCause, feed_causes, session_causes}
+use Rattle.plan_run.proofs.Joined.{End, ended}
+use Rattle.plan_run.proofs.Landed.{some_is, told_pair}
+use Rattle.plan_run.proofs.Named.{KeepsOthers-twice, dones_named, names_of, names_then, sessions_named}
+use Rattle.plan_run.proofs.Blamed.{AnyOf, all_err, any_in, any_left, any_right, any_unmapped}
+use Rattle.plan_run.proofs.OneJournal.{EntryLaws}
+use Rattle.plan_run.proofs.Raised.{closing_not_plan, closing_read, closing_write, starved_of}
+use Rattle.plan_run.proofs.Refused.{large_feeds, refused_scripts, write_not_refused}
+use Rattle.plan_run.proofs.Ranked.{rank_end}
+use Rattle.plan_run.proofs.Said.{InOrder, Unplanned, opening_headed, opening_put, opening_unmade, opening_write}
+use Rattle.plan_run.proofs.Standing.{put_still, read_still, write_still}
+use Rattle.plan_run.proofs.Whole.{completed}
+use Rattle.plan_run.proofs.Truth.{account, account_is, begins_files, holds_files, kept_well, kept_where, reads_counted, said_lost, wrote_well, wrote_where}
+use Rattle.plan_run.proofs.Unreported.{empty_made, given_back_empty}
+use Rattle.plan_run.specs.Completed.{IsCompleted}
+use Rattle.plan_run.specs.Ends.{EndsUnderPlan, HasBegun, HasRefusedInput, HasReported, LacksPlan, LacksReport, RunEnds}
+use Rattle.plan_run.specs.Interrupted.{Account, BeginsFiles, HoldsFiles, account_text, read_stops}
+use Rattle.plan_run.specs.Parts.{GivesBack, RunsParts, ends_seen, jobs_of, run_done_of}
 
 -- an end of opening among those of a run
 unplanned_end : (stop : Stop) → (Some stop ≡ Some NoMemory) ⊎ (Some stop ≡ Some ReadFault) ⊎ (Some stop ≡ Some PlanRefused) → (ended stop ≡ ended NoMemory) ⊎ (ended stop ≡ ended ReadFault) ⊎ (ended stop ≡ ended PlanRefused)

@@ -1,24 +1,22 @@
 -- What a feed of a run leaves that was read to its end.
 use Rattle.std.proofs.Common.{◌≡◌, ◌+◌, ℕ, false, List, ◌∷◌, length, map, Option, Some, None, IsSomeAnd, sym, ap, subst, ◌∙◌}
-use Rattle.crew_feeder.specs.Leaving.{GivesUntil}
-use Rattle.crew_feeder.specs.RowCounts.{count_blank, count_refused, first_refusals}
-use Rattle.crew_feeder.specs.declared.job.FeedDone.{FeedDone}
-use Rattle.crew_feeder.specs.declared.job.FeedJob.{FeedJob}
+use Rattle.crew_feeder.specs.Leaving.{GivesUntil, feed_counts}
+use Rattle.crew_feeder.specs.declared.done.FeedDone.{FeedDone}
 use Rattle.cube_crew.specs.Crewed.{LeavesFeed, feed_rows}
 use Rattle.cube_view.specs.Points.{Point}
 use Rattle.cube_view.specs.declared.schema.Schema.{Schema}
 use Rattle.feed_reader.proofs.FeedLaws.{feed_read, rows_read}
 use Rattle.feed_reader.proofs.FeedStart.{new_lines, new_rest, some_told}
 use Rattle.feed_reader.specs.Feeds.{accepted, is_feed_refused, points_in, rows}
+use Rattle.feed_reader.specs.RowCounts.{count_blank, count_refused, counts_of_rows, first_refusals}
 use Rattle.feed_reader.specs.Rows.{row_of_line}
+use Rattle.feed_reader.specs.declared.job.FeedJob.{FeedJob}
 use Rattle.outer_io.proofs.ToldLaws.{Told-some}
 use Rattle.outer_io.specs.Cutting.{Cutter, lines_left, rest_of}
 use Rattle.outer_io.specs.Lines.{lines}
 use Rattle.outer_io.specs.Progress.{PassesAll}
-use Rattle.plan_run.specs.Completed.{whole_rows}
 use Rattle.run_files.specs.Headed.{IsHeaded}
-use Rattle.run_report.specs.Reports.{counts_of_rows}
-use Rattle.run_stages.specs.Counted.{feed_counts}
+use Rattle.plan_run.specs.Completed.{whole_rows}
 
 -- A feed with these bytes was read to its end, and these are its points
 pub record IsFed {I : Type 0} (schema : Schema) (bytes : List ℕ) (sent : List Point) (done : FeedDone I) : Type 0 where

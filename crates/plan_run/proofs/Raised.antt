@@ -1,13 +1,11 @@
 -- Which counts rose where closing a run ended in a read fault or a write fault.
 use Rattle.std.proofs.Common.{◌≡◌, ◌≢◌, ◌⊎◌, inl, inr, ◌≤◌, ℕ, Bool, true, false, List, [], ◌∷◌, ◌++◌, All, map, Result, Err, refl, sym, subst, ◌∙◌}
 use Rattle.std.specs.Prelude.{IsErrOf}
-use Rattle.crew_feeder.specs.declared.job.FeedDone.{FeedDone}
+use Rattle.crew_feeder.specs.declared.done.FeedDone.{FeedDone}
 use Rattle.crew_session.specs.declared.done.SessionDone.{SessionDone}
 use Rattle.cube_schema.specs.declared.plan.Plan.{Plan}
 use Rattle.outer_io.specs.Faults.{Rose}
 use Rattle.outer_io.specs.declared.fault.IoFault.TheVariants as io
-use Rattle.plan_run.proofs.Blamed.{AnyOf, all_err, any_in, any_left, any_mapped, any_right, any_unmapped, any_with, feed_not_plan, feed_not_write, feed_read_end, session_not_plan, session_read_end, session_write_end, some_faulty, write_failed, write_not_plan, write_not_read}
-use Rattle.plan_run.proofs.Causes.{FeedCause, RunCause, SessionCause, feed_count, session_count, sink_of}
 use Rattle.run_files.proofs.Counts.{counts_failed, counts_grow, rose_from_before, rose_later, rose_once}
 use Rattle.run_files.specs.GivingBack.{TakesSources}
 use Rattle.run_files.specs.Outside.{PlaceSeen, SinkSeen, SourceSeen}
@@ -17,6 +15,8 @@ use Rattle.run_files.specs.declared.stop.Stop.TheVariants.{NoMemory, PlanRefused
 use Rattle.run_stages.specs.Closing.{threads_end}
 use Rattle.run_stages.specs.Ends.{feed_end, feeds_end, session_end, sessions_end, starved_end}
 use Rattle.run_stages.specs.declared.done.RunDone.{RunDone}
+use Rattle.plan_run.proofs.Blamed.{AnyOf, all_err, any_in, any_left, any_mapped, any_right, any_unmapped, any_with, feed_not_plan, feed_not_write, feed_read_end, session_not_plan, session_read_end, session_write_end, some_faulty, write_failed, write_not_plan, write_not_read}
+use Rattle.plan_run.proofs.Causes.{FeedCause, RunCause, SessionCause, feed_count, session_count, sink_of}
 
 pub starved_of : (starved : Bool) (e : Stop) → e ≢ NoMemory → starved_end starved ≢ Err e
 starved_of true e other is = other (sym (cc is))

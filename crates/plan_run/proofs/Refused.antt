@@ -3,8 +3,7 @@ use Rattle.std.proofs.Common.{◌≡◌, ◌≢◌, inl, inr, ◌+◌, ◌<◌, 
 use Rattle.std.specs.Prelude.{IsErrOf}
 use Rattle.std.specs.List.{AllZip}
 use Rattle.crew_feeder.specs.Leaving.{GivesUntil}
-use Rattle.crew_feeder.specs.declared.job.FeedDone.{FeedDone}
-use Rattle.crew_feeder.specs.declared.job.FeedJob.{FeedJob}
+use Rattle.crew_feeder.specs.declared.done.FeedDone.{FeedDone}
 use Rattle.crew_session.specs.declared.done.SessionDone.{SessionDone}
 use Rattle.cube_crew.specs.Crewed.{FeedsLeave, LeavesFeed, LeavesTranscript, closing}
 use Rattle.cube_view.specs.Points.{Point}
@@ -13,6 +12,7 @@ use Rattle.cube_view.specs.declared.stat.Stat.{Stat}
 use Rattle.feed_reader.proofs.FeedLaws.{too_large_refused}
 use Rattle.feed_reader.proofs.FeedStart.{new_rest}
 use Rattle.feed_reader.specs.Feeds.{is_feed_refused}
+use Rattle.feed_reader.specs.declared.job.FeedJob.{FeedJob}
 use Rattle.live_session.specs.State.{SessionState}
 use Rattle.outer_io.proofs.ToldLaws.{Told-some}
 use Rattle.outer_io.specs.Cutting.{Cutter, input_size, rest_of}
@@ -22,9 +22,6 @@ use Rattle.outer_io.specs.declared.cutter.CutFault.{CutFault}
 use Rattle.outer_io.specs.declared.cutter.CutFault.TheVariants as cut
 use Rattle.outer_io.specs.declared.fault.IoFault.{IoFault}
 use Rattle.outer_io.specs.declared.fault.IoFault.TheVariants as io
-use Rattle.plan_run.proofs.Blamed.{AnyOf}
-use Rattle.plan_run.proofs.Causes.{ended_by}
-use Rattle.plan_run.specs.Parts.{ends_seen}
 use Rattle.run_files.specs.Outside.{SinkSeen, SourceSeen}
 use Rattle.run_files.specs.Stops.{write_end}
 use Rattle.run_files.specs.declared.stop.Stop.TheVariants.{FeedRefused}
@@ -33,6 +30,9 @@ use Rattle.run_stages.specs.Ends.{feed_end, session_end}
 use Rattle.session_core.specs.Scripts.{is_script_refused}
 use Rattle.session_core.specs.declared.fault.SessionFault.{SessionFault}
 use Rattle.session_core.specs.declared.fault.SessionFault.TheVariants as fault
+use Rattle.plan_run.proofs.Blamed.{AnyOf}
+use Rattle.plan_run.proofs.Causes.{ended_by}
+use Rattle.plan_run.specs.Parts.{ends_seen}
 
 feed_refused_end : (f : Option CutFault) → feed_end f ≡ Err FeedRefused → f ≡ Some cut.TooMuch
 feed_refused_end None is = absurd (cc is)

@@ -1,18 +1,14 @@
 -- Which counts stand still where closing a run ended by a cause that comes late in the order, or well.
-use Rattle.std.proofs.Common.{◌≡◌, ◌≢◌, ◌≤◌, ℕ, List, [], ◌∷◌, ◌++◌, All, map, Option, Some, Result, Ok, Err, refl, sym, subst, ◌∙◌, arith}
+use Rattle.std.proofs.Common.{◌≡◌, ◌≢◌, ◌≤◌, ℕ, List, [], ◌∷◌, ◌++◌, All, map, Option, Some, Result, Ok, Err, refl, subst, ◌∙◌, arith}
 use Rattle.std.specs.Prelude.{IsErrOf, OnOk}
 use Rattle.std.proofs.lemmas.List.Elements.{All-append, All-map}
-use Rattle.crew_feeder.specs.declared.job.FeedDone.{FeedDone}
+use Rattle.crew_feeder.specs.declared.done.FeedDone.{FeedDone}
 use Rattle.crew_session.specs.declared.done.SessionDone.{SessionDone}
 use Rattle.cube_schema.specs.declared.plan.Plan.{Plan}
 use Rattle.outer_io.specs.declared.cutter.CutFault.{CutFault}
 use Rattle.outer_io.specs.declared.cutter.CutFault.TheVariants as cut
 use Rattle.outer_io.specs.declared.fault.IoFault.{IoFault}
 use Rattle.outer_io.specs.declared.fault.IoFault.TheVariants as io
-use Rattle.plan_run.proofs.Causes.{RunCause, SessionCause, feed_count, session_count, sink_of}
-use Rattle.plan_run.proofs.Joined.{All-unmapped, End, written_well}
-use Rattle.plan_run.proofs.Ranked.{ComesFirst, rank_end, within}
-use Rattle.plan_run.proofs.Refused.{write_not_refused}
 use Rattle.run_files.specs.Outside.{PlaceSeen, Puts, SinkSeen, SourceSeen}
 use Rattle.run_files.specs.Stops.{write_end}
 use Rattle.run_files.specs.declared.stop.Stop.{Stop}
@@ -22,6 +18,10 @@ use Rattle.run_stages.specs.Ends.{feed_end, feeds_end, session_end, sessions_end
 use Rattle.run_stages.specs.declared.done.RunDone.{RunDone}
 use Rattle.session_core.specs.declared.fault.SessionFault.{SessionFault}
 use Rattle.session_core.specs.declared.fault.SessionFault.TheVariants as fault
+use Rattle.plan_run.proofs.Causes.{RunCause, SessionCause, feed_count, session_count, sink_of}
+use Rattle.plan_run.proofs.Joined.{All-unmapped, End, written_well}
+use Rattle.plan_run.proofs.Ranked.{ComesFirst, rank_end, within}
+use Rattle.plan_run.proofs.Refused.{write_not_refused}
 
 abbrev well : End
 well = Ok tt

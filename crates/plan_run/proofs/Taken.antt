@@ -3,17 +3,17 @@ use Rattle.std.proofs.Common.{◌≡◌, ◌≢◌, ◌+◌, ◌<◌, ◌≤◌,
 use Rattle.std.specs.List.{AllZip}
 use Rattle.std.proofs.lemmas.List.{map-append}
 use Rattle.std.proofs.lemmas.List.Elements.{All-head, All-tail}
-use Rattle.crew_feeder.specs.Leaving.{GivesUntil}
-use Rattle.crew_feeder.specs.RowCounts.{first_refusals}
-use Rattle.crew_feeder.specs.declared.job.FeedDone.{FeedDone}
-use Rattle.crew_feeder.specs.declared.job.FeedJob.{FeedJob}
+use Rattle.crew_feeder.specs.Leaving.{GivesUntil, feed_counts}
+use Rattle.crew_feeder.specs.declared.done.FeedDone.{FeedDone}
 use Rattle.cube_crew.specs.Crewed.{FeedsLeave, LeavesFeed, feed_rows}
 use Rattle.cube_view.specs.Points.{Point}
 use Rattle.cube_view.specs.declared.schema.Schema.{Schema}
 use Rattle.feed_reader.proofs.FeedLaws.{points_in-append, rows_read}
 use Rattle.feed_reader.proofs.FeedStart.{new_lines}
 use Rattle.feed_reader.specs.Feeds.{accepted, points_in, rows}
+use Rattle.feed_reader.specs.RowCounts.{FeedRows, counts_of_rows, first_refusals}
 use Rattle.feed_reader.specs.Rows.{row_of_line}
+use Rattle.feed_reader.specs.declared.job.FeedJob.{FeedJob}
 use Rattle.feed_reader.specs.declared.row.Row.{Row}
 use Rattle.outer_io.proofs.ToldLaws.{Told-some}
 use Rattle.outer_io.specs.Cutting.{Cutter, input_size, lines_left}
@@ -21,16 +21,14 @@ use Rattle.outer_io.specs.Files.{Files, file_or_empty}
 use Rattle.outer_io.specs.Lines.{Line, input_limit, lines}
 use Rattle.outer_io.specs.declared.cutter.CutFault.{CutFault}
 use Rattle.outer_io.specs.declared.cutter.CutFault.TheVariants as cut
-use Rattle.plan_run.proofs.Landed.{told_pair}
-use Rattle.plan_run.proofs.Ranked.{feed_lacking, feed_read, rank_end}
-use Rattle.plan_run.specs.Interrupted.{ReportsFeed}
 use Rattle.run_files.specs.declared.stop.Stop.{Stop}
 use Rattle.run_files.specs.declared.stop.Stop.TheVariants.{PlanRefused}
 use Rattle.run_opening.specs.Ready.{IsJobOf}
-use Rattle.run_report.specs.Reports.{FeedRows, counts_of_rows}
-use Rattle.run_stages.specs.Counted.{feed_counts}
 use Rattle.run_stages.specs.Ends.{feed_end}
 use Rattle.world_core.specs.PairFact.{IsPrefix}
+use Rattle.plan_run.proofs.Landed.{told_pair}
+use Rattle.plan_run.proofs.Ranked.{feed_lacking, feed_read, rank_end}
+use Rattle.plan_run.specs.Interrupted.{ReportsFeed}
 
 module _ {I : Type 0} (left : I → Option (List ℕ)) (faults : I → ℕ) where
   -- The rows are those of lines that the cutter of the job gave until this fault

@@ -7,8 +7,7 @@ use Rattle.std.proofs.Math.Seq.{take-length}
 use Rattle.std.proofs.lemmas.Bool.{ltb-false, ltb-true}
 use Rattle.std.proofs.lemmas.List.{length-map, length-take, map-append, take-take, take_all}
 use Rattle.std.proofs.lemmas.List.Elements.{All-contains, All-contains_itself, All-head, All-map, All-weaker}
-use Rattle.crew_feeder.specs.declared.job.FeedDone.{FeedDone}
-use Rattle.crew_feeder.specs.declared.job.FeedJob.{FeedJob}
+use Rattle.crew_feeder.specs.declared.done.FeedDone.{FeedDone}
 use Rattle.crew_session.specs.declared.done.SessionDone.{SessionDone}
 use Rattle.cube_crew.proofs.Zips.{AllZip-length, AllZip-right, AllZip-then}
 use Rattle.cube_crew.specs.Crewed.{IsCrewed, LeavesTranscript, answered_over, closing}
@@ -20,6 +19,9 @@ use Rattle.cube_store.specs.Numbers.{OwnsAllButRoot}
 use Rattle.cube_view.specs.Points.{Point}
 use Rattle.feed_queue.specs.Journal.{journal_text}
 use Rattle.feed_reader.specs.Feeds.{accepted, points_in}
+use Rattle.feed_reader.specs.RowCounts.{FeedRows}
+use Rattle.feed_reader.specs.declared.counts.FeedCounts.{FeedCounts}
+use Rattle.feed_reader.specs.declared.job.FeedJob.{FeedJob}
 use Rattle.outer_io.proofs.CountLaws.{RoseBy-add}
 use Rattle.outer_io.proofs.ToldLaws.{Told-some}
 use Rattle.outer_io.specs.Bytes.{Gains, GainsPart}
@@ -29,6 +31,26 @@ use Rattle.outer_io.specs.Told.{Told}
 use Rattle.outer_io.specs.declared.cutter.CutFault.{CutFault}
 use Rattle.outer_io.specs.declared.fault.IoFault.{IoFault}
 use Rattle.outer_io.specs.declared.fault.IoFault.TheVariants as io
+use Rattle.run_files.proofs.Counts.{counts_failed, counts_grow, rose_from_before, rose_later}
+use Rattle.run_files.proofs.Lists.{All-back, All-front}
+use Rattle.run_files.specs.GivingBack.{Lands, faulty}
+use Rattle.run_files.specs.Outside.{at, file_of, parts_seen, PlaceSeen, SinkSeen, SourceSeen}
+use Rattle.run_files.specs.Stops.{joined_ends, write_end}
+use Rattle.run_files.specs.declared.stop.Stop.{Stop}
+use Rattle.run_files.specs.declared.stop.Stop.TheVariants.{NoMemory, PlanRefused, ReadFault, WriteFault, FeedRefused}
+use Rattle.run_opening.specs.Opening.{AreReady}
+use Rattle.run_opening.specs.Ready.{IsJobOf, IsSessionOf}
+use Rattle.run_opening.specs.declared.parts.RunParts.{RunParts}
+use Rattle.run_report.specs.Reports.{counts_text}
+use Rattle.run_report.specs.declared.counts.ScriptCounts.{ScriptCounts}
+use Rattle.run_stages.specs.Closing.{ClosesRun, run_text, threads_end}
+use Rattle.run_stages.specs.Counted.{script_counts}
+use Rattle.run_stages.specs.Ends.{feed_end, feeds_end, session_end, sessions_end, starved_end}
+use Rattle.run_stages.specs.declared.done.RunDone.{RunDone}
+use Rattle.session_core.specs.declared.fault.SessionFault.TheVariants as fault
+use Rattle.world_core.specs.Interleaving.{IsInterleaving, list_of}
+use Rattle.world_core.specs.PairFact.{IsPrefix}
+use Rattle.world_core.specs.declared.entry.Entry.{Entry}
 use Rattle.plan_run.proofs.Answering.{HasRun, answers_script, stops_script}
 use Rattle.plan_run.proofs.Causes.{FeedCause, SessionCause}
 use Rattle.plan_run.proofs.Counting.{count-map, unread_feeds, unread_scripts}
@@ -43,27 +65,6 @@ use Rattle.plan_run.proofs.Taken.{Gave, GaveRows, StandsAfterOne, all_gave, poin
 use Rattle.plan_run.proofs.Zips.{AllZip-ap, AllZip-mapped, AllZip-with}
 use Rattle.plan_run.specs.Interrupted.{Account, BeginsFiles, AnswersInFile, HoldsFiles, InterleavesFronts, StopsScript, ReportsFeed, account_text, accepted_lists, is_script_unread, is_unread, read_stops}
 use Rattle.plan_run.specs.Parts.{ends_seen, jobs_of, run_done_of}
-use Rattle.run_files.proofs.Counts.{counts_failed, counts_grow, rose_from_before, rose_later}
-use Rattle.run_files.proofs.Lists.{All-back, All-front}
-use Rattle.run_files.specs.GivingBack.{Lands, faulty}
-use Rattle.run_files.specs.Outside.{at, file_of, parts_seen, PlaceSeen, SinkSeen, SourceSeen}
-use Rattle.run_files.specs.Stops.{joined_ends, write_end}
-use Rattle.run_files.specs.declared.stop.Stop.{Stop}
-use Rattle.run_files.specs.declared.stop.Stop.TheVariants.{NoMemory, PlanRefused, ReadFault, WriteFault, FeedRefused}
-use Rattle.run_opening.specs.Opening.{AreReady}
-use Rattle.run_opening.specs.Ready.{IsJobOf, IsSessionOf}
-use Rattle.run_opening.specs.declared.parts.RunParts.{RunParts}
-use Rattle.run_report.specs.Reports.{FeedRows, counts_text}
-use Rattle.run_report.specs.declared.counts.FeedCounts.{FeedCounts}
-use Rattle.run_report.specs.declared.counts.ScriptCounts.{ScriptCounts}
-use Rattle.run_stages.specs.Closing.{ClosesRun, run_text, threads_end}
-use Rattle.run_stages.specs.Counted.{script_counts}
-use Rattle.run_stages.specs.Ends.{all_ends, feed_end, feeds_end, session_end, sessions_end, starved_end}
-use Rattle.run_stages.specs.declared.done.RunDone.{RunDone}
-use Rattle.session_core.specs.declared.fault.SessionFault.TheVariants as fault
-use Rattle.world_core.specs.Interleaving.{IsInterleaving, entry_points, list_of}
-use Rattle.world_core.specs.PairFact.{IsPrefix}
-use Rattle.world_core.specs.declared.entry.Entry.{Entry}
 
 abbrev Answer : Type 0
 Answer = Result (Unit {0}) IoFault

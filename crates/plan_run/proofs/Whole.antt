@@ -1,16 +1,16 @@
 -- A closed run that ended well: what its files hold, and that no count rose.
-use Rattle.std.proofs.Common.{◌≡◌, ◌≢◌, ℕ, Bool, true, false, List, [], ◌∷◌, ◌++◌, All, length, map, Option, Some, None, Result, Ok, IsSomeAnd, sym, ap, subst, ◌∙◌}
+use Rattle.std.proofs.Common.{◌≡◌, ◌≢◌, ℕ, Bool, true, false, List, [], ◌∷◌, ◌++◌, All, length, map, Some, None, Result, Ok, IsSomeAnd, sym, ap, subst, ◌∙◌}
 use Rattle.std.proofs.lemmas.List.{map-append}
 use Rattle.std.specs.List.{AllZip}
 use Rattle.std.specs.Prelude.{AllPairs}
 use Rattle.std.specs.FinMap.{get}
-use Rattle.std.specs.Prelude.{Contains, OnOk, IsErrOf}
+use Rattle.std.specs.Prelude.{Contains, OnOk}
 use mathlib.Core.List.{map-map}
-use Rattle.std.proofs.lemmas.List.Elements.{All-append, All-cons, All-head, All-nil, All-tail, All-weaker}
-use Rattle.crew_feeder.specs.declared.job.FeedDone.{FeedDone}
-use Rattle.crew_feeder.specs.declared.job.FeedJob.{FeedJob}
+use Rattle.std.proofs.lemmas.List.Elements.{All-append, All-head, All-tail, All-weaker}
+use Rattle.crew_feeder.specs.Leaving.{feed_counts}
+use Rattle.crew_feeder.specs.declared.done.FeedDone.{FeedDone}
 use Rattle.crew_session.specs.declared.done.SessionDone.{SessionDone}
-use Rattle.cube_crew.proofs.Zips.{AllZip-length, AllZip-right}
+use Rattle.cube_crew.proofs.Zips.{AllZip-length}
 use Rattle.cube_crew.specs.Crewed.{IsCrewed, LeavesTranscript, answered_over, closing}
 use Rattle.cube_crew.specs.declared.jobs.Crewed.{Crewed}
 use Rattle.cube_schema.specs.Files.{NamesFiles, input_names, output_names}
@@ -19,6 +19,7 @@ use Rattle.cube_schema.specs.declared.plan.Plan.{Plan}
 use Rattle.cube_store.specs.Numbers.{OwnsAllButRoot}
 use Rattle.feed_queue.specs.Journal.{journal_text}
 use Rattle.feed_reader.specs.Feeds.{accepted}
+use Rattle.feed_reader.specs.RowCounts.{counts_of_rows}
 use Rattle.outer_io.proofs.ToldLaws.{Told-some}
 use Rattle.outer_io.specs.Bytes.{Gains}
 use Rattle.outer_io.specs.Files.{Files, HasFile, SameBut, file_or_empty}
@@ -26,7 +27,6 @@ use Rattle.outer_io.specs.Told.{Told}
 use Rattle.outer_io.specs.declared.cutter.CutFault.TheVariants as cut
 use Rattle.outer_io.specs.declared.fault.IoFault.{IoFault}
 use Rattle.outer_io.specs.declared.fault.IoFault.TheVariants as io
-use Rattle.plan_run.proofs.Causes.{FeedCause, SessionCause, feed_causes, session_causes}
 use Rattle.plan_run.proofs.Completing.{all_replied, all_taken, are_fed, sinks_named, transcripts}
 use Rattle.plan_run.proofs.Joined.{All-unmapped, IsWell, all_well, feed_well, session_well, starved_well, written_well}
 use Rattle.plan_run.proofs.Landed.{AllPairs-back, AllPairs-front, AllPairs-last, all_landed, some_is, told_pair}
@@ -35,17 +35,17 @@ use Rattle.plan_run.specs.Completed.{IsCompleted, reply_counts, whole_rows}
 use Rattle.plan_run.specs.Parts.{ends_seen, jobs_of, run_done_of}
 use Rattle.run_files.proofs.Lists.{All-back, All-front}
 use Rattle.run_files.specs.GivingBack.{Lands, TakesSinks}
-use Rattle.run_files.specs.Outside.{at, file_of, parts_seen, PlaceSeen, Puts as Said, SinkSeen, SourceSeen}
+use Rattle.run_files.specs.Outside.{at, parts_seen, PlaceSeen, Puts as Said, SinkSeen, SourceSeen}
 use Rattle.run_files.specs.Stops.{write_end}
 use Rattle.run_files.specs.declared.stop.Stop.{Stop}
 use Rattle.run_opening.specs.Opening.{AreReady}
 use Rattle.run_opening.specs.Ready.{IsJobOf}
 use Rattle.run_opening.specs.declared.parts.RunParts.{RunParts}
-use Rattle.run_report.specs.Reports.{counts_of_rows, counts_text}
-use Rattle.run_report.specs.declared.counts.FeedCounts.{FeedCounts}
+use Rattle.run_report.specs.Reports.{counts_text}
+use Rattle.feed_reader.specs.declared.counts.FeedCounts.{FeedCounts}
 use Rattle.run_report.specs.declared.counts.ScriptCounts.{ScriptCounts}
-use Rattle.run_stages.specs.Closing.{ClosesRun, run_text, threads_end}
-use Rattle.run_stages.specs.Counted.{feed_counts, script_counts}
+use Rattle.run_stages.specs.Closing.{ClosesRun, threads_end}
+use Rattle.run_stages.specs.Counted.{script_counts}
 use Rattle.run_stages.specs.Ends.{feed_end, feeds_end, session_end, sessions_end, starved_end}
 use Rattle.session_core.specs.Scripts.{is_script_refused}
 use Rattle.session_core.specs.declared.fault.SessionFault.TheVariants as fault

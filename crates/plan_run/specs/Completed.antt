@@ -9,12 +9,13 @@ use Rattle.cube_view.specs.Points.{Point}
 use Rattle.cube_view.specs.declared.schema.Schema.{Schema}
 use Rattle.feed_queue.specs.Journal.{IsEntryOf, journal_text}
 use Rattle.feed_reader.specs.Feeds.{accepted, is_feed_refused, rows}
+use Rattle.feed_reader.specs.RowCounts.{FeedRows}
 use Rattle.live_session.specs.Turned.{seens_of}
 use Rattle.outer_io.specs.Bytes.{Gains}
 use Rattle.outer_io.specs.Files.{Files, file_or_empty}
 use Rattle.outer_io.specs.Lines.{lines}
 use Rattle.reply_json.specs.declared.reply.Reply.{Reply}
-use Rattle.run_report.specs.Reports.{FeedRows, report_text}
+use Rattle.run_report.specs.Reports.{report_text}
 use Rattle.run_report.specs.declared.counts.ScriptCounts.{ScriptCounts}
 use Rattle.session_core.specs.Asked.{asked}
 use Rattle.session_core.specs.Scripts.{is_script_refused}

@@ -1,11 +1,11 @@
 -- What becomes of the opened parts of a run.
 use Rattle.std.specs.Prelude.{◌≡◌, ◌⊎◌, ◌++◌, map, Result, Err}
-use Rattle.crew_feeder.specs.declared.job.FeedJob.{FeedJob}
 use Rattle.cube_crew.specs.Crewed.{IsCrewed}
 use Rattle.cube_crew.specs.declared.jobs.Crewed.{Crewed}
 use Rattle.cube_crew.specs.declared.jobs.Jobs.{Jobs}
 use Rattle.cube_schema.specs.declared.plan.Plan.{Plan}
 use Rattle.cube_store.specs.Numbers.{OwnsAllButRoot}
+use Rattle.feed_reader.specs.declared.job.FeedJob.{FeedJob}
 use Rattle.live_session.specs.State.{SessionEnds, SessionState}
 use Rattle.outer_io.specs.declared.fault.IoFault.{IoFault}
 use Rattle.run_files.specs.GivingBack.{TakesSinks, TakesSources}

@@ -1,28 +1,14 @@
 //! The parts of a run that could not begin, given back as they were.
 ghost use Rattle.std.specs.Prelude.{◌≡◌, ◌+◌, ◌≤◌, ◌++◌, [], map, length, vec_len, vec_capacity};
-ghost use Rattle.plan_run.specs.Parts.{GivesBack};
 ghost use Rattle.run_files.specs.GivingBack.{TakesSources};
 ghost use Rattle.run_files.specs.Outside.{of_parts, of_place, of_sink};
 ghost use Rattle.run_stages.specs.Closing.{ReturnsSink};
+ghost use Rattle.plan_run.specs.Parts.{GivesBack};
 
-use crew_feeder::FeedJob;
 use live_session::Session;
 use outer_io::{IoFault, Place};
-use run_files::give_back_sinks;
+use run_files::{give_back_feeds, give_back_sinks};
 use run_opening::RunParts;
-
-/// Gives the sources of feeds back.
-fn give_back_jobs<P: Place>(place: &mut P, mut feeds: Vec<FeedJob<P::In>>)
-    ensures { TakesSources (of_place P.Place) place.old place.new (map (λ job. P.In.faults job.cutter.source) feeds.items) }
-{
-    let Some(last) = feeds.pop() else {
-        feeds.destroy_empty();
-        return;
-    };
-    give_back_jobs(place, feeds);
-    let FeedJob { cutter, header: _ } = last;
-    place.give_back_in(cutter.into_source());
-}
 
 /// Gives the scripts of sessions back, and puts their sinks into a list that has room for them.
 fn give_back_sessions<P: Place>(
@@ -67,7 +53,7 @@ pub(crate) fn give_back_parts<P: Place>(place: &mut P, parts: RunParts<P::In, P:
         journal,
         room,
     } = parts;
-    give_back_jobs(place, feeds.into_vec());
+    give_back_feeds(place, feeds.into_vec());
     let sinks = give_back_sessions(place, asks.into_vec(), room);
     let sinks = give_back_sessions(place, finals.into_vec(), sinks);
     let _given = give_back_sinks(place, sinks);

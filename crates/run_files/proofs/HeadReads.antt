@@ -2,26 +2,26 @@
 use Rattle.std.proofs.Common.{◌≡◌, ◌≢◌, ℕ, ◌+◌, ◌<◌, ◌≤◌, List, [], ◌∷◌, ◌++◌, length, get_or, Option, Some, None, Result, Ok, Err, refl, sym, ◌∙◌, ap, subst, arith, append_assoc, All}
 use Rattle.std.proofs.lemmas.List.{append-nil, length-append, get_or_append_left}
 use Rattle.std.proofs.lemmas.List.Elements.{All-get_or}
+use Rattle.std.specs.List.{AllZip}
+use Rattle.std.specs.Prelude.{IsErrAnd, IsOk, IsSomeAnd}
+use Rattle.std.specs.Result.{result_err}
 use Rattle.cube_view.specs.declared.schema.Schema.{Schema}
 use Rattle.feed_reader.proofs.FeedStart.{new_rest}
 use Rattle.feed_reader.specs.Feeds.{feed_head, head_of_lines}
 use Rattle.feed_reader.specs.Reading.{AcceptsRows, IsAtStart, IsHeadRefused}
-use Rattle.outer_io.proofs.ProgressLaws.{of_lines}
-use Rattle.outer_io.proofs.ToldLaws.{Told-each, Told-same, Told-some}
-use Rattle.outer_io.specs.Cutting.{Cutter, IsNew, lines_left, rest_of}
-use Rattle.outer_io.specs.Lines.{Line}
-use Rattle.run_files.proofs.Lists.{AllZip-firsts, AllZip-more}
-use Rattle.run_files.specs.declared.feeds.HeadedFeed.{HeadedFeed}
-use Rattle.std.specs.List.{AllZip}
-use Rattle.std.specs.Prelude.{IsErrAnd, IsOk, IsSomeAnd}
-use Rattle.std.specs.Result.{result_err}
 use Rattle.feed_reader.specs.declared.feed.NoHeader.{NoHeader}
 use Rattle.feed_reader.specs.declared.feed.NoHeader.TheVariants.{Refused}
 use Rattle.feed_reader.specs.declared.header.HeadFault.{HeadFault}
 use Rattle.feed_reader.specs.declared.header.HeadFault.TheVariants as head
-use Rattle.outer_io.specs.Told.{Told}
+use Rattle.feed_reader.specs.declared.job.FeedJob.{FeedJob}
+use Rattle.outer_io.proofs.ProgressLaws.{of_lines}
+use Rattle.outer_io.proofs.ToldLaws.{Told-each, Told-same, Told-some}
+use Rattle.outer_io.specs.Cutting.{Cutter, IsNew, lines_left, rest_of}
 use Rattle.outer_io.specs.Faults.{Rose}
 use Rattle.outer_io.specs.Files.{Files, file_or_empty}
+use Rattle.outer_io.specs.Lines.{Line}
+use Rattle.outer_io.specs.Told.{Told}
+use Rattle.run_files.proofs.Lists.{AllZip-firsts, AllZip-more}
 use Rattle.run_files.proofs.Putting.{fails_after, puts_after, silent_after, silent_itself}
 use Rattle.run_files.proofs.Returning.{leaves_given_back}
 use Rattle.run_files.proofs.Stages.{fails_at, fails_on, leaves_reading, leaves_then, leaves_more, nothing_made, all_opened}
@@ -75,7 +75,7 @@ head_in schema places bytes None h = absurd h
 head_in schema places bytes (Some rest) h = subst (λ r. IsOk r) (sym h.0) refl
 
 -- a feed whose header was read has one
-pub has_header : {S : Type 0} (left : S → Option (List ℕ)) (faults : S → ℕ) (schema : Schema) (file : Option (List ℕ)) (feed : HeadedFeed (Cutter S)) → IsHeaded left faults schema file feed → HasHeader schema file
+pub has_header : {S : Type 0} (left : S → Option (List ℕ)) (faults : S → ℕ) (schema : Schema) (file : Option (List ℕ)) (feed : FeedJob S) → IsHeaded left faults schema file feed → HasHeader schema file
 has_header left faults schema None feed h = tt
 has_header left faults schema (Some bytes) feed h =
     head_in schema feed.header.places bytes (lines_left left feed.cutter)
@@ -83,11 +83,11 @@ has_header left faults schema (Some bytes) feed h =
 
 module _ {S : Type 0} (left : S → Option (List ℕ)) (faults : S → ℕ) (schema : Schema) (files : Option Files) where
   -- so have all feeds whose headers were read
-  pub all_headed : (names : List (List ℕ)) (feeds : List (HeadedFeed (Cutter S))) → AllZip (λ n. IsHeaded left faults schema (file_of files n)) names feeds → All (λ n. HasHeader schema (file_of files n)) names
+  pub all_headed : (names : List (List ℕ)) (feeds : List (FeedJob S)) → AllZip (λ n. IsHeaded left faults schema (file_of files n)) names feeds → All (λ n. HasHeader schema (file_of files n)) names
   all_headed = AllZip-firsts (λ n. IsHeaded left faults schema (file_of files n)) (λ n. HasHeader schema (file_of files n)) (λ n feed. has_header left faults schema (file_of files n) feed)
 
   -- and one feed more is read of the same files
-  pub headed_more : (now : Option Files) (names : List (List ℕ)) (feeds : List (HeadedFeed (Cutter S))) (name : List ℕ) (feed : HeadedFeed (Cutter S)) → now ≡ files
+  pub headed_more : (now : Option Files) (names : List (List ℕ)) (feeds : List (FeedJob S)) (name : List ℕ) (feed : FeedJob S) → now ≡ files
       → AllZip (λ n. IsHeaded left faults schema (file_of files n)) names feeds → IsHeaded left faults schema (file_of now name) feed → AllZip (λ n. IsHeaded left faults schema (file_of files n)) (names ++ name ∷ []) (feeds ++ feed ∷ [])
   headed_more now names feeds name feed same all more =
       AllZip-more (λ n. IsHeaded left faults schema (file_of files n)) names feeds name feed all (subst (λ (fs : Option Files). IsHeaded left faults schema (file_of fs name) feed) same more)

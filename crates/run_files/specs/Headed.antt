@@ -8,19 +8,19 @@ use Rattle.feed_reader.specs.declared.feed.NoHeader.{NoHeader}
 use Rattle.feed_reader.specs.declared.feed.NoHeader.TheVariants.{Refused}
 use Rattle.feed_reader.specs.declared.header.HeadFault.{HeadFault}
 use Rattle.feed_reader.specs.declared.header.HeadFault.TheVariants as head
+use Rattle.feed_reader.specs.declared.job.FeedJob.{FeedJob}
 use Rattle.outer_io.specs.Cutting.{Cutter, IsNew}
 use Rattle.outer_io.specs.Files.{Files}
 use Rattle.outer_io.specs.Told.{Told}
 use Rattle.run_report.specs.Lines.{head_line}
 use Rattle.run_files.specs.Leaving.{FailsAtLast, LeavesPlace}
 use Rattle.run_files.specs.Outside.{FailsToPut, file_of, Outside, PlaceSeen, Puts, Silent, SinkSeen}
-use Rattle.run_files.specs.declared.feeds.HeadedFeed.{HeadedFeed}
 use Rattle.run_files.specs.declared.stop.Stop.{Stop}
 use Rattle.run_files.specs.declared.stop.Stop.TheVariants.{PlanRefused, ReadFault, WriteFault, FeedRefused}
 
 module _ {S : Type 0} (left : S → Option (List ℕ)) (faults : S → ℕ) (schema : Schema) where
   -- a cutter was made of the source, and gave its first line, which is the header
-  pub record ReadsHead (source : S) (feed : HeadedFeed (Cutter S)) : Type 0 where
+  pub record ReadsHead (source : S) (feed : FeedJob S) : Type 0 where
     pub before : Cutter S
     pub made : IsNew source before
     pub header : ReadsHeader left faults schema before feed.cutter feed.header.places
@@ -28,14 +28,14 @@ module _ {S : Type 0} (left : S → Option (List ℕ)) (faults : S → ℕ) (sch
     pub schema_is : feed.header.schema ≡ schema
 
   -- and so it is of a source that met no fault and has the bytes of the file, where they are told
-  pub record IsHeaded (file : Option (List ℕ)) (feed : HeadedFeed (Cutter S)) : Type 0 where
+  pub record IsHeaded (file : Option (List ℕ)) (feed : FeedJob S) : Type 0 where
     pub source : S
     pub left_is : Told file (λ bytes. left source ≡ Some bytes)
     pub fresh : faults source ≡ 0
     pub reads : ReadsHead source feed
 
   -- and so is each of these feeds, of the file of its name
-  abbrev pub AreHeaded : Option Files → List (List ℕ) → List (HeadedFeed (Cutter S)) → Type 0
+  abbrev pub AreHeaded : Option Files → List (List ℕ) → List (FeedJob S) → Type 0
   AreHeaded files names feeds = AllZip (λ name. IsHeaded (file_of files name)) names feeds
 
 -- the first line of the feed meets this fault, where it is told

@@ -1,10 +1,9 @@
 //! The feeds of a run: opened in order, and the header of each one read before the next is opened.
-ghost use Rattle.std.specs.Prelude.{◌≡◌, ◌≢◌, ◌+◌, ◌≤◌, [], ◌∷◌, Err, Some, None, All, IfOk, IfErr, OnOk, length, vec_len, vec_capacity};
+ghost use Rattle.std.specs.Prelude.{◌≡◌, ◌≢◌, ◌+◌, ◌≤◌, [], ◌∷◌, Err, All, IfOk, IfErr, OnOk, length, vec_len, vec_capacity};
 ghost use Rattle.std.specs.Result.{result_err};
 ghost use Rattle.outer_io.specs.Faults.{Rose};
 ghost use Rattle.run_report.specs.Lines.{head_line};
 ghost use Rattle.run_files.specs.Headed.{AreHeaded, IsHeaded, MeetsHeadFault, OpensFeeds, ReadsHead, SaysHeadFault};
-ghost use Rattle.run_files.specs.Leaving.{LeavesPlace};
 ghost use Rattle.run_files.specs.Outside.{at, FailsToPut, file_of, of_place, of_sink, Puts, Silent};
 ghost use Rattle.run_files.specs.Saying.{SaysText};
 
@@ -12,23 +11,17 @@ use crate::Stop;
 use crate::giving_back::give_back_feeds;
 use crate::saying::put_text;
 use cube_view::Schema;
-use feed_reader::{HeadFault, Header, NoHeader, read_header};
+use feed_reader::{FeedJob, HeadFault, NoHeader, read_header};
 use outer_io::{IoFault, LineCutter, List, Place, Sink, Source, Text};
 use run_report::header_refused;
 use std::alloc::Global;
-
-/// A feed whose header was read from its first line, with the cutter of the lines after it.
-pub struct HeadedFeed<C> {
-    pub cutter: C,
-    pub header: Header,
-}
 
 // A cutter over the source, and the header in its first line. With a fault the source comes back.
 fn read_head<S: Source>(
     alloc: Global,
     schema: &Schema,
     source: S,
-) -> Result<HeadedFeed<LineCutter<S>>, (S, NoHeader)>
+) -> Result<FeedJob<S>, (S, NoHeader)>
     ensures head { IfOk result (ReadsHead S.left S.faults schema.now source) }
     ensures quiet { IfOk result (λ feed. S.faults feed.cutter.source ≡ S.faults source) }
     ensures of_line { IfErr result (λ e. e.1 ≢ NoHeader.Refused HeadFault.NoMemory) }
@@ -41,7 +34,7 @@ fn read_head<S: Source>(
         Err(source) => return Err((source, NoHeader::NoMemory)),
     };
     match read_header(alloc, schema, &mut cutter) {
-        Ok(header) => Ok(HeadedFeed { cutter, header }),
+        Ok(header) => Ok(FeedJob { cutter, header }),
         Err(fault) => Err((cutter.into_source(), fault)),
     }
 }
@@ -93,7 +86,7 @@ fn open_feed<P: Place, O: Sink>(
     name: &str,
     place: &mut P,
     out: &mut O,
-) -> Result<HeadedFeed<LineCutter<P::In>>, Stop>
+) -> Result<FeedJob<P::In>, Stop>
     ensures opens { OpensFeeds (of_place P.Place) (of_sink O.Sink) schema.now (at place.old out.old) (at place.new out.new) (name.now ∷ []) (result_err result) }
     ensures feed { IfOk result (IsHeaded P.In.left P.In.faults schema.now (file_of (P.files place.old) name.now)) }
     ensures quiet { IfOk result (λ feed. P.In.faults feed.cutter.source ≡ 0) }
@@ -118,7 +111,7 @@ fn open_each<P: Place, O: Sink>(
     names: &[Text],
     place: &mut P,
     out: &mut O,
-    feeds: &mut Vec<HeadedFeed<LineCutter<P::In>>>,
+    feeds: &mut Vec<FeedJob<P::In>>,
 ) -> Result<(), Stop>
     requires empty { (feeds.old.items ≡ []) × (vec_len feeds.old ≡ 0) }
     requires room { length names.now ≤ vec_capacity feeds.old }
@@ -141,7 +134,7 @@ pub fn open_feeds<P: Place, O: Sink>(
     names: &[Text],
     place: &mut P,
     out: &mut O,
-) -> Result<List<HeadedFeed<LineCutter<P::In>>>, Stop>
+) -> Result<List<FeedJob<P::In>>, Stop>
     ensures opens { OpensFeeds (of_place P.Place) (of_sink O.Sink) schema.now (at place.old out.old) (at place.new out.new) names.now (result_err result) }
     ensures feeds { IfOk result (AreHeaded P.In.left P.In.faults schema.now (P.files place.old) names.now) }
     ensures quiet { IfOk result (All (λ feed. P.In.faults feed.cutter.source ≡ 0)) }

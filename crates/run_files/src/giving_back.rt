@@ -4,7 +4,8 @@ ghost use Rattle.run_files.specs.GivingBack.{TakesSinks, TakesSources};
 ghost use Rattle.run_files.specs.Outside.{of_place, of_sink};
 
 use crate::stop::write_end;
-use crate::{HeadedFeed, Stop, joined_ends};
+use crate::{Stop, joined_ends};
+use feed_reader::FeedJob;
 use outer_io::{LineCutter, Place};
 
 /// Gives sources back.
@@ -32,7 +33,7 @@ pub fn give_back_cutters<P: Place>(place: &mut P, mut cutters: Vec<LineCutter<P:
 }
 
 /// Gives the sources of feeds back.
-pub fn give_back_feeds<P: Place>(place: &mut P, mut feeds: Vec<HeadedFeed<LineCutter<P::In>>>)
+pub fn give_back_feeds<P: Place>(place: &mut P, mut feeds: Vec<FeedJob<P::In>>)
     ensures { TakesSources (of_place P.Place) place.old place.new (map (λ f. P.In.faults f.cutter.source) feeds.items) }
 {
     let Some(last) = feeds.pop() else {
@@ -40,7 +41,7 @@ pub fn give_back_feeds<P: Place>(place: &mut P, mut feeds: Vec<HeadedFeed<LineCu
         return;
     };
     give_back_feeds(place, feeds);
-    let HeadedFeed { cutter, header: _ } = last;
+    let FeedJob { cutter, header: _ } = last;
     place.give_back_in(cutter.into_source());
 }
 

@@ -1,11 +1,10 @@
--- Opened files that became jobs and sessions, which are ready and fit to run.
-use Rattle.std.proofs.Common.{◌≡◌, ℕ, ◌+◌, ◌≤◌, List, [], ◌∷◌, ◌++◌, All, length, map, Option, Some, None, IsSomeAnd, refl, sym, ◌∙◌, ap, subst, arith}
+-- Opened feeds, and opened scripts that became sessions, which are ready and fit to run.
+use Rattle.std.proofs.Common.{◌≡◌, ℕ, ◌+◌, ◌≤◌, List, [], ◌∷◌, ◌++◌, All, length, Option, Some, None, IsSomeAnd, refl, sym, ◌∙◌, ap, subst, arith}
 use Rattle.std.proofs.lemmas.List.{length-map}
 use Rattle.std.proofs.lemmas.List.Elements.{All-cons, All-nil}
 use Rattle.std.proofs.lemmas.Slice.Zip.{AllZip-long}
 use Rattle.std.specs.List.{AllZip}
 use Rattle.std.specs.Prelude.{codes, vec_capacity}
-use Rattle.crew_feeder.specs.declared.job.FeedJob.{FeedJob}
 use Rattle.crew_session.specs.Work.{HadNoTurn}
 use Rattle.cube_schema.specs.Files.{NamesFiles}
 use Rattle.cube_schema.specs.Repeats.{outputs}
@@ -13,6 +12,7 @@ use Rattle.cube_schema.specs.declared.plan.Plan.{Plan}
 use Rattle.cube_view.specs.declared.schema.Schema.{Schema}
 use Rattle.feed_reader.proofs.FeedStart.{new_rest}
 use Rattle.feed_reader.specs.Reading.{AcceptsRows}
+use Rattle.feed_reader.specs.declared.job.FeedJob.{FeedJob}
 use Rattle.outer_io.proofs.ToldLaws.{Told-some}
 use Rattle.outer_io.specs.Cutting.{Cutter, IsNew, lines_left, rest_of}
 use Rattle.outer_io.specs.Files.{Files}
@@ -21,11 +21,10 @@ use Rattle.outer_io.specs.Told.{Told}
 use Rattle.run_files.specs.Headed.{IsHeaded}
 use Rattle.run_files.specs.Outside.{file_of, SinkSeen}
 use Rattle.run_files.specs.Scripted.{AreScriptParts, IsOutput, IsScript}
-use Rattle.run_files.specs.declared.feeds.HeadedFeed.{HeadedFeed}
 use Rattle.run_files.specs.declared.scripts.ScriptParts.{ScriptParts}
 use Rattle.run_opening.specs.Opening.{AreFit, AreReady}
 use Rattle.run_opening.specs.Ready.{IsJobOf, IsSessionOf}
-use Rattle.run_opening.specs.Seated.{job_of, sessions_of}
+use Rattle.run_opening.specs.Seated.{sessions_of}
 use Rattle.run_opening.specs.declared.parts.RunParts.{RunParts}
 
 -- what follows for the second of each two
@@ -39,13 +38,13 @@ each_second R P step (x ∷ xs) (y ∷ ys) all = All-cons P y ys (step x y all.0
 
 module _ {I : Type 0} (left : I → Option (List ℕ)) (faults : I → ℕ) (schema : Schema) where
   -- the lines that are left of a feed whose header was read are its rows
-  rows_left : (file : Option (List ℕ)) (feed : HeadedFeed (Cutter I)) → IsHeaded left faults schema file feed → Told file (λ bytes. IsSomeAnd (lines_left left feed.cutter) (AcceptsRows schema feed.header.places bytes))
+  rows_left : (file : Option (List ℕ)) (feed : FeedJob I) → IsHeaded left faults schema file feed → Told file (λ bytes. IsSomeAnd (lines_left left feed.cutter) (AcceptsRows schema feed.header.places bytes))
   rows_left None feed h = tt
   rows_left (Some bytes) feed h =
       Told-some (rest_of left h.reads.before) bytes (λ b. IsSomeAnd (lines_left left feed.cutter) (AcceptsRows schema feed.header.places b)) (new_rest left h.reads.before h.source bytes h.reads.made h.left_is) h.reads.accepted
 
   -- it is a job that is ready
-  is_job : (file : Option (List ℕ)) (feed : HeadedFeed (Cutter I)) → IsHeaded left faults schema file feed → IsJobOf left faults schema file (job_of feed)
+  is_job : (file : Option (List ℕ)) (feed : FeedJob I) → IsHeaded left faults schema file feed → IsJobOf left faults schema file feed
   is_job file feed h =
       let gives = h.reads.header.2 in record {
         headed = h;
@@ -55,7 +54,7 @@ module _ {I : Type 0} (left : I → Option (List ℕ)) (faults : I → ℕ) (sch
       }
 
   module _ (files : Option Files) where
-    are_jobs : (names : List (List ℕ)) (feeds : List (HeadedFeed (Cutter I))) → AllZip (λ name. IsHeaded left faults schema (file_of files name)) names feeds → AllZip (λ name. IsJobOf left faults schema (file_of files name)) names (map job_of feeds)
+    are_jobs : (names : List (List ℕ)) (feeds : List (FeedJob I)) → AllZip (λ name. IsHeaded left faults schema (file_of files name)) names feeds → AllZip (λ name. IsJobOf left faults schema (file_of files name)) names feeds
     are_jobs [] [] all = tt
     are_jobs [] (feed ∷ feeds) all = absurd all
     are_jobs (name ∷ names) [] all = absurd all
@@ -83,8 +82,8 @@ module _ {I O : Type 0} (left : I → Option (List ℕ)) (faults : I → ℕ) (s
 
   -- ---- both
 
-  pub are_ready : (plan : Plan) (feeds : List (HeadedFeed (Cutter I))) (scripts : ScriptParts (Cutter I) O) (parts : RunParts I O) → AllZip (λ name. IsHeaded left faults plan.schema (file_of files name)) plan.feeds feeds → AreScriptParts left faults s files plan scripts
-      → parts.feeds ≡ map job_of feeds → parts.asks ≡ sessions_of scripts.asks scripts.ask_outputs → parts.finals ≡ sessions_of scripts.finals scripts.final_outputs → parts.journal ≡ scripts.journal → AreReady left faults s files plan parts
+  pub are_ready : (plan : Plan) (feeds : List (FeedJob I)) (scripts : ScriptParts (Cutter I) O) (parts : RunParts I O) → AllZip (λ name. IsHeaded left faults plan.schema (file_of files name)) plan.feeds feeds → AreScriptParts left faults s files plan scripts
+      → parts.feeds ≡ feeds → parts.asks ≡ sessions_of scripts.asks scripts.ask_outputs → parts.finals ≡ sessions_of scripts.finals scripts.final_outputs → parts.journal ≡ scripts.journal → AreReady left faults s files plan parts
   are_ready plan feeds scripts parts headed are fed asked finally kept = record {
     feeds = subst (AllZip (λ name. IsJobOf left faults plan.schema (file_of files name)) plan.feeds) (sym fed) (are_jobs left faults plan.schema files plan.feeds feeds headed);
     asks = subst (AllZip (IsSessionOf left faults s files) plan.asks) (sym asked) (are_sessions plan.asks scripts.asks scripts.ask_outputs are.asks are.ask_outputs);

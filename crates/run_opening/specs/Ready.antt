@@ -1,9 +1,9 @@
 -- When a feed's job and a script's session are ready to run.
 use Rattle.std.specs.Prelude.{◌≡◌, ℕ, List, ◌++◌, codes, Option, IsSomeAnd}
-use Rattle.crew_feeder.specs.declared.job.FeedJob.{FeedJob}
+use Rattle.crew_session.specs.Work.{HadNoTurn}
 use Rattle.cube_view.specs.declared.schema.Schema.{Schema}
 use Rattle.feed_reader.specs.Reading.{AcceptsRows}
-use Rattle.crew_session.specs.Work.{HadNoTurn}
+use Rattle.feed_reader.specs.declared.job.FeedJob.{FeedJob}
 use Rattle.live_session.specs.State.{SessionState}
 use Rattle.outer_io.specs.Cutting.{lines_left}
 use Rattle.outer_io.specs.Files.{Files}
@@ -15,7 +15,7 @@ use Rattle.run_files.specs.Scripted.{IsOutput, IsScript}
 -- The job is that of a feed with these bytes, where they are told, of which the header alone was read
 pub record IsJobOf {I : Type 0} (left : I → Option (List ℕ)) (faults : I → ℕ) (schema : Schema) (file : Option (List ℕ)) (job : FeedJob I) : Type 0 where
   -- its header is the first line
-  pub headed : IsHeaded left faults schema file (record { cutter = job.cutter; header = job.header })
+  pub headed : IsHeaded left faults schema file job
   -- its cutter gave that line alone, and its source met no fault
   pub given : job.cutter.given ≡ 1
   pub fresh : faults job.cutter.source ≡ 0

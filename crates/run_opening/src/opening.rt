@@ -12,10 +12,9 @@ use crate::parts::RunParts;
 use crate::rooms::Rooms;
 use crate::seating::seat_parts;
 use cube_schema::Plan;
+use feed_reader::FeedJob;
 use outer_io::{LineCutter, List, Place, Sink};
-use run_files::{
-    HeadedFeed, ScriptParts, Stop, give_back_feeds, load_plan, open_feeds, open_scripts,
-};
+use run_files::{ScriptParts, Stop, give_back_feeds, load_plan, open_feeds, open_scripts};
 use std::alloc::Global;
 
 /// The feeds of a plan with their headers read, and then its scripts with their outputs; or how the run ends, with all
@@ -25,13 +24,7 @@ fn open_files<P: Place, O: Sink>(
     plan: &Plan,
     place: &mut P,
     out: &mut O,
-) -> Result<
-    (
-        List<HeadedFeed<LineCutter<P::In>>>,
-        ScriptParts<LineCutter<P::In>, P::Out>,
-    ),
-    Stop,
->
+) -> Result<(List<FeedJob<P::In>>, ScriptParts<LineCutter<P::In>, P::Out>), Stop>
     ensures opens { OpensFiles (of_place P.Place) (of_sink O.Sink) (at place.old out.old) (at place.new out.new) plan.now (result_err result) }
     ensures feeds { IfOk result (λ files. AreHeaded P.In.left P.In.faults plan.now.schema (P.files place.old) plan.now.feeds files.0) }
     ensures scripts { IfOk result (λ files. AreScriptParts P.In.left P.In.faults (of_sink P.Out.Sink) (P.files place.old) plan.now files.1) }
@@ -59,7 +52,7 @@ fn open_parts<P: Place, O: Sink>(
     ensures fit { IfOk result (AreFit plan.now.schema) }
 {
     let mut rooms = Rooms::new(alloc);
-    if let Err(_) = rooms.reserve(plan.feeds.len(), plan.asks.len(), plan.finals.len()) {
+    if let Err(_) = rooms.reserve(plan.asks.len(), plan.finals.len()) {
         rooms.let_go();
         return Err(Stop::NoMemory);
     }

@@ -1,6 +1,6 @@
 //! What a run has before its threads start.
 
-use crew_feeder::FeedJob;
+use feed_reader::FeedJob;
 use live_session::Session;
 use outer_io::{List, Sink, Source};
 

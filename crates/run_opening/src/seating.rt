@@ -1,35 +1,15 @@
-//! Opened files become jobs and sessions. Nothing here takes memory: the room was taken before.
-ghost use Rattle.std.specs.Prelude.{◌≡◌, ◌+◌, ◌≤◌, [], map, length, vec_len, vec_capacity, All};
+//! Opened scripts become sessions. Nothing here takes memory: the room was taken before.
+ghost use Rattle.std.specs.Prelude.{◌≡◌, ◌+◌, ◌≤◌, [], length, vec_len, vec_capacity, All};
 ghost use Rattle.outer_io.specs.Cutting.{IsNew};
-ghost use Rattle.run_opening.specs.Seated.{HasSeatsFor, job_of, sessions_of};
+ghost use Rattle.run_opening.specs.Seated.{HasSeatsFor, sessions_of};
 
 use crate::parts::RunParts;
 use crate::rooms::Rooms;
-use crew_feeder::FeedJob;
+use feed_reader::FeedJob;
 use live_session::Session;
 use outer_io::{LineCutter, List, Sink, Source};
-use run_files::{HeadedFeed, ScriptParts};
+use run_files::ScriptParts;
 use std::alloc::Global;
-
-/// The jobs of feeds whose headers were read, in a list that has room for them.
-pub(crate) fn seat_feeds<I: Source>(
-    mut feeds: Vec<HeadedFeed<LineCutter<I>>>,
-    room: Vec<FeedJob<I>>,
-) -> Vec<FeedJob<I>>
-    requires room { (room.items ≡ []) × (vec_len feeds ≤ vec_capacity room) }
-    ensures jobs { result.items ≡ map job_of feeds.items }
-    ensures len { vec_len result ≡ vec_len feeds }
-    ensures room { vec_capacity room ≤ vec_capacity result }
-{
-    let Some(feed) = feeds.pop() else {
-        feeds.destroy_empty();
-        return room;
-    };
-    let mut jobs = seat_feeds(feeds, room);
-    let HeadedFeed { cutter, header } = feed;
-    jobs.push_reserved(FeedJob { cutter, header });
-    jobs
-}
 
 /// The sessions over scripts and sinks, of which there are as many, in a list that has room for them.
 pub(crate) fn seat_sessions<I: Source, O: Sink>(
@@ -61,21 +41,20 @@ pub(crate) fn seat_sessions<I: Source, O: Sink>(
 /// The parts of a run, of feeds whose headers were read and of scripts with their sinks, in the room that was taken.
 pub(crate) fn seat_parts<I: Source, O: Sink>(
     alloc: Global,
-    feeds: List<HeadedFeed<LineCutter<I>>>,
+    feeds: List<FeedJob<I>>,
     scripts: ScriptParts<LineCutter<I>, O>,
     rooms: Rooms<I, O>,
 ) -> RunParts<I, O>
     requires new { All (λ script. IsNew script.source script) scripts.asks × All (λ script. IsNew script.source script) scripts.finals }
     requires pairs { (length scripts.ask_outputs ≡ length scripts.asks) × (length scripts.final_outputs ≡ length scripts.finals) }
-    requires room { HasSeatsFor rooms (length feeds) (length scripts.asks) (length scripts.finals) }
-    ensures feeds { result.feeds ≡ map job_of feeds }
+    requires room { HasSeatsFor rooms (length scripts.asks) (length scripts.finals) }
+    ensures feeds { result.feeds ≡ feeds }
     ensures asks { result.asks ≡ sessions_of scripts.asks scripts.ask_outputs }
     ensures finals { result.finals ≡ sessions_of scripts.finals scripts.final_outputs }
     ensures journal { result.journal ≡ scripts.journal }
     ensures room { result.room ≡ rooms.sinks }
 {
     let Rooms {
-        feeds: feed_room,
         asks: ask_room,
         finals: final_room,
         sinks,
@@ -87,7 +66,6 @@ pub(crate) fn seat_parts<I: Source, O: Sink>(
         final_outputs,
         journal,
     } = scripts;
-    let feeds = seat_feeds(feeds.into_vec(), feed_room);
     let asks = seat_sessions(alloc, asks.into_vec(), ask_outputs.into_vec(), ask_room);
     let finals = seat_sessions(
         alloc,
@@ -96,7 +74,7 @@ pub(crate) fn seat_parts<I: Source, O: Sink>(
         final_room,
     );
     RunParts {
-        feeds: List::from_vec(feeds),
+        feeds,
         asks: List::from_vec(asks),
         finals: List::from_vec(finals),
         journal,

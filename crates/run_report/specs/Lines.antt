@@ -2,15 +2,15 @@
 use Rattle.std.specs.Prelude.{ℕ, Bool, true, false, List, [], ◌∷◌, ◌++◌, take, codes, Option, Some, None}
 use Rattle.std.specs.Fmt.{decimal}
 use Rattle.std.specs.List.{flat_map}
-use Rattle.crew_feeder.specs.RowCounts.{kept_refusals}
-use Rattle.crew_feeder.specs.declared.refusal.Refusal.{Refusal}
 use Rattle.cube_schema.specs.declared.fault.PlanFault.{PlanFault}
 use Rattle.cube_view.specs.declared.schema.Schema.{Schema}
+use Rattle.feed_reader.specs.RowCounts.{kept_refusals}
+use Rattle.feed_reader.specs.declared.counts.FeedCounts.{FeedCounts}
 use Rattle.feed_reader.specs.declared.header.HeadFault.{HeadFault}
+use Rattle.feed_reader.specs.declared.refusal.Refusal.{Refusal}
 use Rattle.outer_io.specs.declared.cutter.CutFault.{CutFault}
 use Rattle.session_core.specs.declared.fault.SessionFault.{SessionFault}
 use Rattle.run_report.specs.Faults.{cut_fault_text, head_fault_text, plan_fault_text, row_fault_text, session_fault_text}
-use Rattle.run_report.specs.declared.counts.FeedCounts.{FeedCounts}
 use Rattle.run_report.specs.declared.counts.ScriptCounts.{ScriptCounts}
 
 -- `plan: FAULT`

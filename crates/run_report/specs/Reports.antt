@@ -1,13 +1,11 @@
 -- The report of a run.
-use Rattle.std.specs.Prelude.{ℕ, Bool, List, ◌++◌, map, Option}
+use Rattle.std.specs.Prelude.{ℕ, Bool, List, ◌++◌, map}
 use Rattle.std.specs.List.{flat_map, zip}
-use Rattle.crew_feeder.specs.RowCounts.{count_accepted, count_blank, count_refused, first_refusals}
 use Rattle.cube_schema.specs.declared.plan.Plan.{Plan}
 use Rattle.cube_view.specs.declared.schema.Schema.{Schema}
-use Rattle.feed_reader.specs.declared.row.Row.{Row}
-use Rattle.outer_io.specs.declared.cutter.CutFault.{CutFault}
+use Rattle.feed_reader.specs.RowCounts.{FeedRows, counts_of_rows}
+use Rattle.feed_reader.specs.declared.counts.FeedCounts.{FeedCounts}
 use Rattle.run_report.specs.Lines.{closed_line, feed_lines, journal_line, script_lines}
-use Rattle.run_report.specs.declared.counts.FeedCounts.{FeedCounts}
 use Rattle.run_report.specs.declared.counts.ScriptCounts.{ScriptCounts}
 
 -- the lines of the feeds of these names, in order, as far as both lists go
@@ -22,15 +20,6 @@ scripts_text names scripts = flat_map (λ (s : List ℕ × ScriptCounts). script
 abbrev pub counts_text : Plan → List FeedCounts → List ScriptCounts → List ScriptCounts → Bool → ℕ → List ℕ
 counts_text plan feeds asks finals closed count =
     feeds_text plan.schema plan.feeds feeds ++ scripts_text plan.asks asks ++ scripts_text plan.finals finals ++ closed_line closed ++ journal_line count
-
--- what a feed was given: the rows of its lines after the first, and the fault that ended it
-pub record FeedRows : Type 0 where
-  pub rows : List Row
-  pub fault : Option CutFault
-
--- what is counted of it, with its lines numbered from the first line of the file on
-abbrev pub counts_of_rows : FeedRows → FeedCounts
-counts_of_rows feed = record { accepted = count_accepted feed.rows; blank = count_blank feed.rows; refused = count_refused feed.rows; first = first_refusals 2 feed.rows; fault = feed.fault }
 
 -- the report of a run whose feeds were given these rows
 abbrev pub report_text : Plan → List FeedRows → List ScriptCounts → List ScriptCounts → Bool → ℕ → List ℕ

@@ -3,12 +3,12 @@ ghost use Rattle.std.specs.Prelude.{◌≡◌, ◌++◌, string_bytes, IfOk, OnO
 ghost use Rattle.run_report.specs.Lines.{closed_line, head_line, journal_line, plan_line};
 ghost use Rattle.run_report.specs.Reports.{counts_text, feeds_text};
 
+use crate::ScriptCounts;
 use crate::faults::{push_head_fault, push_plan_fault};
 use crate::lines::{push_feeds, push_scripts};
-use crate::{FeedCounts, ScriptCounts};
 use cube_schema::{Plan, PlanFault};
 use cube_view::Schema;
-use feed_reader::HeadFault;
+use feed_reader::{FeedCounts, HeadFault};
 use outer_io::{List, NoMemory, Text};
 use std::alloc::{AllocError, Global};
 

@@ -1,6 +1,7 @@
 -- What is left of a run after its threads: what giving its parts back, writing its journal and reporting leave.
 use Rattle.std.specs.Prelude.{◌≡◌, ℕ, List, [], ◌∷◌, ◌++◌, length, map, Result, Err}
-use Rattle.crew_feeder.specs.declared.job.FeedDone.{FeedDone}
+use Rattle.crew_feeder.specs.Leaving.{feed_counts}
+use Rattle.crew_feeder.specs.declared.done.FeedDone.{FeedDone}
 use Rattle.crew_session.specs.declared.done.SessionDone.{SessionDone}
 use Rattle.cube_schema.specs.declared.plan.Plan.{Plan}
 use Rattle.feed_queue.specs.Journal.{journal_text}
@@ -15,7 +16,7 @@ use Rattle.run_files.specs.declared.stop.Stop.{Stop}
 use Rattle.run_files.specs.declared.stop.Stop.TheVariants.{NoMemory}
 use Rattle.run_report.specs.Journals.{PutsJournal}
 use Rattle.run_report.specs.Reports.{counts_text}
-use Rattle.run_stages.specs.Counted.{feed_counts, script_counts}
+use Rattle.run_stages.specs.Counted.{script_counts}
 use Rattle.run_stages.specs.Ends.{all_ends, feeds_end, sessions_end, starved_end}
 use Rattle.run_stages.specs.declared.done.RunDone.{RunDone}
 

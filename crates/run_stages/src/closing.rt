@@ -1,9 +1,10 @@
 //! The end of a run: its journal, its parts and its report.
 ghost use Rattle.std.specs.Prelude.{◌≡◌, ◌+◌, ◌≤◌, [], ℕ, List, map, length, IfOk, vec_len, vec_capacity};
+ghost use Rattle.crew_feeder.specs.Leaving.{feed_counts};
 ghost use Rattle.run_files.specs.Outside.{at, of_parts, of_place, of_sink};
 ghost use Rattle.run_files.specs.Saying.{SaysText};
 ghost use Rattle.run_stages.specs.Closing.{ClosesRun, ReturnsParts, ReturnsSink};
-ghost use Rattle.run_stages.specs.Counted.{feed_counts, IsReportOf, script_counts};
+ghost use Rattle.run_stages.specs.Counted.{IsReportOf, script_counts};
 
 use crate::counts::{RunCounts, all_counts};
 use crate::done::RunDone;

@@ -1,8 +1,9 @@
 //! What is reported of feeds and scripts, collected while their sources are given back.
 ghost use Rattle.std.specs.Prelude.{◌≡◌, ◌++◌, [], ◌∷◌, IfOk, IsOkAnd};
 
+use feed_reader::FeedCounts;
 use outer_io::NoMemory;
-use run_report::{FeedCounts, ScriptCounts};
+use run_report::ScriptCounts;
 
 /// What was counted of all feeds, asks and finals.
 #[derive(Drop)]

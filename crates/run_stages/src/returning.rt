@@ -1,14 +1,16 @@
 //! The sources of feeds and scripts given back, with what was counted of them.
 ghost use Rattle.std.specs.Prelude.{◌≡◌, ◌+◌, ◌≤◌, ◌++◌, map, IfOk, vec_len, vec_capacity};
+ghost use Rattle.crew_feeder.specs.Leaving.{feed_counts};
 ghost use Rattle.run_files.specs.GivingBack.{TakesSources};
 ghost use Rattle.run_files.specs.Outside.{of_place};
-ghost use Rattle.run_stages.specs.Counted.{feed_counts, script_counts};
+ghost use Rattle.run_stages.specs.Counted.{script_counts};
 
 use crate::counts::with_one_more;
 use crew_feeder::FeedDone;
 use crew_session::SessionDone;
+use feed_reader::FeedCounts;
 use outer_io::{NoMemory, Place};
-use run_report::{FeedCounts, ScriptCounts};
+use run_report::ScriptCounts;
 use std::alloc::Global;
 
 /// Gives the sources of feeds back, in order, and says what was counted of them, where there is memory for it.
@@ -25,22 +27,8 @@ pub(crate) fn give_back_fed<P: Place>(
         return Ok(Vec::new(alloc));
     };
     let counts = give_back_fed(alloc, place, feeds);
-    let FeedDone {
-        source,
-        accepted,
-        blank,
-        refused,
-        first,
-        fault,
-    } = last;
+    let (source, more) = last.into_counts();
     place.give_back_in(source);
-    let more = FeedCounts {
-        accepted,
-        blank,
-        refused,
-        fault,
-        first,
-    };
     with_one_more(counts, more)
 }
 

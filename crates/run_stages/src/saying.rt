@@ -4,9 +4,10 @@ ghost use Rattle.run_files.specs.Saying.{SaysText};
 ghost use Rattle.run_report.specs.Reports.{counts_text};
 
 use cube_schema::Plan;
+use feed_reader::FeedCounts;
 use outer_io::Sink;
 use run_files::{Stop, put_text};
-use run_report::{FeedCounts, ScriptCounts, report};
+use run_report::{ScriptCounts, report};
 use std::alloc::Global;
 
 /// Puts the report in one put, and says how the run ends by that.

@@ -14,8 +14,9 @@ use Rattle.cube_view.specs.declared.schema.Schema.{Schema}
 use Rattle.feed_reader.proofs.FeedLaws.{headless_refused, refused_by_size}
 use Rattle.feed_reader.specs.Accepting.{AcceptsSound}
 use Rattle.feed_reader.specs.Feeds.{feed_head, is_feed_refused}
+use Rattle.feed_reader.specs.declared.counts.FeedCounts.{FeedCounts}
+use Rattle.feed_reader.specs.declared.job.FeedJob.{FeedJob}
 use Rattle.image_run.specs.declared.end.ImageEnd.TheVariants.{Done, Refused}
-use Rattle.outer_io.specs.Cutting.{Cutter}
 use Rattle.outer_io.specs.Faults.{Rose}
 use Rattle.outer_io.specs.Files.{Files, file_or_empty}
 use Rattle.outer_io.specs.Progress.{IsTooLarge}
@@ -34,10 +35,8 @@ use Rattle.run_files.specs.Leaving.{LeavesPlace}
 use Rattle.run_files.specs.Outside.{at, FailsToPut, file_of, PlaceSeen, Puts, PutsOrFails, Silent, SinkSeen, SourceSeen}
 use Rattle.run_files.specs.Planned.{IsPlanOf, ReadsPlan, RefusesPlan}
 use Rattle.run_files.specs.Stops.{IsOrLacks, stop_of_cut}
-use Rattle.run_files.specs.declared.feeds.HeadedFeed.{HeadedFeed}
 use Rattle.run_files.specs.declared.stop.Stop.{Stop}
 use Rattle.run_files.specs.declared.stop.Stop.TheVariants as stop
-use Rattle.run_report.specs.declared.counts.FeedCounts.{FeedCounts}
 use Rattle.save_run.proofs.Fed.{any_large, are_fed}
 use Rattle.save_run.proofs.Records.{are_records}
 use Rattle.save_run.proofs.Stood.{End, Stood}
@@ -185,10 +184,10 @@ module _ {P O : Type 0} (p : PlaceSeen P) (s : SinkSeen O) where
 
     -- ---- all feeds were opened
 
-    module _ {I : Type 0} (i : SourceSeen I) (c d : P) (then : O) (opens : OpensFeeds p s pl.schema (at b mid) (at c then) pl.feeds None) (feeds : List (HeadedFeed (Cutter I)))
+    module _ {I : Type 0} (i : SourceSeen I) (c d : P) (then : O) (opens : OpensFeeds p s pl.schema (at b mid) (at c then) pl.feeds None) (feeds : List (FeedJob I))
         (headed : AllZip (λ n. IsHeaded i.left i.faults pl.schema (file_of (p.files b) n)) pl.feeds feeds) where
       abbrev Feed : Type 0
-      Feed = HeadedFeed (Cutter I)
+      Feed = FeedJob I
 
       abbrev count : Feed → ℕ
       count feed = i.faults feed.cutter.source

@@ -9,14 +9,14 @@ use Rattle.feed_reader.proofs.FeedLaws.{accepted-lines, not_refused, rows_read}
 use Rattle.feed_reader.proofs.FeedStart.{new_lines, some_told}
 use Rattle.feed_reader.specs.Feeds.{accepted, is_feed_refused, points_in, rows}
 use Rattle.feed_reader.specs.Rows.{row_of_line}
+use Rattle.feed_reader.specs.declared.counts.FeedCounts.{FeedCounts}
+use Rattle.feed_reader.specs.declared.job.FeedJob.{FeedJob}
 use Rattle.feed_reader.specs.declared.row.Row.{Row}
 use Rattle.outer_io.proofs.ToldLaws.{Told-some}
 use Rattle.outer_io.specs.Cutting.{Cutter, IsNew, input_size, lines_left}
 use Rattle.outer_io.specs.Lines.{input_limit, lines}
 use Rattle.outer_io.specs.Progress.{IsTooLarge}
 use Rattle.run_files.specs.Headed.{IsHeaded}
-use Rattle.run_files.specs.declared.feeds.HeadedFeed.{HeadedFeed}
-use Rattle.run_report.specs.declared.counts.FeedCounts.{FeedCounts}
 
 -- the size of the input of a new cutter
 new_size : {S : Type 0} (left : S → Option (List ℕ)) (c : Cutter S) (source : S) (bytes : List ℕ) → IsNew source c → left source ≡ Some bytes → input_size left c ≡ Some (0 + length bytes)
@@ -35,7 +35,7 @@ AllZip-length R (x ∷ xs) (y ∷ ys) z = ap suc (AllZip-length R xs ys z.1)
 
 module _ {I : Type 0} (left : I → Option (List ℕ)) (faults : I → ℕ) (schema : Schema) where
   abbrev Feed : Type 0
-  Feed = HeadedFeed (Cutter I)
+  Feed = FeedJob I
 
   -- ---- one feed
 

@@ -4,6 +4,7 @@ use Rattle.cube_schema.specs.declared.plan.Plan.{Plan}
 use Rattle.cube_store.specs.Holding.{CubeCounts}
 use Rattle.cube_store.specs.declared.cube.Cube.{Cube}
 use Rattle.cube_view.specs.Points.{Point}
+use Rattle.feed_reader.specs.declared.counts.FeedCounts.{FeedCounts}
 use Rattle.image_cube.specs.CubeImages.{AreRecords, HasLongCubeImage, IsCubeImage}
 use Rattle.image_cube.specs.declared.fault.ImageFault.TheVariants as image_fault
 use Rattle.image_run.specs.Lines.{image_line}
@@ -11,7 +12,6 @@ use Rattle.run_files.specs.Outside.{at, PlaceSeen, SinkSeen}
 use Rattle.run_files.specs.Saying.{SaysText}
 use Rattle.run_files.specs.declared.stop.Stop.{Stop}
 use Rattle.run_files.specs.declared.stop.Stop.TheVariants as stop
-use Rattle.run_report.specs.declared.counts.FeedCounts.{FeedCounts}
 use Rattle.save_run.proofs.Written.{writes_nothing}
 use Rattle.save_run.specs.Lines.{saved_text}
 use Rattle.save_run.specs.Writing.{SavesCube, Writes}

@@ -6,6 +6,7 @@ use Rattle.cube_store.specs.Holding.{CubeCounts}
 use Rattle.cube_store.specs.declared.cube.Cube.{Cube}
 use Rattle.cube_view.specs.declared.schema.Schema.{Schema}
 use Rattle.feed_reader.proofs.FeedStart.{some_each}
+use Rattle.feed_reader.specs.declared.counts.FeedCounts.{FeedCounts}
 use Rattle.image_cube.specs.CubeImages.{AreRecords, HasLongCubeImage, IsCubeImage}
 use Rattle.image_cube.specs.declared.fault.ImageFault.TheVariants as image_fault
 use Rattle.image_run.specs.Lines.{image_line}
@@ -25,7 +26,6 @@ use Rattle.run_files.specs.Planned.{IsPlanOf}
 use Rattle.run_files.specs.Stops.{IsOrLacks}
 use Rattle.run_files.specs.declared.stop.Stop.{Stop}
 use Rattle.run_files.specs.declared.stop.Stop.TheVariants as stop
-use Rattle.run_report.specs.declared.counts.FeedCounts.{FeedCounts}
 use Rattle.save_run.proofs.Lists.{take_whole}
 use Rattle.save_run.specs.Ends.{CreatesImage, CreatesNone, OpensAll, SaveEnds, SaysImage, SaysOfSave, SaysTooLong}
 use Rattle.save_run.specs.Names.{saving}

@@ -1,6 +1,7 @@
 -- How saving the cube of a plan's feeds ends, and what it leaves of a place and a sink.
 use Rattle.std.specs.Prelude.{◌≡◌, ◌⊎◌, ℕ, List, [], ◌∷◌, ◌++◌, take, Option, Some, None, IfSome, IsSomeAnd, Result, Ok, Err}
 use Rattle.cube_schema.specs.declared.plan.Plan.{Plan}
+use Rattle.feed_reader.specs.declared.counts.FeedCounts.{FeedCounts}
 use Rattle.image_cube.specs.declared.fault.ImageFault.TheVariants as image_fault
 use Rattle.image_run.specs.Lines.{image_line}
 use Rattle.image_run.specs.declared.end.ImageEnd.{ImageEnd}
@@ -16,7 +17,6 @@ use Rattle.run_files.specs.Planned.{MayHavePlan, RefusesPlan}
 use Rattle.run_files.specs.Stops.{IsOrLacks}
 use Rattle.run_files.specs.declared.stop.Stop.{Stop}
 use Rattle.run_files.specs.declared.stop.Stop.TheVariants.{WriteFault, FeedRefused}
-use Rattle.run_report.specs.declared.counts.FeedCounts.{FeedCounts}
 use Rattle.save_run.specs.Lines.{saved_text}
 use Rattle.save_run.specs.Names.{SaveNames}
 use Rattle.save_run.specs.Saved.{AreTaken, HoldsImage, HasLongFeed, HasLongRecords}

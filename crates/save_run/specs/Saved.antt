@@ -6,10 +6,10 @@ use Rattle.cube_feeds.specs.Taking.{counts_at_end}
 use Rattle.cube_schema.specs.declared.plan.Plan.{Plan}
 use Rattle.cube_view.specs.Points.{Point}
 use Rattle.feed_reader.specs.Feeds.{accepted, is_feed_refused, rows}
+use Rattle.feed_reader.specs.declared.counts.FeedCounts.{FeedCounts}
 use Rattle.image_cube.specs.CubeImages.{HasLongCubeImage, IsCubeImage}
 use Rattle.outer_io.specs.Files.{Files, file_or_empty}
 use Rattle.outer_io.specs.Lines.{input_limit}
-use Rattle.run_report.specs.declared.counts.FeedCounts.{FeedCounts}
 
 module _ (plan : Plan) (files : Files) where
   -- the records of the plan's feeds, joined in the plan's order

@@ -7,9 +7,9 @@ ghost use Rattle.save_run.specs.Reading.{taken_end, ReadsFeeds};
 use cube_feeds::cube_of_feeds;
 use cube_store::Cube;
 use cube_view::Schema;
-use outer_io::{CutFault, LineCutter, List, Place};
-use run_files::{HeadedFeed, Stop, give_back_feeds, stop_of_cut};
-use run_report::FeedCounts;
+use feed_reader::{FeedCounts, FeedJob};
+use outer_io::{CutFault, List, Place};
+use run_files::{Stop, give_back_feeds, stop_of_cut};
 use std::alloc::Global;
 
 /// How a run ends by what reading its feeds answered, if that ends it.
@@ -28,7 +28,7 @@ fn taken_end(
 pub(crate) fn read_feeds<P: Place>(
     alloc: Global,
     schema: &Schema,
-    feeds: List<HeadedFeed<LineCutter<P::In>>>,
+    feeds: List<FeedJob<P::In>>,
     place: &mut P,
 ) -> Result<(Cube, List<FeedCounts>), Stop>
     requires few { length feeds ≤ 8 }

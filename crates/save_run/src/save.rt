@@ -10,12 +10,11 @@ use crate::writing::write_file;
 use cube_image::SaveFault;
 use cube_schema::Plan;
 use cube_store::Cube;
-use feed_reader::accepted_laws;
+use feed_reader::{FeedCounts, accepted_laws};
 use image_cube::{ImageFault, save_cube};
 use image_run::{ImageEnd, refuse_image};
 use outer_io::{Place, Sink};
 use run_files::{Stop, load_plan, open_feeds};
-use run_report::FeedCounts;
 use std::alloc::Global;
 
 /// Writes the image of the cube, and says its length and what was counted of the feeds; or says that it is too long.

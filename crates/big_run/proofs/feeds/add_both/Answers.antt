@@ -1,5 +1,5 @@
 use Rattle.std.proofs.Common.{◌≡◌, ℕ, List, [], ◌∷◌, ◌++◌, Result, Ok, Err, OnOk, ap, ◌∙◌}
-use Rattle.crew_feeder.specs.declared.job.FeedJob.{FeedJob}
+use Rattle.feed_reader.specs.declared.job.FeedJob.{FeedJob}
 use Rattle.big_run.specs.Parts.{AddsFeed, AreFeeds}
 use Rattle.big_run.specs.declared.source.RunSource.{RunSource}
 use Rattle.big_run.proofs.feeds.add_both.Goals as goal

@@ -1,5 +1,5 @@
 use Rattle.std.proofs.Common.{List, ℕ, Err, ap, subst}
-use Rattle.crew_feeder.specs.declared.job.FeedJob.{FeedJob}
+use Rattle.feed_reader.specs.declared.job.FeedJob.{FeedJob}
 use Rattle.outer_io.specs.Cutting.{IsNew}
 use Rattle.big_run.proofs.GeneratedHeads.{feed_job, never_refused}
 use Rattle.big_run.specs.declared.source.RunSource.{RunSource}

@@ -1,8 +1,8 @@
 use Rattle.std.proofs.Common.{◌≡◌, ◌∙◌, Err, Result, List, ap, arith, length, set, subst, sym}
 use Rattle.std.proofs.lemmas.Result.{err_from_is_err_and}
 use Rattle.cube_store.specs.declared.cube.Cube.{Cube}
+use Rattle.feed_reader.specs.declared.counts.FeedCounts.{FeedCounts}
 use Rattle.outer_io.specs.declared.cutter.CutFault.{CutFault}
-use Rattle.run_report.specs.declared.counts.FeedCounts.{FeedCounts}
 use Rattle.cube_feeds.specs.Taking.{TakesFeeds}
 use Rattle.cube_feeds.proofs.Joining.{all_taken, begins, ends_by, next_unread, one_more, quiet_on, stays_quiet}
 use Rattle.cube_feeds.proofs.taking.cube_of_feeds.Goals as goal

@@ -1,14 +1,13 @@
 use Rattle.std.proofs.Common.{◌≡◌, ℕ, List, Option, Some, None, map, sym, subst, All}
 use Rattle.std.specs.List.{AllZip}
 use Rattle.std.proofs.lemmas.List.Elements.{All-map}
+use Rattle.feed_reader.specs.declared.job.FeedJob.{FeedJob}
 use Rattle.outer_io.specs.Files.{Files}
-use Rattle.outer_io.specs.declared.cutter.LineCutter.{LineCutter}
 use Rattle.run_files.proofs.HeadReads.{all_headed}
 use Rattle.run_files.proofs.Stages.{nothing_made}
 use Rattle.run_files.specs.Headed.{IsHeaded, OpensFeeds}
 use Rattle.run_files.specs.Outside.{at, file_of, of_place, of_sink}
 use Rattle.run_files.specs.Scripted.{AreScriptParts}
-use Rattle.run_files.specs.declared.feeds.HeadedFeed.{HeadedFeed}
 use Rattle.run_opening.proofs.Stages.{feeds_end, files_given_back, files_residual, scripts_follow}
 use Rattle.run_opening.proofs.opening.open_files.Goals as goal
 
@@ -49,11 +48,11 @@ returns-in-Err-clause-opens g c =
     let s = of_sink g.O.Sink in
     let plan = c.args.plan.now in
     let files = g.P.Place.files c.args.place.now in
-    let F = λ (feed : HeadedFeed (LineCutter g.row.P-In.Denot)). g.P.In.Source.faults feed.cutter.source in
+    let F = λ (feed : FeedJob g.row.P-In.Denot). g.P.In.Source.faults feed.cutter.source in
     let feeds = subst (λ (names : List (List ℕ)). AllZip (λ name. IsHeaded g.P.In.Source.left g.P.In.Source.faults plan.schema (file_of files name)) names c.in_ok-feeds.feeds) c.as_slice.ensures c.in_ok-feeds.ensures.feeds in
     files_given_back p s plan c.args.place.now c.open_scripts.new.place c.give_back_feeds.new.place c.args.out.now c.open_feeds.new.out (Some c.in-Err.stop) (map F c.into_vec.result.items)
     (scripts_follow p s plan c.args.place.now c.open_feeds.new.place c.open_scripts.new.place c.args.out.now c.open_feeds.new.out (Some c.in-Err.stop)
     (subst (λ (names : List (List ℕ)). OpensFeeds p s plan.schema (at c.args.place.now c.args.out.now) (at c.open_feeds.new.place c.open_feeds.new.out) names None) c.as_slice.ensures c.in_ok-feeds.ensures.opens)
     (all_headed g.P.In.Source.left g.P.In.Source.faults plan.schema files plan.feeds c.in_ok-feeds.feeds feeds) c.in-Err.ensures.opens)
     c.give_back_feeds.ensures
-    (All-map (λ n. n ≡ 0) F c.into_vec.result.items (subst (λ (items : List (HeadedFeed (LineCutter g.row.P-In.Denot))). All (λ feed. F feed ≡ 0) items) (sym c.into_vec.ensures) c.in_ok-feeds.ensures.quiet))
+    (All-map (λ n. n ≡ 0) F c.into_vec.result.items (subst (λ (items : List (FeedJob g.row.P-In.Denot)). All (λ feed. F feed ≡ 0) items) (sym c.into_vec.ensures) c.in_ok-feeds.ensures.quiet))

@@ -1,7 +1,6 @@
 use Rattle.std.proofs.Common.{◌∙◌, ℕ, Vec, Global, ap, arith, List}
 use Rattle.std.proofs.lemmas.Slice.Zip.{AllZip-long}
 use Rattle.std.specs.Prelude.{vec_capacity}
-use Rattle.run_files.specs.Headed.{IsHeaded}
 use Rattle.run_files.specs.Outside.{file_of, of_place, of_sink}
 use Rattle.run_files.specs.Scripted.{IsScript}
 use Rattle.run_opening.proofs.Readiness.{are_fit, are_new, are_pairs, are_ready}
@@ -37,12 +36,10 @@ seat_parts-requires-clause-room g c =
     let plan = c.args.plan.now in
     let are = c.in-Ok.ensures.scripts in
     let script = λ (name : List ℕ). IsScript g.P.In.Source.left g.P.In.Source.faults (file_of files name) in
-    let feeds = AllZip-long (λ (name : List ℕ). IsHeaded g.P.In.Source.left g.P.In.Source.faults plan.schema (file_of files name)) plan.feeds c.in-Ok.feeds c.in-Ok.ensures.feeds in
     let asks = AllZip-long script plan.asks c.in-Ok.scripts.asks are.asks in
     let finals = AllZip-long script plan.finals c.in-Ok.scripts.finals are.finals in (
-      omega (arith, feeds, c.len.ensures, c.in_default.ensures.feeds),
-      omega (arith, asks, c.len-2.ensures, c.in_default.ensures.sessions.0),
-      omega (arith, finals, c.len-3.ensures, c.in_default.ensures.sessions.1),
+      omega (arith, asks, c.len.ensures, c.in_default.ensures.sessions.0),
+      omega (arith, finals, c.len-2.ensures, c.in_default.ensures.sessions.1),
     )
 
 pub returns-in-Ok-clause-ready : goal.returns-in-Ok-clause-ready
@@ -60,4 +57,4 @@ returns-in-Ok-clause-fit g c =
     are_fit g.P.In.Source.left g.P.In.Source.faults s files plan parts c.requires
     (are_ready g.P.In.Source.left g.P.In.Source.faults s files plan c.in-Ok.feeds c.in-Ok.scripts parts c.in-Ok.ensures.feeds c.in-Ok.ensures.scripts c.seat_parts.ensures.feeds c.seat_parts.ensures.asks c.seat_parts.ensures.finals c.seat_parts.ensures.journal)
     (ap (λ (v : Vec g.row.P-Out.Denot Global). v.items) sinks ∙ c.reserve.new.self.sinks_empty)
-    (omega (arith, ap (λ (v : Vec g.row.P-Out.Denot Global). vec_capacity v) sinks, c.in_default.ensures.sinks, c.len-2.ensures, c.len-3.ensures))
+    (omega (arith, ap (λ (v : Vec g.row.P-Out.Denot Global). vec_capacity v) sinks, c.in_default.ensures.sinks, c.len.ensures, c.len-2.ensures))

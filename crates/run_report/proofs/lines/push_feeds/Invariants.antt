@@ -1,7 +1,7 @@
 use Rattle.std.proofs.Common.{◌≡◌, ◌++◌, string_bytes, take, List, ℕ}
 use Rattle.std.specs.List.{flat_map, zip}
+use Rattle.feed_reader.specs.declared.counts.FeedCounts.{FeedCounts}
 use Rattle.run_report.specs.Lines.{feed_lines}
-use Rattle.run_report.specs.declared.counts.FeedCounts.{FeedCounts}
 use Rattle.run_report.proofs.lines.push_feeds.Given as goal
 
 abbrev pub invariant-loop-place : goal.invariant-loop-place

@@ -1,12 +1,13 @@
 use Rattle.std.proofs.Common.{List, length, map, subst, Err}
+use Rattle.crew_feeder.specs.Leaving.{feed_counts}
 use Rattle.feed_queue.specs.Journal.{journal_text}
 use Rattle.run_files.specs.Stops.{write_end}
 use Rattle.run_files.specs.declared.stop.Stop.TheVariants.{NoMemory}
 use Rattle.run_report.specs.Journals.{PutsJournal}
+use Rattle.world_core.specs.declared.entry.Entry.{Entry}
 use Rattle.run_stages.proofs.Closed.{ends_of_all, joined_both, text_of_counts}
 use Rattle.run_stages.specs.Closing.{run_text, threads_end}
-use Rattle.run_stages.specs.Counted.{feed_counts, script_counts}
-use Rattle.world_core.specs.declared.entry.Entry.{Entry}
+use Rattle.run_stages.specs.Counted.{script_counts}
 use Rattle.run_stages.proofs.closing.close_run.Goals as goal
 
 pub returns : goal.returns

@@ -1,12 +1,13 @@
 use Rattle.std.proofs.Common.{List, map, subst, Vec, Global}
-use Rattle.crew_feeder.specs.declared.job.FeedDone.{FeedDone}
+use Rattle.crew_feeder.specs.Leaving.{feed_counts}
+use Rattle.crew_feeder.specs.declared.done.FeedDone.{FeedDone}
 use Rattle.crew_session.specs.declared.done.SessionDone.{SessionDone}
+use Rattle.feed_reader.specs.declared.counts.FeedCounts.{FeedCounts}
 use Rattle.run_files.specs.GivingBack.{TakesSinks, TakesSources}
 use Rattle.run_files.specs.Outside.{of_place, of_sink}
-use Rattle.run_report.specs.declared.counts.FeedCounts.{FeedCounts}
 use Rattle.run_report.specs.declared.counts.ScriptCounts.{ScriptCounts}
 use Rattle.run_stages.proofs.Returned.{counted_of, sinks_of_both}
-use Rattle.run_stages.specs.Counted.{feed_counts, script_counts}
+use Rattle.run_stages.specs.Counted.{script_counts}
 use Rattle.run_stages.specs.declared.counts.RunCounts.{RunCounts}
 use Rattle.run_stages.proofs.closing.give_back_parts.Goals as goal
 

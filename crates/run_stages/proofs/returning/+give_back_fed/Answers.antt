@@ -1,9 +1,9 @@
 use Rattle.std.proofs.Common.{Vec, Global}
-use Rattle.crew_feeder.specs.declared.job.FeedDone.{FeedDone}
+use Rattle.crew_feeder.specs.Leaving.{feed_counts}
+use Rattle.crew_feeder.specs.declared.done.FeedDone.{FeedDone}
+use Rattle.feed_reader.specs.declared.counts.FeedCounts.{FeedCounts}
 use Rattle.run_files.specs.Outside.{of_place}
-use Rattle.run_report.specs.declared.counts.FeedCounts.{FeedCounts}
 use Rattle.run_stages.proofs.Returned.{counted_more, returned_more}
-use Rattle.run_stages.specs.Counted.{feed_counts}
 use Rattle.run_stages.proofs.returning.+give_back_fed.Goals as goal
 
 pub returns-clause-back : goal.returns-clause-back

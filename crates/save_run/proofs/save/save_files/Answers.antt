@@ -1,12 +1,12 @@
 use Rattle.std.proofs.Common.{◌≤◌, List, length, None, Result, Some, subst, sym, ℕ}
 use Rattle.std.specs.List.{AllZip}
+use Rattle.feed_reader.specs.declared.counts.FeedCounts.{FeedCounts}
 use Rattle.image_run.specs.declared.end.ImageEnd.{ImageEnd}
+use Rattle.run_files.proofs.Apart.{residual_is}
 use Rattle.run_files.specs.Headed.{IsHeaded, OpensFeeds}
 use Rattle.run_files.specs.Outside.{at, file_of, of_place, of_sink, of_source, PlaceSeen, SinkSeen}
 use Rattle.run_files.specs.declared.stop.Stop.{Stop}
-use Rattle.run_report.specs.declared.counts.FeedCounts.{FeedCounts}
 use Rattle.save_run.proofs.Ending.{ended_by_header, ended_by_plan, ended_reading, stood_reading}
-use Rattle.run_files.proofs.Apart.{residual_is}
 use Rattle.save_run.proofs.Fed.{all_unread, few_feeds}
 use Rattle.save_run.proofs.Stood.{ended_by_cube}
 use Rattle.save_run.specs.Ends.{SaveEnds}

@@ -1,9 +1,11 @@
 -- How many rows are of each kind, and which are the first that are refused.
-use Rattle.std.specs.Prelude.{ℕ, ◌+◌, Bool, true, false, List, [], ◌∷◌, length, take, count_by}
+use Rattle.std.specs.Prelude.{ℕ, ◌+◌, Bool, true, false, List, [], ◌∷◌, ◌++◌, length, take, count_by, Option}
+use Rattle.outer_io.specs.declared.cutter.CutFault.{CutFault}
 use Rattle.feed_reader.specs.Feeds.{points_in}
+use Rattle.feed_reader.specs.declared.counts.FeedCounts.{FeedCounts}
+use Rattle.feed_reader.specs.declared.refusal.Refusal.{Refusal}
 use Rattle.feed_reader.specs.declared.row.Row.{Row}
 use Rattle.feed_reader.specs.declared.row.Row.TheVariants as row
-use Rattle.crew_feeder.specs.declared.refusal.Refusal.{Refusal}
 
 -- the row is blank
 abbrev pub is_blank_row : Row → Bool
@@ -43,3 +45,16 @@ kept_refusals = 5
 -- the first refusals among the rows, whose lines are numbered from `line` on
 abbrev pub first_refusals : ℕ → List Row → List Refusal
 first_refusals line rows = take kept_refusals (refusals_from line rows)
+
+-- the refusals once they keep one more, if there are not enough
+abbrev pub having_kept : List Refusal → Refusal → List Refusal
+having_kept first refusal = take kept_refusals (first ++ refusal ∷ [])
+
+-- what a feed was given: the rows of its lines after the first, and the fault that ended it
+pub record FeedRows : Type 0 where
+  pub rows : List Row
+  pub fault : Option CutFault
+
+-- what is counted of it, with its lines numbered from the first line of the file on
+abbrev pub counts_of_rows : FeedRows → FeedCounts
+counts_of_rows feed = record { accepted = count_accepted feed.rows; blank = count_blank feed.rows; refused = count_refused feed.rows; first = first_refusals 2 feed.rows; fault = feed.fault }

@@ -1,6 +1,6 @@
 use Rattle.std.proofs.Common.{◌≡◌, length, sym, ap, arith}
 use Rattle.std.proofs.lemmas.List.{take_at}
-use Rattle.crew_feeder.proofs.refusal.FirstRefusals.keep.Goals as goal
+use Rattle.feed_reader.proofs.refusal.FirstRefusals.keep.Goals as goal
 
 pub returns-else-len-lt-KEPT : goal.returns-else-len-lt-KEPT
 returns-else-len-lt-KEPT c =

@@ -1,8 +1,8 @@
 //! Rows that are refused.
 ghost use Rattle.std.specs.Prelude.{◌≡◌, [], IfOk};
-ghost use Rattle.crew_feeder.specs.Taking.{having_kept};
+ghost use Rattle.feed_reader.specs.RowCounts.{having_kept};
 
-use feed_reader::RowFault;
+use crate::RowFault;
 use outer_io::{List, NoMemory};
 use std::alloc::Global;
 use std::marker::Model;
@@ -26,7 +26,7 @@ pub struct FirstRefusals {
 
 impl Model for FirstRefusals {
     ghost use Rattle.std.specs.Prelude.{List, ◌≤◌, vec_len, vec_capacity};
-    ghost use Rattle.crew_feeder.specs.declared.refusal.Refusal.{Refusal};
+    ghost use Rattle.feed_reader.specs.declared.refusal.Refusal.{Refusal};
 
     ghost Value = { List Refusal };
 
