@@ -2,4 +2,3 @@ pub mod Names
 pub mod Faults
 pub mod Lines
 pub mod Reports
-pub mod Journals

@@ -1,2 +1,3 @@
 pub mod Returned
 mod Closed
+mod JournalPuts

@@ -1,3 +1,4 @@
+pub mod Journals
 pub mod Counted
 pub mod Ends
 pub mod Closing

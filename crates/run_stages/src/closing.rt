@@ -9,6 +9,7 @@ ghost use Rattle.run_stages.specs.Counted.{IsReportOf, script_counts};
 use crate::counts::{RunCounts, all_counts};
 use crate::done::RunDone;
 use crate::ends::threads_end;
+use crate::journal::write_journal;
 use crate::returning::{give_back_fed, give_back_scripts};
 use crate::saying::put_report;
 use crew_feeder::FeedDone;
@@ -16,7 +17,6 @@ use crew_session::SessionDone;
 use cube_schema::Plan;
 use outer_io::{IoFault, List, NoMemory, Place, Sink};
 use run_files::{Stop, give_back_sinks, joined_ends, write_end};
-use run_report::write_journal;
 use std::alloc::Global;
 
 /// Gives feeds and scripts back, the sources in order and then the sinks, which have room. It says what was counted of

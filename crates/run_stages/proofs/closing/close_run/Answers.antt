@@ -3,7 +3,7 @@ use Rattle.crew_feeder.specs.Leaving.{feed_counts}
 use Rattle.feed_queue.specs.Journal.{journal_text}
 use Rattle.run_files.specs.Stops.{write_end}
 use Rattle.run_files.specs.declared.stop.Stop.TheVariants.{NoMemory}
-use Rattle.run_report.specs.Journals.{PutsJournal}
+use Rattle.run_stages.specs.Journals.{PutsJournal}
 use Rattle.world_core.specs.declared.entry.Entry.{Entry}
 use Rattle.run_stages.proofs.Closed.{ends_of_all, joined_both, text_of_counts}
 use Rattle.run_stages.specs.Closing.{run_text, threads_end}

@@ -1,7 +1,7 @@
 use Rattle.std.proofs.Common.{◌≡◌, take}
 use Rattle.feed_queue.specs.Journal.{journal_text}
-use Rattle.run_report.proofs.Writing.{Has}
-use Rattle.run_report.proofs.journal.write_journal.Given as goal
+use Rattle.run_stages.proofs.JournalPuts.{Has}
+use Rattle.run_stages.proofs.journal.write_journal.Given as goal
 
 abbrev pub invariant-loop-entry : goal.invariant-loop-entry
 invariant-loop-entry g l = record {

@@ -3,7 +3,7 @@ ghost use Rattle.std.specs.Prelude.{◌≡◌, ◌<◌, ◌++◌, OnErr, OnOk, l
 ghost use Rattle.outer_io.specs.Bytes.{GainsPart};
 ghost use Rattle.outer_io.specs.Faults.{HasCause};
 ghost use Rattle.feed_queue.specs.Journal.{entry_line, journal_text};
-ghost use Rattle.run_report.specs.Journals.{Moves, PutsJournal};
+ghost use Rattle.run_stages.specs.Journals.{Moves, PutsJournal};
 
 use cube_view::Schema;
 use feed_queue::print_entry;
@@ -55,7 +55,7 @@ fn put_from<O: Sink>(least: usize, buffer: &mut Vec<u8>, out: &mut O) -> Result<
 
 /// Puts the journal of the entries, a buffer at a time, so that its memory does not grow with the journal. After a fault
 /// it makes no further put. `NoMemory` comes where the buffer, a line or a put found none.
-pub fn write_journal<O: Sink>(
+pub(crate) fn write_journal<O: Sink>(
     alloc: Global,
     schema: &Schema,
     entries: &[Entry],

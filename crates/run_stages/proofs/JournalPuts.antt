@@ -9,7 +9,7 @@ use Rattle.outer_io.specs.Bytes.{Gains, GainsPart}
 use Rattle.outer_io.specs.Faults.{HasCause}
 use Rattle.outer_io.specs.declared.fault.IoFault.{IoFault}
 use Rattle.outer_io.specs.declared.fault.IoFault.TheVariants as fault
-use Rattle.run_report.specs.Journals.{Moves, PutsJournal}
+use Rattle.run_stages.specs.Journals.{Moves, PutsJournal}
 use Rattle.world_core.specs.declared.entry.Entry.{Entry}
 
 -- the journal of the first entries, and of the others

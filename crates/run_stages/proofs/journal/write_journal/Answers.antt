@@ -1,8 +1,8 @@
 use Rattle.std.proofs.Common.{ℕ, ◌+◌, ◌∙◌, List, take, drop, subst, arith}
 use Rattle.std.proofs.lemmas.Result.{err_from_is_err_and}
 use Rattle.feed_queue.specs.Journal.{journal_text}
-use Rattle.run_report.proofs.Writing.{Has, at_last, has_entry, has_moved, journal_parts, journal_whole, no_memory, put_fault}
-use Rattle.run_report.proofs.journal.write_journal.Goals as goal
+use Rattle.run_stages.proofs.JournalPuts.{Has, at_last, has_entry, has_moved, journal_parts, journal_whole, no_memory, put_fault}
+use Rattle.run_stages.proofs.journal.write_journal.Goals as goal
 
 pub returns-in-Err : goal.returns-in-Err
 returns-in-Err g c =
