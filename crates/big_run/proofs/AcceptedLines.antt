@@ -2,7 +2,7 @@
 use Rattle.std.proofs.Common.{refl, subst}
 use Rattle.feed_maker.specs.GeneratedFeed.{generated_feed}
 use Rattle.feed_reader.specs.Feeds.{rows}
-use Rattle.run_report.specs.Lines.{counts_line}
+use Rattle.run_files.specs.Lines.{counts_line}
 use Rattle.big_run.specs.BuiltIn.{big_schema}
 use Rattle.big_run.specs.Laws.{AllAccepted}
 use Rattle.big_run.specs.Text.{feed_line}

@@ -16,7 +16,7 @@ use Rattle.outer_io.specs.Lines.{Line, input_limit}
 use Rattle.outer_io.specs.Told.{Told}
 use Rattle.outer_io.specs.declared.cutter.CutFault.{CutFault}
 use Rattle.outer_io.specs.declared.cutter.CutFault.TheVariants as cut
-use Rattle.run_report.specs.Lines.{counts_line}
+use Rattle.run_files.specs.Lines.{counts_line}
 use Rattle.big_run.specs.BuiltIn.{big_schema}
 use Rattle.big_run.specs.Parts.{IsFeed}
 use Rattle.big_run.specs.Sources.{left_in, no_faults}

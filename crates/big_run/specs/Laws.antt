@@ -1,13 +1,13 @@
 -- Laws of a large run, as statements.
 use Rattle.std.specs.Prelude.{◌≡◌, ℕ, ◌≤◌, List, [], ◌∷◌, None}
-use Rattle.big_run.specs.Text.{feed_line, final_asked}
 use Rattle.query_syntax.specs.Queries.{all_bins, whole_space}
 use Rattle.query_syntax.specs.declared.query.Choice.TheVariants.{All}
 use Rattle.query_syntax.specs.declared.query.Parsed.{Parsed}
 use Rattle.query_syntax.specs.declared.query.Parsed.TheVariants.{Ask}
 use Rattle.query_syntax.specs.declared.query.Verb.{Verb}
 use Rattle.query_syntax.specs.declared.query.Verb.TheVariants.{Count, Hist, Map, Series}
-use Rattle.run_report.specs.Lines.{counts_line}
+use Rattle.run_files.specs.Lines.{counts_line}
+use Rattle.big_run.specs.Text.{feed_line, final_asked}
 
 -- every row of a generated feed is a point: its line says that all were accepted
 abbrev pub AllAccepted : Type 0

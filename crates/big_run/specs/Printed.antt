@@ -5,7 +5,7 @@ use Rattle.crew_feeder.specs.declared.done.FeedDone.{FeedDone}
 use Rattle.crew_session.specs.declared.done.SessionDone.{SessionDone}
 use Rattle.cube_crew.specs.declared.jobs.Crewed.{Crewed}
 use Rattle.outer_io.specs.Memory.{StillOutput}
-use Rattle.run_report.specs.Lines.{counts_line}
+use Rattle.run_files.specs.Lines.{counts_line}
 use Rattle.big_run.specs.declared.source.RunSource.{RunSource}
 
 -- the run had two feeds, a session beside them and one after them

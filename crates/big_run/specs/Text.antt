@@ -1,18 +1,18 @@
 -- What a large run writes: two lines of its report, and the replies over all records.
 use Rattle.std.specs.Prelude.{ℕ, List, ◌++◌, codes, length, None}
 use Rattle.std.specs.List.{filter_map}
-use Rattle.feed_reader.specs.RowCounts.{counts_of_rows}
-use Rattle.big_run.specs.BuiltIn.{big_schema, final_script}
 use Rattle.cube_view.specs.Points.{Point}
 use Rattle.cube_view.specs.declared.stat.Stat.{Stat}
 use Rattle.feed_maker.specs.GeneratedFeed.{generated_feed}
 use Rattle.feed_reader.specs.Feeds.{accepted, rows}
+use Rattle.feed_reader.specs.RowCounts.{counts_of_rows}
 use Rattle.outer_io.specs.Lines.{lines}
 use Rattle.query_syntax.specs.declared.query.Parsed.{Parsed}
 use Rattle.reply_json.specs.declared.reply.Reply.{Reply}
-use Rattle.run_report.specs.Lines.{counts_line}
+use Rattle.run_files.specs.Lines.{counts_line}
 use Rattle.session_core.specs.Asked.{asked, asked_reply}
 use Rattle.session_core.specs.Transcript.{replies_text}
+use Rattle.big_run.specs.BuiltIn.{big_schema, final_script}
 
 -- the report's line of a generated feed of so many rows from a state, under that name
 unfoldable pub feed_line : List ℕ → ℕ → ℕ → List ℕ

@@ -5,7 +5,7 @@
 //! definition `big_text` of `specs/Text.antt`, which depends on the number of rows alone: final replies are over all
 //! records, whatever order the journal had. [`big_run_laws`] says that the report's lines count every row as accepted. It
 //! reads and writes no file. The crate stands on `feed_maker` for the feeds, on `cube_crew` for the run, and on
-//! `run_report` for the lines. Which words ask for it is left to the program.
+//! `run_files` for the lines. Which words ask for it is left to the program.
 //!
 //! ```
 //! run_big(rt, alloc, 1, &mut out)?;   // "feed gen1: 1 accepted, 0 blank, 0 refused\n" and five lines more

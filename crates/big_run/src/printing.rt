@@ -1,6 +1,6 @@
 //! What a run prints.
 ghost use Rattle.std.specs.Prelude.{◌≡◌, ◌++◌, [], ◌∷◌, false, codes, length, IfOk, OnOk};
-ghost use Rattle.run_report.specs.Lines.{counts_line};
+ghost use Rattle.run_files.specs.Lines.{counts_line};
 ghost use Rattle.big_run.specs.Printed.{CameBackWhole, printed};
 
 use crate::source::RunSource;
@@ -8,7 +8,7 @@ use crew_session::SessionDone;
 use cube_crew::Crewed;
 use feed_reader::FeedCounts;
 use outer_io::{List, NoMemory, StillSink};
-use run_report::push_counts;
+use run_files::push_counts;
 use std::alloc::{AllocError, Global};
 
 /// The lines of the two feeds, and then the replies.

@@ -2,7 +2,7 @@
 use cube_schema::{Plan, PlanFault, read_plan};
 use feed_reader::{Column, FeedCounts, HeadFault, Refusal, RowFault};
 use outer_io::{CutFault, List, NoMemory};
-use run_report::{ScriptCounts, header_refused, plan_refused, report};
+use run_files::{ScriptCounts, header_refused, plan_refused, report};
 use session_core::SessionFault;
 use std::alloc::Global;
 use std::process::Abort;

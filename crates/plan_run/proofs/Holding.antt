@@ -10,18 +10,18 @@ use Rattle.feed_reader.specs.Feeds.{accepted, points_in}
 use Rattle.feed_reader.specs.RowCounts.{FeedRows}
 use Rattle.outer_io.specs.Files.{Files, file_or_empty}
 use Rattle.outer_io.specs.Lines.{lines}
+use Rattle.reply_json.specs.declared.reply.Reply.{Reply}
+use Rattle.run_files.specs.Stops.{is_lacking}
+use Rattle.run_files.specs.declared.counts.ScriptCounts.{ScriptCounts}
+use Rattle.run_files.specs.declared.stop.Stop.{Stop}
+use Rattle.run_files.specs.declared.stop.Stop.TheVariants.{NoMemory, PlanRefused, ReadFault, WriteFault, FeedRefused}
+use Rattle.session_core.specs.Asked.{asked}
+use Rattle.session_core.specs.Transcript.{IsTranscript}
+use Rattle.world_core.specs.Interleaving.{IsInterleaving, entry_points, list_of}
 use Rattle.plan_run.proofs.Joined.{End}
 use Rattle.plan_run.proofs.Taken.{points_all}
 use Rattle.plan_run.specs.Completed.{HasTranscript}
 use Rattle.plan_run.specs.Interrupted.{Account, AnswersInFile, HoldsAll, IsReadOrLacking, StopsScript, ReportsFeed, accepted_lists}
-use Rattle.reply_json.specs.declared.reply.Reply.{Reply}
-use Rattle.run_files.specs.Stops.{is_lacking}
-use Rattle.run_files.specs.declared.stop.Stop.{Stop}
-use Rattle.run_files.specs.declared.stop.Stop.TheVariants.{NoMemory, PlanRefused, ReadFault, WriteFault, FeedRefused}
-use Rattle.run_report.specs.declared.counts.ScriptCounts.{ScriptCounts}
-use Rattle.session_core.specs.Asked.{asked}
-use Rattle.session_core.specs.Transcript.{IsTranscript}
-use Rattle.world_core.specs.Interleaving.{IsInterleaving, entry_points, list_of}
 
 wants_none : (e : End) → e ≢ Err NoMemory → is_lacking e ≡ false
 wants_none (Ok x) found = refl

@@ -35,14 +35,14 @@ use Rattle.run_files.proofs.Counts.{counts_failed, counts_grow, rose_from_before
 use Rattle.run_files.proofs.Lists.{All-back, All-front}
 use Rattle.run_files.specs.GivingBack.{Lands, faulty}
 use Rattle.run_files.specs.Outside.{at, file_of, parts_seen, PlaceSeen, SinkSeen, SourceSeen}
+use Rattle.run_files.specs.Reports.{counts_text}
 use Rattle.run_files.specs.Stops.{joined_ends, write_end}
+use Rattle.run_files.specs.declared.counts.ScriptCounts.{ScriptCounts}
 use Rattle.run_files.specs.declared.stop.Stop.{Stop}
 use Rattle.run_files.specs.declared.stop.Stop.TheVariants.{NoMemory, PlanRefused, ReadFault, WriteFault, FeedRefused}
 use Rattle.run_opening.specs.Opening.{AreReady}
 use Rattle.run_opening.specs.Ready.{IsJobOf, IsSessionOf}
 use Rattle.run_opening.specs.declared.parts.RunParts.{RunParts}
-use Rattle.run_report.specs.Reports.{counts_text}
-use Rattle.run_report.specs.declared.counts.ScriptCounts.{ScriptCounts}
 use Rattle.run_stages.specs.Closing.{ClosesRun, run_text, threads_end}
 use Rattle.run_stages.specs.Counted.{script_counts}
 use Rattle.run_stages.specs.Ends.{feed_end, feeds_end, session_end, sessions_end, starved_end}

@@ -41,9 +41,9 @@ use Rattle.run_files.specs.declared.stop.Stop.{Stop}
 use Rattle.run_opening.specs.Opening.{AreReady}
 use Rattle.run_opening.specs.Ready.{IsJobOf}
 use Rattle.run_opening.specs.declared.parts.RunParts.{RunParts}
-use Rattle.run_report.specs.Reports.{counts_text}
+use Rattle.run_files.specs.Reports.{counts_text}
 use Rattle.feed_reader.specs.declared.counts.FeedCounts.{FeedCounts}
-use Rattle.run_report.specs.declared.counts.ScriptCounts.{ScriptCounts}
+use Rattle.run_files.specs.declared.counts.ScriptCounts.{ScriptCounts}
 use Rattle.run_stages.specs.Closing.{ClosesRun, threads_end}
 use Rattle.run_stages.specs.Counted.{script_counts}
 use Rattle.run_stages.specs.Ends.{feed_end, feeds_end, session_end, sessions_end, starved_end}

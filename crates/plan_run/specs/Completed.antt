@@ -15,8 +15,8 @@ use Rattle.outer_io.specs.Bytes.{Gains}
 use Rattle.outer_io.specs.Files.{Files, file_or_empty}
 use Rattle.outer_io.specs.Lines.{lines}
 use Rattle.reply_json.specs.declared.reply.Reply.{Reply}
-use Rattle.run_report.specs.Reports.{report_text}
-use Rattle.run_report.specs.declared.counts.ScriptCounts.{ScriptCounts}
+use Rattle.run_files.specs.Reports.{report_text}
+use Rattle.run_files.specs.declared.counts.ScriptCounts.{ScriptCounts}
 use Rattle.session_core.specs.Asked.{asked}
 use Rattle.session_core.specs.Scripts.{is_script_refused}
 use Rattle.session_core.specs.Transcript.{IsTranscript, replies_text}

@@ -15,13 +15,12 @@ use Rattle.outer_io.specs.Files.{Files, file_or_empty}
 use Rattle.outer_io.specs.Lines.{input_limit, lines}
 use Rattle.outer_io.specs.declared.cutter.CutFault.{CutFault}
 use Rattle.outer_io.specs.declared.cutter.CutFault.TheVariants as cut
-use Rattle.plan_run.specs.Completed.{HasTranscript, output_of}
 use Rattle.reply_json.specs.declared.reply.Reply.{Reply}
+use Rattle.run_files.specs.Reports.{report_text}
 use Rattle.run_files.specs.Stops.{is_lacking}
+use Rattle.run_files.specs.declared.counts.ScriptCounts.{ScriptCounts}
 use Rattle.run_files.specs.declared.stop.Stop.{Stop}
 use Rattle.run_files.specs.declared.stop.Stop.TheVariants.{NoMemory, ReadFault}
-use Rattle.run_report.specs.Reports.{report_text}
-use Rattle.run_report.specs.declared.counts.ScriptCounts.{ScriptCounts}
 use Rattle.session_core.specs.Asked.{asked}
 use Rattle.session_core.specs.Scripts.{is_script_refused}
 use Rattle.session_core.specs.Transcript.{IsTranscript, replies_text}
@@ -30,6 +29,7 @@ use Rattle.session_core.specs.declared.fault.SessionFault.TheVariants as fault
 use Rattle.world_core.specs.Interleaving.{IsInterleaving, entry_points, list_of}
 use Rattle.world_core.specs.PairFact.{IsPrefix}
 use Rattle.world_core.specs.declared.entry.Entry.{Entry}
+use Rattle.plan_run.specs.Completed.{HasTranscript, output_of}
 
 -- What a run reports
 pub record Account : Type 0 where

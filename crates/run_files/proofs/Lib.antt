@@ -1,3 +1,4 @@
+mod Pairs
 pub mod Apart
 pub mod Counts
 pub mod Lists

@@ -12,7 +12,7 @@ use Rattle.feed_reader.specs.declared.job.FeedJob.{FeedJob}
 use Rattle.outer_io.specs.Cutting.{Cutter, IsNew}
 use Rattle.outer_io.specs.Files.{Files}
 use Rattle.outer_io.specs.Told.{Told}
-use Rattle.run_report.specs.Lines.{head_line}
+use Rattle.run_files.specs.Lines.{head_line}
 use Rattle.run_files.specs.Leaving.{FailsAtLast, LeavesPlace}
 use Rattle.run_files.specs.Outside.{FailsToPut, file_of, Outside, PlaceSeen, Puts, Silent, SinkSeen}
 use Rattle.run_files.specs.declared.stop.Stop.{Stop}

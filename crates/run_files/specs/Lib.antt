@@ -1,3 +1,7 @@
+pub mod Names
+pub mod Faults
+pub mod Lines
+pub mod Reports
 pub mod Stops
 pub mod Outside
 pub mod Saying

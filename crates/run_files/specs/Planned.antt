@@ -7,7 +7,7 @@ use Rattle.cube_schema.specs.declared.fault.PlanFault.{PlanFault}
 use Rattle.cube_schema.specs.declared.fault.PlanFault.TheVariants as plan
 use Rattle.cube_schema.specs.declared.plan.Plan.{Plan}
 use Rattle.outer_io.specs.Told.{Told}
-use Rattle.run_report.specs.Lines.{plan_line}
+use Rattle.run_files.specs.Lines.{plan_line}
 use Rattle.run_files.specs.Outside.{PutsOrFails, Silent, SinkSeen}
 use Rattle.run_files.specs.declared.stop.Stop.{Stop}
 use Rattle.run_files.specs.declared.stop.Stop.TheVariants as stop

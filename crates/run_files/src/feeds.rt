@@ -2,18 +2,17 @@
 ghost use Rattle.std.specs.Prelude.{◌≡◌, ◌≢◌, ◌+◌, ◌≤◌, [], ◌∷◌, Err, All, IfOk, IfErr, OnOk, length, vec_len, vec_capacity};
 ghost use Rattle.std.specs.Result.{result_err};
 ghost use Rattle.outer_io.specs.Faults.{Rose};
-ghost use Rattle.run_report.specs.Lines.{head_line};
+ghost use Rattle.run_files.specs.Lines.{head_line};
 ghost use Rattle.run_files.specs.Headed.{AreHeaded, IsHeaded, MeetsHeadFault, OpensFeeds, ReadsHead, SaysHeadFault};
 ghost use Rattle.run_files.specs.Outside.{at, FailsToPut, file_of, of_place, of_sink, Puts, Silent};
 ghost use Rattle.run_files.specs.Saying.{SaysText};
 
-use crate::Stop;
 use crate::giving_back::give_back_feeds;
 use crate::saying::put_text;
+use crate::{Stop, header_refused};
 use cube_view::Schema;
 use feed_reader::{FeedJob, HeadFault, NoHeader, read_header};
 use outer_io::{IoFault, LineCutter, List, Place, Sink, Source, Text};
-use run_report::header_refused;
 use std::alloc::Global;
 
 // A cutter over the source, and the header in its first line. With a fault the source comes back.

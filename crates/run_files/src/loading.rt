@@ -2,16 +2,15 @@
 ghost use Rattle.std.specs.Prelude.{◌≡◌, ◌≢◌, ◌⊎◌, ◌+◌, [], ◌∷◌, ◌++◌, Err, Some, take, IfOk, IfErr};
 ghost use Rattle.std.specs.Result.{result_err};
 ghost use Rattle.outer_io.specs.Told.{Told};
-ghost use Rattle.run_report.specs.Lines.{plan_line};
+ghost use Rattle.run_files.specs.Lines.{plan_line};
 ghost use Rattle.run_files.specs.Leaving.{LeavesPlace};
 ghost use Rattle.run_files.specs.Outside.{file_of, of_place, of_sink, PutsOrFails, Silent};
 ghost use Rattle.run_files.specs.Planned.{ReadsPlan};
 
-use crate::Stop;
 use crate::stop::read_end;
+use crate::{Stop, plan_refused};
 use cube_schema::{Plan, PlanFault, read_plan};
 use outer_io::{IoFault, List, NoMemory, Place, Sink, read_up_to};
-use run_report::plan_refused;
 use std::alloc::Global;
 
 /// The most bytes of a plan.

@@ -2,10 +2,10 @@
 use Rattle.std.proofs.Common.{◌≡◌, ℕ, Bool, List, [], ◌∷◌, Result, Ok, Err, IfOk, ◌∙◌, ap}
 use Rattle.cube_schema.specs.declared.plan.Plan.{Plan}
 use Rattle.feed_reader.specs.declared.counts.FeedCounts.{FeedCounts}
+use Rattle.run_files.specs.Reports.{counts_text}
 use Rattle.run_files.specs.Stops.{joined_ends}
+use Rattle.run_files.specs.declared.counts.ScriptCounts.{ScriptCounts}
 use Rattle.run_files.specs.declared.stop.Stop.{Stop}
-use Rattle.run_report.specs.Reports.{counts_text}
-use Rattle.run_report.specs.declared.counts.ScriptCounts.{ScriptCounts}
 use Rattle.run_stages.specs.Ends.{all_ends}
 use Rattle.run_stages.specs.declared.counts.RunCounts.{RunCounts}
 

@@ -10,12 +10,12 @@ use Rattle.outer_io.specs.Files.{ChangesOnly}
 use Rattle.outer_io.specs.declared.fault.IoFault.{IoFault}
 use Rattle.run_files.specs.GivingBack.{Lands, TakesSinks, TakesSources}
 use Rattle.run_files.specs.Outside.{Outside, PartsSeen, PlaceSeen, SinkSeen}
+use Rattle.run_files.specs.Reports.{counts_text}
 use Rattle.run_files.specs.Saying.{SaysText}
 use Rattle.run_files.specs.Stops.{joined_ends, write_end}
 use Rattle.run_files.specs.declared.stop.Stop.{Stop}
 use Rattle.run_files.specs.declared.stop.Stop.TheVariants.{NoMemory}
 use Rattle.run_stages.specs.Journals.{PutsJournal}
-use Rattle.run_report.specs.Reports.{counts_text}
 use Rattle.run_stages.specs.Counted.{script_counts}
 use Rattle.run_stages.specs.Ends.{all_ends, feeds_end, sessions_end, starved_end}
 use Rattle.run_stages.specs.declared.done.RunDone.{RunDone}

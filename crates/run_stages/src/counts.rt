@@ -3,7 +3,7 @@ ghost use Rattle.std.specs.Prelude.{◌≡◌, ◌++◌, [], ◌∷◌, IfOk, Is
 
 use feed_reader::FeedCounts;
 use outer_io::NoMemory;
-use run_report::ScriptCounts;
+use run_files::ScriptCounts;
 
 /// What was counted of all feeds, asks and finals.
 #[derive(Drop)]

@@ -5,8 +5,8 @@
 //! `ClosesRun` of `specs/Closing.antt`: the end that is answered is the first, in the order of `run_files`, of the faults
 //! that ended feeds and sessions and of what writing, giving back and reporting answered.
 //!
-//! It stands on `run_files` for giving back, on `run_report` for the report, on `feed_queue` for the journal's lines, and
-//! on `crew_feeder` and `crew_session` for what feeders and sessions leave. What runs in the threads is left to others.
+//! It stands on `run_files` for giving back and for the report, on `feed_queue` for the journal's lines, and on
+//! `crew_feeder` and `crew_session` for what feeders and sessions leave. What runs in the threads is left to others.
 //!
 //! ```text
 //! let end = close_run(alloc, &plan, done, &mut place, &mut out);   // Ok, or the first cause in the order of `Stop`

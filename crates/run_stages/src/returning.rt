@@ -10,7 +10,7 @@ use crew_feeder::FeedDone;
 use crew_session::SessionDone;
 use feed_reader::FeedCounts;
 use outer_io::{NoMemory, Place};
-use run_report::ScriptCounts;
+use run_files::ScriptCounts;
 use std::alloc::Global;
 
 /// Gives the sources of feeds back, in order, and says what was counted of them, where there is memory for it.

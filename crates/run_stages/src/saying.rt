@@ -1,13 +1,12 @@
 //! The report of a run, put.
 ghost use Rattle.run_files.specs.Outside.{of_sink};
+ghost use Rattle.run_files.specs.Reports.{counts_text};
 ghost use Rattle.run_files.specs.Saying.{SaysText};
-ghost use Rattle.run_report.specs.Reports.{counts_text};
 
 use cube_schema::Plan;
 use feed_reader::FeedCounts;
 use outer_io::Sink;
-use run_files::{Stop, put_text};
-use run_report::{ScriptCounts, report};
+use run_files::{ScriptCounts, Stop, put_text, report};
 use std::alloc::Global;
 
 /// Puts the report in one put, and says how the run ends by that.

@@ -3,7 +3,7 @@ use Rattle.std.specs.Prelude.{ℕ, List, [], ◌∷◌, ◌++◌, codes}
 use Rattle.std.specs.Fmt.{decimal}
 use Rattle.cube_schema.specs.declared.plan.Plan.{Plan}
 use Rattle.feed_reader.specs.declared.counts.FeedCounts.{FeedCounts}
-use Rattle.run_report.specs.Reports.{feeds_text}
+use Rattle.run_files.specs.Reports.{feeds_text}
 
 -- `image: B bytes`
 unfoldable pub size_line : ℕ → List ℕ

@@ -7,8 +7,7 @@ ghost use Rattle.save_run.specs.Lines.{saved_text, size_line};
 use cube_schema::Plan;
 use feed_reader::FeedCounts;
 use outer_io::Sink;
-use run_files::{Stop, put_text};
-use run_report::feeds_report;
+use run_files::{Stop, feeds_report, put_text};
 use std::alloc::{AllocError, Global};
 
 /// Appends the line of an image's length.

@@ -5,7 +5,7 @@ use Rattle.crew_session.specs.declared.done.SessionDone.{SessionDone}
 use Rattle.feed_reader.specs.declared.counts.FeedCounts.{FeedCounts}
 use Rattle.run_files.specs.GivingBack.{TakesSinks, TakesSources}
 use Rattle.run_files.specs.Outside.{of_place, of_sink}
-use Rattle.run_report.specs.declared.counts.ScriptCounts.{ScriptCounts}
+use Rattle.run_files.specs.declared.counts.ScriptCounts.{ScriptCounts}
 use Rattle.run_stages.proofs.Returned.{counted_of, sinks_of_both}
 use Rattle.run_stages.specs.Counted.{script_counts}
 use Rattle.run_stages.specs.declared.counts.RunCounts.{RunCounts}

@@ -1,7 +1,7 @@
 use Rattle.std.proofs.Common.{Vec, Global}
 use Rattle.crew_session.specs.declared.done.SessionDone.{SessionDone}
 use Rattle.run_files.specs.Outside.{of_place}
-use Rattle.run_report.specs.declared.counts.ScriptCounts.{ScriptCounts}
+use Rattle.run_files.specs.declared.counts.ScriptCounts.{ScriptCounts}
 use Rattle.run_stages.proofs.Returned.{counted_more, returned_more}
 use Rattle.run_stages.specs.Counted.{script_counts}
 use Rattle.run_stages.proofs.returning.+give_back_scripts.Goals as goal

@@ -1,8 +1,8 @@
 use Rattle.std.proofs.Common.{ℕ, List, ◌++◌, ap, ◌∙◌, string_bytes, arith, get_or, None}
-use Rattle.run_report.proofs.Pairs.{all_pairs, more_pairs_at}
-use Rattle.run_report.specs.Lines.{script_lines}
-use Rattle.run_report.specs.declared.counts.ScriptCounts.{ScriptCounts}
-use Rattle.run_report.proofs.lines.push_scripts.Goals as goal
+use Rattle.run_files.proofs.Pairs.{all_pairs, more_pairs_at}
+use Rattle.run_files.specs.Lines.{script_lines}
+use Rattle.run_files.specs.declared.counts.ScriptCounts.{ScriptCounts}
+use Rattle.run_files.proofs.lines.push_scripts.Goals as goal
 
 -- what is read past the last script
 abbrev none : ScriptCounts

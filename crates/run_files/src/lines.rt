@@ -1,8 +1,8 @@
 //! The lines of feeds and scripts.
 ghost use Rattle.std.specs.Prelude.{◌≡◌, ◌++◌, string_bytes, OnOk};
 ghost use Rattle.std.specs.List.{flat_map};
-ghost use Rattle.run_report.specs.Lines.{blank_and_refused, counts_line, feed_lines, feed_stop, refusal_line, replies_line, script_lines, script_stop};
-ghost use Rattle.run_report.specs.Reports.{feeds_text, scripts_text};
+ghost use Rattle.run_files.specs.Lines.{blank_and_refused, counts_line, feed_lines, feed_stop, refusal_line, replies_line, script_lines, script_stop};
+ghost use Rattle.run_files.specs.Reports.{feeds_text, scripts_text};
 
 use crate::ScriptCounts;
 use crate::faults::{cut_fault_name, push_row_fault, session_fault_name};

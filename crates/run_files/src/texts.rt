@@ -1,6 +1,6 @@
 //! Texts that are appended to others.
 ghost use Rattle.std.specs.Prelude.{◌≡◌, ◌++◌, string_bytes, OnOk};
-ghost use Rattle.run_report.specs.Faults.{json_text};
+ghost use Rattle.run_files.specs.Faults.{json_text};
 
 use serde_json::Value;
 use std::alloc::{AllocError, Global};

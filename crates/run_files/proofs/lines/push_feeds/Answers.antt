@@ -1,8 +1,8 @@
 use Rattle.std.proofs.Common.{ℕ, List, ◌++◌, ap, ◌∙◌, string_bytes, arith}
 use Rattle.feed_reader.specs.declared.counts.FeedCounts.{FeedCounts}
-use Rattle.run_report.proofs.Pairs.{all_pairs, more_pairs}
-use Rattle.run_report.specs.Lines.{feed_lines}
-use Rattle.run_report.proofs.lines.push_feeds.Goals as goal
+use Rattle.run_files.proofs.Pairs.{all_pairs, more_pairs}
+use Rattle.run_files.specs.Lines.{feed_lines}
+use Rattle.run_files.proofs.lines.push_feeds.Goals as goal
 
 pub loop-place-preserved : goal.loop-place-preserved
 loop-place-preserved c =

@@ -15,7 +15,7 @@ use Rattle.serde_json.specs.Data.{string}
 use Rattle.serde_json.specs.Written.{compact_text}
 use Rattle.session_core.specs.declared.fault.SessionFault.{SessionFault}
 use Rattle.session_core.specs.declared.fault.SessionFault.TheVariants as session
-use Rattle.run_report.specs.Names.{column_name, name_of}
+use Rattle.run_files.specs.Names.{column_name, name_of}
 
 -- a name, and a text in brackets
 abbrev pub with_brackets : List ℕ → List ℕ → List ℕ

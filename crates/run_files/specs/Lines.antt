@@ -10,8 +10,8 @@ use Rattle.feed_reader.specs.declared.header.HeadFault.{HeadFault}
 use Rattle.feed_reader.specs.declared.refusal.Refusal.{Refusal}
 use Rattle.outer_io.specs.declared.cutter.CutFault.{CutFault}
 use Rattle.session_core.specs.declared.fault.SessionFault.{SessionFault}
-use Rattle.run_report.specs.Faults.{cut_fault_text, head_fault_text, plan_fault_text, row_fault_text, session_fault_text}
-use Rattle.run_report.specs.declared.counts.ScriptCounts.{ScriptCounts}
+use Rattle.run_files.specs.Faults.{cut_fault_text, head_fault_text, plan_fault_text, row_fault_text, session_fault_text}
+use Rattle.run_files.specs.declared.counts.ScriptCounts.{ScriptCounts}
 
 -- `plan: FAULT`
 unfoldable pub plan_line : PlanFault → List ℕ

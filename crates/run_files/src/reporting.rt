@@ -1,7 +1,7 @@
 //! The report of a run, and the lines of a run that is refused.
 ghost use Rattle.std.specs.Prelude.{◌≡◌, ◌++◌, string_bytes, IfOk, OnOk};
-ghost use Rattle.run_report.specs.Lines.{closed_line, head_line, journal_line, plan_line};
-ghost use Rattle.run_report.specs.Reports.{counts_text, feeds_text};
+ghost use Rattle.run_files.specs.Lines.{closed_line, head_line, journal_line, plan_line};
+ghost use Rattle.run_files.specs.Reports.{counts_text, feeds_text};
 
 use crate::ScriptCounts;
 use crate::faults::{push_head_fault, push_plan_fault};

@@ -1,8 +1,8 @@
 //! Faults, printed.
 ghost use Rattle.std.specs.Prelude.{◌≡◌, ◌++◌, string_bytes, OnOk};
 ghost use Rattle.std.specs.List.{slice_get};
-ghost use Rattle.run_report.specs.Faults.{cut_fault_text, head_fault_text, plan_fault_text, row_fault_text, session_fault_text, with_brackets, json_text};
-ghost use Rattle.run_report.specs.Names.{column_name, name_of};
+ghost use Rattle.run_files.specs.Faults.{cut_fault_text, head_fault_text, plan_fault_text, row_fault_text, session_fault_text, with_brackets, json_text};
+ghost use Rattle.run_files.specs.Names.{column_name, name_of};
 
 use crate::texts::push_json;
 use cube_schema::PlanFault;

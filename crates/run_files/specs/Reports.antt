@@ -5,8 +5,8 @@ use Rattle.cube_schema.specs.declared.plan.Plan.{Plan}
 use Rattle.cube_view.specs.declared.schema.Schema.{Schema}
 use Rattle.feed_reader.specs.RowCounts.{FeedRows, counts_of_rows}
 use Rattle.feed_reader.specs.declared.counts.FeedCounts.{FeedCounts}
-use Rattle.run_report.specs.Lines.{closed_line, feed_lines, journal_line, script_lines}
-use Rattle.run_report.specs.declared.counts.ScriptCounts.{ScriptCounts}
+use Rattle.run_files.specs.Lines.{closed_line, feed_lines, journal_line, script_lines}
+use Rattle.run_files.specs.declared.counts.ScriptCounts.{ScriptCounts}
 
 -- the lines of the feeds of these names, in order, as far as both lists go
 abbrev pub feeds_text : Schema → List (List ℕ) → List FeedCounts → List ℕ

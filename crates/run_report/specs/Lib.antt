@@ -1,4 +1,0 @@
-pub mod Names
-pub mod Faults
-pub mod Lines
-pub mod Reports
