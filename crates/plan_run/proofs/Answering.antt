@@ -22,6 +22,20 @@ use Rattle.outer_io.specs.Cutting.{lines_left}
 use Rattle.outer_io.specs.Files.{Files, file_or_empty}
 use Rattle.outer_io.specs.Lines.{lines}
 use Rattle.outer_io.specs.Progress.{IsTooLarge}
+use Rattle.reply_json.specs.declared.reply.Reply.{Reply}
+use Rattle.run_files.specs.Outside.{SinkSeen, SourceSeen}
+use Rattle.run_files.specs.Stops.{is_lacking}
+use Rattle.run_files.specs.declared.stop.Stop.{Stop}
+use Rattle.run_files.specs.declared.stop.Stop.TheVariants.{NoMemory, PlanRefused}
+use Rattle.session_core.proofs.Transcripts.{transcript_lacking}
+use Rattle.session_core.specs.Asked.{asked}
+use Rattle.session_core.specs.Scripts.{is_script_refused}
+use Rattle.session_core.specs.Transcript.{IsTranscript, replies_text}
+use Rattle.session_core.specs.declared.fault.SessionFault.{SessionFault}
+use Rattle.session_core.specs.declared.fault.SessionFault.TheVariants as fault
+use Rattle.world_core.proofs.Prefixes.{IsPrefix-then}
+use Rattle.world_core.specs.Interleaving.{entry_points}
+use Rattle.world_core.specs.PairFact.{IsPrefix}
 use Rattle.plan_run.proofs.Landing.{LandsAs}
 use Rattle.plan_run.proofs.Ranked.{rank_end, session_lacking, session_read}
 use Rattle.plan_run.proofs.Refused.{large_script}
@@ -29,23 +43,9 @@ use Rattle.plan_run.proofs.Replied.{answered_length}
 use Rattle.plan_run.specs.Completed.{output_of}
 use Rattle.plan_run.specs.Interrupted.{Account, AnswersInFile, StopsScript}
 use Rattle.plan_run.specs.Parts.{ends_seen}
-use Rattle.reply_json.specs.declared.reply.Reply.{Reply}
-use Rattle.run_files.specs.Outside.{SinkSeen, SourceSeen}
-use Rattle.run_files.specs.Stops.{is_lacking}
-use Rattle.run_files.specs.declared.stop.Stop.{Stop}
-use Rattle.run_files.specs.declared.stop.Stop.TheVariants.{NoMemory, PlanRefused}
-use Rattle.run_opening.specs.Ready.{IsSessionOf}
-use Rattle.run_stages.specs.Counted.{script_counts}
-use Rattle.run_stages.specs.Ends.{session_end}
-use Rattle.session_core.proofs.Transcripts.{transcript_lacking}
-use Rattle.session_core.specs.Asked.{asked}
-use Rattle.session_core.specs.Scripts.{is_script_refused}
-use Rattle.session_core.specs.Transcript.{IsTranscript, replies_text}
-use Rattle.session_core.specs.declared.fault.SessionFault.{SessionFault}
-use Rattle.session_core.specs.declared.fault.SessionFault.TheVariants as fault
-use Rattle.world_core.specs.Interleaving.{entry_points}
-use Rattle.world_core.specs.PairFact.{IsPrefix}
-use Rattle.world_core.proofs.Prefixes.{IsPrefix-then}
+use Rattle.plan_run.specs.Ready.{IsSessionOf}
+use Rattle.plan_run.specs.Counted.{script_counts}
+use Rattle.plan_run.specs.ThreadEnds.{session_end}
 
 abbrev Ending : Type 0
 Ending = Result (Unit {0}) SessionFault

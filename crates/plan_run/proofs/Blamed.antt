@@ -7,15 +7,15 @@ use Rattle.outer_io.specs.declared.cutter.CutFault.{CutFault}
 use Rattle.outer_io.specs.declared.cutter.CutFault.TheVariants as cut
 use Rattle.outer_io.specs.declared.fault.IoFault.{IoFault}
 use Rattle.outer_io.specs.declared.fault.IoFault.TheVariants as io
-use Rattle.plan_run.proofs.Joined.{End, ended}
 use Rattle.run_files.proofs.Counts.{faulty-cons}
 use Rattle.run_files.specs.GivingBack.{faulty}
 use Rattle.run_files.specs.Stops.{joined_ends, rank_of, write_end}
 use Rattle.run_files.specs.declared.stop.Stop.{Stop}
 use Rattle.run_files.specs.declared.stop.Stop.TheVariants.{PlanRefused, ReadFault, WriteFault}
-use Rattle.run_stages.specs.Ends.{all_ends, feed_end, session_end}
 use Rattle.session_core.specs.declared.fault.SessionFault.{SessionFault}
 use Rattle.session_core.specs.declared.fault.SessionFault.TheVariants as fault
+use Rattle.plan_run.proofs.Joined.{End, ended}
+use Rattle.plan_run.specs.ThreadEnds.{all_ends, feed_end, session_end}
 
 -- it holds of some item
 abbrev pub AnyOf : {A : Type 0} → (A → Type 0) → List A → Type 0

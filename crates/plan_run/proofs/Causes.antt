@@ -22,11 +22,11 @@ use Rattle.outer_io.specs.declared.cutter.CutFault.{CutFault}
 use Rattle.outer_io.specs.declared.cutter.CutFault.TheVariants as cut
 use Rattle.run_files.specs.Outside.{at, parts_seen, PlaceSeen, SinkSeen, SourceSeen}
 use Rattle.run_files.specs.declared.stop.Stop.{Stop}
-use Rattle.run_opening.specs.Ready.{IsSessionOf}
-use Rattle.run_stages.specs.Closing.{ClosesRun}
-use Rattle.run_stages.specs.declared.done.RunDone.{RunDone}
 use Rattle.session_core.specs.declared.fault.SessionFault.{SessionFault}
 use Rattle.session_core.specs.declared.fault.SessionFault.TheVariants as fault
+use Rattle.plan_run.specs.Ready.{IsSessionOf}
+use Rattle.plan_run.specs.Closing.{ClosesRun}
+use Rattle.plan_run.specs.declared.done.RunDone.{RunDone}
 use Rattle.plan_run.specs.Parts.{ends_seen}
 
 -- A feed's source met faults exactly where reading ended the feed

@@ -27,8 +27,8 @@ use Rattle.plan_run.specs.Completed.{HasTranscript, output_of, reply_counts, who
 use Rattle.plan_run.specs.Parts.{ends_seen}
 use Rattle.reply_json.specs.declared.reply.Reply.{Reply}
 use Rattle.run_files.specs.Outside.{SinkSeen, SourceSeen}
-use Rattle.run_opening.specs.Ready.{IsJobOf, IsSessionOf}
-use Rattle.run_stages.specs.Counted.{script_counts}
+use Rattle.plan_run.specs.Ready.{IsJobOf, IsSessionOf}
+use Rattle.plan_run.specs.Counted.{script_counts}
 use Rattle.session_core.specs.Scripts.{is_script_refused}
 use Rattle.session_core.specs.Transcript.{replies_text}
 

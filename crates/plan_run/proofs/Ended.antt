@@ -34,14 +34,14 @@ use Rattle.run_files.specs.Saying.{SaysText}
 use Rattle.run_files.specs.Stops.{write_end}
 use Rattle.run_files.specs.declared.stop.Stop.{Stop}
 use Rattle.run_files.specs.declared.stop.Stop.TheVariants.{NoMemory, PlanRefused, ReadFault, WriteFault, FeedRefused}
-use Rattle.run_opening.specs.Opening.{AreReady, OpensRun, inputs_of, outputs_of}
-use Rattle.run_opening.specs.Ready.{IsJobOf, IsSessionOf}
-use Rattle.run_opening.specs.declared.parts.RunParts.{RunParts}
-use Rattle.run_stages.specs.Closing.{ClosesRun, run_text, threads_end}
-use Rattle.run_stages.specs.Ends.{feed_end, feeds_end, session_end, sessions_end, starved_end}
-use Rattle.run_stages.specs.declared.done.RunDone.{RunDone}
 use Rattle.session_core.proofs.WholeScripts.{told_by}
 use Rattle.session_core.specs.Scripts.{is_script_refused}
+use Rattle.plan_run.specs.Opening.{AreReady, OpensRun, inputs_of, outputs_of}
+use Rattle.plan_run.specs.Ready.{IsJobOf, IsSessionOf}
+use Rattle.plan_run.specs.declared.parts.RunParts.{RunParts}
+use Rattle.plan_run.specs.Closing.{ClosesRun, run_text, threads_end}
+use Rattle.plan_run.specs.ThreadEnds.{feed_end, feeds_end, session_end, sessions_end, starved_end}
+use Rattle.plan_run.specs.declared.done.RunDone.{RunDone}
 use Rattle.plan_run.proofs.Causes.{FeedCause, RunCause, SessionCause, feed_causes, session_causes}
 use Rattle.plan_run.proofs.Joined.{End, ended}
 use Rattle.plan_run.proofs.Landed.{some_is, told_pair}

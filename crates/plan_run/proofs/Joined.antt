@@ -7,8 +7,8 @@ use Rattle.outer_io.specs.declared.fault.IoFault.{IoFault}
 use Rattle.outer_io.specs.declared.fault.IoFault.TheVariants as io
 use Rattle.run_files.specs.Stops.{joined_ends, write_end}
 use Rattle.run_files.specs.declared.stop.Stop.{Stop}
-use Rattle.run_stages.specs.Ends.{all_ends, feed_end, session_end, starved_end}
 use Rattle.session_core.specs.declared.fault.SessionFault.{SessionFault}
+use Rattle.plan_run.specs.ThreadEnds.{all_ends, feed_end, session_end, starved_end}
 
 abbrev pub End : Type 0
 End = Result (Unit {0}) Stop

@@ -1,4 +1,11 @@
-mod Returned
+pub mod Returned
+mod Closed
+mod JournalPuts
+mod Seats
+mod Readiness
+mod Putting
+mod Stages
+mod SourcesBack
 mod Zips
 mod Fed
 mod Replied

@@ -9,12 +9,12 @@ use Rattle.cube_view.specs.declared.schema.Schema.{Schema}
 use Rattle.cube_view.specs.declared.stat.Stat.{Stat}
 use Rattle.live_session.specs.State.{SessionState}
 use Rattle.outer_io.specs.Files.{Files}
-use Rattle.plan_run.specs.Ends.{LeavesNames}
-use Rattle.plan_run.specs.Parts.{ends_seen}
 use Rattle.run_files.specs.Leaving.{KeepsOthers, LeavesPlace}
 use Rattle.run_files.specs.Outside.{PlaceSeen, SinkSeen, SourceSeen}
 use Rattle.run_files.specs.declared.stop.Stop.{Stop}
-use Rattle.run_opening.specs.Ready.{IsSessionOf}
+use Rattle.plan_run.specs.Ends.{LeavesNames}
+use Rattle.plan_run.specs.Parts.{ends_seen}
+use Rattle.plan_run.specs.Ready.{IsSessionOf}
 
 -- what keeps the others of these names twice keeps them
 pub KeepsOthers-twice : (before now after : Option Files) (names : List (List ℕ)) → KeepsOthers before now names → KeepsOthers now after names → KeepsOthers before after names

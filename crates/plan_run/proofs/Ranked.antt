@@ -5,14 +5,14 @@ use Rattle.std.proofs.lemmas.Bool.{ltb-false, ltb-true}
 use Rattle.std.proofs.lemmas.List.Elements.{All-cons, All-nil, All-weaker}
 use Rattle.outer_io.specs.declared.cutter.CutFault.{CutFault}
 use Rattle.outer_io.specs.declared.cutter.CutFault.TheVariants as cut
-use Rattle.plan_run.proofs.Joined.{End}
-use Rattle.plan_run.specs.Interrupted.{IsReadOrLacking}
 use Rattle.run_files.specs.Stops.{joined_ends, rank_of}
 use Rattle.run_files.specs.declared.stop.Stop.{Stop}
 use Rattle.run_files.specs.declared.stop.Stop.TheVariants.{NoMemory, PlanRefused, ReadFault, WriteFault, FeedRefused}
-use Rattle.run_stages.specs.Ends.{all_ends, feed_end, session_end}
 use Rattle.session_core.specs.declared.fault.SessionFault.{SessionFault}
 use Rattle.session_core.specs.declared.fault.SessionFault.TheVariants as fault
+use Rattle.plan_run.proofs.Joined.{End}
+use Rattle.plan_run.specs.Interrupted.{IsReadOrLacking}
+use Rattle.plan_run.specs.ThreadEnds.{all_ends, feed_end, session_end}
 
 -- the place of an end in that order, where no cause comes last
 abbrev pub rank_end : End → ℕ

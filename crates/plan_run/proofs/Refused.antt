@@ -25,11 +25,11 @@ use Rattle.outer_io.specs.declared.fault.IoFault.TheVariants as io
 use Rattle.run_files.specs.Outside.{SinkSeen, SourceSeen}
 use Rattle.run_files.specs.Stops.{write_end}
 use Rattle.run_files.specs.declared.stop.Stop.TheVariants.{FeedRefused}
-use Rattle.run_opening.specs.Ready.{IsJobOf, IsSessionOf}
-use Rattle.run_stages.specs.Ends.{feed_end, session_end}
 use Rattle.session_core.specs.Scripts.{is_script_refused}
 use Rattle.session_core.specs.declared.fault.SessionFault.{SessionFault}
 use Rattle.session_core.specs.declared.fault.SessionFault.TheVariants as fault
+use Rattle.plan_run.specs.Ready.{IsJobOf, IsSessionOf}
+use Rattle.plan_run.specs.ThreadEnds.{feed_end, session_end}
 use Rattle.plan_run.proofs.Blamed.{AnyOf}
 use Rattle.plan_run.proofs.Causes.{ended_by}
 use Rattle.plan_run.specs.Parts.{ends_seen}

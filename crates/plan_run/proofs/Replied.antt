@@ -1,5 +1,5 @@
 -- What a session of a run leaves that ended without a fault, where nothing lacked memory.
-use Rattle.std.proofs.Common.{◌≡◌, ◌+◌, ℕ, suc, Bool, true, false, List, [], ◌∷◌, ◌++◌, length, length-append, append-nil, Option, Some, None, Result, Ok, Err, OnOk, refl, sym, ap, subst, ◌∙◌, arith, zero-add}
+use Rattle.std.proofs.Common.{◌≡◌, ◌+◌, ℕ, suc, Bool, true, false, List, [], ◌∷◌, ◌++◌, length, length-append, append-nil, Some, None, Result, Ok, Err, OnOk, refl, sym, ap, subst, ◌∙◌, arith, zero-add}
 use Rattle.crew_session.specs.Work.{HadNoTurn, ending_fault, last_number}
 use Rattle.crew_session.specs.declared.done.SessionDone.{SessionDone}
 use Rattle.cube_crew.specs.Crewed.{LeavesTranscript, closing}
@@ -7,8 +7,8 @@ use Rattle.cube_view.specs.Points.{Point}
 use Rattle.cube_view.specs.declared.schema.Schema.{Schema}
 use Rattle.cube_view.specs.declared.stat.Stat.{Stat}
 use Rattle.feed_reader.proofs.FeedStart.{new_lines}
-use Rattle.live_session.specs.SoFar.{AnswersAll, AsksFirst, HasAnswered, HasDone, moment}
 use Rattle.live_session.specs.News.{News}
+use Rattle.live_session.specs.SoFar.{AnswersAll, AsksFirst, HasAnswered, HasDone, moment}
 use Rattle.live_session.specs.State.{SessionState}
 use Rattle.live_session.specs.Turned.{seens_of}
 use Rattle.outer_io.proofs.ToldLaws.{Told-some}
@@ -16,17 +16,17 @@ use Rattle.outer_io.specs.Bytes.{Gains}
 use Rattle.outer_io.specs.Cutting.{lines_left}
 use Rattle.outer_io.specs.Files.{Files}
 use Rattle.outer_io.specs.Lines.{lines}
-use Rattle.plan_run.specs.Completed.{reply_counts}
-use Rattle.plan_run.specs.Parts.{ends_seen}
 use Rattle.query_syntax.specs.declared.query.Parsed.{Parsed}
 use Rattle.reply_json.specs.declared.reply.Reply.{Reply}
 use Rattle.run_files.specs.Outside.{SinkSeen, SourceSeen}
 use Rattle.run_files.specs.Scripted.{IsOutput, IsScript}
-use Rattle.run_stages.specs.Counted.{script_counts}
 use Rattle.session_core.specs.Asked.{asked}
 use Rattle.session_core.specs.Scripts.{is_script_refused}
 use Rattle.session_core.specs.Transcript.{AllAnswered, IsTranscript, replies_text}
 use Rattle.session_core.specs.declared.fault.SessionFault.{SessionFault}
+use Rattle.plan_run.specs.Completed.{reply_counts}
+use Rattle.plan_run.specs.Parts.{ends_seen}
+use Rattle.plan_run.specs.Counted.{script_counts}
 
 -- as many replies answer as were asked for
 pub answered_length : (schema : Schema) (is_stat : Stat → Type 0) (final : Bool) (l : List Point) (u : ℕ) (lacks : Bool) (ps : List Parsed) (replies : List Reply) → AllAnswered schema is_stat final l u lacks ps replies → length replies ≡ length ps

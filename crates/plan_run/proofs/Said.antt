@@ -1,22 +1,20 @@
 -- What opening a run leaves, by the end that it comes to.
-use Rattle.std.proofs.Common.{◌≡◌, ◌≢◌, ◌⊎◌, inl, inr, ℕ, List, [], ◌∷◌, ◌++◌, All, Option, Some, None, Result, Ok, Err, refl, sym, ap, subst}
+use Rattle.std.proofs.Common.{◌≡◌, ◌≢◌, ◌⊎◌, inl, inr, ℕ, List, [], ◌∷◌, ◌++◌, All, Option, Some, None, Err, refl, sym, ap, subst}
 use Rattle.std.specs.Prelude.{Contains, IfSome}
 use Rattle.std.proofs.lemmas.List.Elements.{Contains-append_left, Contains-push}
 use Rattle.cube_schema.specs.declared.plan.Plan.{Plan}
 use Rattle.feed_reader.proofs.FeedLaws.{headless_refused}
 use Rattle.feed_reader.specs.Feeds.{feed_head}
 use Rattle.feed_reader.specs.declared.header.HeadFault.{HeadFault}
-use Rattle.outer_io.proofs.ToldLaws.{Told-some}
 use Rattle.outer_io.specs.Faults.{Rose}
 use Rattle.outer_io.specs.Files.{Files, file_or_empty}
 use Rattle.outer_io.specs.Told.{Told}
-use Rattle.plan_run.specs.Ends.{HasRefusedInput}
 use Rattle.run_files.specs.Headed.{HasHeader}
 use Rattle.run_files.specs.Outside.{at, file_of, PlaceSeen, SinkSeen}
 use Rattle.run_files.specs.declared.stop.Stop.{Stop}
 use Rattle.run_files.specs.declared.stop.Stop.TheVariants.{NoMemory, PlanRefused, ReadFault, WriteFault, FeedRefused}
-use Rattle.run_opening.specs.Opening.{OpensInOrder, outputs_of}
-use Rattle.session_core.proofs.WholeScripts.{told_by}
+use Rattle.plan_run.specs.Ends.{HasRefusedInput}
+use Rattle.plan_run.specs.Opening.{OpensInOrder, outputs_of}
 
 module _ {P T : Type 0} (p : PlaceSeen P) (t : SinkSeen T) (place mid : P) (out out1 : T) (name : List ℕ) where
   abbrev pub Unplanned : Stop → Type 0

@@ -13,11 +13,11 @@ use Rattle.run_files.specs.Outside.{PlaceSeen, Puts, SinkSeen, SourceSeen}
 use Rattle.run_files.specs.Stops.{write_end}
 use Rattle.run_files.specs.declared.stop.Stop.{Stop}
 use Rattle.run_files.specs.declared.stop.Stop.TheVariants.{NoMemory, PlanRefused, ReadFault, WriteFault, FeedRefused}
-use Rattle.run_stages.specs.Closing.{run_text, threads_end}
-use Rattle.run_stages.specs.Ends.{feed_end, feeds_end, session_end, sessions_end, starved_end}
-use Rattle.run_stages.specs.declared.done.RunDone.{RunDone}
 use Rattle.session_core.specs.declared.fault.SessionFault.{SessionFault}
 use Rattle.session_core.specs.declared.fault.SessionFault.TheVariants as fault
+use Rattle.plan_run.specs.Closing.{run_text, threads_end}
+use Rattle.plan_run.specs.ThreadEnds.{feed_end, feeds_end, session_end, sessions_end, starved_end}
+use Rattle.plan_run.specs.declared.done.RunDone.{RunDone}
 use Rattle.plan_run.proofs.Causes.{RunCause, SessionCause, feed_count, session_count, sink_of}
 use Rattle.plan_run.proofs.Joined.{All-unmapped, End, written_well}
 use Rattle.plan_run.proofs.Ranked.{ComesFirst, rank_end, within}

@@ -23,9 +23,9 @@ use Rattle.outer_io.specs.declared.cutter.CutFault.{CutFault}
 use Rattle.outer_io.specs.declared.cutter.CutFault.TheVariants as cut
 use Rattle.run_files.specs.declared.stop.Stop.{Stop}
 use Rattle.run_files.specs.declared.stop.Stop.TheVariants.{PlanRefused}
-use Rattle.run_opening.specs.Ready.{IsJobOf}
-use Rattle.run_stages.specs.Ends.{feed_end}
 use Rattle.world_core.specs.PairFact.{IsPrefix}
+use Rattle.plan_run.specs.Ready.{IsJobOf}
+use Rattle.plan_run.specs.ThreadEnds.{feed_end}
 use Rattle.plan_run.proofs.Landed.{told_pair}
 use Rattle.plan_run.proofs.Ranked.{feed_lacking, feed_read, rank_end}
 use Rattle.plan_run.specs.Interrupted.{ReportsFeed}

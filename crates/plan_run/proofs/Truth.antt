@@ -40,17 +40,17 @@ use Rattle.run_files.specs.Stops.{joined_ends, write_end}
 use Rattle.run_files.specs.declared.counts.ScriptCounts.{ScriptCounts}
 use Rattle.run_files.specs.declared.stop.Stop.{Stop}
 use Rattle.run_files.specs.declared.stop.Stop.TheVariants.{NoMemory, PlanRefused, ReadFault, WriteFault, FeedRefused}
-use Rattle.run_opening.specs.Opening.{AreReady}
-use Rattle.run_opening.specs.Ready.{IsJobOf, IsSessionOf}
-use Rattle.run_opening.specs.declared.parts.RunParts.{RunParts}
-use Rattle.run_stages.specs.Closing.{ClosesRun, run_text, threads_end}
-use Rattle.run_stages.specs.Counted.{script_counts}
-use Rattle.run_stages.specs.Ends.{feed_end, feeds_end, session_end, sessions_end, starved_end}
-use Rattle.run_stages.specs.declared.done.RunDone.{RunDone}
 use Rattle.session_core.specs.declared.fault.SessionFault.TheVariants as fault
 use Rattle.world_core.specs.Interleaving.{IsInterleaving, list_of}
 use Rattle.world_core.specs.PairFact.{IsPrefix}
 use Rattle.world_core.specs.declared.entry.Entry.{Entry}
+use Rattle.plan_run.specs.Opening.{AreReady}
+use Rattle.plan_run.specs.Ready.{IsJobOf, IsSessionOf}
+use Rattle.plan_run.specs.declared.parts.RunParts.{RunParts}
+use Rattle.plan_run.specs.Closing.{ClosesRun, run_text, threads_end}
+use Rattle.plan_run.specs.Counted.{script_counts}
+use Rattle.plan_run.specs.ThreadEnds.{feed_end, feeds_end, session_end, sessions_end, starved_end}
+use Rattle.plan_run.specs.declared.done.RunDone.{RunDone}
 use Rattle.plan_run.proofs.Answering.{HasRun, answers_script, stops_script}
 use Rattle.plan_run.proofs.Causes.{FeedCause, SessionCause}
 use Rattle.plan_run.proofs.Counting.{count-map, unread_feeds, unread_scripts}

@@ -1,34 +1,26 @@
 -- What a run leaves that ended before its threads.
-use Rattle.std.proofs.Common.{◌≡◌, ℕ, List, [], ◌∷◌, ◌++◌, All, length, map, Option, Some, None, ap, arith, sym, subst, ◌∙◌}
+use Rattle.std.proofs.Common.{◌≡◌, ℕ, List, [], ◌∷◌, ◌++◌, All, map, Option, Some, None, sym, subst, ◌∙◌}
 use Rattle.std.specs.Prelude.{Contains, IsSome, IsSomeAnd, ◌⊎◌}
 use Rattle.std.specs.FinMap.{get}
 use Rattle.std.specs.List.{AllZip}
 use Rattle.std.proofs.lemmas.Bool.{false≢true}
-use Rattle.std.proofs.lemmas.List.{length-append}
 use Rattle.std.proofs.lemmas.List.Elements.{All-append, All-map, All-weaker}
 use Rattle.cube_crew.proofs.Zips.{AllZip-right}
-use Rattle.cube_schema.specs.Files.{output_names}
-use Rattle.cube_schema.specs.Repeats.{outputs}
 use Rattle.cube_schema.specs.declared.plan.Plan.{Plan}
 use Rattle.live_session.specs.State.{SessionState}
 use Rattle.outer_io.proofs.ToldLaws.{Told-some}
-use Rattle.outer_io.specs.Faults.{Rose}
 use Rattle.outer_io.specs.Files.{Files, HasFile}
 use Rattle.outer_io.specs.Told.{Told}
-use Rattle.plan_run.proofs.Landed.{some_is, told_pair}
-use Rattle.plan_run.specs.Ends.{EndsBeforeThreads}
-use Rattle.plan_run.specs.Parts.{GivesBack}
 use Rattle.run_files.proofs.Emptied.{empty_given, told_still}
 use Rattle.run_files.proofs.Stages.{KeepsOthers-one}
-use Rattle.run_files.specs.Headed.{RefusesLast}
-use Rattle.run_files.specs.Leaving.{KeepsOthers, LeavesPlace}
-use Rattle.run_files.specs.Outside.{file_of, parts_seen, PlaceSeen, Puts, Silent, SinkSeen, SourceSeen}
-use Rattle.run_files.specs.declared.stop.Stop.{Stop}
-use Rattle.run_files.specs.declared.stop.Stop.TheVariants.{ReadFault}
-use Rattle.run_opening.specs.Opening.{AreReady}
-use Rattle.run_opening.specs.Ready.{IsSessionOf}
-use Rattle.run_opening.specs.declared.parts.RunParts.{RunParts}
+use Rattle.run_files.specs.Leaving.{KeepsOthers}
+use Rattle.run_files.specs.Outside.{parts_seen, PlaceSeen, SinkSeen, SourceSeen}
 use Rattle.session_core.proofs.WholeScripts.{told_by}
+use Rattle.plan_run.proofs.Landed.{some_is, told_pair}
+use Rattle.plan_run.specs.Parts.{GivesBack}
+use Rattle.plan_run.specs.Opening.{AreReady}
+use Rattle.plan_run.specs.Ready.{IsSessionOf}
+use Rattle.plan_run.specs.declared.parts.RunParts.{RunParts}
 
 -- what is claimed where files are told holds where they are
 of_told : (files : Option Files) (A : Type 0) → IsSome files → Told files (λ _. A) → A

@@ -38,15 +38,15 @@ use Rattle.run_files.specs.GivingBack.{Lands, TakesSinks}
 use Rattle.run_files.specs.Outside.{at, parts_seen, PlaceSeen, Puts as Said, SinkSeen, SourceSeen}
 use Rattle.run_files.specs.Stops.{write_end}
 use Rattle.run_files.specs.declared.stop.Stop.{Stop}
-use Rattle.run_opening.specs.Opening.{AreReady}
-use Rattle.run_opening.specs.Ready.{IsJobOf}
-use Rattle.run_opening.specs.declared.parts.RunParts.{RunParts}
+use Rattle.plan_run.specs.Opening.{AreReady}
+use Rattle.plan_run.specs.Ready.{IsJobOf}
+use Rattle.plan_run.specs.declared.parts.RunParts.{RunParts}
 use Rattle.run_files.specs.Reports.{counts_text}
 use Rattle.feed_reader.specs.declared.counts.FeedCounts.{FeedCounts}
 use Rattle.run_files.specs.declared.counts.ScriptCounts.{ScriptCounts}
-use Rattle.run_stages.specs.Closing.{ClosesRun, threads_end}
-use Rattle.run_stages.specs.Counted.{script_counts}
-use Rattle.run_stages.specs.Ends.{feed_end, feeds_end, session_end, sessions_end, starved_end}
+use Rattle.plan_run.specs.Closing.{ClosesRun, threads_end}
+use Rattle.plan_run.specs.Counted.{script_counts}
+use Rattle.plan_run.specs.ThreadEnds.{feed_end, feeds_end, session_end, sessions_end, starved_end}
 use Rattle.session_core.specs.Scripts.{is_script_refused}
 use Rattle.session_core.specs.declared.fault.SessionFault.TheVariants as fault
 use Rattle.world_core.specs.Interleaving.{IsInterleaving, entry_points, list_of}

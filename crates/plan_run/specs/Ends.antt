@@ -1,5 +1,5 @@
 -- How a run of a plan ends, and what it leaves of a place and of the sink of its report: a record for each stage to which it came.
-use Rattle.std.specs.Prelude.{◌≡◌, ◌≢◌, ◌⊎◌, ℕ, true, List, [], ◌∷◌, ◌++◌, Contains, Option, Some, IsSomeAnd, Result, Ok, Err, All}
+use Rattle.std.specs.Prelude.{◌≡◌, ◌≢◌, ◌⊎◌, ℕ, true, List, [], ◌∷◌, ◌++◌, Contains, Some, IsSomeAnd, Result, Ok, Err, All}
 use Rattle.std.specs.FinMap.{get}
 use Rattle.cube_schema.specs.Files.{input_names, output_names}
 use Rattle.cube_schema.specs.declared.plan.Plan.{Plan}
@@ -7,8 +7,6 @@ use Rattle.feed_reader.specs.Feeds.{is_feed_refused}
 use Rattle.outer_io.specs.Faults.{Rose, RoseBy}
 use Rattle.outer_io.specs.Files.{Files, file_or_empty}
 use Rattle.outer_io.specs.Told.{Told}
-use Rattle.plan_run.specs.Completed.{IsCompleted}
-use Rattle.plan_run.specs.Interrupted.{Account, BeginsFiles, HoldsFiles, account_text, read_stops}
 use Rattle.run_files.specs.Counts.{CountsAt}
 use Rattle.run_files.specs.Headed.{HasHeader}
 use Rattle.run_files.specs.Leaving.{FailsAtLast, KeepsOthers}
@@ -16,8 +14,10 @@ use Rattle.run_files.specs.Outside.{file_of, Outside, PlaceSeen, PutsOrFails, Si
 use Rattle.run_files.specs.Planned.{IsPlanOf, RefusesPlan}
 use Rattle.run_files.specs.declared.stop.Stop.{Stop}
 use Rattle.run_files.specs.declared.stop.Stop.TheVariants.{NoMemory, PlanRefused, ReadFault, WriteFault, FeedRefused}
-use Rattle.run_opening.specs.Opening.{OpensInOrder}
 use Rattle.session_core.specs.Scripts.{is_script_refused}
+use Rattle.plan_run.specs.Completed.{IsCompleted}
+use Rattle.plan_run.specs.Interrupted.{Account, BeginsFiles, HoldsFiles, account_text, read_stops}
+use Rattle.plan_run.specs.Opening.{OpensInOrder}
 
 -- What a run leaves of the names and the files of a place, which is to open and then to create these names
 pub record LeavesNames {P : Type 0} (p : PlaceSeen P) (before after : P) (inputs outputs : List (List ℕ)) : Type 0 where

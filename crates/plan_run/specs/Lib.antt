@@ -1,3 +1,10 @@
+pub mod Journals
+pub mod Counted
+pub mod ThreadEnds
+pub mod Closing
+pub mod Seated
+pub mod Ready
+pub mod Opening
 pub mod Completed
 pub mod Ends
 pub mod Interrupted

@@ -12,9 +12,9 @@ use Rattle.run_files.specs.GivingBack.{TakesSinks, TakesSources}
 use Rattle.run_files.specs.Outside.{Outside, PartsSeen, SinkSeen, SourceSeen}
 use Rattle.run_files.specs.declared.stop.Stop.{Stop}
 use Rattle.run_files.specs.declared.stop.Stop.TheVariants.{NoMemory}
-use Rattle.run_opening.specs.declared.parts.RunParts.{RunParts}
-use Rattle.run_stages.specs.Closing.{ClosesRun, ReturnsSink}
-use Rattle.run_stages.specs.declared.done.RunDone.{RunDone}
+use Rattle.plan_run.specs.declared.parts.RunParts.{RunParts}
+use Rattle.plan_run.specs.Closing.{ClosesRun, ReturnsSink}
+use Rattle.plan_run.specs.declared.done.RunDone.{RunDone}
 
 -- what contracts see of sources and sinks, as the ends of sessions
 abbrev pub ends_seen : {I O : Type 0} → SourceSeen I → SinkSeen O → SessionEnds I O

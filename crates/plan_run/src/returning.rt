@@ -1,61 +1,69 @@
-//! The parts of a run that could not begin, given back as they were.
-ghost use Rattle.std.specs.Prelude.{◌≡◌, ◌+◌, ◌≤◌, ◌++◌, [], map, length, vec_len, vec_capacity};
+//! The sources of feeds and scripts given back, with what was counted of them.
+ghost use Rattle.std.specs.Prelude.{◌≡◌, ◌+◌, ◌≤◌, ◌++◌, map, IfOk, vec_len, vec_capacity};
+ghost use Rattle.crew_feeder.specs.Leaving.{feed_counts};
 ghost use Rattle.run_files.specs.GivingBack.{TakesSources};
-ghost use Rattle.run_files.specs.Outside.{of_parts, of_place, of_sink};
-ghost use Rattle.run_stages.specs.Closing.{ReturnsSink};
-ghost use Rattle.plan_run.specs.Parts.{GivesBack};
+ghost use Rattle.run_files.specs.Outside.{of_place};
+ghost use Rattle.plan_run.specs.Counted.{script_counts};
 
-use live_session::Session;
-use outer_io::{IoFault, Place};
-use run_files::{give_back_feeds, give_back_sinks};
-use run_opening::RunParts;
+use crate::counts::with_one_more;
+use crew_feeder::FeedDone;
+use crew_session::SessionDone;
+use feed_reader::FeedCounts;
+use outer_io::{NoMemory, Place};
+use run_files::ScriptCounts;
+use std::alloc::Global;
 
-/// Gives the scripts of sessions back, and puts their sinks into a list that has room for them.
-fn give_back_sessions<P: Place>(
+/// Gives the sources of feeds back, in order, and says what was counted of them, where there is memory for it.
+pub(crate) fn give_back_fed<P: Place>(
+    alloc: Global,
     place: &mut P,
-    mut sessions: Vec<Session<P::In, P::Out>>,
+    mut feeds: Vec<FeedDone<P::In>>,
+) -> Result<Vec<FeedCounts>, NoMemory>
+    ensures back { TakesSources (of_place P.Place) place.old place.new (map (λ f. P.In.faults f.source) feeds.items) }
+    ensures counts { IfOk result (λ counts. counts.items ≡ map feed_counts feeds.items) }
+{
+    let Some(last) = feeds.pop() else {
+        feeds.destroy_empty();
+        return Ok(Vec::new(alloc));
+    };
+    let counts = give_back_fed(alloc, place, feeds);
+    let (source, more) = last.into_counts();
+    place.give_back_in(source);
+    with_one_more(counts, more)
+}
+
+/// Gives the sources of scripts back, in order, and puts their sinks into a list that has room for them.
+pub(crate) fn give_back_scripts<P: Place>(
+    alloc: Global,
+    place: &mut P,
+    mut sessions: Vec<SessionDone<P::In, P::Out>>,
     sinks: Vec<P::Out>,
-) -> Vec<P::Out>
+) -> (Vec<P::Out>, Result<Vec<ScriptCounts>, NoMemory>)
     requires { vec_len sinks + vec_len sessions ≤ vec_capacity sinks }
-    ensures back { TakesSources (of_place P.Place) place.old place.new (map (λ session. P.In.faults session.source.source) sessions.items) }
-    ensures sinks { result.items ≡ sinks.items ++ map (λ session. session.sink) sessions.items }
-    ensures room { (vec_len result ≡ vec_len sinks + vec_len sessions) × (vec_capacity sinks ≤ vec_capacity result) }
+    ensures back { TakesSources (of_place P.Place) place.old place.new (map (λ s. P.In.faults s.source) sessions.items) }
+    ensures sinks { result.0.items ≡ sinks.items ++ map (λ s. s.sink) sessions.items }
+    ensures counts { IfOk result.1 (λ counts. counts.items ≡ map script_counts sessions.items) }
+    ensures room { (vec_len result.0 ≡ vec_len sinks + vec_len sessions) × (vec_capacity sinks ≤ vec_capacity result.0) }
 {
     let Some(last) = sessions.pop() else {
         sessions.destroy_empty();
-        return sinks;
+        return (sinks, Ok(Vec::new(alloc)));
     };
-    let mut sinks = give_back_sessions(place, sessions, sinks);
-    let (source, sink) = last.into_parts();
+    let (mut sinks, counts) = give_back_scripts(alloc, place, sessions, sinks);
+    let SessionDone {
+        source,
+        sink,
+        replies,
+        seen,
+        mail: _,
+        fault,
+    } = last;
     place.give_back_in(source);
     sinks.push_reserved(sink);
-    sinks
-}
-
-/// Gives the journal's sink back.
-fn give_back_journal<P: Place>(place: &mut P, sink: P::Out) -> Result<(), IoFault>
-    ensures { ReturnsSink (of_place P.Place) (of_sink P.Out.Sink) place.old place.new sink result }
-{
-    place.give_back_out(sink)
-}
-
-/// Gives all parts back: the sources in order, and then the sinks, the journal's last. A failure stops none of the later
-/// ones.
-pub(crate) fn give_back_parts<P: Place>(place: &mut P, parts: RunParts<P::In, P::Out>)
-    requires empty { (parts.room.items ≡ []) × (vec_len parts.room ≡ 0) }
-    requires room { length parts.asks + length parts.finals ≤ vec_capacity parts.room }
-    ensures { GivesBack (of_parts P.Place P.In.Source P.Out.Sink) parts place.old place.new }
-{
-    let RunParts {
-        feeds,
-        asks,
-        finals,
-        journal,
-        room,
-    } = parts;
-    give_back_feeds(place, feeds.into_vec());
-    let sinks = give_back_sessions(place, asks.into_vec(), room);
-    let sinks = give_back_sessions(place, finals.into_vec(), sinks);
-    let _given = give_back_sinks(place, sinks);
-    let _kept = give_back_journal(place, journal);
+    let more = ScriptCounts {
+        replies,
+        seen,
+        fault,
+    };
+    (sinks, with_one_more(counts, more))
 }

@@ -1,16 +1,20 @@
 //! A run from its plan to its report.
-ghost use Rattle.std.specs.Prelude.{◌≡◌, ◌≤◌, ◌+◌, [], length, IfOk, IfErr, vec_len, vec_capacity};
+ghost use Rattle.std.specs.Prelude.{◌≡◌, ◌≤◌, ◌+◌, [], IfOk, IfErr};
 ghost use Rattle.cube_crew.specs.Begins.{MayRun};
 ghost use Rattle.cube_crew.specs.Crewed.{IsCrewed};
 ghost use Rattle.cube_store.specs.Numbers.{OwnsAllButRoot};
 ghost use Rattle.live_session.specs.State.{ends_of};
+ghost use Rattle.run_files.specs.Outside.{at, of_parts, of_place, of_sink};
 ghost use Rattle.plan_run.specs.Ends.{RunEnds};
 ghost use Rattle.plan_run.specs.Parts.{RunsParts, run_done_of};
-ghost use Rattle.run_files.specs.Outside.{at, of_parts, of_place, of_sink};
-ghost use Rattle.run_opening.specs.Opening.{AreFit};
+ghost use Rattle.plan_run.specs.Opening.{AreFit};
 
+use crate::closing::close_run;
 use crate::cubes::empty_cubes;
-use crate::returning::give_back_parts;
+use crate::done::RunDone;
+use crate::opening::open_run;
+use crate::parts::RunParts;
+use crate::unrun::give_back_unrun;
 use cube_crew::{Crewed, Jobs, run_crew};
 use cube_schema::Plan;
 use cube_view::Schema;
@@ -18,8 +22,6 @@ use feed_queue::journal_laws;
 use feed_reader::accepted_laws;
 use outer_io::{NoMemory, Place, Sink, Source};
 use run_files::Stop;
-use run_opening::{RunParts, open_run};
-use run_stages::{RunDone, close_run};
 use std::alloc::Global;
 use std::sync::Wait;
 use std::thread::Threads;
@@ -105,7 +107,7 @@ fn run_parts<R: Threads + Wait + Sync, P: Place, O: Sink>(
                 journal,
                 room,
             };
-            give_back_parts(place, parts);
+            give_back_unrun(place, parts);
             Err(Stop::NoMemory)
         }
     }

@@ -1,10 +1,9 @@
 use Rattle.std.proofs.Common.{arith, true, false, length, ap}
 use Rattle.cube_crew.proofs.Zips.{AllZip-length}
-use Rattle.cube_crew.specs.Crewed.{LeavesTranscript, answered_over, closing_of}
+use Rattle.cube_crew.specs.Crewed.{LeavesTranscript, closing_of}
 use Rattle.cube_store.specs.Numbers.{OwnsAllButRoot}
 use Rattle.live_session.specs.State.{ends_of}
-use Rattle.run_stages.specs.declared.done.RunDone.{RunDone}
-use Rattle.world_core.specs.Interleaving.{entry_points}
+use Rattle.plan_run.specs.declared.done.RunDone.{RunDone}
 use Rattle.plan_run.proofs.run.run_parts.Goals as goal
 
 pub close_run-requires-clause-room : goal.close_run-requires-clause-room

@@ -1,5 +1,0 @@
-use Rattle.std.proofs.Common.{vec_len}
-use Rattle.plan_run.proofs.returning.+give_back_sessions.Given as goal
-
-abbrev pub decreases-give_back_sessions : goal.decreases-give_back_sessions
-decreases-give_back_sessions g l = vec_len l.sessions

@@ -1,4 +1,0 @@
-mod Seats
-mod Readiness
-mod Putting
-mod Stages

@@ -1,3 +1,0 @@
-pub mod Seated
-pub mod Ready
-pub mod Opening

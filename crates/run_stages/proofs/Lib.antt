@@ -1,3 +1,0 @@
-pub mod Returned
-mod Closed
-mod JournalPuts

@@ -1,5 +1,0 @@
-use Rattle.std.proofs.Common.{vec_len}
-use Rattle.run_stages.proofs.returning.+give_back_scripts.Given as goal
-
-abbrev pub decreases-give_back_scripts : goal.decreases-give_back_scripts
-decreases-give_back_scripts g l = vec_len l.sessions

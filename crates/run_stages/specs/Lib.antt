@@ -1,4 +1,0 @@
-pub mod Journals
-pub mod Counted
-pub mod Ends
-pub mod Closing
