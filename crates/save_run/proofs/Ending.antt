@@ -5,7 +5,6 @@ use Rattle.std.proofs.lemmas.List.{append-nil}
 use Rattle.std.proofs.lemmas.List.Elements.{All-contains, All-map, Contains-append_left, Contains-push}
 use Rattle.std.specs.List.{AllZip}
 use Rattle.std.specs.Prelude.{Any, Contains}
-use Rattle.cube_feeds.specs.Taking.{AreQuiet, EndsBy, TakesAll, TakesFeeds}
 use Rattle.cube_schema.specs.declared.plan.Plan.{Plan}
 use Rattle.cube_store.specs.Holding.{CubeCounts}
 use Rattle.cube_store.specs.declared.cube.Cube.{Cube}
@@ -37,6 +36,7 @@ use Rattle.run_files.specs.Planned.{IsPlanOf, ReadsPlan, RefusesPlan}
 use Rattle.run_files.specs.Stops.{IsOrLacks, stop_of_cut}
 use Rattle.run_files.specs.declared.stop.Stop.{Stop}
 use Rattle.run_files.specs.declared.stop.Stop.TheVariants as stop
+use Rattle.save_run.specs.Taking.{AreQuiet, EndsBy, TakesAll, TakesFeeds}
 use Rattle.save_run.proofs.Fed.{any_large, are_fed}
 use Rattle.save_run.proofs.Records.{are_records}
 use Rattle.save_run.proofs.Stood.{End, Stood}

@@ -3,7 +3,6 @@ use Rattle.std.proofs.Common.{◌≡◌, ◌+◌, ◌<◌, ◌≤◌, ℕ, zero,
 use Rattle.std.specs.Prelude.{Any, Contains}
 use Rattle.std.specs.List.{AllZip, flat_map}
 use Rattle.std.proofs.lemmas.List.Elements.{All-cons, All-head, All-nil, All-tail, Contains-append_right}
-use Rattle.cube_feeds.specs.Taking.{counts_at_end, HasRows, IsUnread}
 use Rattle.cube_view.specs.declared.schema.Schema.{Schema}
 use Rattle.feed_reader.proofs.FeedLaws.{accepted-lines, not_refused, rows_read}
 use Rattle.feed_reader.proofs.FeedStart.{new_lines, some_told}
@@ -17,6 +16,7 @@ use Rattle.outer_io.specs.Cutting.{Cutter, IsNew, input_size, lines_left}
 use Rattle.outer_io.specs.Lines.{input_limit, lines}
 use Rattle.outer_io.specs.Progress.{IsTooLarge}
 use Rattle.run_files.specs.Headed.{IsHeaded}
+use Rattle.save_run.specs.Taking.{counts_at_end, HasRows, IsUnread}
 
 -- the size of the input of a new cutter
 new_size : {S : Type 0} (left : S → Option (List ℕ)) (c : Cutter S) (source : S) (bytes : List ℕ) → IsNew source c → left source ≡ Some bytes → input_size left c ≡ Some (0 + length bytes)

@@ -1,3 +1,7 @@
+mod Groups
+mod Tallies
+mod FeedReads
+mod FeedLists
 mod Ending
 mod Fed
 mod Lists

@@ -1,3 +1,6 @@
+pub mod Taking
+pub mod Grouping
+pub mod Counting
 pub mod Names
 pub mod Ends
 pub mod Lines

@@ -1,6 +1,5 @@
 -- What reading the feeds of a plan into a cube leaves of a place.
 use Rattle.std.specs.Prelude.{◌≡◌, List, map, Result, Ok, Err}
-use Rattle.cube_feeds.specs.Taking.{TakesFeeds}
 use Rattle.cube_store.specs.declared.cube.Cube.{Cube}
 use Rattle.cube_view.specs.declared.schema.Schema.{Schema}
 use Rattle.feed_reader.specs.declared.counts.FeedCounts.{FeedCounts}
@@ -10,6 +9,7 @@ use Rattle.run_files.specs.GivingBack.{TakesSources}
 use Rattle.run_files.specs.Outside.{PlaceSeen, SourceSeen}
 use Rattle.run_files.specs.Stops.{stop_of_cut}
 use Rattle.run_files.specs.declared.stop.Stop.{Stop}
+use Rattle.save_run.specs.Taking.{TakesFeeds}
 
 -- how a run ends by what reading its feeds answered, if that ends it
 abbrev pub taken_end : Result (Cube × List FeedCounts) CutFault → Result (Cube × List FeedCounts) Stop

@@ -2,7 +2,6 @@
 use Rattle.std.specs.Prelude.{◌≡◌, ℕ, ◌<◌, false, List, All, Contains, length, map, Some}
 use Rattle.std.specs.FinMap.{get}
 use Rattle.std.specs.List.{flat_map}
-use Rattle.cube_feeds.specs.Taking.{counts_at_end}
 use Rattle.cube_schema.specs.declared.plan.Plan.{Plan}
 use Rattle.cube_view.specs.Points.{Point}
 use Rattle.feed_reader.specs.Feeds.{accepted, is_feed_refused, rows}
@@ -10,6 +9,7 @@ use Rattle.feed_reader.specs.declared.counts.FeedCounts.{FeedCounts}
 use Rattle.image_cube.specs.CubeImages.{HasLongCubeImage, IsCubeImage}
 use Rattle.outer_io.specs.Files.{Files, file_or_empty}
 use Rattle.outer_io.specs.Lines.{input_limit}
+use Rattle.save_run.specs.Taking.{counts_at_end}
 
 module _ (plan : Plan) (files : Files) where
   -- the records of the plan's feeds, joined in the plan's order

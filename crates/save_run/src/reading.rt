@@ -1,10 +1,10 @@
 //! The feeds of a plan, read into a cube.
 ghost use Rattle.std.specs.Prelude.{◌≡◌, ◌≤◌, All, length};
-ghost use Rattle.cube_feeds.specs.Taking.{IsUnread};
 ghost use Rattle.run_files.specs.Outside.{of_place, of_source};
+ghost use Rattle.save_run.specs.Taking.{IsUnread};
 ghost use Rattle.save_run.specs.Reading.{taken_end, ReadsFeeds};
 
-use cube_feeds::cube_of_feeds;
+use crate::taking::cube_of_feeds;
 use cube_store::Cube;
 use cube_view::Schema;
 use feed_reader::{FeedCounts, FeedJob};

@@ -2,7 +2,7 @@ use Rattle.std.proofs.Common.{List, sym, ap, ◌∙◌, Some, subst, drop, fold}
 use Rattle.cube_view.specs.Points.{Point}
 use Rattle.world_core.specs.PairFact.{IsPrefix}
 use Rattle.published_pair.specs.Pair.{absorbed, names}
-use Rattle.published_pair.proofs.Turning as turning
+use Rattle.published_pair.proofs.PairRule as turning
 use Rattle.published_pair.proofs.publisher.show.Goals as goal
 
 pub publish_as-after-requires : goal.publish_as-after-requires

@@ -1,9 +1,9 @@
 use Rattle.std.proofs.Common.{◌≡◌, ◌++◌, List, ap, arith, drop, length, map, subst, take, ◌∙◌}
 use Rattle.std.proofs.Math.Seq.{take-append_seam}
-use Rattle.cube_feeds.specs.Taking.{TakesFeeds}
 use Rattle.feed_reader.specs.declared.job.FeedJob.{FeedJob}
 use Rattle.run_files.specs.GivingBack.{TakesSources}
 use Rattle.run_files.specs.Outside.{of_place}
+use Rattle.save_run.specs.Taking.{TakesFeeds}
 use Rattle.save_run.proofs.reading.read_feeds.Goals as goal
 
 pub returns : goal.returns

@@ -2,7 +2,7 @@ use Rattle.std.proofs.Common.{◌≡◌, rules, refl, Some}
 use Rattle.world_core.proofs.Prefixes.{IsPrefix-itself}
 use Rattle.published_pair.specs.Pair.{names}
 use Rattle.published_pair.proofs.LastLists.{shows_all}
-use Rattle.published_pair.proofs.Turning as turning
+use Rattle.published_pair.proofs.PairRule as turning
 use Rattle.published_pair.proofs.viewer.Viewer.enter.Goals as goal
 
 pub enter_as-requires : goal.enter_as-requires

@@ -1,7 +1,7 @@
 use Rattle.std.proofs.Common.{append-nil, subst}
-use Rattle.cube_feeds.specs.Grouping.{GroupsCount}
-use Rattle.cube_feeds.proofs.Groups.{all_inserted}
-use Rattle.cube_feeds.proofs.grouped_cube.GroupedCube.into_cube.Goals as goal
+use Rattle.save_run.specs.Grouping.{GroupsCount}
+use Rattle.save_run.proofs.Groups.{all_inserted}
+use Rattle.save_run.proofs.grouped_cube.GroupedCube.into_cube.Goals as goal
 
 pub returns-clause-counted : goal.returns-clause-counted
 returns-clause-counted c h counts =

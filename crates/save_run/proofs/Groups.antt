@@ -11,8 +11,8 @@ use Rattle.cube_view.specs.Bag.{CountsMore}
 use Rattle.cube_view.specs.Limits.{is_between, categories_in_range, numbers_in_range, parts_in_range, texts_distinct, weight_in_range}
 use Rattle.cube_view.specs.Points.{Point}
 use Rattle.cube_view.specs.declared.schema.Schema.{Schema}
-use Rattle.cube_feeds.specs.Grouping.{GroupsCount, GroupsTake, grouped_size}
-use Rattle.cube_feeds.specs.declared.grouped_cube.GroupedCube.{GroupedCube}
+use Rattle.save_run.specs.Grouping.{GroupsCount, GroupsTake, grouped_size}
+use Rattle.save_run.specs.declared.grouped_cube.GroupedCube.{GroupedCube}
 
 -- a batch has a point at least
 pub batch_least : (z : Schema) → 1 ≤ z.batch

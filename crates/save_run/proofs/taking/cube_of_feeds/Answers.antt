@@ -3,9 +3,9 @@ use Rattle.std.proofs.lemmas.Result.{err_from_is_err_and}
 use Rattle.cube_store.specs.declared.cube.Cube.{Cube}
 use Rattle.feed_reader.specs.declared.counts.FeedCounts.{FeedCounts}
 use Rattle.outer_io.specs.declared.cutter.CutFault.{CutFault}
-use Rattle.cube_feeds.specs.Taking.{TakesFeeds}
-use Rattle.cube_feeds.proofs.Joining.{all_taken, begins, ends_by, next_unread, one_more, quiet_on, stays_quiet}
-use Rattle.cube_feeds.proofs.taking.cube_of_feeds.Goals as goal
+use Rattle.save_run.specs.Taking.{TakesFeeds}
+use Rattle.save_run.proofs.FeedLists.{all_taken, begins, ends_by, next_unread, one_more, quiet_on, stays_quiet}
+use Rattle.save_run.proofs.taking.cube_of_feeds.Goals as goal
 
 pub loop-feed-init : goal.loop-feed-init
 loop-feed-init g c = begins g.S.Source.left g.S.Source.faults c.args.schema.now c.args.feeds.now c.in-Ok.grouped c.new-counts.result c.in-Ok.ensures.schema c.in-Ok.ensures.empty c.new-counts.ensures c.requires.unread

@@ -18,12 +18,12 @@ use Rattle.outer_io.specs.Lines.{Line, input_limit}
 use Rattle.outer_io.specs.Progress.{IsGoing, Passes, PassesAll}
 use Rattle.outer_io.specs.declared.cutter.CutFault.{CutFault}
 use Rattle.outer_io.specs.declared.cutter.CutFault.TheVariants as fault
-use Rattle.cube_feeds.specs.Counting.{JoinsFeed, tally_counts, having_counted, tally_of}
-use Rattle.cube_feeds.specs.Grouping.{GroupsCount, GroupsTake, grouped_size}
-use Rattle.cube_feeds.specs.declared.grouped_cube.GroupedCube.{GroupedCube}
-use Rattle.cube_feeds.specs.declared.tally.Tally.{Tally}
-use Rattle.cube_feeds.proofs.Groups.{takes_none}
-use Rattle.cube_feeds.proofs.Tallies.{few_counted, tally_more}
+use Rattle.save_run.specs.Counting.{JoinsFeed, tally_counts, having_counted, tally_of}
+use Rattle.save_run.specs.Grouping.{GroupsCount, GroupsTake, grouped_size}
+use Rattle.save_run.specs.declared.grouped_cube.GroupedCube.{GroupedCube}
+use Rattle.save_run.specs.declared.tally.Tally.{Tally}
+use Rattle.save_run.proofs.Groups.{takes_none}
+use Rattle.save_run.proofs.Tallies.{few_counted, tally_more}
 
 -- a call behind one that met no fault of a source, which meets none itself
 pub no_cause : {A B : Type 0} (first now after : ℕ) (r : Result A CutFault) (s : Result B CutFault) → now ≡ first → ¬ IsErrOf r fault.Read → ¬ IsErrOf s fault.Read → HasCause now after r fault.Read → HasCause first after s fault.Read

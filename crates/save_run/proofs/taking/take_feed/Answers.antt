@@ -1,7 +1,7 @@
 use Rattle.std.proofs.Common.{◌∙◌, Ok, Err, ap, refl, sym}
 use Rattle.std.proofs.lemmas.Result.{err_from_is_err_and}
-use Rattle.cube_feeds.proofs.Reading.{at_end, begins, has_room, no_cause, same_cause, takes_row}
-use Rattle.cube_feeds.proofs.taking.take_feed.Goals as goal
+use Rattle.save_run.proofs.FeedReads.{at_end, begins, has_room, no_cause, same_cause, takes_row}
+use Rattle.save_run.proofs.taking.take_feed.Goals as goal
 
 pub loop-tally-init : goal.loop-tally-init
 loop-tally-init g c = begins g.S.Source.left g.S.Source.faults c.args.feed.now c.args.grouped.now c.in-Ok.tally c.requires.unread.going c.requires.unread.given c.in-Ok.ensures

@@ -1,8 +1,8 @@
 use Rattle.std.proofs.Common.{[], ◌∷◌, sym, subst}
 use Rattle.feed_reader.specs.Feeds.{points_in}
 use Rattle.feed_reader.specs.declared.row.Row.{Row}
-use Rattle.cube_feeds.specs.Grouping.{GroupsTake}
-use Rattle.cube_feeds.proofs.tally.take_row.Goals as goal
+use Rattle.save_run.specs.Grouping.{GroupsTake}
+use Rattle.save_run.proofs.tally.take_row.Goals as goal
 
 pub returns-in_ok-take-in-Point-clause-points : goal.returns-in_ok-take-in-Point-clause-points
 returns-in_ok-take-in-Point-clause-points c =

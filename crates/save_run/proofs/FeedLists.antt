@@ -18,11 +18,11 @@ use Rattle.outer_io.specs.Lines.{input_limit}
 use Rattle.outer_io.specs.Progress.{IsTooLarge}
 use Rattle.outer_io.specs.declared.cutter.CutFault.{CutFault}
 use Rattle.outer_io.specs.declared.cutter.CutFault.TheVariants as fault
-use Rattle.cube_feeds.specs.Counting.{JoinsFeed}
-use Rattle.cube_feeds.specs.Grouping.{GroupsCount, grouped_size}
-use Rattle.cube_feeds.specs.Taking.{AreQuiet, EndsBy, HasRows, IsUnread, TakesAll, counts_at_end}
-use Rattle.cube_feeds.specs.declared.grouped_cube.GroupedCube.{GroupedCube}
-use Rattle.cube_feeds.proofs.Groups.{counted_size}
+use Rattle.save_run.specs.Counting.{JoinsFeed}
+use Rattle.save_run.specs.Grouping.{GroupsCount, grouped_size}
+use Rattle.save_run.specs.Taking.{AreQuiet, EndsBy, HasRows, IsUnread, TakesAll, counts_at_end}
+use Rattle.save_run.specs.declared.grouped_cube.GroupedCube.{GroupedCube}
+use Rattle.save_run.proofs.Groups.{counted_size}
 
 -- lists that are the same from a place on are the same from the next on
 drop_next : {X : Type 0} (n : ℕ) (xs ys : List X) → drop n xs ≡ drop n ys → drop (n + 1) xs ≡ drop (n + 1) ys

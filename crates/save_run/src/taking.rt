@@ -4,9 +4,9 @@ ghost use Rattle.cube_view.specs.Bag.{most_points};
 ghost use Rattle.outer_io.specs.Faults.{HasCause};
 ghost use Rattle.outer_io.specs.Lines.{input_limit};
 ghost use Rattle.outer_io.specs.Progress.{IsTooLarge};
-ghost use Rattle.cube_feeds.specs.Counting.{JoinsFeed};
-ghost use Rattle.cube_feeds.specs.Grouping.{grouped_size};
-ghost use Rattle.cube_feeds.specs.Taking.{IsUnread, TakesFeeds};
+ghost use Rattle.save_run.specs.Counting.{JoinsFeed};
+ghost use Rattle.save_run.specs.Grouping.{grouped_size};
+ghost use Rattle.save_run.specs.Taking.{IsUnread, TakesFeeds};
 
 use crate::grouped_cube::GroupedCube;
 use crate::tally::{Tally, take_row};
@@ -46,7 +46,7 @@ fn take_feed<S: Source>(
 
 /// The cube of the points of the feeds, in order, and what is counted of each feed. Points go in groups of as many as the
 /// schema's batch, over the borders of feeds. The first fault ends the reading.
-pub fn cube_of_feeds<S: Source>(
+pub(crate) fn cube_of_feeds<S: Source>(
     alloc: Global,
     schema: &Schema,
     feeds: &mut [FeedJob<S>],

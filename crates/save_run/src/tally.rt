@@ -3,8 +3,8 @@ ghost use Rattle.std.specs.Prelude.{◌≡◌, ◌+◌, ◌^◌, ◌<◌, ◌≤
 ghost use Rattle.cube_view.specs.Bag.{most_points};
 ghost use Rattle.feed_reader.specs.Feeds.{points_in};
 ghost use Rattle.feed_reader.specs.Rows.{IsValidRow};
-ghost use Rattle.cube_feeds.specs.Counting.{having_counted, tally_counts, tally_of};
-ghost use Rattle.cube_feeds.specs.Grouping.{GroupsTake, grouped_size};
+ghost use Rattle.save_run.specs.Counting.{having_counted, tally_counts, tally_of};
+ghost use Rattle.save_run.specs.Grouping.{GroupsTake, grouped_size};
 
 use crate::grouped_cube::GroupedCube;
 use feed_reader::{FeedCounts, FirstRefusals, Refusal, Row};

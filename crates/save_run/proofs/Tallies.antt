@@ -10,8 +10,8 @@ use Rattle.feed_reader.specs.RowCounts.{count_accepted, count_blank, count_refus
 use Rattle.feed_reader.specs.RowCounts.{having_kept}
 use Rattle.feed_reader.specs.declared.row.Row.{Row}
 use Rattle.feed_reader.specs.declared.row.Row.TheVariants as row
-use Rattle.cube_feeds.specs.Counting.{having_counted, tally_of}
-use Rattle.cube_feeds.specs.declared.tally.Tally.{Tally}
+use Rattle.save_run.specs.Counting.{having_counted, tally_of}
+use Rattle.save_run.specs.declared.tally.Tally.{Tally}
 
 -- a row that is not refused leaves the first refusals
 first_same : (line : ℕ) (rows : List Row) (row : Row) → refusals_from (line + length rows) (row ∷ []) ≡ [] → first_refusals line rows ≡ first_refusals line (rows ++ row ∷ [])

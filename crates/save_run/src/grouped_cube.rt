@@ -20,7 +20,7 @@ pub(crate) struct GroupedCube {
 }
 
 impl GroupedCube {
-    ghost use Rattle.cube_feeds.specs.Grouping.{GroupsCount, GroupsTake, grouped_size};
+    ghost use Rattle.save_run.specs.Grouping.{GroupsCount, GroupsTake, grouped_size};
     ghost use Rattle.cube_store.specs.Holding.{CubeCounts};
 
     /// A cube of no points, with a schema of its own.

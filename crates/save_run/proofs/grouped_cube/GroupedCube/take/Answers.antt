@@ -2,8 +2,8 @@ use Rattle.std.proofs.Common.{IsTrue, arith, refl, subst, sym}
 use Rattle.cube_view.specs.Points.{Point}
 use Rattle.cube_view.specs.Validity.{sound}
 use Rattle.cube_view.specs.declared.schema.Schema.{Schema}
-use Rattle.cube_feeds.proofs.Groups.{all_pushed, few_pushed, gathers, takes_behind}
-use Rattle.cube_feeds.proofs.grouped_cube.GroupedCube.take.Goals as goal
+use Rattle.save_run.proofs.Groups.{all_pushed, few_pushed, gathers, takes_behind}
+use Rattle.save_run.proofs.grouped_cube.GroupedCube.take.Goals as goal
 
 pub invariant_of-self : goal.invariant_of-self
 invariant_of-self c =

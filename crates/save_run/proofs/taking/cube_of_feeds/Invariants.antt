@@ -1,5 +1,5 @@
-use Rattle.cube_feeds.proofs.Joining.{HasTaken}
-use Rattle.cube_feeds.proofs.taking.cube_of_feeds.Given as goal
+use Rattle.save_run.proofs.FeedLists.{HasTaken}
+use Rattle.save_run.proofs.taking.cube_of_feeds.Given as goal
 
 abbrev pub invariant-loop-feed : goal.invariant-loop-feed
 invariant-loop-feed g l = HasTaken g.S.Source.left g.S.Source.faults l.schema l.initial.feeds l.feed-index l.feeds l.grouped l.counts

@@ -1,6 +1,6 @@
 use Rattle.std.proofs.Common.{ap, arith, length}
-use Rattle.cube_feeds.proofs.Groups.{inserts, more_size}
-use Rattle.cube_feeds.proofs.grouped_cube.GroupedCube.insert_gathered.Goals as goal
+use Rattle.save_run.proofs.Groups.{inserts, more_size}
+use Rattle.save_run.proofs.grouped_cube.GroupedCube.insert_gathered.Goals as goal
 
 pub returns-clause-taken : goal.returns-clause-taken
 returns-clause-taken c = inserts c.args.self.now _ c.as_slice.result.now c.as_slice.ensures.value c.in_ok-insert_all.ensures.counted c.clear.ensures.items

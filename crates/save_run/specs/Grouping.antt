@@ -3,7 +3,7 @@ use Rattle.std.specs.Prelude.{◌≡◌, ℕ, ◌+◌, List, ◌++◌, length}
 use Rattle.cube_store.specs.Holding.{CubeCounts}
 use Rattle.cube_view.specs.Bag.{CountsMore}
 use Rattle.cube_view.specs.Points.{Point}
-use Rattle.cube_feeds.specs.declared.grouped_cube.GroupedCube.{GroupedCube}
+use Rattle.save_run.specs.declared.grouped_cube.GroupedCube.{GroupedCube}
 
 -- how many points there are, inserted and gathered
 abbrev pub grouped_size : GroupedCube → ℕ

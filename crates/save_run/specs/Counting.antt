@@ -7,10 +7,10 @@ use Rattle.feed_reader.specs.declared.counts.FeedCounts.{FeedCounts}
 use Rattle.feed_reader.specs.declared.job.FeedJob.{FeedJob}
 use Rattle.feed_reader.specs.declared.row.Row.{Row}
 use Rattle.feed_reader.specs.declared.row.Row.TheVariants as row
-use Rattle.cube_feeds.specs.Grouping.{GroupsTake}
-use Rattle.cube_feeds.specs.Taking.{HasRows, counts_at_end}
-use Rattle.cube_feeds.specs.declared.grouped_cube.GroupedCube.{GroupedCube}
-use Rattle.cube_feeds.specs.declared.tally.Tally.{Tally}
+use Rattle.save_run.specs.Grouping.{GroupsTake}
+use Rattle.save_run.specs.Taking.{HasRows, counts_at_end}
+use Rattle.save_run.specs.declared.grouped_cube.GroupedCube.{GroupedCube}
+use Rattle.save_run.specs.declared.tally.Tally.{Tally}
 
 -- the tally of these rows, the first of which is that of line 2
 abbrev pub tally_of : List Row → Tally

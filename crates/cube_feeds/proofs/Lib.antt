@@ -1,4 +1,0 @@
-mod Groups
-mod Tallies
-mod Reading
-mod Joining
