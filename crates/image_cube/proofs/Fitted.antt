@@ -20,10 +20,10 @@ use Rattle.node_arena.specs.Slots.{Slot, node, table, empty_node, is_table, slot
 use Rattle.node_arena.specs.Stats.{AllRising}
 use Rattle.proper_path.specs.Paths.{point_path, paths_of}
 use Rattle.cube_store.specs.Counted.{CountsPoints}
-use Rattle.image_shape.specs.Laws.{AllTablesCounted}
-use Rattle.image_shape.specs.Levels.{label_counts}
-use Rattle.image_shape.specs.Local.{IsLocal}
-use Rattle.image_shape.specs.Wholes.{is_whole, spot_at, rows_at, spelled_rows}
+use Rattle.shape_test.specs.Laws.{AllTablesCounted}
+use Rattle.shape_test.specs.Levels.{label_counts}
+use Rattle.shape_test.specs.Local.{IsLocal}
+use Rattle.shape_test.specs.Wholes.{is_whole, spot_at, rows_at, spelled_rows}
 use Rattle.shape_test.specs.Fits.{IsSchemaCube, Fits, slots_bag, bag_sum, least_points, least_size}
 use Rattle.shape_test.specs.Labels.{schema_levels, paths_fit}
 use Rattle.shape_test.proofs.Deciding.{ends_with_time, cube_is_local, owns_bag}

@@ -26,8 +26,8 @@ use Rattle.cube_image.proofs.Labels.{label-byte}
 use Rattle.cube_image.proofs.Rests.{Rises, rises, rows-rise, child-low}
 use Rattle.time_table.specs.Rows.{AreRows}
 use Rattle.image_parse.specs.Images.{AreChildren, IsImageSlot}
-use Rattle.image_shape.specs.Laws.{AllTablesCounted}
-use Rattle.image_shape.proofs.Core.{amount-cons}
+use Rattle.shape_test.specs.Laws.{AllTablesCounted}
+use Rattle.shape_test.proofs.Core.{amount-cons}
 
 -- ---- children and rows, from what is known of each
 

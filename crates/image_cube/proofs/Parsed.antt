@@ -8,9 +8,9 @@ use Rattle.cube_view.specs.declared.schema.Schema.{Schema}
 use Rattle.time_table.specs.Rows.{AreRows}
 use Rattle.image_parse.specs.Images.{AreChildren, IsImageSlot, IsImage, AllLight, IsHeavyImage}
 use Rattle.image_parse.specs.Laws.{IsOrderly, TellsOrderly}
-use Rattle.image_shape.specs.Wholes.{spot_at}
-use Rattle.image_shape.proofs.Core.{amount-cons}
-use Rattle.image_shape.proofs.Rows.{table_rows}
+use Rattle.shape_test.specs.Wholes.{spot_at}
+use Rattle.shape_test.proofs.Core.{amount-cons}
+use Rattle.shape_test.proofs.BinRows.{table_rows}
 use Rattle.node_arena.specs.Amounts.{amount_under}
 use Rattle.node_arena.specs.declared.link.Link.{Link}
 use Rattle.node_arena.specs.Slots.{Children, Slot, node, table, child, slot_of, counts_of}

@@ -16,8 +16,8 @@ use Rattle.time_table.proofs.Entries.{find_here, find_later, find_before, put_fi
 use Rattle.time_table.proofs.Passing.{first_part, second_part, find_below, nothing}
 use Rattle.time_table.proofs.Summed.{gathered, count_of-gathered, AllCounted-gathered}
 use Rattle.node_arena.specs.Amounts.{Weighted, amount_under}
-use Rattle.image_shape.specs.Wholes.{spot_at}
-use Rattle.image_shape.proofs.Core.{amount-cons}
+use Rattle.shape_test.specs.Wholes.{spot_at}
+use Rattle.shape_test.proofs.Core.{amount-cons}
 use Rattle.shape_test.specs.Fits.{bag_sum, least_points, least_size}
 use Rattle.image_cube.proofs.Parted.{part, part-cons}
 

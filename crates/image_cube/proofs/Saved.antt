@@ -24,7 +24,7 @@ use Rattle.image_parse.specs.Images.{IsImage}
 use Rattle.image_parse.proofs.Readable.{orderly}
 use Rattle.image_parse.proofs.Whole.{slots_few, one_meaning}
 use Rattle.image_cube.specs.Read.{IsFitImage}
-use Rattle.image_shape.specs.Laws.{AllTablesCounted}
+use Rattle.shape_test.specs.Laws.{AllTablesCounted}
 use Rattle.image_cube.specs.CubeImages.{AreRecords, IsCubeImage, HasLongCubeImage, KeepsNumbers}
 use Rattle.image_cube.proofs.Fitted.{counted-fits}
 use Rattle.image_cube.proofs.Imaged.{slots-fit}

@@ -4,7 +4,7 @@ use Rattle.std.proofs.lemmas.List.{get_or_default}
 use Rattle.time_table.specs.Counts.{AllCounted}
 use Rattle.time_table.proofs.AddLaws.{AllCounted-empty}
 use Rattle.node_arena.specs.Slots.{Slot, node, table, empty_node, IsNode, counts_of, slot_of}
-use Rattle.image_shape.specs.Laws.{AllTablesCounted}
+use Rattle.shape_test.specs.Laws.{AllTablesCounted}
 
 -- a node has no rows
 pub node-counted : (s : Slot) → IsNode s → AllCounted (counts_of s)

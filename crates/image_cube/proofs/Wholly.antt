@@ -9,17 +9,17 @@ use Rattle.node_arena.specs.Amounts.{Weighted, spots_in}
 use Rattle.node_arena.specs.Shape.{home_of, HasShape}
 use Rattle.node_arena.specs.Slots.{Slot, IsTable, is_table, slot_of, walk_end}
 use Rattle.node_arena.proofs.Reaching.{walk-lt, walk_coarser, walk_reaches}
-use Rattle.image_shape.specs.Levels.{Levels, left, no_levels, label_counts, EndsWithTime}
-use Rattle.image_shape.specs.Local.{IsLocal}
-use Rattle.image_shape.specs.Ways.{Way, along, IsFinest}
-use Rattle.image_shape.specs.Wholes.{is_whole, paths_along}
-use Rattle.image_shape.proofs.Back.{left_along}
-use Rattle.image_shape.proofs.Listed.{IsWhole}
-use Rattle.image_shape.proofs.Local.{left_spot, levels_of, own_way}
-use Rattle.image_shape.proofs.Rows.{whole_from_test, whole_test, labels_are, same_labels}
-use Rattle.image_shape.proofs.Timing.{time_of}
-use Rattle.image_shape.proofs.Root.{along_whole, finer_whole}
-use Rattle.image_shape.proofs.Bag.{nothing_later}
+use Rattle.shape_test.specs.Levels.{Levels, left, no_levels, label_counts, EndsWithTime}
+use Rattle.shape_test.specs.Local.{IsLocal}
+use Rattle.shape_test.specs.Ways.{Way, along, IsFinest}
+use Rattle.shape_test.specs.Wholes.{is_whole, paths_along}
+use Rattle.shape_test.proofs.Back.{left_along}
+use Rattle.shape_test.proofs.Listed.{IsWhole}
+use Rattle.shape_test.proofs.Local.{left_spot, levels_of, own_way}
+use Rattle.shape_test.proofs.BinRows.{whole_from_test, whole_test, labels_are, same_labels}
+use Rattle.shape_test.proofs.Timing.{time_of}
+use Rattle.shape_test.proofs.Root.{along_whole, finer_whole}
+use Rattle.shape_test.proofs.Bag.{nothing_later}
 use Rattle.image_cube.proofs.Parted.{HasPlace}
 
 -- a spot under a whole address with nothing left has its labels

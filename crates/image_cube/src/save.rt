@@ -6,7 +6,7 @@ ghost use Rattle.node_arena.specs.Slots.{counts_of, slot_of};
 ghost use Rattle.probe_core.specs.Blanks.{IsBlankOf};
 ghost use Rattle.cube_image.specs.Image.{IsWritten};
 ghost use Rattle.cube_store.specs.Holding.{CubeCounts};
-ghost use Rattle.image_shape.specs.Laws.{AllTablesCounted};
+ghost use Rattle.shape_test.specs.Laws.{AllTablesCounted};
 ghost use Rattle.image_cube.specs.CubeImages.{HasLongCubeImage, IsSavedCube};
 
 use cube_image::{SaveFault, image_laws, write_image};

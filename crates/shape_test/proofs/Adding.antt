@@ -5,9 +5,9 @@ use Rattle.std.proofs.lemmas.List.Sums.{sum_by-cons}
 use Rattle.node_arena.specs.declared.link.Link.{Link}
 use Rattle.cube_view.specs.Walks.{down, across}
 use Rattle.node_arena.specs.Slots.{Children, IsRising, Slot, child, children_of, slot_of, target}
-use Rattle.image_shape.specs.Ways.{Way, count_below}
+use Rattle.shape_test.specs.Ways.{Way, count_below}
 use Rattle.node_arena.proofs.Labelled.{link_down, child_past, child_here, rising-tail, none_before}
-use Rattle.image_shape.proofs.Core.{step_first}
+use Rattle.shape_test.proofs.Core.{step_first}
 use Rattle.shape_test.specs.Links.{NoneFrom, IsFirstLink}
 use Rattle.shape_test.specs.Merging.{parts_count}
 

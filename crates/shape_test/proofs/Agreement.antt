@@ -7,11 +7,11 @@ use Rattle.cube_view.specs.Walks.{down, across}
 use Rattle.node_arena.specs.declared.link.Link.{Link}
 use Rattle.node_arena.specs.Calls.{only_link}
 use Rattle.node_arena.specs.Slots.{shared, target, Children, Slot, IsTable, child, children_of, slot_of, link_of, count}
-use Rattle.image_shape.specs.Sharing.{SharesAt}
-use Rattle.image_shape.specs.Ways.{Way, count_below, Merges}
+use Rattle.shape_test.specs.Sharing.{SharesAt}
+use Rattle.shape_test.specs.Ways.{Way, count_below, Merges}
 use Rattle.node_arena.proofs.Labelled.{link_down}
-use Rattle.image_shape.proofs.Core.{no_step, step_first}
-use Rattle.image_shape.proofs.OnlyChild.{table_link, alone, has_one}
+use Rattle.shape_test.proofs.Core.{no_step, step_first}
+use Rattle.shape_test.proofs.OnlyChild.{table_link, alone, has_one}
 use Rattle.shape_test.specs.Agreeing.{content_below, HasCount, AgreesAs, Agrees, CountedAgree, AllAgree, CoversPart, CoversParts, MergesOver}
 use Rattle.shape_test.specs.Homes.{step_of, way_of}
 use Rattle.shape_test.specs.declared.home.Move.{Move}

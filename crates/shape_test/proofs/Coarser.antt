@@ -5,7 +5,7 @@ use Rattle.cube_view.specs.Walks.{down, across, Walk, Finer, top, by_down, by_ac
 use Rattle.shape_test.specs.declared.home.Move.{Move}
 use Rattle.shape_test.specs.declared.home.Move.TheVariants.{Down, Across}
 use Rattle.shape_test.specs.Homes.{is_across, step_of, walk_of}
-use Rattle.image_shape.proofs.Local.{finer_root}
+use Rattle.shape_test.proofs.Local.{finer_root}
 
 -- a list taken whole
 take_length : {A : Type 0} (xs : List A) (n : ℕ) → n ≡ length xs → take n xs ≡ xs

@@ -4,8 +4,8 @@ use Rattle.std.specs.FinMap.{empty}
 use Rattle.time_table.specs.Counts.{BinCounts, AllCounted, count_of}
 use Rattle.time_table.proofs.AddLaws.{count_of-empty}
 use Rattle.node_arena.specs.Slots.{Slot, node, table, IsNode, slot_of, link_of, count, counts_of}
-use Rattle.image_shape.specs.Ways.{count_below}
-use Rattle.image_shape.proofs.Core.{no_step}
+use Rattle.shape_test.specs.Ways.{count_below}
+use Rattle.shape_test.proofs.Core.{no_step}
 use Rattle.shape_test.specs.Filled.{HasRow}
 use Rattle.shape_test.specs.Homes.{step_of, way_of}
 use Rattle.shape_test.specs.declared.home.Move.{Move}

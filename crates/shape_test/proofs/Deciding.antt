@@ -8,12 +8,12 @@ use Rattle.node_arena.specs.Amounts.{Weighted, spots_in}
 use Rattle.node_arena.specs.Shape.{home_of}
 use Rattle.node_arena.specs.Slots.{Slot, slot_of}
 use Rattle.node_arena.specs.Stats.{AllRising}
-use Rattle.image_shape.specs.Laws.{AllTablesCounted}
-use Rattle.image_shape.specs.Levels.{EndsWithTime}
-use Rattle.image_shape.specs.Wholes.{rows_at, spelled_rows}
-use Rattle.image_shape.proofs.Bag.{in_either, tells_cube, tells_local}
-use Rattle.image_shape.proofs.Rows.{rows_at-paths}
-use Rattle.image_shape.proofs.Decides.{under_home}
+use Rattle.shape_test.specs.Laws.{AllTablesCounted}
+use Rattle.shape_test.specs.Levels.{EndsWithTime}
+use Rattle.shape_test.specs.Wholes.{rows_at, spelled_rows}
+use Rattle.shape_test.proofs.Bag.{in_either, tells_cube, tells_local}
+use Rattle.shape_test.proofs.BinRows.{rows_at-paths}
+use Rattle.shape_test.proofs.Decides.{under_home}
 use Rattle.shape_test.specs.Fits.{IsSchemaCube, IsSchemaLocal, slots_bag}
 use Rattle.shape_test.specs.Labels.{levels_from, schema_levels, labels_fit, paths_fit}
 use Rattle.shape_test.specs.Laws.{DecidesCube, OwnsBag}

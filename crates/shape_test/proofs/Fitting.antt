@@ -6,7 +6,7 @@ use Rattle.cube_view.specs.declared.schema.Schema.{Schema}
 use Rattle.node_arena.specs.Shape.{HasProperLinks}
 use Rattle.node_arena.specs.Slots.{Slot}
 use Rattle.node_arena.specs.Stats.{AllRising}
-use Rattle.image_shape.specs.Laws.{AllTablesCounted}
+use Rattle.shape_test.specs.Laws.{AllTablesCounted}
 use Rattle.shape_test.specs.Fits.{Fits, IsSchemaLocal, IsSizeOf, slots_bag}
 use Rattle.shape_test.specs.Owners.{HasNoHomesIn}
 use Rattle.shape_test.proofs.Deciding.{cube_is_local, local_is_cube}

@@ -10,13 +10,13 @@ use Rattle.node_arena.specs.Slots.{shared, target, Slot, IsNode, IsTable, slot_o
 use Rattle.node_arena.specs.Stats.{AllRising}
 use Rattle.node_arena.proofs.Linked.{linked-lt}
 use Rattle.node_arena.proofs.Reaching.{link_coarser, target-lt}
-use Rattle.image_shape.specs.Levels.{Levels, level_step, then_level, left, no_levels}
-use Rattle.image_shape.specs.Local.{AllHaveLevels, AllHaveCounts, AllContentsMerge}
-use Rattle.image_shape.specs.Ways.{Way, count_below, IsFinest, Merges}
-use Rattle.image_shape.proofs.Core.{step_first}
-use Rattle.image_shape.proofs.Local.{finer_left, after_root}
-use Rattle.image_shape.proofs.OnlyChild.{table_link}
-use Rattle.image_shape.proofs.Decides.{merges_past}
+use Rattle.shape_test.specs.Levels.{Levels, level_step, then_level, left, no_levels}
+use Rattle.shape_test.specs.Local.{AllHaveLevels, AllHaveCounts, AllContentsMerge}
+use Rattle.shape_test.specs.Ways.{Way, count_below, IsFinest, Merges}
+use Rattle.shape_test.proofs.Core.{step_first}
+use Rattle.shape_test.proofs.Local.{finer_left, after_root}
+use Rattle.shape_test.proofs.OnlyChild.{table_link}
+use Rattle.shape_test.proofs.Decides.{merges_past}
 use Rattle.shape_test.specs.Agreeing.{IsOver, MergesFrom}
 use Rattle.shape_test.specs.Filled.{HasRow, HasChild, IsFilledNode}
 use Rattle.shape_test.specs.Fits.{IsSchemaLocal}

@@ -9,8 +9,8 @@ use Rattle.cube_view.specs.declared.schema.Schema.{Schema}
 use Rattle.node_arena.specs.Shape.{home_of, HasProperLinks, SharesContent}
 use Rattle.node_arena.specs.declared.link.Link.{Link}
 use Rattle.node_arena.specs.Slots.{target, Slot, slot_of}
-use Rattle.image_shape.specs.Sharing.{SharesAt}
-use Rattle.image_shape.proofs.OnlyChild.{table_link}
+use Rattle.shape_test.specs.Sharing.{SharesAt}
+use Rattle.shape_test.proofs.OnlyChild.{table_link}
 use Rattle.shape_test.specs.Homes.{step_of, walk_of, walks_of}
 use Rattle.shape_test.specs.Links.{LinkFits, LinksFit}
 use Rattle.shape_test.specs.Owners.{Owners, owner_at, HasOwners}

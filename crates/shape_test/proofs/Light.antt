@@ -11,7 +11,7 @@ use Rattle.time_table.proofs.CountLaws.{total_count-same}
 use Rattle.node_arena.specs.Amounts.{Weighted, amount_under}
 use Rattle.node_arena.specs.Shape.{home_of, CountsSpots}
 use Rattle.node_arena.specs.Slots.{Slot, node, table, empty_node, is_table, slot_of, counts_of, count}
-use Rattle.image_shape.proofs.Core.{amount-cons}
+use Rattle.shape_test.proofs.Core.{amount-cons}
 use Rattle.shape_test.specs.Fits.{bag_sum, least_points, least_size, slots_bag}
 use Rattle.shape_test.specs.Sizes.{TellsLight}
 

@@ -12,7 +12,7 @@ use Rattle.shape_test.specs.declared.home.Move.TheVariants.{Down, Across}
 use Rattle.shape_test.specs.Owners.{Owners, owner_of, owner_at, IsNoted, IsSecond, AreOwners, HasOwners, Before, HasNoHomes}
 use Rattle.shape_test.specs.declared.owner.Owner.{Owner}
 use Rattle.shape_test.proofs.Owning.{still_owners, one_owner, second_owner}
-use Rattle.image_shape.proofs.OnlyChild.{table_link}
+use Rattle.shape_test.proofs.OnlyChild.{table_link}
 
 before_more : (n from to : ℕ) → from ≤ to → (k : ℕ) (e : Step) → Before n from k e → Before n to k e
 before_more n from to le k e (inl x) = inl x

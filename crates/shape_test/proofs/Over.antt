@@ -4,7 +4,7 @@ use Rattle.std.proofs.lemmas.Bool.{cases_lt}
 use Rattle.cube_view.specs.Places.{deepest, time_dim}
 use Rattle.cube_view.specs.Walks.{down, across}
 use Rattle.cube_view.specs.declared.schema.Schema.{Schema}
-use Rattle.image_shape.specs.Ways.{Way}
+use Rattle.shape_test.specs.Ways.{Way}
 use Rattle.shape_test.specs.Agreeing.{value_levels, IsOver}
 use Rattle.shape_test.specs.Labels.{levels_from}
 use Rattle.shape_test.specs.Places.{levels_at, IsSchemaPlace}

@@ -5,8 +5,8 @@ use Rattle.cube_view.specs.Places.{deepest, time_dim}
 use Rattle.cube_view.specs.Walks.{Step, down, across, Walk, dimension}
 use Rattle.cube_view.specs.declared.category.Category.{Category}
 use Rattle.cube_view.specs.declared.schema.Schema.{Schema}
-use Rattle.image_shape.specs.Levels.{Levels, level_down, level_across, then_level, left}
-use Rattle.image_shape.proofs.Local.{level_begun}
+use Rattle.shape_test.specs.Levels.{Levels, level_down, level_across, then_level, left}
+use Rattle.shape_test.proofs.Local.{level_begun}
 use Rattle.shape_test.specs.Homes.{step_of, walk_of}
 use Rattle.shape_test.specs.declared.home.Move.{Move}
 use Rattle.shape_test.specs.Labels.{levels_from, schema_levels, value_count, label_end, label_fits, labels_fit}

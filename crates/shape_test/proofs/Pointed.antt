@@ -14,7 +14,7 @@ use Rattle.cube_view.proofs.Walking.{Contains-cons, Contains-head, Contains-case
 use Rattle.node_arena.specs.Amounts.{Weighted, spots_in, amount_under}
 use Rattle.node_arena.specs.Shape.{home_of, HasShape}
 use Rattle.node_arena.specs.Slots.{Slot}
-use Rattle.image_shape.proofs.Core.{HasAmounts, one_under, amount-cons}
+use Rattle.shape_test.proofs.Core.{HasAmounts, one_under, amount-cons}
 use Rattle.shape_test.specs.Fits.{bag_sum, slots_bag, Fits}
 use Rattle.shape_test.specs.Sizes.{seen_points, IsOfPoints, TellsPoints}
 use Rattle.shape_test.proofs.Pieces.{IsWeight, IsMadeOf, pieces, least_by, enough, least_few, least_one}

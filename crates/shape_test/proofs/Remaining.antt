@@ -15,9 +15,9 @@ use Rattle.time_table.proofs.Counted.{counts-nil, entries-counts}
 use Rattle.node_arena.specs.Amounts.{amount_under}
 use Rattle.node_arena.specs.declared.link.SlotId.{SlotId}
 use Rattle.node_arena.specs.Slots.{Slot, node, table, IsNode, slot_of, count, counts_of}
-use Rattle.image_shape.specs.Wholes.{spot_at}
-use Rattle.image_shape.proofs.Core.{one_under, amount-cons}
-use Rattle.image_shape.proofs.Rows.{table_rows, less_of, from_test}
+use Rattle.shape_test.specs.Wholes.{spot_at}
+use Rattle.shape_test.proofs.Core.{one_under, amount-cons}
+use Rattle.shape_test.proofs.BinRows.{table_rows, less_of, from_test}
 use Rattle.shape_test.specs.Ends.{end_count, ends_count}
 use Rattle.shape_test.specs.Remainder.{AreOrderly, FitIn, IsRemainder, row_key, slot_rows, end_rows}
 use Rattle.shape_test.proofs.Summing.{ends_part}

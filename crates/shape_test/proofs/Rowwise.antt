@@ -5,9 +5,9 @@ use Rattle.std.specs.FinMap.Entries.{is_sorted, below_all}
 use Rattle.std.proofs.lemmas.Bool.{and_parts, cases_lt}
 use Rattle.time_table.specs.Counts.{BinCounts, count_of, first_from}
 use Rattle.node_arena.specs.Amounts.{amount_under}
-use Rattle.image_shape.specs.Wholes.{spot_at}
-use Rattle.image_shape.proofs.Core.{one_under, amount-cons}
-use Rattle.image_shape.proofs.Rows.{table_rows, less_of, from_test}
+use Rattle.shape_test.specs.Wholes.{spot_at}
+use Rattle.shape_test.proofs.Core.{one_under, amount-cons}
+use Rattle.shape_test.proofs.BinRows.{table_rows, less_of, from_test}
 use Rattle.shape_test.specs.Merging.{NoRowFrom, IsFirstRow}
 
 -- what rows count in a bin

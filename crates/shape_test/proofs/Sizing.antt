@@ -10,9 +10,9 @@ use Rattle.time_table.specs.Counts.{BinCounts, count_of}
 use Rattle.node_arena.specs.Amounts.{Weighted, amount_under}
 use Rattle.node_arena.specs.Slots.{Slot, node, table, IsNode, counts_of}
 use Rattle.node_arena.specs.Stats.{capped}
-use Rattle.image_shape.specs.Wholes.{is_whole, spot_at, rows_at}
-use Rattle.image_shape.proofs.Core.{amount-cons}
-use Rattle.image_shape.proofs.Rows.{table_rows, less_of, from_test}
+use Rattle.shape_test.specs.Wholes.{is_whole, spot_at, rows_at}
+use Rattle.shape_test.proofs.Core.{amount-cons}
+use Rattle.shape_test.proofs.BinRows.{table_rows, less_of, from_test}
 use Rattle.shape_test.specs.Fits.{bag_sum, least_points, least_size}
 use Rattle.shape_test.specs.Merging.{NoRowFrom, IsFirstRow}
 use Rattle.shape_test.specs.Sizes.{capped_size, table_size, size_of}

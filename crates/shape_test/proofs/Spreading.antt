@@ -9,12 +9,12 @@ use Rattle.node_arena.specs.Amounts.{Weighted, spots_in}
 use Rattle.node_arena.specs.Shape.{home_of, HasShape}
 use Rattle.node_arena.specs.Slots.{Slot, IsTable, is_table, slot_of, link_of}
 use Rattle.node_arena.proofs.Reaching.{link_coarser, target-lt}
-use Rattle.image_shape.specs.Laws.{AllTablesCounted}
-use Rattle.image_shape.specs.Levels.{Levels, left, label_counts}
-use Rattle.image_shape.specs.Ways.{Way, along, count_below, IsFinest, Merges}
-use Rattle.image_shape.proofs.Core.{under_along}
-use Rattle.image_shape.proofs.Local.{left_spot, own_way, levels_of}
-use Rattle.image_shape.proofs.Decides.{under_home}
+use Rattle.shape_test.specs.Laws.{AllTablesCounted}
+use Rattle.shape_test.specs.Levels.{Levels, left, label_counts}
+use Rattle.shape_test.specs.Ways.{Way, along, count_below, IsFinest, Merges}
+use Rattle.shape_test.proofs.Core.{under_along}
+use Rattle.shape_test.proofs.Local.{left_spot, own_way, levels_of}
+use Rattle.shape_test.proofs.Decides.{under_home}
 use Rattle.shape_test.specs.Agreeing.{IsOver, MergesFrom}
 use Rattle.shape_test.specs.Filled.{HasRow, HasChild, IsBare, IsFilledNode}
 use Rattle.shape_test.specs.Fits.{IsSchemaCube, IsSchemaLocal, slots_bag}

@@ -5,9 +5,9 @@ use Rattle.cube_view.specs.Places.{deepest, time_dim}
 use Rattle.cube_view.specs.Walks.{down, across, Walk}
 use Rattle.cube_view.specs.declared.schema.Schema.{Schema}
 use Rattle.node_arena.specs.Shape.{home_of}
-use Rattle.image_shape.specs.Levels.{Levels, level_down, level_across, left, no_levels}
-use Rattle.image_shape.specs.Wholes.{is_deepest, is_whole}
-use Rattle.image_shape.proofs.Local.{level_begun}
+use Rattle.shape_test.specs.Levels.{Levels, level_down, level_across, left, no_levels}
+use Rattle.shape_test.specs.Wholes.{is_deepest, is_whole}
+use Rattle.shape_test.proofs.Local.{level_begun}
 use Rattle.shape_test.specs.Labels.{levels_from, schema_levels}
 use Rattle.shape_test.specs.Owners.{most_steps, TellsShort}
 use Rattle.shape_test.specs.Places.{levels_at}

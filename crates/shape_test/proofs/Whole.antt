@@ -8,8 +8,8 @@ use Rattle.time_table.specs.Counts.{BinCounts}
 use Rattle.node_arena.specs.Shape.{home_of}
 use Rattle.node_arena.specs.Slots.{Slot, slot_of}
 use Rattle.node_arena.specs.Stats.{capped}
-use Rattle.image_shape.specs.Levels.{Levels, left}
-use Rattle.image_shape.specs.Wholes.{is_deepest, rows_at, spelled_rows}
+use Rattle.shape_test.specs.Levels.{Levels, left}
+use Rattle.shape_test.specs.Wholes.{is_deepest, rows_at, spelled_rows}
 use Rattle.shape_test.specs.Fits.{least_points}
 use Rattle.shape_test.specs.Labels.{schema_levels, labels_fit}
 use Rattle.shape_test.specs.Merging.{NoRowFrom, IsFirstRow}

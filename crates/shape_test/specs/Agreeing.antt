@@ -5,7 +5,7 @@ use Rattle.cube_view.specs.Walks.{down, across}
 use Rattle.cube_view.specs.declared.schema.Schema.{Schema}
 use Rattle.node_arena.specs.declared.link.Link.{Link}
 use Rattle.node_arena.specs.Slots.{target, Slot, slot_of, link_of, count}
-use Rattle.image_shape.specs.Ways.{Way, count_below, IsFinest, Merges}
+use Rattle.shape_test.specs.Ways.{Way, count_below, IsFinest, Merges}
 use Rattle.shape_test.specs.declared.merging.Role.{Role}
 use Rattle.shape_test.specs.declared.merging.Role.TheVariants.{Whole, Part}
 use Rattle.shape_test.specs.declared.merging.Side.{Side}

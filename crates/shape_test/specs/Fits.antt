@@ -8,8 +8,8 @@ use Rattle.cube_view.specs.declared.schema.Schema.{Schema}
 use Rattle.node_arena.specs.Amounts.{Weighted, spots_in}
 use Rattle.node_arena.specs.Shape.{home_of}
 use Rattle.node_arena.specs.Slots.{Slot}
-use Rattle.image_shape.specs.Local.{IsLocal}
-use Rattle.image_shape.specs.Wholes.{spelled_bag, IsCubeOf}
+use Rattle.shape_test.specs.Local.{IsLocal}
+use Rattle.shape_test.specs.Wholes.{spelled_bag, IsCubeOf}
 use Rattle.shape_test.specs.Labels.{schema_levels, labels_fit, paths_fit}
 
 -- the slots are a cube of the spots with the amounts, and each label of the spots is one of the schema

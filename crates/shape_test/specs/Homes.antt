@@ -1,7 +1,7 @@
 -- Homes as they are kept: the steps to a slot, the last one first.
 use Rattle.std.specs.Prelude.{Bool, true, false, List, map}
 use Rattle.cube_view.specs.Walks.{Step, down, across, Walk}
-use Rattle.image_shape.specs.Ways.{Way}
+use Rattle.shape_test.specs.Ways.{Way}
 use Rattle.shape_test.specs.declared.home.Move.{Move}
 use Rattle.shape_test.specs.declared.home.Move.TheVariants.{Down, Across}
 

@@ -5,12 +5,17 @@ pub mod Fits
 pub mod Homes
 pub mod Labels
 pub mod Laws
+pub mod Levels
 pub mod Links
+pub mod Local
 pub mod Merging
 pub mod Owners
 pub mod Places
 pub mod Remainder
+pub mod Sharing
 pub mod Sizes
 pub mod Spans
 pub mod Standing
 pub mod Testable
+pub mod Ways
+pub mod Wholes

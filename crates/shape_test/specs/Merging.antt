@@ -3,7 +3,7 @@ use Rattle.std.specs.Prelude.{◌≡◌, ℕ, ◌<◌, ◌≤◌, ◌^◌, List,
 use Rattle.cube_view.specs.Walks.{down, across}
 use Rattle.time_table.specs.Counts.{BinCounts, count_of}
 use Rattle.node_arena.specs.Slots.{Slot, slot_of, children_of}
-use Rattle.image_shape.specs.Ways.{Way, count_below}
+use Rattle.shape_test.specs.Ways.{Way, count_below}
 
 -- along a way, in a bin
 abbrev pub parts_count : List Slot → ℕ → Way → ℕ → ℕ

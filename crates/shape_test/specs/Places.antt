@@ -4,8 +4,8 @@ use Rattle.cube_view.specs.Places.{deepest, time_dim}
 use Rattle.cube_view.specs.Walks.{Step, down, across, Walk, dimension}
 use Rattle.cube_view.specs.declared.schema.Schema.{Schema}
 use Rattle.node_arena.specs.Shape.{home_of}
-use Rattle.image_shape.specs.Levels.{Levels, left}
-use Rattle.image_shape.specs.Local.{HasLevels}
+use Rattle.shape_test.specs.Levels.{Levels, left}
+use Rattle.shape_test.specs.Local.{HasLevels}
 use Rattle.shape_test.specs.Labels.{levels_from, schema_levels, label_fits, labels_fit}
 use Rattle.shape_test.specs.declared.place.Place.{Place}
 

@@ -13,7 +13,7 @@ use Rattle.node_arena.specs.Amounts.{Weighted}
 use Rattle.node_arena.specs.Shape.{home_of, HasShape}
 use Rattle.node_arena.specs.Slots.{Slot, slot_of, counts_of}
 use Rattle.node_arena.specs.Stats.{capped}
-use Rattle.image_shape.specs.Laws.{AllTablesCounted}
+use Rattle.shape_test.specs.Laws.{AllTablesCounted}
 use Rattle.shape_test.specs.Filled.{HasSmallBins}
 use Rattle.shape_test.specs.Fits.{bag_sum, least_points, least_size, Fits}
 use Rattle.shape_test.specs.Homes.{walks_of}

@@ -5,7 +5,7 @@ use Rattle.cube_view.specs.Walks.{Walk}
 use Rattle.cube_view.specs.declared.schema.Schema.{Schema}
 use Rattle.node_arena.specs.Shape.{home_of}
 use Rattle.node_arena.specs.Slots.{Slot, IsNode, IsTable, slot_of}
-use Rattle.image_shape.specs.Sharing.{SharesAt}
+use Rattle.shape_test.specs.Sharing.{SharesAt}
 use Rattle.shape_test.specs.Agreeing.{MergesFrom}
 use Rattle.shape_test.specs.Filled.{HasRow, IsFilledNode}
 use Rattle.shape_test.specs.Links.{LinksFit}

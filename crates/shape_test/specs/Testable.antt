@@ -2,8 +2,8 @@
 use Rattle.std.specs.Prelude.{List}
 use Rattle.node_arena.specs.Slots.{Slot}
 use Rattle.node_arena.specs.Stats.{AllRising}
-use Rattle.image_shape.specs.Laws.{AllTablesCounted}
-use Rattle.image_shape.specs.Sharing.{LeadsWithin}
+use Rattle.shape_test.specs.Laws.{AllTablesCounted}
+use Rattle.shape_test.specs.Sharing.{LeadsWithin}
 use Rattle.shape_test.specs.Filled.{HasSmallBins}
 use Rattle.shape_test.specs.Links.{HasSmallLabels}
 

@@ -2,8 +2,8 @@
 ghost use Rattle.std.specs.Prelude.{◌≡◌, ℕ, ◌<◌, ◌∷◌, ◌++◌, length, option_to_list, OnOk};
 ghost use Rattle.cube_view.specs.Walks.{across};
 ghost use Rattle.node_arena.specs.Slots.{IsNode, slot_of};
-ghost use Rattle.image_shape.specs.Sharing.{LeadsWithin};
-ghost use Rattle.image_shape.specs.Ways.{count_below};
+ghost use Rattle.shape_test.specs.Sharing.{LeadsWithin};
+ghost use Rattle.shape_test.specs.Ways.{count_below};
 ghost use Rattle.shape_test.specs.Ends.{end_count, ends_count, IsEndIn, AreEnds};
 ghost use Rattle.shape_test.specs.Homes.{way_of};
 ghost use Rattle.shape_test.specs.Merging.{parts_count};

@@ -1,7 +1,7 @@
 //! Whether the content of a node counts what the contents of its children count together, along all finest ways.
 ghost use Rattle.std.specs.Prelude.{◌≡◌, ◌↔◌, ◌<◌, ◌++◌, ◌∷◌, [], length, take, ◌-◌, IsTrue, IfOk, OnOk};
 ghost use Rattle.node_arena.specs.Slots.{IsNode, slot_of};
-ghost use Rattle.image_shape.specs.Sharing.{LeadsWithin, SharesAt};
+ghost use Rattle.shape_test.specs.Sharing.{LeadsWithin, SharesAt};
 ghost use Rattle.shape_test.specs.Agreeing.{AllAgree, BinsAgree, CountedAgree, Covers, CoversParts, MergesFrom, MergesOver, RowsAgree};
 ghost use Rattle.shape_test.specs.Homes.{way_of};
 ghost use Rattle.shape_test.specs.Places.{IsSchemaPlace};

@@ -2,7 +2,7 @@
 ghost use Rattle.std.specs.Prelude.{◌≡◌, ◌↔◌, ℕ, ◌<◌, ◌^◌, length, IsTrue, IfOk, MatchOption};
 ghost use Rattle.time_table.specs.Counts.{count_of};
 ghost use Rattle.node_arena.specs.Slots.{IsNode, slot_of};
-ghost use Rattle.image_shape.specs.Ways.{Merges};
+ghost use Rattle.shape_test.specs.Ways.{Merges};
 ghost use Rattle.shape_test.specs.Homes.{way_of};
 ghost use Rattle.shape_test.specs.Merging.{NoRowFrom, IsFirstRow};
 ghost use Rattle.shape_test.specs.Testable.{AreReadable};

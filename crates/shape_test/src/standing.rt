@@ -3,7 +3,7 @@ ghost use Rattle.std.specs.Prelude.{◌≡◌, ◌↔◌, ◌<◌, ◌^◌, leng
 ghost use Rattle.node_arena.specs.Shape.{HasProperLinks, home_of};
 ghost use Rattle.node_arena.specs.Slots.{IsNode, IsTable, slot_of};
 ghost use Rattle.node_arena.specs.Stats.{AllRising};
-ghost use Rattle.image_shape.specs.Laws.{AllTablesCounted};
+ghost use Rattle.shape_test.specs.Laws.{AllTablesCounted};
 ghost use Rattle.shape_test.specs.Fits.{IsSchemaLocal};
 ghost use Rattle.shape_test.specs.Homes.{walks_of};
 ghost use Rattle.shape_test.specs.Standing.{TableStands, NodeStands, SuitsPlace, SlotStands, AllStand, AllMerge};
@@ -17,8 +17,8 @@ use crate::links::links_fit;
 use crate::merging::node_merges;
 use crate::place::{Place, deepest, time_dim};
 use crate::rows::Room;
+use crate::sharing::shares_only;
 use cube_view::Schema;
-use image_shape::shares_only;
 use node_arena::{Arena, SlotId};
 use outer_io::{List, NoMemory};
 use probe_core::Steps;

@@ -1,6 +1,6 @@
 use Rattle.std.proofs.Common.{◌∙◌, sym}
 use Rattle.cube_view.specs.Walks.{across}
-use Rattle.image_shape.proofs.Core.{no_step}
+use Rattle.shape_test.proofs.Core.{no_step}
 use Rattle.shape_test.specs.Homes.{way_of}
 use Rattle.shape_test.proofs.ends.content_end.Goals as goal
 

@@ -1,7 +1,7 @@
 use Rattle.std.proofs.Common.{◌≡◌, ℕ, ◌-◌, ◌∷◌}
 use Rattle.cube_view.specs.Walks.{down, across}
 use Rattle.node_arena.specs.Slots.{children_of, slot_of}
-use Rattle.image_shape.specs.Ways.{count_below}
+use Rattle.shape_test.specs.Ways.{count_below}
 use Rattle.shape_test.specs.Ends.{ends_count, AreEnds}
 use Rattle.shape_test.specs.Homes.{way_of}
 use Rattle.shape_test.proofs.Adding.{sum_upto}

@@ -3,7 +3,7 @@ use Rattle.std.proofs.lemmas.Result.{IfOk-weaker}
 use Rattle.cube_view.specs.Walks.{down, across}
 use Rattle.node_arena.specs.declared.link.Link.{Link}
 use Rattle.node_arena.specs.Slots.{target}
-use Rattle.image_shape.specs.Ways.{Way}
+use Rattle.shape_test.specs.Ways.{Way}
 use Rattle.shape_test.specs.Agreeing.{AllAgree, BinsAgree, CountedAgree, RowsAgree}
 use Rattle.shape_test.specs.Homes.{way_of}
 use Rattle.shape_test.specs.declared.home.Move.{Move}

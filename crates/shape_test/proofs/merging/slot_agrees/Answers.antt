@@ -1,6 +1,6 @@
 use Rattle.std.proofs.Common.{ℕ, ◌<◌, sym, ◌∙◌, subst, arith}
 use Rattle.node_arena.specs.Slots.{count, slot_of}
-use Rattle.image_shape.specs.Ways.{Merges}
+use Rattle.shape_test.specs.Ways.{Merges}
 use Rattle.shape_test.specs.Agreeing.{AgreesAs, BinsAgree, HasCount, RowsAgree}
 use Rattle.shape_test.specs.Homes.{way_of}
 use Rattle.shape_test.specs.declared.merging.Role.{Role}

@@ -1,6 +1,6 @@
 use Rattle.std.proofs.Common.{◌≡◌, ℕ, List, sym, ap, ◌∙◌}
 use Rattle.node_arena.specs.declared.link.SlotId.{SlotId}
-use Rattle.image_shape.specs.Ways.{Merges}
+use Rattle.shape_test.specs.Ways.{Merges}
 use Rattle.shape_test.specs.Ends.{end_count, ends_count}
 use Rattle.shape_test.specs.Homes.{way_of}
 use Rattle.shape_test.proofs.Remaining.{decides_same}

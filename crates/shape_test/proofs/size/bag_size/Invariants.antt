@@ -1,5 +1,5 @@
 use Rattle.std.proofs.Common.{◌≡◌}
-use Rattle.image_shape.specs.Wholes.{spelled_rows}
+use Rattle.shape_test.specs.Wholes.{spelled_rows}
 use Rattle.shape_test.specs.Homes.{walks_of}
 use Rattle.shape_test.specs.Labels.{schema_levels}
 use Rattle.shape_test.specs.Sizes.{size_of}

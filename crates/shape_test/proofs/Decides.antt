@@ -9,15 +9,15 @@ use Rattle.node_arena.specs.Shape.{home_of, HasShape}
 use Rattle.node_arena.specs.Slots.{proper, Slot, empty_node, slot_of, children_of, link}
 use Rattle.node_arena.specs.Stats.{AllRising}
 use Rattle.node_arena.proofs.Reaching.{walk_home}
-use Rattle.image_shape.specs.Levels.{Levels, left, no_levels, label_counts}
-use Rattle.image_shape.specs.Local.{HasLevels, IsLocal, AllHaveLevels, AllHaveCounts, AllContentsMerge}
-use Rattle.image_shape.specs.Ways.{Way, along, count_below, IsFinest, Merges}
-use Rattle.image_shape.proofs.Listed.{joined, ListsRows}
-use Rattle.image_shape.proofs.Apart.{all_apart}
-use Rattle.image_shape.proofs.Back.{found_counts, left_along, shape_merges}
-use Rattle.image_shape.proofs.Core.{HasAmounts, no_step, counted}
-use Rattle.image_shape.proofs.Local.{levels_of, left_spot, own_way, local_shaped}
-use Rattle.image_shape.proofs.Root.{root_tells}
+use Rattle.shape_test.specs.Levels.{Levels, left, no_levels, label_counts}
+use Rattle.shape_test.specs.Local.{HasLevels, IsLocal, AllHaveLevels, AllHaveCounts, AllContentsMerge}
+use Rattle.shape_test.specs.Ways.{Way, along, count_below, IsFinest, Merges}
+use Rattle.shape_test.proofs.Listed.{joined, ListsRows}
+use Rattle.shape_test.proofs.Apart.{all_apart}
+use Rattle.shape_test.proofs.Back.{found_counts, left_along, shape_merges}
+use Rattle.shape_test.proofs.Core.{HasAmounts, no_step, counted}
+use Rattle.shape_test.proofs.Local.{levels_of, left_spot, own_way, local_shaped}
+use Rattle.shape_test.proofs.Root.{root_tells}
 
 -- a spot lies under the home of each slot but the root
 pub under_home : (dims : ℕ) (slots : List Slot) (homes : List Walk) (h : List Weighted) → HasShape dims slots homes h → (j : ℕ) → 0 < j → j < length slots → HasSpot (spots_in h) (home_of homes j)

@@ -8,11 +8,11 @@ use Rattle.node_arena.specs.Slots.{proper, target, Slot, link_of}
 use Rattle.node_arena.specs.Shape.{home_of, IsLinked, IsShaped, HasHomes}
 use Rattle.node_arena.proofs.Linked.{linked-lt}
 use Rattle.node_arena.proofs.Reaching.{link_coarser, target-lt}
-use Rattle.image_shape.specs.Levels.{Levels, level_down, level_across, level_step, then_level, left, label_counts}
-use Rattle.image_shape.specs.Local.{IsLocal}
-use Rattle.image_shape.specs.Ways.{Way, along, count_below, IsFinest}
-use Rattle.image_shape.proofs.Apart.{all_apart}
-use Rattle.image_shape.proofs.Core.{Tells, IsMerged, HasAmounts, step_first, begins, across_tells, agrees, counted, amount-cons, one_under, under_along}
+use Rattle.shape_test.specs.Levels.{Levels, level_down, level_across, level_step, then_level, left, label_counts}
+use Rattle.shape_test.specs.Local.{IsLocal}
+use Rattle.shape_test.specs.Ways.{Way, along, count_below, IsFinest}
+use Rattle.shape_test.proofs.Apart.{all_apart}
+use Rattle.shape_test.proofs.Core.{Tells, IsMerged, HasAmounts, step_first, begins, across_tells, agrees, counted, amount-cons, one_under, under_along}
 
 -- levels of a spot
 abbrev pub levels_of : Cursor → Levels

@@ -4,8 +4,8 @@ use Rattle.cube_view.specs.Walks.{Walk}
 use Rattle.node_arena.specs.Shape.{home_of, HasHomes, HasTables, SharesOnlyContent}
 use Rattle.node_arena.specs.Slots.{Slot, IsTable, slot_of}
 use Rattle.node_arena.specs.Stats.{AllRising}
-use Rattle.image_shape.specs.Levels.{Levels, left, no_levels}
-use Rattle.image_shape.specs.Ways.{Way, IsFinest, Merges, count_below}
+use Rattle.shape_test.specs.Levels.{Levels, left, no_levels}
+use Rattle.shape_test.specs.Ways.{Way, IsFinest, Merges, count_below}
 
 -- something is left at an address
 pub record HasLevels (levels : List ℕ) (a : Walk) : Type 0 where

@@ -9,16 +9,16 @@ use Rattle.cube_view.proofs.Walking.{under-some}
 use Rattle.node_arena.specs.Amounts.{Weighted, spots_in, amount_under}
 use Rattle.node_arena.specs.Shape.{home_of, HasShape}
 use Rattle.node_arena.specs.Slots.{Slot, node, table, empty_node, slot_of, counts_of, IsTable}
-use Rattle.image_shape.specs.Laws.{AllTablesCounted, TellsCube, TellsLocal}
-use Rattle.image_shape.specs.Levels.{Levels, level_down, level_across, left, no_levels, label_counts, EndsWithTime}
-use Rattle.image_shape.specs.Local.{IsLocal}
-use Rattle.image_shape.specs.Wholes.{is_whole, paths_along, spot_at, rows_at, spelled_rows, spelled_bag, IsCubeOf}
-use Rattle.image_shape.proofs.Core.{HasAmounts}
-use Rattle.image_shape.proofs.Decides.{local_is_shape, shape_is_local}
-use Rattle.image_shape.proofs.Listed.{IsWhole, joined, ListsRows}
-use Rattle.image_shape.proofs.Local.{left_spot, levels_of, level_begun}
-use Rattle.image_shape.proofs.Rows.{whole_from_test, whole_test, labels_are, same_labels, table_rows, rows_at-paths}
-use Rattle.image_shape.proofs.Timing.{time_of}
+use Rattle.shape_test.specs.Laws.{AllTablesCounted, TellsCube, TellsLocal}
+use Rattle.shape_test.specs.Levels.{Levels, level_down, level_across, left, no_levels, label_counts, EndsWithTime}
+use Rattle.shape_test.specs.Local.{IsLocal}
+use Rattle.shape_test.specs.Wholes.{is_whole, paths_along, spot_at, rows_at, spelled_rows, spelled_bag, IsCubeOf}
+use Rattle.shape_test.proofs.Core.{HasAmounts}
+use Rattle.shape_test.proofs.Decides.{local_is_shape, shape_is_local}
+use Rattle.shape_test.proofs.Listed.{IsWhole, joined, ListsRows}
+use Rattle.shape_test.proofs.Local.{left_spot, levels_of, level_begun}
+use Rattle.shape_test.proofs.BinRows.{whole_from_test, whole_test, labels_are, same_labels, table_rows, rows_at-paths}
+use Rattle.shape_test.proofs.Timing.{time_of}
 
 -- the first levels
 first_left : (dims : ℕ) (levels : List ℕ) → EndsWithTime dims levels → (c : Levels) × (left levels [] ≡ Some c)

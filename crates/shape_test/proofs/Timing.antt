@@ -2,8 +2,8 @@
 use Rattle.std.proofs.Common.{◌≡◌, ◌↔◌, ℕ, zero, suc, ◌+◌, ◌-◌, ◌≤◌, List, [], ◌∷◌, ◌++◌, length, get_or, Some, refl, sym, ap, ◌∙◌, arith, append_assoc, length-append}
 use Rattle.std.proofs.lemmas.List.{nil_from_length}
 use Rattle.cube_view.specs.Walks.{down, across, Walk, dimension}
-use Rattle.image_shape.specs.Levels.{Levels, level_down, level_across, left, no_levels, EndsWithTime}
-use Rattle.image_shape.proofs.Local.{level_begun}
+use Rattle.shape_test.specs.Levels.{Levels, level_down, level_across, left, no_levels, EndsWithTime}
+use Rattle.shape_test.proofs.Local.{level_begun}
 
 -- where an address stands among the levels
 pub record StandsIn (levels : List ℕ) (a : Walk) (c : Levels) : Type 0 where

@@ -8,11 +8,11 @@ use Rattle.node_arena.specs.Reach.{count_reached}
 use Rattle.node_arena.specs.Shape.{home_of, IsShaped}
 use Rattle.node_arena.specs.Slots.{Slot, child, slot_of, children_of, walk_end}
 use Rattle.node_arena.proofs.Reaching.{walk-lt, walk_coarser, walk_home, walk_reaches, walk_counts}
-use Rattle.image_shape.specs.Levels.{Levels, level_down, level_across, then_level, left, label_counts}
-use Rattle.image_shape.specs.Ways.{Way, found, along, count_below, IsFinest, Merges}
+use Rattle.shape_test.specs.Levels.{Levels, level_down, level_across, then_level, left, label_counts}
+use Rattle.shape_test.specs.Ways.{Way, found, along, count_below, IsFinest, Merges}
 use Rattle.node_arena.proofs.Labelled.{link_down}
-use Rattle.image_shape.proofs.Core.{IsApart, sum_same, splits, GoesDown, absent, under_along}
-use Rattle.image_shape.proofs.Local.{left_spot, own_way, levels_of}
+use Rattle.shape_test.proofs.Core.{IsApart, sum_same, splits, GoesDown, absent, under_along}
+use Rattle.shape_test.proofs.Local.{left_spot, own_way, levels_of}
 
 pub found_along : (slots : List Slot) (a : Walk) (way : Way) → walk_end slots 0 (along a way) ≡ found slots (walk_end slots 0 a) way
 found_along slots a [] = refl

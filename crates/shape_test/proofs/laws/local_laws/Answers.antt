@@ -1,5 +1,5 @@
-use Rattle.image_shape.proofs.Bag.{tells_cube, tells_local}
-use Rattle.image_shape.proofs.laws.local_laws.Goals as goal
+use Rattle.shape_test.proofs.Bag.{tells_cube, tells_local}
+use Rattle.shape_test.proofs.laws.local_laws.Goals as goal
 
 pub returns-clause-cube : goal.returns-clause-cube
 returns-clause-cube c = tells_cube

@@ -7,7 +7,7 @@ use Rattle.node_arena.specs.Shape.{HasOneChild, SharesContent}
 use Rattle.node_arena.specs.Slots.{shared, target, Children, IsRising, Slot, node, table, IsTable, slot_of, children_of, link, link_of, child}
 use Rattle.node_arena.specs.Stats.{is_proper}
 use Rattle.node_arena.proofs.Linked.{link_cases}
-use Rattle.image_shape.specs.Sharing.{SharesAt, LeadsWithin}
+use Rattle.shape_test.specs.Sharing.{SharesAt, LeadsWithin}
 use Rattle.node_arena.proofs.Labelled.{link_down}
 
 -- the one child

@@ -8,13 +8,13 @@ use Rattle.node_arena.specs.Reach.{count_reached}
 use Rattle.node_arena.specs.Shape.{home_of}
 use Rattle.node_arena.specs.Slots.{Slot, slot_of, IsTable, walk_end}
 use Rattle.node_arena.proofs.Reaching.{walk-lt, walk_coarser, walk_home}
-use Rattle.image_shape.specs.Levels.{Levels, level_step, then_level, left}
-use Rattle.image_shape.specs.Local.{IsLocal}
-use Rattle.image_shape.specs.Ways.{Way, along, IsFinest}
-use Rattle.image_shape.proofs.Listed.{IsWhole, joined, ListsRows}
-use Rattle.image_shape.proofs.Back.{found_along, left_along}
-use Rattle.image_shape.proofs.Core.{Tells, one_under, absent}
-use Rattle.image_shape.proofs.Local.{level_begun}
+use Rattle.shape_test.specs.Levels.{Levels, level_step, then_level, left}
+use Rattle.shape_test.specs.Local.{IsLocal}
+use Rattle.shape_test.specs.Ways.{Way, along, IsFinest}
+use Rattle.shape_test.proofs.Listed.{IsWhole, joined, ListsRows}
+use Rattle.shape_test.proofs.Back.{found_along, left_along}
+use Rattle.shape_test.proofs.Core.{Tells, one_under, absent}
+use Rattle.shape_test.proofs.Local.{level_begun}
 
 -- a finest way leads to a whole address
 pub along_whole : (levels : List ℕ) (a : Walk) (n : ℕ) (later : List ℕ) (way : Way) → IsWhole levels a → left levels a ≡ Some (record { rest = n; later = later }) → IsFinest n later way → IsWhole levels (along a way)

@@ -9,7 +9,7 @@ use Rattle.node_arena.specs.Amounts.{Weighted, spots_in, amount_under}
 use Rattle.node_arena.specs.Reach.{count_reached}
 use Rattle.node_arena.specs.Slots.{target, Children, Slot, child, link_of, slot_of, reached, children_of}
 use Rattle.node_arena.proofs.Labelled.{same_down, link_down}
-use Rattle.image_shape.specs.Ways.{Way, found, along, count_below, IsFinest, Merges}
+use Rattle.shape_test.specs.Ways.{Way, found, along, count_below, IsFinest, Merges}
 
 -- no label stands twice
 abbrev pub IsApart : Children → Type 0

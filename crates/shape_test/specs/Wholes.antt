@@ -5,7 +5,7 @@ use Rattle.cube_view.specs.Walks.{down, across, Walk, SpotPath}
 use Rattle.node_arena.specs.Amounts.{Weighted, spots_in}
 use Rattle.node_arena.specs.Shape.{home_of, HasShape}
 use Rattle.node_arena.specs.Slots.{Slot, slot_of, counts_of}
-use Rattle.image_shape.specs.Levels.{Levels, left, label_counts}
+use Rattle.shape_test.specs.Levels.{Levels, left, label_counts}
 
 -- no level is left of the dimension
 abbrev pub is_deepest : Option Levels → Bool

@@ -2,7 +2,7 @@
 ghost use Rattle.std.specs.Prelude.{◌≡◌, ◌↔◌, ◌<◌, ◌==◌, ◌&&◌, not, length, IsTrue};
 ghost use Rattle.node_arena.specs.Slots.{IsNode, slot_of, target};
 ghost use Rattle.node_arena.specs.Stats.{is_proper};
-ghost use Rattle.image_shape.specs.Sharing.{SharesAt, LeadsWithin};
+ghost use Rattle.shape_test.specs.Sharing.{SharesAt, LeadsWithin};
 
 use node_arena::{Arena, Link, SlotId};
 use probe_core::Steps;

@@ -14,11 +14,11 @@ use Rattle.time_table.specs.Counts.{BinCounts, count_of}
 use Rattle.time_table.proofs.Passing.{below}
 use Rattle.node_arena.specs.Amounts.{spots_in, amount_under}
 use Rattle.node_arena.specs.Slots.{Slot, counts_of}
-use Rattle.image_shape.specs.Levels.{Levels, left, label_counts}
-use Rattle.image_shape.specs.Wholes.{is_deepest, is_whole, paths_along, spot_at, rows_at}
-use Rattle.image_shape.proofs.Core.{one_under, amount-cons}
-use Rattle.image_shape.proofs.Local.{levels_of, left_spot}
-use Rattle.image_shape.proofs.Listed.{IsWhole}
+use Rattle.shape_test.specs.Levels.{Levels, left, label_counts}
+use Rattle.shape_test.specs.Wholes.{is_deepest, is_whole, paths_along, spot_at, rows_at}
+use Rattle.shape_test.proofs.Core.{one_under, amount-cons}
+use Rattle.shape_test.proofs.Local.{levels_of, left_spot}
+use Rattle.shape_test.proofs.Listed.{IsWhole}
 
 -- a spot with the labels of an address goes to it
 along_cursor : (a : Walk) (path : List ℕ) (later : List (List ℕ)) (q : SpotPath) → q.paths ≡ paths_along a path later → cursor q a ≡ Some (record { rest = path; later = later })

@@ -5,7 +5,7 @@ use Rattle.std.proofs.lemmas.Bool.{cases_lt}
 use Rattle.node_arena.specs.Slots.{Children, IsRising, Slot, empty_node, children_of, slot_of}
 use Rattle.node_arena.specs.Stats.{AllRising}
 use Rattle.node_arena.proofs.Labelled.{child_before, rising-tail}
-use Rattle.image_shape.proofs.Core.{IsApart}
+use Rattle.shape_test.proofs.Core.{IsApart}
 
 -- children whose labels rise have labels that are apart
 pub rising_apart : (kids : Children) → IsRising kids → IsApart kids

@@ -1,8 +1,8 @@
 use Rattle.std.proofs.Common.{refl, sym, ◌∙◌}
 use Rattle.cube_view.specs.Walks.{across}
-use Rattle.image_shape.proofs.OnlyChild.{shares_alone, child_within, no_content, no_own, shares_test, table_link}
+use Rattle.shape_test.proofs.OnlyChild.{shares_alone, child_within, no_content, no_own, shares_test, table_link}
 use Rattle.node_arena.specs.Slots.{slot_of, target}
-use Rattle.image_shape.proofs.sharing.shares_only.Goals as goal
+use Rattle.shape_test.proofs.sharing.shares_only.Goals as goal
 
 pub returns-in_default : goal.returns-in_default
 returns-in_default g c = (λ yes. shares_alone c.args.arena.now c.args.id.0 c.only_child.ensures.in_order (sym c.only_child.ensures.link ∙ c.in_default.is), λ S. refl)

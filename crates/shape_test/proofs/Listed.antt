@@ -4,7 +4,7 @@ use Rattle.cube_view.specs.Walks.{down, across, Walk, SpotPath, Under}
 use Rattle.node_arena.specs.Amounts.{Weighted, spots_in, amount_under}
 use Rattle.node_arena.specs.Shape.{home_of}
 use Rattle.node_arena.specs.Slots.{Slot, IsTable, slot_of, count}
-use Rattle.image_shape.specs.Levels.{left}
+use Rattle.shape_test.specs.Levels.{left}
 
 -- the address goes to the deepest level of each dimension that it has left behind
 abbrev pub IsWhole : List ℕ → Walk → Type 0

@@ -1,6 +1,0 @@
-pub mod Levels
-pub mod Local
-pub mod Sharing
-pub mod Ways
-pub mod Wholes
-pub mod Laws
