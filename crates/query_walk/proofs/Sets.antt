@@ -54,7 +54,8 @@ there true false true = refl
 there true false false = refl
 there false r b = refl
 
-below_same : (x v : ℕ) → (x ≡ v → ⊥) → ltb x (v + 1) ≡ ltb x v
+-- a number that is not the bound lies below it or not, with one more or without
+pub below_same : (x v : ℕ) → (x ≡ v → ⊥) → ltb x (v + 1) ≡ ltb x v
 below_same x v ne = ⊎_elim
     (λ (lt : x < v). lt-ltb x (v + 1) (omega (arith, lt)) ∙ sym (lt-ltb x v lt))
     (λ (ge : v ≤ x). le-ltb x (v + 1) (omega (arith, ge, ne)) ∙ sym (le-ltb x v ge))

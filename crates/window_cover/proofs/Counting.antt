@@ -8,6 +8,7 @@ use Rattle.std.proofs.lemmas.List.Sums.{sum_by-cons}
 use Rattle.cube_view.proofs.OneWeight.{one_if}
 use Rattle.cube_view.specs.Places.{longer_tile, quadrant_at}
 use Rattle.cube_view.specs.declared.address.Tile.{Tile}
+use Rattle.query_syntax.proofs.FilterSteps.{one_if-le}
 use Rattle.query_syntax.specs.Queries.{whole_space}
 use Rattle.query_syntax.specs.TileOrder.{quadrants}
 use Rattle.query_walk.proofs.Addresses.{sum_by-flat_map}
@@ -76,10 +77,6 @@ module _ (depth : ℕ) (r : Rect) (x y : ℕ) where
   pub held_in_all : count_by holder (cover depth r) ≡ one_if (holder whole_space && has_place r x y)
   held_in_all = ap (count_by holder) (cover_is depth r) ∙ held depth whole_space (omega arith)
 
-one_at_most : (b : Bool) → one_if b ≤ 1
-one_at_most true = omega arith
-one_at_most false = omega arith
-
 counted : (b c : Bool) (n : ℕ) → c ≡ ltb 0 n → b || c ≡ ltb 0 (cond b 1 0 + n)
 counted true c n e = sym (lt-ltb 0 (1 + n) (omega arith))
 counted false c n e = let z : n ≡ 0 + n = omega arith in e ∙ ap (λ m. ltb 0 m) z
@@ -98,7 +95,7 @@ one_if_any false = refl
 pub apart : (depth : ℕ) (r : Rect) (x y : ℕ) → count_by (λ t. holds depth t x y) (cover depth r) ≤ 1
 apart depth r x y =
     let e = held_in_all depth r x y in
-    let le = one_at_most (holds depth whole_space x y && has_place r x y) in
+    let le = one_if-le (holds depth whole_space x y && has_place r x y) in
     omega (arith, e, le)
 
 pub whole_holds : (depth x y : ℕ) → x < 2 ^ depth → y < 2 ^ depth → holds depth whole_space x y ≡ true

@@ -30,10 +30,6 @@ module _ {A B : Type 0} (R : A → B → Bool) where
   abbrev fits_of : A → B → ℕ
   fits_of a b = cond (R a b) 1 0
 
-  sum_same : {C : Type 0} (f g : C → ℕ) → ((c : C) → f c ≡ g c) → (xs : List C) → sum_by f xs ≡ sum_by g xs
-  sum_same f g each [] = refl
-  sum_same f g each (x ∷ xs) = sum_by-cons f x xs ∙ ((λ i. each x i + sum_same f g each xs i) ∙ sym (sum_by-cons g x xs))
-
   sum_none : (xs : List B) → 0 ≡ sum_by (λ b. 0) xs
   sum_none [] = refl
   sum_none (x ∷ xs) = let c = sum_by-cons (λ (b : B). 0) x xs in let rest = sum_none xs in omega (arith, c, rest)
@@ -54,7 +50,7 @@ module _ {A B : Type 0} (R : A → B → Bool) where
       sum_by-cons (λ a. count_by (R a) ys) x xs
       ∙ (ap (λ n. count_by (R x) ys + n) (pairs_swapped xs ys)
       ∙ (sum_added (fits_of x) (λ b. count_by (λ a. R a b) xs) ys
-      ∙ sum_same (λ b. fits_of x b + count_by (λ a. R a b) xs) (λ b. count_by (λ a. R a b) (x ∷ xs)) (λ b. sym (sum_by-cons (λ a. fits_of a b) x xs)) ys))
+      ∙ (λ i. sum_by (λ b. sym (sum_by-cons (λ a. fits_of a b) x xs) i) ys)))
 
 -- a sum over items that pass a test, each with 1 or more
 each_one : {A : Type 0} (p : A → Bool) (f : A → ℕ) → ((x : A) → p x ≡ true → 1 ≤ f x) → (xs : List A) → list_all p xs ≡ true → length xs ≤ sum_by f xs

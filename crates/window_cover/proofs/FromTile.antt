@@ -73,9 +73,6 @@ module _ (costs : ViewCosts) (z : Schema) (h : List Point) where
   same_after : (values : List (Option ℕ)) (t : Tile) → after_space_cost free z h values t ≡ after_space_cost costs z h values t
   same_after values t = ap (λ n. 1 + cost_if (ltb 0 (amount anywhere h)) n) (same_categories values (next_dim (region_address t)) (omega arith))
 
-  sum_same : {A : Type 0} (f g : A → ℕ) → ((x : A) → f x ≡ g x) → (xs : List A) → sum_by f xs ≡ sum_by g xs
-  sum_same f g each xs = λ i. sum_by (λ x. each x i) xs
-
   module _ (q : Query) (t : Tile) (found : is_found z h t ≡ true) where
     address_free : (values : List (Option ℕ)) → address_cost free z h (address_at z t values) ≡ from_tile_cost costs z h (address_at z t values)
     address_free values =
@@ -88,7 +85,7 @@ module _ (costs : ViewCosts) (z : Schema) (h : List Point) where
     search_free : search_cost free z h (with_region q t) ≡ tile_cost costs z h q t
     search_free =
         sum_by-map (address_cost free z h) (address_at z t) (asked_lists q.sets)
-        ∙ (sum_same (λ values. address_cost free z h (address_at z t values)) (λ values. from_tile_cost costs z h (address_at z t values)) address_free (asked_lists q.sets)
+        ∙ ((λ i. sum_by (λ values. address_free values i) (asked_lists q.sets))
         ∙ (sym (sum_by-map (from_tile_cost costs z h) (address_at z t) (asked_lists q.sets))
         ∙ sym (cost_if-true (is_found z h t) (sum_by (from_tile_cost costs z h) (addresses z (with_region q t))) found)))
 

@@ -5,6 +5,7 @@ use Rattle.std.specs.List.{flat_map}
 use Rattle.std.proofs.lemmas.Bool.{both_ways, false_from_ne_true}
 use Rattle.std.proofs.lemmas.Grind.{flat_map-append}
 use Rattle.std.proofs.lemmas.List.{append-nil}
+use Rattle.cube_view.proofs.Shifting.{by_one}
 use Rattle.cube_view.specs.Places.{longer_tile}
 use Rattle.cube_view.specs.declared.address.Tile.{Tile}
 use Rattle.query_syntax.proofs.TilesInside.{inside_deeper}
@@ -21,9 +22,6 @@ use Rattle.window_cover.proofs.Quadrants.{contains_numbers, finest_inside, holds
 flat_map-flat_map : {A B C : Type 0} (f : B → List C) (g : A → List B) (xs : List A) → flat_map f (flat_map g xs) ≡ flat_map (λ x. flat_map f (g x)) xs
 flat_map-flat_map f g [] = refl
 flat_map-flat_map f g (x ∷ xs) = flat_map-append f (g x) (flat_map g xs) ∙ ap (λ ys. flat_map f (g x) ++ ys) (flat_map-flat_map f g xs)
-
-by_one : (n : ℕ) → n / 2 ^ 0 ≡ n
-by_one n = omega arith
 
 times_one : (n : ℕ) → n * 2 ^ 0 ≡ n
 times_one n = omega arith

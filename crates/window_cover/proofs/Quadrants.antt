@@ -2,6 +2,7 @@
 use Rattle.std.proofs.Common.{◌≡◌, ℕ, ◌+◌, ◌-◌, ◌*◌, ◌/◌, ◌%◌, ◌^◌, ◌<◌, ◌≤◌, Bool, true, false, ◌&&◌, eqb, leb, ltb, refl, sym, ◌∙◌, ap, arith}
 use Rattle.std.proofs.lemmas.Bool.{and_parts, and_from, eqb-true, eq-eqb, leb-true, le-leb, ltb-true, lt-ltb}
 use Rattle.std.proofs.lemmas.Nat.{shr-shr}
+use Rattle.cube_view.proofs.Walking.{iff_same}
 use Rattle.cube_view.specs.Places.{shifted, longer_tile, quadrant_at}
 use Rattle.cube_view.specs.declared.address.Tile.{Tile}
 use Rattle.query_syntax.specs.Tiles.{is_tile}
@@ -10,12 +11,6 @@ use Rattle.window_cover.specs.Covers.{parent}
 use Rattle.query_syntax.specs.Windows.{has_place}
 use Rattle.window_cover.specs.Rects.{holds, tile_rect, contains, overlap, meets, is_inside}
 use Rattle.window_cover.proofs.Sides.{ends_after, half_side, half_within, in_side}
-
--- two tests of which each holds where the other does
-pub same_test : (a b : Bool) → (a ≡ true → b ≡ true) → (b ≡ true → a ≡ true) → a ≡ b
-same_test true b there back = sym (there refl)
-same_test false true there back = back refl
-same_test false false there back = refl
 
 -- a test that would make a failed one hold fails
 pub fails : (a b : Bool) → (a ≡ true → b ≡ true) → b ≡ false → a ≡ false
@@ -84,7 +79,7 @@ module _ (depth : ℕ) (t : Tile) (l : ℕ) (deep : t.z < depth) (lt : l < 4) wh
   holds_quadrant x y =
       let hx = half x in
       let hy = half y in
-      same_test (holds depth (longer_tile 1 t l) x y) (holds depth t x y && eqb (quadrant_at depth (t.z + 1) x y) l)
+      iff_same (holds depth (longer_tile 1 t l) x y) (holds depth t x y && eqb (quadrant_at depth (t.z + 1) x y) l)
       (λ is.
       let e = holds_numbers depth (longer_tile 1 t l) x y is in
       let ex = e.0 in

@@ -3,7 +3,7 @@ use Rattle.std.proofs.Common.{◌≡◌, ℕ, suc, ◌+◌, ◌-◌, ◌*◌, �
 use Rattle.std.specs.List.{flat_map, sum_by}
 use Rattle.std.proofs.Math.Bool.{and_assoc}
 use Rattle.std.proofs.Math.Nat.{add-mul}
-use Rattle.std.proofs.lemmas.Bool.{and_parts, and_from, and_right, both_ways, eq-eqb, ne_eqb, leb-true, le-leb, lt-ltb, le-ltb, cases_eq, cases_lt}
+use Rattle.std.proofs.lemmas.Bool.{and_parts, and_from, and_right, both_ways, eq-eqb, ne_eqb, leb-true, le-leb, lt-ltb, le-ltb, cases_eq}
 use Rattle.std.proofs.lemmas.List.Sums.{sum_by-cons}
 use Rattle.cube_view.proofs.Amounts.{amount-nil, amount-none, amount-same, amount-split, none-less}
 use Rattle.cube_view.proofs.Costing.{cost_if-true, has_spot-quadrant, is_found-spot}
@@ -28,6 +28,7 @@ use Rattle.query_syntax.specs.declared.query.Verb.TheVariants.{Count, Hist, Map,
 use Rattle.query_syntax.specs.declared.table.RowOut.{RowOut}
 use Rattle.query_syntax.specs.declared.table.Table.{Table}
 use Rattle.query_walk.proofs.Boxed.{valid_has_box}
+use Rattle.query_walk.proofs.Sets.{below_same}
 use Rattle.query_walk.proofs.Sums.{sum_upto-more}
 use Rattle.query_walk.specs.Costs.{sum_upto}
 use Rattle.window_cover.specs.Costs.{crossed_cost, tile_cost, window_cost}
@@ -49,12 +50,6 @@ label_of_spot depth t s = quadrant_at depth (t.z + 1) s.x s.y
 abbrev pub is_window_under : ℕ → Query → Rect → Tile → ℕ → Spot → Bool
 is_window_under depth q r t l s = in_tile depth t s && (ltb (label_of_spot depth t s) l && is_in_window q r s)
 
-label_same : (x l : ℕ) → (x ≡ l → ⊥) → ltb x (l + 1) ≡ ltb x l
-label_same x l ne = ⊎_elim
-    (λ (lt : x < l). lt-ltb x (l + 1) (omega (arith, lt)) ∙ sym (lt-ltb x l lt))
-    (λ (ge : l ≤ x). le-ltb x (l + 1) (omega (arith, ge, ne)) ∙ sym (le-ltb x l ge))
-    (cases_lt x l)
-
 here : (u w : Bool) → one_if (u && w) ≡ one_if (u && false) + one_if ((u && true) && w)
 here true true = refl
 here true false = refl
@@ -71,7 +66,7 @@ there false w b = refl
 label_split : (x l : ℕ) (u w : Bool) → one_if (u && (ltb x (l + 1) && w)) ≡ one_if (u && (ltb x l && w)) + one_if ((u && eqb x l) && w)
 label_split x l u w = ⊎_elim
     (λ (e : x ≡ l). rw (lt-ltb x (l + 1) (omega (arith, e)), le-ltb x l (omega (arith, e)), eq-eqb x l e) (here u w))
-    (λ (ne : x ≡ l → ⊥). rw (label_same x l ne, ne_eqb x l ne) (there u w (ltb x l)))
+    (λ (ne : x ≡ l → ⊥). rw (below_same x l ne, ne_eqb x l ne) (there u w (ltb x l)))
     (cases_eq x l)
 
 module _ (z : Schema) (q : Query) (r : Rect) (t : Tile) (h : List Point) where
