@@ -1,5 +1,5 @@
 -- The shape gives the conditions on slots.
-use Rattle.std.proofs.Common.{◌≡◌, ℕ, suc, ◌<◌, List, [], ◌∷◌, length, map, Option, Some, None, Contains, refl, sym, ap, ◌∙◌, subst, ap₂}
+use Rattle.std.proofs.Common.{◌≡◌, ℕ, suc, ◌<◌, List, [], ◌∷◌, length, map, Option, Some, None, Contains, sum_by, refl, sym, ap, ◌∙◌, subst, ap₂}
 use Rattle.cube_view.specs.Walks.{down, across, Walk, SpotPath, Under, dimension}
 use Rattle.cube_view.proofs.Walking.{under-some, dimension-finer}
 use Rattle.node_arena.specs.declared.link.Link.{Link}
@@ -11,7 +11,7 @@ use Rattle.node_arena.proofs.Reaching.{walk-lt, walk_coarser, walk_home, walk_re
 use Rattle.shape_test.specs.Levels.{Levels, level_down, level_across, then_level, left, label_counts}
 use Rattle.shape_test.specs.Ways.{Way, found, along, count_below, IsFinest, Merges}
 use Rattle.node_arena.proofs.Labelled.{link_down}
-use Rattle.shape_test.proofs.Core.{IsApart, sum_same, splits, GoesDown, absent, under_along}
+use Rattle.shape_test.proofs.Core.{IsApart, splits, GoesDown, absent, under_along}
 use Rattle.shape_test.proofs.Local.{left_spot, own_way, levels_of}
 
 pub found_along : (slots : List Slot) (a : Walk) (way : Way) → walk_end slots 0 (along a way) ≡ found slots (walk_end slots 0 a) way
@@ -60,7 +60,7 @@ module _ (dims : ℕ) (levels : List ℕ) (slots : List Slot) (homes : List Walk
   shape_merges i n m later lt at apart way f bin =
       found_counts a i (across ∷ way) bin w at_whole
       ∙ (sym (splits (children_of (slot_of slots i)) a way bin h apart (shape_goes i n (m ∷ later) lt at))
-      ∙ sum_same (λ (k : ℕ × Link). amount_under h (along (across ∷ down k.0 ∷ a) way) bin) (λ (k : ℕ × Link). count_below slots i (down k.0 ∷ across ∷ way) bin) (children_of (slot_of slots i)) (λ k. sym (found_counts a i (down k.0 ∷ across ∷ way) bin w (at_part k.0))))
+      ∙ (λ s. sum_by (λ (k : ℕ × Link). sym (found_counts a i (down k.0 ∷ across ∷ way) bin w (at_part k.0)) s) (children_of (slot_of slots i))))
     where
       a : Walk
       a = home_of homes i

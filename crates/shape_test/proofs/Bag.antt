@@ -69,10 +69,6 @@ lengths_along levels (across ∷ a) path later w e = let b = level_begun (left l
         go [] z = absurd cc
         go (n ∷ ls) z = let t : record { rest = n; later = ls } ≡ record { rest = length path; later = map (λ p. length p) later } = cc in ap (λ (v : Levels). v.rest ∷ v.later) t
 
--- a spot of two lists is in one of them
-pub in_either : (h k : List Weighted) (q : SpotPath) → Contains (spots_in (h ++ k)) q → Contains (spots_in h) q ⊎ Contains (spots_in k) q
-in_either h k q c = Contains-append_cases (spots_in h) (spots_in k) q (subst (λ (qs : List SpotPath). Contains qs q) (map-append (λ (w : Weighted). w.spot) h k) c)
-
 module _ (levels : List ℕ) (slots : List Slot) (homes : List Walk) where
   abbrev rows : ℕ → List Weighted
   rows i = rows_at levels (home_of homes i) (slot_of slots i)
@@ -84,11 +80,14 @@ module _ (levels : List ℕ) (slots : List Slot) (homes : List Walk) where
   -- a spot of the rows is one of a slot
   spot_from : (n : ℕ) (q : SpotPath) → Contains (spots_in (joined rows n)) q → (i : ℕ) × (i < n) × Contains (spots_in (rows i)) q
   spot_from zero q c = absurd (omega (arith, c.1))
-  spot_from (suc n) q c = go (in_either (joined rows n) (rows n) q c) (λ d. spot_from n q d)
+  spot_from (suc n) q c = go (Contains-append_cases (spots_in (joined rows n)) (spots_in (rows n)) q (subst (λ (qs : List SpotPath). Contains qs q) (map-append (λ (w : Weighted). w.spot) (joined rows n) (rows n)) c)) (λ d. spot_from n q d)
     where
       go : Contains (spots_in (joined rows n)) q ⊎ Contains (spots_in (rows n)) q → (Contains (spots_in (joined rows n)) q → (i : ℕ) × (i < n) × Contains (spots_in (rows i)) q) → (i : ℕ) × (i < suc n) × Contains (spots_in (rows i)) q
       go (inl d) rest = let r = rest d in (r.0, (let lt = r.1 in omega (arith, lt)), r.2)
       go (inr d) rest = (n, omega arith, d)
+
+  pub spelled-spot : (n : ℕ) (q : SpotPath) → Contains (spots_in (spelled_rows levels slots homes n)) q → (i : ℕ) × (i < n) × Contains (spots_in (rows_at levels (home_of homes i) (slot_of slots i))) q
+  spelled-spot n q c = spot_from n q (subst (λ (h : List Weighted). Contains (spots_in h) q) (sym (joined_rows n)) c)
 
   module _ (dims : ℕ) (T : EndsWithTime dims levels) (counted : AllTablesCounted slots) (L : IsLocal dims levels slots homes) where
     -- the labels of a whole table's home are as many as the levels

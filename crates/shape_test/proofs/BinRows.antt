@@ -4,14 +4,13 @@ use Rattle.std.proofs.lemmas.List.{nil_from_length}
 use Rattle.std.specs.FinMap.{entries, entries_sorted, get-entries, find}
 use Rattle.std.specs.FinMap.Entries.{is_sorted, below_all}
 use Rattle.std.specs.Cmp.{unsigned_tied}
-use Rattle.std.specs.Ordering.{eq_by_cmp, is_lt}
+use Rattle.std.specs.Ordering.{eq_by_cmp}
 use Rattle.std.proofs.lemmas.Bool.{and_parts}
 use Rattle.std.proofs.lemmas.List.Sums.{sum_by-cons}
-use Rattle.std.proofs.lemmas.Float.{T_from_true}
 use Rattle.cube_view.specs.Walks.{down, across, Walk, SpotPath, Cursor, after_down, after_across, then_step, cursor, Under, whole_of, whole_from, down_all}
 use Rattle.cube_view.proofs.Walking.{begun, Contains-cases}
 use Rattle.time_table.specs.Counts.{BinCounts, count_of}
-use Rattle.time_table.proofs.Passing.{below}
+use Rattle.time_table.proofs.Passing.{first_part, second_part, below}
 use Rattle.node_arena.specs.Amounts.{spots_in, amount_under}
 use Rattle.node_arena.specs.Slots.{Slot, counts_of}
 use Rattle.shape_test.specs.Levels.{Levels, left, label_counts}
@@ -104,53 +103,43 @@ rows_amount a (e ∷ es) bin =
     let o : one_under (spot_at a e) a bin ≡ cond {A = ℕ} (eqb e.0 bin) e.1 0 = ap (λ (b : Bool). cond {A = ℕ} (b && eqb e.0 bin) e.1 0) (at_own a (record { paths = paths_along a [] []; bin = e.0 }) refl) in
     omega (arith, s, t, r, o)
 
--- a test that holds, as an equation
-pub from_test : (b : Bool) → T b → b ≡ true
-from_test true t = refl
-from_test false t = absurd t
-
--- what the test of an order says
-pub less_of : (a b : ℕ) → is_lt (nat_cmp a b) ≡ true → a < b
-less_of a b e = below a b (T_from_true (is_lt (nat_cmp a b)) e)
-
-none_there : (k bin : ℕ) (es : List (ℕ × ℕ)) → k ≡ bin → is_sorted nat_cmp es ≡ true → below_all nat_cmp k es ≡ true → sum_by (λ (e : ℕ × ℕ). cond {A = ℕ} (eqb e.0 bin) e.1 0) es ≡ 0
+none_there : (k bin : ℕ) (es : List (ℕ × ℕ)) → k ≡ bin → T (is_sorted nat_cmp es) → T (below_all nat_cmp k es) → sum_by (λ (e : ℕ × ℕ). cond {A = ℕ} (eqb e.0 bin) e.1 0) es ≡ 0
 none_there k bin [] e S B = refl
 none_there k bin (x ∷ es) e S B =
     let t = sum_by-cons (λ (e : ℕ × ℕ). cond {A = ℕ} (eqb e.0 bin) e.1 0) x es in
-    let parts = and_parts _ (below_all nat_cmp k es) B in
-    let up = less_of k x.0 parts.0 in
-    let r = none_there k bin es e (and_parts (below_all nat_cmp x.0 es) (is_sorted nat_cmp es) S).1 parts.1 in
+    let up = below k x.0 (first_part _ _ B) in
+    let r = none_there k bin es e (second_part (below_all nat_cmp x.0 es) _ S) (second_part _ _ B) in
     let o : cond {A = ℕ} (eqb x.0 bin) x.1 0 ≡ 0 = ap (λ (b : Bool). cond {A = ℕ} b x.1 0) (ne_eqb x.0 bin (λ z. omega (arith, z, up, e))) in
     omega (arith, t, r, o)
 
-found_sum : (bin : ℕ) (es : List (ℕ × ℕ)) → is_sorted nat_cmp es ≡ true → unwrap_or (find nat_cmp bin es) 0 ≡ sum_by (λ (e : ℕ × ℕ). cond {A = ℕ} (eqb e.0 bin) e.1 0) es
+found_sum : (bin : ℕ) (es : List (ℕ × ℕ)) → T (is_sorted nat_cmp es) → unwrap_or (find nat_cmp bin es) 0 ≡ sum_by (λ (e : ℕ × ℕ). cond {A = ℕ} (eqb e.0 bin) e.1 0) es
 found_sum bin [] S = refl
 found_sum bin (x ∷ es) S = go (eqb bin x.0) refl (λ s. found_sum bin es s)
   where
-    parts : (below_all nat_cmp x.0 es ≡ true) × (is_sorted nat_cmp es ≡ true)
-    parts = and_parts (below_all nat_cmp x.0 es) (is_sorted nat_cmp es) S
+    later : T (is_sorted nat_cmp es)
+    later = second_part (below_all nat_cmp x.0 es) _ S
 
     tied : (b : Bool) → eqb bin x.0 ≡ b → eq_by_cmp nat_cmp bin x.0 ≡ b
     tied b e = unsigned_tied bin x.0 ∙ e
 
-    go : (b : Bool) → eqb bin x.0 ≡ b → (is_sorted nat_cmp es ≡ true → unwrap_or (find nat_cmp bin es) 0 ≡ sum_by (λ (e : ℕ × ℕ). cond {A = ℕ} (eqb e.0 bin) e.1 0) es) → unwrap_or (find nat_cmp bin (x ∷ es)) 0 ≡ sum_by (λ (e : ℕ × ℕ). cond {A = ℕ} (eqb e.0 bin) e.1 0) (x ∷ es)
+    go : (b : Bool) → eqb bin x.0 ≡ b → (T (is_sorted nat_cmp es) → unwrap_or (find nat_cmp bin es) 0 ≡ sum_by (λ (e : ℕ × ℕ). cond {A = ℕ} (eqb e.0 bin) e.1 0) es) → unwrap_or (find nat_cmp bin (x ∷ es)) 0 ≡ sum_by (λ (e : ℕ × ℕ). cond {A = ℕ} (eqb e.0 bin) e.1 0) (x ∷ es)
     go true e rest =
         let same : bin ≡ x.0 = eqb-true bin x.0 e in
         let t = sum_by-cons (λ (e : ℕ × ℕ). cond {A = ℕ} (eqb e.0 bin) e.1 0) x es in
         let o : cond {A = ℕ} (eqb x.0 bin) x.1 0 ≡ x.1 = ap (λ (b : Bool). cond {A = ℕ} b x.1 0) (eq-eqb x.0 bin (sym same)) in
-        let r = none_there x.0 bin es (sym same) parts.1 parts.0 in
+        let r = none_there x.0 bin es (sym same) later (first_part (below_all nat_cmp x.0 es) _ S) in
         let f : unwrap_or (find nat_cmp bin (x ∷ es)) 0 ≡ x.1 = ap (λ (b : Bool). unwrap_or (cond {A = Option ℕ} b (Some x.1) (find nat_cmp bin es)) 0) (tied true e) in
         omega (arith, t, o, r, f)
     go false e rest =
         let t = sum_by-cons (λ (e : ℕ × ℕ). cond {A = ℕ} (eqb e.0 bin) e.1 0) x es in
         let o : cond {A = ℕ} (eqb x.0 bin) x.1 0 ≡ 0 = ap (λ (b : Bool). cond {A = ℕ} b x.1 0) (ne_eqb x.0 bin (λ z. true≢false (sym (eq-eqb bin x.0 (sym z)) ∙ e))) in
-        let r = rest parts.1 in
+        let r = rest later in
         let f : unwrap_or (find nat_cmp bin (x ∷ es)) 0 ≡ unwrap_or (find nat_cmp bin es) 0 = ap (λ (b : Bool). unwrap_or (cond {A = Option ℕ} b (Some x.1) (find nat_cmp bin es)) 0) (tied false e) in
         omega (arith, t, o, r, f)
 
 -- the rows of a table at a whole address count what the table does
 pub table_rows : (levels : List ℕ) (a : Walk) (m : BinCounts) (bin : ℕ) → count_of m bin ≡ amount_under (map (spot_at a) (entries m)) a bin
-table_rows levels a m bin = ap (λ (o : Option ℕ). unwrap_or o 0) (get-entries m bin) ∙ (found_sum bin (entries m) (from_test (is_sorted nat_cmp (entries m)) (entries_sorted m)) ∙ sym (rows_amount a (entries m) bin))
+table_rows levels a m bin = ap (λ (o : Option ℕ). unwrap_or o 0) (get-entries m bin) ∙ (found_sum bin (entries m) (entries_sorted m) ∙ sym (rows_amount a (entries m) bin))
 
 -- all rows of a list of rows have one address
 rows_paths : (a : Walk) (es : List (ℕ × ℕ)) (q : SpotPath) → Contains (spots_in (map (spot_at a) es)) q → q.paths ≡ paths_along a [] []

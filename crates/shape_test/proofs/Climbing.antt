@@ -101,11 +101,6 @@ module _ (slots : List Slot) (owners : Owners) (A : HasOwners slots owners) wher
     first_back j [] s b = absurd (omega (arith, s, b))
     first_back j (m ∷ moves) s b = (b.0, m, moves, refl, b.1, b.2)
 
-    owned : (j : ℕ) → 0 < j → j < length slots → IsOwned slots j
-    owned j s l =
-        let f = first_back j (get_or homes j []) s (back j l) in
-        record { by = f.0; step = step_of f.1; owns = (A.told j (owner_of f.0 f.1) f.4).0 }
-
     at_home : (i j : ℕ) (e : Step) → link_of slots i e ≡ Some (proper j) → (j < length slots) × (home_of (walks_of homes) j ≡ e ∷ home_of (walks_of homes) i)
     at_home i j e x =
         let a = A.all i j e tt x in
@@ -126,7 +121,7 @@ module _ (slots : List Slot) (owners : Owners) (A : HasOwners slots owners) wher
       some = some;
       root = home_at homes 0 ∙ ap walk_of (one_back 0 (get_or homes 0 []) [] (back 0 some) refl);
       distinct = λ i j l k e. one_slot i j (get_or homes i []) (get_or homes j []) (back i l) (back j k) (sym (home_at homes i) ∙ (e ∙ home_at homes j));
-      owner = owned;
+      owner = λ j s l. let f = first_back j (get_or homes j []) s (back j l) in record { by = f.0; step = step_of f.1; owns = (A.told j (owner_of f.0 f.1) f.4).0 };
       at_home = at_home;
     }
 

@@ -2,6 +2,7 @@
 use Rattle.std.proofs.Common.{◌≡◌, ◌↔◌, ◌&&◌, not, ap₂, ℕ, zero, suc, ◌≤◌, Bool, true, false, eqb, eqb-true, ◌-◌, ◌<◌, List, [], ◌∷◌, length, take, drop, get_or, slice_get, Some, refl, sym, ap, ◌∙◌, subst, arith, true≢false}
 use Rattle.std.proofs.lemmas.List.{length-map}
 use Rattle.cube_view.specs.Walks.{down, across, Walk, Finer, top, by_down, by_across, longer}
+use Rattle.cube_view.proofs.Walking.{finer-refl}
 use Rattle.shape_test.specs.declared.home.Move.{Move}
 use Rattle.shape_test.specs.declared.home.Move.TheVariants.{Down, Across}
 use Rattle.shape_test.specs.Homes.{is_across, step_of, walk_of}
@@ -90,11 +91,6 @@ finer_same (by_down {l = l} f) e = ap (λ (w : Walk). down l ∷ w) (finer_same 
 finer_same (by_across f) e = ap (λ (w : Walk). across ∷ w) (finer_same f (omega (arith, e)))
 finer_same (longer f) e = let r = finer_length f in absurd (omega (arith, r, e))
 
-finer_self : (loose : Bool) (a : Walk) → Finer loose a a
-finer_self loose [] = top
-finer_self loose (down l ∷ a) = by_down (finer_self false a)
-finer_self loose (across ∷ a) = by_across (finer_self true a)
-
 same_moves : (a b : List Move) → walk_of a ≡ walk_of b → a ≡ b
 same_moves [] [] e = refl
 same_moves [] (y ∷ b) e = absurd cc
@@ -111,7 +107,7 @@ too_long loose a b l = (λ x. absurd cc, λ f. let r = finer_length f in let x =
 -- as many steps are coarser only where they are the same
 pub as_long : (loose : Bool) (a b : List Move) (r : Bool) → length a ≡ length b → (r ≡ true) ↔ (a ≡ b) → (r ≡ true) ↔ Finer loose (walk_of a) (walk_of b)
 as_long loose a b r l S =
-    (λ y. subst (λ (m : List Move). Finer loose (walk_of a) (walk_of m)) (S.0 y) (finer_self loose (walk_of a)), λ f. S.1 (same_moves a b (finer_same f (length-map a step_of ∙ (l ∙ sym (length-map b step_of))))))
+    (λ y. subst (λ (m : List Move). Finer loose (walk_of a) (walk_of m)) (S.0 y) (finer-refl loose (walk_of a)), λ f. S.1 (same_moves a b (finer_same f (length-map a step_of ∙ (l ∙ sym (length-map b step_of))))))
 
 -- no step is left
 pub at_top : (loose r : Bool) (a b : List Move) → length b < 1 → r ≡ eqb (length a) 0 → (r ≡ true) ↔ Finer loose (walk_of a) (walk_of b)

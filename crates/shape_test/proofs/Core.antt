@@ -86,11 +86,6 @@ sum_two f g (x ∷ xs) =
     let a = sum_by-cons (λ x. f x + g x) x xs in let b = sum_by-cons f x xs in let c = sum_by-cons g x xs in
     let r = sum_two f g xs in omega (arith, a, b, c, r)
 
-pub sum_same : {X : Type 0} (f g : X → ℕ) (xs : List X) → ((x : X) → f x ≡ g x) → sum_by f xs ≡ sum_by g xs
-sum_same f g [] e = refl
-sum_same f g (x ∷ xs) e =
-    let a = sum_by-cons f x xs in let b = sum_by-cons g x xs in let r = sum_same f g xs e in let s = e x in omega (arith, a, b, r, s)
-
 -- the child at another label gives nothing to the sum
 other_kid : (f : ℕ → ℕ) (l : ℕ) (k : ℕ × Link) (kids : List (ℕ × Link)) → eqb k.0 l ≡ false → ((m : ℕ) → (m ≡ l → ⊥) → f m ≡ 0) → sum_by (λ (k : ℕ × Link). f k.0) (k ∷ kids) ≡ sum_by (λ (k : ℕ × Link). f k.0) kids
 other_kid f l k kids e z =
@@ -156,7 +151,7 @@ one_splits kids a way bin w A goes = go (under w.spot a) refl
 pub splits : (kids : List (ℕ × Link)) (a : Walk) (way : Way) (bin : ℕ) (h : List Weighted) → IsApart kids → ((q : SpotPath) → Contains (spots_in h) q → GoesDown kids a q) → sum_by (λ (k : ℕ × Link). amount_under h (along (across ∷ down k.0 ∷ a) way) bin) kids ≡ amount_under h (along (across ∷ a) way) bin
 splits kids a way bin [] A goes = all_zero (λ m. amount_under [] (along (across ∷ down m ∷ a) way) bin) kids (λ m. refl)
 splits kids a way bin (w ∷ h) A goes =
-    sum_same (λ (k : ℕ × Link). amount_under (w ∷ h) (along (across ∷ down k.0 ∷ a) way) bin) (λ (k : ℕ × Link). one_under w (along (across ∷ down k.0 ∷ a) way) bin + amount_under h (along (across ∷ down k.0 ∷ a) way) bin) kids (λ k. amount-cons w h (along (across ∷ down k.0 ∷ a) way) bin)
+    (λ i. sum_by (λ (k : ℕ × Link). amount-cons w h (along (across ∷ down k.0 ∷ a) way) bin i) kids)
     ∙ (sum_two (λ (k : ℕ × Link). one_under w (along (across ∷ down k.0 ∷ a) way) bin) (λ (k : ℕ × Link). amount_under h (along (across ∷ down k.0 ∷ a) way) bin) kids
     ∙ (ap₂ ◌+◌ (one_splits kids a way bin w A (goes w.spot (Contains-head (spots_in h) w.spot))) (splits kids a way bin h A (λ x c. goes x (Contains-cons (spots_in h) w.spot x c)))
     ∙ sym (amount-cons w h (along (across ∷ a) way) bin)))
@@ -236,7 +231,7 @@ module _ (slots : List Slot) (h : List Weighted) (Left : ℕ → ℕ → List �
               let z : None ≡ Some d.1 = sym e ∙ k in absurd cc
 
       each : (kids : List (ℕ × Link)) → ((l : ℕ) (k : Link) → link_of slots i (down l) ≡ Some k → count_below slots i (down l ∷ across ∷ way) bin ≡ amount_under h (along (across ∷ down l ∷ a) way) bin) → sum_by (λ (k : ℕ × Link). count_below slots i (down k.0 ∷ across ∷ way) bin) kids ≡ sum_by (λ (k : ℕ × Link). amount_under h (along (across ∷ down k.0 ∷ a) way) bin) kids
-      each kids same = sum_same (λ (k : ℕ × Link). count_below slots i (down k.0 ∷ across ∷ way) bin) (λ (k : ℕ × Link). amount_under h (along (across ∷ down k.0 ∷ a) way) bin) kids (λ k. pick k.0 (link_of slots i (down k.0)) refl)
+      each kids same = λ s. sum_by (λ (k : ℕ × Link). pick k.0 (link_of slots i (down k.0)) refl s) kids
         where
           pick : (l : ℕ) (o : Option Link) → link_of slots i (down l) ≡ o → count_below slots i (down l ∷ across ∷ way) bin ≡ amount_under h (along (across ∷ down l ∷ a) way) bin
           pick l (Some k) e = same l k e

@@ -1,5 +1,5 @@
 -- The conditions on single slots hold exactly of a schema's cube.
-use Rattle.std.proofs.Common.{◌≡◌, ◌⊎◌, inl, inr, ℕ, zero, suc, ◌+◌, ◌-◌, ◌<◌, ◌≤◌, true, List, [], length, get_or, Contains, refl, ap, ◌∙◌, arith}
+use Rattle.std.proofs.Common.{◌≡◌, ◌⊎◌, ℕ, zero, suc, ◌+◌, ◌-◌, ◌<◌, ◌≤◌, true, List, [], length, get_or, Contains, refl, ap, ◌∙◌, arith}
 use Rattle.cube_view.specs.Places.{deepest, time_dim}
 use Rattle.cube_view.specs.Walks.{Walk, SpotPath}
 use Rattle.cube_view.specs.declared.schema.Schema.{Schema}
@@ -10,8 +10,8 @@ use Rattle.node_arena.specs.Slots.{Slot, slot_of}
 use Rattle.node_arena.specs.Stats.{AllRising}
 use Rattle.shape_test.specs.Laws.{AllTablesCounted}
 use Rattle.shape_test.specs.Levels.{EndsWithTime}
-use Rattle.shape_test.specs.Wholes.{rows_at, spelled_rows}
-use Rattle.shape_test.proofs.Bag.{in_either, tells_cube, tells_local}
+use Rattle.shape_test.specs.Wholes.{spelled_rows}
+use Rattle.shape_test.proofs.Bag.{spelled-spot, tells_cube, tells_local}
 use Rattle.shape_test.proofs.BinRows.{rows_at-paths}
 use Rattle.shape_test.proofs.Decides.{under_home}
 use Rattle.shape_test.specs.Fits.{IsSchemaCube, IsSchemaLocal, slots_bag}
@@ -52,15 +52,11 @@ cube_is_local schema slots homes h R C = record {
 module _ (schema : Schema) (slots : List Slot) (homes : List Walk) (labels : (i : ℕ) → i < length slots → labels_fit schema (home_of homes i) ≡ true) where
   -- the rows of the first slots have labels of the schema
   bag_labels : (n : ℕ) → n ≤ length slots → (q : SpotPath) → Contains (spots_in (spelled_rows (schema_levels schema) slots homes n)) q → paths_fit schema 1 q.paths ≡ true
-  bag_labels zero le q c = absurd (omega (arith, c.1))
-  bag_labels (suc n) le q c =
-      go (in_either (spelled_rows (schema_levels schema) slots homes n) (rows_at (schema_levels schema) (home_of homes n) (slot_of slots n)) q c) (λ d. bag_labels n (omega arith) q d)
-    where
-      go : Contains (spots_in (spelled_rows (schema_levels schema) slots homes n)) q ⊎ Contains (spots_in (rows_at (schema_levels schema) (home_of homes n) (slot_of slots n))) q → (Contains (spots_in (spelled_rows (schema_levels schema) slots homes n)) q → paths_fit schema 1 q.paths ≡ true) → paths_fit schema 1 q.paths ≡ true
-      go (inl d) rest = rest d
-      go (inr d) rest =
-          let p = rows_at-paths (schema_levels schema) (home_of homes n) (slot_of slots n) q d in
-          ap (paths_fit schema 1) p.1 ∙ paths_of_fit schema (home_of homes n) [] [] (labels n (omega arith)) refl refl
+  bag_labels n le q c =
+      let s = spelled-spot (schema_levels schema) slots homes n q c in
+      let p = rows_at-paths (schema_levels schema) (home_of homes s.0) (slot_of slots s.0) q s.2 in
+      let lt = s.1 in
+      ap (paths_fit schema 1) p.1 ∙ paths_of_fit schema (home_of homes s.0) [] [] (labels s.0 (omega (arith, lt, le))) refl refl
 
 pub local_is_cube : (schema : Schema) (slots : List Slot) (homes : List Walk) → AllTablesCounted slots → IsSchemaLocal schema slots homes → IsSchemaCube schema slots homes (slots_bag schema slots homes)
 local_is_cube schema slots homes A L = record {

@@ -1,6 +1,6 @@
 -- The links that a node has.
 use Rattle.std.proofs.Common.{◌≡◌, ◌↔◌, inl, inr, ℕ, Bool, true, false, ◌&&◌, ◌||◌, not, eqb, eqb-true, eq-eqb, List, Option, Some, None, refl, sym, ap₂, ◌∙◌, arith}
-use Rattle.std.proofs.lemmas.Bool.{and_parts}
+use Rattle.std.proofs.lemmas.Bool.{and_parts, not-true}
 use Rattle.cube_view.specs.Walks.{down, across}
 use Rattle.node_arena.specs.declared.link.Link.{Link}
 use Rattle.node_arena.specs.Slots.{Slot, link_of}
@@ -41,11 +41,7 @@ module _ (slots : List Slot) (i : ℕ) (deep has : Bool) (H : (has ≡ true) ↔
           inl (eqb-true i 0 p.0, bare)
         where
           none : has ≡ false
-          none = not_false has (and_parts (eqb i 0) (not has) (sym is ∙ y)).1
-            where
-              not_false : (b : Bool) → not b ≡ true → b ≡ false
-              not_false true x = absurd cc
-              not_false false x = refl
+          none = not-true has (and_parts (eqb i 0) (not has) (sym is ∙ y)).1
 
           bare : IsBare slots i
           bare across = e

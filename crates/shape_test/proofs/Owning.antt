@@ -1,5 +1,5 @@
 -- The owners of slots, link by link.
-use Rattle.std.proofs.Common.{◌≡◌, ◌⊎◌, inl, inr, ℕ, zero, suc, ◌<◌, ◌≤◌, ◌≢◌, Bool, true, false, cond, List, [], ◌∷◌, length, Option, Some, None, refl, sym, ap, ◌∙◌, subst, arith}
+use Rattle.std.proofs.Common.{◌≡◌, ◌⊎◌, inl, inr, ℕ, zero, suc, ◌<◌, ◌≤◌, ◌≢◌, Bool, true, false, cond, List, [], ◌∷◌, length, Option, Some, None, refl, sym, ap, ◌∙◌, subst, arith, true≢false, ⊎_elim}
 use Rattle.std.proofs.Math.ListN.{set}
 use Rattle.std.proofs.lemmas.Bool.{cases_lt}
 use Rattle.std.proofs.lemmas.List.{length-set, get_or-set_same, get_or-set_other}
@@ -13,14 +13,6 @@ use Rattle.shape_test.specs.Homes.{step_of}
 use Rattle.shape_test.specs.declared.home.Move.{Move}
 use Rattle.shape_test.specs.Owners.{Owners, owner_of, owner_at, IsFree, IsNoted, IsSecond, IsOwner, AreOwners}
 use Rattle.shape_test.specs.declared.owner.Owner.{Owner}
-
--- a proper link is the one to its target
-proper_is : (l : Link) → is_proper l ≡ true → l ≡ proper (target l)
-proper_is l e = go (link_cases l)
-  where
-    go : (l ≡ proper (target l)) ⊎ (l ≡ shared (target l)) → l ≡ proper (target l)
-    go (inl x) = x
-    go (inr x) = let z : is_proper l ≡ false = ap is_proper x in absurd cc
 
 proper_to : (l : Link) (j : ℕ) → l ≡ proper j → (is_proper l ≡ true) × (target l ≡ j)
 proper_to l j e = (ap is_proper e, ap target e)
@@ -112,7 +104,7 @@ module _ (slots : List Slot) (seen : ℕ → Step → Type 0) (old : Owners) (A 
   second_owner unseen S homes H = S.taken (record { some = some (target l) refl; within = within; none = none (owner_at old (target l)) refl })
     where
       own : link_of slots i (step_of m) ≡ Some (proper (target l))
-      own = there ∙ ap Some (proper_is l S.owning)
+      own = there ∙ ap Some (⊎_elim (λ (p : l ≡ proper (target l)). p) (λ (s : l ≡ shared (target l)). absurd (true≢false (sym S.owning ∙ ap is_proper s))) (link_cases l))
 
       home : (target l < length slots) × (home_of homes (target l) ≡ step_of m ∷ home_of homes i)
       home = H.at_home i (target l) (step_of m) own

@@ -4,7 +4,7 @@ use Rattle.std.specs.FinMap.{empty, empty_of_len, entries, entries_sorted, len-e
 use Rattle.std.specs.Prelude.{IfOk, IsTrue, Result, Ok, Err}
 use Rattle.std.specs.FinMap.Entries.{is_sorted, below_all}
 use Rattle.std.proofs.Math.Seq.{drop-cons}
-use Rattle.std.proofs.lemmas.Bool.{and_parts, cases_eq}
+use Rattle.std.proofs.lemmas.Bool.{cases_eq}
 use Rattle.std.proofs.lemmas.List.{length-take-le, length-set, get_or-take, get_or-drop, get_or-set_same, get_or-set_other, get_or_default, get_or-map, length-map, length-drop, take-append-drop, take_more, take_all}
 use Rattle.std.proofs.lemmas.List.Elements.{All-nil, All-cons}
 use Rattle.std.proofs.lemmas.List.Kept.{AllPairs-cons}
@@ -12,12 +12,13 @@ use Rattle.std.proofs.lemmas.List.Sums.{sum_by-cons, sum_by-append, sum_by_push,
 use Rattle.probe_core.specs.Places.{RisesBy}
 use Rattle.time_table.specs.Counts.{BinCounts, AllCounted, amount_at, count_of}
 use Rattle.time_table.proofs.Counted.{counts-nil, entries-counts}
+use Rattle.time_table.proofs.Passing.{first_part, second_part, below}
 use Rattle.node_arena.specs.Amounts.{amount_under}
 use Rattle.node_arena.specs.declared.link.SlotId.{SlotId}
 use Rattle.node_arena.specs.Slots.{Slot, node, table, IsNode, slot_of, count, counts_of}
 use Rattle.shape_test.specs.Wholes.{spot_at}
 use Rattle.shape_test.proofs.Core.{one_under, amount-cons}
-use Rattle.shape_test.proofs.BinRows.{table_rows, less_of, from_test}
+use Rattle.shape_test.proofs.BinRows.{table_rows}
 use Rattle.shape_test.specs.Ends.{end_count, ends_count}
 use Rattle.shape_test.specs.Remainder.{AreOrderly, FitIn, IsRemainder, row_key, slot_rows, end_rows}
 use Rattle.shape_test.proofs.Summing.{ends_part}
@@ -34,8 +35,9 @@ part_here bin e is = rw (eq-eqb bin e.0 is) refl
 part_away : (bin : ℕ) (e : ℕ × ℕ) → (bin ≡ e.0 → ⊥) → part_at bin e ≡ 0
 part_away bin e other = rw (ne_eqb bin e.0 other) refl
 
-swapped : (a b n : ℕ) → cond {A = ℕ} (eqb a b) n 0 ≡ cond {A = ℕ} (eqb b a) n 0
-swapped a b n = grind arith
+-- a number where two are equal, in either order
+pub where_equal-swapped : (a b n : ℕ) → cond {A = ℕ} (eqb a b) n 0 ≡ cond {A = ℕ} (eqb b a) n 0
+where_equal-swapped a b n = grind arith
 
 rows_under : (es : List (ℕ × ℕ)) (bin : ℕ) → amount_under (map (spot_at []) es) [] bin ≡ amount_at bin es
 rows_under [] bin = refl
@@ -43,7 +45,7 @@ rows_under (e ∷ es) bin =
     let a = amount-cons (spot_at [] e) (map (spot_at []) es) [] bin in
     let s = sum_by-cons (part_at bin) e es in
     let r = rows_under es bin in
-    let o : one_under (spot_at [] e) [] bin ≡ part_at bin e = swapped e.0 bin e.1 in
+    let o : one_under (spot_at [] e) [] bin ≡ part_at bin e = where_equal-swapped e.0 bin e.1 in
     omega (arith, a, s, r, o)
 
 -- the rows of a table count what it does
@@ -211,14 +213,12 @@ is_missing old rows left i next T end some counted fit =
 below_later : (k : ℕ) (es : List (ℕ × ℕ)) → T (below_all nat_cmp k es) → All (λ e. k < e.0) es
 below_later k [] B = All-nil (λ (e : ℕ × ℕ). k < e.0)
 below_later k (x ∷ es) B =
-    let parts = and_parts _ (below_all nat_cmp k es) (from_test _ B) in
-    All-cons (λ (e : ℕ × ℕ). k < e.0) x es (less_of k x.0 parts.0) (below_later k es (subst T (sym parts.1) tt))
+    All-cons (λ (e : ℕ × ℕ). k < e.0) x es (below k x.0 (first_part _ _ B)) (below_later k es (second_part _ _ B))
 
 sorted_rises : (es : List (ℕ × ℕ)) → T (is_sorted nat_cmp es) → RisesBy row_key es
 sorted_rises [] S = λ i j d less within. absurd (omega (arith, within))
 sorted_rises (x ∷ es) S =
-    let parts = and_parts (below_all nat_cmp x.0 es) (is_sorted nat_cmp es) (from_test _ S) in
-    AllPairs-cons (λ (a b : ℕ × ℕ). a.0 < b.0) x es (below_later x.0 es (subst T (sym parts.0) tt)) (sorted_rises es (subst T (sym parts.1) tt))
+    AllPairs-cons (λ (a b : ℕ × ℕ). a.0 < b.0) x es (below_later x.0 es (first_part (below_all nat_cmp x.0 es) _ S)) (sorted_rises es (second_part (below_all nat_cmp x.0 es) _ S))
 
 -- the rows of a table rise, and each counts something
 pub entries_orderly : (m : BinCounts) → AllCounted m → AreOrderly (entries m)

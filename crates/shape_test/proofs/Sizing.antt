@@ -1,18 +1,19 @@
 -- Sums over the rows of a table, row by row, and over the bag of slots, slot by slot.
-use Rattle.std.proofs.Common.{◌≡◌, ◌⊎◌, inl, inr, ℕ, ◌+◌, ◌<◌, ◌≤◌, Bool, true, false, cond, eqb, eq-eqb, eqb-true, ne_eqb, nat_lt, nat_cmp, List, [], ◌∷◌, ◌++◌, map, sum_by, refl, sym, ap, ap₂, ◌∙◌, arith}
+use Rattle.std.proofs.Common.{◌≡◌, ◌⊎◌, inl, inr, ℕ, ◌+◌, ◌<◌, ◌≤◌, Bool, true, false, cond, eqb, eq-eqb, eqb-true, ne_eqb, nat_lt, nat_cmp, T, List, [], ◌∷◌, ◌++◌, map, sum_by, refl, sym, ap, ap₂, ◌∙◌, arith}
 use Rattle.std.specs.FinMap.{entries, entries_sorted, len-entries, len-empty}
 use Rattle.std.specs.FinMap.Entries.{is_sorted, below_all}
-use Rattle.std.proofs.lemmas.Bool.{and_parts, cases_lt}
+use Rattle.std.proofs.lemmas.Bool.{cases_lt}
 use Rattle.std.proofs.lemmas.List.{nil_from_length}
 use Rattle.std.proofs.lemmas.List.Sums.{sum_by-cons, sum_by-append}
 use Rattle.cube_view.specs.Walks.{Walk}
 use Rattle.time_table.specs.Counts.{BinCounts, count_of}
+use Rattle.time_table.proofs.Passing.{first_part, second_part, below}
 use Rattle.node_arena.specs.Amounts.{Weighted, amount_under}
 use Rattle.node_arena.specs.Slots.{Slot, node, table, IsNode, counts_of}
 use Rattle.node_arena.specs.Stats.{capped}
 use Rattle.shape_test.specs.Wholes.{is_whole, spot_at, rows_at}
 use Rattle.shape_test.proofs.Core.{amount-cons}
-use Rattle.shape_test.proofs.BinRows.{table_rows, less_of, from_test}
+use Rattle.shape_test.proofs.BinRows.{table_rows}
 use Rattle.shape_test.specs.Fits.{bag_sum, least_points, least_size}
 use Rattle.shape_test.specs.Merging.{NoRowFrom, IsFirstRow}
 use Rattle.shape_test.specs.Sizes.{capped_size, table_size, size_of}
@@ -67,23 +68,22 @@ pub count_in : (m : BinCounts) (n : ℕ) → count_of m n ≡ rows_in (λ k. k) 
 count_in m n = table_rows [] [] m n ∙ in_count (entries m) n
 
 -- later rows aren't in the bin
-none_later : (f : ℕ → ℕ) (n k : ℕ) (es : List (ℕ × ℕ)) → n ≤ k → below_all nat_cmp k es ≡ true → rows_in f n es ≡ 0
+none_later : (f : ℕ → ℕ) (n k : ℕ) (es : List (ℕ × ℕ)) → n ≤ k → T (below_all nat_cmp k es) → rows_in f n es ≡ 0
 none_later f n k [] le B = refl
 none_later f n k (e ∷ es) le B =
-    let p = and_parts _ (below_all nat_cmp k es) B in
-    let up = less_of k e.0 p.0 in
+    let up = below k e.0 (first_part _ _ B) in
     let o : cond {A = ℕ} (eqb e.0 n) (f e.1) 0 ≡ 0 = ap (λ (t : Bool). cond {A = ℕ} t (f e.1) 0) (ne_eqb e.0 n (λ s. omega (arith, s, up, le))) in
     let c = in_cons f n e es in
-    let r = none_later f n k es le p.1 in
+    let r = none_later f n k es le (second_part _ _ B) in
     omega (arith, c, o, r)
 
 -- one row at most is in a bin
-one_in : (f : ℕ → ℕ) (n : ℕ) (es : List (ℕ × ℕ)) → f 0 ≡ 0 → is_sorted nat_cmp es ≡ true → rows_in f n es ≡ f (rows_in (λ k. k) n es)
+one_in : (f : ℕ → ℕ) (n : ℕ) (es : List (ℕ × ℕ)) → f 0 ≡ 0 → T (is_sorted nat_cmp es) → rows_in f n es ≡ f (rows_in (λ k. k) n es)
 one_in f n [] z S = sym z
-one_in f n (e ∷ es) z S = go (eqb e.0 n) refl (one_in f n es z p.1)
+one_in f n (e ∷ es) z S = go (eqb e.0 n) refl (one_in f n es z (second_part (below_all nat_cmp e.0 es) _ S))
   where
-    p : (below_all nat_cmp e.0 es ≡ true) × (is_sorted nat_cmp es ≡ true)
-    p = and_parts (below_all nat_cmp e.0 es) (is_sorted nat_cmp es) S
+    past : T (below_all nat_cmp e.0 es)
+    past = first_part (below_all nat_cmp e.0 es) (is_sorted nat_cmp es) S
 
     go : (t : Bool) → eqb e.0 n ≡ t → rows_in f n es ≡ f (rows_in (λ k. k) n es) → rows_in f n (e ∷ es) ≡ f (rows_in (λ k. k) n (e ∷ es))
     go false x r =
@@ -100,8 +100,8 @@ one_in f n (e ∷ es) z S = go (eqb e.0 n) refl (one_in f n es z p.1)
         let d = in_cons (λ k. k) n e es in
         let v : cond {A = ℕ} (eqb e.0 n) (f e.1) 0 ≡ f e.1 = ap (λ (t : Bool). cond {A = ℕ} t (f e.1) 0) x in
         let w : cond {A = ℕ} (eqb e.0 n) e.1 0 ≡ e.1 = ap (λ (t : Bool). cond {A = ℕ} t e.1 0) x in
-        let g = none_later f n e.0 es (omega (arith, same)) p.0 in
-        let h = none_later (λ k. k) n e.0 es (omega (arith, same)) p.0 in
+        let g = none_later f n e.0 es (omega (arith, same)) past in
+        let h = none_later (λ k. k) n e.0 es (omega (arith, same)) past in
         let s : e.1 ≡ rows_in (λ k. k) n (e ∷ es) = omega (arith, d, w, h) in
         let q : rows_in f n (e ∷ es) ≡ f e.1 = omega (arith, c, v, g) in
         q ∙ ap f s
@@ -162,7 +162,7 @@ all_upto f from (e ∷ es) z none = go (cases_lt e.0 from) (all_upto f from es z
 pub row_added : (f : ℕ → ℕ) (m : BinCounts) (from bin n : ℕ) → f 0 ≡ 0 → IsFirstRow m from (bin, n) → rows_upto f (bin + 1) (entries m) ≡ rows_upto f from (entries m) + f n
 row_added f m from bin n z F =
     let s = upto_suc f bin (entries m) in
-    let o = one_in f bin (entries m) z (from_test (is_sorted nat_cmp (entries m)) (entries_sorted m)) in
+    let o = one_in f bin (entries m) z (entries_sorted m) in
     let c = ap f (sym (count_in m bin) ∙ F.there) in
     let g = no_more f from bin (entries m) z F.low (λ b low less. sym (count_in m b) ∙ F.least b low less) in
     omega (arith, s, o, c, g)
