@@ -3,6 +3,7 @@ use Rattle.std.proofs.Common.{◌≡◌, ℕ, suc, ◌+◌, ◌^◌, ◌<◌, �
 use Rattle.std.specs.Int.{w64, to_be_bytes}
 use Rattle.std.proofs.lemmas.Bool.{eqb-true, ltb-true, ltb-false, lt-ltb, le-ltb}
 use Rattle.std.proofs.lemmas.List.{length-append}
+use Rattle.std.proofs.lemmas.Option.{same_Some}
 use Rattle.node_arena.specs.declared.link.Link.{Link}
 use Rattle.node_arena.specs.declared.link.LinkKind.{LinkKind}
 use Rattle.node_arena.specs.declared.link.LinkKind.TheVariants.{Proper, Shared}
@@ -11,7 +12,7 @@ use Rattle.cube_image.specs.Bytes.{kind_byte, link_bytes, content_bytes, child_b
 use Rattle.cube_image.specs.Order.{proper_target, owned_content}
 use Rattle.image_parse.specs.Images.{IsContent}
 use Rattle.image_parse.specs.Reading.{Linked, byte_at, width_number_at, link_to, link_at, content_at, child_at}
-use Rattle.image_parse.proofs.Fields.{IsBytes, bind_some, some_is, chosen, fails_some, passes_some, Takes, Takes-then, byte_takes, wide64, number_takes, number_again}
+use Rattle.image_parse.proofs.Fields.{IsBytes, bind_some, chosen, fails_some, passes_some, Takes, Takes-then, byte_takes, wide64, number_takes, number_again}
 
 -- the numbers are those from a number on
 abbrev pub CountsUp : ℕ → List ℕ → Type 0
@@ -59,11 +60,11 @@ link_to_takes n next kind to x e =
       | inl p ↦
           let b = passes_some (eqb to next) (Some (proper to, next + 1)) x p.1 in
           let found : IsLinkTo n next kind to (proper to, next + 1) = record { kind_is = eqb-true _ _ p.0; to_is = refl; within = lt; numbers = record { counts = (eqb-true _ _ b.0, tt); next_is = refl } } in
-          subst (IsLinkTo n next kind to) (some_is _ x b.1) found
+          subst (IsLinkTo n next kind to) (same_Some _ x b.1) found
       | inr p ↦
           let b = passes_some (eqb kind 2) (Some (shared to, next)) x p.1 in
           let found : IsLinkTo n next kind to (shared to, next) = record { kind_is = eqb-true _ _ b.0; to_is = refl; within = lt; numbers = Numbers-none next } in
-          subst (IsLinkTo n next kind to) (some_is _ x b.1) found
+          subst (IsLinkTo n next kind to) (same_Some _ x b.1) found
     ]
 
 link_to_again : (n next : ℕ) (kind : LinkKind) (to : ℕ) → to < n → let l : Link = record { to = id_of to; kind = kind } in CountsUp next (proper_target l) → link_to n next (kind_byte kind) to ≡ Some (l, next + length (proper_target l))
@@ -88,7 +89,7 @@ link_takes n next kind bytes x fits e =
     let t = number_takes w64 (2 ^ 64) wide64 bytes a.0 fits a.1 in
     let k = link_to_takes n next kind a.0.0 b.0 b.1 in
     let made : Linked Link = (b.0.0, b.0.1, a.0.1) in
-    subst (IsLink n next kind bytes) (some_is made x b.2) (record {
+    subst (IsLink n next kind bytes) (same_Some made x b.2) (record {
       kind_is = k.kind_is;
       takes = subst (λ (to : ℕ). Takes bytes (to_be_bytes w64 to) a.0.1) k.to_is t.0;
       within = k.within;
@@ -119,7 +120,7 @@ content_takes n next bytes x fits e =
             within = tt;
             numbers = Numbers-none next;
           } in
-          subst (IsContentAt n next bytes) (some_is made x p.1) found
+          subst (IsContentAt n next bytes) (same_Some made x p.1) found
       | inr p ↦
           let b = bind_some (link_at n next a.0.0 a.0.1) (λ l. Some (Some l.0, l.1, l.2)) x p.1 in
           let k = link_takes n next a.0.0 a.0.1 b.0 t.0.rest_fits b.1 in
@@ -129,7 +130,7 @@ content_takes n next bytes x fits e =
             within = k.within;
             numbers = k.numbers;
           } in
-          subst (IsContentAt n next bytes) (some_is made x b.2) found
+          subst (IsContentAt n next bytes) (same_Some made x b.2) found
     ]
 
 kind-not_0 : (kind : LinkKind) → eqb (kind_byte kind) 0 ≡ false
@@ -168,7 +169,7 @@ child_takes n from next bytes x fits e =
       within = k.within;
       numbers = k.numbers;
     } in
-    subst (IsChildAt n from next bytes) (some_is made x g.1) found
+    subst (IsChildAt n from next bytes) (same_Some made x g.1) found
 
 pub child_again : (n from next : ℕ) (c : ℕ × Link) (rest : List ℕ) → from ≤ c.0 → target c.1 < n → n < 2 ^ 64 → CountsUp next (proper_target c.1) → child_at n from next (child_bytes c ++ rest) ≡ Some (c, next + length (proper_target c.1), rest)
 unfolding child_at

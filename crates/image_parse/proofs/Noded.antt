@@ -4,6 +4,7 @@ use Rattle.std.specs.Int.{w16, to_be_bytes}
 use Rattle.std.specs.List.{flat_map}
 use Rattle.std.proofs.lemmas.Bool.{lt-ltb}
 use Rattle.std.proofs.lemmas.List.{length-append}
+use Rattle.std.proofs.lemmas.Option.{same_Some}
 use Rattle.node_arena.specs.declared.link.Link.{Link}
 use Rattle.node_arena.specs.Slots.{Children, Slot, node}
 use Rattle.cube_image.specs.Bytes.{child_bytes, content_bytes, slot_bytes}
@@ -12,7 +13,7 @@ use Rattle.cube_image.specs.Rest.{byte_children}
 use Rattle.image_parse.specs.Images.{AreChildren, IsContent, IsImageSlot}
 use Rattle.image_parse.specs.Reading.{Linked, width_number_at, child_at, children_at, content_at, node_at}
 use Rattle.image_parse.specs.Views.{AreImageChildren}
-use Rattle.image_parse.proofs.Fields.{IsBytes, bind_some, some_is, Takes, Takes-then, wide16, number_takes, number_again}
+use Rattle.image_parse.proofs.Fields.{IsBytes, bind_some, Takes, Takes-then, wide16, number_takes, number_again}
 use Rattle.image_parse.proofs.Linking.{CountsUp, CountsUp-split, Numbers, Numbers-then, Numbers-none, child_takes, child_again, content_takes, content_again}
 
 -- children that were read
@@ -25,14 +26,14 @@ pub record AreChildrenAt (k n from next : ℕ) (bytes : List ℕ) (x : Linked Ch
 children_take : (k n from next : ℕ) (bytes : List ℕ) (x : Linked Children) → IsBytes bytes → children_at k n from next bytes ≡ Some x → AreChildrenAt k n from next bytes x
 unfolding children_at
 children_take zero n from next bytes x fits e =
-    subst (AreChildrenAt 0 n from next bytes) (some_is ([], next, bytes) x e) (record { takes = record { parts = refl; rest_fits = fits }; count = refl; fit = tt; numbers = Numbers-none next })
+    subst (AreChildrenAt 0 n from next bytes) (same_Some ([], next, bytes) x e) (record { takes = record { parts = refl; rest_fits = fits }; count = refl; fit = tt; numbers = Numbers-none next })
 children_take (suc k) n from next bytes x fits e =
     let a = bind_some (child_at n from next bytes) (λ first. option_and_then (λ others. Some (first.0 ∷ others.0, others.1, others.2)) (children_at k n (first.0.0 + 1) first.1 first.2)) x e in
     let b = bind_some (children_at k n (a.0.0.0 + 1) a.0.1 a.0.2) (λ others. Some (a.0.0 ∷ others.0, others.1, others.2)) x a.2 in
     let first = child_takes n from next bytes a.0 fits a.1 in
     let others = children_take k n (a.0.0.0 + 1) a.0.1 a.0.2 b.0 first.takes.rest_fits b.1 in
     let made : Linked Children = (a.0.0 ∷ b.0.0, b.0.1, b.0.2) in
-    subst (AreChildrenAt (suc k) n from next bytes) (some_is made x b.2) (record {
+    subst (AreChildrenAt (suc k) n from next bytes) (same_Some made x b.2) (record {
       takes = Takes-then bytes (child_bytes a.0.0) a.0.2 (flat_map child_bytes b.0.0) b.0.2 first.takes others.takes;
       count = ap suc others.count;
       fit = (first.later, first.label, first.within, others.fit);
@@ -87,7 +88,7 @@ node_takes n next bytes x fits e =
     let second = Takes-then (1 ∷ bytes) ((1 ∷ []) ++ to_be_bytes w16 (length b.0.0)) a.0.1 (flat_map child_bytes b.0.0) b.0.2 first u.takes in
     let third = Takes-then (1 ∷ bytes) ((1 ∷ []) ++ to_be_bytes w16 (length b.0.0) ++ flat_map child_bytes b.0.0) b.0.2 (content_bytes c.0.0) c.0.2 second v.takes in
     let made : Linked Slot = (node b.0.0 c.0.0, c.0.1, c.0.2) in
-    subst (IsSlotAt n next 1 bytes) (some_is made x c.2) (record {
+    subst (IsSlotAt n next 1 bytes) (same_Some made x c.2) (record {
       takes = subst (λ (cs : Children). Takes (1 ∷ bytes) ((1 ∷ []) ++ to_be_bytes w16 (length cs) ++ flat_map child_bytes cs ++ content_bytes c.0.0) c.0.2) (sym all) third;
       fit = (u.fit, v.within);
       numbers = subst (λ (cs : Children). Numbers next (owned_children cs ++ owned_content c.0.0) c.0.1) (sym all) (Numbers-then next (owned_children b.0.0) b.0.1 (owned_content c.0.0) c.0.1 u.numbers v.numbers);

@@ -3,13 +3,14 @@ use Rattle.std.proofs.Common.{◌≡◌, ℕ, zero, suc, ◌+◌, ◌^◌, ◌<�
 use Rattle.std.specs.List.{flat_map, AllByRecursion}
 use Rattle.std.proofs.lemmas.Bool.{eqb-true}
 use Rattle.std.proofs.lemmas.List.{length-append}
+use Rattle.std.proofs.lemmas.Option.{same_Some}
 use Rattle.time_table.specs.Counts.{BinCounts}
 use Rattle.node_arena.specs.Slots.{Slot, node, table}
 use Rattle.cube_image.specs.Bytes.{slot_bytes}
 use Rattle.cube_image.specs.Order.{owned_by}
 use Rattle.image_parse.specs.Images.{IsImageSlot}
 use Rattle.image_parse.specs.Reading.{Linked, byte_at, node_at, table_at, slot_at, slots_at}
-use Rattle.image_parse.proofs.Fields.{IsBytes, bind_some, some_is, chosen, passes_some, Takes, Takes-then, byte_takes}
+use Rattle.image_parse.proofs.Fields.{IsBytes, bind_some, chosen, passes_some, Takes, Takes-then, byte_takes}
 use Rattle.image_parse.proofs.Linking.{CountsUp, CountsUp-split, Numbers, Numbers-then, Numbers-none}
 use Rattle.image_parse.proofs.Noded.{node_takes, node_again}
 use Rattle.image_parse.proofs.Tabled.{table_takes, table_again}
@@ -44,7 +45,7 @@ slot_takes n next bytes x fits e =
             fit = k.fit n;
             numbers = table_owns b.0.0 _ k.is next;
           } in
-          subst (IsWholeSlot n next bytes) (some_is made x b.2) found
+          subst (IsWholeSlot n next bytes) (same_Some made x b.2) found
     ]
 
 pub slot_again : (n next : ℕ) (s : Slot) (rest : List ℕ) → IsImageSlot n s → n < 2 ^ 64 → CountsUp next (owned_by s) → slot_at n next (slot_bytes s ++ rest) ≡ Some (s, next + length (owned_by s), rest)
@@ -64,14 +65,14 @@ pub record AreSlotsAt (k n next : ℕ) (bytes : List ℕ) (x : Linked (List Slot
 pub slots_take : (k n next : ℕ) (bytes : List ℕ) (x : Linked (List Slot)) → IsBytes bytes → slots_at k n next bytes ≡ Some x → AreSlotsAt k n next bytes x
 unfolding slots_at
 slots_take zero n next bytes x fits e =
-    subst (AreSlotsAt 0 n next bytes) (some_is ([], next, bytes) x e) (record { takes = record { parts = refl; rest_fits = fits }; count = refl; fit = tt; numbers = Numbers-none next })
+    subst (AreSlotsAt 0 n next bytes) (same_Some ([], next, bytes) x e) (record { takes = record { parts = refl; rest_fits = fits }; count = refl; fit = tt; numbers = Numbers-none next })
 slots_take (suc k) n next bytes x fits e =
     let a = bind_some (slot_at n next bytes) (λ first. option_and_then (λ others. Some (first.0 ∷ others.0, others.1, others.2)) (slots_at k n first.1 first.2)) x e in
     let b = bind_some (slots_at k n a.0.1 a.0.2) (λ others. Some (a.0.0 ∷ others.0, others.1, others.2)) x a.2 in
     let first = slot_takes n next bytes a.0 fits a.1 in
     let others = slots_take k n a.0.1 a.0.2 b.0 first.takes.rest_fits b.1 in
     let made : Linked (List Slot) = (a.0.0 ∷ b.0.0, b.0.1, b.0.2) in
-    subst (AreSlotsAt (suc k) n next bytes) (some_is made x b.2) (record {
+    subst (AreSlotsAt (suc k) n next bytes) (same_Some made x b.2) (record {
       takes = Takes-then bytes (slot_bytes a.0.0) a.0.2 (flat_map slot_bytes b.0.0) b.0.2 first.takes others.takes;
       count = ap suc others.count;
       fit = (first.fit, others.fit);

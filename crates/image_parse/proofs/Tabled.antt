@@ -5,6 +5,7 @@ use Rattle.std.specs.Int.{w32, w64, to_be_bytes}
 use Rattle.std.specs.List.{flat_map}
 use Rattle.std.specs.Ordering.{nat_cmp}
 use Rattle.std.proofs.lemmas.Bool.{lt-ltb, le-ltb, ltb-false, eqb-false, ne_eqb}
+use Rattle.std.proofs.lemmas.Option.{same_Some}
 use Rattle.node_arena.specs.Slots.{Slot, table}
 use Rattle.time_table.specs.Counts.{BinCounts}
 use Rattle.cube_image.specs.Bytes.{row_bytes, table_bytes, slot_bytes}
@@ -13,7 +14,7 @@ use Rattle.time_table.specs.Rows.{AreRows}
 use Rattle.time_table.proofs.RowLists.{entries_of_rows}
 use Rattle.image_parse.specs.Images.{IsImageSlot}
 use Rattle.image_parse.specs.Reading.{Front, width_number_at, row_at, table_rows_at, table_at}
-use Rattle.image_parse.proofs.Fields.{IsBytes, bind_some, some_is, fails_some, Takes, Takes-then, wide32, wide64, number_takes, number_again}
+use Rattle.image_parse.proofs.Fields.{IsBytes, bind_some, fails_some, Takes, Takes-then, wide32, wide64, number_takes, number_again}
 
 -- a row that was read
 record IsRowAt (from : ℕ) (bytes : List ℕ) (x : Front (ℕ × ℕ)) : Type 0 where
@@ -41,7 +42,7 @@ row_takes from bytes x fits e =
       some = omega arith;
       count = u.1;
     } in
-    subst (IsRowAt from bytes) (some_is made x h.1) found
+    subst (IsRowAt from bytes) (same_Some made x h.1) found
 
 row_again : (from : ℕ) (e : ℕ × ℕ) (rest : List ℕ) → from ≤ e.0 → e.0 < 2 ^ 32 → 0 < e.1 → e.1 < 2 ^ 64 → row_at from (row_bytes e ++ rest) ≡ Some (e, rest)
 unfolding row_at
@@ -59,14 +60,14 @@ record AreRowsAt (k from : ℕ) (bytes : List ℕ) (x : Front (List (ℕ × ℕ)
 rows_take : (k from : ℕ) (bytes : List ℕ) (x : Front (List (ℕ × ℕ))) → IsBytes bytes → table_rows_at k from bytes ≡ Some x → AreRowsAt k from bytes x
 unfolding table_rows_at
 rows_take zero from bytes x fits e =
-    subst (AreRowsAt 0 from bytes) (some_is ([], bytes) x e) (record { takes = record { parts = refl; rest_fits = fits }; count = refl; fit = tt })
+    subst (AreRowsAt 0 from bytes) (same_Some ([], bytes) x e) (record { takes = record { parts = refl; rest_fits = fits }; count = refl; fit = tt })
 rows_take (suc k) from bytes x fits e =
     let a = bind_some (row_at from bytes) (λ first. option_and_then (λ others. Some (first.0 ∷ others.0, others.1)) (table_rows_at k (first.0.0 + 1) first.1)) x e in
     let b = bind_some (table_rows_at k (a.0.0.0 + 1) a.0.1) (λ others. Some (a.0.0 ∷ others.0, others.1)) x a.2 in
     let first = row_takes from bytes a.0 fits a.1 in
     let others = rows_take k (a.0.0.0 + 1) a.0.1 b.0 first.takes.rest_fits b.1 in
     let made : Front (List (ℕ × ℕ)) = (a.0.0 ∷ b.0.0, b.0.1) in
-    subst (AreRowsAt (suc k) from bytes) (some_is made x b.2) (record {
+    subst (AreRowsAt (suc k) from bytes) (same_Some made x b.2) (record {
       takes = Takes-then bytes (row_bytes a.0.0) a.0.1 (flat_map row_bytes b.0.0) b.0.1 first.takes others.takes;
       count = ap suc others.count;
       fit = (first.later, first.bin, first.some, first.count, others.fit);
@@ -115,7 +116,7 @@ table_takes bytes x fits e =
     let first : Takes (2 ∷ bytes) ((2 ∷ []) ++ to_be_bytes w64 (length b.0.0)) a.0.1 = record { parts = ap (λ (t : List ℕ). 2 ∷ t) (t.0.parts ∙ ap (λ (k : ℕ). to_be_bytes w64 k ++ a.0.1) (sym u.count)); rest_fits = t.0.rest_fits } in
     let second = Takes-then (2 ∷ bytes) ((2 ∷ []) ++ to_be_bytes w64 (length b.0.0)) a.0.1 (flat_map row_bytes b.0.0) b.0.1 first u.takes in
     let made : Front Slot = (table (from_sorted b.0.0), b.0.1) in
-    subst (IsTableAt bytes) (some_is made x b.2) (record {
+    subst (IsTableAt bytes) (same_Some made x b.2) (record {
       takes = subst (λ (es : List (ℕ × ℕ)). Takes (2 ∷ bytes) (table_bytes es) b.0.1) (sym all) second;
       fit = λ n. subst (AreRows 0) (sym own) u.fit;
       rows = b.0.0;

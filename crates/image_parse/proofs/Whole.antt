@@ -6,6 +6,7 @@ use Rattle.std.specs.Cmp.Lexicographic.{same_text}
 use Rattle.std.proofs.lemmas.Bool.{eqb-true, le-ltb, ne_eqb}
 use Rattle.std.proofs.lemmas.List.{append-nil, nil_from_length, take-append-drop, length-append}
 use Rattle.std.proofs.lemmas.List.FromFn.{length-range_with_len}
+use Rattle.std.proofs.lemmas.Option.{same_Some}
 use Rattle.node_arena.specs.Slots.{Slot, node, table}
 use Rattle.cube_image.specs.Bytes.{head_bytes, slot_bytes}
 use Rattle.cube_image.specs.Order.{owned_by, IsNumbered}
@@ -16,7 +17,7 @@ use Rattle.image_parse.specs.Images.{IsImageSlot, IsImage, IsLightImage, IsHeavy
 use Rattle.image_parse.specs.Laws.{TellsOneMeaning}
 use Rattle.image_parse.specs.Reading.{Front, Linked, width_number_at, slots_at, form_name_at, head_at, end_at, all_at, image_at}
 use Rattle.image_parse.specs.Views.{Fails, KeepsLight, HasSlots, HasImage}
-use Rattle.image_parse.proofs.Fields.{IsBytes, bind_some, some_is, fails_some, passes_some, Takes, Takes-then, wide64, number_takes, number_again, IsBytes-drop}
+use Rattle.image_parse.proofs.Fields.{IsBytes, bind_some, fails_some, passes_some, Takes, Takes-then, wide64, number_takes, number_again, IsBytes-drop}
 use Rattle.image_parse.proofs.Linking.{CountsUp, Numbers}
 use Rattle.image_parse.proofs.Slotted.{slots_take, slots_again}
 
@@ -28,7 +29,7 @@ name_takes bytes rest fits e =
     let g = passes_some (starts_with nat_eq bytes (codes "NANOCUB1")) (Some (drop 8 bytes)) rest e in
     let front : codes "NANOCUB1" ≡ take 8 bytes = same_text (codes "NANOCUB1") (take 8 bytes) (sym g.0) in
     let parts : bytes ≡ codes "NANOCUB1" ++ drop 8 bytes = sym (take-append-drop 8 bytes) ∙ ap (λ (t : List ℕ). t ++ drop 8 bytes) (sym front) in
-    subst (λ (r : List ℕ). Takes bytes (codes "NANOCUB1") r) (some_is (drop 8 bytes) rest g.1) (record { parts = parts; rest_fits = IsBytes-drop 8 bytes fits })
+    subst (λ (r : List ℕ). Takes bytes (codes "NANOCUB1") r) (same_Some (drop 8 bytes) rest g.1) (record { parts = parts; rest_fits = IsBytes-drop 8 bytes fits })
 
 name_again : (rest : List ℕ) → form_name_at (codes "NANOCUB1" ++ rest) ≡ Some rest
 unfolding form_name_at
@@ -51,7 +52,7 @@ head_takes bytes x fits e =
     let v = number_takes w64 (2 ^ 64) wide64 b.0.1 c.0 u.0.rest_fits c.1 in
     let second = Takes-then bytes (codes "NANOCUB1") a.0 (to_be_bytes w64 b.0.0) b.0.1 t u.0 in
     let made : Front (ℕ × ℕ) = ((b.0.0, c.0.0), c.0.1) in
-    subst (IsHead bytes) (some_is made x c.2) (record { takes = Takes-then bytes (codes "NANOCUB1" ++ to_be_bytes w64 b.0.0) b.0.1 (to_be_bytes w64 c.0.0) c.0.1 second v.0; size = u.1; slots = v.1 })
+    subst (IsHead bytes) (same_Some made x c.2) (record { takes = Takes-then bytes (codes "NANOCUB1" ++ to_be_bytes w64 b.0.0) b.0.1 (to_be_bytes w64 c.0.0) c.0.1 second v.0; size = u.1; slots = v.1 })
 
 head_again : (size n : ℕ) (rest : List ℕ) → size < 2 ^ 64 → n < 2 ^ 64 → head_at (head_bytes size n ++ rest) ≡ Some ((size, n), rest)
 unfolding head_at
@@ -101,7 +102,7 @@ unfolding end_at
 end_takes n slots all e =
     let a = passes_some (eqb slots.1 n) (cond (eqb (length slots.2) 0) (Some slots.0) None) all e in
     let b = passes_some (eqb (length slots.2) 0) (Some slots.0) all a.1 in
-    record { next = eqb-true _ _ a.0; nothing = nil_from_length slots.2 (eqb-true _ _ b.0); same = some_is slots.0 all b.1 }
+    record { next = eqb-true _ _ a.0; nothing = nil_from_length slots.2 (eqb-true _ _ b.0); same = same_Some slots.0 all b.1 }
 
 -- slots behind a head
 record AreAll (n size : ℕ) (bytes : List ℕ) (x : ℕ × List Slot) : Type 0 where
@@ -119,7 +120,7 @@ all_take n size bytes x fits e =
     let s = slots_take n n 1 bytes a.0 fits a.1 in
     let E = end_takes n a.0 b.0 b.1 in
     let made : ℕ × List Slot = (size, a.0.0) in
-    let same : made ≡ x = ap (λ (all : List Slot). (size, all)) E.same ∙ some_is (size, b.0) x b.2 in
+    let same : made ≡ x = ap (λ (all : List Slot). (size, all)) E.same ∙ same_Some (size, b.0) x b.2 in
     let text : bytes ≡ flat_map slot_bytes a.0.0 = s.takes.parts ∙ (ap (λ (r : List ℕ). flat_map slot_bytes a.0.0 ++ r) E.nothing ∙ append-nil (flat_map slot_bytes a.0.0)) in
     let N : Numbers 1 (flat_map owned_by a.0.0) n = subst (Numbers 1 (flat_map owned_by a.0.0)) E.next s.numbers in
     subst (AreAll n size bytes) same (record { size_is = refl; text = text; number = s.count; fit = s.fit; numbered = numbered_from a.0.0 n s.count N })
@@ -196,7 +197,7 @@ image_again bytes size slots I =
 pub one_meaning : TellsOneMeaning
 one_meaning bytes size again slots others I J =
     let e : Some (size, slots) ≡ Some (again, others) = sym (image_again bytes size slots I) ∙ image_again bytes again others J in
-    let f = some_is (size, slots) (again, others) e in
+    let f = same_Some (size, slots) (again, others) e in
     (ap (λ (p : ℕ × List Slot). p.0) f, ap (λ (p : ℕ × List Slot). p.1) f)
 
 -- what the answers of reading mean
