@@ -6,7 +6,7 @@ use Rattle.std.proofs.lemmas.List.Elements.{All-nil, All-cons, All-head, All-tai
 use Rattle.cube_view.specs.declared.category.Category.{Category}
 use Rattle.cube_view.specs.declared.schema.Schema.{Schema}
 use Rattle.cube_view.specs.declared.spot.Spot.{Spot}
-use Rattle.cube_view.specs.Limits.{is_between, is_value, is_category_name, category_in_range, numbers_in_range, categories_in_range, weight_in_range, parts_in_range, texts_distinct}
+use Rattle.cube_view.specs.Limits.{is_between, is_value, is_category_name, category_in_range}
 use Rattle.cube_view.specs.Paths.{labels_from, paths_from}
 use Rattle.cube_view.specs.Places.{time_dim, deepest, label_of, quadrant_at}
 use Rattle.cube_view.specs.Points.{Point, spot_of}
@@ -17,6 +17,7 @@ use Rattle.node_arena.specs.Amounts.{spots_in}
 use Rattle.node_arena.specs.Shape.{home_of}
 use Rattle.node_arena.specs.Slots.{Slot, link_of}
 use Rattle.cube_store.specs.Counted.{CountsPoints}
+use Rattle.cube_view.proofs.SchemaBounds.{each_in_range}
 use Rattle.cube_view.proofs.Weighing.{sound-fits}
 use Rattle.proper_path.specs.Paths.{paths_of}
 
@@ -102,18 +103,12 @@ paths-small : (z : Schema) (s : Spot) → ((k : ℕ) → get_or s.values k 0 < 2
 paths-small z s V dim zero = tt
 paths-small z s V dim (suc n) = (labels-small z s V dim 1 (deepest z dim), paths-small z s V (dim + 1) n)
 
-categories-fit : (z : Schema) → list_all category_in_range z.categories ≡ true
-categories-fit z =
-    let limits = and_parts (parts_in_range z.depth z.categories z.width z.batch z.weight) (texts_distinct z.categories z.weight) z.limits in
-    let parts = and_parts (numbers_in_range z.depth z.width z.batch && categories_in_range z.categories) (weight_in_range z.weight) limits.0 in
-    (and_parts (nat_le (length z.categories) 4) (list_all category_in_range z.categories) (and_parts (numbers_in_range z.depth z.width z.batch) (categories_in_range z.categories) parts.0).1).1
-
 points-small : (z : Schema) (h : List Point) → All (λ p. IsTrue (sound z p)) h → All (λ (q : SpotPath). AllSmall q.paths) (spots_in (paths_of z h))
 points-small z [] S = All-nil (λ (q : SpotPath). AllSmall q.paths)
 points-small z (p ∷ h) S =
     let fit = sound-fits z p (All-head (λ r. IsTrue (sound z r)) p h S) in
     let values = (and_parts (tile_fits z.depth (spot_of p)) (values_fit z.categories (spot_of p).values) fit).1 in
-    All-cons (λ (q : SpotPath). AllSmall q.paths) _ (spots_in (paths_of z h)) (paths-small z (spot_of p) (values-small z.categories (spot_of p).values (categories-fit z) values) 1 (time_dim z)) (points-small z h (All-tail (λ r. IsTrue (sound z r)) p h S))
+    All-cons (λ (q : SpotPath). AllSmall q.paths) _ (spots_in (paths_of z h)) (paths-small z (spot_of p) (values-small z.categories (spot_of p).values (each_in_range z) values) 1 (time_dim z)) (points-small z h (All-tail (λ r. IsTrue (sound z r)) p h S))
 
 -- the labels of a cube's links are bytes
 pub label-byte : (z : Schema) (slots : List Slot) (root size : ℕ) (h : List Point) → CountsPoints z slots root size h → (i label : ℕ) (l : Link) → link_of slots i (down label) ≡ Some l → label < 256

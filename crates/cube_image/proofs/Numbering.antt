@@ -10,7 +10,7 @@ use Rattle.cube_image.specs.Conditions.{HasSomeHomes}
 use Rattle.cube_image.specs.Order.{proper_target, owned_children, owned_content, owned_by, IsOrder, IsNumbered, order_number, moved, moved_child, moved_link, moved_content, in_order}
 use Rattle.cube_image.specs.Rest.{byte_children}
 use Rattle.cube_image.proofs.Owned.{hits, hits-append}
-use Rattle.cube_image.proofs.Ordered.{IsFront, owned_at, once}
+use Rattle.cube_image.proofs.Ordered.{IsFront, owned_at, stand_once}
 use Rattle.cube_image.proofs.Rests.{byte_children-map}
 
 -- links that are moved lead to the numbers of what they owned
@@ -68,7 +68,8 @@ numbers-in_turn places xs (y ∷ ys) is once =
 pub numbered : (slots : List Slot) → HasSomeHomes slots → AllRising slots → (places : List ℕ) → IsOrder slots places → IsNumbered (in_order slots places)
 numbered slots h R places O =
     let front : IsFront slots places (length places) = record { within = omega arith; is = O ∙ ap (λ (ps : List ℕ). 0 ∷ flat_map (owned_at slots) ps) (sym (take-length places)) } in
-    let turn = numbers-in_turn places [] places refl (once slots h.homes h.has_homes R places (length places) front) in
+    let each = stand_once slots h.homes h.has_homes R places (length places) front in
+    let turn = numbers-in_turn places [] places refl each.once in
     let size : length (in_order slots places) ≡ length places = length-map places (λ (i : ℕ). moved places (slot_of slots i)) in
     let root : order_number places 0 ≡ 0 = ap (λ (ps : List ℕ). order_number ps 0) O ∙ number-past 0 [] (flat_map (owned_at slots) places) refl in
     ap (λ (t : List ℕ). 0 ∷ t) (owned-in_order slots places places)

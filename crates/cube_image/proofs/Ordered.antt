@@ -13,7 +13,7 @@ use Rattle.node_arena.specs.Stats.{AllRising}
 use Rattle.node_arena.proofs.Linked.{linked-lt}
 use Rattle.cube_image.specs.Conditions.{HasSomeHomes}
 use Rattle.cube_image.specs.Order.{owned_by, IsOrder}
-use Rattle.cube_image.proofs.Owned.{hits, hits-take, hits-at, hits-flat_map-none, hits-flat_map-one, slot_hits, few_once}
+use Rattle.cube_image.proofs.Owned.{hits, hits-take, hits-at, hits-flat_map-none, hits-flat_map-one, slot_hits, StandOnce, few_once}
 
 -- the slots that a slot owns, by its place
 abbrev pub owned_at : List Slot → ℕ → List ℕ
@@ -101,15 +101,16 @@ module _ (slots : List Slot) (homes : List Walk) (H : HasHomes slots homes) (R :
             let h : cond {A = ℕ} (eqb 0 j) 1 0 ≡ 0 = ap (λ (b : Bool). cond {A = ℕ} b 1 0) (ne_eqb 0 j s) in
             omega arith
 
-    pub once : (j : ℕ) → hits j places ≤ 1
-    once j = at_most (suc (length (home_of homes j))) j (omega arith)
-
-    pub below : (j : ℕ) → 0 < hits j places → j < length slots
-    below j some = go (cases_lt j (length slots))
+    -- the places are numbers of slots, each once
+    pub stand_once : StandOnce (length slots) places
+    stand_once = record {
+      once = λ j. at_most (suc (length (home_of homes j))) j (omega arith);
+      below = λ j some. low j some (cases_lt j (length slots));
+    }
       where
-        go : (j < length slots) ⊎ (length slots ≤ j) → j < length slots
-        go (inl lt) = lt
-        go (inr le) =
+        low : (j : ℕ) → 0 < hits j places → (j < length slots) ⊎ (length slots ≤ j) → j < length slots
+        low j some (inl lt) = lt
+        low j some (inr le) =
             let r = hits-flat_map-none (owned_at slots) j (take n places) (λ i. past_unowned i j le) in
             let p = parts j in
             let k = H.some in
@@ -118,11 +119,11 @@ module _ (slots : List Slot) (homes : List Walk) (H : HasHomes slots homes) (R :
 
 -- a front has at most as many places as there are slots
 pub front-few : (slots : List Slot) (places : List ℕ) (n : ℕ) → ∥ HasSomeHomes slots ∥₁ → AllRising slots → IsFront slots places n → length places ≤ length slots
-front-few slots places n some R F = ∥∥₁_elim some le_prop (λ h. few_once places (length slots) (once slots h.homes h.has_homes R places n F) (below slots h.homes h.has_homes R places n F))
+front-few slots places n some R F = ∥∥₁_elim some le_prop (λ h. few_once places (length slots) (stand_once slots h.homes h.has_homes R places n F))
 
 -- and each is a slot's
 pub front-below : (slots : List Slot) (places : List ℕ) (n k d : ℕ) → ∥ HasSomeHomes slots ∥₁ → AllRising slots → IsFront slots places n → k < length places → get_or places k d < length slots
-front-below slots places n k d some R F lt = ∥∥₁_elim some le_prop (λ h. below slots h.homes h.has_homes R places n F (get_or places k d) (hits-at places k d lt))
+front-below slots places n k d some R F lt = ∥∥₁_elim some le_prop (λ h. let s = stand_once slots h.homes h.has_homes R places n F in s.below (get_or places k d) (hits-at places k d lt))
 
 -- a front that is all of the places is the order
 pub front-all : (slots : List Slot) (places : List ℕ) (n : ℕ) → IsFront slots places n → length places ≤ n → IsOrder slots places

@@ -130,6 +130,11 @@ slot_hits j (node children content) R same =
     go (inr a) (inl c) = inr (sum ∙ omega (arith, a.0, c), (down a.1.0, all a.1.0 a.1.1))
     go (inr a) (inr c) = absurd (apart a.1.0 (same (down a.1.0) across (all a.1.0 a.1.1) c.1))
 
+-- the numbers of a list stand there once each, and all are less than n
+pub record StandOnce (n : ℕ) (xs : List ℕ) : Type 0 where
+  pub once : (j : ℕ) → hits j xs ≤ 1
+  pub below : (j : ℕ) → 0 < hits j xs → j < n
+
 -- numbers that stand once each, all less than n, are at most n
 none_of : (x : ℕ) (xs : List ℕ) → hits x xs ≡ 0 → AllByRecursion (λ y. eqb x y ≡ false) xs
 none_of x [] absent = tt
@@ -154,5 +159,5 @@ any_hits q (x ∷ xs) is = go (cases_eq x q) (λ r. any_hits q xs r)
         let other : eqb q x ≡ false = ne_eqb q x (λ e. n (sym e)) in
         let r = rest (sym (ap (λ (b : Bool). b || list_any (eqb q) xs) other) ∙ is) in omega arith
 
-pub few_once : (xs : List ℕ) (n : ℕ) → ((j : ℕ) → hits j xs ≤ 1) → ((q : ℕ) → 0 < hits q xs → q < n) → length xs ≤ n
-few_once xs n once below = length-le_from_distinct_below xs n (distinct xs once) (λ q is. below q (any_hits q xs is))
+pub few_once : (xs : List ℕ) (n : ℕ) → StandOnce n xs → length xs ≤ n
+few_once xs n S = length-le_from_distinct_below xs n (distinct xs S.once) (λ q is. S.below q (any_hits q xs is))

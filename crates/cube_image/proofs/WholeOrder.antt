@@ -14,7 +14,7 @@ use Rattle.cube_image.specs.Order.{proper_target, owned_children, owned_content,
 use Rattle.cube_image.specs.Rest.{byte_children, below_number}
 use Rattle.node_arena.proofs.Linked.{linked-lt}
 use Rattle.cube_image.proofs.Owned.{hits, hits-append, few_once}
-use Rattle.cube_image.proofs.Ordered.{IsFront, owned_at, once, below}
+use Rattle.cube_image.proofs.Ordered.{IsFront, owned_at, stand_once}
 use Rattle.cube_image.proofs.Rests.{taken, dropped}
 
 -- a child whose label is less is kept
@@ -142,7 +142,7 @@ module _ (slots : List Slot) (homes : List Walk) (H : HasHomes slots homes) (R :
   placed-all : length places ≡ length slots
   placed-all =
       let front : IsFront slots places (length places) = record { within = omega arith; is = O ∙ ap (λ (ps : List ℕ). 0 ∷ flat_map (owned_at slots) ps) (sym (take-length places)) } in
-      let few = few_once places (length slots) (once slots homes H R places (length places) front) (below slots homes H R places (length places) front) in
+      let few = few_once places (length slots) (stand_once slots homes H R places (length places) front) in
       let enough = many (length slots) places (λ j lt. each_placed (suc (length (home_of homes j))) j (omega arith) lt) in
       omega arith
 

@@ -2,7 +2,7 @@
 use Rattle.std.proofs.Common.{◌≡◌, ℕ, zero, suc, ◌+◌, ◌<◌, ◌≤◌, Bool, cond, not, ◌⊎◌, inl, inr, eqb, eq-eqb, ne_eqb, List, [], ◌∷◌, length, get_or, refl, sym, ap, ◌∙◌, arith}
 use Rattle.std.proofs.lemmas.Bool.{cases_eq, cases_lt}
 use Rattle.cube_image.specs.Order.{order_number}
-use Rattle.cube_image.proofs.Owned.{hits, hits-at, few_once}
+use Rattle.cube_image.proofs.Owned.{hits, hits-at, StandOnce, few_once}
 
 first-number : (x i : ℕ) (xs : List ℕ) → x ≡ i → order_number (x ∷ xs) i ≡ 0
 first-number x i xs e = ap (λ (b : Bool). cond {A = ℕ} (not b) (1 + order_number xs i) 0) (eq-eqb x i e)
@@ -42,23 +42,20 @@ found-again (x ∷ xs) once (suc k) lt =
     next-number x (get_or xs k 0) xs other ∙ ap (λ (n : ℕ). suc n) r
 
 -- a list of n numbers below n that has each once has all
-pub has-all : (xs : List ℕ) (n : ℕ) → length xs ≡ n → ((j : ℕ) → hits j xs ≤ 1) → ((j : ℕ) → 0 < hits j xs → j < n) → (j : ℕ) → j < n → 0 < hits j xs
-has-all xs n size once below j lt = go (cases_lt 0 (hits j xs))
+pub has-all : (xs : List ℕ) (n : ℕ) → length xs ≡ n → StandOnce n xs → (j : ℕ) → j < n → 0 < hits j xs
+has-all xs n size S j lt = go (cases_lt 0 (hits j xs))
   where
     go : (0 < hits j xs) ⊎ (hits j xs ≤ 0) → 0 < hits j xs
     go (inl some) = some
-    go (inr none) = let few = few_once (j ∷ xs) n once-more below-more in absurd (omega (arith, few, size))
+    go (inr none) = let few = few_once (j ∷ xs) n more in absurd (omega (arith, few, size))
       where
-        once-more : (q : ℕ) → hits q (j ∷ xs) ≤ 1
-        once-more q = pick (cases_eq j q)
-          where
-            pick : (j ≡ q) ⊎ (j ≡ q → ⊥) → hits q (j ∷ xs) ≤ 1
-            pick (inl e) = let h = first-hits j q e in let z : hits q xs ≡ hits j xs = ap (λ (i : ℕ). hits i xs) (sym e) in omega (arith, h, z, none)
-            pick (inr n) = let h = next-hits j q n in let o = once q in omega (arith, h, o)
+        once_in : (q : ℕ) → (j ≡ q) ⊎ (j ≡ q → ⊥) → hits q (j ∷ xs) ≤ 1
+        once_in q (inl e) = let h = first-hits j q e in let z : hits q xs ≡ hits j xs = ap (λ (i : ℕ). hits i xs) (sym e) in omega (arith, h, z, none)
+        once_in q (inr m) = let h = next-hits j q m in let o = S.once q in omega (arith, h, o)
 
-        below-more : (q : ℕ) → 0 < hits q (j ∷ xs) → q < n
-        below-more q some = pick (cases_eq j q)
-          where
-            pick : (j ≡ q) ⊎ (j ≡ q → ⊥) → q < n
-            pick (inl e) = omega (arith, lt, e)
-            pick (inr m) = let h = next-hits j q m in below q (omega (arith, some, h))
+        below_in : (q : ℕ) → 0 < hits q (j ∷ xs) → (j ≡ q) ⊎ (j ≡ q → ⊥) → q < n
+        below_in q some (inl e) = omega (arith, lt, e)
+        below_in q some (inr m) = let h = next-hits j q m in S.below q (omega (arith, some, h))
+
+        more : StandOnce n (j ∷ xs)
+        more = record { once = λ q. once_in q (cases_eq j q); below = λ q some. below_in q some (cases_eq j q) }

@@ -13,8 +13,8 @@ use Rattle.node_arena.specs.Stats.{AllRising}
 use Rattle.node_arena.proofs.Linked.{link_cases, linked-lt}
 use Rattle.node_arena.proofs.Reaching.{target-lt}
 use Rattle.cube_image.specs.Order.{IsOrder, order_number, moved, moved_link, moved_child, moved_content, in_order}
-use Rattle.cube_image.proofs.Owned.{hits, hits-at}
-use Rattle.cube_image.proofs.Ordered.{IsFront, owned_at, once, below}
+use Rattle.cube_image.proofs.Owned.{hits, hits-at, StandOnce}
+use Rattle.cube_image.proofs.Ordered.{IsFront, owned_at, stand_once}
 use Rattle.image_cube.proofs.Placed.{number-found, found-again, has-all}
 
 child-moved : (places : List ℕ) (cs : Children) (l : ℕ) → child (map (moved_child places) cs) l ≡ moved_content places (child cs l)
@@ -55,17 +55,14 @@ module _ (slots : List Slot) (homes : List Walk) (H : HasHomes slots homes) (R :
   front : IsFront slots places (length places)
   front = record { within = omega arith; is = O ∙ ap (λ (ps : List ℕ). 0 ∷ flat_map (owned_at slots) ps) (sym (take-length places)) }
 
-  each-once : (j : ℕ) → hits j places ≤ 1
-  each-once = once slots homes H R places (length places) front
-
-  pub each-low : (j : ℕ) → 0 < hits j places → j < length slots
-  each-low j some = below slots homes H R places (length places) front j some
+  pub places-once : StandOnce (length slots) places
+  places-once = stand_once slots homes H R places (length places) front
 
   pub each-one : (j : ℕ) → j < length slots → hits j places ≡ 1
-  each-one j lt = let o = each-once j in let a = has-all places (length slots) size each-once each-low j lt in omega (arith, o, a)
+  each-one j lt = let o = places-once.once j in let a = has-all places (length slots) size places-once j lt in omega (arith, o, a)
 
   found : (i : ℕ) → i < length slots → (new i < length places) × (old (new i) ≡ i)
-  found i lt = number-found i places (has-all places (length slots) size each-once each-low i lt)
+  found i lt = number-found i places (has-all places (length slots) size places-once i lt)
 
   pub again-size : length again ≡ length slots
   again-size = length-map places (λ (i : ℕ). moved places (slot_of slots i)) ∙ size
@@ -74,10 +71,10 @@ module _ (slots : List Slot) (homes : List Walk) (H : HasHomes slots homes) (R :
   in-places k lt = let a = again-size in omega (arith, lt, a, size)
 
   pub old-lt : (k : ℕ) → k < length places → old k < length slots
-  old-lt k lt = each-low (old k) (hits-at places k 0 lt)
+  old-lt k lt = places-once.below (old k) (hits-at places k 0 lt)
 
   back : (k : ℕ) → k < length places → new (old k) ≡ k
-  back k lt = found-again places each-once k lt
+  back k lt = found-again places places-once.once k lt
 
   slot-at : (k : ℕ) → k < length places → slot_of again k ≡ moved places (slot_of slots (old k))
   slot-at k lt = get_or-map (λ (i : ℕ). moved places (slot_of slots i)) places k 0 empty_node lt

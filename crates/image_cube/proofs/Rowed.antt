@@ -4,7 +4,6 @@ use Rattle.std.specs.Cmp.{nat_cmp_total}
 use Rattle.std.specs.FinMap.{empty, entries, entries_sorted, entries-insert, get-entries, find, put, len-entries, len-empty}
 use Rattle.std.specs.FinMap.Entries.{is_sorted}
 use Rattle.std.proofs.lemmas.Bool.{cases_order}
-use Rattle.std.proofs.lemmas.Bool.Decides.{eqb_tells}
 use Rattle.std.proofs.lemmas.List.Elements.{All-nil, All-cons, All-head, All-tail}
 use Rattle.std.proofs.lemmas.List.Sums.{sum_by-cons}
 use Rattle.cube_view.specs.Points.{heaviest}
@@ -19,6 +18,7 @@ use Rattle.node_arena.specs.Amounts.{Weighted, amount_under}
 use Rattle.shape_test.specs.Wholes.{spot_at}
 use Rattle.shape_test.proofs.Core.{amount-cons}
 use Rattle.shape_test.specs.Fits.{bag_sum, least_points, least_size}
+use Rattle.shape_test.proofs.Remaining.{where_equal-swapped}
 use Rattle.image_cube.proofs.Parted.{part, part-cons}
 
 -- how few points have rows
@@ -82,15 +82,6 @@ abbrev bins_at : Walk → List Weighted → List (ℕ × ℕ)
 bins_at a [] = []
 bins_at a (w ∷ h) = cond (under w.spot a) ((w.spot.bin, w.amount) ∷ bins_at a h) (bins_at a h)
 
-either-way : (m n k : ℕ) → cond {A = ℕ} (eqb m n) k 0 ≡ cond {A = ℕ} (eqb n m) k 0
-either-way m n k = go (eqb_tells m n) (eqb_tells n m)
-  where
-    go : ((eqb m n ≡ true) × (m ≡ n)) ⊎ ((eqb m n ≡ false) × (m ≢ n)) → ((eqb n m ≡ true) × (n ≡ m)) ⊎ ((eqb n m ≡ false) × (n ≢ m)) → cond {A = ℕ} (eqb m n) k 0 ≡ cond {A = ℕ} (eqb n m) k 0
-    go (inl x) (inl y) = ap (λ (b : Bool). cond {A = ℕ} b k 0) (x.0 ∙ sym y.0)
-    go (inl x) (inr y) = absurd (y.1 (sym x.1))
-    go (inr x) (inl y) = absurd (x.1 (sym y.1))
-    go (inr x) (inr y) = ap (λ (b : Bool). cond {A = ℕ} b k 0) (x.0 ∙ sym y.0)
-
 at-bins : (a : Walk) (h : List Weighted) (bin : ℕ) → amount_under h a bin ≡ amount_at bin (bins_at a h)
 at-bins a [] bin = refl
 at-bins a (w ∷ h) bin = go (under w.spot a) (amount-cons w h a bin) (at-bins a h bin)
@@ -98,7 +89,7 @@ at-bins a (w ∷ h) bin = go (under w.spot a) (amount-cons w h a bin) (at-bins a
     go : (u : Bool) → amount_under (w ∷ h) a bin ≡ cond {A = ℕ} (u && eqb w.spot.bin bin) w.amount 0 + amount_under h a bin → amount_under h a bin ≡ amount_at bin (bins_at a h) → amount_under (w ∷ h) a bin ≡ amount_at bin (cond u ((w.spot.bin, w.amount) ∷ bins_at a h) (bins_at a h))
     go true e r =
         let s = sum_by-cons (λ (b : ℕ × ℕ). cond {A = ℕ} (eqb bin b.0) b.1 0) (w.spot.bin, w.amount) (bins_at a h) in
-        let f = either-way w.spot.bin bin w.amount in
+        let f = where_equal-swapped w.spot.bin bin w.amount in
         omega (arith, e, r, s, f)
     go false e r = omega (arith, e, r)
 

@@ -28,7 +28,7 @@ use Rattle.shape_test.specs.Laws.{AllTablesCounted}
 use Rattle.image_cube.specs.CubeImages.{AreRecords, IsCubeImage, HasLongCubeImage, KeepsNumbers}
 use Rattle.image_cube.proofs.Fitted.{counted-fits}
 use Rattle.image_cube.proofs.Imaged.{slots-fit}
-use Rattle.image_cube.proofs.Renumbered.{moved_homes, in-places, each-low, each-one, old-lt, shape-again}
+use Rattle.image_cube.proofs.Renumbered.{moved_homes, in-places, places-once, each-one, old-lt, shape-again}
 use Rattle.image_cube.proofs.Summed.{stat-again}
 use Rattle.proper_path.specs.Paths.{paths_of}
 
@@ -135,7 +135,7 @@ module _ (schema : Schema) (slots : List Slot) (size : ℕ) (h : List Point) (C 
     kept-numbers other n F =
         let m = one_meaning bytes n size other again F.image image-again in
         ap stat_of m.1
-        ∙ stat-again slots places (each-low slots C.homes C.shape.has_homes R places W.image.ordered places-size) (each-one slots C.homes C.shape.has_homes R places W.image.ordered places-size)
+        ∙ stat-again slots places (places-once slots C.homes C.shape.has_homes R places W.image.ordered places-size).below (each-one slots C.homes C.shape.has_homes R places W.image.ordered places-size)
 
 -- a cube's image that is too long is one of its points
 pub long-image : (schema : Schema) (slots : List Slot) (root size : ℕ) (h : List Point) → CountsPoints schema slots root size h → HasLongImage slots size → HasLongCubeImage schema h
