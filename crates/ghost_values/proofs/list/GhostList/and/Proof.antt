@@ -19,10 +19,10 @@ use Rattle.ghost_values.proofs.Walks.{one, none, made}
 use Rattle.ghost_values.specs.contracts.list.GhostList.{the_row}
 use Rattle.ghost_values.specs.contracts.list.GhostList.and as F
 use Rattle.ghost_values.specs.contracts.list.GhostList.and.Key.{name as #self}
-use Rattle.ghost_values.proofs.list.GhostList.and.Statement as stated
+use Rattle.ghost_values.proofs.list.GhostList.and.Statement.{statement as and_statement}
 use Rattle.ghost_values.proofs.list.GhostList.and.Code as code
 
-pub and_spec : {M : Type 1} → stated.statement M
+pub and_spec : {M : Type 1} → and_statement M
 and_spec 𝓤 𝓛 𝓜 𝓡 wired A LA =
     let T = F.ended A in
     let c = F.clauses A 𝓛 𝓜.mem 𝓡.returns in

@@ -15,10 +15,10 @@ use denote.Triple.Walked.{walk_of, says, ends_at}
 use Rattle.ghost_values.proofs.Walks.{one, none, made}
 use Rattle.ghost_values.specs.contracts.list.GhostList.new as F
 use Rattle.ghost_values.specs.contracts.list.GhostList.new.Key.{name as #self}
-use Rattle.ghost_values.proofs.list.GhostList.new.Statement as stated
+use Rattle.ghost_values.proofs.list.GhostList.new.Statement.{statement as new_statement}
 use Rattle.ghost_values.proofs.list.GhostList.new.Code as code
 
-pub new_spec : {M : Type 1} → stated.statement M
+pub new_spec : {M : Type 1} → new_statement M
 new_spec 𝓤 𝓛 𝓜 𝓡 wired A LA =
     let T = F.ended A in
     let c = F.clauses A 𝓛 𝓜.mem 𝓡.returns in

@@ -1,7 +1,7 @@
 use denote.RattleType.{RattleType}
 use denote.Param.Send.{IsSend}
-use Rattle.ghost_values.proofs.Crossing.{value_send}
-use Rattle.ghost_values.specs.contracts.value.GhostValue.{the_row}
+use Rattle.ghost_values.proofs.Crossing.{keyless}
+use Rattle.ghost_values.specs.contracts.value.GhostValue.{the_row as value_row}
 
-pub send : (A : RattleType) → IsSend (the_row A)
-send = value_send
+pub send : (A : RattleType) → IsSend (value_row A)
+send A = record { owned = λ d. keyless A; leaving = λ k f vs. tt }

@@ -18,10 +18,10 @@ use denote.Triple.Walked.{Stays, stay_dropped, walk_of, says, ends_at, Goes-drop
 use Rattle.ghost_values.proofs.Walks.{one, none, made}
 use Rattle.ghost_values.specs.contracts.value.GhostValue.of as F
 use Rattle.ghost_values.specs.contracts.value.GhostValue.of.Key.{name as #self}
-use Rattle.ghost_values.proofs.value.GhostValue.of.Statement as stated
+use Rattle.ghost_values.proofs.value.GhostValue.of.Statement.{statement as of_statement}
 use Rattle.ghost_values.proofs.value.GhostValue.of.Code as code
 
-pub of_spec : {M : Type 1} → stated.statement M
+pub of_spec : {M : Type 1} → of_statement M
 of_spec 𝓤 𝓛 𝓜 𝓡 wired A LA =
     let T = F.ended A in
     let c = F.clauses A 𝓛 𝓜.mem 𝓡.returns in
