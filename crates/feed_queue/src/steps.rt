@@ -13,10 +13,10 @@ use outer_io::NoMemory;
 use std::alloc::Global;
 use std::sync::Wait;
 
-/// How often the drawing end yields before it sleeps, which takes some two milliseconds. To wake it takes 20 microseconds or
-/// more, which whoever asks for the record would feel. So where items come 500 times a second or more it is awake for them.
+/// How often the drawing end yields before it sleeps, which takes some 0.2 milliseconds. To wake it takes 20 microseconds or
+/// more, which whoever asks for the record would feel. So where items come 5,000 times a second or more it is awake for them.
 /// Where they come more seldom, most of its waits sleep at once (`Signal::pause`).
-const YIELDS_FOR_ITEMS: u32 = 4_000;
+const YIELDS_FOR_ITEMS: u32 = 400;
 
 /// Sends an item, and waits while the queue is full. It wakes the drawing end where that sleeps.
 pub(crate) fn push<R: Wait>(rt: &R, lane: &Lane, pass: &mut LanePass, item: Item)

@@ -48,10 +48,10 @@ use Rattle.std_alloc.proofs.VecSteps.Rows.{empty}
 use Rattle.block_list.proofs.RawMemory.{Rb, Raw, Items, words, raw_made}
 use Rattle.block_list.specs.contracts.raw.RawBlock.allocate as F
 use Rattle.block_list.specs.contracts.raw.RawBlock.allocate.Key.{name as #self}
-use Rattle.block_list.proofs.raw.RawBlock.allocate.Statement as stated
+use Rattle.block_list.proofs.raw.RawBlock.allocate.Statement.{statement as allocate_statement}
 use Rattle.block_list.proofs.raw.RawBlock.allocate.Code as code
 
-pub allocate_spec : {M : Type 1} → stated.statement M
+pub allocate_spec : {M : Type 1} → allocate_statement M
 allocate_spec 𝓤 𝓛 𝓜 𝓡 wired X Z LX LZ g d dd met md =
     let E : El = record { row = X; laws = LX; al = record { row = Z; laws = LZ; g = g; d = d; drops = dd } } in
     let T = F.ended X Z g d dd in let c = F.clauses X Z g d dd 𝓛 𝓜.mem 𝓡.returns in

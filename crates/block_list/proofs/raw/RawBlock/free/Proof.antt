@@ -37,10 +37,10 @@ use Rattle.std_alloc.proofs.VecSteps.Shapes.{after}
 use Rattle.block_list.proofs.RawMemory.{Rb, Raw, Right, words, raw_had}
 use Rattle.block_list.specs.contracts.raw.RawBlock.free as F
 use Rattle.block_list.specs.contracts.raw.RawBlock.free.Key.{name as #self}
-use Rattle.block_list.proofs.raw.RawBlock.free.Statement as stated
+use Rattle.block_list.proofs.raw.RawBlock.free.Statement.{statement as free_statement}
 use Rattle.block_list.proofs.raw.RawBlock.free.Code as code
 
-pub free_spec : {M : Type 1} → stated.statement M
+pub free_spec : {M : Type 1} → free_statement M
 free_spec 𝓤 𝓛 𝓜 𝓡 wired X Z LX LZ g d dd met md =
     let E : El = record { row = X; laws = LX; al = record { row = Z; laws = LZ; g = g; d = d; drops = dd } } in
     let T = F.ended X Z g d dd in let c = F.clauses X Z g d dd 𝓛 𝓜.mem 𝓡.returns in

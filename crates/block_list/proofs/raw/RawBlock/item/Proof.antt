@@ -40,10 +40,10 @@ use Rattle.block_list.proofs.RawMemory.{Rb, Raw, address_is, item_seen}
 use Rattle.block_list.specs.contracts.raw.RawBlock as C
 use Rattle.block_list.specs.contracts.raw.RawBlock.item as F
 use Rattle.block_list.specs.contracts.raw.RawBlock.item.Key.{name as #self}
-use Rattle.block_list.proofs.raw.RawBlock.item.Statement as stated
+use Rattle.block_list.proofs.raw.RawBlock.item.Statement.{statement as item_statement}
 use Rattle.block_list.proofs.raw.RawBlock.item.Code as code
 
-pub item_spec : {M : Type 1} → stated.statement M
+pub item_spec : {M : Type 1} → item_statement M
 item_spec 𝓤 𝓛 𝓜 𝓡 wired X Z LX LZ g d dd met md =
     let E : El = record { row = X; laws = LX; al = record { row = Z; laws = LZ; g = g; d = d; drops = dd } } in
     let T = F.ended X Z g d dd in let c = F.clauses X Z g d dd 𝓛 𝓜.mem 𝓡.returns in

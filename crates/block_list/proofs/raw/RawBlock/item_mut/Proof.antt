@@ -40,7 +40,7 @@ use Rattle.block_list.proofs.RawMemory.{Rb, Raw, address_is, Spare, Right, words
 use Rattle.block_list.specs.RawLends.{with_item}
 use Rattle.block_list.specs.contracts.raw.RawBlock.item_mut as F
 use Rattle.block_list.specs.contracts.raw.RawBlock.item_mut.Key.{name as #self}
-use Rattle.block_list.proofs.raw.RawBlock.item_mut.Statement as stated
+use Rattle.block_list.proofs.raw.RawBlock.item_mut.Statement.{statement as item_mut_statement}
 use Rattle.block_list.proofs.raw.RawBlock.item_mut.Code as code
 
 module _ (E : El) {M : Type 1} {𝓤 : Ura M} (𝓛 : Logic 𝓤) (h : Raw E) (i rb ro b o : ℕ) where
@@ -61,7 +61,7 @@ module _ (E : El) {M : Type 1} {𝓤 : Ura M} (𝓛 : Logic 𝓤) (h : Raw E) (i
       raw_made E ! (with_item h i w) b o at_b fit $ move ! (1 ∷ 0 ∷ []) $ fjoin ! $
       fpack ! (List Val) (λ us. fsep (cell_at full_share (Rb E).mir us rb ro) ((Rb E).own_val (with_item h i w) us)) (words (block_ptr b o) ∷ []) $ done !
 
-pub item_mut_spec : {M : Type 1} → stated.statement M
+pub item_mut_spec : {M : Type 1} → item_mut_statement M
 item_mut_spec 𝓤 𝓛 𝓜 𝓡 wired X Z LX LZ g d dd met md =
     let E : El = record { row = X; laws = LX; al = record { row = Z; laws = LZ; g = g; d = d; drops = dd } } in
     let T = F.ended X Z g d dd in let c = F.clauses X Z g d dd 𝓛 𝓜.mem 𝓡.returns in

@@ -33,10 +33,10 @@ use Rattle.std_alloc.proofs.VecSteps.Shapes.{after}
 use Rattle.block_list.proofs.RawMemory.{Rb, Raw, Spare, raw_opens, raw_closes}
 use Rattle.block_list.specs.contracts.raw.RawBlock.write as F
 use Rattle.block_list.specs.contracts.raw.RawBlock.write.Key.{name as #self}
-use Rattle.block_list.proofs.raw.RawBlock.write.Statement as stated
+use Rattle.block_list.proofs.raw.RawBlock.write.Statement.{statement as write_statement}
 use Rattle.block_list.proofs.raw.RawBlock.write.Code as code
 
-pub write_spec : {M : Type 1} → stated.statement M
+pub write_spec : {M : Type 1} → write_statement M
 write_spec 𝓤 𝓛 𝓜 𝓡 wired X Z LX LZ g d dd met md =
     let E : El = record { row = X; laws = LX; al = record { row = Z; laws = LZ; g = g; d = d; drops = dd } } in
     let T = F.ended X Z g d dd in let c = F.clauses X Z g d dd 𝓛 𝓜.mem 𝓡.returns in
