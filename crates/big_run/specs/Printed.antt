@@ -2,7 +2,7 @@
 use Rattle.std.specs.Prelude.{◌≡◌, ℕ, List, [], ◌∷◌, ◌++◌, codes, length}
 use Rattle.crew_feeder.specs.Leaving.{feed_counts}
 use Rattle.crew_feeder.specs.declared.done.FeedDone.{FeedDone}
-use Rattle.crew_session.specs.declared.done.SessionDone.{SessionDone}
+use Rattle.live_session.specs.declared.done.SessionDone.{SessionDone}
 use Rattle.cube_crew.specs.declared.jobs.Crewed.{Crewed}
 use Rattle.outer_io.specs.Memory.{StillOutput}
 use Rattle.run_files.specs.Lines.{counts_line}

@@ -4,9 +4,9 @@ ghost use Rattle.run_files.specs.Lines.{counts_line};
 ghost use Rattle.big_run.specs.Printed.{CameBackWhole, printed};
 
 use crate::source::RunSource;
-use crew_session::SessionDone;
 use cube_crew::Crewed;
 use feed_reader::FeedCounts;
+use live_session::SessionDone;
 use outer_io::{List, NoMemory, StillSink};
 use run_files::push_counts;
 use std::alloc::{AllocError, Global};

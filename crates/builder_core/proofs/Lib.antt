@@ -1,6 +1,10 @@
+mod BuilderRule
 mod EntryCounts
 mod FeederEnds
 mod JournalEnds
-mod Keeping
+mod Lengths
 mod States
-mod Steps
+mod TakenItems
+mod ToldMailboxes
+mod WaysOut
+mod WorkRuns

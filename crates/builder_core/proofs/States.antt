@@ -13,7 +13,7 @@ use Rattle.feed_queue.specs.declared.item.Item.{Item}
 use Rattle.feed_queue.specs.declared.item.Item.TheVariants.{One}
 use Rattle.builder_core.specs.Builder.{builder_state, pair_state}
 use Rattle.builder_core.specs.Taking.{having_appended, having_published}
-use Rattle.builder_core.proofs.Keeping.{counting}
+use Rattle.builder_core.proofs.BuilderRule.{counting}
 
 module _ (f bt : ℕ) where
   -- the state goes by its parts

@@ -1,7 +1,8 @@
-//! What holds of the items that a builder takes, as a law of the definitions, and where a builder may go.
+//! What holds of the items that a builder takes, as a law of the definitions, and where a builder and its work may go.
 ghost use Rattle.builder_core.specs.Numbering.{EntriesAreFew};
 
 use crate::builder::Builder;
+use crate::work::BuilderWork;
 use cube_view::Grow;
 use published_pair::{MayGo, may_go};
 
@@ -11,7 +12,7 @@ pub fn builder_laws()
     ensures { EntriesAreFew }
 {}
 
-/// The builder of a pair of any view that threads may share may go to another thread.
-pub fn builder_may_go<V: Grow + Send + Sync>() -> MayGo<Builder<V>> {
+/// The builder of a pair of any view that threads may share may go to another thread, and so may its work.
+pub fn builder_may_go<V: Grow + Send + Sync>() -> MayGo<(Builder<V>, BuilderWork<V>)> {
     may_go()
 }

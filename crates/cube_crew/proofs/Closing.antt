@@ -2,8 +2,8 @@
 use Rattle.std.proofs.Common.{◌≡◌, ℕ, Bool, false, List, [], ◌∷◌, All, map, Option, IfSome, IsSome, refl, sym, subst}
 use Rattle.std.specs.List.{AllZip}
 use Rattle.std.proofs.lemmas.List.Elements.{All-head, All-tail}
-use Rattle.crew_session.specs.Leaves.{LeavesSession}
-use Rattle.crew_session.specs.Work.{HadNoTurn, WorkState, done_of}
+use Rattle.live_session.specs.Leaves.{LeavesSession}
+use Rattle.live_session.specs.Work.{HadNoTurn, WorkState, done_of}
 use Rattle.cube_crew.specs.Ending.{EndsAsk, EndsFinal}
 use Rattle.cube_crew.specs.Starving.{FoundMemory}
 use Rattle.cube_crew.specs.Works.{HasLearned}

@@ -3,10 +3,10 @@ use Rattle.std.proofs.Common.{◌≡◌, Bool, true, false, ◌||◌, List, All,
 use Rattle.std.specs.List.{AllZip}
 use Rattle.std.proofs.lemmas.List.Elements.{All-weaker}
 use Rattle.builder_core.specs.Builder.{BuilderState}
-use Rattle.crew_builder.specs.Work.{work_state}
+use Rattle.builder_core.specs.Work.{work_state}
 use Rattle.crew_feeder.specs.declared.work.FeedWork.{FeedWork}
-use Rattle.crew_session.specs.Work.{WorkState, done_of}
-use Rattle.crew_session.specs.declared.done.SessionDone.{SessionDone}
+use Rattle.live_session.specs.Work.{WorkState, done_of}
+use Rattle.live_session.specs.declared.done.SessionDone.{SessionDone}
 use Rattle.cube_crew.specs.Ending.{EndsAsk, EndsFinal, EndsRun, IsRun, IsWithin}
 use Rattle.cube_crew.specs.Starving.{FoundMemory, FoundRoom}
 use Rattle.cube_crew.specs.Works.{end_of, fed_of}

@@ -4,12 +4,12 @@ use Rattle.std.specs.List.{AllZip}
 use Rattle.std.proofs.lemmas.Bool.{and_parts, leb-true}
 use Rattle.std.proofs.lemmas.List.Elements.{All-weaker}
 use Rattle.builder_core.specs.Builder.{BuilderState, KeepsJournal, builder_state, pair_state}
-use Rattle.crew_builder.specs.Built.{IsBuilt, IsNewWork}
-use Rattle.crew_builder.specs.Work.{BuilderWorkState as Building, work_state}
+use Rattle.builder_core.specs.Built.{IsBuilt, IsNewWork}
+use Rattle.builder_core.specs.Work.{BuilderWorkState as Building, work_state}
 use Rattle.crew_feeder.specs.Leaving.{HasFed}
 use Rattle.crew_feeder.specs.declared.work.FeedWork.{FeedWork}
-use Rattle.crew_session.specs.Leaves.{LeavesSession}
-use Rattle.crew_session.specs.Work.{HadNoTurn, WorkState}
+use Rattle.live_session.specs.Leaves.{LeavesSession}
+use Rattle.live_session.specs.Work.{HadNoTurn, WorkState}
 use Rattle.cube_crew.specs.Begins.{MayRun}
 use Rattle.cube_crew.specs.Ending.{IsRun}
 use Rattle.cube_crew.specs.Opened.{AreMails, IsMail}

@@ -1,6 +1,6 @@
 -- What a run begins with.
 use Rattle.std.specs.Prelude.{◌≡◌, ℕ, ◌≤◌, [], All, length}
-use Rattle.crew_session.specs.Work.{HadNoTurn}
+use Rattle.live_session.specs.Work.{HadNoTurn}
 use Rattle.cube_view.specs.Bag.{Counts}
 use Rattle.cube_view.specs.declared.schema.Schema.{Schema}
 use Rattle.cube_view.specs.declared.spot.Spot.{Spot}

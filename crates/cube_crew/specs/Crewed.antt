@@ -1,11 +1,11 @@
 -- What a run leaves.
 use Rattle.std.specs.Prelude.{◌≡◌, ◌≢◌, ℕ, ◌+◌, Bool, true, false, if◌then◌else◌, List, [], ◌∷◌, All, length, map, Option, Some, Result, Err, OnOk, IsErrOf, ⊤}
 use Rattle.std.specs.List.{AllZip}
-use Rattle.crew_builder.specs.Telling.{told_lengths}
+use Rattle.builder_core.specs.Telling.{told_lengths}
 use Rattle.crew_feeder.specs.Leaving.{GivesUntil}
 use Rattle.crew_feeder.specs.declared.done.FeedDone.{FeedDone}
-use Rattle.crew_session.specs.Work.{ending_fault, last_number}
-use Rattle.crew_session.specs.declared.done.SessionDone.{SessionDone}
+use Rattle.live_session.specs.Work.{ending_fault, last_number}
+use Rattle.live_session.specs.declared.done.SessionDone.{SessionDone}
 use Rattle.cube_view.specs.Points.{Point}
 use Rattle.cube_view.specs.declared.schema.Schema.{Schema}
 use Rattle.cube_view.specs.declared.stat.Stat.{Stat}

@@ -2,11 +2,11 @@
 use Rattle.std.specs.Prelude.{◌≡◌, ◌≢◌, ℕ, ◌+◌, Bool, true, false, List, All, length, map, Option, Some}
 use Rattle.std.specs.List.{AllZip}
 use Rattle.builder_core.specs.Endings.{EachEnded}
-use Rattle.crew_builder.specs.Work.{DrawsFor, BuilderWorkState as Building}
+use Rattle.builder_core.specs.Work.{DrawsFor, BuilderWorkState as Building}
 use Rattle.crew_feeder.specs.declared.work.FeedWork.{FeedWork}
-use Rattle.crew_session.specs.Leaves.{LeavesSession}
-use Rattle.crew_session.specs.Work.{HadNoTurn, WorkState, done_of, has_starved}
-use Rattle.crew_session.specs.declared.done.SessionDone.{SessionDone}
+use Rattle.live_session.specs.Leaves.{LeavesSession}
+use Rattle.live_session.specs.Work.{HadNoTurn, WorkState, done_of, has_starved}
+use Rattle.live_session.specs.declared.done.SessionDone.{SessionDone}
 use Rattle.cube_crew.specs.Starving.{FoundMemory}
 use Rattle.cube_crew.specs.Works.{HasLearned, end_of, fed_of}
 use Rattle.cube_crew.specs.declared.jobs.Crewed.{Crewed}

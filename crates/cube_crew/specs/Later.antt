@@ -1,10 +1,10 @@
 -- The builder and the asks of a run.
 use Rattle.std.specs.Prelude.{ℕ, List, All, Option}
 use Rattle.std.specs.List.{AllZip}
-use Rattle.crew_builder.specs.Built.{IsBuilt, IsNewWork}
-use Rattle.crew_builder.specs.Work.{BuilderWorkState as Building}
-use Rattle.crew_session.specs.Leaves.{LeavesSession}
-use Rattle.crew_session.specs.Work.{HadNoTurn, WorkState}
+use Rattle.builder_core.specs.Built.{IsBuilt, IsNewWork}
+use Rattle.builder_core.specs.Work.{BuilderWorkState as Building}
+use Rattle.live_session.specs.Leaves.{LeavesSession}
+use Rattle.live_session.specs.Work.{HadNoTurn, WorkState}
 use Rattle.cube_view.specs.declared.stat.Stat.{Stat}
 use Rattle.live_session.specs.State.{SessionEnds}
 

@@ -1,7 +1,7 @@
 -- Who found no memory.
 use Rattle.std.specs.Prelude.{◌≡◌, ◌≢◌, false, Some}
 use Rattle.crew_feeder.specs.declared.work.FeedWork.{FeedWork}
-use Rattle.crew_session.specs.Work.{WorkState, has_starved}
+use Rattle.live_session.specs.Work.{WorkState, has_starved}
 use Rattle.outer_io.specs.declared.cutter.CutFault.TheVariants as cut
 
 -- the feeder did not end for want of memory

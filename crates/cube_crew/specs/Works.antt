@@ -3,7 +3,7 @@ use Rattle.std.specs.Prelude.{◌≡◌, List, [], ◌∷◌, length, Some, None
 use Rattle.crew_feeder.specs.Taking.{new_work}
 use Rattle.crew_feeder.specs.declared.done.FeedDone.{FeedDone}
 use Rattle.crew_feeder.specs.declared.work.FeedWork.{FeedWork}
-use Rattle.crew_session.specs.Work.{WorkState}
+use Rattle.live_session.specs.Work.{WorkState}
 use Rattle.cube_view.specs.declared.schema.Schema.{Schema}
 use Rattle.feed_queue.specs.Ends.{FeedState}
 use Rattle.feed_reader.specs.declared.job.FeedJob.{FeedJob}

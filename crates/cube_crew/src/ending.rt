@@ -1,14 +1,14 @@
 //! How the sessions of a run end, once nothing more is published.
 ghost use Rattle.std.specs.Prelude.{◌≡◌, ◌≤◌, ◌+◌, [], length, vec_len, vec_capacity, All};
 ghost use Rattle.std.specs.List.{AllZip};
-ghost use Rattle.crew_session.specs.Work.{HadNoTurn};
+ghost use Rattle.live_session.specs.Work.{HadNoTurn};
 ghost use Rattle.cube_crew.specs.Ending.{EndsAsk, EndsFinal};
 ghost use Rattle.live_session.specs.State.{ends_of};
 
 use crate::sessions::{close_sessions, run_sessions, teach};
 use crate::starving::has_starved_session;
-use crew_session::{SessionDone, SessionWork};
 use cube_view::Grow;
+use live_session::{SessionDone, SessionWork};
 use outer_io::{List, Sink, Source};
 use published_pair::{Last, Rested};
 use std::alloc::Global;

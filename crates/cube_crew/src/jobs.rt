@@ -1,10 +1,9 @@
 //! What a run is given, and what it gives back.
 
 use crew_feeder::FeedDone;
-use crew_session::SessionDone;
 use feed_queue::Drawn;
 use feed_reader::FeedJob;
-use live_session::Session;
+use live_session::{Session, SessionDone};
 use mailbox::MailIn;
 use outer_io::{List, Sink, Source};
 use world_core::Entry;

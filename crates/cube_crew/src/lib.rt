@@ -5,7 +5,7 @@
 //! all that was published, and closes every viewer. What it gives back is a [`Crewed`]; what that says of the jobs is the one
 //! record `IsCrewed` of `specs/Crewed.antt`, over every order of the threads' steps: the journal is an interleaving of what
 //! the feeders sent, and each session's sink gained a transcript over the journal. No clause speaks of queues, copies or
-//! places. The crate stands on `crew_feeder`, `crew_builder` and `crew_session` for the three works. Where sources and sinks
+//! places. The crate stands on `crew_feeder`, `builder_core` and `live_session` for the three works. Where sources and sinks
 //! come from, and what is printed of a run, is left to the crates above.
 //!
 //! Where the machine gives no thread, the feeders run first, then the builder, then the asks: a run of up to 1,024 items

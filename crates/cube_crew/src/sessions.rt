@@ -1,16 +1,15 @@
 //! The sessions: they become works, the works run side by side, and become what is given back.
 ghost use Rattle.std.specs.Prelude.{◌≡◌, ◌≤◌, ◌+◌, [], map, length, vec_len, vec_capacity, All, IfSome, IsSome};
 ghost use Rattle.std.specs.List.{AllZip};
-ghost use Rattle.crew_session.specs.Leaves.{LeavesSession};
-ghost use Rattle.crew_session.specs.Work.{HadNoTurn, done_of};
+ghost use Rattle.live_session.specs.Leaves.{LeavesSession};
+ghost use Rattle.live_session.specs.Work.{HadNoTurn, done_of};
 ghost use Rattle.cube_crew.specs.Ending.{IsWithin};
 ghost use Rattle.cube_crew.specs.Works.{HasLearned, session_works_of};
 ghost use Rattle.live_session.specs.State.{ends_of};
 ghost use Rattle.published_pair.specs.Pair.{Fresh, IsNewViewer};
 
-use crew_session::{SessionDone, SessionWork};
 use cube_view::Grow;
-use live_session::Session;
+use live_session::{Session, SessionDone, SessionWork};
 use mailbox::MailOut;
 use outer_io::{Sink, Source};
 use published_pair::{GivenUp, Last, Publisher, Rested, Viewer};

@@ -3,8 +3,8 @@ ghost use Rattle.std.specs.Prelude.{◌≡◌, ◌||◌, false, All};
 ghost use Rattle.cube_crew.specs.Starving.{FoundMemory, FoundRoom};
 
 use crew_feeder::FeedWork;
-use crew_session::SessionWork;
 use cube_view::Grow;
+use live_session::SessionWork;
 use outer_io::{CutFault, Sink, Source};
 
 /// Whether the feeder ended for want of memory.

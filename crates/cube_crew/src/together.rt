@@ -2,20 +2,20 @@
 ghost use Rattle.std.specs.Prelude.{true, All};
 ghost use Rattle.std.specs.Fork.{AcceptsAt, ChangesAt};
 ghost use Rattle.std.specs.List.{AllZip};
-ghost use Rattle.crew_builder.specs.Built.{IsNewWork, IsBuilt};
+ghost use Rattle.builder_core.specs.Built.{IsNewWork, IsBuilt};
 ghost use Rattle.crew_feeder.specs.Leaving.{HasFed};
 ghost use Rattle.crew_feeder.specs.Taking.{IsReady};
-ghost use Rattle.crew_session.specs.Leaves.{LeavesSession};
-ghost use Rattle.crew_session.specs.Work.{HadNoTurn};
+ghost use Rattle.live_session.specs.Leaves.{LeavesSession};
+ghost use Rattle.live_session.specs.Work.{HadNoTurn};
 ghost use Rattle.cube_crew.specs.Later.{AreUnrun, HaveRun};
 ghost use Rattle.live_session.specs.State.{ends_of};
 
 use crate::feeds::run_feeds;
 use crate::sessions::run_sessions;
-use crew_builder::BuilderWork;
+use builder_core::BuilderWork;
 use crew_feeder::FeedWork;
-use crew_session::SessionWork;
 use cube_view::{Grow, Schema};
+use live_session::SessionWork;
 use outer_io::{Sink, Source};
 use side_by_side::run_both;
 use std::alloc::Global;

@@ -1,8 +1,9 @@
-mod Says
 mod NextReply
-mod Turning
 mod OneTurn
-mod SoFarLaws
+mod Refused
 mod RunSteps
 mod Running
-mod Refused
+mod Says
+mod SoFarLaws
+mod TakesLaws
+mod Turning

@@ -4,8 +4,8 @@ use Rattle.std.specs.Prelude.{IsErrOf, OnOk}
 use Rattle.std.specs.FinMap.{get}
 use Rattle.std.proofs.lemmas.Bool.{false≢true}
 use Rattle.std.proofs.lemmas.List.{take_at}
-use Rattle.crew_session.specs.Work.{ending_fault, last_number}
-use Rattle.crew_session.specs.declared.done.SessionDone.{SessionDone}
+use Rattle.live_session.specs.Work.{ending_fault, last_number}
+use Rattle.live_session.specs.declared.done.SessionDone.{SessionDone}
 use Rattle.cube_crew.specs.Crewed.{LeavesTranscript, closing}
 use Rattle.cube_store.specs.Numbers.{OwnsAllButRoot}
 use Rattle.cube_view.specs.Points.{Point}

@@ -5,8 +5,8 @@ use Rattle.std.specs.List.{AllZip}
 use Rattle.std.proofs.lemmas.List.Elements.{All-cons, All-head, All-nil, All-tail}
 use Rattle.crew_feeder.specs.Leaving.{GivesUntil}
 use Rattle.crew_feeder.specs.declared.done.FeedDone.{FeedDone}
-use Rattle.crew_session.specs.Work.{ending_fault}
-use Rattle.crew_session.specs.declared.done.SessionDone.{SessionDone}
+use Rattle.live_session.specs.Work.{ending_fault}
+use Rattle.live_session.specs.declared.done.SessionDone.{SessionDone}
 use Rattle.cube_crew.specs.Crewed.{FeedsLeave, LeavesFeed, LeavesTranscript, closing}
 use Rattle.cube_schema.specs.declared.plan.Plan.{Plan}
 use Rattle.cube_view.specs.Points.{Point}

@@ -7,7 +7,7 @@ use Rattle.crew_feeder.specs.Leaving.{feed_counts}
 use Rattle.crew_feeder.specs.declared.done.FeedDone.{FeedDone}
 use Rattle.feed_reader.specs.RowCounts.{counts_of_rows}
 use Rattle.feed_reader.specs.declared.job.FeedJob.{FeedJob}
-use Rattle.crew_session.specs.declared.done.SessionDone.{SessionDone}
+use Rattle.live_session.specs.declared.done.SessionDone.{SessionDone}
 use Rattle.cube_crew.proofs.Zips.{AllZip-map, AllZip-then}
 use Rattle.cube_crew.specs.Crewed.{FeedsLeave, LeavesTranscript, closing}
 use Rattle.cube_schema.specs.Repeats.{outputs}

@@ -1,7 +1,7 @@
 -- Which names and files a run leaves changed.
 use Rattle.std.proofs.Common.{◌≡◌, ℕ, Bool, List, [], ◌∷◌, ◌++◌, codes, map, append-nil, Option, Some, None, refl, ap, subst, ◌∙◌}
 use Rattle.std.specs.List.{AllZip}
-use Rattle.crew_session.specs.declared.done.SessionDone.{SessionDone}
+use Rattle.live_session.specs.declared.done.SessionDone.{SessionDone}
 use Rattle.cube_crew.specs.Crewed.{LeavesTranscript, closing}
 use Rattle.cube_schema.specs.Repeats.{outputs}
 use Rattle.cube_view.specs.Points.{Point}

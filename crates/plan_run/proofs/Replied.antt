@@ -1,7 +1,7 @@
 -- What a session of a run leaves that ended without a fault, where nothing lacked memory.
 use Rattle.std.proofs.Common.{◌≡◌, ◌+◌, ℕ, suc, Bool, true, false, List, [], ◌∷◌, ◌++◌, length, length-append, append-nil, Some, None, Result, Ok, Err, OnOk, refl, sym, ap, subst, ◌∙◌, arith, zero-add}
-use Rattle.crew_session.specs.Work.{HadNoTurn, ending_fault, last_number}
-use Rattle.crew_session.specs.declared.done.SessionDone.{SessionDone}
+use Rattle.live_session.specs.Work.{HadNoTurn, ending_fault, last_number}
+use Rattle.live_session.specs.declared.done.SessionDone.{SessionDone}
 use Rattle.cube_crew.specs.Crewed.{LeavesTranscript, closing}
 use Rattle.cube_view.specs.Points.{Point}
 use Rattle.cube_view.specs.declared.schema.Schema.{Schema}

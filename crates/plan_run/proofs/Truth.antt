@@ -8,7 +8,7 @@ use Rattle.std.proofs.lemmas.Bool.{ltb-false, ltb-true}
 use Rattle.std.proofs.lemmas.List.{length-map, length-take, map-append, take-take, take_all}
 use Rattle.std.proofs.lemmas.List.Elements.{All-contains, All-contains_itself, All-head, All-map, All-weaker}
 use Rattle.crew_feeder.specs.declared.done.FeedDone.{FeedDone}
-use Rattle.crew_session.specs.declared.done.SessionDone.{SessionDone}
+use Rattle.live_session.specs.declared.done.SessionDone.{SessionDone}
 use Rattle.cube_crew.proofs.Zips.{AllZip-length, AllZip-right, AllZip-then}
 use Rattle.cube_crew.specs.Crewed.{IsCrewed, LeavesTranscript, answered_over, closing}
 use Rattle.cube_crew.specs.declared.jobs.Crewed.{Crewed}

@@ -1,6 +1,6 @@
 -- What is reported of what feeders and sessions leave.
 use Rattle.std.specs.Prelude.{◌≡◌, ℕ, Bool, List, Result, IfOk}
-use Rattle.crew_session.specs.declared.done.SessionDone.{SessionDone}
+use Rattle.live_session.specs.declared.done.SessionDone.{SessionDone}
 use Rattle.cube_schema.specs.declared.plan.Plan.{Plan}
 use Rattle.run_files.specs.Reports.{counts_text}
 use Rattle.run_files.specs.declared.counts.ScriptCounts.{ScriptCounts}

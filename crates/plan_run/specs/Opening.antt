@@ -1,7 +1,7 @@
 -- What the stages of a run before its threads leave, put together.
 use Rattle.std.specs.Prelude.{◌≡◌, ◌≢◌, ◌⊎◌, ℕ, ◌+◌, ◌<◌, ◌≤◌, List, [], ◌∷◌, ◌++◌, get_or, length, Option, Some, None, IfSome, Result, Ok, Err, All, vec_len, vec_capacity}
 use Rattle.std.specs.List.{AllZip}
-use Rattle.crew_session.specs.Work.{HadNoTurn}
+use Rattle.live_session.specs.Work.{HadNoTurn}
 use Rattle.cube_schema.specs.Files.{input_names, output_names}
 use Rattle.cube_schema.specs.declared.plan.Plan.{Plan}
 use Rattle.cube_view.specs.declared.schema.Schema.{Schema}

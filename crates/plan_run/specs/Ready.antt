@@ -1,6 +1,6 @@
 -- When a feed's job and a script's session are ready to run.
 use Rattle.std.specs.Prelude.{◌≡◌, ℕ, List, ◌++◌, codes, Option, IsSomeAnd}
-use Rattle.crew_session.specs.Work.{HadNoTurn}
+use Rattle.live_session.specs.Work.{HadNoTurn}
 use Rattle.cube_view.specs.declared.schema.Schema.{Schema}
 use Rattle.feed_reader.specs.Reading.{AcceptsRows}
 use Rattle.feed_reader.specs.declared.job.FeedJob.{FeedJob}

@@ -1,7 +1,7 @@
 -- How a run ends by what its feeds and its sessions met.
 use Rattle.std.specs.Prelude.{Bool, true, false, List, map, fold, Option, Some, None, Result, Ok, Err}
 use Rattle.crew_feeder.specs.declared.done.FeedDone.{FeedDone}
-use Rattle.crew_session.specs.declared.done.SessionDone.{SessionDone}
+use Rattle.live_session.specs.declared.done.SessionDone.{SessionDone}
 use Rattle.outer_io.specs.declared.cutter.CutFault.{CutFault}
 use Rattle.run_files.specs.Stops.{joined_ends, stop_of_cut, stop_of_session}
 use Rattle.run_files.specs.declared.stop.Stop.{Stop}

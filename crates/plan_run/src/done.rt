@@ -1,7 +1,7 @@
 //! What a run has once its threads have ended.
 
 use crew_feeder::FeedDone;
-use crew_session::SessionDone;
+use live_session::SessionDone;
 use outer_io::{List, Source};
 use world_core::Entry;
 

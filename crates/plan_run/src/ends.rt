@@ -5,7 +5,7 @@ ghost use Rattle.plan_run.specs.ThreadEnds.{feed_end, feeds_end, session_end, se
 
 use crate::done::RunDone;
 use crew_feeder::FeedDone;
-use crew_session::SessionDone;
+use live_session::SessionDone;
 use outer_io::{CutFault, Source};
 use run_files::{Stop, joined_ends, stop_of_cut, stop_of_session};
 use session_core::SessionFault;

@@ -16,7 +16,7 @@
 //! and sessions and of what writing, giving back and reporting answered.
 //!
 //! The crate stands on `run_files` for files and the report, on `cube_crew` for the threads, on `feed_queue` for the
-//! journal's lines, and on `crew_feeder` and `crew_session` for what feeders and sessions leave. Which words ask for a run,
+//! journal's lines, and on `crew_feeder` and `live_session` for what feeders and sessions leave. Which words ask for a run,
 //! and which exit code an end has, is left to the program.
 //!
 //! ```text

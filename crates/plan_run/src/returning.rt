@@ -7,8 +7,8 @@ ghost use Rattle.plan_run.specs.Counted.{script_counts};
 
 use crate::counts::with_one_more;
 use crew_feeder::FeedDone;
-use crew_session::SessionDone;
 use feed_reader::FeedCounts;
+use live_session::SessionDone;
 use outer_io::{NoMemory, Place};
 use run_files::ScriptCounts;
 use std::alloc::Global;

@@ -6,9 +6,9 @@ use Rattle.builder_core.specs.Builder.{BuilderState}
 use Rattle.builder_core.specs.Taking.{IsTaking}
 use Rattle.builder_core.specs.declared.taken.Taken.{Taken}
 use Rattle.builder_core.specs.declared.taken.Taken.TheVariants.{Kept, Published, LastEnd}
-use Rattle.crew_builder.specs.Steps as work
-use Rattle.crew_builder.specs.Telling.{having_put, having_told, having_answered}
-use Rattle.crew_builder.specs.Work.{BuilderWorkState, DrawsFor}
+use Rattle.builder_core.specs.Steps as work
+use Rattle.builder_core.specs.Telling.{having_put, having_told, having_answered}
+use Rattle.builder_core.specs.Work.{BuilderWorkState, DrawsFor}
 use Rattle.cube_view.specs.declared.schema.Schema.{Schema}
 use Rattle.feed_queue.specs.Ends.{DrawState, having_drawn}
 use Rattle.feed_queue.specs.declared.item.Item.{Item}

@@ -2,8 +2,8 @@
 use Rattle.std.specs.Prelude.{◌≡◌, ℕ, ◌+◌, Bool, true, false, List, [], ◌∷◌, Some, slice_get, Result, Ok, Err}
 use Rattle.builder_core.specs.declared.taken.Taken.{Taken}
 use Rattle.builder_core.specs.declared.taken.Taken.TheVariants.{Kept, Published, LastEnd}
-use Rattle.crew_builder.specs.Steps as work
-use Rattle.crew_builder.specs.Work.{BuilderWorkState, DrawsFor}
+use Rattle.builder_core.specs.Steps as work
+use Rattle.builder_core.specs.Work.{BuilderWorkState, DrawsFor}
 use Rattle.cube_view.specs.declared.schema.Schema.{Schema}
 use Rattle.feed_queue.specs.declared.item.Item.{Item}
 use Rattle.feed_queue.specs.declared.item.Item.TheVariants.{One, End}

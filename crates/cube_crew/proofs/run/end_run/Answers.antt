@@ -2,9 +2,9 @@ use Rattle.std.proofs.Common.{rules, ◌≡◌, ◌≤◌, ℕ, Bool, true, fals
 use Rattle.std.specs.List.{AllZip}
 use Rattle.std.proofs.lemmas.Bool.{false≢true}
 use Rattle.std.proofs.lemmas.List.Elements.{All-map, All-same}
-use Rattle.crew_builder.specs.Work.{BuilderWorkState as Building}
-use Rattle.crew_session.specs.Work.{done_of}
-use Rattle.crew_session.specs.declared.done.SessionDone.{SessionDone}
+use Rattle.builder_core.specs.Work.{BuilderWorkState as Building}
+use Rattle.live_session.specs.Work.{done_of}
+use Rattle.live_session.specs.declared.done.SessionDone.{SessionDone}
 use Rattle.cube_crew.specs.Ending.{EndsAsk, EndsFinal, EndsRun, IsRun, IsWithin}
 use Rattle.cube_crew.specs.Starving.{FoundMemory, FoundRoom}
 use Rattle.cube_crew.specs.Works.{end_of}

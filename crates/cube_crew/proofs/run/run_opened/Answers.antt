@@ -1,12 +1,12 @@
 use Rattle.std.proofs.Common.{arith, ◌≡◌, true, All, length, sym, ap, subst, ◌∙◌}
 use Rattle.std.specs.List.{AllZip}
 use Rattle.std.proofs.lemmas.List.Elements.{All-same}
-use Rattle.crew_builder.specs.Built.{IsBuilt}
-use Rattle.crew_builder.specs.Work.{BuilderWorkState as Building, work_state}
+use Rattle.builder_core.specs.Built.{IsBuilt}
+use Rattle.builder_core.specs.Work.{BuilderWorkState as Building, work_state}
 use Rattle.crew_feeder.specs.Leaving.{HasFed}
 use Rattle.crew_feeder.specs.Taking.{IsReady}
-use Rattle.crew_session.specs.Leaves.{LeavesSession}
-use Rattle.crew_session.specs.Work.{HadNoTurn}
+use Rattle.live_session.specs.Leaves.{LeavesSession}
+use Rattle.live_session.specs.Work.{HadNoTurn}
 use Rattle.cube_crew.specs.Ending.{EndsRun, IsRun}
 use Rattle.cube_crew.specs.Opened.{IsMail}
 use Rattle.cube_crew.specs.Works.{session_works_of, works_of}

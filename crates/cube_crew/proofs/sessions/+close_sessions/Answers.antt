@@ -1,5 +1,5 @@
 use Rattle.std.proofs.Common.{rules, ◌≡◌, Option, IfSome, IsSome, sym, subst}
-use Rattle.crew_session.specs.Work.{done_of}
+use Rattle.live_session.specs.Work.{done_of}
 use Rattle.published_pair.specs.Rules.{Known}
 use Rattle.cube_crew.proofs.Making.{map-last}
 use Rattle.cube_crew.proofs.Zips.{All-and, All-init, All-last}

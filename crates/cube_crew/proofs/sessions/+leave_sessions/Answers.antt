@@ -1,5 +1,5 @@
 use Rattle.std.proofs.Common.{rules, ◌≡◌, sym, subst}
-use Rattle.crew_session.specs.Work.{done_of}
+use Rattle.live_session.specs.Work.{done_of}
 use Rattle.cube_crew.specs.Ending.{IsWithin}
 use Rattle.published_pair.specs.Pair.{Fresh}
 use Rattle.published_pair.specs.Rules.{Known}

@@ -1,7 +1,7 @@
 use Rattle.std.proofs.Common.{rules, ◌≡◌, ◌++◌, ◌∷◌, [], sym, ap, ◌∙◌}
 use Rattle.published_pair.specs.Pair.{IsNewViewer}
 use Rattle.published_pair.specs.Rules.{Known}
-use Rattle.crew_session.specs.Work.{HadNoTurn}
+use Rattle.live_session.specs.Work.{HadNoTurn}
 use Rattle.cube_crew.specs.Works.{new_session_work, session_works_of}
 use Rattle.cube_crew.proofs.Answering.{session_works_of-push}
 use Rattle.cube_crew.proofs.Zips.{All-init, All-last, length-init}

@@ -1,7 +1,7 @@
 use Rattle.std.proofs.Common.{rules, sym, subst}
 use denote.Param.Send.{sendable}
-use Rattle.crew_session.specs.Leaves.{LeavesSession}
-use Rattle.crew_session.specs.Work.{HadNoTurn}
+use Rattle.live_session.specs.Leaves.{LeavesSession}
+use Rattle.live_session.specs.Work.{HadNoTurn}
 use Rattle.cube_crew.proofs.Zips.{AllZip-each}
 use Rattle.cube_crew.proofs.sessions.run_sessions.Goals as goal
 use Rattle.live_session.specs.State.{ends_of}

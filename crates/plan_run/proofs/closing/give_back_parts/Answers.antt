@@ -1,7 +1,7 @@
 use Rattle.std.proofs.Common.{List, map, subst, Vec, Global}
 use Rattle.crew_feeder.specs.Leaving.{feed_counts}
 use Rattle.crew_feeder.specs.declared.done.FeedDone.{FeedDone}
-use Rattle.crew_session.specs.declared.done.SessionDone.{SessionDone}
+use Rattle.live_session.specs.declared.done.SessionDone.{SessionDone}
 use Rattle.feed_reader.specs.declared.counts.FeedCounts.{FeedCounts}
 use Rattle.run_files.specs.GivingBack.{TakesSinks, TakesSources}
 use Rattle.run_files.specs.Outside.{of_place, of_sink}

@@ -1,5 +1,5 @@
 use Rattle.std.proofs.Common.{Vec, Global}
-use Rattle.crew_session.specs.declared.done.SessionDone.{SessionDone}
+use Rattle.live_session.specs.declared.done.SessionDone.{SessionDone}
 use Rattle.run_files.specs.Outside.{of_place}
 use Rattle.run_files.specs.declared.counts.ScriptCounts.{ScriptCounts}
 use Rattle.plan_run.proofs.Returned.{counted_more, returned_more}

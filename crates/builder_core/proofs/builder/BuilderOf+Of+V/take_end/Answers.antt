@@ -5,9 +5,9 @@ use Rattle.std.proofs.Common.{◌≡◌, ◌+◌, true, false, [], length, take,
 use Rattle.world_core.specs.Interleaving.{entry_points}
 use Rattle.builder_core.specs.Builder.{BuilderState, IsBuilder}
 use Rattle.builder_core.specs.Taking.{having_published}
-use Rattle.builder_core.proofs.Keeping.{counting, having_published-none, ends-few, ended-part, ended-last, keeps-ended, keeps-ended_published, keeps-ended_spent}
+use Rattle.builder_core.proofs.BuilderRule.{counting, having_published-none, ends-few, ended-part, ended-last, keeps-ended, keeps-ended_published, keeps-ended_spent}
 use Rattle.builder_core.proofs.States.{same_state, published_state, length-all, none_pending, some_pending}
-use Rattle.builder_core.proofs.Steps.{next_of, taking_of, takes-end, takes-last_spent, takes-last, takes-last_refused}
+use Rattle.builder_core.proofs.WaysOut.{next_of, taking_of, takes-end, takes-last_spent, takes-last, takes-last_refused}
 use Rattle.builder_core.proofs.builder.BuilderOf+Of+V.take_end.Goals as goal
 use Rattle.builder_core.proofs.builder.BuilderOf+Of+V.take_end.Goals.{then-self-2-via-then-self-2, then-self-2-via-else-self-2+then-pending-eq0}
 

@@ -3,9 +3,9 @@ use Rattle.std.proofs.lemmas.List.{take-append-drop}
 use Rattle.world_core.specs.Interleaving.{entry_points}
 use Rattle.builder_core.specs.Builder.{BuilderState, IsBuilder}
 use Rattle.builder_core.specs.Taking.{having_published}
-use Rattle.builder_core.proofs.Keeping.{room, keeps-left, keeps-unpublished, keeps-appended, keeps-published}
+use Rattle.builder_core.proofs.BuilderRule.{room, keeps-left, keeps-unpublished, keeps-appended, keeps-published}
 use Rattle.builder_core.proofs.States.{same_state, appended_state, published_state, length-pending_before, length-all}
-use Rattle.builder_core.proofs.Steps.{next_of, taking_of, takes-kept, takes-published, takes-unpublished}
+use Rattle.builder_core.proofs.WaysOut.{next_of, taking_of, takes-kept, takes-published, takes-unpublished}
 use Rattle.builder_core.proofs.builder.BuilderOf+Of+V.take_entry.Goals as goal
 
 pub append-requires-clause-room : goal.append-requires-clause-room

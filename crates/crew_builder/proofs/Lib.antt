@@ -1,5 +1,0 @@
-mod Keeping
-mod Lengths
-pub mod Opening
-mod Running
-mod Taking

@@ -1,4 +1,0 @@
-pub mod Built
-pub mod Steps
-pub mod Telling
-pub mod Work
