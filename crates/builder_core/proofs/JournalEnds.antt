@@ -2,13 +2,14 @@
 use Rattle.std.proofs.Common.{◌≡◌, ℕ, ◌≤◌, eqb, eq-eqb, ne_eqb, Bool, false, List, [], ◌∷◌, ◌++◌, length, length-append, append-nil, take, drop, sym, refl, ap, ◌∙◌, subst, ⊎_elim, arith}
 use Rattle.std.specs.Prelude.{IsTrue, ◌↔◌, Result, Ok, Err, IfErr, MatchResult}
 use Rattle.std.proofs.lemmas.Bool.{cases_eq}
-use Rattle.std.proofs.lemmas.List.{length-take, map-append}
+use Rattle.std.proofs.lemmas.List.{length-take}
 use Rattle.cube_view.specs.Points.{Point}
 use Rattle.cube_view.specs.declared.schema.Schema.{Schema}
 use Rattle.published_pair.specs.Rules.{Known}
 use Rattle.world_core.specs.Interleaving.{entry_points}
 use Rattle.world_core.specs.PairFact.{IsPrefix}
 use Rattle.world_core.specs.declared.entry.Entry.{Entry}
+use Rattle.world_core.proofs.Entries.{IsPrefix-entry_points}
 use Rattle.world_core.proofs.Prefixes.{IsPrefix-then}
 use Rattle.feed_queue.specs.Items.{entries_in}
 use Rattle.feed_queue.specs.declared.item.Item.{Item}
@@ -74,10 +75,6 @@ pub given_prefix : {T E : Type 0} (r : Result T E) (b : BuilderState) (got : Lis
 given_prefix (Ok x) b got keeps is = subst (λ (es : List Entry). IsPrefix es (entries_in b.taken)) (sym is) keeps.prefix
 given_prefix (Err x) b got keeps is = subst (λ (es : List Entry). IsPrefix es (entries_in b.taken)) (sym is) (IsPrefix-then b.journal (b.journal ++ b.pending) (entries_in b.taken) (b.pending, refl) keeps.prefix)
 
--- points of entries that stand in front of others are in front of theirs
-front_points : (front whole : List Entry) → IsPrefix front whole → IsPrefix (entry_points front) (entry_points whole)
-front_points front whole is = (entry_points is.0, ap entry_points is.1 ∙ map-append (λ (e : Entry). e.point) front is.0)
-
 -- what was published of what was appended is a prefix of what was taken
 pub given_up_within : {T E : Type 0} (r : Result T E) (IsOf : E → Type 0) (points : E → List Point) (b : BuilderState) → KeepsJournal b → IfErr r (λ e. IsOf e × IsPrefix (points e) b.appended)
     → IfErr r (λ e. IsOf e × IsPrefix (points e) (entry_points (entries_in b.taken)))
@@ -85,5 +82,5 @@ given_up_within (Ok x) IsOf points b keeps is = tt
 given_up_within (Err e) IsOf points b keeps is = (
   is.0,
   IsPrefix-then (points e) b.appended (entry_points (entries_in b.taken)) is.1
-      (subst (λ (l : List Point). IsPrefix l (entry_points (entries_in b.taken))) (sym keeps.appended) (front_points (b.journal ++ b.pending) (entries_in b.taken) keeps.prefix)),
+      (subst (λ (l : List Point). IsPrefix l (entry_points (entries_in b.taken))) (sym keeps.appended) (IsPrefix-entry_points (b.journal ++ b.pending) (entries_in b.taken) keeps.prefix)),
 )

@@ -1,12 +1,12 @@
 -- Prefixes of lists of several feeders, and their interleavings.
-use Rattle.std.proofs.Common.{◌≡◌, ◌-◌, ◌∙◌, ℕ, zero, suc, Bool, true, false, List, [], ◌∷◌, ◌++◌, append-nil, length, get_or, refl, sym, ap, subst}
+use Rattle.std.proofs.Common.{◌≡◌, ◌-◌, ℕ, zero, suc, Bool, true, false, List, [], ◌∷◌, ◌++◌, length, get_or, refl, subst}
 use Rattle.std.specs.List.{AllZip}
-use Rattle.std.proofs.lemmas.List.{map-append}
 use Rattle.cube_crew.specs.Crewed.{answered_over}
 use Rattle.cube_view.specs.Points.{Point}
 use Rattle.plan_run.specs.Interrupted.{InterleavesFronts}
+use Rattle.world_core.proofs.Entries.{IsPrefix-entry_points}
 use Rattle.world_core.proofs.Interleavings.{prefixes_interleave}
-use Rattle.world_core.proofs.Prefixes.{IsPrefix-then}
+use Rattle.world_core.proofs.Prefixes.{IsPrefix-itself, IsPrefix-then}
 use Rattle.world_core.specs.Interleaving.{IsInterleaving, entry_points, list_of}
 use Rattle.world_core.specs.PairFact.{IsPrefix}
 use Rattle.world_core.specs.declared.entry.Entry.{Entry}
@@ -38,5 +38,5 @@ interleaves_fronts lists sent n entries drawn count fronts order begins =
 
 -- the points over which sessions answered are the first of those that were drawn
 pub answered_front : (closed : Bool) (journal drawn : List Entry) → IsPrefix journal drawn → IsPrefix (answered_over closed journal drawn) (entry_points drawn)
-answered_front true journal drawn front = (entry_points front.0, ap entry_points front.1 ∙ map-append (λ (e : Entry). e.point) journal front.0)
-answered_front false journal drawn front = ([], sym (append-nil (entry_points drawn)))
+answered_front true journal drawn front = IsPrefix-entry_points journal drawn front
+answered_front false journal drawn front = IsPrefix-itself (entry_points drawn)

@@ -14,6 +14,10 @@ entries_of-append f a b = filter-append (λ (e : Entry). eqb e.feeder f) a b
 pub entry_points-append : (a b : List Entry) → entry_points (a ++ b) ≡ entry_points a ++ entry_points b
 entry_points-append a b = map-append (λ (e : Entry). e.point) a b
 
+-- points of entries that stand in front of others are in front of theirs
+pub IsPrefix-entry_points : (front whole : List Entry) → IsPrefix front whole → IsPrefix (entry_points front) (entry_points whole)
+IsPrefix-entry_points front whole is = (entry_points is.0, ap entry_points is.1 ∙ entry_points-append front is.0)
+
 pub length-entry_points : (entries : List Entry) → length (entry_points entries) ≡ length entries
 length-entry_points entries = length-map entries (λ (e : Entry). e.point)
 
