@@ -1,5 +1,5 @@
 -- What the sessions of a run leave.
-use Rattle.std.proofs.Common.{◌≡◌, ◌≢◌, ℕ, ◌≤◌, Bool, true, false, ◌||◌, List, [], ◌∷◌, ◌++◌, All, length, length-append, append-nil, map, Option, Some, None, Result, Ok, Err, IsErrOf, refl, sym, ap, ◌∙◌, subst, arith}
+use Rattle.std.proofs.Common.{◌≡◌, ◌≢◌, ℕ, ◌≤◌, Bool, true, false, ◌||◌, List, [], ◌∷◌, ◌++◌, All, length, append-nil, map, Option, Some, None, Result, Ok, Err, IsErrOf, refl, sym, ap, ◌∙◌, subst, arith}
 use Rattle.std.specs.List.{AllZip}
 use Rattle.std.proofs.lemmas.Bool.{false≢true}
 use Rattle.std.proofs.lemmas.List.Elements.{All-cons, All-head, All-nil, All-tail}
@@ -27,6 +27,7 @@ use Rattle.session_core.specs.Asked.{asked}
 use Rattle.session_core.specs.declared.fault.SessionFault.{SessionFault}
 use Rattle.session_core.specs.declared.fault.SessionFault.TheVariants as fault
 use Rattle.world_core.specs.PairFact.{IsPrefix}
+use Rattle.world_core.proofs.Prefixes.{IsPrefix-length}
 use Rattle.cube_crew.proofs.Zips.{AllZip-carried, AllZip-knowing, AllZip-map, AllZip-mapped}
 
 pub or_false : (a b : Bool) → a || b ≡ false → (a ≡ false) × (b ≡ false)
@@ -43,9 +44,6 @@ no_fault f e = cc
 
 all_of : {A : Type 0} {xs ys : List A} → xs ≡ ys → ys ≡ xs ++ []
 all_of {xs = xs} is = sym is ∙ sym (append-nil xs)
-
-prefix_length : {A : Type 0} (xs ys : List A) → IsPrefix xs ys → length xs ≤ length ys
-prefix_length xs ys (more, is) = omega (arith, ap length is, length-append xs more)
 
 module _ {I O : Type 0} (these : SessionEnds I O) (is_stat : Stat → Type 0) (schema : Schema) where
   module _ (stays : StaysTranscript is_stat) (taken : ℕ) (a b : News) (shown : IsPrefix a.shown b.shown) (told : length a.told ≤ length b.told) (takes : a.takes ≤ b.takes) (start now : SessionState I O) where
@@ -168,7 +166,7 @@ module _ {I O : Type 0} (these : SessionEnds I O) (is_stat : Stat → Type 0) (s
         whole = λ is. all.1;
         within = ([], all_of all.1);
         shown = ask.shown;
-        told = prefix_length work.learned.points whole.points ask.told;
+        told = IsPrefix-length work.learned.points whole.points ask.told;
         found = enough;
       })
       (λ k d below. λ enough. found enough k d below) all.2
@@ -181,7 +179,7 @@ module _ {I O : Type 0} (these : SessionEnds I O) (is_stat : Stat → Type 0) (s
         whole = λ is. absurd (false≢true is);
         within = ([], sym (append-nil list));
         shown = is.1.0;
-        told = prefix_length work.learned.points list is.1.1;
+        told = IsPrefix-length work.learned.points list is.1.1;
         found = is.0;
       })
       (λ k d below. (λ enough. found enough k d below, (left refl).1 k d below))

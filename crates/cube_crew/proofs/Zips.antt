@@ -97,25 +97,10 @@ All-taken P (x ∷ xs) zero few all = absurd (omega (arith, few))
 All-taken P (x ∷ xs) (suc n) few all = All-cons P x xs (All-head P x (take n xs) all) (All-taken P xs n (omega (arith, few)) (All-tail P x (take n xs) all))
 
 -- the list without its first item
-abbrev rest_of : {X : Type 0} → List X → List X
-rest_of [] = []
-rest_of (x ∷ xs) = xs
-
-rest_of-drop : {X : Type 0} (n : ℕ) (xs : List X) → rest_of (drop n xs) ≡ drop (suc n) xs
-rest_of-drop zero [] = refl
-rest_of-drop zero (x ∷ xs) = refl
-rest_of-drop (suc n) [] = refl
-rest_of-drop (suc n) (x ∷ xs) = rest_of-drop n xs
-
 first-drop : {X : Type 0} (n : ℕ) (xs : List X) (d : X) → slice_index_or (drop n xs) 0 d ≡ slice_index_or xs n d
 first-drop zero xs d = refl
 first-drop (suc n) [] d = refl
 first-drop (suc n) (x ∷ xs) d = first-drop n xs d
-
-pub drop-next : {X : Type 0} (n : ℕ) (xs ys : List X) → drop n xs ≡ drop n ys → drop (n + 1) xs ≡ drop (n + 1) ys
-drop-next n xs ys e =
-    let more : n + 1 ≡ suc n = omega arith in
-    ap (λ k. drop k xs) more ∙ sym (rest_of-drop n xs) ∙ ap rest_of e ∙ rest_of-drop n ys ∙ sym (ap (λ k. drop k ys) more)
 
 pub same-at : {X : Type 0} (n : ℕ) (xs ys : List X) (d : X) → drop n xs ≡ drop n ys → slice_index_or xs n d ≡ slice_index_or ys n d
 same-at n xs ys d e = sym (first-drop n xs d) ∙ ap (λ l. slice_index_or l 0 d) e ∙ first-drop n ys d

@@ -1,9 +1,9 @@
 mod NextReply
 mod OneTurn
-mod Refused
+mod RefusedScripts
 mod RunSteps
-mod Running
-mod Says
+mod SaidReplies
+mod SessionRuns
 mod SoFarLaws
 mod TakesLaws
-mod Turning
+mod TurnLaws

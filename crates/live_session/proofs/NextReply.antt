@@ -25,12 +25,9 @@ use Rattle.session_core.specs.Transcript.{MayCome, MayPrint, IsReply, Answers, A
 use Rattle.session_core.specs.declared.serving.Served.{Served}
 use Rattle.session_core.specs.declared.serving.Served.TheVariants as served
 use Rattle.session_core.proofs.AskedLaws.{asked_then-end, asked_then-reply, reply-goes_on}
-use Rattle.session_core.proofs.Transcripts.{longer, may_come_less, transcript_none}
+use Rattle.session_core.proofs.Transcripts.{may_come_less, transcript_none}
 use Rattle.world_core.specs.PairFact.{IsPrefix}
-
--- a list is no shorter than a prefix of it
-pub prefix-longer : (l h : List Point) → IsPrefix l h → length l ≤ length h
-prefix-longer l h g = longer l h (g.0, sym g.1)
+use Rattle.world_core.proofs.Prefixes.{IsPrefix-length}
 
 -- a reply whose numbers are all there is may come after all that was seen and told, where one that prints how many it has seen
 -- has seen no less than was told
@@ -154,7 +151,7 @@ module _ {I O : Type 0} (held : O → Option (List ℕ)) (schema : Schema) (is_s
 
   module _ (front : IsPrefix a.shown b.shown) (more : length a.told ≤ length b.told) (fresh : asks_look p ≡ true → length a.told ≤ length b.shown) where
     comes_of : (reply : Reply) → seen_of reply ≡ seen_asked (length b.shown) p → IsReply schema is_stat true b.shown (length b.told) p reply → MayCome (length a.shown) (length a.told) reply
-    comes_of reply number r = may_come_final schema is_stat a.shown b.shown (length a.told) (length b.told) reply (prefix-longer a.shown b.shown front) more (λ n e. fresh (seen_looks (length b.shown) n (asks_look p) (sym number ∙ e))) r.numbers
+    comes_of reply number r = may_come_final schema is_stat a.shown b.shown (length a.told) (length b.told) reply (IsPrefix-length a.shown b.shown front) more (λ n e. fresh (seen_looks (length b.shown) n (asks_look p) (sym number ∙ e))) r.numbers
 
     pub answered_reply : {E : Type 0} (r : Result Turn E) (s : Served) (bytes line : List ℕ) (seen : Option ℕ) → s ≡ served.Reply line → bytes ≡ line → seen ≡ seen_asked (length b.shown) p → Says schema is_stat b.shown (length b.told) p s → IfOk r (PutsLine held before after bytes seen) → IfOk r (Answered held schema is_stat a b before after p)
     answered_reply (Ok t) s bytes line seen is same shown says puts =

@@ -5,13 +5,12 @@ use Rattle.cube_view.specs.Points.{Point}
 use Rattle.cube_view.specs.declared.schema.Schema.{Schema}
 use Rattle.cube_view.specs.declared.stat.Stat.{Stat}
 use Rattle.cube_view.specs.declared.view.CubeView as CubeView
-use Rattle.live_session.specs.News.{AsksFor, AsksMail, EndsView, Goes, GoesFor, HasNews, KeepsViewer, LearnsTaken, MayAsk, asks_news, news_of, takes_for}
+use Rattle.live_session.specs.News.{AsksOfEnds, AsksMail, EndsView, Goes, GoesFor, HasNews, KeepsViewer, LearnsTaken, MayAsk, asks_news, news_of, takes_for}
 use Rattle.live_session.specs.Saying.{IsShownTo}
 use Rattle.live_session.specs.State.{SessionState}
 use Rattle.live_session.specs.Turned.{HasFaults, is_no_memory}
 use Rattle.live_session.specs.Viewers.{AsksViewer, IsSameViewer, ends_view}
-use Rattle.live_session.proofs.NextReply.{prefix-longer}
-use Rattle.live_session.proofs.Turning.{Reads}
+use Rattle.live_session.proofs.TurnLaws.{Reads}
 use Rattle.mailbox.specs.Ends.{OutEnd}
 use Rattle.outer_io.specs.Counts.{next_count}
 use Rattle.outer_io.specs.Cutting.{Cutter}
@@ -28,7 +27,7 @@ use Rattle.session_core.specs.Turns.{AsksNext}
 use Rattle.session_core.proofs.SoFar.{fault_is}
 use Rattle.session_core.specs.declared.fault.SessionFault.{SessionFault}
 use Rattle.session_core.specs.declared.fault.SessionFault.TheVariants as fault
-use Rattle.world_core.proofs.Prefixes.{IsPrefix-then}
+use Rattle.world_core.proofs.Prefixes.{IsPrefix-length, IsPrefix-then}
 use Rattle.world_core.specs.PairFact.{IsPrefix}
 
 -- what is known of an answer that is `Ok`, or that is a fault
@@ -141,7 +140,7 @@ learns_on learned learned' mail mail' mail'' goes was asks =
     )
 
 -- where nothing is asked
-pub asks_nothing : (ends : EndsView) → AsksFor Skip ends ends
+pub asks_nothing : (ends : EndsView) → AsksOfEnds Skip ends ends
 asks_nothing ends = record {
   valid = refl;
   goes = record {
@@ -173,7 +172,7 @@ whole_news p whole mail mail' taken = record {
 
 -- a look shows no less than was told before
 pub fresh_length : (learned learned' shown' : List Point) (p : Parsed) → IsPrefix learned learned' → (asks_look p ≡ true → IsPrefix learned' shown') → asks_look p ≡ true → length learned ≤ length shown'
-fresh_length learned learned' shown' p told look e = omega (arith, prefix-longer learned learned' told, prefix-longer learned' shown' (look e))
+fresh_length learned learned' shown' p told look e = omega (arith, IsPrefix-length learned learned' told, IsPrefix-length learned' shown' (look e))
 
 -- the numbers of a view that is shown meet the view's test
 pub shown_numbers : {V C : Type 0} {members : CubeView.Ghosts V C} (viewer : Viewer V C members) → ((v : V) → members.is_stat (members.numbers v)) → (stat : Stat) → IsShownTo viewer stat → members.is_stat stat

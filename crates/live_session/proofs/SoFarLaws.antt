@@ -1,7 +1,7 @@
 -- A session turn by turn.
 use Rattle.std.proofs.Common.{◌≡◌, ℕ, suc, ◌+◌, ◌≤◌, Bool, true, false, ◌||◌, if◌then◌else◌, List, [], ◌∷◌, ◌++◌, length, length-append, Option, Some, None, Result, Ok, Err, IfOk, IsErrOf, inl, inr, refl, sym, ap, ◌∙◌, subst, arith, append-nil, append_assoc}
 use Rattle.std.specs.Prelude.{IsSomeAnd}
-use Rattle.std.proofs.lemmas.Bool.{false≢true}
+use Rattle.std.proofs.lemmas.Bool.{false≢true, or_left}
 use Rattle.std.proofs.lemmas.Grind.{flat_map-append}
 use Rattle.cube_view.specs.Points.{Point}
 use Rattle.cube_view.specs.declared.schema.Schema.{Schema}
@@ -23,6 +23,7 @@ use Rattle.outer_io.proofs.GainedLaws.{gains_none, gains_on, part_on}
 use Rattle.outer_io.proofs.ProgressLaws.{passes_none, passes_on}
 use Rattle.outer_io.proofs.ToldLaws.{Told-each}
 use Rattle.published_pair.specs.Rules.{Known}
+use Rattle.query_syntax.proofs.ReadBack.{or_rest}
 use Rattle.query_syntax.specs.declared.query.Parsed.{Parsed}
 use Rattle.reply_json.specs.Printed.{seen_of}
 use Rattle.reply_json.specs.declared.reply.Reply.{Reply}
@@ -32,23 +33,15 @@ use Rattle.session_core.specs.Transcript.{AllAnswered, IsTranscript, NeverFalls,
 use Rattle.session_core.specs.declared.fault.SessionFault.{SessionFault}
 use Rattle.session_core.specs.declared.fault.SessionFault.TheVariants as fault
 use Rattle.session_core.proofs.AskedLaws.{asked_then-end, asked-append}
-use Rattle.session_core.proofs.Transcripts.{final_append, transcript_append, transcript_lacking, transcript_none, transcript_weaker, transcript_within}
+use Rattle.session_core.proofs.Transcripts.{final_append, replies_text-append, transcript_append, transcript_lacking, transcript_none, transcript_weaker, transcript_within}
 use Rattle.world_core.specs.PairFact.{IsPrefix}
-use Rattle.live_session.proofs.Turning.{Front}
-
-or_left : (a b : Bool) → a || b ≡ true → a ≡ false → b ≡ true
-or_left true b e goes = absurd (false≢true (sym goes))
-or_left false b e goes = e
-
-or_true : (a b : Bool) → a ≡ true → a || b ≡ true
-or_true true b e = refl
-or_true false b e = absurd (false≢true e)
+use Rattle.live_session.proofs.TurnLaws.{Front}
 
 module _ (schema : Schema) where
   -- what comes after a `quit` is not asked
   past_quit : (xs ys : List Line) → has_quit schema xs ≡ true → asked schema (xs ++ ys) ≡ asked schema xs
   past_quit [] ys e = absurd (false≢true e)
-  past_quit (x ∷ xs) ys e = here (is_quit schema x) refl (λ goes. past_quit xs ys (or_left (is_quit schema x) (has_quit schema xs) e goes))
+  past_quit (x ∷ xs) ys e = here (is_quit schema x) refl (λ goes. past_quit xs ys (or_rest (is_quit schema x) (has_quit schema xs) e goes))
     where
       here : (b : Bool) → is_quit schema x ≡ b → (is_quit schema x ≡ false → asked schema (xs ++ ys) ≡ asked schema xs) → asked_then (line_meaning schema x) (asked schema (xs ++ ys)) ≡ asked_then (line_meaning schema x) (asked schema xs)
       here true quit later = asked_then-end (line_meaning schema x) (asked schema (xs ++ ys)) quit ∙ sym (asked_then-end (line_meaning schema x) (asked schema xs) quit)
@@ -59,7 +52,7 @@ module _ (schema : Schema) where
   no_quit-append (x ∷ xs) ys none more = here (is_quit schema x) refl (λ goes. no_quit-append xs ys (ap (λ b. b || has_quit schema xs) (sym goes) ∙ none) more)
     where
       here : (b : Bool) → is_quit schema x ≡ b → (is_quit schema x ≡ false → has_quit schema (xs ++ ys) ≡ false) → is_quit schema x || has_quit schema (xs ++ ys) ≡ false
-      here true quit later = absurd (false≢true (sym none ∙ or_true (is_quit schema x) (has_quit schema xs) quit))
+      here true quit later = absurd (false≢true (sym none ∙ or_left (is_quit schema x) (has_quit schema xs) quit))
       here false goes later = ap (λ b. b || has_quit schema (xs ++ ys)) goes ∙ later goes
 
   -- what the first lines ask is the first of what all ask
@@ -130,9 +123,6 @@ module _ (schema : Schema) (is_stat : Stat → Type 0) where
   all_length final may_lack l u (p ∷ ps) [] all = absurd all
   all_length final may_lack l u (p ∷ ps) (reply ∷ replies) all = ap suc (all_length final may_lack l u ps replies all.1)
 
-text_on : (rs ss : List Reply) → replies_text (rs ++ ss) ≡ replies_text rs ++ replies_text ss
-text_on rs ss = flat_map-append reply_line rs ss
-
 seens_on : (rs ss : List Reply) → seens_of (rs ++ ss) ≡ seens_of rs ++ seens_of ss
 seens_on rs ss = flat_map-append (λ (reply : Reply). listed (seen_of reply)) rs ss
 
@@ -187,7 +177,7 @@ module _ {I O : Type 0} (ends : SessionEnds I O) (schema : Schema) (is_stat : St
     answered_turn goes t open_before s d =
         let on = s.goes_on open_before in
         let asks : asked schema (s.lines ++ d.lines) ≡ asked schema s.lines ++ asked schema d.lines = asked-append schema s.lines d.lines on.1 in
-        let may : before.lacked ≡ true → after.lacked ≡ true = λ e. d.put.lacks ∙ or_true before.lacked (has_lack d.replies) e in
+        let may : before.lacked ≡ true → after.lacked ≡ true = λ e. d.put.lacks ∙ or_left before.lacked (has_lack d.replies) e in
         let next : IsTranscript schema is_stat true b.shown (length b.told) after.lacked (asked schema d.lines) d.replies = transcript_weaker schema A is_stat weaker after.lacked true b.shown (length b.told) (asked schema d.lines) d.replies d.next.transcript in
         let all : IsTranscript schema is_stat final b.shown (length b.told) after.lacked (asked schema s.lines ++ asked schema d.lines) (s.replies ++ d.replies) = goes.joins before.lacked after.lacked (asked schema s.lines) (asked schema d.lines) s.replies d.replies may s.transcript next d.next.follows in
         record {
@@ -195,7 +185,7 @@ module _ {I O : Type 0} (ends : SessionEnds I O) (schema : Schema) (is_stat : St
           replies = s.replies ++ d.replies;
           first = first_on schema (lines_left ends.left start.source) (lines_left ends.left before.source) s.lines d.lines on.0.covers d.read;
           transcript = subst (λ (ps : List Parsed). IsTranscript schema is_stat final b.shown (length b.told) after.lacked ps (s.replies ++ d.replies)) (sym asks) all;
-          gained = subst (Gains (ends.held start.sink) (ends.held after.sink)) (sym (text_on s.replies d.replies)) (gains_on (ends.held start.sink) (ends.held before.sink) (ends.held after.sink) (replies_text s.replies) (replies_text d.replies) s.gained d.put.gained);
+          gained = subst (Gains (ends.held start.sink) (ends.held after.sink)) (sym (replies_text-append s.replies d.replies)) (gains_on (ends.held start.sink) (ends.held before.sink) (ends.held after.sink) (replies_text s.replies) (replies_text d.replies) s.gained d.put.gained);
           counted = omega (arith, s.counted, d.put.counted, length-append s.replies d.replies);
           noted = d.put.noted ∙ ap (λ ns. ns ++ seens_of d.replies) s.noted ∙ append_assoc start.seens (seens_of s.replies) (seens_of d.replies) ∙ ap (λ ns. start.seens ++ ns) (sym (seens_on s.replies d.replies));
           takes = takes_on schema s.lines d.lines taken a b s.takes d.news;
@@ -218,7 +208,7 @@ module _ {I O : Type 0} (ends : SessionEnds I O) (schema : Schema) (is_stat : St
         }
 
     by_fault : GoesOn schema is_stat final a b → (f : SessionFault) → a.takes ≤ b.takes → HasAnswered ends schema is_stat final taken start (moment a before) → (ends.held after.sink ≡ ends.held before.sink) × (after.lacked ≡ before.lacked || is_no_memory f) → (after.ended ≡ true) × (after.replies ≡ before.replies) × (after.seens ≡ before.seens) → HasAnswered ends schema is_stat final taken start (moment b after)
-    by_fault goes f more s (sink, lacked) (ended, replies, seens) = answered_fault goes s (λ e. lacked ∙ or_true before.lacked (is_no_memory f) e) ended sink replies seens more
+    by_fault goes f more s (sink, lacked) (ended, replies, seens) = answered_fault goes s (λ e. lacked ∙ or_left before.lacked (is_no_memory f) e) ended sink replies seens more
 
     -- what was answered so far, and a put that failed
     pub answered_broken : GoesOn schema is_stat final a b → before.ended ≡ false → HasAnswered ends schema is_stat final taken start (moment a before) → BreaksOff ends schema A a b before after → HasBroken ends schema is_stat final taken start (moment b after)
@@ -226,7 +216,7 @@ module _ {I O : Type 0} (ends : SessionEnds I O) (schema : Schema) (is_stat : St
         let on = s.goes_on open_before in
         let one : List Line = d.line ∷ [] in
         let asks : asked schema (s.lines ++ one) ≡ asked schema s.lines ++ asked schema one = asked-append schema s.lines one on.1 in
-        let may : before.lacked ≡ true → after.lacked ≡ true = λ e. d.lacks ∙ or_true before.lacked (is_lack d.reply) e in
+        let may : before.lacked ≡ true → after.lacked ≡ true = λ e. d.lacks ∙ or_left before.lacked (is_lack d.reply) e in
         let next : IsTranscript schema is_stat true b.shown (length b.told) after.lacked (asked schema one) (d.reply ∷ []) = transcript_weaker schema A is_stat weaker after.lacked true b.shown (length b.told) (asked schema one) (d.reply ∷ []) d.next.transcript in
         let all : IsTranscript schema is_stat final b.shown (length b.told) after.lacked (asked schema s.lines ++ asked schema one) (s.replies ++ d.reply ∷ []) = goes.joins before.lacked after.lacked (asked schema s.lines) (asked schema one) s.replies (d.reply ∷ []) may s.transcript next d.next.follows in
         let both = passes_on ends.left ends.faults start.source before.source after.source s.lines one on.0 d.passed in
@@ -236,7 +226,7 @@ module _ {I O : Type 0} (ends : SessionEnds I O) (schema : Schema) (is_stat : St
           reply = d.reply;
           first = first_passed schema (lines_left ends.left start.source) (lines_left ends.left after.source) (s.lines ++ one) both.covers;
           transcript = subst (λ (ps : List Parsed). IsTranscript schema is_stat final b.shown (length b.told) after.lacked ps (s.replies ++ d.reply ∷ [])) (sym asks) all;
-          gained = subst (GainsPart (ends.held start.sink) (ends.held after.sink)) (sym (text_on s.replies (d.reply ∷ []))) (part_on (ends.held start.sink) (ends.held before.sink) (ends.held after.sink) (replies_text s.replies) (reply_line d.reply) [] s.gained d.gained);
+          gained = subst (GainsPart (ends.held start.sink) (ends.held after.sink)) (sym (replies_text-append s.replies (d.reply ∷ []))) (part_on (ends.held start.sink) (ends.held before.sink) (ends.held after.sink) (replies_text s.replies) (reply_line d.reply) [] s.gained d.gained);
           counted = d.uncounted.0 ∙ s.counted;
           noted = d.uncounted.1 ∙ s.noted;
           takes = takes_on schema s.lines one taken a b s.takes (b, d.news, refl);

@@ -154,7 +154,7 @@ pub record EndsView : Type 0 where
   pub mail : OutEnd
 
 -- What a line of this meaning asks of a viewer and its end of a mailbox, and what that leaves of them
-pub record AsksFor (p : Parsed) (before after : EndsView) : Type 0 where
+pub record AsksOfEnds (p : Parsed) (before after : EndsView) : Type 0 where
   -- the schema takes its query, if it asks one
   pub valid : IsTrue (asks_valid before.schema p)
   -- the viewer's lists and the mailbox's end go on as it asks

@@ -2,7 +2,7 @@
 use Rattle.std.specs.Prelude.{◌≡◌, ◌⊎◌, true, false, [], ◌∷◌, Result, IfSome}
 use Rattle.cube_view.specs.declared.stat.Stat.{Stat}
 use Rattle.cube_view.specs.declared.view.CubeView as CubeView
-use Rattle.live_session.specs.News.{AsksFor, EndsView, KeepsViewer, News, news_of}
+use Rattle.live_session.specs.News.{AsksOfEnds, EndsView, KeepsViewer, News, news_of}
 use Rattle.live_session.specs.SoFar.{HasDone, KeepsAnswers, moment}
 use Rattle.live_session.specs.State.{SessionEnds, SessionState}
 use Rattle.mailbox.specs.Ends.{OutEnd}
@@ -39,7 +39,7 @@ module _ {V C : Type 0} {members : CubeView.Ghosts V C} where
     -- it read a line of that meaning; or none, and then it asked nothing and the session is at its end
     pub read : ((line : Line) × Passes script.left script.faults session.source session'.source (line ∷ []) × (asked ≡ line_meaning viewer.schema line)) ⊎ ((asked ≡ Skip) × (session'.ended ≡ true))
     -- this it asked
-    pub asks : AsksFor asked (ends_view viewer mail) (ends_view viewer' mail')
+    pub asks : AsksOfEnds asked (ends_view viewer mail) (ends_view viewer' mail')
 
   module _ {I O T : Type 0} (ends : SessionEnds I O) (is_stat : Stat → Type 0) where
     -- where the viewer had learned the ended list, what was answered finally over it goes on over a turn

@@ -1,6 +1,6 @@
 mod Chains
 mod Feeders
-mod Hearing
+mod HeardLists
 mod Lanes
 mod Openings
 mod Places

@@ -23,8 +23,9 @@ use Rattle.world_core.specs.declared.world.World.{World}
 use Rattle.run_law.specs.Moves.{TellsSession, PutsMail, Asks, Learns, Looks, LearnsEnd, with_session, having_looked, count_all, looked}
 use Rattle.run_law.specs.Standing.{HasHeard, StandsWith}
 use Rattle.run_law.specs.Views.{RunView, SessionView, seen_by, told_to}
-use Rattle.run_law.proofs.Hearing.{last_length-push, heard_told, heard_learned, heard_shown, heard_put, heard_asked, taken_last_few, heard_at, heard_set}
-use Rattle.run_law.proofs.StepLaws.{occurs, count_points}
+use Rattle.run_law.proofs.HeardLists.{last_length-push, heard_told, heard_learned, heard_shown, heard_put, heard_asked, taken_last_few, heard_at, heard_set}
+use Rattle.world_core.proofs.Entries.{length-entry_points}
+use Rattle.run_law.proofs.StepLaws.{occurs}
 
 -- every schema takes the query of all
 
@@ -96,7 +97,7 @@ module _ (lists : List (List Point)) (a : RunView) (w : World) (stands : StandsW
   stays now heard seen told = session_stands now a.shots heard (stands.seen ∙ sym (same_in_place seen_by now seen)) (stands.told ∙ sym (same_in_place told_to now told)) stands.shots
 
   journal_size : length a.builder.published.points ≡ length w.journal
-  journal_size = ap length stands.keeps.published ∙ count_points a.builder.journal ∙ ap length (sym stands.journal)
+  journal_size = ap length stands.keeps.published ∙ length-entry_points a.builder.journal ∙ ap length (sym stands.journal)
 
   -- where it is told of all that is published
   pub told_all : (now : SessionView) → HasHeard a.builder.published now → seen_by now ≡ seen_by session → told_to now ≡ length a.builder.published.points

@@ -2,7 +2,7 @@
 use Rattle.std.proofs.Common.{◌≡◌, ◌≢◌, ℕ, ◌-◌, ◌≤◌, ◌<◌, Bool, true, false, ◌&&◌, ltb, if◌then◌else◌, List, [], ◌∷◌, ◌++◌, length, length-append, take, drop, set, Some, refl, sym, ap, ◌∙◌, subst, arith, append_assoc}
 use Rattle.std.specs.Prelude.{slice_get}
 use Rattle.std.proofs.lemmas.Bool.Decides.{nat_tests}
-use Rattle.std.proofs.lemmas.List.{append-nil, append_cancel_left, length-map, length-set}
+use Rattle.std.proofs.lemmas.List.{append-nil, append_cancel_left, length-set}
 use Rattle.builder_core.specs.Builder.{BuilderState}
 use Rattle.cube_view.specs.Points.{Point}
 use Rattle.cube_view.specs.declared.schema.Schema.{Schema}
@@ -17,23 +17,19 @@ use Rattle.world_core.specs.declared.entry.Entry.{Entry}
 use Rattle.world_core.specs.declared.event.Event.{Event}
 use Rattle.world_core.specs.declared.event.Event.TheVariants as event
 use Rattle.world_core.specs.declared.world.World.{World}
-use Rattle.world_core.proofs.Entries.{length-numbered}
+use Rattle.world_core.proofs.Entries.{length-entry_points, length-numbered}
 use Rattle.run_law.specs.Moves.{TakesItem, EndsPair, having_ended_pair}
 use Rattle.run_law.specs.Standing.{sent_of, GoOnFrom, KeepsRun, StandsWith}
 use Rattle.run_law.specs.Steps.{DroppedNone}
 use Rattle.run_law.specs.Views.{RunView}
 use Rattle.run_law.proofs.Feeders.{set_own, set_other, each_feeder, feeder_high, sent_at, sent_own, sent_other, sent_same}
-use Rattle.run_law.proofs.Hearing.{all_heard_more}
+use Rattle.run_law.proofs.HeardLists.{all_heard_more}
 use Rattle.run_law.proofs.Lanes.{own_entry, lane_own, lane_other, drawn_moves, sent_comes_last, entries_few}
 use Rattle.run_law.proofs.Takings.{take_publishes, take_keeps}
 
 -- an event that is possible happens
 pub occurs : (schema : Schema) (room n : ℕ) (w : World) (e : Event) → is_possible schema room w e ≡ true → after_events schema room n w (e ∷ []) ≡ happens schema w e
 occurs schema room n w e possible = ap (λ b. if b then happens schema w e else after_skip w n) possible
-
--- there are as many points as entries
-pub count_points : (entries : List Entry) → length (entry_points entries) ≡ length entries
-count_points entries = length-map entries (λ (e : Entry). e.point)
 
 abbrev after_sending : RunView → ℕ → FeedState → Item → RunView
 after_sending a f end i = record a { feeds = set a.feeds (f - 1) (having_sent end i); queue = a.queue ++ i ∷ [] }
@@ -217,8 +213,8 @@ module _ (lists : List (List Point)) (a : RunView) (w : World) (stands : StandsW
   -- which has published no less
   grown : (left : BuilderState) → left.published.points ≡ entry_points left.journal → length a.builder.journal ≤ length left.journal → length a.builder.published.points ≤ length left.published.points
   grown left is more =
-      let old = ap length stands.keeps.published ∙ count_points a.builder.journal in
-      let now = ap length is ∙ count_points left.journal in
+      let old = ap length stands.keeps.published ∙ length-entry_points a.builder.journal in
+      let now = ap length is ∙ length-entry_points left.journal in
       omega (arith, old, now, more)
 
   keeps_built : (left : BuilderState) → left.published.points ≡ entry_points left.journal → length a.builder.journal ≤ length left.journal → KeepsRun (record a { builder = left })

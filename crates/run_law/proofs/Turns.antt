@@ -2,7 +2,7 @@
 use Rattle.std.proofs.Common.{◌≡◌, ℕ, Bool, true, false, if◌then◌else◌, [], ◌∷◌, Option, Some, None, IfSome, refl, sym, ap, ◌∙◌, subst}
 use Rattle.std.specs.Prelude.{IsTrue, slice_get}
 use Rattle.cube_view.specs.declared.schema.Schema.{Schema}
-use Rattle.live_session.specs.News.{AsksFor, EndsView, LearnsTold, asks_news}
+use Rattle.live_session.specs.News.{AsksOfEnds, EndsView, LearnsTold, asks_news}
 use Rattle.mailbox.specs.Ends.{OutEnd, and_taken, mail_out}
 use Rattle.outer_io.specs.Counts.{next_count}
 use Rattle.published_pair.specs.Pair.{Sees}
@@ -51,7 +51,7 @@ module _ (schema : Schema) (room s : ℕ) (a : RunView) (session : SessionView) 
         set_at_own mid.sessions s asked (with_news (Some t) now) here,
       )
 
-module _ (room s : ℕ) (before after : EndsView) (p : Parsed) (turns : AsksFor p before after) where
+module _ (room s : ℕ) (before after : EndsView) (p : Parsed) (turns : AsksOfEnds p before after) where
   abbrev told : Option Told
   told = turns.takes.told
 
@@ -114,7 +114,7 @@ module _ (room s : ℕ) (before after : EndsView) (p : Parsed) (turns : AsksFor 
             record { session = now; at = set_at_own a.sessions s session now shows.at; shown = refl; learned = shows.learned; taken = shows.taken },
           )
 
-look_runs : (room s : ℕ) (before after : EndsView) (p : Parsed) → AsksFor p before after → LooksThen room s p before after
+look_runs : (room s : ℕ) (before after : EndsView) (p : Parsed) → AsksOfEnds p before after → LooksThen room s p before after
 look_runs room s before after Skip turns a shows is = unlooked room s before after Skip turns a shows refl
 look_runs room s before after (Fault fault word) turns a shows is = unlooked room s before after (Fault fault word) turns a shows refl
 look_runs room s before after (Ask q) turns a shows is =

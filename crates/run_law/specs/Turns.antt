@@ -1,7 +1,7 @@
 -- What a turn of a session does is a run of steps.
 use Rattle.std.specs.Prelude.{◌≡◌, ℕ, true, if◌then◌else◌, List, [], ◌∷◌, Option, Some, None, IfSome, slice_get}
 use Rattle.cube_view.specs.declared.schema.Schema.{Schema}
-use Rattle.live_session.specs.News.{AsksFor, EndsView, asks_news}
+use Rattle.live_session.specs.News.{AsksOfEnds, EndsView, asks_news}
 use Rattle.published_pair.specs.declared.told.Told.{Told}
 use Rattle.query_syntax.specs.declared.query.Parsed.{Parsed}
 use Rattle.query_syntax.specs.declared.query.Parsed.TheVariants.{Skip, Ask, Fault}
@@ -52,9 +52,9 @@ LooksThen room s p before after = (a : RunView) → ShowsSession a s (caught_up 
     → LeadTo before.schema room a (look_steps s p) (λ b. ShowsSession b s after)
 
 -- one turn of a session is a run of these steps: it asks its mailbox and learns what was put last, and then, perhaps after steps
--- of other ends, looks. `AsksFor` is what `Session::turn` ensures of its viewer and mailbox, whatever it answers; where it reads
+-- of other ends, looks. `AsksOfEnds` is what `Session::turn` ensures of its viewer and mailbox, whatever it answers; where it reads
 -- no line it is so of one that asks nothing.
 abbrev pub TurnIsSteps : Type 0
-TurnIsSteps = (room s : ℕ) (a : RunView) (before after : EndsView) (shows : ShowsSession a s before) (p : Parsed) (turns : AsksFor p before after)
+TurnIsSteps = (room s : ℕ) (a : RunView) (before after : EndsView) (shows : ShowsSession a s before) (p : Parsed) (turns : AsksOfEnds p before after)
     → IfSome turns.takes.told (IsLastIn shows.session)
     → LeadTo before.schema room a (news_steps s p turns.takes.told) (λ c. ShowsSession c s (caught_up before after) × LooksThen room s p before after)

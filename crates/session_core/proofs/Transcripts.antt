@@ -15,7 +15,7 @@ up_to_weaker : (final : Bool) (most n : ℕ) → IsUpTo final most n → n ≤ m
 up_to_weaker false most n e = e
 up_to_weaker true most n e = omega (arith, e)
 
-pub longer : (l h : List Point) → IsPrefix l h → length l ≤ length h
+longer : (l h : List Point) → IsPrefix l h → length l ≤ length h
 longer l h g = omega (arith, ap length g.1, length-append l g.0)
 
 firsts_same : (l h : List Point) (n : ℕ) → IsPrefix l h → n ≤ length l → take n h ≡ take n l

@@ -5,7 +5,7 @@ use Rattle.std.proofs.lemmas.List.Elements.{all_zip_more}
 use Rattle.cube_crew.specs.Works.{HasLearned}
 use Rattle.published_pair.specs.Rules.{Known}
 use Rattle.world_core.specs.PairFact.{IsPrefix}
-use Rattle.cube_crew.proofs.Zips.{All-init, All-last, drop-next, same-at}
+use Rattle.cube_crew.proofs.Zips.{All-init, All-last, same-at}
 use Rattle.cube_crew.proofs.sessions.teach.Goals as goal
 
 pub learn_last-requires-after_bounds : goal.learn_last-requires-after_bounds
@@ -38,7 +38,7 @@ loop-work-preserved g c =
     let below : i < length ys = subst (λ k. i < k) (sym c.loop-work.invariant.whole) c.loop-work-test.true in
     record {
       learned = subst (AllZip (HasLearned whole) (take (i + 1) xs)) (sym (take_more_set ys i new below)) (all_zip_more (HasLearned whole) xs (take i ys) i x new c.loop-work-test.true at c.loop-work.invariant.learned (subst (λ w. HasLearned whole w new) (sym c.work-item.is) learned));
-      rest = drop-set-lt (i + 1) ys i new (omega arith) ∙ drop-next i ys xs c.loop-work.invariant.rest;
+      rest = drop-set-lt (i + 1) ys i new (omega arith) ∙ sym (drop-drop 1 i ys) ∙ ap (drop 1) c.loop-work.invariant.rest ∙ drop-drop 1 i xs;
       whole = length-set ys i new ∙ c.loop-work.invariant.whole;
       same = All-init (λ last. last.whole ≡ whole) c.loop-work.lasts.items c.pop.new.self.items c.in-Some.last popped c.loop-work.invariant.same;
       left = search rules;

@@ -4,7 +4,7 @@ use Rattle.cube_view.specs.declared.schema.Schema.{Schema}
 use Rattle.live_session.specs.Bounds.{TakesSteps}
 use Rattle.live_session.specs.Saying.{IsShownTo, SaysOver}
 use Rattle.live_session.proofs.OneTurn.{goes_unseen}
-use Rattle.live_session.proofs.Says.{over_unseen}
+use Rattle.live_session.proofs.SaidReplies.{over_unseen}
 use Rattle.live_session.proofs.answering.answer_line.Goals as goal
 
 pub returns-clause-served : goal.returns-clause-served

@@ -6,7 +6,7 @@ use Rattle.session_core.specs.Serving.{answer_cost}
 use Rattle.live_session.specs.Bounds.{TakesSteps}
 use Rattle.live_session.specs.Saying.{IsShownTo}
 use Rattle.published_pair.specs.Rules.{Known}
-use Rattle.live_session.proofs.Says.{over_shown, shown_says}
+use Rattle.live_session.proofs.SaidReplies.{over_shown, shown_says}
 use Rattle.live_session.proofs.answering.look_once.Goals as goal
 
 pub returns-clause-served : goal.returns-clause-served

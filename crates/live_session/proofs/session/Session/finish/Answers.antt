@@ -3,10 +3,11 @@ use Rattle.live_session.specs.Answered.{Answered, IsBroken}
 use Rattle.live_session.specs.News.{seen_asked}
 use Rattle.live_session.specs.Saying.{IsShownTo, SaysOver}
 use Rattle.live_session.specs.State.{SessionState}
-use Rattle.live_session.proofs.NextReply.{answered_lack, answered_quit, answered_reply, answered_skip, broken_lack, broken_reply, prefix-longer}
+use Rattle.live_session.proofs.NextReply.{answered_lack, answered_quit, answered_reply, answered_skip, broken_lack, broken_reply}
 use Rattle.live_session.proofs.OneTurn.{fresh_length, of_ok, of_err}
-use Rattle.live_session.proofs.Says.{says_news, seen_news}
+use Rattle.live_session.proofs.SaidReplies.{says_news, seen_news}
 use Rattle.live_session.proofs.session.Session.finish.Goals as goal
+use Rattle.world_core.proofs.Prefixes.{IsPrefix-length}
 
 pub returns-in-Ok-Skipped-clause-puts : goal.returns-in-Ok-Skipped-clause-puts
 returns-in-Ok-Skipped-clause-puts g c =
@@ -42,14 +43,14 @@ returns-in-Ok-Reply-clause-puts g c =
     let said = of_ok (SaysOver viewer.schema shown viewer.shown.points (length viewer.learned.points) p) c.args.served c.in-Ok-Reply.field-0 c.in-Ok-Reply.is c.requires.served.says in record {
       answered = λ a b news is.
           answered_reply g.O.Sink.held viewer.schema shown a b c.args.self.now c.put-turn.new.self p
-          news.goes_on.0 (prefix-longer a.told b.told news.goes_on.1) (fresh_length a.told b.told b.shown p news.goes_on.1 news.fresh)
+          news.goes_on.0 (IsPrefix-length a.told b.told news.goes_on.1) (fresh_length a.told b.told b.shown p news.goes_on.1 news.fresh)
           c.put-turn.result c.in-Ok-Reply.field-0 c.as_slice.result.now c.in-Ok-Reply.line c.seen_asked-seen.result c.in-Ok-Reply.field-0-is c.as_slice.ensures
           (c.seen_asked-seen.ensures ∙ ap (λ n. seen_asked n p) c.seen.ensures ∙ seen_news viewer p b is)
           (says_news viewer p b c.in-Ok-Reply.field-0 is said)
           c.put-turn.ensures.put;
       broken = λ a b news is e.
           broken_reply g.O.Sink.held viewer.schema shown a b c.args.self.now c.put-turn.new.self p
-          news.goes_on.0 (prefix-longer a.told b.told news.goes_on.1) (fresh_length a.told b.told b.shown p news.goes_on.1 news.fresh)
+          news.goes_on.0 (IsPrefix-length a.told b.told news.goes_on.1) (fresh_length a.told b.told b.shown p news.goes_on.1 news.fresh)
           c.in-Ok-Reply.field-0 c.as_slice.result.now c.in-Ok-Reply.line c.in-Ok-Reply.field-0-is c.as_slice.ensures
           (says_news viewer p b c.in-Ok-Reply.field-0 is said)
           (c.put-turn.ensures.write e).0 (c.put-turn.ensures.write e).1;

@@ -3,9 +3,9 @@ use Rattle.std.proofs.lemmas.Bool.{false≢true}
 use Rattle.live_session.specs.News.{news_of}
 use Rattle.live_session.specs.Saying.{IsShownTo}
 use Rattle.live_session.proofs.OneTurn.{if_some, keeps_on, learns_nothing, learns_on, of_err, same_viewer, shown_numbers}
-use Rattle.live_session.proofs.Refused.{refused_at_too_much, taken_at_end}
+use Rattle.live_session.proofs.RefusedScripts.{refused_at_too_much, taken_at_end}
 use Rattle.live_session.proofs.RunSteps.{costs_at_end, took_nothing, took_on}
-use Rattle.live_session.proofs.Running.{after_turn, all_ended, all_too_much, answered_on, done_fault, has_ended, mail_same, some_on}
+use Rattle.live_session.proofs.SessionRuns.{after_turn, all_ended, all_too_much, answered_on, done_fault, has_ended, mail_same, some_on}
 use Rattle.live_session.proofs.SoFarLaws.{answered_nothing}
 use Rattle.live_session.specs.State.{ends_of}
 use Rattle.session_core.proofs.SoFar.{fault_is}

@@ -2,7 +2,7 @@ use Rattle.std.proofs.Common.{◌-◌}
 use Rattle.live_session.specs.State.{ends_of}
 use Rattle.outer_io.specs.Lines.{input_limit}
 use Rattle.live_session.proofs.RunSteps.{TookSoFar}
-use Rattle.live_session.proofs.Running.{BetweenTurns}
+use Rattle.live_session.proofs.SessionRuns.{BetweenTurns}
 use Rattle.live_session.proofs.session.Session.run.Given as goal
 
 abbrev pub invariant-turns : goal.invariant-turns

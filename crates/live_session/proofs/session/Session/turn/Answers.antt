@@ -14,7 +14,7 @@ use Rattle.query_syntax.specs.Meaning.{asks_valid}
 use Rattle.query_syntax.specs.declared.query.Parsed.{Parsed}
 use Rattle.session_core.specs.Asked.{line_meaning}
 use Rattle.session_core.proofs.SoFar.{fault_is}
-use Rattle.live_session.proofs.Turning.{Keeps, breaks_off, turned_answered, turned_end, turned_ended}
+use Rattle.live_session.proofs.TurnLaws.{Keeps, breaks_off, turned_answered, turned_end, turned_ended}
 use Rattle.live_session.proofs.session.Session.turn.Goals as goal
 
 pub returns-then-self-clause-turned : goal.returns-then-self-clause-turned

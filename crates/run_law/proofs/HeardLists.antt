@@ -1,14 +1,14 @@
 -- What a session has heard, step by step.
-use Rattle.std.proofs.Common.{◌≡◌, ℕ, ◌≤◌, List, [], ◌∷◌, ◌++◌, All, length, length-append, set, Option, Some, None, IfSome, refl, sym, ap, ◌∙◌, subst, arith}
+use Rattle.std.proofs.Common.{◌≡◌, ℕ, ◌≤◌, List, [], ◌∷◌, ◌++◌, All, length, set, Option, Some, None, IfSome, refl, sym, ap, ◌∙◌, subst, arith}
 use Rattle.std.specs.Prelude.{max, slice_get}
 use Rattle.std.proofs.Math.Nat.{max-le}
-use Rattle.std.proofs.Math.Seq.{get_or-append_seam}
 use Rattle.std.proofs.lemmas.List.{map-append}
 use Rattle.std.proofs.lemmas.List.Elements.{All-push, All-set, All-weaker}
 use Rattle.std.proofs.lemmas.Option.{get_or_from_slice_get, slice_get_within}
 use Rattle.mailbox.specs.Ends.{and_taken, lengths_of}
 use Rattle.published_pair.specs.Rules.{Known}
 use Rattle.published_pair.specs.declared.told.Told.{Told}
+use Rattle.world_core.proofs.Lists.{All-middle}
 use Rattle.run_law.specs.Moves.{IsLastIn, having_posted, having_asked}
 use Rattle.run_law.specs.Standing.{HasHeard}
 use Rattle.run_law.specs.Views.{SessionView, last_length, told_to}
@@ -17,12 +17,6 @@ use Rattle.run_law.specs.Views.{SessionView, last_length, told_to}
 pub last_length-push : (n : ℕ) (told : List Known) (list : Known) → last_length n (told ++ list ∷ []) ≡ length list.points
 last_length-push n [] list = refl
 last_length-push n (x ∷ told) list = last_length-push (length x.points) told list
-
--- an element in the midst of a list of which each passes
-all_amid : {X : Type 0} (P : X → Type 0) (xs : List X) (x : X) (ys : List X) → All P (xs ++ x ∷ ys) → P x
-all_amid P xs x ys all =
-    let l = length-append xs (x ∷ ys) in
-    subst P (get_or-append_seam xs x ys x) (all (length xs) x (omega (arith, l)))
 
 -- of a session that was told this last
 all_up_to : {X : Type 0} (size : X → ℕ) (m n : ℕ) (xs : List X) → m ≤ n → All (λ x. size x ≤ m) xs → All (λ x. size x ≤ n) xs
@@ -78,7 +72,7 @@ module _ (p : Known) (session : SessionView) (was : HasHeard p session) where
   last_few : (t : Told) → IsLastIn session t → size_of_told t ≤ told_to session
   last_few t is =
       let lengths : session.put.lengths ≡ lengths_of is.last.before ++ size_of_told t ∷ [] = sym is.lengths ∙ ap lengths_of is.last.last ∙ map-append size_of_told is.last.before (t ∷ []) in
-      all_amid (λ (n : ℕ). n ≤ told_to session) (lengths_of is.last.before) (size_of_told t) [] (subst (All (λ (n : ℕ). n ≤ told_to session)) lengths was.put)
+      All-middle (λ (n : ℕ). n ≤ told_to session) (lengths_of is.last.before) (size_of_told t) [] (subst (All (λ (n : ℕ). n ≤ told_to session)) lengths was.put)
 
   taken_few : (told : Option Told) → IfSome told (IsLastIn session) → All (λ (t : Told). size_of_told t ≤ told_to session) (and_taken session.taken.taken told)
   taken_few None last = was.taken
@@ -92,7 +86,7 @@ module _ (p : Known) (session : SessionView) (was : HasHeard p session) where
   -- what it took last is no longer than what it was told last
   pub taken_last_few : (earlier : List Told) (t : Told) (n : ℕ) → session.taken.taken ≡ earlier ++ t ∷ [] → n ≡ max (length session.learned.points) (length t.front.points) → n ≤ told_to session
   taken_last_few earlier t n last greatest =
-      let few = all_amid (λ (t : Told). size_of_told t ≤ told_to session) earlier t [] (subst (All (λ (t : Told). size_of_told t ≤ told_to session)) last was.taken) in
+      let few = All-middle (λ (t : Told). size_of_told t ≤ told_to session) earlier t [] (subst (All (λ (t : Told). size_of_told t ≤ told_to session)) last was.taken) in
       let both = max-le was.learned few in
       omega (arith, greatest, both)
 

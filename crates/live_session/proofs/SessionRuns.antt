@@ -1,5 +1,5 @@
 -- A session's turns to its end.
-use Rattle.std.proofs.Common.{◌≡◌, ◌≢◌, ℕ, ◌<◌, ◌≤◌, Bool, true, false, List, length, Option, Some, None, inl, inr, refl, sym, ap, ◌∙◌, subst, arith, Result, Ok, Err, IfOk, IsErrOf, IfSome}
+use Rattle.std.proofs.Common.{◌≡◌, ◌≢◌, ℕ, ◌<◌, Bool, true, false, Option, Some, None, inl, inr, refl, sym, ap, ◌∙◌, subst, Result, Ok, Err, IfOk, IsErrOf, IfSome}
 use Rattle.cube_view.specs.declared.schema.Schema.{Schema}
 use Rattle.cube_view.specs.declared.stat.Stat.{Stat}
 use Rattle.live_session.specs.News.{KeepsViewer, LearnsTaken, MayAsk, News, news_of}
@@ -61,15 +61,6 @@ module _ {I O : Type 0} (ends : SessionEnds I O) (is_stat : Stat → Type 0) (ta
 
     still_going : (z : Schema) (r : Result Turn SessionFault) (t : Turn) → t ≢ turn.Ended → r ≡ Ok t → IfOk r (Turned ends z A a b before after) → after.ended ≡ false
     still_going z r t ne is d = turn_goes z t ne (of_ok (Turned ends z A a b before after) r t is d)
-
-    -- it came one line further, within the limit
-    further : (z : Schema) (t : Turn) → t ≢ turn.Ended → Turned ends z A a b before after t → (before.source.given < after.source.given) × (after.source.given ≤ input_limit)
-    further z turn.Skipped ne d = (omega (arith, d.given, ap length d.answer.1), (d.passed d.answer.4).1)
-    further z turn.Replied ne d = (omega (arith, d.given, ap length d.answer.2), (d.passed d.answer.5).1)
-    further z turn.Ended ne d = absurd (ne refl)
-
-    pub came_further : (z : Schema) (r : Result Turn SessionFault) (t : Turn) → t ≢ turn.Ended → r ≡ Ok t → IfOk r (Turned ends z A a b before after) → (before.source.given < after.source.given) × (after.source.given ≤ input_limit)
-    came_further z r t ne is d = further z t ne (of_ok (Turned ends z A a b before after) r t is d)
 
     -- at the end all is answered
     pub all_ended : (z z' : Schema) (r : Result Turn SessionFault) (t : Turn) → z ≡ z' → r ≡ Ok t → t ≡ turn.Ended → before.ended ≡ false → HasAnswered ends z' is_stat final taken start (moment a before) → IfOk r (Turned ends z A a b before after) → AnswersAll ends.left z' start after

@@ -11,7 +11,7 @@ use Rattle.live_session.specs.Turned.{ComesToEnd, HasFaults, IsTurn, Turned}
 use Rattle.live_session.specs.declared.turn.Turn.{Turn}
 use Rattle.live_session.specs.declared.turn.Turn.TheVariants as turn
 use Rattle.live_session.proofs.OneTurn.{as_fault, of_ok}
-use Rattle.live_session.proofs.Turning.{Front}
+use Rattle.live_session.proofs.TurnLaws.{Front}
 use Rattle.outer_io.specs.Cutting.{Cutter, input_size, lines_left}
 use Rattle.outer_io.specs.Lines.{Line, input_limit}
 use Rattle.outer_io.specs.Progress.{IsWithinLimit, Passes}
