@@ -11,3 +11,7 @@ pub mod Compared
 pub mod Reading
 pub mod Auditing
 pub mod Asking
+mod Appended
+mod AuditTexts
+mod Puts
+mod Ends

@@ -4,3 +4,9 @@ pub mod Counting
 pub mod Verdicts
 pub mod Reading
 pub mod Comparing
+pub mod Names
+pub mod Audits
+pub mod VerdictLines
+pub mod Said
+pub mod AuditTexts
+pub mod Ends

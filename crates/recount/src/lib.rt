@@ -4,8 +4,13 @@
 //! journal's text (`feed_queue`), interleavings (`world_core`) and transcripts (`session_core`), which are what a run
 //! claims of its files; and what is found where they do not in `specs/Faults.antt`. The journal is read line by line;
 //! then each reply is compared with the one that `session_core` serves over a `plain_cube`, which grows with the number
-//! of points that the replies print, so each table takes a scan of the points that it has seen. Reading files, and what
-//! a program writes of a verdict, are left to the crates above.
+//! of points that the replies print, so each table takes a scan of the points that it has seen.
+//!
+//! [`recount_files`] is the form `recount PLAN JOURNAL SCRIPT REPLIES` of the program. It reads the plan as a run does,
+//! opens the other three files in order and reads them whole, decides by [`check`] whether they agree, and puts one line
+//! that says so: `specs/VerdictLines.antt`. It creates nothing, and how it ends is the record `RecountEnds` of
+//! `specs/Ends.antt`. The first trouble ends it. It stands on `run_files` for the plan and for reading files. Which words
+//! ask for it, and which exit code an end has, is left to the crates above.
 //!
 //! ```
 //! let journal = b"1 0 0 0 0 0\n1 1 7 7 1 1\n";
@@ -15,16 +20,24 @@
 #![tactic(auto)]
 
 mod asked;
+mod audit;
 mod checking;
 mod comparing;
 mod entries;
 mod journal;
 mod lines;
+mod recounting;
 mod replies;
+mod saying;
 mod testing;
+mod texts;
 mod verdict;
+mod verdict_lines;
 
 pub use asked::asked_of;
+pub use audit::Audit;
 pub use checking::check;
+pub use recounting::recount_files;
 pub use replies::{NextReply, next_reply};
+pub use texts::RecountNames;
 pub use verdict::{Verdict, Why};

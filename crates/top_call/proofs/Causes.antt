@@ -8,10 +8,10 @@ use Rattle.image_run.specs.Faults.{HasLoadFaults}
 use Rattle.image_run.specs.Names.{ImageNames}
 use Rattle.image_run.specs.declared.end.ImageEnd.{ImageEnd}
 use Rattle.image_run.specs.declared.end.ImageEnd.TheVariants as image
-use Rattle.recount_run.specs.Ends.{RecountEnds, SaysAudit}
-use Rattle.recount_run.specs.Names.{AuditNames}
-use Rattle.recount_run.specs.declared.audit.Audit.{Audit}
-use Rattle.recount_run.specs.declared.audit.Audit.TheVariants as audit
+use Rattle.recount.specs.Ends.{RecountEnds, SaysAudit}
+use Rattle.recount.specs.Names.{AuditNames}
+use Rattle.recount.specs.declared.audit.Audit.{Audit}
+use Rattle.recount.specs.declared.audit.Audit.TheVariants as audit
 use Rattle.run_files.specs.Counts.{CountsAt}
 use Rattle.run_files.specs.Outside.{at, PlaceSeen, Puts, SinkSeen}
 use Rattle.run_files.specs.declared.stop.Stop.{Stop}

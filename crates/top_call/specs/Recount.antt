@@ -1,15 +1,15 @@
 -- The form `recount PLAN JOURNAL SCRIPT REPLIES`: one session's transcript is checked against the journal.
 use Rattle.std.specs.Prelude.{◌≡◌, ℕ, ◌&&◌, ◌==◌, get_or, if◌then◌else◌, List, [], length, Option, Some, None, Result, Ok, Err, codes}
+use Rattle.cube_view.specs.Limits.{same_text}
+use Rattle.recount.specs.Ends.{RecountEnds}
+use Rattle.recount.specs.Names.{AuditNames}
+use Rattle.recount.specs.declared.audit.Audit.{Audit}
+use Rattle.recount.specs.declared.audit.Audit.TheVariants as audit
+use Rattle.run_files.specs.Outside.{PlaceSeen, SinkSeen}
+use Rattle.run_files.specs.declared.stop.Stop.{Stop}
 use Rattle.top_call.specs.Statuses.{status_of_stop}
 use Rattle.top_call.specs.declared.status.Status.{Status}
 use Rattle.top_call.specs.declared.status.Status.TheVariants.{Done, Differs}
-use Rattle.cube_view.specs.Limits.{same_text}
-use Rattle.recount_run.specs.Ends.{RecountEnds}
-use Rattle.recount_run.specs.Names.{AuditNames}
-use Rattle.recount_run.specs.declared.audit.Audit.{Audit}
-use Rattle.recount_run.specs.declared.audit.Audit.TheVariants as audit
-use Rattle.run_files.specs.Outside.{PlaceSeen, SinkSeen}
-use Rattle.run_files.specs.declared.stop.Stop.{Stop}
 
 -- the names of the four files, where the words are of this form
 abbrev pub recount_names : List (List ℕ) → Option AuditNames

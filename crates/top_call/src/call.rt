@@ -1,5 +1,9 @@
 //! The top call.
 ghost use Rattle.std.specs.Prelude.{◌≡◌, ◌≤◌, ◌↔◌, map, string_bytes};
+ghost use Rattle.image_run.specs.Names.{image_names};
+ghost use Rattle.recount.specs.Names.{audit_names};
+ghost use Rattle.run_files.specs.Outside.{of_place, of_sink};
+ghost use Rattle.save_run.specs.Names.{saving};
 ghost use Rattle.top_call.specs.Big.{BigRunEnds, IfBig, most_generated_rows};
 ghost use Rattle.top_call.specs.Demo.{DemoRunEnds, IfDemo, demo_of};
 ghost use Rattle.top_call.specs.Load.{IfLoad, ImageLoadEnds};
@@ -8,10 +12,6 @@ ghost use Rattle.top_call.specs.Recount.{AuditEnds, IfRecount};
 ghost use Rattle.top_call.specs.Run.{IfRun, PlanRunEnds};
 ghost use Rattle.top_call.specs.Save.{IfSave, ImageSaveEnds};
 ghost use Rattle.top_call.specs.Words.{AreNoForm};
-ghost use Rattle.image_run.specs.Names.{image_names};
-ghost use Rattle.recount_run.specs.Names.{audit_names};
-ghost use Rattle.run_files.specs.Outside.{of_place, of_sink};
-ghost use Rattle.save_run.specs.Names.{saving};
 
 use crate::demo::run_demo;
 use crate::line_words::{big_rows, demo_files, load_names, recount_names, run_file, save_names};
@@ -20,7 +20,7 @@ use big_run::run_big;
 use image_run::{LoadNames, load_files};
 use outer_io::{Place, Sink};
 use plan_run::run_plan;
-use recount_run::{RecountNames, recount_files};
+use recount::{RecountNames, recount_files};
 use save_run::save_files;
 use std::alloc::Global;
 use std::sync::Wait;

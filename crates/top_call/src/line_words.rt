@@ -1,7 +1,7 @@
 //! What the words of a command line ask for.
 ghost use Rattle.std.specs.Prelude.{◌≡◌, ◌≤◌, IfSome, map, option_map, string_bytes};
 ghost use Rattle.image_run.specs.Names.{image_names};
-ghost use Rattle.recount_run.specs.Names.{audit_names};
+ghost use Rattle.recount.specs.Names.{audit_names};
 ghost use Rattle.save_run.specs.Names.{saving};
 ghost use Rattle.top_call.specs.Big.{big_rows, most_generated_rows, generated_rows_of};
 ghost use Rattle.top_call.specs.Demo.{demo_names, demo_of};
@@ -13,7 +13,7 @@ ghost use Rattle.top_call.specs.Save.{save_names};
 use cube_view::is_same_text;
 use image_run::LoadNames;
 use outer_io::decimal_of;
-use recount_run::RecountNames;
+use recount::RecountNames;
 
 /// The most rows of a generated feed.
 const MOST_ROWS: u64 = 100_000;

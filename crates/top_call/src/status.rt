@@ -4,7 +4,7 @@ ghost use Rattle.top_call.specs.Recount.{status_of_audit};
 ghost use Rattle.top_call.specs.Statuses.{code_of, status_of_end, status_of_image};
 
 use image_run::ImageEnd;
-use recount_run::Audit;
+use recount::Audit;
 use run_files::Stop;
 
 /// How a run ended. Where several hold at the end, [`Stop`] has the order in which one is answered.

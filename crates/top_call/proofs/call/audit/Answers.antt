@@ -1,6 +1,6 @@
 use Rattle.std.proofs.Common.{◌≡◌}
+use Rattle.recount.specs.Names.{audit_names}
 use Rattle.run_files.specs.Outside.{of_place, of_sink}
-use Rattle.recount_run.specs.Names.{audit_names}
 use Rattle.top_call.proofs.Causes.{audit_causes}
 use Rattle.top_call.proofs.call.audit.Goals as goal
 

@@ -1,9 +1,9 @@
 //! The line of a verdict.
 ghost use Rattle.std.specs.Prelude.{◌≡◌, ◌++◌, IfOk, OnOk, string_bytes};
-ghost use Rattle.recount_run.specs.Lines.{agree_line, verdict_line, without_line, why_text};
+ghost use Rattle.recount.specs.VerdictLines.{agree_line, verdict_line, without_line, why_text};
 
+use crate::{Verdict, Why};
 use outer_io::{List, NoMemory};
-use recount::{Verdict, Why};
 use std::alloc::{AllocError, Global};
 
 /// The name of a test.
@@ -23,7 +23,7 @@ fn why_name(why: Why) -> &'static str
 }
 
 /// Appends how many replies are the line for want of memory.
-#[tactic(auto, unfolding(crate::specs::Lines::without_line))]
+#[tactic(auto, unfolding(crate::specs::VerdictLines::without_line))]
 fn push_without(text: &mut String, without: u64) -> Result<(), AllocError>
     ensures { OnOk result (string_bytes text.new ≡ string_bytes text.old ++ without_line without) }
 {
@@ -31,7 +31,7 @@ fn push_without(text: &mut String, without: u64) -> Result<(), AllocError>
 }
 
 /// Appends the line of texts that agree.
-#[tactic(auto, unfolding(crate::specs::Lines::agree_line))]
+#[tactic(auto, unfolding(crate::specs::VerdictLines::agree_line))]
 fn push_agree(text: &mut String, replies: u64, without: u64) -> Result<(), AllocError>
     ensures { OnOk result (string_bytes text.new ≡ string_bytes text.old ++ agree_line replies without) }
 {
@@ -40,7 +40,7 @@ fn push_agree(text: &mut String, replies: u64, without: u64) -> Result<(), Alloc
 }
 
 /// Appends the line of a verdict.
-#[tactic(auto, unfolding(crate::specs::Lines::verdict_line))]
+#[tactic(auto, unfolding(crate::specs::VerdictLines::verdict_line))]
 fn push_verdict(text: &mut String, verdict: Verdict) -> Result<(), AllocError>
     ensures { OnOk result (string_bytes text.new ≡ string_bytes text.old ++ verdict_line verdict) }
 {

@@ -1,10 +1,10 @@
 use Rattle.std.proofs.Common.{List, Result, ℕ, subst, sym, arith}
+use Rattle.run_files.proofs.Apart.{residual_is}
 use Rattle.run_files.specs.Outside.{of_place}
 use Rattle.run_files.specs.declared.stop.Stop.{Stop}
-use Rattle.recount_run.specs.Reading.{ReadsText}
-use Rattle.recount_run.proofs.Reading.{text_ended, text_read, text_refused}
-use Rattle.run_files.proofs.Apart.{residual_is}
-use Rattle.recount_run.proofs.texts.read_text.Goals as goal
+use Rattle.recount.specs.AuditTexts.{ReadsText}
+use Rattle.recount.proofs.AuditTexts.{text_ended, text_read, text_refused}
+use Rattle.recount.proofs.texts.read_text.Goals as goal
 
 pub returns-in_err-bytes : goal.returns-in_err-bytes
 returns-in_err-bytes g c =

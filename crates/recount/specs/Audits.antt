@@ -1,8 +1,8 @@
 -- What is answered of a verdict.
 use Rattle.recount.specs.declared.verdict.Verdict.{Verdict}
 use Rattle.recount.specs.declared.verdict.Verdict.TheVariants as verdict
-use Rattle.recount_run.specs.declared.audit.Audit.{Audit}
-use Rattle.recount_run.specs.declared.audit.Audit.TheVariants.{Agrees, Differs}
+use Rattle.recount.specs.declared.audit.Audit.{Audit}
+use Rattle.recount.specs.declared.audit.Audit.TheVariants.{Agrees, Differs}
 
 -- whether it is that the texts agree
 abbrev pub audit_of : Verdict → Audit

@@ -1,5 +1,5 @@
 -- Texts that were read whole.
-use Rattle.std.proofs.Common.{◌≡◌, ◌≢◌, ℕ, ◌+◌, ◌≤◌, ◌<◌, List, [], ◌∷◌, length, take, Option, Some, None, Ok, Err, inl, inr, ◌∙◌, ap, subst, arith}
+use Rattle.std.proofs.Common.{◌≡◌, ◌≢◌, ℕ, ◌+◌, ◌≤◌, ◌<◌, List, [], ◌∷◌, length, take, Option, Some, None, Ok, Err, inl, inr, ◌∙◌, ap, subst}
 use Rattle.outer_io.specs.Files.{Files, file_or_empty}
 use Rattle.outer_io.specs.Lines.{input_limit}
 use Rattle.outer_io.specs.Told.{Told}
@@ -10,8 +10,8 @@ use Rattle.run_files.specs.Leaving.{LeavesPlace}
 use Rattle.run_files.specs.Outside.{file_of, PlaceSeen}
 use Rattle.run_files.specs.declared.stop.Stop.{Stop}
 use Rattle.run_files.specs.declared.stop.Stop.TheVariants.{PlanRefused, WriteFault, FeedRefused}
-use Rattle.recount_run.specs.Reading.{IsOneLong, ReadsText, ReadsTexts}
-use Rattle.recount_run.specs.declared.texts.Texts.{Texts}
+use Rattle.recount.specs.AuditTexts.{IsOneLong, ReadsText, ReadsTexts}
+use Rattle.recount.specs.declared.texts.Texts.{Texts}
 
 -- what holds of a file that is told holds of its bytes
 pub told_of : (o : Option Files) (files : Files) (name : List ℕ) (Q : List ℕ → Type 0) → o ≡ Some files → Told (file_of o name) Q → Q (file_or_empty files name)

@@ -2,10 +2,10 @@ use Rattle.std.proofs.Common.{Result, subst, sym}
 use Rattle.run_files.proofs.Apart.{residual_is}
 use Rattle.run_files.specs.Outside.{of_sink}
 use Rattle.run_files.specs.declared.stop.Stop.{Stop}
-use Rattle.recount_run.proofs.Puts.{decided_under, said, unsaid}
-use Rattle.recount_run.specs.Said.{AuditsTexts}
-use Rattle.recount_run.specs.declared.audit.Audit.{Audit}
-use Rattle.recount_run.proofs.recounting.audit_texts.Goals as goal
+use Rattle.recount.proofs.Puts.{decided_under, said, unsaid}
+use Rattle.recount.specs.Said.{AuditsTexts}
+use Rattle.recount.specs.declared.audit.Audit.{Audit}
+use Rattle.recount.proofs.recounting.audit_texts.Goals as goal
 
 pub returns-in_err-say_verdict-in-Ok : goal.returns-in_err-say_verdict-in-Ok
 returns-in_err-say_verdict-in-Ok g c =

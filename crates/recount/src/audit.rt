@@ -1,8 +1,8 @@
 //! What an audit of files answers.
 ghost use Rattle.std.specs.Prelude.{◌≡◌};
-ghost use Rattle.recount_run.specs.Audits.{audit_of};
+ghost use Rattle.recount.specs.Audits.{audit_of};
 
-use recount::Verdict;
+use crate::Verdict;
 
 /// Whether a journal, a script and the replies to it agree.
 #[derive(Clone, Copy, PartialEq, Eq, Debug)]

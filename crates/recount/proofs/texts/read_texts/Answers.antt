@@ -1,11 +1,11 @@
 use Rattle.std.proofs.Common.{Result, subst, sym}
+use Rattle.run_files.proofs.Apart.{residual_is}
 use Rattle.run_files.specs.Outside.{of_place}
 use Rattle.run_files.specs.declared.stop.Stop.{Stop}
-use Rattle.recount_run.specs.Reading.{ReadsTexts}
-use Rattle.recount_run.specs.declared.texts.Texts.{Texts}
-use Rattle.recount_run.proofs.Reading.{ended_by_journal, ended_by_replies, ended_by_script, read_all}
-use Rattle.run_files.proofs.Apart.{residual_is}
-use Rattle.recount_run.proofs.texts.read_texts.Goals as goal
+use Rattle.recount.specs.AuditTexts.{ReadsTexts}
+use Rattle.recount.specs.declared.texts.Texts.{Texts}
+use Rattle.recount.proofs.AuditTexts.{ended_by_journal, ended_by_replies, ended_by_script, read_all}
+use Rattle.recount.proofs.texts.read_texts.Goals as goal
 
 pub returns-in_err-journal : goal.returns-in_err-journal
 returns-in_err-journal g c =

@@ -1,9 +1,9 @@
 use Rattle.std.proofs.Common.{[], ◌∷◌, append_assoc, sym}
 use Rattle.std.specs.Fmt.{decimal}
 use Rattle.std.specs.Prelude.{codes, string_bytes}
-use Rattle.recount_run.proofs.Appended.{appended_as}
-use Rattle.recount_run.specs.Lines.{without_line}
-use Rattle.recount_run.proofs.lines.push_without.Goals as goal
+use Rattle.recount.proofs.Appended.{appended_as}
+use Rattle.recount.specs.VerdictLines.{without_line}
+use Rattle.recount.proofs.verdict_lines.push_without.Goals as goal
 
 pub returns : goal.returns
 unfolding without_line

@@ -6,19 +6,19 @@ use Rattle.cube_schema.specs.declared.fault.PlanFault.{PlanFault}
 use Rattle.cube_schema.specs.declared.plan.Plan.{Plan}
 use Rattle.outer_io.specs.Faults.{Rose}
 use Rattle.outer_io.specs.Files.{Files, file_or_empty}
-use Rattle.recount.specs.declared.verdict.Verdict.{Verdict}
 use Rattle.run_files.specs.Leaving.{LeavesPlace}
 use Rattle.run_files.specs.Outside.{FailsToPut, file_of, PlaceSeen, Puts, Silent, SinkSeen}
 use Rattle.run_files.specs.Planned.{HasNoPlan, IsPlanOf, RefusesPlan}
 use Rattle.run_files.specs.Stops.{IsDoneOrLacks}
 use Rattle.run_files.specs.declared.stop.Stop.{Stop}
 use Rattle.run_files.specs.declared.stop.Stop.TheVariants.{PlanRefused, WriteFault, FeedRefused}
-use Rattle.recount_run.specs.Audits.{audit_of}
-use Rattle.recount_run.specs.Lines.{verdict_line}
-use Rattle.recount_run.specs.Names.{AuditNames}
-use Rattle.recount_run.specs.Reading.{AreShort, IsOneLong}
-use Rattle.recount_run.specs.Said.{HasVerdictUnder}
-use Rattle.recount_run.specs.declared.audit.Audit.{Audit}
+use Rattle.recount.specs.declared.verdict.Verdict.{Verdict}
+use Rattle.recount.specs.Audits.{audit_of}
+use Rattle.recount.specs.VerdictLines.{verdict_line}
+use Rattle.recount.specs.Names.{AuditNames}
+use Rattle.recount.specs.AuditTexts.{AreShort, IsOneLong}
+use Rattle.recount.specs.Said.{HasVerdictUnder}
+use Rattle.recount.specs.declared.audit.Audit.{Audit}
 
 -- The verdict is the one that these bytes have as a plan, a journal, a script and replies
 pub record IsVerdictOf (text journal script replies : List ℕ) (v : Verdict) : Type 0 where

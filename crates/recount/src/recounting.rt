@@ -1,18 +1,18 @@
 //! The audit of a session's transcript, from files.
 ghost use Rattle.std.specs.Prelude.{◌≤◌, length};
 ghost use Rattle.run_files.specs.Outside.{of_place, of_sink};
-ghost use Rattle.recount_run.specs.Ends.{RecountEnds};
-ghost use Rattle.recount_run.specs.Names.{audit_names};
-ghost use Rattle.recount_run.specs.Reading.{AreShort};
-ghost use Rattle.recount_run.specs.Said.{AuditsTexts};
+ghost use Rattle.recount.specs.Ends.{RecountEnds};
+ghost use Rattle.recount.specs.Names.{audit_names};
+ghost use Rattle.recount.specs.AuditTexts.{AreShort};
+ghost use Rattle.recount.specs.Said.{AuditsTexts};
 
 use crate::audit::audit_of;
+use crate::checking::check;
 use crate::saying::say_verdict;
 use crate::texts::{Texts, read_texts};
 use crate::{Audit, RecountNames};
 use cube_schema::Plan;
 use outer_io::{NoMemory, Place, Sink};
-use recount::check;
 use run_files::{Stop, load_plan};
 use std::alloc::Global;
 

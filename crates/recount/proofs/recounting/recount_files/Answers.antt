@@ -1,13 +1,13 @@
 use Rattle.std.proofs.Common.{Result, subst, sym}
+use Rattle.run_files.proofs.Apart.{residual_is}
 use Rattle.run_files.specs.Outside.{of_place, of_sink, PlaceSeen, SinkSeen}
 use Rattle.run_files.specs.declared.stop.Stop.{Stop}
-use Rattle.recount_run.specs.Ends.{RecountEnds}
-use Rattle.recount_run.specs.Names.{audit_names}
-use Rattle.recount_run.specs.declared.audit.Audit.{Audit}
-use Rattle.recount_run.proofs.Ends.{ended_by_plan, ended_by_saying, ended_by_texts}
-use Rattle.run_files.proofs.Apart.{residual_is}
-use Rattle.recount_run.proofs.recounting.recount_files.Given.{Over}
-use Rattle.recount_run.proofs.recounting.recount_files.Goals as goal
+use Rattle.recount.specs.Ends.{RecountEnds}
+use Rattle.recount.specs.Names.{audit_names}
+use Rattle.recount.specs.declared.audit.Audit.{Audit}
+use Rattle.recount.proofs.Ends.{ended_by_plan, ended_by_saying, ended_by_texts}
+use Rattle.recount.proofs.recounting.recount_files.Given.{Over}
+use Rattle.recount.proofs.recounting.recount_files.Goals as goal
 
 -- what is seen of the place
 abbrev place_of : (g : Over) → PlaceSeen g.row.P.Denot

@@ -1,17 +1,17 @@
 -- What is put of a verdict.
 use Rattle.std.specs.Prelude.{◌≡◌, ◌⊎◌, ◌↔◌, ℕ, List, length, Result, Err, IfOk}
 use Rattle.cube_schema.specs.declared.plan.Plan.{Plan}
-use Rattle.recount.specs.Agreement.{IsAgreement}
-use Rattle.recount.specs.Verdicts.{HasVerdict, IsAgree}
-use Rattle.recount.specs.declared.verdict.Verdict.{Verdict}
 use Rattle.run_files.specs.Outside.{Silent, SinkSeen}
 use Rattle.run_files.specs.Saying.{SaysText}
 use Rattle.run_files.specs.declared.stop.Stop.{Stop}
 use Rattle.run_files.specs.declared.stop.Stop.TheVariants.{NoMemory}
-use Rattle.recount_run.specs.Audits.{audit_of}
-use Rattle.recount_run.specs.Lines.{verdict_line}
-use Rattle.recount_run.specs.declared.audit.Audit.{Audit}
-use Rattle.recount_run.specs.declared.texts.Texts.{Texts}
+use Rattle.recount.specs.Agreement.{IsAgreement}
+use Rattle.recount.specs.Verdicts.{HasVerdict, IsAgree}
+use Rattle.recount.specs.declared.verdict.Verdict.{Verdict}
+use Rattle.recount.specs.Audits.{audit_of}
+use Rattle.recount.specs.VerdictLines.{verdict_line}
+use Rattle.recount.specs.declared.audit.Audit.{Audit}
+use Rattle.recount.specs.declared.texts.Texts.{Texts}
 
 -- The verdict is the one that a journal, a script and replies have under a plan
 pub record HasVerdictUnder (plan : Plan) (journal script replies : List ℕ) (v : Verdict) : Type 0 where

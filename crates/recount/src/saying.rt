@@ -1,11 +1,11 @@
 //! What is said of a verdict.
 ghost use Rattle.run_files.specs.Outside.{of_sink};
 ghost use Rattle.run_files.specs.Saying.{SaysText};
-ghost use Rattle.recount_run.specs.Lines.{verdict_line};
+ghost use Rattle.recount.specs.VerdictLines.{verdict_line};
 
-use crate::lines::verdict_line;
+use crate::Verdict;
+use crate::verdict_lines::verdict_line;
 use outer_io::Sink;
-use recount::Verdict;
 use run_files::{Stop, put_text};
 use std::alloc::Global;
 

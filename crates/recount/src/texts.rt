@@ -1,6 +1,6 @@
 //! The three texts of an audit, read whole.
 ghost use Rattle.run_files.specs.Outside.{of_place};
-ghost use Rattle.recount_run.specs.Reading.{ReadsText, ReadsTexts};
+ghost use Rattle.recount.specs.AuditTexts.{ReadsText, ReadsTexts};
 
 use outer_io::{List, Place};
 use run_files::{Stop, read_file};

@@ -2,18 +2,18 @@
 use Rattle.std.proofs.Common.{◌≡◌, ℕ, List, length, Ok, Err, inl, subst}
 use Rattle.std.specs.Prelude.{◌↔◌}
 use Rattle.cube_schema.specs.declared.plan.Plan.{Plan}
-use Rattle.recount.specs.Agreement.{IsAgreement}
-use Rattle.recount.specs.Verdicts.{HasVerdict, IsAgree}
-use Rattle.recount.specs.declared.verdict.Verdict.{Verdict}
 use Rattle.run_files.proofs.Putting.{says_done, says_ended}
 use Rattle.run_files.specs.Outside.{SinkSeen}
 use Rattle.run_files.specs.Saying.{SaysText}
 use Rattle.run_files.specs.declared.stop.Stop.{Stop}
-use Rattle.recount_run.specs.Audits.{audit_of}
-use Rattle.recount_run.specs.Lines.{verdict_line}
-use Rattle.recount_run.specs.Said.{AuditsTexts, HasVerdictUnder}
-use Rattle.recount_run.specs.declared.audit.Audit.{Audit}
-use Rattle.recount_run.specs.declared.texts.Texts.{Texts}
+use Rattle.recount.specs.Agreement.{IsAgreement}
+use Rattle.recount.specs.Verdicts.{HasVerdict, IsAgree}
+use Rattle.recount.specs.declared.verdict.Verdict.{Verdict}
+use Rattle.recount.specs.Audits.{audit_of}
+use Rattle.recount.specs.VerdictLines.{verdict_line}
+use Rattle.recount.specs.Said.{AuditsTexts, HasVerdictUnder}
+use Rattle.recount.specs.declared.audit.Audit.{Audit}
+use Rattle.recount.specs.declared.texts.Texts.{Texts}
 
 -- what is decided of a verdict, for so many feeders
 abbrev Decided : Plan → ℕ → List ℕ → List ℕ → List ℕ → Verdict → Type 0

@@ -1,12 +1,11 @@
 -- How an audit ends, by how its stages ended.
-use Rattle.std.proofs.Common.{◌≡◌, ◌≢◌, ◌⊎◌, ℕ, true, false, ◌≤◌, List, [], ◌∷◌, length, Option, Some, None, Result, Ok, Err, inl, inr, refl, sym, ◌∙◌, ap, subst, arith}
+use Rattle.std.proofs.Common.{◌≡◌, ◌≢◌, ◌⊎◌, ℕ, ◌≤◌, List, [], ◌∷◌, length, Option, Some, None, Result, Ok, Err, inl, inr, refl, sym, ◌∙◌, ap, subst, arith}
 use Rattle.std.specs.Prelude.{IsOk, is_ok}
 use Rattle.cube_schema.specs.Meaning.{plan_meaning}
 use Rattle.cube_schema.specs.declared.fault.PlanFault.{PlanFault}
 use Rattle.cube_schema.specs.declared.plan.Plan.{Plan}
 use Rattle.outer_io.specs.Files.{Files, file_or_empty}
 use Rattle.outer_io.specs.Lines.{input_limit}
-use Rattle.recount.specs.declared.verdict.Verdict.{Verdict}
 use Rattle.run_files.proofs.Apart.{err_is, ok_not_err, same_stop, stopped}
 use Rattle.run_files.proofs.Fronts.{no_fault}
 use Rattle.run_files.proofs.PlanReads.{plan_end}
@@ -17,14 +16,15 @@ use Rattle.run_files.specs.Outside.{FailsToPut, file_of, PlaceSeen, Silent, Sink
 use Rattle.run_files.specs.Planned.{IsPlanOf, ReadsPlan}
 use Rattle.run_files.specs.declared.stop.Stop.{Stop}
 use Rattle.run_files.specs.declared.stop.Stop.TheVariants.{NoMemory, PlanRefused, ReadFault, WriteFault, FeedRefused}
-use Rattle.recount_run.proofs.Reading.{told_of}
-use Rattle.recount_run.specs.Ends.{HasNoTexts, IsVerdictOf, RecountEnds}
-use Rattle.recount_run.specs.Lines.{verdict_line}
-use Rattle.recount_run.specs.Names.{AuditNames}
-use Rattle.recount_run.specs.Reading.{AreShort, IsOneLong, ReadsTexts}
-use Rattle.recount_run.specs.Said.{AuditsTexts, HasVerdictUnder, SaysVerdict}
-use Rattle.recount_run.specs.declared.audit.Audit.{Audit}
-use Rattle.recount_run.specs.declared.texts.Texts.{Texts}
+use Rattle.recount.specs.declared.verdict.Verdict.{Verdict}
+use Rattle.recount.proofs.AuditTexts.{told_of}
+use Rattle.recount.specs.Ends.{HasNoTexts, IsVerdictOf, RecountEnds}
+use Rattle.recount.specs.VerdictLines.{verdict_line}
+use Rattle.recount.specs.Names.{AuditNames}
+use Rattle.recount.specs.AuditTexts.{AreShort, IsOneLong, ReadsTexts}
+use Rattle.recount.specs.Said.{AuditsTexts, HasVerdictUnder, SaysVerdict}
+use Rattle.recount.specs.declared.audit.Audit.{Audit}
+use Rattle.recount.specs.declared.texts.Texts.{Texts}
 
 -- texts of which one is long are not short
 not_both : (j q r : List ℕ) → AreShort j q r → IsOneLong j q r → ⊥

@@ -1,4 +1,0 @@
-mod Appended
-mod Reading
-mod Puts
-mod Ends
