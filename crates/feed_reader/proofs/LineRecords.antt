@@ -1,5 +1,5 @@
 -- From the reads of a line to its one record.
-use Rattle.std.proofs.Common.{◌≡◌, ◌∙◌, refl, ℕ, true, false, List, [], ◌∷◌, length, get_or, ◌<◌, zero, suc, Option, Some, None, add-one, arith}
+use Rattle.std.proofs.Common.{Bool, ◌≡◌, ◌∙◌, refl, ℕ, true, false, List, [], ◌∷◌, length, get_or, ◌<◌, zero, suc, Option, Some, None, add-one, arith}
 use Rattle.csv.specs.Machine.{Read, ends_with, next_record}
 use Rattle.csv.specs.Reading.{NextIs, ReadRecord, ReadsNext, default_config, pending_of, records, records_from, source_of, strip_bom}
 use Rattle.csv.specs.Records.{field_at}

@@ -6,7 +6,7 @@
 //! which event of the machine it is, or that it is none. [`run_laws`] has the law as its contract: the world that these events
 //! make stands where the run does (`specs/Standing.antt`). Which steps a step of the builder's work is stands in
 //! `specs/Works.antt`, and which a turn of a session is in `specs/Turns.antt`. The crate stands on those crates, on
-//! `builder_core`, on `live_session` and on `world_core`. Which steps a run takes, and in which order, is left to the threads.
+//! `live_session` and on `world_core`. Which steps a run takes, and in which order, is left to the threads.
 //!
 //! ```text
 //! [SendEntry(1), DrawEntry, Publish, Tell(0), Look(0, count)]  // the builder's batch is 1

@@ -3,12 +3,11 @@ use Rattle.std.proofs.Common.{◌≡◌, ℕ, zero, suc, ◌+◌, ◌-◌, ◌/�
 use Rattle.std.specs.Prelude.{count_by}
 use Rattle.std.specs.List.{flat_map, list_any, sum_by}
 use Rattle.std.proofs.Math.Nat.{div-eq_of_lt}
-use Rattle.std.proofs.lemmas.Bool.{both_ways, lt-ltb}
+use Rattle.std.proofs.lemmas.Bool.{both_ways, cond_both, lt-ltb}
 use Rattle.std.proofs.lemmas.List.Sums.{sum_by-cons}
 use Rattle.cube_view.proofs.OneWeight.{one_if}
 use Rattle.cube_view.specs.Places.{longer_tile, quadrant_at}
 use Rattle.cube_view.specs.declared.address.Tile.{Tile}
-use Rattle.query_syntax.proofs.FilterSteps.{one_if-le}
 use Rattle.query_syntax.specs.Queries.{whole_space}
 use Rattle.query_syntax.specs.TileOrder.{quadrants}
 use Rattle.query_walk.proofs.Addresses.{sum_by-flat_map}
@@ -95,7 +94,7 @@ one_if_any false = refl
 pub apart : (depth : ℕ) (r : Rect) (x y : ℕ) → count_by (λ t. holds depth t x y) (cover depth r) ≤ 1
 apart depth r x y =
     let e = held_in_all depth r x y in
-    let le = one_if-le (holds depth whole_space x y && has_place r x y) in
+    let le : one_if (holds depth whole_space x y && has_place r x y) ≤ 1 = cond_both (holds depth whole_space x y && has_place r x y) 1 0 (λ n. n ≤ 1) (λ held. omega arith) (λ free. omega arith) in
     omega (arith, e, le)
 
 pub whole_holds : (depth x y : ℕ) → x < 2 ^ depth → y < 2 ^ depth → holds depth whole_space x y ≡ true

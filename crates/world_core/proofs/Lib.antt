@@ -4,7 +4,6 @@ pub mod FeederSums
 pub mod Interleavings
 pub mod Lightness
 pub mod Lists
-pub mod Lists
 mod MachineEvents
 pub mod Prefixes
 pub mod SameTables

@@ -15,7 +15,7 @@ use Rattle.world_core.specs.Interleaving.{entry_points, list_of, IsInterleaving,
 use Rattle.world_core.specs.Worlds.{pushed_of, KeepsOrder}
 use Rattle.world_core.specs.declared.world.World.{World}
 use Rattle.world_core.proofs.Interleavings.{prefixes_interleave, amounts_interleave}
-use Rattle.world_core.proofs.Worlds.{IsPrefix-then, IsPrefix-take}
+use Rattle.world_core.proofs.Prefixes.{IsPrefix-take, IsPrefix-then}
 
 -- a sum over the feeders is at most so often the most of one
 sum_of_feeders-most : (feeders most : ℕ) (n : ℕ → ℕ) → ((f : ℕ) → 1 ≤ f → f ≤ feeders → n f ≤ most) → sum_of_feeders feeders n ≤ feeders * most
