@@ -144,7 +144,6 @@ impl<V: Grow> PublisherOf<Of<V>> {
         }
     }
 
-    #[tactic(auto, using(crate::proofs::Prefixes::prefix_self))]
     /// Shows viewers each point that was appended, and answers how many there are. After a refusal they see what they saw.
     pub fn publish<R: Wait>(&mut self, rt: &R) -> Result<u64, NoMemory>
         ensures published { IfOk result (λ n. (self.new.published.points ≡ self.old.appended.items) × (n ≡ length self.old.appended.items)) }

@@ -10,6 +10,7 @@ pub mod Counting
 pub mod Entries
 pub mod Formed
 pub mod Joined
+pub mod KeyTests
 pub mod Lasts
 pub mod Lessened
 pub mod Mapped

@@ -6,7 +6,7 @@ use Rattle.std.proofs.lemmas.Bool.{cases_lt}
 use Rattle.std.proofs.lemmas.List.{length-append, length-map, length-set, take_all, drop_all, get_or-drop, length-drop}
 use Rattle.std.proofs.lemmas.List.Elements.{All-nil, All-cons, All-head, All-tail, All-weaker, All-more, All-map, All-append}
 use Rattle.std.proofs.lemmas.List.FromFn.{fill_by_all}
-use Rattle.std.proofs.lemmas.List.Sums.{sum_by-cons}
+use Rattle.std.proofs.lemmas.List.Sums.{sum_by-cons, sum_by_more_le}
 use Rattle.probe_core.specs.Bits.{bits}
 use Rattle.probe_core.specs.Places.{IsPlace}
 use Rattle.time_table.specs.declared.row.Row.{Row}
@@ -139,6 +139,19 @@ length-flat-sum before (b ∷ bs) =
     let here = length-map b.items (raised before) in
     let sum = sum_by-cons (λ (x : Block). length x.items) b bs in
     omega (arith, rest, both, here, sum)
+
+-- the rows of the blocks up to one of them are some of all rows
+pub rows_within : (bs read : List Block) (k : ℕ) (b : Block) → read ≡ bs → b ≡ get_or read k b → k < length read → sum_by (λ b. length b.items) (take k bs) + length b.items ≤ length (flat 0 bs)
+rows_within bs read k b same is within =
+    let here = ap (λ (x : Block). length x.items) (is ∙ ap (λ (xs : List Block). get_or xs k b) same) in
+    let more = sum_by_more_le (λ (x : Block). length x.items) bs k b (omega (arith, within, ap length same)) in
+    omega (arith, length-flat-sum 0 bs, here, more)
+
+-- and the rows of as many blocks as there are, are all rows
+pub rows_whole : (bs read : List Block) (k : ℕ) → read ≡ bs → length read ≤ k → sum_by (λ b. length b.items) (take k bs) ≡ length (flat 0 bs)
+rows_whole bs read k same all =
+    let whole = ap (sum_by (λ (x : Block). length x.items)) (take_all k bs (omega (arith, all, ap length same))) in
+    omega (arith, length-flat-sum 0 bs, whole)
 
 -- the heads from that of a block with a late row on are late
 pub late_heads : (least before e q i : ℕ) (hs : List Row) (bs : List Block) (b : Block) → Held least before hs bs → q < length hs → b ≡ get_or bs q b → i < length b.items → All (λ r. e ≤ r.bin) (drop i b.items) → All (λ h. e ≤ h.bin) (drop q hs)

@@ -1,23 +1,9 @@
-use Rattle.std.proofs.Common.{◌≡◌, ◌∙◌, List, length, ap, arith, get_or, sum_by}
-use Rattle.std.proofs.lemmas.List.{take_all}
-use Rattle.std.proofs.lemmas.List.Sums.{sum_by_more_le}
-use Rattle.time_table.specs.Blocks.{Block}
-use Rattle.time_table.proofs.Told.{length-flat-sum}
+use Rattle.std.proofs.Common.{◌≡◌, ◌≤◌, arith}
+use Rattle.time_table.proofs.Told.{rows_within, rows_whole}
 use Rattle.time_table.proofs.series.are_few.Goals as goal
 
 pub returns-then-left-len : goal.returns-then-left-len
-returns-then-left-len c =
-    let long = length-flat-sum 0 c.args.blocks.now.items in
-    let read : c.block-item.result ≡ get_or c.args.blocks.now.items c.loop-block.block-index c.block-item.result =
-    c.block-item.is ∙ ap (λ (bs : List Block). get_or bs c.loop-block.block-index c.block-item.result) c.deref-block-items.ensures.value in
-    let here = ap (λ (b : Block). length b.items) read in
-    let within = ap length c.deref-block-items.ensures.value in
-    let more = sum_by_more_le (λ (b : Block). length b.items) c.args.blocks.now.items c.loop-block.block-index c.block-item.result (omega (arith, within)) in
-    omega (arith, long, here, more, c.loop-block.invariant, c.len.ensures)
+returns-then-left-len c = omega (arith, rows_within c.args.blocks.now.items c.deref-block-items.result.now c.loop-block.block-index c.block-item.result c.deref-block-items.ensures.value c.block-item.is (omega arith), c.loop-block.invariant, c.len.ensures)
 
 pub returns : goal.returns
-returns c =
-    let long = length-flat-sum 0 c.args.blocks.now.items in
-    let within = ap length c.deref-block-items.ensures.value in
-    let whole = ap (sum_by (λ (b : Block). length b.items)) (take_all c.loop-block.block-index c.args.blocks.now.items (omega (arith, within))) in
-    omega (arith, long, whole, c.loop-block.invariant)
+returns c = omega (arith, rows_whole c.args.blocks.now.items c.deref-block-items.result.now c.loop-block.block-index c.deref-block-items.ensures.value (omega arith), c.loop-block.invariant)
