@@ -2,19 +2,19 @@
 use Rattle.std.proofs.Common.{◌≡◌, ◌≢◌, ◌⊎◌, ℕ, suc, ◌+◌, ◌<◌, ◌≤◌, ◌^◌, true, false, List, [], ◌∷◌, ◌++◌, length, take, Option, Some, None, Result, Ok, Err, inl, inr, refl, sym, ◌∙◌, ap, subst, arith, append_assoc, length-append}
 use Rattle.std.proofs.Math.Logic.{∥∥₁_elim, ∥∥₁_map}
 use Rattle.cube_schema.specs.declared.plan.Plan.{Plan}
+use Rattle.cube_store.proofs.Bagging.{Counts-points}
 use Rattle.cube_store.specs.Holding.{CubeCounts}
 use Rattle.cube_store.specs.Numbers.{OwnsAllButRoot}
 use Rattle.cube_store.specs.Reading.{spot_weight}
 use Rattle.cube_store.specs.declared.cube.Cube.{Cube}
-use Rattle.cube_store.proofs.Bagging.{Counts-points}
 use Rattle.cube_view.specs.Bag.{Counts}
 use Rattle.cube_view.specs.Points.{Point}
 use Rattle.cube_view.specs.declared.schema.Schema.{Schema}
 use Rattle.image_cube.specs.CubeImages.{IsCubeImage, IsCubeOfImage}
-use Rattle.image_parse.proofs.Whole.{one_meaning}
 use Rattle.image_cube.specs.Read.{IsFitImage, Refuses}
 use Rattle.image_cube.specs.declared.fault.ImageFault.{ImageFault}
 use Rattle.image_cube.specs.declared.fault.ImageFault.TheVariants as image
+use Rattle.image_parse.proofs.Whole.{one_meaning}
 use Rattle.node_arena.specs.Slots.{Slot}
 use Rattle.outer_io.specs.Faults.{Rose}
 use Rattle.outer_io.specs.Files.{Files, file_or_empty}
@@ -25,23 +25,23 @@ use Rattle.run_files.proofs.Fronts.{front_long, front_whole}
 use Rattle.run_files.proofs.PlanReads.{plan_end, says_plan}
 use Rattle.run_files.proofs.Putting.{fails_after, puts_after, silent_after}
 use Rattle.run_files.proofs.Stages.{all_opened, leaves_ended, leaves_more, leaves_then, nothing_made, opened_front, same_created, same_files}
+use Rattle.run_files.specs.Answering.{AnswersFile}
+use Rattle.run_files.specs.FaultCounts.{KeepsFaults}
 use Rattle.run_files.specs.Leaving.{LeavesPlace}
 use Rattle.run_files.specs.Outside.{at, FailsToPut, file_of, PlaceSeen, Puts, PutsOrFails, Silent, SinkSeen}
 use Rattle.run_files.specs.Planned.{ReadsPlan}
 use Rattle.run_files.specs.Stops.{is_lacking, IsOrLacks}
+use Rattle.run_files.specs.Views.{seen_view}
 use Rattle.run_files.specs.declared.stop.Stop.{Stop}
 use Rattle.run_files.specs.declared.stop.Stop.TheVariants as stop
 use Rattle.session_core.specs.Answered.{GainsReplies, GainsFront}
 use Rattle.session_core.specs.Asked.{asked}
 use Rattle.session_core.specs.Scripts.{is_script_refused}
 use Rattle.shape_test.specs.Fits.{Fits}
-use Rattle.image_run.specs.Answering.{AnswersFile}
 use Rattle.image_run.specs.Ends.{IsAcceptedImage, IsRefusedFor, GainsImageAnswers, GainsSomeImageAnswers, LoadEnds, SaysFault, SaysOfLoad}
-use Rattle.image_run.specs.Faults.{HasLoadFaults}
 use Rattle.image_run.specs.Lines.{image_line}
 use Rattle.image_run.specs.Names.{ImageNames}
 use Rattle.image_run.specs.Taking.{RefusesImage, TakesImage}
-use Rattle.image_run.specs.Views.{seen_view}
 use Rattle.image_run.specs.declared.end.ImageEnd.{ImageEnd}
 use Rattle.image_run.specs.declared.end.ImageEnd.TheVariants.{Done, Refused}
 
@@ -89,7 +89,7 @@ not_err e k is = cc
 
 module _ {P O : Type 0} (p : PlaceSeen P) (s : SinkSeen O) where
   -- the faults of a stage that ended the run
-  faults_ended : (a b : P) (out out' : O) (inputs : List (List ℕ)) (k : Stop) → LeavesPlace p a b inputs [] (Some k) → (k ≡ stop.WriteFault → Rose (s.faults out) (s.faults out')) → (k ≢ stop.WriteFault → k ≢ stop.NoMemory → k ≢ stop.PlanRefused → s.faults out' ≡ s.faults out) → s.name out' ≡ s.name out → HasLoadFaults {T = ImageEnd} p s (at a out) (at b out') (Err k)
+  faults_ended : (a b : P) (out out' : O) (inputs : List (List ℕ)) (k : Stop) → LeavesPlace p a b inputs [] (Some k) → (k ≡ stop.WriteFault → Rose (s.faults out) (s.faults out')) → (k ≢ stop.WriteFault → k ≢ stop.NoMemory → k ≢ stop.PlanRefused → s.faults out' ≡ s.faults out) → s.name out' ≡ s.name out → KeepsFaults {T = ImageEnd} p s (at a out) (at b out') (Err k)
   faults_ended a b out out' inputs k stage rose quiet name = record {
     read = λ e. stage.read (ap (λ l. Some l) (err_is k stop.ReadFault e));
     write = λ e. rose (err_is k stop.WriteFault e);
@@ -162,7 +162,7 @@ module _ {P O : Type 0} (p : PlaceSeen P) (s : SinkSeen O) where
 
       -- it ends by a stop before the script is answered
       stopped : (out' : O) (k : Stop) → (k ≢ stop.PlanRefused) × (k ≢ stop.FeedRefused) → (opens : List (List ℕ)) × (p.opened c ≡ p.opened a ++ opens) × (length opens ≤ 2) → (n : ℕ) × (p.opened c ≡ p.opened a ++ take n (name ∷ image ∷ script ∷ [])) → SaysOfLoad p s (at a out) (at c out') Named (Some pl) (Err k)
-          → HasLoadFaults {T = ImageEnd} p s (at a out) (at c out') (Err k) → (¬ Rose (p.read_faults a) (p.read_faults c) → ¬ Rose (s.faults out) (s.faults out') → (e : ImageEnd) → IsOrLacks e (Err k)) → Ends a c out out' (Err k)
+          → KeepsFaults {T = ImageEnd} p s (at a out) (at c out') (Err k) → (¬ Rose (p.read_faults a) (p.read_faults c) → ¬ Rose (s.faults out) (s.faults out') → (e : ImageEnd) → IsOrLacks e (Err k)) → Ends a c out out' (Err k)
       stopped out' k other few opened said faults complete = record {
         planned = record { plan = Some pl; plan_is = reads.plan; unplanned = λ e. cc; refused_plan = λ e. absurd (other.0 (err_is k stop.PlanRefused e)) };
         done = λ e. absurd (not_err Done k e);
@@ -274,7 +274,7 @@ module _ {P O : Type 0} (p : PlaceSeen P) (s : SinkSeen O) where
           counts_it : (files : Files) → p.files a ≡ Some files → (h : List Point) → IsCubeImage pl.schema (file_or_empty files image) h → counted h
           counts_it files is h I = Counts-points cube.schema cube.arena cube.root.0 cube.size h ((K.counts h).1 (subst (λ (b : List ℕ). IsCubeImage pl.schema b h) (sym (all_of files is)) I))
 
-          module _ (result : Result (Unit {0}) Stop) (answers : AnswersFile p s (at c then) (at d out') (seen_view pl.schema OwnsAllButRoot counted) script result) (faults : HasLoadFaults p s (at c then) (at d out') result) where
+          module _ (result : Result (Unit {0}) Stop) (answers : AnswersFile p s (at c then) (at d out') (seen_view pl.schema OwnsAllButRoot counted) script result) (faults : KeepsFaults p s (at c then) (at d out') result) where
             all_replies : (files : Files) → p.files a ≡ Some files → ((h : List Point) → counted h → GainsReplies pl.schema OwnsAllButRoot h (length h) false (s.held then) (s.held out') (asked pl.schema (lines (file_or_empty files script)))) → GainsImageAnswers s out out' pl.schema (file_or_empty files image) (file_or_empty files script)
             all_replies files is each = record {
               accepted = accepted files is;
@@ -299,7 +299,7 @@ module _ {P O : Type 0} (p : PlaceSeen P) (s : SinkSeen O) where
             write_at_first : Rose (s.faults then) (s.faults out') → Rose (s.faults out) (s.faults out')
             write_at_first = subst (λ (n : ℕ). Rose n (s.faults out')) still.faults
 
-            faults_of : (r : End) → ((k : Stop) → r ≡ Err k → result ≡ Err k) → ((k : Stop) → result ≡ Err k → r ≡ Err k) → HasLoadFaults p s (at a out) (at d out') r
+            faults_of : (r : End) → ((k : Stop) → r ≡ Err k → result ≡ Err k) → ((k : Stop) → result ≡ Err k → r ≡ Err k) → KeepsFaults p s (at a out) (at d out') r
             faults_of r to from = record {
               read = λ e. read_at_first (faults.read (to stop.ReadFault e));
               write = λ e. write_at_first (faults.write (to stop.WriteFault e));
@@ -311,7 +311,7 @@ module _ {P O : Type 0} (p : PlaceSeen P) (s : SinkSeen O) where
               write_faults = faults.write_faults ∙ both.unwritten (nothing_made p a c Two None both);
             }
 
-          ended_by_answers : (x : Unit {0}) → AnswersFile p s (at c then) (at d out') (seen_view pl.schema OwnsAllButRoot counted) script (Ok x) → HasLoadFaults p s (at c then) (at d out') (Ok x) → Ends a d out out' (Ok Done)
+          ended_by_answers : (x : Unit {0}) → AnswersFile p s (at c then) (at d out') (seen_view pl.schema OwnsAllButRoot counted) script (Ok x) → KeepsFaults p s (at c then) (at d out') (Ok x) → Ends a d out out' (Ok Done)
           ended_by_answers x answers faults = record {
             planned = record { plan = Some pl; plan_is = reads.plan; unplanned = λ e. cc; refused_plan = λ e. absurd (ok_not_err Done stop.PlanRefused e) };
             done = λ e. (pl, refl, λ files is. let w = answers.done files (told files is) refl in (all_replies (Ok x) answers faults files is w.0, w.1));
@@ -325,7 +325,7 @@ module _ {P O : Type 0} (p : PlaceSeen P) (s : SinkSeen O) where
             complete = λ r w files is. (λ y z. inl refl, λ fault y. no_refusal (Ok x) answers faults fault files is Refused (Ok Done) y);
           }
 
-          ended_well : (k : Stop) (answers : AnswersFile p s (at c then) (at d out') (seen_view pl.schema OwnsAllButRoot counted) script (Err k)) (faults : HasLoadFaults {T = Unit {0}} p s (at c then) (at d out') (Err k)) → ¬ Rose (p.read_faults a) (p.read_faults d) → ¬ Rose (s.faults out) (s.faults out') → (files : Files) → p.files a ≡ Some files → is_script_refused pl.schema (file_or_empty files script) ≡ false → IsOrLacks Done (Err k)
+          ended_well : (k : Stop) (answers : AnswersFile p s (at c then) (at d out') (seen_view pl.schema OwnsAllButRoot counted) script (Err k)) (faults : KeepsFaults {T = Unit {0}} p s (at c then) (at d out') (Err k)) → ¬ Rose (p.read_faults a) (p.read_faults d) → ¬ Rose (s.faults out) (s.faults out') → (files : Files) → p.files a ≡ Some files → is_script_refused pl.schema (file_or_empty files script) ≡ false → IsOrLacks Done (Err k)
           ended_well stop.NoMemory answers faults r w files is good = inr refl
           ended_well stop.PlanRefused answers faults r w files is good = absurd (answers.form refl)
           ended_well stop.ReadFault answers faults r w files is good = absurd (r (read_at_first (Err stop.ReadFault) answers faults (faults.read refl)))
@@ -339,7 +339,7 @@ module _ {P O : Type 0} (p : PlaceSeen P) (s : SinkSeen O) where
           same_lack stop.WriteFault = refl
           same_lack stop.FeedRefused = refl
 
-          ended_answering : (k : Stop) → AnswersFile p s (at c then) (at d out') (seen_view pl.schema OwnsAllButRoot counted) script (Err k) → HasLoadFaults {T = Unit {0}} p s (at c then) (at d out') (Err k) → Ends a d out out' (Err k)
+          ended_answering : (k : Stop) → AnswersFile p s (at c then) (at d out') (seen_view pl.schema OwnsAllButRoot counted) script (Err k) → KeepsFaults {T = Unit {0}} p s (at c then) (at d out') (Err k) → Ends a d out out' (Err k)
           ended_answering k answers faults = record {
             planned = record { plan = Some pl; plan_is = reads.plan; unplanned = λ e. cc; refused_plan = λ e. absurd (answers.form (ap (λ l. Err l) (err_is k stop.PlanRefused e))) };
             done = λ e. absurd (not_err Done k e);
@@ -354,8 +354,8 @@ module _ {P O : Type 0} (p : PlaceSeen P) (s : SinkSeen O) where
           }
 
           -- as the cube's schema says it, which is the plan's
-          pub ended_with : (x : Unit {0}) → AnswersFile p s (at c then) (at d out') (seen_view cube.schema OwnsAllButRoot counted) script (Ok x) → HasLoadFaults {T = Unit {0}} p s (at c then) (at d out') (Ok x) → Ends a d out out' (Ok Done)
+          pub ended_with : (x : Unit {0}) → AnswersFile p s (at c then) (at d out') (seen_view cube.schema OwnsAllButRoot counted) script (Ok x) → KeepsFaults {T = Unit {0}} p s (at c then) (at d out') (Ok x) → Ends a d out out' (Ok Done)
           ended_with x answers faults = ended_by_answers x (subst (λ (z : Schema). AnswersFile p s (at c then) (at d out') (seen_view z OwnsAllButRoot counted) script (Ok x)) K.of_schema answers) faults
 
-          pub ended_without : (k : Stop) → AnswersFile p s (at c then) (at d out') (seen_view cube.schema OwnsAllButRoot counted) script (Err k) → HasLoadFaults {T = Unit {0}} p s (at c then) (at d out') (Err k) → Ends a d out out' (Err k)
+          pub ended_without : (k : Stop) → AnswersFile p s (at c then) (at d out') (seen_view cube.schema OwnsAllButRoot counted) script (Err k) → KeepsFaults {T = Unit {0}} p s (at c then) (at d out') (Err k) → Ends a d out out' (Err k)
           ended_without k answers faults = ended_answering k (subst (λ (z : Schema). AnswersFile p s (at c then) (at d out') (seen_view z OwnsAllButRoot counted) script (Err k)) K.of_schema answers) faults

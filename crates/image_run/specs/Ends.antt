@@ -8,14 +8,10 @@ use Rattle.image_cube.specs.CubeImages.{IsCubeImage}
 use Rattle.image_cube.specs.Read.{Refuses}
 use Rattle.image_cube.specs.declared.fault.ImageFault.{ImageFault}
 use Rattle.image_cube.specs.declared.fault.ImageFault.TheVariants as image_fault
-use Rattle.image_run.specs.Faults.{HasLoadFaults}
-use Rattle.image_run.specs.Lines.{image_line}
-use Rattle.image_run.specs.Names.{ImageNames}
-use Rattle.image_run.specs.declared.end.ImageEnd.{ImageEnd}
-use Rattle.image_run.specs.declared.end.ImageEnd.TheVariants.{Done, Refused}
 use Rattle.outer_io.specs.Faults.{Rose}
 use Rattle.outer_io.specs.Files.{Files, file_or_empty}
 use Rattle.outer_io.specs.Lines.{lines}
+use Rattle.run_files.specs.FaultCounts.{KeepsFaults}
 use Rattle.run_files.specs.Outside.{file_of, Outside, PlaceSeen, Puts, PutsOrFails, Silent, SinkSeen}
 use Rattle.run_files.specs.Planned.{MayHavePlan, RefusesPlan}
 use Rattle.run_files.specs.Stops.{is_lacking, IsOrLacks}
@@ -24,6 +20,10 @@ use Rattle.run_files.specs.declared.stop.Stop.TheVariants.{FeedRefused}
 use Rattle.session_core.specs.Answered.{GainsReplies, GainsFront}
 use Rattle.session_core.specs.Asked.{asked}
 use Rattle.session_core.specs.Scripts.{is_script_refused}
+use Rattle.image_run.specs.Lines.{image_line}
+use Rattle.image_run.specs.Names.{ImageNames}
+use Rattle.image_run.specs.declared.end.ImageEnd.{ImageEnd}
+use Rattle.image_run.specs.declared.end.ImageEnd.TheVariants.{Done, Refused}
 
 -- the bytes are the image of a cube of the schema, whatever it counts
 abbrev pub IsAcceptedImage : Schema → List ℕ → Type 0
@@ -81,7 +81,7 @@ module _ {P O : Type 0} (p : PlaceSeen P) (s : SinkSeen O) (before after : Outsi
     -- the script only where the image was accepted
     pub opened_last : p.opened after.place ≡ p.opened before.place ++ names.plan ∷ names.image ∷ names.script ∷ [] → (which : Plan) × (planned.plan ≡ Some which) × OfLoadFiles (λ i q. IsAcceptedImage which.schema i)
     -- each fault has its cause, and no file is written
-    pub faults : HasLoadFaults p s before after result
+    pub faults : KeepsFaults p s before after result
     -- where there is a plan and no count rose, the run is done with an image that is accepted and a script that is not refused, and a refused image is refused, unless memory was wanted
     pub complete : ¬ Rose (p.read_faults before.place) (p.read_faults after.place) → ¬ Rose (s.faults before.out) (s.faults after.out)
         → IfSome planned.plan (λ which. OfLoadFiles (λ i q. (IsAcceptedImage which.schema i → is_script_refused which.schema q ≡ false → IsOrLacks Done result) × ((fault : ImageFault) → IsRefusedFor which.schema i fault → IsOrLacks Refused result)))

@@ -2,10 +2,10 @@
 //!
 //! [`load_files`] reads the plan as a run does, reads the image and makes its cube by `image_cube`, and answers the script
 //! over it as over a loaded feed. An image that is refused has its line, `image: FAULT`, and the script is not opened;
-//! [`refuse_image`] puts that line, for an image that is written too, and [`answer_file`] answers the script of a file
-//! over any view. `load_files` creates nothing, and how it ends is the record `LoadEnds` of `specs/Ends.antt`. The crate
-//! stands on `run_files` for the plan and for reading files, on `image_cube` for images, and on `session_core` for answers.
-//! Which words ask for it, and which exit code an end has, is left to the crate above.
+//! [`refuse_image`] puts that line, for an image that is written too. `load_files` creates nothing, and how it ends is the
+//! record `LoadEnds` of `specs/Ends.antt`. The crate stands on `run_files` for the plan, for reading files and for the
+//! answers to a script, and on `image_cube` for images. Which words ask for it, and which exit code an end has, is left to
+//! the crate above.
 //!
 //! ```text
 //! let names = LoadNames { plan: "plan.json", image: "cube.img", script: "q.txt" };
@@ -13,13 +13,11 @@
 //! ```
 #![tactic(auto)]
 
-mod answering;
 mod end;
 mod lines;
 mod load;
 mod taking;
 
-pub use answering::answer_file;
 pub use end::ImageEnd;
 pub use load::{LoadNames, load_files};
 pub use taking::refuse_image;

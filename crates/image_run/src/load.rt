@@ -4,11 +4,10 @@ ghost use Rattle.image_run.specs.Ends.{LoadEnds};
 ghost use Rattle.image_run.specs.Names.{image_names};
 
 use crate::ImageEnd;
-use crate::answering::answer_file;
 use crate::taking::take_image;
 use cube_image::MOST_BYTES;
 use outer_io::{Place, Sink};
-use run_files::{Stop, load_plan, read_file};
+use run_files::{Stop, answer_file, load_plan, read_file};
 use std::alloc::Global;
 
 /// The names of the three files of a load.

@@ -9,6 +9,7 @@ pub mod Returning
 pub mod PlanReads
 pub mod Putting
 pub mod HeadReads
+pub mod Answered
 mod ScriptReads
 mod SinkReturns
 mod ScriptStages

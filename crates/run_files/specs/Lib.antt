@@ -11,3 +11,6 @@ pub mod GivingBack
 pub mod Planned
 pub mod Headed
 pub mod Scripted
+pub mod Views
+pub mod FaultCounts
+pub mod Answering

@@ -4,10 +4,11 @@
 //! [`open_scripts`] opens the scripts and creates the files for their replies and the journal. The first trouble ends
 //! the run: a stage that meets one gives back all that it made, and says by a [`Stop`] how the run ends. Afterwards the
 //! parts go back to their place by [`give_back_feeds`], [`give_back_cutters`], [`give_back_sources`] and
-//! [`give_back_sinks`], where a failure stops none of the later ones. What each stage leaves of the place is one
-//! record, `LeavesPlace` of `specs/Leaving.antt`, which two stages after each other meet together by the laws of
-//! `proofs/Stages.antt`. [`put_text`] puts what a run says: what that leaves of a sink, and how it ends a run, is
-//! `SaysText` of `specs/Saying.antt`.
+//! [`give_back_sinks`], where a failure stops none of the later ones. [`answer_file`] answers the script of a file over
+//! a view that no thread changes. What each stage leaves of the place is one record, `LeavesPlace` of
+//! `specs/Leaving.antt`, which two stages after each other meet together by the laws of `proofs/Stages.antt`.
+//! [`put_text`] puts what a run says: what that leaves of a sink, and how it ends a run, is `SaysText` of
+//! `specs/Saying.antt`.
 //!
 //! [`report`] makes the text that a run prints of its plan, of what its feeds and scripts counted and of the journal,
 //! [`feeds_report`] the lines of its feeds alone, and [`plan_refused`] and [`header_refused`] the lines of a run that
@@ -24,6 +25,7 @@
 //! ```
 #![tactic(auto)]
 
+mod answering;
 mod counts;
 mod faults;
 mod feeds;
@@ -36,6 +38,7 @@ mod scripts;
 mod stop;
 mod texts;
 
+pub use answering::answer_file;
 pub use counts::ScriptCounts;
 pub use feeds::open_feeds;
 pub use giving_back::{give_back_cutters, give_back_feeds, give_back_sinks, give_back_sources};

@@ -4,7 +4,6 @@ use Rattle.std.specs.Prelude.{IfOk, OnOk}
 use Rattle.std.specs.Result.{result_err}
 use Rattle.big_run.specs.Ends.{BigEnds}
 use Rattle.big_run.specs.Text.{big_text}
-use Rattle.image_run.specs.Faults.{HasLoadFaults}
 use Rattle.image_run.specs.Names.{ImageNames}
 use Rattle.image_run.specs.declared.end.ImageEnd.{ImageEnd}
 use Rattle.image_run.specs.declared.end.ImageEnd.TheVariants as image
@@ -13,6 +12,7 @@ use Rattle.recount.specs.Names.{AuditNames}
 use Rattle.recount.specs.declared.audit.Audit.{Audit}
 use Rattle.recount.specs.declared.audit.Audit.TheVariants as audit
 use Rattle.run_files.specs.Counts.{CountsAt}
+use Rattle.run_files.specs.FaultCounts.{KeepsFaults}
 use Rattle.run_files.specs.Outside.{at, PlaceSeen, Puts, SinkSeen}
 use Rattle.run_files.specs.declared.stop.Stop.{Stop}
 use Rattle.run_files.specs.declared.stop.Stop.TheVariants as stop
@@ -68,7 +68,7 @@ module _ {P O : Type 0} (p : PlaceSeen P) (s : SinkSeen O) (place place' : P) (o
   pub save_causes : (status : Status) (names : SaveNames) → ImageSaveEnds p s place place' out out' status names → Causes status
   save_causes status names save = of_end save.end status save.ends.counts (λ x e. fine_image x status (save.status_is ∙ ap status_of_image e)) (λ k e. save.status_is ∙ ap status_of_image e)
 
-  load_counts : {E : Type 0} (end : Result E Stop) → HasLoadFaults p s (at place out) (at place' out') end → CountsAt p s (at place out) (at place' out') end
+  load_counts : {E : Type 0} (end : Result E Stop) → KeepsFaults p s (at place out) (at place' out') end → CountsAt p s (at place out) (at place' out') end
   load_counts end faults = record {
     done = λ x e. (faults.quiet_place (λ r. cc (e, r)) (λ m. cc (e, m)), faults.write_faults, faults.quiet_sink (λ w. cc (e, w)) (λ m. cc (e, m)) (λ l. cc (e, l)));
     refused = λ e. (faults.quiet_place (λ r. cc (e, r)) (λ m. cc (e, m)), faults.write_faults, faults.quiet_sink (λ w. cc (e, w)) (λ m. cc (e, m)) (λ l. cc (e, l)));

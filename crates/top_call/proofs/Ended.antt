@@ -2,27 +2,27 @@
 use Rattle.std.proofs.Common.{◌≡◌, ◌≢◌, ◌≤◌, ℕ, zero, suc, Bool, true, false, ◌||◌, List, [], ◌∷◌, ◌++◌, take, length, Result, Ok, Err, Some, inl, inr, refl, sym, ◌∙◌, ap, subst, arith, length-append, append_assoc}
 use Rattle.std.proofs.Math.Bool.{or-true}
 use Rattle.std.proofs.lemmas.List.{append-nil}
-use Rattle.top_call.specs.BuiltIn.{built_in}
-use Rattle.top_call.specs.Demo.{demo_of, DemoEnds, is_refused, IsRefusedOrEarlier}
-use Rattle.top_call.specs.Loading.{Loads}
 use Rattle.cube_store.specs.Numbers.{OwnsAllButRoot}
 use Rattle.cube_view.specs.Points.{Point}
 use Rattle.cube_view.specs.declared.schema.Schema.{Schema}
 use Rattle.feed_reader.specs.Feeds.{accepted, is_feed_refused}
-use Rattle.image_run.proofs.Answered.{nothing_gained}
-use Rattle.image_run.specs.Answering.{AnswersFile, GainsAllOver, GainsSomeOver}
-use Rattle.image_run.specs.Faults.{HasLoadFaults}
-use Rattle.image_run.specs.Views.{seen_view, ViewSeen}
 use Rattle.outer_io.specs.Faults.{Rose}
 use Rattle.outer_io.specs.Files.{Files, file_or_empty}
 use Rattle.outer_io.specs.Lines.{lines}
+use Rattle.run_files.proofs.Answered.{nothing_gained}
+use Rattle.run_files.specs.Answering.{AnswersFile}
+use Rattle.run_files.specs.FaultCounts.{KeepsFaults}
 use Rattle.run_files.specs.Outside.{at, PlaceSeen, SinkSeen}
 use Rattle.run_files.specs.Stops.{is_lacking, IsOrLacks}
+use Rattle.run_files.specs.Views.{seen_view}
 use Rattle.run_files.specs.declared.stop.Stop.{Stop}
 use Rattle.run_files.specs.declared.stop.Stop.TheVariants.{NoMemory, PlanRefused, ReadFault, WriteFault, FeedRefused}
 use Rattle.session_core.specs.Answered.{GainsReplies, GainsFront}
 use Rattle.session_core.specs.Asked.{asked}
 use Rattle.session_core.specs.Scripts.{is_script_refused}
+use Rattle.top_call.specs.BuiltIn.{built_in}
+use Rattle.top_call.specs.Demo.{demo_of, DemoEnds, is_refused, IsRefusedOrEarlier}
+use Rattle.top_call.specs.Loading.{Loads}
 
 abbrev End : Type 0
 End = Result (Unit {0}) Stop
@@ -145,7 +145,7 @@ module _ {P O : Type 0} (p : PlaceSeen P) (s : SinkSeen O) (feed script : List �
       }
 
   -- a run that came to its script
-  module _ (place mid place' : P) (out out' : O) (counts : List Point → Type 0) (end : End) (loads : Loads p place mid feed built_in counts (Ok tt)) (answers : AnswersFile p s (at mid out) (at place' out') (seen_view built_in OwnsAllButRoot counts) script end) (faults : HasLoadFaults p s (at mid out) (at place' out') end) where
+  module _ (place mid place' : P) (out out' : O) (counts : List Point → Type 0) (end : End) (loads : Loads p place mid feed built_in counts (Ok tt)) (answers : AnswersFile p s (at mid out) (at place' out') (seen_view built_in OwnsAllButRoot counts) script end) (faults : KeepsFaults p s (at mid out) (at place' out') end) where
     told_mid : (fs : Files) → p.files place ≡ Some fs → p.files mid ≡ Some fs
     told_mid fs told = loads.files ∙ told
 
@@ -168,7 +168,7 @@ module _ {P O : Type 0} (p : PlaceSeen P) (s : SinkSeen O) (feed script : List �
     read_quiet : p.read_faults mid ≡ p.read_faults place
     read_quiet = loads.read.quiet (λ e. cc)
 
-    faults_by_script : HasLoadFaults p s (at place out) (at place' out') end
+    faults_by_script : KeepsFaults p s (at place out) (at place' out') end
     faults_by_script = record {
       read = λ e. subst (λ (n : ℕ). Rose n (p.read_faults place')) read_quiet (faults.read e);
       write = faults.write;
@@ -204,7 +204,7 @@ module _ {P O : Type 0} (p : PlaceSeen P) (s : SinkSeen O) (feed script : List �
   pub ends_by_feed : (k : Stop) → Loads p place place' feed schema counts (Err k) → DemoEnds p s place place' out out (demo_of feed script) (Err k)
   ends_by_feed k loads = ended_by_feed p s feed script place place' out counts k (subst (λ (z : Schema). Loads p place place' feed z counts (Err k)) made loads)
 
-  pub ends_by_script : (schema' : Schema) → schema' ≡ schema → (end : End) → Loads p place mid feed schema counts (Ok tt) → AnswersFile p s (at mid out) (at place' out') (seen_view schema' OwnsAllButRoot counts) script end → HasLoadFaults p s (at mid out) (at place' out') end → DemoEnds p s place place' out out' (demo_of feed script) end
+  pub ends_by_script : (schema' : Schema) → schema' ≡ schema → (end : End) → Loads p place mid feed schema counts (Ok tt) → AnswersFile p s (at mid out) (at place' out') (seen_view schema' OwnsAllButRoot counts) script end → KeepsFaults p s (at mid out) (at place' out') end → DemoEnds p s place place' out out' (demo_of feed script) end
   ends_by_script schema' same end loads answers faults =
       ended_by_script p s feed script place mid place' out out' counts end (subst (λ (z : Schema). Loads p place mid feed z counts (Ok tt)) made loads)
       (subst (λ (z : Schema). AnswersFile p s (at mid out) (at place' out') (seen_view z OwnsAllButRoot counts) script end) (same ∙ made) answers) faults

@@ -1,15 +1,12 @@
 -- The form `demo FEED SCRIPT`: a feed is loaded, and then a script is answered over its points.
 use Rattle.std.specs.Prelude.{◌≡◌, ◌≢◌, ◌⊎◌, ℕ, Bool, true, false, ◌||◌, ◌&&◌, ◌==◌, get_or, if◌then◌else◌, List, [], ◌∷◌, ◌++◌, length, take, Option, Some, None, Result, Ok, Err, codes}
-use Rattle.top_call.specs.BuiltIn.{built_in}
-use Rattle.top_call.specs.Statuses.{status_of_end}
-use Rattle.top_call.specs.declared.status.Status.{Status}
 use Rattle.cube_store.specs.Numbers.{OwnsAllButRoot}
 use Rattle.cube_view.specs.Limits.{same_text}
 use Rattle.feed_reader.specs.Feeds.{accepted, is_feed_refused}
-use Rattle.image_run.specs.Faults.{HasLoadFaults}
 use Rattle.outer_io.specs.Faults.{Rose}
 use Rattle.outer_io.specs.Files.{Files, file_or_empty}
 use Rattle.outer_io.specs.Lines.{lines}
+use Rattle.run_files.specs.FaultCounts.{KeepsFaults}
 use Rattle.run_files.specs.Outside.{at, PlaceSeen, SinkSeen}
 use Rattle.run_files.specs.Stops.{is_lacking, IsOrLacks}
 use Rattle.run_files.specs.declared.stop.Stop.{Stop}
@@ -17,6 +14,9 @@ use Rattle.run_files.specs.declared.stop.Stop.TheVariants.{NoMemory, PlanRefused
 use Rattle.session_core.specs.Answered.{GainsReplies, GainsFront}
 use Rattle.session_core.specs.Asked.{asked}
 use Rattle.session_core.specs.Scripts.{is_script_refused}
+use Rattle.top_call.specs.BuiltIn.{built_in}
+use Rattle.top_call.specs.Statuses.{status_of_end}
+use Rattle.top_call.specs.declared.status.Status.{Status}
 
 -- The names of the feed and the script
 pub record DemoNames : Type 0 where
@@ -85,7 +85,7 @@ module _ {P O : Type 0} (p : PlaceSeen P) (s : SinkSeen O) (place place' : P) (o
     -- where the feed alone was opened, nothing was written
     pub untouched : p.opened place' ≡ p.opened place ++ names.feed ∷ [] → out' ≡ out
     -- each fault has its cause, no file is written, and the sink keeps its name
-    pub faults : HasLoadFaults p s (at place out) (at place' out') end
+    pub faults : KeepsFaults p s (at place out) (at place' out') end
 
   -- How a run of this form ends: as loading the feed and answering the script does, whose end the status is
   pub record DemoRunEnds (status : Status) (names : DemoNames) : Type 0 where

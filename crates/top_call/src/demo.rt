@@ -1,9 +1,9 @@
 //! The form `demo FEED SCRIPT`.
 ghost use Rattle.std.specs.Prelude.{◌≡◌, [], IfOk};
+ghost use Rattle.cube_view.specs.Bag.{Counts};
+ghost use Rattle.run_files.specs.Outside.{of_place, of_sink};
 ghost use Rattle.top_call.specs.BuiltIn.{built_in};
 ghost use Rattle.top_call.specs.Demo.{demo_of, DemoEnds};
-ghost use Rattle.run_files.specs.Outside.{of_place, of_sink};
-ghost use Rattle.cube_view.specs.Bag.{Counts};
 
 mod loading;
 
@@ -11,9 +11,8 @@ use crate::built_in::built_in_schema;
 use crate::demo::loading::load;
 use cube_store::Cube;
 use cube_view::CubeView;
-use image_run::answer_file;
 use outer_io::{NoMemory, Place, Sink};
-use run_files::Stop;
+use run_files::{Stop, answer_file};
 use std::alloc::Global;
 
 /// A cube of no points under the plan that is built in.

@@ -1,13 +1,13 @@
 //! A script answered over a view.
 ghost use Rattle.std.specs.Prelude.{◌≡◌};
-ghost use Rattle.image_run.specs.Answering.{answers_end, lacking_end, script_end, AnswersFile};
-ghost use Rattle.image_run.specs.Faults.{HasLoadFaults};
-ghost use Rattle.image_run.specs.Views.{of_view};
+ghost use Rattle.run_files.specs.Answering.{answers_end, lacking_end, script_end, AnswersFile};
+ghost use Rattle.run_files.specs.FaultCounts.{KeepsFaults};
+ghost use Rattle.run_files.specs.Views.{of_view};
 ghost use Rattle.run_files.specs.Outside.{at, of_place, of_sink};
 
+use crate::{Stop, joined_ends, stop_of_session};
 use cube_view::CubeView;
 use outer_io::{IoFault, Place, Sink};
-use run_files::{Stop, joined_ends, stop_of_session};
 use session_core::{ScriptEnd, SessionFault, answer_script};
 use std::alloc::Global;
 
@@ -44,7 +44,7 @@ pub fn answer_file<V: CubeView, P: Place, O: Sink>(
     out: &mut O,
 ) -> Result<(), Stop>
     ensures file { AnswersFile (of_place P.Place) (of_sink O.Sink) (at place.old out.old) (at place.new out.new) (of_view V.CubeView view.now) script.now result }
-    ensures faults { HasLoadFaults (of_place P.Place) (of_sink O.Sink) (at place.old out.old) (at place.new out.new) result }
+    ensures faults { KeepsFaults (of_place P.Place) (of_sink O.Sink) (at place.old out.old) (at place.new out.new) result }
 {
     match place.open(script) {
         Ok(source) => {

@@ -1,4 +1,4 @@
--- What a run of an image keeps of the counts of faults.
+-- What a form of words that writes no file keeps of the counts of faults.
 use Rattle.std.specs.Prelude.{◌≡◌, ◌≢◌, Result, Err}
 use Rattle.outer_io.specs.Faults.{Rose}
 use Rattle.run_files.specs.Outside.{Outside, PlaceSeen, SinkSeen}
@@ -6,7 +6,7 @@ use Rattle.run_files.specs.declared.stop.Stop.{Stop}
 use Rattle.run_files.specs.declared.stop.Stop.TheVariants.{NoMemory, PlanRefused, ReadFault, WriteFault}
 
 -- A fault has its cause in a count that rose; no file is written, and the sink keeps its name.
-pub record HasLoadFaults {P O T : Type 0} (p : PlaceSeen P) (s : SinkSeen O) (before after : Outside P O) (result : Result T Stop) : Type 0 where
+pub record KeepsFaults {P O T : Type 0} (p : PlaceSeen P) (s : SinkSeen O) (before after : Outside P O) (result : Result T Stop) : Type 0 where
   -- a read fault comes only where the place's count rose, a write fault only where the sink's did
   pub read : result ≡ Err ReadFault → Rose (p.read_faults before.place) (p.read_faults after.place)
   pub write : result ≡ Err WriteFault → Rose (s.faults before.out) (s.faults after.out)

@@ -1,18 +1,18 @@
 -- What answering a script over a view leaves.
 use Rattle.std.specs.Prelude.{◌≡◌, ◌≢◌, ℕ, Bool, true, false, List, [], ◌∷◌, ◌++◌, length, take, Some, Result, Ok, Err}
 use Rattle.cube_view.specs.Points.{Point}
-use Rattle.image_run.specs.Views.{ViewSeen}
 use Rattle.outer_io.specs.Files.{Files, file_or_empty}
 use Rattle.outer_io.specs.Lines.{lines}
-use Rattle.run_files.specs.Outside.{Outside, PlaceSeen, SinkSeen}
-use Rattle.run_files.specs.Stops.{is_lacking, joined_ends, stop_of_session}
-use Rattle.run_files.specs.declared.stop.Stop.{Stop}
-use Rattle.run_files.specs.declared.stop.Stop.TheVariants as stop
 use Rattle.session_core.specs.Answered.{GainsReplies, GainsFront}
 use Rattle.session_core.specs.Asked.{asked}
 use Rattle.session_core.specs.Scripts.{is_script_refused}
 use Rattle.session_core.specs.declared.answering.ScriptEnd.{ScriptEnd}
 use Rattle.session_core.specs.declared.fault.SessionFault.{SessionFault}
+use Rattle.run_files.specs.Views.{ViewSeen}
+use Rattle.run_files.specs.Outside.{Outside, PlaceSeen, SinkSeen}
+use Rattle.run_files.specs.Stops.{is_lacking, joined_ends, stop_of_session}
+use Rattle.run_files.specs.declared.stop.Stop.{Stop}
+use Rattle.run_files.specs.declared.stop.Stop.TheVariants as stop
 
 -- how a run ends whose script was answered so far, if that ends it
 abbrev pub answers_end : Result (Unit {0}) SessionFault → Result (Unit {0}) Stop

@@ -2,10 +2,10 @@ use Rattle.std.proofs.Common.{◌∙◌, Result, sym, subst}
 use Rattle.std.proofs.lemmas.List.{append-nil}
 use Rattle.run_files.specs.Outside.{at, of_place, of_sink}
 use Rattle.run_files.specs.declared.stop.Stop.{Stop}
-use Rattle.image_run.specs.Answering.{AnswersFile}
-use Rattle.image_run.specs.Views.{of_view}
-use Rattle.image_run.proofs.Answered.{answered_file, unopened_file}
-use Rattle.image_run.proofs.answering.answer_file.Goals as goal
+use Rattle.run_files.specs.Answering.{AnswersFile}
+use Rattle.run_files.specs.Views.{of_view}
+use Rattle.run_files.proofs.Answered.{answered_file, unopened_file}
+use Rattle.run_files.proofs.answering.answer_file.Goals as goal
 
 pub returns-in-Ok-clause-file : goal.returns-in-Ok-clause-file
 returns-in-Ok-clause-file g c =

@@ -1,8 +1,5 @@
 -- A script that was opened, answered and given back, and one that was not opened.
 use Rattle.std.proofs.Common.{◌≡◌, ◌≢◌, ℕ, Bool, true, false, List, [], ◌∷◌, ◌++◌, take, length, Option, Some, Result, Ok, Err, refl, sym, ◌∙◌, subst, OnOk, IsErrOf}
-use Rattle.image_run.specs.Answering.{answers_end, lacking_end, script_end, AnswersFile}
-use Rattle.image_run.specs.Views.{seen_view}
-use Rattle.run_files.specs.Outside.{at, PlaceSeen, SinkSeen}
 use Rattle.cube_view.specs.Bag.{Counts, EachCounted}
 use Rattle.cube_view.specs.Points.{Point}
 use Rattle.cube_view.specs.declared.schema.Schema.{Schema}
@@ -14,10 +11,6 @@ use Rattle.outer_io.specs.Files.{Files, file_or_empty}
 use Rattle.outer_io.specs.Lines.{lines}
 use Rattle.outer_io.specs.Told.{Told}
 use Rattle.query_syntax.specs.declared.query.Parsed.{Parsed}
-use Rattle.run_files.proofs.Lists.{not_grown}
-use Rattle.run_files.specs.Stops.{is_lacking, joined_ends}
-use Rattle.run_files.specs.declared.stop.Stop.{Stop}
-use Rattle.run_files.specs.declared.stop.Stop.TheVariants as stop
 use Rattle.session_core.proofs.Transcripts.{transcript_lacking, transcript_weaker}
 use Rattle.session_core.specs.Answered.{GainsReplies, GainsFront}
 use Rattle.session_core.specs.Asked.{asked}
@@ -25,6 +18,13 @@ use Rattle.session_core.specs.Scripts.{is_script_refused}
 use Rattle.session_core.specs.declared.answering.ScriptEnd.{ScriptEnd}
 use Rattle.session_core.specs.declared.fault.SessionFault.{SessionFault}
 use Rattle.session_core.specs.declared.fault.SessionFault.TheVariants as fault
+use Rattle.run_files.specs.Answering.{answers_end, lacking_end, script_end, AnswersFile}
+use Rattle.run_files.specs.Views.{seen_view}
+use Rattle.run_files.specs.Outside.{at, PlaceSeen, SinkSeen}
+use Rattle.run_files.proofs.Lists.{not_grown}
+use Rattle.run_files.specs.Stops.{is_lacking, joined_ends}
+use Rattle.run_files.specs.declared.stop.Stop.{Stop}
+use Rattle.run_files.specs.declared.stop.Stop.TheVariants as stop
 
 -- where no reply may be the line for want of memory, one may be
 front_lacking : (schema : Schema) (is_stat : Stat → Type 0) (h : List Point) (told : ℕ) (a b : Option (List ℕ)) (ps : List Parsed) → GainsFront schema is_stat h told false a b ps → GainsFront schema is_stat h told true a b ps
