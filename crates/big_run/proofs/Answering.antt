@@ -1,9 +1,8 @@
 -- What the session after the feeds has put where memory was found.
-use Rattle.std.proofs.Common.{◌≡◌, ◌≢◌, ℕ, suc, ◌+◌, Bool, true, false, List, [], ◌∷◌, ◌++◌, length, take, Option, Some, Result, Ok, Err, refl, ap, sym, ◌∙◌, subst, arith, inl, inr, length-append}
+use Rattle.std.proofs.Common.{◌≡◌, ◌≢◌, ℕ, suc, ◌+◌, Bool, true, false, List, [], ◌∷◌, ◌++◌, length, take, Some, Result, Ok, Err, refl, ap, sym, ◌∙◌, subst, arith, inl, inr}
 use Rattle.std.specs.Prelude.{IsErrOf, OnOk}
 use Rattle.std.specs.List.{filter_map, list_all}
 use Rattle.std.proofs.lemmas.Bool.{and_parts, false≢true}
-use Rattle.std.proofs.lemmas.List.{append-nil}
 use Rattle.std.proofs.Math.Seq.{take-length}
 use Rattle.live_session.specs.declared.done.SessionDone.{SessionDone}
 use Rattle.cube_crew.specs.Crewed.{LeavesTranscript, closing}
@@ -25,6 +24,7 @@ use Rattle.query_syntax.specs.declared.query.Verb.{Verb}
 use Rattle.query_syntax.specs.declared.query.Verb.TheVariants.{Count, Hist, Map, Series, Window, Cross, Best, Stat as StatVerb, Told, Quit}
 use Rattle.query_syntax.specs.declared.table.Table.{Table}
 use Rattle.reply_json.specs.declared.reply.Reply.{Reply}
+use Rattle.run_files.proofs.Lists.{no_more}
 use Rattle.session_core.specs.Asked.{asked, asked_reply, query_reply}
 use Rattle.session_core.specs.Transcript.{AllAnswered, Answers, MayPrint, replies_text, seen_in, stat_in, told_in}
 use Rattle.session_core.specs.declared.fault.SessionFault.{SessionFault}
@@ -32,7 +32,7 @@ use Rattle.session_core.specs.declared.fault.SessionFault.TheVariants as fault
 use Rattle.big_run.proofs.Asking.{asks_table, final_asks_tables}
 use Rattle.big_run.specs.BuiltIn.{big_schema, final_script}
 use Rattle.big_run.specs.Parts.{script_session}
-use Rattle.big_run.specs.Sources.{left_in, no_faults, still_ends, still_faults, still_held, still_name}
+use Rattle.big_run.specs.Sources.{left_in, still_ends}
 use Rattle.big_run.specs.Text.{final_asked, final_replies, no_stat}
 use Rattle.big_run.specs.declared.source.RunSource.{RunSource}
 
@@ -100,10 +100,6 @@ answered-length schema is_stat l u (p ∷ ps) (reply ∷ replies) answers = ap s
 
 some-same : {A : Type 0} {x y : A} → Some x ≡ Some y → x ≡ y
 some-same e = cc
-
-pub no_more : {A : Type 0} (xs ys later : List A) → xs ≡ ys ++ later → length xs ≡ length ys → xs ≡ ys
-no_more xs ys [] is same = is ∙ append-nil ys
-no_more xs ys (x ∷ later) is same = absurd (omega (arith, ap length is, length-append ys (x ∷ later)))
 
 module _ (is_stat : Stat → Type 0) (news : News) (before after : SessionState RunSource StillOutput) where
   -- a session that ended for no want of memory, and with no fault of its parts, has come to the end of its script

@@ -17,6 +17,7 @@ use Rattle.csv.specs.declared.parser.State.TheVariants as st
 use Rattle.cube_view.specs.Points.{Point}
 use Rattle.feed_maker.proofs.Feeds.{few_digits}
 use Rattle.feed_maker.specs.GeneratedFeed.{generated_row, generated_rows, next_state}
+use Rattle.feed_reader.proofs.FieldReads.{last_ends}
 use Rattle.feed_reader.proofs.LineRecords.{whole_record}
 use Rattle.feed_reader.specs.Records.{begins_with_mark, record_of}
 use Rattle.feed_reader.specs.Regular.{begins_record}
@@ -82,10 +83,6 @@ digits_to_comma (b ∷ bytes) rest fields some digits =
     let both = and_parts (is_ascii_digit b) (list_all is_ascii_digit bytes) digits in
     begins b (bytes ++ 44 ∷ rest) fields (plain_digit b both.0) ∙ copies_digits bytes (44 ∷ rest) fields (b ∷ []) both.1
 
-at_end : (fields : List (List ℕ)) (field : List ℕ) → next_record default_config st.InField fields field [] ≡ Some (fields ++ field ∷ [], st.StartRecord, [])
-unfolding next_record
-at_end fields field = refl
-
 -- digits up to the end are one too
 digits_to_end : (bytes : List ℕ) (fields : List (List ℕ)) → 0 < length bytes → AreDigits bytes → next_record default_config st.StartField fields [] bytes ≡ Some (fields ++ bytes ∷ [], st.StartRecord, [])
 digits_to_end [] fields some digits = absurd (omega arith)
@@ -94,7 +91,7 @@ digits_to_end (b ∷ bytes) fields some digits =
     begins b bytes fields (plain_digit b both.0)
     ∙ ap (next_record default_config st.InField fields (b ∷ [])) (sym (append-nil bytes))
     ∙ copies_digits bytes [] fields (b ∷ []) both.1
-    ∙ at_end fields (b ∷ bytes)
+    ∙ last_ends fields (b ∷ bytes)
 
 -- one letter up to a comma
 letter_to_comma : (letter : ℕ) (rest : List ℕ) (fields : List (List ℕ)) → IsPlain letter → next_record default_config st.StartField fields [] (letter ∷ 44 ∷ rest) ≡ next_record default_config st.StartField (fields ++ (letter ∷ []) ∷ []) [] rest

@@ -1,5 +1,5 @@
 -- What a session of a run leaves that ended without a fault, where nothing lacked memory.
-use Rattle.std.proofs.Common.{◌≡◌, ◌+◌, ℕ, suc, Bool, true, false, List, [], ◌∷◌, ◌++◌, length, length-append, append-nil, Some, None, Result, Ok, Err, OnOk, refl, sym, ap, subst, ◌∙◌, arith, zero-add}
+use Rattle.std.proofs.Common.{◌≡◌, ◌+◌, ℕ, suc, Bool, true, false, List, [], ◌∷◌, ◌++◌, length, Some, None, Result, Ok, Err, OnOk, refl, sym, ap, subst, ◌∙◌, arith, zero-add}
 use Rattle.live_session.specs.Work.{HadNoTurn, ending_fault, last_number}
 use Rattle.live_session.specs.declared.done.SessionDone.{SessionDone}
 use Rattle.cube_crew.specs.Crewed.{LeavesTranscript, closing}
@@ -18,6 +18,7 @@ use Rattle.outer_io.specs.Files.{Files}
 use Rattle.outer_io.specs.Lines.{lines}
 use Rattle.query_syntax.specs.declared.query.Parsed.{Parsed}
 use Rattle.reply_json.specs.declared.reply.Reply.{Reply}
+use Rattle.run_files.proofs.Lists.{no_more}
 use Rattle.run_files.specs.Outside.{SinkSeen, SourceSeen}
 use Rattle.run_files.specs.Scripted.{IsOutput, IsScript}
 use Rattle.session_core.specs.Asked.{asked}
@@ -39,10 +40,6 @@ answered_length schema is_stat final l u lacks (p ∷ ps) (reply ∷ replies) al
 unfaulted_is : {X : Type 0} (end : Result (Unit {0}) SessionFault) → ending_fault end ≡ None → OnOk end X → X
 unfaulted_is (Ok x) none said = said
 unfaulted_is (Err f) none said = absurd (cc none)
-
-no_more : {A : Type 0} (xs ys zs : List A) → xs ≡ ys ++ zs → length xs ≡ length ys → xs ≡ ys
-no_more xs ys [] is same = is ∙ append-nil ys
-no_more xs ys (z ∷ zs) is same = absurd (omega (arith, ap length is, length-append ys (z ∷ zs), same))
 
 -- The replies to a script with these bytes are what the sink of that name gained
 pub record IsReplied {I O : Type 0} (s : SinkSeen O) (is_stat : Stat → Type 0) (schema : Schema) (final : Bool) (points : List Point) (script name : List ℕ) (done : SessionDone I O) : Type 0 where

@@ -1,8 +1,8 @@
 -- The tiles below a tile come in a rising order, so none of them comes twice.
-use Rattle.std.proofs.Common.{◌≡◌, ℕ, zero, suc, ◌+◌, ◌*◌, ◌/◌, ◌%◌, ◌<◌, ◌≤◌, Bool, true, false, List, [], ◌∷◌, refl, ◌∙◌, ap, arith}
+use Rattle.std.proofs.Common.{◌≡◌, ℕ, zero, suc, ◌+◌, ◌*◌, ◌/◌, ◌%◌, ◌<◌, ◌≤◌, Bool, true, false, List, [], ◌∷◌, ◌∙◌, ap, arith}
 use Rattle.std.specs.Prelude.{◌==◌, filter, if◌then◌else◌}
 use Rattle.std.specs.List.{flat_map}
-use Rattle.std.proofs.lemmas.Bool.{and_parts, eqb-true}
+use Rattle.std.proofs.lemmas.Bool.{and_parts, eqb-true, false_from_ne_true}
 use Rattle.cube_view.specs.Places.{longer_tile, tile_within}
 use Rattle.cube_view.specs.declared.address.Tile.{Tile}
 use Rattle.query_syntax.specs.TileOrder.{quadrants, tiles_of_level, tiles_below}
@@ -107,13 +107,9 @@ abbrev pub apart : Tile → List Tile → Type 0
 apart t [] = Unit {0}
 apart t (u ∷ us) = (same_tile t u ≡ false) × apart t us
 
-is_apart : (b : Bool) → (b ≡ true → ⊥) → b ≡ false
-is_apart true never = absurd (never refl)
-is_apart false never = refl
-
 apart-above : (t : Tile) (us : List Tile) → from_on (number t + 1) us → apart t us
 apart-above t [] all = tt
-apart-above t (u ∷ us) (here, rest) = (is_apart (same_tile t u) (λ e. let n = number-same t u e in omega (arith, n, here)), apart-above t us rest)
+apart-above t (u ∷ us) (here, rest) = (false_from_ne_true (same_tile t u) (λ e. let n = number-same t u e in omega (arith, n, here)), apart-above t us rest)
 
 -- no tile of the list comes twice
 abbrev pub once_each : List Tile → Type 0

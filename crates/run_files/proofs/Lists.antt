@@ -1,9 +1,14 @@
 -- Two lists after each other, and what holds of their items.
-use Rattle.std.proofs.Common.{All, List, [], ap, arith, drop, get_or, length, length-append, refl, suc, sym, take, zero, ℕ, ◌++◌, ◌+◌, ◌<◌, ◌∙◌, ◌∷◌, ◌≡◌}
+use Rattle.std.proofs.Common.{All, List, [], ap, append-nil, arith, drop, get_or, length, length-append, refl, suc, sym, take, zero, ℕ, ◌++◌, ◌+◌, ◌<◌, ◌∙◌, ◌∷◌, ◌≡◌}
 use Rattle.std.specs.Prelude.{Contains}
 use Rattle.std.specs.List.{AllZip}
 use Rattle.std.proofs.lemmas.List.{take_more, take-append-drop}
 use Rattle.std.proofs.lemmas.List.Elements.{All-nil, All-cons, All-head, All-tail}
+
+-- a list that goes on from another of the same length is that one
+pub no_more : {A : Type 0} (xs ys later : List A) → xs ≡ ys ++ later → length xs ≡ length ys → xs ≡ ys
+no_more xs ys [] is same = is ∙ append-nil ys
+no_more xs ys (x ∷ later) is same = absurd (omega (arith, ap length is, length-append ys (x ∷ later), same))
 
 -- a list with an item more is another
 pub not_grown : {A : Type 0} (xs ys : List A) (x : A) → ys ≡ xs ++ x ∷ [] → ys ≡ xs → ⊥

@@ -36,6 +36,7 @@ use Rattle.run_files.specs.Planned.{IsPlanOf, ReadsPlan, RefusesPlan}
 use Rattle.run_files.specs.Stops.{IsOrLacks, stop_of_cut}
 use Rattle.run_files.specs.declared.stop.Stop.{Stop}
 use Rattle.run_files.specs.declared.stop.Stop.TheVariants as stop
+use Rattle.session_core.proofs.WholeScripts.{told_by}
 use Rattle.save_run.specs.Taking.{AreQuiet, EndsBy, TakesAll, TakesFeeds}
 use Rattle.save_run.proofs.Fed.{any_large, are_fed}
 use Rattle.save_run.proofs.Records.{are_records}
@@ -60,10 +61,6 @@ none_met x (Ok y) is = cc
 none_met x (Err f) is = cc
 
 -- what holds of a value wherever it is told is told
-told_of : {A : Type 0} (o : Option A) (Q : A → Type 0) → ((x : A) → o ≡ Some x → Q x) → Told o Q
-told_of None Q each = tt
-told_of (Some x) Q each = each x refl
-
 counted_some : (n m : ℕ) → Rose 0 n → 1 ≤ cond (not (n == 0)) 1 0 + m
 counted_some n m rose = let some = rose.1 in grind (arith, nat_tests)
 
@@ -180,7 +177,7 @@ module _ {P O : Type 0} (p : PlaceSeen P) (s : SinkSeen O) where
           (λ e. (pl, refl, same_created p a c (name ∷ pl.feeds) (Some k) all, inl (O.leaves.opens, at_first O.leaves.opens (Puts s mid out') (Puts s out out') (puts_after s out mid out' quiet) (O.refused (ap (λ l. Some l) e)))))
           (says_head k O)
           (λ e. (fails_after s out mid out' quiet _ (O.unsaid (ap (λ l. Some l) e)).refuses.says).faults)
-          (λ r u. told_of (p.files a) _ (λ files is taken. head_end k O (λ e. r (all.read (ap (λ l. Some l) e))) u files is taken))
+          (λ r u. told_by (p.files a) _ (λ files is taken. head_end k O (λ e. r (all.read (ap (λ l. Some l) e))) u files is taken))
 
     -- ---- all feeds were opened
 
@@ -246,11 +243,11 @@ module _ {P O : Type 0} (p : PlaceSeen P) (s : SinkSeen O) where
             (λ r u. absurd (r (reads_rose E)))
         ended_by_feed cut.TooMuch E =
             ended_early a d out then name image (Some pl) stop.FeedRefused (leaves_all stop.FeedRefused (λ e. cc) (λ e. reads_same E.1)) reads.plan (λ e. cc) (λ e. cc)
-            (λ e. (pl, refl, created_none, inr (still, told_of (p.files a) (HasLongFeed pl) (large_feed E.0)))) (inl still) (λ e. cc)
-            (λ r u. told_of (p.files a) _ (λ files is taken. absurd (not_taken files (large_feed E.0 files is) taken)))
+            (λ e. (pl, refl, created_none, inr (still, told_by (p.files a) (HasLongFeed pl) (large_feed E.0)))) (inl still) (λ e. cc)
+            (λ r u. told_by (p.files a) _ (λ files is taken. absurd (not_taken files (large_feed E.0 files is) taken)))
         ended_by_feed cut.NoMemory E =
             ended_early a d out then name image (Some pl) stop.NoMemory (leaves_all stop.NoMemory (λ e. cc) (λ e. reads_same E)) reads.plan (λ e. cc) (λ e. cc) (λ e. cc) (inl still) (λ e. cc)
-            (λ r u. told_of (p.files a) _ (λ files is taken. inl (inr refl)))
+            (λ r u. told_by (p.files a) _ (λ files is taken. inl (inr refl)))
 
         -- ---- all were read to their ends
 
@@ -264,7 +261,7 @@ module _ {P O : Type 0} (p : PlaceSeen P) (s : SinkSeen O) where
           write_faults = writes_same;
           silent = still;
           schema_is = T.schema_is;
-          told = told_of (p.files a) _
+          told = told_by (p.files a) _
               (λ files is.
               let F = are_fed i.left i.faults pl.schema (file_or_empty files) pl.feeds feeds T.rows (headed_at files is) T.read in
               record {
