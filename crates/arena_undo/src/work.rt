@@ -1,5 +1,5 @@
 //! An arena at work.
-ghost use Rattle.std.specs.Prelude.{◌≡◌, ◌+◌, ◌<◌, ◌≤◌, ◌^◌, length, None, Some, IfOk, IfErr, OnOk, OnErr, IsSome, IsTrue, ◌↔◌, []};
+ghost use Rattle.std.specs.Prelude.{◌≡◌, ◌+◌, ◌<◌, ◌≤◌, ◌^◌, length, None, Some, IfOk, IfErr, OnOk, OnErr, IsSome};
 ghost use Rattle.probe_core.specs.Bits.{bits};
 ghost use Rattle.time_table.specs.Counts.{AllCounted, IsBinRun, run_total, total_count};
 ghost use Rattle.cube_view.specs.Walks.{down, across};
@@ -230,13 +230,6 @@ impl Work {
         ensures { result ≡ length self.now.slots }
     {
         self.arena.len()
-    }
-
-    /// Whether there are none.
-    pub fn is_empty(&self) -> bool
-        ensures { IsTrue result ↔ (self.now.slots ≡ []) }
-    {
-        self.arena.is_empty()
     }
 
     /// How many nodes and time tables there are, and how many proper and shared links.

@@ -3,7 +3,7 @@ use Rattle.std.proofs.Common.{◌≡◌, ℕ, zero, suc, ◌<◌, List, [], ◌�
 use Rattle.cube_view.specs.Walks.{down}
 use Rattle.node_arena.specs.declared.link.Link.{Link}
 use Rattle.node_arena.specs.Slots.{Children, Slot, IsRising, child, children_of, slot_of, link_of}
-use Rattle.node_arena.proofs.Labelled.{link_down, child_here, child_past, rising-tail}
+use Rattle.node_arena.proofs.Labels.{link_down, child_here, child_past, rising-tail}
 
 -- the child at a place is that of its label
 child-at : (children : Children) (i : ℕ) (c : ℕ × Link) → IsRising children → i < length children → c ≡ get_or children i c → child children c.0 ≡ Some c.1

@@ -10,7 +10,7 @@ use Rattle.cube_view.specs.Walks.{Step, Walk}
 use Rattle.node_arena.specs.Shape.{home_of, HasHomes}
 use Rattle.node_arena.specs.Slots.{proper, Slot, empty_node, IsRising, children_of, slot_of, link_of}
 use Rattle.node_arena.specs.Stats.{AllRising}
-use Rattle.node_arena.proofs.Linked.{linked-lt}
+use Rattle.node_arena.proofs.Links.{linked-lt}
 use Rattle.cube_image.specs.Conditions.{HasSomeHomes}
 use Rattle.cube_image.specs.Order.{owned_by, IsOrder}
 use Rattle.cube_image.proofs.Owned.{hits, hits-take, hits-at, hits-flat_map-none, hits-flat_map-one, slot_hits, StandOnce, few_once}

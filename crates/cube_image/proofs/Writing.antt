@@ -12,7 +12,7 @@ use Rattle.time_table.specs.Counts.{BinCounts}
 use Rattle.node_arena.specs.declared.link.Link.{Link}
 use Rattle.node_arena.specs.Slots.{Children, Slot, node, table, IsNode, IsTable, children_of, counts_of, link, slot_of}
 use Rattle.node_arena.specs.Stats.{AllRising}
-use Rattle.node_arena.proofs.Reaching.{target-lt}
+use Rattle.node_arena.proofs.Walks.{target-lt}
 use Rattle.cube_image.specs.Bytes.{child_bytes, content_bytes, table_bytes, slot_bytes, head_bytes, image_bytes}
 use Rattle.cube_image.specs.Conditions.{HasSomeHomes, IsReadable}
 use Rattle.cube_image.specs.Image.{most_bytes, IsWritten, HasLongImage}

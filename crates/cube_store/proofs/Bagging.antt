@@ -18,7 +18,7 @@ use Rattle.cube_view.proofs.Weighing.{sound-fits, IsBag-counting}
 use Rattle.node_arena.specs.Amounts.{amount_under, Weighted}
 use Rattle.node_arena.specs.Reach.{weight_at}
 use Rattle.node_arena.specs.Slots.{Slot}
-use Rattle.node_arena.proofs.Reaching.{weight_counts}
+use Rattle.node_arena.proofs.Walks.{weight_counts}
 use Rattle.proper_path.proofs.Labels.{spot_of_schema, shape-point_path}
 use Rattle.proper_path.specs.Paths.{point_path, paths_of}
 use Rattle.cube_store.specs.Counted.{CountsPoints, HasPoints}

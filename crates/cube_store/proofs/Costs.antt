@@ -24,7 +24,7 @@ use Rattle.cube_store.specs.Reading.{IsWalkAddress, slot_under, children_in, cou
 use Rattle.cube_store.proofs.Bagging.{points_of_schema}
 use Rattle.cube_store.proofs.DistinctNumbers.{distinct_count-same, distinct_count-below, below-kept, member-weighing, member-children, member-bins}
 use Rattle.cube_store.proofs.LinkMeaning.{same_amount, under-steps, fits-contained, reached_there, counts_here, below_some, below_none}
-use Rattle.node_arena.proofs.Labelled.{link_down}
+use Rattle.node_arena.proofs.Labels.{link_down}
 use Rattle.cube_store.proofs.ListAmounts.{amount-failing}
 use Rattle.cube_store.proofs.TableTotals.{is_under_at, amount_steps}
 

@@ -19,7 +19,8 @@ use Rattle.cube_view.proofs.Amounts.{amount-nil, amount-cons}
 use Rattle.time_table.specs.Counts.{BinCounts, count_of}
 use Rattle.node_arena.specs.Slots.{Children, child, child_label}
 use Rattle.proper_path.proofs.Leaving.{turned}
-use Rattle.cube_store.proofs.Rising.{from_T, Rises, rises_from_test}
+use Rattle.time_table.proofs.KeyTests.{from_T}
+use Rattle.cube_store.proofs.Rising.{Rises, rises_from_test}
 
 -- Lists with the same numbers have as many different ones
 

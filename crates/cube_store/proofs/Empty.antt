@@ -9,7 +9,7 @@ use Rattle.cube_view.specs.declared.schema.Schema.{Schema}
 use Rattle.node_arena.specs.declared.link.Link.{Link}
 use Rattle.node_arena.specs.Shape.{home_of, HasShape}
 use Rattle.node_arena.specs.Slots.{Slot, empty_node, link_of, slot_of, is_table}
-use Rattle.node_arena.proofs.Linked.{linked-lt}
+use Rattle.node_arena.proofs.Links.{linked-lt}
 use Rattle.proper_path.proofs.Grow.{node_empty}
 use Rattle.cube_store.specs.Counted.{CountsPoints}
 

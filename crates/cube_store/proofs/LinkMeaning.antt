@@ -20,11 +20,11 @@ use Rattle.node_arena.specs.Shape.{IsShaped, home_of}
 use Rattle.node_arena.specs.Slots.{Slot, children_of, count, is_table, link_of, reached, follow, slot_of, target, walk_end}
 use Rattle.node_arena.specs.Calls.{child_from}
 use Rattle.node_arena.specs.declared.link.Link.{Link}
-use Rattle.node_arena.proofs.Reaching.{walk_coarser, walk-lt, walk_counts, walk_reaches, walk_only}
+use Rattle.node_arena.proofs.Walks.{walk_coarser, walk-lt, walk_counts, walk_reaches, walk_only}
 use Rattle.cube_store.specs.Counted.{CountsPoints}
 use Rattle.cube_store.specs.Reading.{IsWalkAddress, StandsAt, spot_weight}
 use Rattle.cube_store.proofs.Bagging.{points_of_schema, Counts-points}
-use Rattle.node_arena.proofs.Labelled.{link_down, IsFirstFrom, child_from-none}
+use Rattle.node_arena.proofs.Labels.{link_down, IsFirstFrom, child_from-none}
 use Rattle.proper_path.proofs.Leaving.{under-down, under-across, under-top}
 use Rattle.group_insert.proofs.GroupParts.{spot_is_of, spot_of_point}
 use Rattle.cube_store.proofs.ListAmounts.{amount-contained, amount-failing, All-contained}

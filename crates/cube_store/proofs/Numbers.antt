@@ -10,7 +10,7 @@ use Rattle.cube_view.specs.Places.{time_dim}
 use Rattle.cube_view.specs.declared.schema.Schema.{Schema}
 use Rattle.node_arena.specs.Slots.{Slot, children_of}
 use Rattle.node_arena.specs.Stats.{stat_of, AllRising}
-use Rattle.node_arena.proofs.Counting.{total_tells}
+use Rattle.node_arena.proofs.LinkCounts.{total_tells}
 use Rattle.cube_store.specs.Counted.{HasPoints}
 use Rattle.cube_store.specs.Numbers.{is_in_memory, lone_root, cube_numbers, OwnsAllButRoot}
 use Rattle.cube_store.proofs.Rising.{rises_from_test, test_from_rises, list_all-from, list_all-to}

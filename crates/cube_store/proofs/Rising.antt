@@ -11,17 +11,13 @@ use Rattle.std.proofs.lemmas.List.{length-map, get_or-map}
 use Rattle.std.proofs.lemmas.List.Elements.{All-nil, All-cons, All-head, All-tail}
 use Rattle.std.proofs.lemmas.List.Kept.{AllPairs-cons}
 use Rattle.std.proofs.lemmas.Map.Made.{distinct_count-from_IsDistinct, IsDistinct-from_AllPairs}
-use Rattle.std.proofs.lemmas.Float.{T_from_true}
-use Rattle.time_table.proofs.Passing.{below}
+use Rattle.time_table.proofs.KeyTests.{less_from}
 
 -- the numbers of the pairs rise
 abbrev pub Rises : {X : Type 0} → List (ℕ × X) → Type 0
 Rises {X} es = AllPairs (λ (a b : ℕ × X). a.0 < b.0) es
 
 -- the test of an order
-less_from : (a b : ℕ) → is_lt (nat_cmp a b) ≡ true → a < b
-less_from a b e = below a b (T_from_true (is_lt (nat_cmp a b)) e)
-
 pub less_to : (a b : ℕ) → a < b → is_lt (nat_cmp a b) ≡ true
 less_to a b lt = rw (lt-ltb a b lt) refl
 
@@ -63,10 +59,6 @@ module _ {X : Type 0} where
           let y : get_or (map (λ (e : ℕ × X). e.0) es) j n ≡ (get_or es j (0, d)).0 = get_or-map (λ (e : ℕ × X). e.0) es j (0, d) n (omega (arith, lj, size)) in
           let r = R i j (0, d) lt (omega (arith, lj, size)) in
           omega (arith, x, y, r, same)
-
-pub from_T : (b : Bool) → T b → b ≡ true
-from_T true t = refl
-from_T false t = absurd t
 
 -- a test of all items
 pub list_all-from : {Y : Type 0} (p : Y → Bool) (ys : List Y) → All (λ y. p y ≡ true) ys → list_all p ys ≡ true

@@ -6,11 +6,11 @@ use Rattle.proper_path.specs.Order.{IsAbove, itself, further}
 use Rattle.node_arena.specs.declared.link.Link.{Link}
 use Rattle.node_arena.specs.Slots.{target, shared, proper, Slot, node, table, child, link, link_of, slot_of}
 use Rattle.node_arena.specs.Shape.{home_of, IsLinked, SharesContent, SharesOnlyContent, IsShaped, AreAlike, HasShape}
-use Rattle.proper_path.specs.Midway.{SharesBetween, HasTwoChildren, DoneBefore, DoneAfter, IsMidway}
+use Rattle.proper_path.specs.Midway.{SharesBetween, HasTwoChildren, HaveTwoChildren, DoneBefore, DoneAfter, IsMidway}
 use Rattle.proper_path.specs.Making.{State, home, AllOfShape}
 use Rattle.cube_view.proofs.Walking.{under_before}
-use Rattle.node_arena.proofs.Linked.{linked-lt}
-use Rattle.point_insert.proofs.Cases.{starts, shape_ends, next_label}
+use Rattle.node_arena.proofs.Links.{linked-lt}
+use Rattle.point_insert.proofs.Cases.{HasAnyChild, starts, shape_ends, old_child}
 use Rattle.proper_path.proofs.Steps.{Between}
 use Rattle.point_insert.specs.Visited.{IsEntered}
 use Rattle.proper_path.proofs.Links.{proper≢shared}
@@ -56,21 +56,15 @@ children slots i label = go (children_of (slot_of slots i) label)
 pub shares_start : (dims : ℕ) (slots : List Slot) (homes : List Walk) (h : List Weighted) (p : Weighted) (done : Walk → Type 0) → HasShape dims slots homes h → AllOfShape (spots_in h) p.spot → SharesBetween slots homes p done
 shares_start dims slots homes h p done S shape = record { shares = λ i label l d O. S.shares i label l O; many = many }
   where
-    many : (i to label : ℕ) → link_of slots i across ≡ Some (proper to) → Under p.spot (down label ∷ home_of homes i) → HasTwoChildren slots i
-    many i to label is u = go (children slots i m.0)
+    many : HaveTwoChildren slots homes p
+    many i to label is u = go (children slots i c.0)
       where
-        w : HasSpot (spots_in h) (across ∷ home_of homes i)
-        w = S.holds.wanted i across (proper to) is
+        c : HasAnyChild slots i
+        c = old_child slots homes (spots_in h) (spots_in h) S.holds p.spot shape i label (linked-lt slots i across (proper to) is) (S.holds.wanted i across (proper to) is) u
 
-        m : (m : ℕ) × Under w.spot (down m ∷ home_of homes i)
-        m = next_label w.spot p.spot (shape w.spot w.is_in) (home_of homes i) label (under_before w.spot across (home_of homes i) w.lies) u
-
-        c : IsLinked slots i (down m.0)
-        c = S.holds.needed i (down m.0) (linked-lt slots i across (proper to) is) (record { spot = w.spot; is_in = w.is_in; lies = m.1 })
-
-        go : OneOrMore slots i m.0 → HasTwoChildren slots i
-        go (alone f) = let s = S.shares i m.0 c.link (record { is = c.is; only = f }) in let x = s.of_node in absurd (proper≢shared to (target s.content) (let m : Some (proper to) ≡ Some (shared (target s.content)) = sym is ∙ x in cc))
-        go (more k l x n) = record { one = k; other = m.0; differ = n; first = l; second = c.link; is_first = x; is_second = c.is }
+        go : OneOrMore slots i c.0 → HasTwoChildren slots i
+        go (alone f) = let s = S.shares i c.0 c.1.link (record { is = c.1.is; only = f }) in let x = s.of_node in absurd (proper≢shared to (target s.content) (let m : Some (proper to) ≡ Some (shared (target s.content)) = sym is ∙ x in cc))
+        go (more k l x n) = record { one = k; other = c.0; differ = n; first = l; second = c.1.link; is_first = x; is_second = c.1.is }
 
 -- nothing comes before the top
 pub none_first : (p : Weighted) (b : Walk) → DoneBefore p [] b → ⊥

@@ -1,5 +1,5 @@
 -- How `csv` reads a field of a regular line.
-use Rattle.std.proofs.Common.{◌≡◌, ◌∙◌, refl, sym, ap, subst, ℕ, ◌+◌, ◌-◌, ◌<◌, ◌≢◌, false, ◌==◌, List, [], ◌∷◌, ◌++◌, length, get_or, take, drop, Some, None, arith}
+use Rattle.std.proofs.Common.{◌≡◌, ◌∙◌, refl, sym, ap, subst, ℕ, ◌+◌, ◌-◌, ◌<◌, ◌≢◌, false, true, ◌==◌, List, [], ◌∷◌, ◌++◌, length, get_or, take, drop, Some, None, arith}
 use Rattle.std.specs.List.{position}
 use Rattle.std.proofs.lemmas.List.{append-nil, append_assoc, length-drop, take_rest}
 use Rattle.std.proofs.lemmas.Bool.Decides.{nat_tests}

@@ -1,6 +1,6 @@
 -- The visit of a node for a group: its content, its labels one after the other, and its end.
 use Rattle.std.proofs.Common.{◌≡◌, ℕ, ◌+◌, ◌<◌, ◌≤◌, false, ◌⊎◌, inl, inr, List, [], ◌∷◌, ◌++◌, Option, Some, None, Contains, length, refl, sym, ap, ◌∙◌, subst, arith}
-use Rattle.std.proofs.lemmas.Bool.{cases_eq}
+use Rattle.std.proofs.lemmas.Bool.{cases_eq, cases_lt}
 use Rattle.std.proofs.lemmas.List.{get_or_push, length_push}
 use Rattle.std.proofs.lemmas.List.Elements.{All-contains}
 use Rattle.cube_view.specs.Walks.{Step, down, across, Walk, SpotPath, Under, HasSpot}
@@ -22,7 +22,7 @@ use Rattle.group_insert.specs.Turns.{EndedBefore, EndedAfter, IsOpenAbove}
 use Rattle.group_insert.specs.Visits.{ArePoints, HasVisitedAll, IsLabelOf, HasTwoLabels, HasOneLabel, HasNoLabel, TellsLabels, HasContentFor, PutsBelow, IsGone, IsAmong}
 use Rattle.group_insert.proofs.Earlier.{earlier-irreflexive}
 use Rattle.group_insert.proofs.Entries.{halfway_put_off}
-use Rattle.group_insert.proofs.VisitEnd.{IsFinished, node_ends, last_label}
+use Rattle.group_insert.proofs.VisitEnd.{LeadsAll, IsFinished, node_ends, last_label}
 use Rattle.group_insert.proofs.Growth.{halfway_made}
 use Rattle.group_insert.proofs.SameState.{halfway_same}
 use Rattle.group_insert.proofs.OneChild.{one_child_free}
@@ -151,11 +151,8 @@ among_next dims h g old mid next new homes homes' before put after i j m only fr
 
     gone : (n : ℕ) → n < m + 1 → HasSpot (spots_in g) (down n ∷ home_of homes i) → (n ≡ m) ⊎ (n ≡ m → ⊥) → IsGone new after i only n
     gone n x u (inl e) = inl (j, ap (λ z. link_of new i (down z)) e ∙ here)
-    gone n x u (inr d) = go (first n)
+    gone n x u (inr d) = go (cases_lt n from)
       where
-        first : (n : ℕ) → (n < from) ⊎ (from ≤ n)
-        first n = grind arith
-
         still : IsGone mid put i only n → IsGone new after i only n
         still (inl r) = inl (r.0, other n d ∙ r.1)
         still (inr r) = inr (r.0, put_stays V.homes' (home_of homes' j) put after i (down n) V.puts r.1)
@@ -202,15 +199,12 @@ among_put dims h g old mid homes before put k from lt A le none may = record {
     N : IsHalfwayBefore dims mid A.homes' h g put (down k.label ∷ home_of homes k.node)
     N = halfway_same dims mid A.homes' h g (EndedBefore g (down from ∷ home_of homes k.node)) (IsOpenAbove (down from ∷ home_of homes k.node)) (EndedBefore g (down k.label ∷ home_of homes k.node)) (IsOpenAbove (down k.label ∷ home_of homes k.node)) put (over_labels mid A.homes' g (home_of homes k.node) from k.label le none) A.halfway
 
-    first : (n : ℕ) → (n < from) ⊎ (from ≤ n)
-    first n = grind arith
-
     split : (n : ℕ) → n < k.label + 1 → (n ≡ k.label → ⊥) → n < k.label
     split n l x = grind arith
 
     gone : (n : ℕ) → n < k.label + 1 → HasSpot (spots_in g) (down n ∷ home_of homes k.node) → (n ≡ k.label) ⊎ (n ≡ k.label → ⊥) → IsGone mid (put ++ k ∷ []) k.node None n
     gone n x u (inl e) = inr (refl, (length put, k, omega (arith, length_push put k), get_or_push put k k (length put) refl, (refl, ap down (sym e))))
-    gone n x u (inr d) = go (first n)
+    gone n x u (inr d) = go (cases_lt n from)
       where
         still : IsGone mid put k.node None n → IsGone mid (put ++ k ∷ []) k.node None n
         still (inl r) = inl r
@@ -243,11 +237,8 @@ among_ends dims h g old new homes before put i from P lt nd w T A none = record 
     lt_new : i < length new
     lt_new = omega (arith, lt, A.keeps.size)
 
-    first : (n : ℕ) → (n < from) ⊎ (from ≤ n)
-    first n = grind arith
-
     own : (n : ℕ) → HasSpot (spots_in g) (down n ∷ home_of homes i) → IsGone new put i None n
-    own n u = go (first n)
+    own n u = go (cases_lt n from)
       where
         go : (n < from) ⊎ (from ≤ n) → IsGone new put i None n
         go (inl y) = A.gone n y u
@@ -256,7 +247,7 @@ among_ends dims h g old new homes before put i from P lt nd w T A none = record 
     right : (e : Step) (q : SpotPath) → Under q (e ∷ home_of A.homes' i) → (j : ℕ) × (link_of new i e ≡ Some (proper j)) → LeadsRight new A.homes' i e q
     right e q u r = record { link = proper r.0; is = r.1; lies = subst (Under q) (sym (M.has_homes.at_home i r.0 e r.1).1) u }
 
-    links : (e : Step) (q : SpotPath) → Contains (spots_in g) q → Under q (e ∷ home_of A.homes' i) → LeadsRight new A.homes' i e q ⊎ IsPut put i e
+    links : LeadsAll new A.homes' g put i
     links (down n) q c u = pick (own n (record { spot = q; is_in = c; lies = subst (λ z. Under q (down n ∷ z)) at u }))
       where
         pick : IsGone new put i None n → LeadsRight new A.homes' i (down n) q ⊎ IsPut put i (down n)

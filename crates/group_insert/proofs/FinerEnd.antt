@@ -8,7 +8,7 @@ use Rattle.cube_view.proofs.Walking.{step_across_finer, under_before, finer-refl
 use Rattle.node_arena.specs.Amounts.{Weighted, spots_in}
 use Rattle.node_arena.specs.Shape.{home_of}
 use Rattle.node_arena.specs.Slots.{target, Slot, walk_end, follow, reached}
-use Rattle.node_arena.proofs.Reaching.{link_coarser, target-lt}
+use Rattle.node_arena.proofs.Walks.{link_coarser, target-lt}
 use Rattle.proper_path.specs.Order.{IsAbove, itself, further, IsBefore}
 use Rattle.proper_path.proofs.Above.{under_above, comes_before}
 use Rattle.proper_path.proofs.Order.{above-trans, above-step, above-length, above_both, above_last, not_before_above, before-trans}
@@ -16,7 +16,7 @@ use Rattle.group_insert.specs.FinerWalk.{finer_steps}
 use Rattle.group_insert.specs.Halfway.{LeadsRight, IsHalfway}
 use Rattle.group_insert.specs.Later.{PutOff, link_address, IsPutOff, IsPut}
 use Rattle.group_insert.proofs.FinerWalk.{space_above, turn_above, base_above, finer_than_link, under_finer}
-use Rattle.group_insert.proofs.StartEnd.{group_spot}
+use Rattle.node_arena.proofs.AddressAmounts.{spots_in-append_cases}
 
 -- a slot that holds all that lies under an address, and whose home is finer
 pub record HoldsAll (slots : List Slot) (homes : List Walk) (all : List SpotPath) (a : Walk) (j : ℕ) : Type 0 where
@@ -107,7 +107,7 @@ module _ (dims : ℕ) (slots : List Slot) (homes : List Walk) (h g : List Weight
     holds = record {
       in_range = target-lt slots homes M.has_homes E.slot e R.link R.is;
       coarser = finer-trans (finer-step E.holds.coarser e) (link_coarser slots homes M.has_homes E.slot e R.link R.is);
-      agrees = λ q c u. agrees q c u (group_spot g h q c);
+      agrees = λ q c u. agrees q c u (spots_in-append_cases g h q c);
     };
   }
     where

@@ -4,7 +4,7 @@ use Rattle.cube_view.specs.Walks.{down, across, Walk, SpotPath, Cursor, after_ac
 use Rattle.cube_view.proofs.Walking.{begun, later_kept, under-some, coarser_under, finer-refl, loosen, finer-step, finer-trans}
 use Rattle.node_arena.specs.Shape.{home_of, HasHomes, HoldsSpots}
 use Rattle.node_arena.specs.Slots.{shared, Slot, walk_end}
-use Rattle.node_arena.proofs.Reaching.{link_coarser, target-lt, last_step}
+use Rattle.node_arena.proofs.Walks.{link_coarser, target-lt, last_step}
 use Rattle.proper_path.specs.Order.{IsAbove, itself, further}
 use Rattle.proper_path.proofs.Above.{under_above}
 use Rattle.proper_path.proofs.Dims.{dimension-before}

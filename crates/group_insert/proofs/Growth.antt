@@ -9,7 +9,7 @@ use Rattle.node_arena.specs.Calls.{copied}
 use Rattle.node_arena.specs.Shape.{home_of, HasHomes}
 use Rattle.node_arena.specs.Slots.{proper, target, Slot, link_of, slot_of}
 use Rattle.node_arena.specs.declared.link.Link.{Link}
-use Rattle.node_arena.proofs.Reaching.{target-lt}
+use Rattle.node_arena.proofs.Walks.{target-lt}
 use Rattle.proper_path.specs.Changes.{IsGrown, Came, of_new, of_set, of_old, of_none}
 use Rattle.proper_path.specs.Making.{State, home, AddsSlot, Makes, has, copies, adds}
 use Rattle.proper_path.proofs.Between.{tables_grown, counts_grown}

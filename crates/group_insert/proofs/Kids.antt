@@ -6,7 +6,7 @@ use Rattle.node_arena.specs.Calls.{child_from}
 use Rattle.node_arena.specs.Shape.{IsLinked}
 use Rattle.node_arena.specs.Slots.{Slot, node, table, children_of, link, link_of, slot_of}
 use Rattle.node_arena.specs.declared.link.Link.{Link}
-use Rattle.node_arena.proofs.Labelled.{child_here}
+use Rattle.node_arena.proofs.Labels.{child_here}
 use Rattle.point_insert.specs.Visited.{TellsOnlyChild}
 use Rattle.proper_path.specs.Midway.{HasTwoChildren}
 use Rattle.group_insert.specs.Labels.{TellsAlone}

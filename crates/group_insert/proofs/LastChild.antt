@@ -1,5 +1,6 @@
 -- The visit of a node of one label ends: it shares its child's content.
 use Rattle.std.proofs.Common.{◌≡◌, ℕ, ◌<◌, ◌≤◌, Bool, true, false, ◌⊎◌, inl, inr, List, ◌∷◌, ◌++◌, Some, Contains, length, refl, sym, ap, ◌∙◌, subst, subst₂, arith, true≢false}
+use Rattle.std.proofs.lemmas.Bool.{cases_lt}
 use Rattle.std.proofs.lemmas.List.Elements.{All-contains}
 use Rattle.cube_view.specs.Walks.{Step, down, across, Walk, SpotPath, Under, HasSpot, dimension}
 use Rattle.cube_view.proofs.Walking.{under_before}
@@ -7,7 +8,7 @@ use Rattle.node_arena.specs.Amounts.{Weighted, spots_in}
 use Rattle.node_arena.specs.Shape.{home_of, HasOneChild, SharesContent}
 use Rattle.node_arena.specs.Slots.{proper, shared, target, Slot, link_of, slot_of, is_table}
 use Rattle.node_arena.specs.declared.link.Link.{Link}
-use Rattle.node_arena.proofs.Labelled.{same_down}
+use Rattle.node_arena.proofs.Labels.{same_down}
 use Rattle.proper_path.specs.Changes.{IsRelinked}
 use Rattle.proper_path.specs.Order.{IsAbove, itself}
 use Rattle.point_insert.proofs.Cases.{one_child_leads}
@@ -17,9 +18,9 @@ use Rattle.proper_path.proofs.Steps.{keeps-trans}
 use Rattle.group_insert.specs.Halfway.{LeadsRight, WillHaveTwo, IsHalfwayBefore, IsHalfwayAfter}
 use Rattle.group_insert.specs.Later.{PutOff, IsPutOff, IsPut}
 use Rattle.group_insert.specs.Turns.{EndedBefore, EndedAfter, IsOpenAbove}
-use Rattle.group_insert.specs.Visits.{ArePoints, HasVisitedAll, IsLabelOf, HasOneLabel, IsGone, IsAmong}
+use Rattle.group_insert.specs.Visits.{ArePoints, HasVisitedAll, IsLabelOf, HasOneLabel, HasOwn, IsGone, IsAmong}
 use Rattle.group_insert.proofs.Earlier.{lesser_earlier}
-use Rattle.group_insert.proofs.VisitEnd.{IsFinished, node_ends, last_label}
+use Rattle.group_insert.proofs.VisitEnd.{LeadsAll, IsFinished, node_ends, last_label}
 use Rattle.group_insert.proofs.OneChild.{one_child_right}
 use Rattle.group_insert.proofs.SharedLink.{halfway_relinked}
 use Rattle.group_insert.proofs.StartEnd.{old_spot}
@@ -47,21 +48,18 @@ module _ (dims : ℕ) (h g : List Weighted) (old mid : List Slot) (homes : List 
   lies : Under w.spot (down l ∷ home_of A.homes' i)
   lies = subst (λ z. Under w.spot (down l ∷ z)) (sym at) goes
 
-  first : (n : ℕ) → (n < from) ⊎ (from ≤ n)
-  first n = grind arith
-
   passed : l < from
-  passed = go (first l)
+  passed = go (cases_lt l from)
     where
       go : (l < from) ⊎ (from ≤ l) → l < from
       go (inl y) = y
       go (inr y) = absurd (none l w.spot y w.is_in goes)
 
   -- the child of that label is the node's own, and it has been visited
-  pub child : (j : ℕ) × (link_of mid i (down l) ≡ Some (proper j))
+  pub child : HasOwn mid i (down l)
   child = go (A.gone l passed (record { spot = w.spot; is_in = w.is_in; lies = goes }))
     where
-      go : IsGone mid put i (Some l) l → (j : ℕ) × (link_of mid i (down l) ≡ Some (proper j))
+      go : IsGone mid put i (Some l) l → HasOwn mid i (down l)
       go (inl r) = r
       go (inr r) = let n = r.0 in absurd cc
 
@@ -128,7 +126,7 @@ module _ (dims : ℕ) (h g : List Weighted) (old mid : List Slot) (homes : List 
     below : (n : ℕ) → link_of new i (down n) ≡ link_of mid i (down n)
     below n = R.old_link i (down n) (λ a b. let z : ⊥ = cc in z)
 
-    links : (e : Step) (q : SpotPath) → Contains (spots_in g) q → Under q (e ∷ home_of A.homes' i) → LeadsRight new A.homes' i e q ⊎ IsPut put i e
+    links : LeadsAll new A.homes' g put i
     links (down n) q d u =
         let v : Under q (down n ∷ home_of homes i) = subst (λ z. Under q (down n ∷ z)) at u in
         let e : n ≡ l = same_down q n l (home_of homes i) v (T.all q d (under_before q (down n) (home_of homes i) v)) in

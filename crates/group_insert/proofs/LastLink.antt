@@ -5,7 +5,7 @@ use Rattle.std.proofs.lemmas.List.{get_or_push, length_push}
 use Rattle.cube_view.specs.Walks.{Step, down, across, Walk, SpotPath, HasSpot, dimension}
 use Rattle.cube_view.proofs.Walking.{under_before}
 use Rattle.node_arena.specs.Calls.{put, relink, put_child, set_child}
-use Rattle.node_arena.proofs.Linked.{linked-lt}
+use Rattle.node_arena.proofs.Links.{linked-lt}
 use Rattle.node_arena.specs.Amounts.{Weighted, spots_in}
 use Rattle.node_arena.specs.Shape.{home_of, HasOneChild, SharesContent}
 use Rattle.node_arena.specs.Slots.{proper, shared, target, Slot, link_of, slot_of, is_table, walk_end}

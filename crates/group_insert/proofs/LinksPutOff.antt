@@ -54,23 +54,24 @@ puts_grown old new homes h g done put i e s G H fresh P = record {
         let y = address (get_or put n d) (P.put_off n d lt) in
         P.in_order m n d l lt (subst₂ IsBefore x y r)
 
+-- a link that is put off stays so, where it becomes no proper one
+pub still_put_off : (old new : List Slot) (homes : List Walk) (h g : List Weighted) → length new ≡ length old → (k : PutOff) → ((j : ℕ) → link_of new k.node (down k.label) ≡ Some (proper j) → link_of old k.node (down k.label) ≡ Some (proper j)) → IsPutOff old homes h g k → IsPutOff new homes h g k
+still_put_off old new homes h g size k back o = record {
+  in_range = (omega (arith, size, o.in_range.0), omega (arith, size, o.in_range.1));
+  leads = o.leads;
+  free = λ j x. o.free j (back j x);
+  wanted = o.wanted;
+  turns = o.turns;
+}
+
 pub puts_relinked : (old new : List Slot) (homes : List Walk) (h g : List Weighted) (done : Walk → Type 0) (put : List PutOff) (i u : ℕ) (e : Step) → IsRelinked old new i e (shared u) → PutsOff old homes h g done put → PutsOff new homes h g done put
 puts_relinked old new homes h g done put i u e R P = record {
-  put_off = λ n d lt. put_off (get_or put n d) (P.put_off n d lt);
+  put_off = λ n d lt. still_put_off old new homes h g R.size (get_or put n d) (λ j x. back (get_or put n d) j x (same_place (get_or put n d).node i (down (get_or put n d).label) e)) (P.put_off n d lt);
   ended = P.ended;
   wide = λ n d lt x. two_relinked old new i u e R put (get_or put n d).node (P.wide n d lt x);
   in_order = P.in_order;
 }
   where
-    put_off : (k : PutOff) → IsPutOff old homes h g k → IsPutOff new homes h g k
-    put_off k o = record {
-      in_range = (omega (arith, R.size, o.in_range.0), omega (arith, R.size, o.in_range.1));
-      leads = o.leads;
-      free = λ j x. free j x (same_place k.node i (down k.label) e);
-      wanted = o.wanted;
-      turns = o.turns;
-    }
-      where
-        free : (j : ℕ) → link_of new k.node (down k.label) ≡ Some (proper j) → ((k.node ≡ i) × (down k.label ≡ e)) ⊎ (k.node ≡ i → down k.label ≡ e → ⊥) → ⊥
-        free j x (inl y) = let z : link_of new k.node (down k.label) ≡ Some (shared u) = subst₂ (λ a b. link_of new a b ≡ Some (shared u)) (sym y.0) (sym y.1) R.set_link in proper≢shared j u (let m : Some (proper j) ≡ Some (shared u) = sym x ∙ z in cc)
-        free j x (inr n) = o.free j (sym (R.old_link k.node (down k.label) n) ∙ x)
+    back : (k : PutOff) (j : ℕ) → link_of new k.node (down k.label) ≡ Some (proper j) → ((k.node ≡ i) × (down k.label ≡ e)) ⊎ (k.node ≡ i → down k.label ≡ e → ⊥) → link_of old k.node (down k.label) ≡ Some (proper j)
+    back k j x (inl y) = let z : link_of new k.node (down k.label) ≡ Some (shared u) = subst₂ (λ a b. link_of new a b ≡ Some (shared u)) (sym y.0) (sym y.1) R.set_link in absurd (proper≢shared j u (let m : Some (proper j) ≡ Some (shared u) = sym x ∙ z in cc))
+    back k j x (inr n) = sym (R.old_link k.node (down k.label) n) ∙ x

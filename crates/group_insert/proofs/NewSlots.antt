@@ -7,7 +7,7 @@ use Rattle.node_arena.specs.Calls.{copied}
 use Rattle.node_arena.specs.Shape.{home_of, HasHomes}
 use Rattle.node_arena.specs.Slots.{proper, shared, Slot, link, link_of, slot_of, is_table}
 use Rattle.node_arena.specs.declared.link.Link.{Link}
-use Rattle.node_arena.proofs.Amounting.{amount-none}
+use Rattle.node_arena.proofs.AddressAmounts.{amount-none}
 use Rattle.proper_path.specs.Order.{IsBefore}
 use Rattle.proper_path.proofs.Above.{comes_before}
 use Rattle.proper_path.proofs.Between.{CountsAt, copy_counts}

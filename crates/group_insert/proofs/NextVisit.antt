@@ -1,5 +1,6 @@
 -- From one visit of a group to the next.
 use Rattle.std.proofs.Common.{◌≡◌, ℕ, ◌+◌, ◌<◌, ◌≤◌, ◌⊎◌, inl, inr, List, ◌∷◌, Contains, length, ap, subst, arith}
+use Rattle.std.proofs.lemmas.Bool.{cases_lt}
 use Rattle.cube_view.specs.Walks.{Step, down, across, Walk, SpotPath, Under, HasSpot}
 use Rattle.node_arena.specs.Amounts.{Weighted, spots_in}
 use Rattle.node_arena.specs.Shape.{home_of, HasHomes}
@@ -82,13 +83,10 @@ over_labels slots homes g a k m le none = record {
     to b (in_content f) = content_earlier f
     to b (in_lesser n x f) = lesser_earlier (omega (arith, x, le)) f
 
-    split : (n : ℕ) → (n < k) ⊎ (k ≤ n)
-    split n = grind arith
-
     back : (b : Walk) → HasSpot (spots_in g) b → EarlierDown m a b → IsEarlier b (down k ∷ a)
     back b w (outside r) = earlier_below r (further itself)
     back b w (in_content f) = content_earlier f
-    back b w (in_lesser n x f) = go (split n)
+    back b w (in_lesser n x f) = go (cases_lt n k)
       where
         go : (n < k) ⊎ (k ≤ n) → IsEarlier b (down k ∷ a)
         go (inl y) = lesser_earlier y f

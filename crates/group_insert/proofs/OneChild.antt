@@ -3,12 +3,12 @@ use Rattle.std.proofs.Common.{◌≡◌, ℕ, ◌<◌, Bool, false, ◌⊎◌, i
 use Rattle.cube_view.specs.Walks.{down, across, Walk, SpotPath, Under, Finer, top, by_down, by_across, longer, HasSpot, dimension}
 use Rattle.cube_view.proofs.Walking.{under_before}
 use Rattle.node_arena.specs.Amounts.{Weighted, spots_in}
-use Rattle.node_arena.specs.Shape.{home_of, HasHomes, SharesContent}
+use Rattle.node_arena.specs.Shape.{home_of, HasHomes, IsLinked, SharesContent}
 use Rattle.node_arena.specs.Slots.{proper, shared, target, Slot, link_of}
 use Rattle.node_arena.specs.declared.link.Link.{Link}
-use Rattle.node_arena.proofs.Linked.{linked-lt, link_cases}
-use Rattle.node_arena.proofs.Reaching.{target-lt, link_coarser}
-use Rattle.point_insert.proofs.Cases.{next_label, within_down, across_within}
+use Rattle.node_arena.proofs.Links.{linked-lt, link_cases}
+use Rattle.node_arena.proofs.Walks.{target-lt, link_coarser}
+use Rattle.point_insert.proofs.Cases.{HasAnyChild, old_child, within_down, across_within}
 use Rattle.proper_path.specs.Making.{AllOfShape}
 use Rattle.proper_path.proofs.Homes.{IsFree, home_free}
 use Rattle.proper_path.proofs.Links.{proper≢shared}
@@ -22,23 +22,17 @@ use Rattle.group_insert.proofs.StartEnd.{old_spot}
 pub one_child_free : (dims : ℕ) (slots : List Slot) (homes : List Walk) (h g : List Weighted) (done open' : Walk → Type 0) (put : List PutOff) (i label : ℕ) (p : SpotPath) → ((m : ℕ) → IsPut put i (down m) → ⊥) → IsHalfway dims slots homes h g done open' put → AllOfShape (spots_in (g ++ h)) p → Under p (down label ∷ home_of homes i) → (done (home_of homes i) → ⊥) → (open' (home_of homes i) → ⊥) → ((m : ℕ) (k : Link) → link_of slots i (down m) ≡ Some k → m ≡ label) → IsFree slots i across
 one_child_free dims slots homes h g done open' put i label p none M shape u d o only j is = go (M.shares.shares i label l o (record { is = is'; only = only }))
   where
-    w : HasSpot (spots_in h) (across ∷ home_of homes i)
-    w = M.untouched i across (proper j) d o is
-
-    m : (m : ℕ) × Under w.spot (down m ∷ home_of homes i)
-    m = next_label w.spot p (shape w.spot (old_spot g h w.spot w.is_in)) (home_of homes i) label (under_before w.spot across (home_of homes i) w.lies) u
+    c : HasAnyChild slots i
+    c = old_child slots homes (spots_in h) (spots_in (g ++ h)) M.holds p (λ q x. shape q (old_spot g h q x)) i label (linked-lt slots i across (proper j) is) (M.untouched i across (proper j) d o is) u
 
     l : Link
-    l = (M.holds.needed i (down m.0) (linked-lt slots i across (proper j) is) (record { spot = w.spot; is_in = w.is_in; lies = m.1 })).link
-
-    l_is : link_of slots i (down m.0) ≡ Some l
-    l_is = (M.holds.needed i (down m.0) (linked-lt slots i across (proper j) is) (record { spot = w.spot; is_in = w.is_in; lies = m.1 })).is
+    l = c.1.link
 
     is' : link_of slots i (down label) ≡ Some l
-    is' = subst (λ z. link_of slots i (down z) ≡ Some l) (only m.0 l l_is) l_is
+    is' = subst (λ z. link_of slots i (down z) ≡ Some l) (only c.0 l c.1.is) c.1.is
 
     go : SharesContent slots i l ⊎ WillHaveTwo slots put i → ⊥
-    go (inl c) = proper≢shared j (target c.content) (let x : Some (proper j) ≡ Some (shared (target c.content)) = sym is ∙ c.of_node in cc)
+    go (inl s) = proper≢shared j (target s.content) (let x : Some (proper j) ≡ Some (shared (target s.content)) = sym is ∙ s.of_node in cc)
     go (inr t) = one_not_two slots put i label l (record { is = is'; only = only }) none t
 
 -- the home of an only child's content holds each point of the group that goes across, once the child has been visited

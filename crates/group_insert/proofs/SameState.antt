@@ -4,17 +4,18 @@ use Rattle.cube_view.specs.Walks.{Walk, HasSpot}
 use Rattle.node_arena.specs.Amounts.{Weighted, spots_in}
 use Rattle.node_arena.specs.Shape.{home_of}
 use Rattle.node_arena.specs.Slots.{Slot}
-use Rattle.node_arena.proofs.Linked.{linked-lt}
+use Rattle.node_arena.proofs.Links.{linked-lt}
 use Rattle.cube_view.specs.Walks.{down}
+use Rattle.proper_path.specs.Midway.{IsPartOf}
 use Rattle.group_insert.specs.Halfway.{IsHalfway}
 use Rattle.group_insert.specs.Later.{PutOff}
 
 -- At the homes of slots the same is done, elsewhere more may be, and more may be open.
 pub record IsSameTurn (slots : List Slot) (homes : List Walk) (g : List Weighted) (done open' next open'' : Walk → Type 0) : Type 0 where
-  pub to : (b : Walk) → done b → next b
+  pub to : IsPartOf done next
   pub back : (j : ℕ) → j < length slots → next (home_of homes j) → done (home_of homes j)
-  pub holds : (b : Walk) → next b → HasSpot (spots_in g) b
-  pub wider : (b : Walk) → open' b → open'' b
+  pub holds : IsPartOf next (HasSpot (spots_in g))
+  pub wider : IsPartOf open' open''
 
 pub halfway_same : (dims : ℕ) (slots : List Slot) (homes : List Walk) (h g : List Weighted) (done open' next open'' : Walk → Type 0) (put : List PutOff) → IsSameTurn slots homes g done open' next open'' → IsHalfway dims slots homes h g done open' put → IsHalfway dims slots homes h g next open'' put
 halfway_same dims slots homes h g done open' next open'' put N M = record {

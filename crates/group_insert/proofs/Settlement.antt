@@ -10,7 +10,7 @@ use Rattle.std.specs.Coded.{le_prop}
 use Rattle.cube_view.specs.Walks.{down, Walk}
 use Rattle.node_arena.specs.Shape.{home_of}
 use Rattle.node_arena.specs.Slots.{shared, Slot, slot_of, is_table, walk_end}
-use Rattle.node_arena.proofs.Reaching.{target-lt}
+use Rattle.node_arena.proofs.Walks.{target-lt}
 use Rattle.proper_path.specs.Changes.{IsRelinked}
 use Rattle.proper_path.specs.Order.{IsAbove}
 use Rattle.proper_path.specs.Rooted.{state}

@@ -7,8 +7,8 @@ use Rattle.node_arena.specs.Calls.{copied, share}
 use Rattle.node_arena.specs.Shape.{home_of, HasHomes, IsLinked, HasOneChild, SharesContent}
 use Rattle.node_arena.specs.Slots.{proper, shared, target, Slot, link, link_of, slot_of}
 use Rattle.node_arena.specs.declared.link.Link.{Link}
-use Rattle.node_arena.proofs.Linked.{linked-lt, link_cases}
-use Rattle.node_arena.proofs.Reaching.{target-lt, link_coarser}
+use Rattle.node_arena.proofs.Links.{linked-lt, link_cases}
+use Rattle.node_arena.proofs.Walks.{target-lt, link_coarser}
 use Rattle.proper_path.specs.Changes.{IsGrown, Came, of_new, of_set, of_old, of_none, IsRelinked}
 use Rattle.proper_path.specs.Order.{IsAbove, itself, further, IsBefore}
 use Rattle.proper_path.proofs.Above.{comes_before}
@@ -110,12 +110,21 @@ pub record SharesAt (slots : List Slot) (i : ℕ) (e : Step) (s : Slot) (l : Lin
 abbrev pub StandsShared : List Slot → ℕ → Step → Slot → Type 0
 StandsShared slots i e s = (label : ℕ) (l : Link) → link s (down label) ≡ Some l → ((m : ℕ) (k : Link) → link s (down m) ≡ Some k → m ≡ label) → SharesAt slots i e s l
 
-pub two_grown : (old new : List Slot) (i : ℕ) (e : Step) (s : Slot) → IsGrown old new i e s → (put : List PutOff) (j : ℕ) → j < length old → WillHaveTwo old put j → WillHaveTwo new put j
-two_grown old new i e s G put j lt t = record { one = t.one; other = t.other; differ = t.differ; at_one = more t.one t.at_one; at_other = more t.other t.at_other }
+-- a node that will have two children will have them, where each child stays one
+pub two_kept : (old new : List Slot) (put : List PutOff) (j : ℕ) → ((m : ℕ) → IsLinked old j (down m) → IsLinked new j (down m)) → WillHaveTwo old put j → WillHaveTwo new put j
+two_kept old new put j still t = record { one = t.one; other = t.other; differ = t.differ; at_one = more t.one t.at_one; at_other = more t.other t.at_other }
   where
     more : (m : ℕ) → IsLinked old j (down m) ⊎ IsPut put j (down m) → IsLinked new j (down m) ⊎ IsPut put j (down m)
-    more m (inl x) = inl (still_linked old new i e s G j (down m) lt x)
+    more m (inl x) = inl (still m x)
     more m (inr x) = inr x
+
+-- and so does one whose only child is its own or that will
+pub own_kept : (old new : List Slot) (put : List PutOff) (j : ℕ) (l : Link) → (WillHaveTwo old put j → WillHaveTwo new put j) → ((to : ℕ) × (l ≡ proper to)) ⊎ WillHaveTwo old put j → ((to : ℕ) × (l ≡ proper to)) ⊎ WillHaveTwo new put j
+own_kept old new put j l two (inl x) = inl x
+own_kept old new put j l two (inr t) = inr (two t)
+
+pub two_grown : (old new : List Slot) (i : ℕ) (e : Step) (s : Slot) → IsGrown old new i e s → (put : List PutOff) (j : ℕ) → j < length old → WillHaveTwo old put j → WillHaveTwo new put j
+two_grown old new i e s G put j lt = two_kept old new put j (λ m x. still_linked old new i e s G j (down m) lt x)
 
 -- the arena grows at a link of an open node
 pub shares_grown_by : (old new : List Slot) (homes : List Walk) (g : List Weighted) (done open' : Walk → Type 0) (put : List PutOff) (i : ℕ) (e : Step) (s : Slot) → IsGrown old new i e s → HasHomes old homes → IsTurnOf g done open' (home_of homes i) → IsFresh done open' (e ∷ home_of homes i) → StandsShared old i e s → SharesWithin old homes done open' put → SharesWithin new (grown_homes homes i e) done open' put
@@ -172,14 +181,10 @@ shares_grown_by old new homes g done open' put i e s G H T F X S = record {
     own_child : (j label : ℕ) (l : Link) → done (grown_home homes i e j) → HasOneChild new j label l → Came old i e s (Some (proper (length old))) j (down label) (link_of new j (down label)) → ((to : ℕ) × (l ≡ proper to)) ⊎ WillHaveTwo new put j
     own_child j label l d O (of_new en el) = absurd (F.not_done (e ∷ home_of homes i) (inl refl) (subst done (ap (grown_home homes i e) en ∙ K.is_new) d))
     own_child j label l d O (of_set ei ee el) = absurd (T.not_done (subst done (at_set j ei) d))
-    own_child j label l d O (of_old lt ne el) = pick (S.own_child j label l d' (before j label l lt (λ x. T.not_done (subst (λ z. done (home_of homes z)) x d')) O))
+    own_child j label l d O (of_old lt ne el) = own_kept old new put j l (two_grown old new i e s G put j lt) (S.own_child j label l d' (before j label l lt (λ x. T.not_done (subst (λ z. done (home_of homes z)) x d')) O))
       where
         d' : done (home_of homes j)
         d' = subst done (K.was j lt) d
-
-        pick : ((to : ℕ) × (l ≡ proper to)) ⊎ WillHaveTwo old put j → ((to : ℕ) × (l ≡ proper to)) ⊎ WillHaveTwo new put j
-        pick (inl x) = inl x
-        pick (inr t) = inr (two_grown old new i e s G put j lt t)
     own_child j label l d O (of_none el) = let k = O.is in absurd cc
 
 -- two children are not one
@@ -230,15 +235,11 @@ pub empty_shares : (slots : List Slot) (i : ℕ) (e : Step) (s : Slot) → IsEmp
 empty_shares slots i e s E label l at only = let n = E.no_link (down label) in absurd cc
 
 pub two_relinked : (old new : List Slot) (i u : ℕ) (e : Step) → IsRelinked old new i e (shared u) → (put : List PutOff) (j : ℕ) → WillHaveTwo old put j → WillHaveTwo new put j
-two_relinked old new i u e R put j t = record { one = t.one; other = t.other; differ = t.differ; at_one = more t.one t.at_one; at_other = more t.other t.at_other }
+two_relinked old new i u e R put j = two_kept old new put j (λ m x. still m x (same_place j i (down m) e))
   where
     still : (m : ℕ) → IsLinked old j (down m) → ((j ≡ i) × (down m ≡ e)) ⊎ (j ≡ i → down m ≡ e → ⊥) → IsLinked new j (down m)
     still m x (inl y) = record { link = shared u; is = subst₂ (λ a b. link_of new a b ≡ Some (shared u)) (sym y.0) (sym y.1) R.set_link }
     still m x (inr n) = record { link = x.link; is = R.old_link j (down m) n ∙ x.is }
-
-    more : (m : ℕ) → IsLinked old j (down m) ⊎ IsPut put j (down m) → IsLinked new j (down m) ⊎ IsPut put j (down m)
-    more m (inl x) = inl (still m x (same_place j i (down m) e))
-    more m (inr x) = inr x
 
 -- a link of an open node becomes shared
 pub shares_relinked_by : (old new : List Slot) (homes : List Walk) (g : List Weighted) (done open' : Walk → Type 0) (put : List PutOff) (i u : ℕ) (e : Step) → IsRelinked old new i e (shared u) → HasHomes old homes → IsTurnOf g done open' (home_of homes i) → SharesWithin old homes done open' put → SharesWithin new homes done open' put
@@ -268,8 +269,4 @@ shares_relinked_by old new homes g done open' put i u e R H T S = record { share
         pick (inr t) = inr (two_relinked old new i u e R put j t)
 
     own_child : (j label : ℕ) (l : Link) → done (home_of homes j) → HasOneChild new j label l → ((to : ℕ) × (l ≡ proper to)) ⊎ WillHaveTwo new put j
-    own_child j label l d O = pick (S.own_child j label l d (before j label l (λ x. T.not_done (subst (λ z. done (home_of homes z)) x d)) O))
-      where
-        pick : ((to : ℕ) × (l ≡ proper to)) ⊎ WillHaveTwo old put j → ((to : ℕ) × (l ≡ proper to)) ⊎ WillHaveTwo new put j
-        pick (inl x) = inl x
-        pick (inr t) = inr (two_relinked old new i u e R put j t)
+    own_child j label l d O = own_kept old new put j l (two_relinked old new i u e R put j) (S.own_child j label l d (before j label l (λ x. T.not_done (subst (λ z. done (home_of homes z)) x d)) O))

@@ -9,8 +9,8 @@ use Rattle.node_arena.specs.Amounts.{Weighted, spots_in, amount_under}
 use Rattle.node_arena.specs.Shape.{home_of, IsLinked, SharesContent, SharesOnlyContent, IsShaped, AreAlike, HasShape}
 use Rattle.node_arena.specs.Slots.{target, Slot, link_of, slot_of, is_table, count}
 use Rattle.node_arena.specs.declared.link.Link.{Link}
-use Rattle.node_arena.proofs.Amounting.{amount-none}
-use Rattle.node_arena.proofs.Linked.{linked-lt}
+use Rattle.node_arena.proofs.AddressAmounts.{amount-none, spots_in-append_cases}
+use Rattle.node_arena.proofs.Links.{linked-lt}
 use Rattle.proper_path.specs.Order.{IsAbove, itself, further}
 use Rattle.proper_path.specs.Making.{IsSpotOf, AllOfShape}
 use Rattle.proper_path.proofs.Order.{above-length}
@@ -40,10 +40,7 @@ pub below_top : (b : Walk) → IsAbove [] b
 below_top [] = itself
 below_top (e ∷ b) = further (below_top b)
 
--- spots of the group and of what was before are those of all
-pub group_spot : (g h : List Weighted) (q : SpotPath) → Contains (spots_in (g ++ h)) q → Contains (spots_in g) q ⊎ Contains (spots_in h) q
-group_spot g h q c = Contains-append_cases (spots_in g) (spots_in h) q (subst (λ z. Contains z q) (map-append (λ (x : Weighted). x.spot) g h) c)
-
+-- a spot of what was before is one of all
 pub old_spot : (g h : List Weighted) (q : SpotPath) → Contains (spots_in h) q → Contains (spots_in (g ++ h)) q
 old_spot g h q c = subst (λ z. Contains z q) (sym (map-append (λ (x : Weighted). x.spot) g h)) (Contains-append_right (spots_in g) (spots_in h) q c)
 
@@ -101,14 +98,14 @@ shaped_with dims slots homes h g M = record {
         go (inr p) = let n = p.2 in absurd (omega (arith, n))
 
     needed : (i : ℕ) (e : Step) → i < length slots → HasSpot (spots_in (g ++ h)) (e ∷ home_of homes i) → IsLinked slots i e
-    needed i e l w = go (group_spot g h w.spot w.is_in)
+    needed i e l w = go (spots_in-append_cases g h w.spot w.is_in)
       where
         go : Contains (spots_in g) w.spot ⊎ Contains (spots_in h) w.spot → IsLinked slots i e
         go (inl c) = let r = links i e l w.spot c w.lies in record { link = r.link; is = r.is }
         go (inr c) = M.holds.needed i e l (record { spot = w.spot; is_in = c; lies = w.lies })
 
     agrees : (i : ℕ) (e : Step) (l : Link) → link_of slots i e ≡ Some l → (q : SpotPath) → Contains (spots_in (g ++ h)) q → Under q (e ∷ home_of homes i) → Under q (home_of homes (target l))
-    agrees i e l is q c u = go (group_spot g h q c)
+    agrees i e l is q c u = go (spots_in-append_cases g h q c)
       where
         go : Contains (spots_in g) q ⊎ Contains (spots_in h) q → Under q (home_of homes (target l))
         go (inl d) =

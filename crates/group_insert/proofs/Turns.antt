@@ -24,7 +24,7 @@ use Rattle.group_insert.specs.Ways.{value_gone, way_from, IsOpenIn, IsWayTo}
 use Rattle.group_insert.proofs.FinerWalk.{base_above, turns_before}
 use Rattle.group_insert.proofs.GroupParts.{in_part, spot_is_of}
 use Rattle.group_insert.proofs.NewSlots.{shared_free}
-use Rattle.group_insert.proofs.StartEnd.{group_spot}
+use Rattle.node_arena.proofs.AddressAmounts.{spots_in-append_cases}
 use Rattle.group_insert.proofs.Ways.{way_leads}
 
 -- all points of an address's part have one label at the address b, so they go down it from there
@@ -49,7 +49,7 @@ may_put_off z group slots homes h done open' put values roots level dim i l f n 
   leads = leads;
   free = leads_free slots (entry values roots i l f n t) L;
   wanted = w;
-  turns = λ q c u. turns q u (group_spot (paths_of z group) h q c);
+  turns = λ q c u. turns q u (spots_in-append_cases (paths_of z group) h q c);
 }
   where
     leads : home_of homes i ≡ way_from values f n ++ across ∷ home_of homes (get_or roots f 0)

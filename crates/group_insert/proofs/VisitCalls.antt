@@ -32,10 +32,10 @@ use Rattle.group_insert.specs.Visiting.{IsVisitableAt, CanVisitAt, VisitsAt, Can
 use Rattle.group_insert.specs.declared.put_off.PutOffLink.{PutOffLink}
 use Rattle.group_insert.specs.declared.way.Way.{Way}
 use Rattle.node_arena.specs.declared.link.SlotId.{SlotId}
-use Rattle.node_arena.proofs.Reaching.{target-lt}
+use Rattle.node_arena.proofs.Walks.{target-lt}
 use Rattle.proper_path.proofs.Steps.{keeps-trans}
 use Rattle.std.proofs.lemmas.List.{map-append}
-use Rattle.group_insert.specs.Visits.{HasTwoLabels, HasOneLabel, IsAmong}
+use Rattle.group_insert.specs.Visits.{HasOwn, HasTwoLabels, HasOneLabel, IsAmong}
 use Rattle.group_insert.proofs.Among.{among_one, among_next, among_put, among_ends}
 use Rattle.group_insert.proofs.LastChild.{child, alone, child_content, among_shares}
 use Rattle.group_insert.proofs.VisitSteps.{IsMadeBy, stepped_makes, filled_makes, part_node, part_spot, content_visitable, content_passed, some_kept, category_depth, first_level, label_goes, none_before, label_part, way_by_then, child_visitable}
@@ -96,7 +96,7 @@ module _ (z : Schema) (way : Way) (dim level i : ℕ) (part : List Point) (some 
         none : (n : ℕ) (q : SpotPath) → L.0 ≤ n → Contains (spots_in (paths_of z group)) q → Under q (down n ∷ home_of homes i) → ⊥
         none = none_left group old put homes h L.0 K L.2
 
-        j : (j : ℕ) × (link_of mid i (down l) ≡ Some (proper j))
+        j : HasOwn mid i (down l)
         j = child (time_dim z) h (paths_of z group) old mid homes put after i l L.0 K.points K.in_range nd w one A none
 
         c : LeadsRight mid A.homes' j.0 across w.spot

@@ -1,16 +1,17 @@
 -- The visit of a node ends.
 use Rattle.std.proofs.Common.{◌≡◌, ℕ, ◌<◌, ◌≤◌, true, false, ◌⊎◌, inl, inr, List, ◌∷◌, ◌++◌, Contains, length, get_or, sym, ap, ◌∙◌, subst, arith, true≢false}
-use Rattle.std.proofs.lemmas.Bool.{cases_eq}
+use Rattle.std.proofs.lemmas.Bool.{cases_eq, cases_lt}
 use Rattle.std.proofs.lemmas.List.Elements.{Contains-get_or}
 use Rattle.cube_view.specs.Walks.{Step, down, across, Walk, SpotPath, Under, HasSpot}
 use Rattle.node_arena.specs.Amounts.{Weighted, spots_in, amount_under}
 use Rattle.node_arena.specs.Shape.{home_of, HasHomes, HasOneChild, SharesContent}
 use Rattle.node_arena.specs.Slots.{proper, Slot, slot_of, is_table, count}
 use Rattle.node_arena.specs.declared.link.Link.{Link}
-use Rattle.node_arena.proofs.Linked.{linked-lt}
+use Rattle.node_arena.proofs.Links.{linked-lt}
 use Rattle.proper_path.specs.Order.{IsAbove, itself, further}
 use Rattle.proper_path.proofs.Above.{under_above}
 use Rattle.proper_path.proofs.Order.{above_cases, above-step, above-length}
+use Rattle.proper_path.specs.Midway.{IsPartOf, IsEnded}
 use Rattle.group_insert.specs.Halfway.{LeadsRight, WillHaveTwo, IsHalfway}
 use Rattle.group_insert.specs.Later.{PutOff, link_address, IsPut}
 use Rattle.group_insert.specs.Turns.{IsEarlier, EndedBefore, EndedAfter, IsOpenAbove}
@@ -18,17 +19,19 @@ use Rattle.group_insert.proofs.Earlier.{earlier_below, EarlierDown, outside, in_
 
 -- The visit of slot i ends: of the homes that there are it alone is done besides, and it alone was open besides.
 pub record IsLast (slots : List Slot) (homes : List Walk) (g : List Weighted) (done open' next open'' : Walk → Type 0) (i : ℕ) : Type 0 where
-  pub to : (b : Walk) → done b → next b
-  pub holds : (b : Walk) → next b → HasSpot (spots_in g) b
-  pub here : next (home_of homes i)
-  pub only : (j : ℕ) → j < length slots → next (home_of homes j) → done (home_of homes j) ⊎ (j ≡ i)
+  pub ended : IsEnded slots homes done next i
+  pub open ended use *
+  pub holds : IsPartOf next (HasSpot (spots_in g))
   pub closed : (b : Walk) → open' b → open'' b ⊎ (b ≡ home_of homes i)
+
+-- each link of the node on the way of a point of the group is right for it, or put off
+abbrev pub LeadsAll : List Slot → List Walk → List Weighted → List PutOff → ℕ → Type 0
+LeadsAll slots homes g put i = (e : Step) (q : SpotPath) → Contains (spots_in g) q → Under q (e ∷ home_of homes i) → LeadsRight slots homes i e q ⊎ IsPut put i e
 
 -- what has to hold of the node by then
 pub record IsFinished (slots : List Slot) (homes : List Walk) (g : List Weighted) (put : List PutOff) (i : ℕ) : Type 0 where
   pub is_node : is_table (slot_of slots i) ≡ false
-  -- each link on the way of a point of the group is right for it, or put off
-  pub links : (e : Step) (q : SpotPath) → Contains (spots_in g) q → Under q (e ∷ home_of homes i) → LeadsRight slots homes i e q ⊎ IsPut put i e
+  pub links : LeadsAll slots homes g put i
   -- part 4, where the only child is the node's own
   pub shares : (label : ℕ) (l : Link) → HasOneChild slots i label l → SharesContent slots i l ⊎ WillHaveTwo slots put i
   pub own_child : (label : ℕ) (l : Link) → HasOneChild slots i label l → ((to : ℕ) × (l ≡ proper to)) ⊎ WillHaveTwo slots put i
@@ -40,10 +43,10 @@ node_ends dims slots homes h g done open' next open'' put i lt N F M = record {
   has_homes = M.has_homes;
   has_tables = M.has_tables;
   holds = M.holds;
-  untouched = λ j e l d o is. M.untouched j e l (λ x. d (N.to (home_of homes j) x)) (λ x. not_open j d o (N.closed (home_of homes j) x)) is;
+  untouched = λ j e l d o is. M.untouched j e l (λ x. d (N.kept (home_of homes j) x)) (λ x. not_open j d o (N.closed (home_of homes j) x)) is;
   visited = record { holds = N.holds; links = λ j e l d q c u. links j e l q c u (N.only j l d) };
   counted = record {
-    still = λ j bin l t d. M.counted.still j bin l t (λ x. d (N.to (home_of homes j) x));
+    still = λ j bin l t d. M.counted.still j bin l t (λ x. d (N.kept (home_of homes j) x));
     now = λ j bin l t d. now j bin l t (N.only j l d);
   };
   shares = record {
@@ -52,7 +55,7 @@ node_ends dims slots homes h g done open' next open'' put i lt N F M = record {
   };
   later = record {
     put_off = M.later.put_off;
-    ended = λ n k l. N.to (link_address homes (get_or put n k)) (M.later.ended n k l);
+    ended = λ n k l. N.kept (link_address homes (get_or put n k)) (M.later.ended n k l);
     wide = λ n k l d. wide n k l (N.only (get_or put n k).node (M.later.put_off n k l).in_range.0 d);
     in_order = M.later.in_order;
   };
@@ -97,10 +100,8 @@ closes {a = a} b o = go (above_cases (open_step o))
 -- after all labels that points of the group go down
 pub last_label : (slots : List Slot) (homes : List Walk) (g : List Weighted) (i m : ℕ) → HasHomes slots homes → i < length slots → HasSpot (spots_in g) (home_of homes i) → ((n : ℕ) (q : SpotPath) → m ≤ n → Contains (spots_in g) q → Under q (down n ∷ home_of homes i) → ⊥) → IsLast slots homes g (EndedBefore g (down m ∷ home_of homes i)) (IsOpenAbove (down m ∷ home_of homes i)) (EndedAfter g (home_of homes i)) (IsOpenAbove (home_of homes i)) i
 last_label slots homes g i m H lt w none = record {
-  to = λ b d. (d.0, to b (earlier_down d.1));
+  ended = record { kept = λ b d. (d.0, to b (earlier_down d.1)); here = (w, inr itself); only = λ j k d. only j k d.0 d.1 };
   holds = λ b d. d.0;
-  here = (w, inr itself);
-  only = λ j k d. only j k d.0 d.1;
   closed = λ b o. closes b o;
 }
   where
@@ -112,13 +113,10 @@ last_label slots homes g i m H lt w none = record {
     to b (in_content f) = inr (above-step f)
     to b (in_lesser n x f) = inr (above-step f)
 
-    split : (n : ℕ) → (n < m) ⊎ (m ≤ n)
-    split n = grind arith
-
     below : (j : ℕ) → j < length slots → HasSpot (spots_in g) (home_of homes j) → (a ≡ home_of homes j) ⊎ ((e : Step) × IsAbove (e ∷ a) (home_of homes j)) → EndedBefore g (down m ∷ a) (home_of homes j) ⊎ (j ≡ i)
     below j k v (inl e) = inr (H.distinct j i k lt (sym e))
     below j k v (inr (across, f)) = inl (v, content_earlier f)
-    below j k v (inr (down n, f)) = go (split n)
+    below j k v (inr (down n, f)) = go (cases_lt n m)
       where
         go : (n < m) ⊎ (m ≤ n) → EndedBefore g (down m ∷ a) (home_of homes j) ⊎ (j ≡ i)
         go (inl x) = inl (v, lesser_earlier x f)
@@ -131,10 +129,8 @@ last_label slots homes g i m H lt w none = record {
 -- a table has no step, so its visit is that of its home alone
 pub last_table : (slots : List Slot) (homes : List Walk) (g : List Weighted) (i : ℕ) → HasHomes slots homes → i < length slots → HasSpot (spots_in g) (home_of homes i) → ((e : Step) (q : SpotPath) → Contains (spots_in g) q → Under q (e ∷ home_of homes i) → ⊥) → IsLast slots homes g (EndedBefore g (home_of homes i)) (IsOpenAbove (home_of homes i)) (EndedAfter g (home_of homes i)) (IsOpenAbove (home_of homes i)) i
 last_table slots homes g i H lt w none = record {
-  to = λ b d. (d.0, inl d.1);
+  ended = record { kept = λ b d. (d.0, inl d.1); here = (w, inr itself); only = λ j k d. only j k d.0 d.1 };
   holds = λ b d. d.0;
-  here = (w, inr itself);
-  only = λ j k d. only j k d.0 d.1;
   closed = λ b o. inl o;
 }
   where

@@ -56,9 +56,6 @@ stepped_makes dims old new homes i l j n (stepped.adds is ji G) = record {
   makes = adds empty_node is node_empty.no_link node_empty.no_count (λ x. absurd (true≢false (sym x)), λ d. absurd (n d)) (record { is = ji; grown = G; homes = refl; updated = refl });
 }
 
-none_in : (t : ℕ) → Contains [] t → ⊥
-none_in t c = let l = c.1 in absurd (omega (arith, l))
-
 pub filled_makes : (dims dim : ℕ) (old new : List Slot) (homes : List Walk) (i j : ℕ) → dimension (home_of homes i) ≡ dim → IsFilled dims (dim + 1) [] old i new (Some j) → IsMadeBy dims old new homes i across j
 filled_makes dims dim old new homes i j d (visited.had is same) = record { homes' = homes; makes = has is (ap (λ z. state z homes []) same) }
 filled_makes dims dim old new homes i j d (visited.copies t is n ji G) = record {

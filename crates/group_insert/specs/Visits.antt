@@ -1,6 +1,6 @@
 -- What holds of a node before its visit for a group, between two of its labels, and afterwards.
 use Rattle.std.specs.Prelude.{◌≡◌, ℕ, ◌<◌, ◌⊎◌, List, [], ◌∷◌, ◌++◌, Option, Some, None, All, Contains}
-use Rattle.cube_view.specs.Walks.{down, across, Walk, SpotPath, Under, HasSpot}
+use Rattle.cube_view.specs.Walks.{Step, down, across, Walk, SpotPath, Under, HasSpot}
 use Rattle.node_arena.specs.Amounts.{Weighted, spots_in}
 use Rattle.node_arena.specs.Shape.{home_of, IsLinked}
 use Rattle.node_arena.specs.Slots.{proper, Slot, link_of}
@@ -55,14 +55,18 @@ abbrev pub TellsLabels : List Slot → List Walk → List Weighted → ℕ → O
 TellsLabels slots homes g i None = HasTwoLabels slots homes g i ⊎ HasNoLabel homes g i
 TellsLabels slots homes g i (Some l) = HasOneLabel slots homes g i l
 
+-- the link at the step is a proper one, so what stands there is the node's own
+abbrev pub HasOwn : List Slot → ℕ → Step → Type 0
+HasOwn slots i e = (j : ℕ) × (link_of slots i e ≡ Some (proper j))
+
 -- by then a node of one label has no content of its own, and each other one has
 abbrev pub HasContentFor : List Slot → ℕ → Option ℕ → Type 0
-HasContentFor slots i None = (j : ℕ) × (link_of slots i across ≡ Some (proper j))
+HasContentFor slots i None = HasOwn slots i across
 HasContentFor slots i (Some l) = (j : ℕ) → link_of slots i across ≡ Some (proper j) → ⊥
 
 -- the child at a label is the node's own, or its link is put off, which is so at no node of one label
 abbrev pub IsGone : List Slot → List PutOff → ℕ → Option ℕ → ℕ → Type 0
-IsGone slots put i only n = ((j : ℕ) × (link_of slots i (down n) ≡ Some (proper j))) ⊎ ((only ≡ None) × IsPut put i (down n))
+IsGone slots put i only n = HasOwn slots i (down n) ⊎ ((only ≡ None) × IsPut put i (down n))
 
 -- the content and the labels below `from` of node i have been visited
 pub record IsAmong (dims : ℕ) (h g : List Weighted) (old : List Slot) (homes : List Walk) (i : ℕ) (only : Option ℕ) (from : ℕ) (new : List Slot) (before put : List PutOff) : Type 0 where

@@ -19,7 +19,7 @@ use Rattle.node_arena.specs.Amounts.{amount_under}
 use Rattle.node_arena.specs.Shape.{home_of}
 use Rattle.node_arena.specs.Slots.{target, Children, Slot, node, table, empty_node, IsRising, is_table, children_of, counts_of, count, child, link, slot_of, link_of}
 use Rattle.node_arena.specs.Stats.{AllRising}
-use Rattle.node_arena.proofs.Reaching.{target-lt}
+use Rattle.node_arena.proofs.Walks.{target-lt}
 use Rattle.proper_path.specs.Paths.{point_path, paths_of}
 use Rattle.cube_store.specs.Counted.{CountsPoints}
 use Rattle.cube_image.proofs.Labels.{label-byte}

@@ -10,8 +10,8 @@ use Rattle.node_arena.specs.Amounts.{Weighted, spots_in, amount_under}
 use Rattle.node_arena.specs.Shape.{home_of, IsOwned, HasProperLinks, HasTables, HasHomes, HoldsSpots, CountsSpots, SharesOnlyContent, HasShape}
 use Rattle.node_arena.specs.Slots.{proper, shared, target, Children, Slot, node, table, empty_node, is_table, count, child, link, slot_of, link_of}
 use Rattle.node_arena.specs.Stats.{AllRising}
-use Rattle.node_arena.proofs.Linked.{link_cases, linked-lt}
-use Rattle.node_arena.proofs.Reaching.{target-lt}
+use Rattle.node_arena.proofs.Links.{link_cases, linked-lt}
+use Rattle.node_arena.proofs.Walks.{target-lt}
 use Rattle.cube_image.specs.Order.{IsOrder, order_number, moved, moved_link, moved_child, moved_content, in_order}
 use Rattle.cube_image.proofs.Owned.{hits, hits-at, StandOnce}
 use Rattle.cube_image.proofs.Ordered.{IsFront, owned_at, stand_once}

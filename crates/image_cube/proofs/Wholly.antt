@@ -8,7 +8,7 @@ use Rattle.cube_view.proofs.Walking.{under-some, Contains-head, Contains-cons}
 use Rattle.node_arena.specs.Amounts.{Weighted, spots_in}
 use Rattle.node_arena.specs.Shape.{home_of, HasShape}
 use Rattle.node_arena.specs.Slots.{Slot, IsTable, is_table, slot_of, walk_end}
-use Rattle.node_arena.proofs.Reaching.{walk-lt, walk_coarser, walk_reaches}
+use Rattle.node_arena.proofs.Walks.{walk-lt, walk_coarser, walk_reaches}
 use Rattle.shape_test.specs.Levels.{Levels, left, no_levels, label_counts, EndsWithTime}
 use Rattle.shape_test.specs.Local.{IsLocal}
 use Rattle.shape_test.specs.Ways.{Way, along, IsFinest}

@@ -1,6 +1,6 @@
 -- What edits at the place of a label make of the children of a node.
 use Rattle.std.proofs.Common.{◌≡◌, ℕ, zero, suc, ◌+◌, ◌-◌, ◌<◌, ◌≤◌, Bool, true, false, cond, eqb, ltb, [], ◌∷◌, Option, Some, None, length, get_or, set, take, drop, All, refl, sym, ap, ◌∙◌, subst, arith, ap₂, slice_get, insert, remove, eq-eqb, ne_eqb, ◌⊎◌, inl, inr, IsSome, OnOk, OnErr, Result, Ok, Err, true≢false}
-use Rattle.std.proofs.lemmas.Bool.{cases_eq, cases_lt, eqb-false}
+use Rattle.std.proofs.lemmas.Bool.{cases_eq, cases_lt, cond-true, cond-false, eqb-false, lt-ltb, le-ltb}
 use Rattle.std.proofs.lemmas.Option.{slice_get-get_or, get_or_from_slice_get}
 use Rattle.std.proofs.lemmas.List.{length-set, get_or-set_same, get_or-set_other}
 use Rattle.std.proofs.lemmas.List.Elements.{All-head, All-tail}
@@ -10,6 +10,7 @@ use Rattle.std.proofs.lemmas.List.Edits.{length-insert, get_or-insert_below, get
 use Rattle.node_arena.specs.declared.link.Link.{Link}
 use Rattle.node_arena.specs.Slots.{Children, IsRising, child, child_label}
 use Rattle.node_arena.specs.Calls.{with_child, with_link, without_child, child_from}
+use Rattle.node_arena.proofs.Labels.{rising-tail}
 use Rattle.probe_core.specs.Places.{IsPlace}
 
 -- the labels before the place are less than l, and the others are not
@@ -39,15 +40,6 @@ lies_at l children index P = record {
   others = λ k d from less. others_at l children index k d P.others from less;
 }
 
-cond_is : {A : Type 0} (b c : Bool) (x y : A) → b ≡ c → cond b x y ≡ cond c x y
-cond_is b c x y e = ap (λ (z : Bool). cond z x y) e
-
-ltb-is_true : (m n : ℕ) → m < n → ltb m n ≡ true
-ltb-is_true m n l = grind arith
-
-ltb-is_false : (m n : ℕ) → n ≤ m → ltb m n ≡ false
-ltb-is_false m n l = grind arith
-
 place_after : (l : ℕ) (x : ℕ × Link) (children : Children) (index : ℕ) → LiesAt l (x ∷ children) (suc index) → LiesAt l children index
 place_after l x children index P = record {
   within = omega (arith, P.within);
@@ -55,15 +47,12 @@ place_after l x children index P = record {
   others = λ k d from less. P.others (suc k) d (omega arith) (omega arith);
 }
 
-rising_after : (x : ℕ × Link) (children : Children) → IsRising (x ∷ children) → IsRising children
-rising_after x children R i j d less within = R (suc i) (suc j) d (omega arith) (omega arith)
-
 -- the first child from the label on stands at its place
 pub child_from-place : (l : ℕ) (children : Children) (index : ℕ) → LiesAt l children index → child_from children l ≡ slice_get children index
 child_from-place l [] index P = refl
-child_from-place l (x ∷ children) zero P = cond_is (ltb x.0 l) false (child_from children l) (Some x) (ltb-is_false x.0 l (P.others 0 x (omega arith) (omega arith)))
+child_from-place l (x ∷ children) zero P = cond-false (ltb x.0 l) (child_from children l) (Some x) (le-ltb x.0 l (P.others 0 x (omega arith) (omega arith)))
 child_from-place l (x ∷ children) (suc index) P =
-    cond_is (ltb x.0 l) true (child_from children l) (Some x) (ltb-is_true x.0 l (P.lesser 0 x (omega arith)))
+    cond-true (ltb x.0 l) (child_from children l) (Some x) (lt-ltb x.0 l (P.lesser 0 x (omega arith)))
     ∙ child_from-place l children index (place_after l x children index P)
 
 passed : (l : ℕ) (x : ℕ × Link) (children : Children) (index : ℕ) → LiesAt l (x ∷ children) (suc index) → eqb x.0 l ≡ false
@@ -74,9 +63,9 @@ pub child-found : (l : ℕ) (children : Children) (index : ℕ) (k : Link) → L
 child-found l [] index k P e = absurd cc
 child-found l (x ∷ children) zero k P e =
     let is : x ≡ (l, k) = cc in
-    cond_is (eqb x.0 l) true (Some x.1) (child children l) (eq-eqb x.0 l (ap (λ (z : ℕ × Link). z.0) is)) ∙ ap (λ (z : ℕ × Link). Some z.1) is
+    cond-true (eqb x.0 l) (Some x.1) (child children l) (eq-eqb x.0 l (ap (λ (z : ℕ × Link). z.0) is)) ∙ ap (λ (z : ℕ × Link). Some z.1) is
 child-found l (x ∷ children) (suc index) k P e =
-    cond_is (eqb x.0 l) false (Some x.1) (child children l) (passed l x children index P)
+    cond-false (eqb x.0 l) (Some x.1) (child children l) (passed l x children index P)
     ∙ child-found l children index k (place_after l x children index P) e
 
 -- labels that are all greater are not the label
@@ -84,7 +73,7 @@ child-greater : (l : ℕ) (children : Children) → ((k : ℕ) (d : ℕ × Link)
 child-greater l [] above = refl
 child-greater l (x ∷ children) above =
     let more = above 0 x (omega arith) in
-    cond_is (eqb x.0 l) false (Some x.1) (child children l) (ne_eqb x.0 l (λ e. omega arith))
+    cond-false (eqb x.0 l) (Some x.1) (child children l) (ne_eqb x.0 l (λ e. omega arith))
     ∙ child-greater l children (λ k d less. above (suc k) d (omega arith))
 
 -- there is no child of the label where its place is the end, or another label stands there
@@ -92,7 +81,7 @@ pub child-past : (l : ℕ) (children : Children) (index : ℕ) → LiesAt l chil
 child-past l [] index P e = refl
 child-past l (x ∷ children) zero P e = absurd cc
 child-past l (x ∷ children) (suc index) P e =
-    cond_is (eqb x.0 l) false (Some x.1) (child children l) (passed l x children index P)
+    cond-false (eqb x.0 l) (Some x.1) (child children l) (passed l x children index P)
     ∙ child-past l children index (place_after l x children index P) e
 
 pub child-missed : (l : ℕ) (children : Children) (index : ℕ) (y : ℕ × Link) → IsRising children → LiesAt l children index → slice_get children index ≡ Some y → (y.0 ≡ l → ⊥) → child children l ≡ None
@@ -102,11 +91,11 @@ child-missed l (x ∷ children) zero y R P e n =
     let at = P.others 0 x (omega arith) (omega arith) in
     let n' : x.0 ≡ l → ⊥ = λ z. n (ap (λ (v : ℕ × Link). v.0) (sym is) ∙ z) in
     let more : l < x.0 = omega arith in
-    cond_is (eqb x.0 l) false (Some x.1) (child children l) (ne_eqb x.0 l n')
+    cond-false (eqb x.0 l) (Some x.1) (child children l) (ne_eqb x.0 l n')
     ∙ child-greater l children (λ k d less. let r = R 0 (suc k) d (omega arith) (omega arith) in omega arith)
 child-missed l (x ∷ children) (suc index) y R P e n =
-    cond_is (eqb x.0 l) false (Some x.1) (child children l) (passed l x children index P)
-    ∙ child-missed l children index y (rising_after x children R) (place_after l x children index P) e n
+    cond-false (eqb x.0 l) (Some x.1) (child children l) (passed l x children index P)
+    ∙ child-missed l children index y (rising-tail x children R) (place_after l x children index P) e n
 
 -- a child that is there stands at its place
 pub child_placed : (l : ℕ) (children : Children) (index : ℕ) (k : Link) → IsRising children → LiesAt l children index → child children l ≡ Some k → slice_get children index ≡ Some (l, k)
@@ -140,20 +129,20 @@ with_child-place l (x ∷ children) zero k P e = go (eqb x.0 l) refl e
     go false h r =
         let at = P.others 0 x (omega arith) (omega arith) in
         let n = eqb-false x.0 l h in
-        cond_is (ltb l x.0) true ((l, k) ∷ x ∷ children) (x ∷ with_child children l k) (ltb-is_true l x.0 (omega arith))
+        cond-true (ltb l x.0) ((l, k) ∷ x ∷ children) (x ∷ with_child children l k) (lt-ltb l x.0 (omega arith))
 with_child-place l (x ∷ children) (suc index) k P e =
     let less = P.lesser 0 x (omega arith) in
-    cond_is (ltb l x.0) false ((l, k) ∷ x ∷ children) (x ∷ with_child children l k) (ltb-is_false l x.0 (omega arith))
-    ∙ ap (λ z. x ∷ z) (with_child-place l children index k (place_after l x children index P) (sym (cond_is (eqb x.0 l) false (Some x.1) (child children l) (passed l x children index P)) ∙ e))
+    cond-false (ltb l x.0) ((l, k) ∷ x ∷ children) (x ∷ with_child children l k) (le-ltb l x.0 (omega arith))
+    ∙ ap (λ z. x ∷ z) (with_child-place l children index k (place_after l x children index P) (sym (cond-false (eqb x.0 l) (Some x.1) (child children l) (passed l x children index P)) ∙ e))
 
 -- another link is written at the place
 pub with_link-place : (l : ℕ) (children : Children) (index : ℕ) (k old : Link) → LiesAt l children index → slice_get children index ≡ Some (l, old) → with_link children l k ≡ set children index (l, k)
 with_link-place l [] index k old P e = absurd cc
 with_link-place l (x ∷ children) zero k old P e =
     let is : x ≡ (l, old) = cc in
-    cond_is (eqb x.0 l) true ((l, k) ∷ children) (x ∷ with_link children l k) (eq-eqb x.0 l (ap (λ (z : ℕ × Link). z.0) is))
+    cond-true (eqb x.0 l) ((l, k) ∷ children) (x ∷ with_link children l k) (eq-eqb x.0 l (ap (λ (z : ℕ × Link). z.0) is))
 with_link-place l (x ∷ children) (suc index) k old P e =
-    cond_is (eqb x.0 l) false ((l, k) ∷ children) (x ∷ with_link children l k) (passed l x children index P)
+    cond-false (eqb x.0 l) ((l, k) ∷ children) (x ∷ with_link children l k) (passed l x children index P)
     ∙ ap (λ z. x ∷ z) (with_link-place l children index k old (place_after l x children index P) e)
 
 -- and a child is removed there
@@ -161,9 +150,9 @@ pub without_child-place : (l : ℕ) (children : Children) (index : ℕ) (old : L
 without_child-place l [] index old P e = absurd cc
 without_child-place l (x ∷ children) zero old P e =
     let is : x ≡ (l, old) = cc in
-    cond_is (eqb x.0 l) true children (x ∷ without_child children l) (eq-eqb x.0 l (ap (λ (z : ℕ × Link). z.0) is))
+    cond-true (eqb x.0 l) children (x ∷ without_child children l) (eq-eqb x.0 l (ap (λ (z : ℕ × Link). z.0) is))
 without_child-place l (x ∷ children) (suc index) old P e =
-    cond_is (eqb x.0 l) false children (x ∷ without_child children l) (passed l x children index P)
+    cond-false (eqb x.0 l) children (x ∷ without_child children l) (passed l x children index P)
     ∙ ap (λ z. x ∷ z) (without_child-place l children index old (place_after l x children index P) e)
 
 -- where the label has no child, the labels from its place on are greater

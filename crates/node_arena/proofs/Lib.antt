@@ -1,10 +1,10 @@
-pub mod Amounting
-pub mod Counting
+pub mod AddressAmounts
+pub mod LinkCounts
 pub mod Edits
-pub mod Sharing
-pub mod Viewed
-pub mod Labelled
-pub mod Linked
-pub mod Reaching
+pub mod SharedLinks
+pub mod SlotChanges
+pub mod Labels
+pub mod Links
+pub mod Walks
 pub mod LinkTotals
 mod ShortLengths

@@ -7,8 +7,8 @@ use Rattle.cube_view.specs.Walks.{Step, down, across, Walk}
 use Rattle.node_arena.specs.Slots.{proper, shared, target, Children, IsRising, Slot, node, table, empty_node, is_table, children_of, child, link, slot_of, link_of}
 use Rattle.node_arena.specs.Shape.{home_of, HasHomes}
 use Rattle.node_arena.specs.Stats.{is_proper, children_that, content_that, links_that, node_count, table_count, proper_count, AllRising, TellsLinks}
-use Rattle.node_arena.proofs.Linked.{link_cases, linked-lt}
-use Rattle.node_arena.proofs.Reaching.{target-lt}
+use Rattle.node_arena.proofs.Links.{link_cases, linked-lt}
+use Rattle.node_arena.proofs.Walks.{target-lt}
 
 -- the sum of f over the numbers below n
 abbrev sum_to : (ℕ → ℕ) → ℕ → ℕ
@@ -141,6 +141,7 @@ slot_split (node children content) n R within =
     contents None w = sym (sum_to-none n)
     contents (Some l) w = single l n (λ p. w l refl)
 
+-- a link that does not lead properly to j does not count
 not_to : (j : ℕ) (l : Link) → (l ≡ proper j → ⊥) → cond {A = ℕ} (is_to j l) 1 0 ≡ 0
 not_to j l n = go (is_to j l) refl
   where
@@ -148,15 +149,16 @@ not_to j l n = go (is_to j l) refl
     go true h = absurd (n (to_is j l h))
     go false h = refl
 
+-- nor does a content that is not such a link
+content_none : (j : ℕ) (c : Option Link) → (c ≡ Some (proper j) → ⊥) → content_that (is_to j) c ≡ 0
+content_none j None n = refl
+content_none j (Some l) n = not_to j l (λ e. n (ap Some e))
+
 -- no link of the slot leads properly to j
 slot_none : (j : ℕ) (s : Slot) → IsRising (children_of s) → ((e : Step) → link s e ≡ Some (proper j) → ⊥) → links_that (is_to j) s ≡ 0
 slot_none j (table counts) R none = refl
 slot_none j (node children content) R none =
-    ap₂ ◌+◌ (sum_none (λ (k : ℕ × Link). cond (is_to j k.1) 1 0) children (λ i d l. not_to j (get_or children i d).1 (λ e. none (down (get_or children i d).0) (found_each children R i d l ∙ ap Some e)))) (contents content (λ e. none across e))
-  where
-    contents : (c : Option Link) → (c ≡ Some (proper j) → ⊥) → content_that (is_to j) c ≡ 0
-    contents None n = refl
-    contents (Some l) n = not_to j l (λ e. n (ap Some e))
+    ap₂ ◌+◌ (sum_none (λ (k : ℕ × Link). cond (is_to j k.1) 1 0) children (λ i d l. not_to j (get_or children i d).1 (λ e. none (down (get_or children i d).0) (found_each children R i d l ∙ ap Some e)))) (content_none j content (λ e. none across e))
 
 -- one link of the slot leads properly to j
 slot_one : (j : ℕ) (s : Slot) (e : Step) → IsRising (children_of s) → link s e ≡ Some (proper j) → ((f : Step) → link s f ≡ Some (proper j) → f ≡ e) → links_that (is_to j) s ≡ 1
@@ -165,7 +167,7 @@ slot_one j (node children content) across R is only =
     ap₂ ◌+◌ (sum_none (λ (k : ℕ × Link). cond (is_to j k.1) 1 0) children (λ i d l. not_to j (get_or children i d).1 (λ e. let z = only (down (get_or children i d).0) (found_each children R i d l ∙ ap Some e) in let w : ⊥ = cc in w)))
     (ap (content_that (is_to j)) is ∙ ap (λ (b : Bool). cond {A = ℕ} b 1 0) (is_to-proper j (proper j) refl))
 slot_one j (node children content) (down l) R is only =
-    ap₂ ◌+◌ (sum_one (λ (k : ℕ × Link). cond (is_to j k.1) 1 0) children at.0 at.1 (λ d. ap (λ (k : ℕ × Link). cond (is_to j k.1) 1 0) (at.2 d) ∙ ap (λ (b : Bool). cond {A = ℕ} b 1 0) (is_to-proper j (proper j) refl)) (λ i d w n. not_to j (get_or children i d).1 (λ e. n (other i d w e)))) (contents content (λ e. let z = only across e in let w : ⊥ = cc in w))
+    ap₂ ◌+◌ (sum_one (λ (k : ℕ × Link). cond (is_to j k.1) 1 0) children at.0 at.1 (λ d. ap (λ (k : ℕ × Link). cond (is_to j k.1) 1 0) (at.2 d) ∙ ap (λ (b : Bool). cond {A = ℕ} b 1 0) (is_to-proper j (proper j) refl)) (λ i d w n. not_to j (get_or children i d).1 (λ e. n (other i d w e)))) (content_none j content (λ e. let z = only across e in let w : ⊥ = cc in w))
   where
     at : (i : ℕ) × (i < length children) × ((d : ℕ × Link) → get_or children i d ≡ (l, proper j))
     at = child_stands children l (proper j) is
@@ -175,10 +177,6 @@ slot_one j (node children content) (down l) R is only =
         let z = only (down (get_or children i d).0) (found_each children R i d w ∙ ap Some e) in
         let y : (get_or children i d).0 ≡ l = cc in
         same_label children R i at.0 d w at.1 (y ∙ sym (ap (λ (k : ℕ × Link). k.0) (at.2 d)))
-
-    contents : (c : Option Link) → (c ≡ Some (proper j) → ⊥) → content_that (is_to j) c ≡ 0
-    contents None n = refl
-    contents (Some k) n = not_to j k (λ e. n (ap Some e))
 
 -- a slot has one proper link at most
 one_owner : (slots : List Slot) (homes : List Walk) → HasHomes slots homes → (i k j : ℕ) (e f : Step) → link_of slots i e ≡ Some (proper j) → link_of slots k f ≡ Some (proper j) → (i ≡ k) × (e ≡ f)

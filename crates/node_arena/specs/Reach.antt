@@ -5,11 +5,15 @@ use Rattle.node_arena.specs.Amounts.{Weighted, spots_in, amount_under}
 use Rattle.node_arena.specs.Slots.{Slot, IsTable, slot_of, count, walk_end}
 use Rattle.node_arena.specs.Shape.{home_of, IsShaped}
 
+-- each address at which a slot is reached is coarser than its home
+abbrev pub AreCoarser : List Slot → List Walk → Type 0
+AreCoarser slots homes = (a : Walk) (i : ℕ) → walk_end slots 0 a ≡ Some i → IsCoarser a (home_of homes i)
+
 -- From the root a slot's home leads to the slot; each address at which it is reached is coarser than
 -- its home, and the spots under the address lie under the home.
 pub record ReachesHomes (slots : List Slot) (homes : List Walk) (h : List SpotPath) : Type 0 where
   pub at_home : (i : ℕ) → i < length slots → walk_end slots 0 (home_of homes i) ≡ Some i
-  pub coarser : (a : Walk) (i : ℕ) → walk_end slots 0 a ≡ Some i → IsCoarser a (home_of homes i)
+  pub coarser : AreCoarser slots homes
   pub agrees : (a : Walk) (i : ℕ) → walk_end slots 0 a ≡ Some i → (q : SpotPath) → Contains h q → Under q a → Under q (home_of homes i)
 
 -- a slot is reached at the address

@@ -17,6 +17,10 @@ pub record IsOwned (slots : List Slot) (j : ℕ) : Type 0 where
   pub step : Step
   pub owns : link_of slots by step ≡ Some (proper j)
 
+-- each slot but the root has a proper link that leads to it
+abbrev pub AreOwned : List Slot → Type 0
+AreOwned slots = (j : ℕ) → 0 < j → j < length slots → IsOwned slots j
+
 -- Part 1, homes. Each slot but the root has one proper link to it, the root has none, and proper links
 -- lead from the root to each slot: a proper link leads from a home to a home that is one step longer,
 -- each slot but the root has such a link, and no two slots have one home.
@@ -25,7 +29,7 @@ pub record HasProperLinks (slots : List Slot) (homes : List Walk) : Type 0 where
   pub some : 0 < length slots
   pub root : home_of homes 0 ≡ []
   pub distinct : (i j : ℕ) → i < length slots → j < length slots → home_of homes i ≡ home_of homes j → i ≡ j
-  pub owner : (j : ℕ) → 0 < j → j < length slots → IsOwned slots j
+  pub owner : AreOwned slots
   pub at_home : (i j : ℕ) (e : Step) → link_of slots i e ≡ Some (proper j) → (j < length slots) × (home_of homes j ≡ e ∷ home_of homes i)
 
 -- Part 1, tables. A slot is a time table exactly where its home's dimension is time.
@@ -67,9 +71,13 @@ pub record SharesContent (slots : List Slot) (i : ℕ) (child : Link) : Type 0 w
   pub of_child : link_of slots (target child) across ≡ Some content
   pub of_node : link_of slots i across ≡ Some (shared (target content))
 
--- Part 4. A node with one child shares that child's content.
+-- a node with one child shares that child's content
+abbrev pub SharesWithChild : List Slot → ℕ → Type 0
+SharesWithChild slots i = (label : ℕ) (l : Link) → HasOneChild slots i label l → SharesContent slots i l
+
+-- Part 4. So does each node.
 abbrev pub SharesOnlyContent : List Slot → Type 0
-SharesOnlyContent slots = (i label : ℕ) (l : Link) → HasOneChild slots i label l → SharesContent slots i l
+SharesOnlyContent slots = (i : ℕ) → SharesWithChild slots i
 
 -- parts 1 to 3, which say what walks from the root reach
 pub record IsShaped (dims : ℕ) (slots : List Slot) (homes : List Walk) (h : List Weighted) : Type 0 where

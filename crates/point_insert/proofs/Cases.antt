@@ -7,11 +7,11 @@ use Rattle.node_arena.specs.declared.link.Link.{Link}
 use Rattle.node_arena.specs.Slots.{proper, target, Slot, link_of, slot_of, count, is_table}
 use Rattle.node_arena.specs.Shape.{home_of, HasHomes, HoldsSpots, IsLinked, HasOneChild, IsShaped}
 use Rattle.proper_path.specs.Making.{AllOfShape}
-use Rattle.proper_path.specs.Midway.{IsGrowing, IsMidway}
+use Rattle.proper_path.specs.Midway.{LeadsOn, IsGrowing, IsMidway}
 use Rattle.cube_view.proofs.Walking.{coarser_under, under_before, Contains-cons, Contains-cases, begun, under-some, loosen, finer_cursor, finer-trans}
-use Rattle.node_arena.proofs.Linked.{linked-lt}
+use Rattle.node_arena.proofs.Links.{linked-lt}
 use Rattle.proper_path.proofs.Homes.{IsFree}
-use Rattle.node_arena.proofs.Reaching.{link_coarser, target-lt}
+use Rattle.node_arena.proofs.Walks.{link_coarser, target-lt}
 use Rattle.proper_path.proofs.Shares.{MayLead, MayShare}
 use Rattle.point_insert.specs.Visited.{HasPathChild}
 use Rattle.point_insert.proofs.Visits.{IsReady}
@@ -88,17 +88,24 @@ across_within q {a} {b} f u v =
     ap (λ (o : Option Cursor). is_some (then_step o across)) c.1
     ∙ (ap (λ (x : List (List ℕ)). is_some (after_across x)) (sym r.same_later) ∙ (ap (λ (o : Option Cursor). is_some (then_step o across)) (sym r.is) ∙ v))
 
-path_ready : (slots : List Slot) (homes : List Walk) (p : Weighted) → HasHomes slots homes → (i : ℕ) → HasPathChild slots homes p i → (l : ℕ) → Under p.spot (down l ∷ home_of homes i) → (k : Link) × (link_of slots i (down l) ≡ Some k) × Under p.spot (home_of homes (target k))
+-- a child stands at a label of the node
+abbrev pub HasAnyChild : List Slot → ℕ → Type 0
+HasAnyChild slots i = (m : ℕ) × IsLinked slots i (down m)
+
+-- a spot goes across from the node, so an old child stands where it goes down, as another of its shape does
+pub old_child : (slots : List Slot) (homes : List Walk) (sure all : List SpotPath) → HoldsSpots slots homes sure all → (p : SpotPath) → AllOfShape sure p → (i label : ℕ) → i < length slots → HasSpot sure (across ∷ home_of homes i) → Under p (down label ∷ home_of homes i) → HasAnyChild slots i
+old_child slots homes sure all S p shape i label lt w u =
+    let m = next_label w.spot p (shape w.spot w.is_in) (home_of homes i) label (under_before w.spot across (home_of homes i) w.lies) u in
+    (m.0, S.needed i (down m.0) lt (record { spot = w.spot; is_in = w.is_in; lies = m.1 }))
+
+path_ready : (slots : List Slot) (homes : List Walk) (p : Weighted) → HasHomes slots homes → (i : ℕ) → HasPathChild slots homes p i → (l : ℕ) → LeadsOn slots homes p i (down l)
 path_ready slots homes p H i P l u =
     let r = P.child l u in (proper r.0, r.1, subst (λ z. Under p.spot z) (sym (H.at_home i r.0 (down l) r.1).1) u)
 
 -- a node is ready once its child on p's path and its content are
 pub ready : (slots : List Slot) (homes : List Walk) (p : Weighted) → HasHomes slots homes → (i : ℕ) → HasPathChild slots homes p i → (l : Link) → link_of slots i across ≡ Some l → (Under p.spot (across ∷ home_of homes i) → Under p.spot (home_of homes (target l))) → IsReady slots homes p i
-ready slots homes p H i P l is holds = record { links = links }
-  where
-    links : (e : Step) → Under p.spot (e ∷ home_of homes i) → (k : Link) × (link_of slots i e ≡ Some k) × Under p.spot (home_of homes (target k))
-    links (down m) u = path_ready slots homes p H i P m u
-    links across u = (l, is, holds u)
+ready slots homes p H i P l is holds (down m) u = path_ready slots homes p H i P m u
+ready slots homes p H i P l is holds across u = (l, is, holds u)
 
 -- the content of an only child, which all points go down to, may be shared
 pub one_child_leads : (slots : List Slot) (homes : List Walk) (sure all : List SpotPath) → HasHomes slots homes → HoldsSpots slots homes sure all → (p : SpotPath) → AllOfShape sure p → (i label : ℕ) (k w : Link) → HasOneChild slots i label k → Under p (down label ∷ home_of homes i) → link_of slots (target k) across ≡ Some w → IsFree slots i across → MayLead slots homes sure all i (target w) across
@@ -146,6 +153,10 @@ one_child_ready dims slots homes h p done updated M i label k w is u d content v
 pub updated_holds : (dims : ℕ) (slots : List Slot) (homes : List Walk) (h : List Weighted) (p : Weighted) (done : Walk → Type 0) (updated : List ℕ) → IsMidway dims slots homes h p done updated → (t : ℕ) → Contains updated t → Under p.spot (home_of homes t)
 updated_holds dims slots homes h p done updated M t c = M.visited.holds (home_of homes t) (M.updates.listed t c).1
 
+-- no slot is in an empty list
+pub none_in : (t : ℕ) → Contains [] t → ⊥
+none_in t c = omega (arith, c.1)
+
 -- the start: nothing is visited
 pub growing_starts : (dims : ℕ) (slots : List Slot) (homes : List Walk) (h : List Weighted) (p : Weighted) (done : Walk → Type 0) → ((a : Walk) → done a → ⊥) → IsShaped dims slots homes h → IsGrowing dims slots homes h p done
 growing_starts dims slots homes h p done none S = record {
@@ -163,11 +174,8 @@ growing_starts dims slots homes h p done none S = record {
 pub starts : (dims : ℕ) (slots : List Slot) (homes : List Walk) (h : List Weighted) (p : Weighted) (done : Walk → Type 0) → ((a : Walk) → done a → ⊥) → IsShaped dims slots homes h → IsMidway dims slots homes h p done []
 starts dims slots homes h p done none S = record {
   growing = growing_starts dims slots homes h p done none S;
-  updates = record { listed = λ i c. absurd (nothing i c); lists = λ i l d k. absurd (none (home_of homes i) d) };
+  updates = record { listed = λ i c. absurd (none_in i c); lists = λ i l d k. absurd (none (home_of homes i) d) };
 }
-  where
-    nothing : (i : ℕ) → Contains [] i → ⊥
-    nothing i c = absurd (omega (arith, c.1))
 
 -- what doesn't lie under an address adds nothing there
 -- what one adds under an address in a bin

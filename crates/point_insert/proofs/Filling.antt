@@ -5,7 +5,7 @@ use Rattle.cube_view.specs.Walks.{down, across}
 use Rattle.node_arena.specs.declared.link.Link.{Link}
 use Rattle.node_arena.specs.Slots.{proper, shared, Slot, node, table, empty_node, Children, IsRising, children_of, child, link, link_of, slot_of, is_table}
 use Rattle.node_arena.specs.Calls.{copied, only_link, add_node, add_table, copy_slot, set_content}
-use Rattle.node_arena.proofs.Labelled.{child_here, child_past}
+use Rattle.node_arena.proofs.Labels.{child_here, child_past}
 use Rattle.proper_path.specs.Changes.{IsGrown}
 use Rattle.proper_path.proofs.Grow.{node_empty, table_empty}
 use Rattle.proper_path.proofs.Calls.{grow_content}

@@ -12,6 +12,7 @@ use Rattle.proper_path.proofs.Order.{not_done}
 use Rattle.point_insert.specs.Known.{total_weight, CanEnter}
 use Rattle.point_insert.proofs.Totals.{adds_at, total_count-sums}
 use Rattle.node_arena.specs.Amounts.{Weighted, amount_under}
+use Rattle.node_arena.proofs.AddressAmounts.{sum_by-same}
 
 -- what a point weighs under an address
 abbrev weighs_under : Walk → Weighted → ℕ
@@ -26,10 +27,6 @@ split_test true true n = refl
 split_test true false n = refl
 split_test false true n = refl
 split_test false false n = refl
-
-sums_same : {X : Type 0} (f g : X → ℕ) (xs : List X) → ((x : X) → f x ≡ g x) → sum_by f xs ≡ sum_by g xs
-sums_same f g [] h = refl
-sums_same f g (x ∷ xs) h = sum_by-cons f x xs ∙ (ap₂ (λ (m n : ℕ). m + n) (h x) (sums_same f g xs h) ∙ sym (sum_by-cons g x xs))
 
 weighs_less : (a : Walk) (h : List Weighted) → sum_by (weighs_under a) h ≤ total_weight h
 weighs_less a [] = omega arith
@@ -47,7 +44,7 @@ weighs_less a (q ∷ h) =
 -- a table whose counts are the list's amounts under an address weighs no more than the list
 pub table_light : (slots : List Slot) (i : ℕ) (a : Walk) (h : List Weighted) → ((bin : ℕ) → count (slot_of slots i) bin ≡ amount_under h a bin) → total_count (counts_of (slot_of slots i)) ≤ total_weight h
 table_light slots i a h same =
-    let e = total_count-sums (λ (q : Weighted). q.spot.bin) (weighs_under a) (counts_of (slot_of slots i)) h (λ bin. same bin ∙ sums_same (adds_under a bin) (adds_at (λ (q : Weighted). q.spot.bin) (weighs_under a) bin) h (λ q. split_test (under q.spot a) (eqb q.spot.bin bin) q.amount)) in
+    let e = total_count-sums (λ (q : Weighted). q.spot.bin) (weighs_under a) (counts_of (slot_of slots i)) h (λ bin. same bin ∙ sum_by-same (adds_under a bin) (adds_at (λ (q : Weighted). q.spot.bin) (weighs_under a) bin) h (λ q. split_test (under q.spot a) (eqb q.spot.bin bin) q.amount)) in
     let l = weighs_less a h in
     omega (arith, e, l)
 

@@ -13,7 +13,7 @@ use Rattle.node_arena.specs.Calls.{set_content}
 use Rattle.proper_path.specs.Changes.{IsRelinked}
 use Rattle.proper_path.specs.Making.{Makes, has, copies, adds}
 use Rattle.point_insert.specs.Ending.{Ends}
-use Rattle.node_arena.proofs.Reaching.{target-lt, link_coarser}
+use Rattle.node_arena.proofs.Walks.{target-lt, link_coarser}
 use Rattle.cube_view.proofs.Walking.{dimension-finer}
 use Rattle.proper_path.proofs.Trailing.{node_before}
 use Rattle.proper_path.proofs.Calls.{relink_content}

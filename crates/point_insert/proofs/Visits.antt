@@ -6,7 +6,7 @@ use Rattle.cube_view.specs.Walks.{Step, Walk, SpotPath, under, Under, IsCoarser,
 use Rattle.node_arena.specs.declared.link.Link.{Link}
 use Rattle.node_arena.specs.Slots.{proper, shared, target, Slot, link_of, slot_of, count, is_table}
 use Rattle.node_arena.specs.Shape.{home_of, HasHomes, IsLinked, IsOwned, HoldsSpots}
-use Rattle.proper_path.specs.Midway.{IsContentHome, HasUpdated, IsGrowing, IsMidway, IsNext, Joins, joined, stays}
+use Rattle.proper_path.specs.Midway.{IsContentHome, LeadsOn, HasUpdated, IsGrowing, IsMidway, IsNext, Joins, joined, stays}
 use Rattle.proper_path.specs.Changes.{IsRelinked, IsCounted}
 use Rattle.proper_path.proofs.Homes.{IsFree}
 use Rattle.proper_path.proofs.Links.{same_place, proper≢shared}
@@ -14,8 +14,8 @@ use Rattle.proper_path.proofs.Shares.{MayShare}
 use Rattle.node_arena.specs.Amounts.{Weighted, spots_in, amount_under}
 
 -- what p needs of the node: its next link on p's path and its content are there and lead to what holds p
-pub record IsReady (slots : List Slot) (homes : List Walk) (p : Weighted) (i : ℕ) : Type 0 where
-  pub links : (e : Step) → Under p.spot (e ∷ home_of homes i) → (l : Link) × (link_of slots i e ≡ Some l) × Under p.spot (home_of homes (target l))
+abbrev pub IsReady : List Slot → List Walk → Weighted → ℕ → Type 0
+IsReady slots homes p i = (e : Step) → LeadsOn slots homes p i e
 
 joins_listed : (slots : List Slot) (homes : List Walk) (p : Weighted) (done next : Walk → Type 0) (i : ℕ) (updated after : List ℕ) → i < length slots → HasUpdated slots homes done updated → IsNext slots homes p done next i → Joins homes i updated after → HasUpdated slots homes next after
 joins_listed slots homes p done next i updated after lt U N (joined k j) = record { listed = listed; lists = lists }
@@ -57,7 +57,7 @@ growing_ends dims slots homes h p done next i M lt is_node R N = record {
   where
     links : (j : ℕ) (f : Step) → j < length slots → Under p.spot (f ∷ home_of homes j) → done (home_of homes j) ⊎ (j ≡ i) → (l : Link) × (link_of slots j f ≡ Some l) × Under p.spot (home_of homes (target l))
     links j f l u (inl d) = M.visited.links j f l d u
-    links j f l u (inr e) = let r = R.links f (subst (λ z. Under p.spot (f ∷ home_of homes z)) e u) in (r.0, ap (λ z. link_of slots z f) e ∙ r.1, r.2)
+    links j f l u (inr e) = let r = R f (subst (λ z. Under p.spot (f ∷ home_of homes z)) e u) in (r.0, ap (λ z. link_of slots z f) e ∙ r.1, r.2)
 
     now : (j bin : ℕ) → j < length slots → is_table (slot_of slots j) ≡ true → done (home_of homes j) ⊎ (j ≡ i) → count (slot_of slots j) bin ≡ amount_under (p ∷ h) (home_of homes j) bin
     now j bin l t (inl d) = M.counted.now j bin l t d

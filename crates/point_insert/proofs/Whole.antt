@@ -4,7 +4,7 @@ use Rattle.cube_view.specs.Walks.{Step, down, across, Walk, SpotPath, Under, dim
 use Rattle.proper_path.specs.Order.{IsAbove, itself, further, IsBefore, shape_of}
 use Rattle.node_arena.specs.declared.link.Link.{Link}
 use Rattle.node_arena.specs.Slots.{proper, shared, target, Slot, link_of, slot_of, is_table}
-use Rattle.node_arena.specs.Shape.{home_of, HasHomes, HasOneChild, SharesContent}
+use Rattle.node_arena.specs.Shape.{home_of, HasHomes, HasOneChild, SharesContent, SharesWithChild}
 use Rattle.proper_path.specs.Midway.{IsMidway, IsNext, Joins, SharesBetween, HasTwoChildren, DoneBefore, DoneAfter, IsBetween}
 use Rattle.proper_path.specs.Changes.{IsRelinked, IsCounted}
 use Rattle.proper_path.specs.Making.{State, home, IsSpotOf, AllOfShape, Keeps}
@@ -12,7 +12,7 @@ use Rattle.proper_path.specs.Trails.{IsTrailLink}
 use Rattle.point_insert.specs.Ending.{Ends, HasNotOneChild}
 use Rattle.point_insert.specs.Visited.{HasPathChild, IsEntered}
 use Rattle.cube_view.proofs.Walking.{under_before, Contains-cases}
-use Rattle.node_arena.proofs.Labelled.{same_down}
+use Rattle.node_arena.proofs.Labels.{same_down}
 use Rattle.proper_path.proofs.Above.{under_above}
 use Rattle.proper_path.proofs.Links.{table_link}
 use Rattle.proper_path.proofs.Homes.{IsFree}
@@ -25,19 +25,18 @@ use Rattle.proper_path.proofs.Steps.{Between, keeps-trans, keeps_less, none_belo
 use Rattle.proper_path.proofs.Links.{proper≢shared}
 use Rattle.node_arena.specs.Amounts.{Weighted, spots_in}
 
+-- what comes before a node, or stands below a child of it, comes before it or stands at or below it
+before_or_below : (a b : Walk) → IsBefore b a ⊎ ((m : ℕ) × IsAbove (down m ∷ a) b) → IsBefore b a ⊎ IsAbove a b
+before_or_below a b (inl r) = inl r
+before_or_below a b (inr f) = inr (above-step f.1)
+
 -- the visit of slot i ends, in the three ways in which it may
 next_shared : (p : Weighted) (slots : List Slot) (homes : List Walk) (i : ℕ) → HasHomes slots homes → i < length slots → Under p.spot (home_of homes i) → IsFree slots i across → IsNext slots homes p (DoneBefore p (across ∷ home_of homes i)) (DoneAfter p (home_of homes i)) i
 next_shared p slots homes i H lt u free = record {
-  kept = λ b d. (d.0, kept b (before_across d.1));
+  ended = record { kept = λ b d. (d.0, before_or_below (home_of homes i) b (before_across d.1)); here = (u, inr itself); only = λ j l d. only j l d.0 d.1 };
   holds = λ b d. d.0;
-  here = (u, inr itself);
-  only = λ j l d. only j l d.0 d.1;
 }
   where
-    kept : (b : Walk) → IsBefore b (home_of homes i) ⊎ ((m : ℕ) × IsAbove (down m ∷ home_of homes i) b) → IsBefore b (home_of homes i) ⊎ IsAbove (home_of homes i) b
-    kept b (inl r) = inl r
-    kept b (inr f) = inr (above-step f.1)
-
     below : (j : ℕ) → j < length slots → Under p.spot (home_of homes j) → (home_of homes i ≡ home_of homes j) ⊎ ((e : Step) × IsAbove (e ∷ home_of homes i) (home_of homes j)) → DoneBefore p (across ∷ home_of homes i) (home_of homes j) ⊎ (j ≡ i)
     below j l v (inl e) = inr (H.distinct j i l lt (sym e))
     below j l v (inr (down m, g)) = inl (v, record { parting = home_of homes i; label = m; goes_down = g; goes_across = itself })
@@ -49,18 +48,12 @@ next_shared p slots homes i H lt u free = record {
 
 pub next_updated : (p : Weighted) (slots : List Slot) (homes : List Walk) (i : ℕ) → HasHomes slots homes → i < length slots → Under p.spot (home_of homes i) → IsNext slots homes p (DoneAfter p (across ∷ home_of homes i)) (DoneAfter p (home_of homes i)) i
 next_updated p slots homes i H lt u = record {
-  kept = λ b d. (d.0, kept b d.1);
+  ended = record { kept = λ b d. (d.0, kept b d.1); here = (u, inr itself); only = λ j l d. only j l d.0 d.1 };
   holds = λ b d. d.0;
-  here = (u, inr itself);
-  only = λ j l d. only j l d.0 d.1;
 }
   where
-    turn : (b : Walk) → IsBefore b (home_of homes i) ⊎ ((m : ℕ) × IsAbove (down m ∷ home_of homes i) b) → IsBefore b (home_of homes i) ⊎ IsAbove (home_of homes i) b
-    turn b (inl r) = inl r
-    turn b (inr f) = inr (above-step f.1)
-
     kept : (b : Walk) → IsBefore b (across ∷ home_of homes i) ⊎ IsAbove (across ∷ home_of homes i) b → IsBefore b (home_of homes i) ⊎ IsAbove (home_of homes i) b
-    kept b (inl r) = turn b (before_across r)
+    kept b (inl r) = before_or_below (home_of homes i) b (before_across r)
     kept b (inr f) = inr (above-step f)
 
     below : (j : ℕ) → j < length slots → Under p.spot (home_of homes j) → (home_of homes i ≡ home_of homes j) ⊎ ((e : Step) × IsAbove (e ∷ home_of homes i) (home_of homes j)) → DoneAfter p (across ∷ home_of homes i) (home_of homes j) ⊎ (j ≡ i)
@@ -74,10 +67,8 @@ next_updated p slots homes i H lt u = record {
 
 pub next_table : (p : Weighted) (slots : List Slot) (homes : List Walk) (i : ℕ) → HasHomes slots homes → i < length slots → Under p.spot (home_of homes i) → ((e : Step) → Under p.spot (e ∷ home_of homes i) → ⊥) → IsNext slots homes p (DoneBefore p (home_of homes i)) (DoneAfter p (home_of homes i)) i
 next_table p slots homes i H lt u last = record {
-  kept = λ b d. (d.0, inl d.1);
+  ended = record { kept = λ b d. (d.0, inl d.1); here = (u, inr itself); only = λ j l d. only j l d.0 d.1 };
   holds = λ b d. d.0;
-  here = (u, inr itself);
-  only = λ j l d. only j l d.0 d.1;
 }
   where
     below : (j : ℕ) → j < length slots → Under p.spot (home_of homes j) → (home_of homes i ≡ home_of homes j) ⊎ ((e : Step) × IsAbove (e ∷ home_of homes i) (home_of homes j)) → DoneBefore p (home_of homes i) (home_of homes j) ⊎ (j ≡ i)
@@ -89,7 +80,7 @@ next_table p slots homes i H lt u last = record {
     only j l v (inr f) = below j l v (above_cases f)
 
 -- the last step of a visit
-node_ends : (dims : ℕ) (h : List Weighted) (p : Weighted) (done next : Walk → Type 0) (b d : State) (i : ℕ) → Between dims h p done b → i < length b.slots → is_table (slot_of b.slots i) ≡ false → IsReady b.slots b.homes p i → ((label : ℕ) (l : Link) → HasOneChild b.slots i label l → SharesContent b.slots i l) → IsNext b.slots b.homes p done next i → Ends b i d → Between dims h p next d
+node_ends : (dims : ℕ) (h : List Weighted) (p : Weighted) (done next : Walk → Type 0) (b d : State) (i : ℕ) → Between dims h p done b → i < length b.slots → is_table (slot_of b.slots i) ≡ false → IsReady b.slots b.homes p i → SharesWithChild b.slots i → IsNext b.slots b.homes p done next i → Ends b i d → Between dims h p next d
 node_ends dims h p done next b d i B lt node R own N E =
     subst₂ (λ x y. IsBetween dims x y h p next d.updated) (sym E.slots) (sym E.homes) (record {
       midway = visit_ends dims b.slots b.homes h p done next b.updated d.updated i B.midway lt node R N E.joins;
@@ -209,7 +200,7 @@ module _ (dims : ℕ) (h : List Weighted) (p : Weighted) (shape : AllOfShape (sp
       apart : target k ≡ i → ⊥
       apart x = let e : length (home_of a.homes (target k)) ≡ length (home a i) = ap (λ z. length (home_of a.homes z)) x in let f : length (home_of a.homes (target k)) ≡ suc (length (home a i)) = ap length child_home in omega arith
 
-      own : (n : ℕ) (l : Link) → HasOneChild b.slots i n l → SharesContent b.slots i l
+      own : SharesWithChild b.slots i
       own n l Q =
           let n_is : n ≡ label = O.only n l (sym (below n) ∙ Q.is) in
           let at : link_of a.slots i (down label) ≡ Some l = subst (λ z. link_of a.slots i (down z) ≡ Some l) n_is (sym (below n) ∙ Q.is) in
@@ -256,7 +247,7 @@ module _ (dims : ℕ) (h : List Weighted) (p : Weighted) (shape : AllOfShape (sp
       is_ready : IsReady c.slots c.homes p i
       is_ready = ready c.slots c.homes p B.midway.has_homes i path_c (proper j) content (λ x. subst (Under p.spot) (sym (B.midway.has_homes.at_home i j across content).1) x)
 
-      own : (label : ℕ) (l : Link) → HasOneChild c.slots i label l → SharesContent c.slots i l
+      own : SharesWithChild c.slots i
       own label l O =
           let t = n label l (sym (below label) ∙ O.is) in
           absurd (t.differ (O.only t.one t.first (below t.one ∙ t.is_first) ∙ sym (O.only t.other t.second (below t.other ∙ t.is_second))))
@@ -271,7 +262,7 @@ module _ (dims : ℕ) (h : List Weighted) (p : Weighted) (shape : AllOfShape (sp
       is_ready : IsReady a.slots a.homes p i
       is_ready = ready a.slots a.homes p v.between.midway.has_homes i v.path (shared t) is (λ x. updated_holds dims a.slots a.homes h p (DoneBefore p (across ∷ home a i)) a.updated v.between.midway t c)
 
-      own : (label : ℕ) (l : Link) → HasOneChild a.slots i label l → SharesContent a.slots i l
+      own : SharesWithChild a.slots i
       own label l O = absurd (not_one a.slots i label l O (n label l O.is))
 
   -- a table
@@ -290,7 +281,7 @@ module _ (dims : ℕ) (h : List Weighted) (p : Weighted) (shape : AllOfShape (sp
       mid : IsMidway dims b.slots a.homes h p (DoneAfter p (home a i)) d.updated
       mid = table_ends dims a.slots b.slots a.homes h p (DoneBefore p (home a i)) (DoneAfter p (home a i)) a.updated d.updated i B.midway C u (λ x. not_done p (home a i) (home a i) itself x) last N (subst₂ (λ x y. Joins x i y d.updated) hs us E.joins)
 
-      own : (label : ℕ) (l : Link) → HasOneChild a.slots i label l → SharesContent a.slots i l
+      own : SharesWithChild a.slots i
       own label l O = let x = O.is in let y = table_link (slot_of a.slots i) (down label) C.kind in absurd cc
 
       S : SharesBetween a.slots a.homes p (DoneAfter p (home a i))

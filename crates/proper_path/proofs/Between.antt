@@ -8,11 +8,11 @@ use Rattle.node_arena.specs.Shape.{home_of, HasHomes, HasTables}
 use Rattle.proper_path.specs.Midway.{IsContentHome, IsVisited, CountsBetween, HasUpdated, IsGrowing, IsMidway}
 use Rattle.proper_path.specs.Changes.{IsGrown}
 use Rattle.cube_view.proofs.Walking.{dimension-finer, coarser_under, Contains-head}
-use Rattle.node_arena.proofs.Amounting.{amount-none, amount_along}
+use Rattle.node_arena.proofs.AddressAmounts.{amount-none, amount_along}
 use Rattle.proper_path.proofs.Links.{count-copied, is_table-copied}
 use Rattle.proper_path.proofs.Homes.{grown_homes, grown_home, KeepsHomes, keeps_homes, cases_grown, FitsUnder, IsFree, homes_grown}
 use Rattle.proper_path.proofs.Grow.{HoldsAt, holds_grown, IsAlike, alike, copy_holds, copy_fits, IsEmpty, empty_holds, empty_fits}
-use Rattle.node_arena.proofs.Reaching.{target-lt}
+use Rattle.node_arena.proofs.Walks.{target-lt}
 use Rattle.node_arena.specs.Amounts.{Weighted, spots_in, amount_under}
 
 -- what the added slot has to be besides: of its dimension's kind, with the old count

@@ -1,14 +1,14 @@
 -- What the arena's calls change of its links and rows.
 use Rattle.std.proofs.Common.{◌≡◌, ℕ, ◌+◌, ◌<◌, ◌≤◌, Bool, true, false, cond, eqb, ltb, ◌⊎◌, inl, inr, List, [], ◌∷◌, ◌++◌, Option, Some, None, set, length, refl, sym, ap, ◌∙◌, subst, arith, ap₂, true≢false, eqb-true, eq-eqb, ne_eqb}
 use Rattle.std.proofs.lemmas.List.{length_push, length-set, get_or_past}
-use Rattle.std.proofs.lemmas.Bool.{cases_eq, cases_lt}
+use Rattle.std.proofs.lemmas.Bool.{cases_eq, cases_lt, cond-true, cond-false}
 use Rattle.cube_view.specs.Walks.{Step, down, across}
 use Rattle.node_arena.specs.declared.link.Link.{Link}
 use Rattle.node_arena.specs.Slots.{proper, shared, Slot, node, table, empty_node, child, link, count, is_table, slot_of, link_of}
 use Rattle.proper_path.specs.Changes.{IsGrown, Came, of_new, of_set, of_old, of_none, IsRelinked, IsCounted}
 use Rattle.node_arena.specs.Calls.{with_child, with_link, put, relink, with_content, with_many, put_child, set_child, set_content, table_add_many}
 use Rattle.arena_undo.proofs.Backward.{slot-set}
-use Rattle.proper_path.proofs.Links.{same_place, slot-set_other, slot-push_old, slot-push_new}
+use Rattle.proper_path.proofs.Links.{same_place, slot-set_other, set_keeps, slot-push_old, slot-push_new, empty_link}
 use Rattle.time_table.specs.Counts.{BinCounts, count_of, add_many}
 use Rattle.time_table.proofs.AddLaws.{count_of-add_many}
 
@@ -19,9 +19,6 @@ pub record IsSetAt (old new : Slot) (e : Step) (l : Link) : Type 0 where
   pub counts : (bin : ℕ) → count new bin ≡ count old bin
   pub kind : is_table new ≡ is_table old
 
-cond_is : {A : Type 0} (b c : Bool) (x y : A) → b ≡ c → cond b x y ≡ cond c x y
-cond_is b c x y e = ap (λ (z : Bool). cond z x y) e
-
 not_first : (x : ℕ × Link) (kids : List (ℕ × Link)) (l : ℕ) → child (x ∷ kids) l ≡ None → (eqb x.0 l ≡ false) × (child kids l ≡ None)
 not_first x kids l h = go (eqb x.0 l) refl h
   where
@@ -30,19 +27,19 @@ not_first x kids l h = go (eqb x.0 l) refl h
     go false e r = (e, r)
 
 child-put_here : (kids : List (ℕ × Link)) (l : ℕ) (k : Link) → child kids l ≡ None → child (with_child kids l k) l ≡ Some k
-child-put_here [] l k h = cond_is (eqb l l) true (Some k) None (eq-eqb l l refl)
+child-put_here [] l k h = cond-true (eqb l l) (Some k) None (eq-eqb l l refl)
 child-put_here (x ∷ kids) l k h = go (ltb l x.0) (child-put_here kids l k (not_first x kids l h).1)
   where
     go : (b : Bool) → child (with_child kids l k) l ≡ Some k → child (cond b ((l, k) ∷ x ∷ kids) (x ∷ with_child kids l k)) l ≡ Some k
-    go true r = cond_is (eqb l l) true (Some k) (child (x ∷ kids) l) (eq-eqb l l refl)
-    go false r = cond_is (eqb x.0 l) false (Some x.1) (child (with_child kids l k) l) (not_first x kids l h).0 ∙ r
+    go true r = cond-true (eqb l l) (Some k) (child (x ∷ kids) l) (eq-eqb l l refl)
+    go false r = cond-false (eqb x.0 l) (Some x.1) (child (with_child kids l k) l) (not_first x kids l h).0 ∙ r
 
 child-put_other : (kids : List (ℕ × Link)) (l m : ℕ) (k : Link) → (m ≡ l → ⊥) → child (with_child kids l k) m ≡ child kids m
-child-put_other [] l m k n = cond_is (eqb l m) false (Some k) None (ne_eqb l m (λ e. n (sym e)))
+child-put_other [] l m k n = cond-false (eqb l m) (Some k) None (ne_eqb l m (λ e. n (sym e)))
 child-put_other (x ∷ kids) l m k n = go (ltb l x.0) (child-put_other kids l m k n)
   where
     go : (b : Bool) → child (with_child kids l k) m ≡ child kids m → child (cond b ((l, k) ∷ x ∷ kids) (x ∷ with_child kids l k)) m ≡ child (x ∷ kids) m
-    go true r = cond_is (eqb l m) false (Some k) (child (x ∷ kids) m) (ne_eqb l m (λ e. n (sym e)))
+    go true r = cond-false (eqb l m) (Some k) (child (x ∷ kids) m) (ne_eqb l m (λ e. n (sym e)))
     go false r = ap (λ (o : Option Link). cond (eqb x.0 m) (Some x.1) o) r
 
 child-set_here : (kids : List (ℕ × Link)) (l : ℕ) (k old : Link) → child kids l ≡ Some old → child (with_link kids l k) l ≡ Some k
@@ -50,8 +47,8 @@ child-set_here [] l k old h = absurd cc
 child-set_here (x ∷ kids) l k old h = go (eqb x.0 l) refl h (λ r. child-set_here kids l k old r)
   where
     go : (b : Bool) → eqb x.0 l ≡ b → cond b (Some x.1) (child kids l) ≡ Some old → (child kids l ≡ Some old → child (with_link kids l k) l ≡ Some k) → child (cond b ((l, k) ∷ kids) (x ∷ with_link kids l k)) l ≡ Some k
-    go true e r f = cond_is (eqb l l) true (Some k) (child kids l) (eq-eqb l l refl)
-    go false e r f = cond_is (eqb x.0 l) false (Some x.1) (child (with_link kids l k) l) e ∙ f r
+    go true e r f = cond-true (eqb l l) (Some k) (child kids l) (eq-eqb l l refl)
+    go false e r f = cond-false (eqb x.0 l) (Some x.1) (child (with_link kids l k) l) e ∙ f r
 
 child-set_other : (kids : List (ℕ × Link)) (l m : ℕ) (k : Link) → (m ≡ l → ⊥) → child (with_link kids l k) m ≡ child kids m
 child-set_other [] l m k n = refl
@@ -59,8 +56,8 @@ child-set_other (x ∷ kids) l m k n = go (eqb x.0 l) refl (child-set_other kids
   where
     go : (b : Bool) → eqb x.0 l ≡ b → child (with_link kids l k) m ≡ child kids m → child (cond b ((l, k) ∷ kids) (x ∷ with_link kids l k)) m ≡ child (x ∷ kids) m
     go true e r =
-        cond_is (eqb l m) false (Some k) (child kids m) (ne_eqb l m (λ y. n (sym y)))
-        ∙ sym (cond_is (eqb x.0 m) false (Some x.1) (child kids m) (ne_eqb x.0 m (λ y. n (sym y ∙ eqb-true x.0 l e))))
+        cond-false (eqb l m) (Some k) (child kids m) (ne_eqb l m (λ y. n (sym y)))
+        ∙ sym (cond-false (eqb x.0 m) (Some x.1) (child kids m) (ne_eqb x.0 m (λ y. n (sym y ∙ eqb-true x.0 l e))))
     go false e r = ap (λ (o : Option Link). cond (eqb x.0 m) (Some x.1) o) r
 
 differs : (l m : ℕ) → (down m ≡ down l → ⊥) → m ≡ l → ⊥
@@ -92,10 +89,6 @@ content_sets (table rows) k t = absurd (true≢false t)
 
 slot_past : (slots : List Slot) (i : ℕ) → length slots ≤ i → slot_of slots i ≡ empty_node
 slot_past slots i l = get_or_past slots i empty_node l
-
-empty_link : (f : Step) → link empty_node f ≡ None
-empty_link (down l) = refl
-empty_link across = refl
 
 -- a slot was added, and then the link to it set at an old slot
 pub grows : (slots : List Slot) (i : ℕ) (e : Step) (s new : Slot) → i < length slots → IsSetAt (slot_of slots i) new e (proper (length slots)) → IsGrown slots (set (slots ++ s ∷ []) i new) i e s
@@ -164,8 +157,8 @@ relinks slots i e new l lt S = record {
   place = lt;
   set_link = ap (λ z. link z e) at_i ∙ S.here;
   old_link = λ j f n. old_link j f n (cases_eq j i);
-  old_count = λ j bin. old_count j bin (cases_eq j i);
-  old_kind = λ j. old_kind j (cases_eq j i);
+  old_count = λ j bin. set_keeps (λ z. count z bin) slots i new lt (S.counts bin) j;
+  old_kind = set_keeps is_table slots i new lt S.kind;
 }
   where
     next : List Slot
@@ -177,14 +170,6 @@ relinks slots i e new l lt S = record {
     old_link : (j : ℕ) (f : Step) → (j ≡ i → f ≡ e → ⊥) → (j ≡ i) ⊎ (j ≡ i → ⊥) → link_of next j f ≡ link_of slots j f
     old_link j f n (inl x) = ap (λ z. link_of next z f) x ∙ (ap (λ z. link z f) at_i ∙ (S.elsewhere f (n x) ∙ ap (λ z. link_of slots z f) (sym x)))
     old_link j f n (inr m) = ap (λ z. link z f) (slot-set_other slots i j new m)
-
-    old_count : (j bin : ℕ) → (j ≡ i) ⊎ (j ≡ i → ⊥) → count (slot_of next j) bin ≡ count (slot_of slots j) bin
-    old_count j bin (inl x) = ap (λ z. count (slot_of next z) bin) x ∙ (ap (λ z. count z bin) at_i ∙ (S.counts bin ∙ ap (λ z. count (slot_of slots z) bin) (sym x)))
-    old_count j bin (inr m) = ap (λ z. count z bin) (slot-set_other slots i j new m)
-
-    old_kind : (j : ℕ) → (j ≡ i) ⊎ (j ≡ i → ⊥) → is_table (slot_of next j) ≡ is_table (slot_of slots j)
-    old_kind j (inl x) = ap (λ z. is_table (slot_of next z)) x ∙ (ap is_table at_i ∙ (S.kind ∙ ap (λ z. is_table (slot_of slots z)) (sym x)))
-    old_kind j (inr m) = ap is_table (slot-set_other slots i j new m)
 
 row-added : (m : BinCounts) (bin n b : ℕ) → count_of (add_many m bin n) b ≡ count_of m b + cond (eqb bin b) n 0
 row-added m bin n b = count_of-add_many m bin n b ∙ go (cases_eq b bin)
@@ -211,10 +196,10 @@ counts_more slots i bin n lt t = record {
   size = length-set slots i new;
   place = lt;
   kind = t;
-  links = λ j f. links j f (cases_eq j i);
+  links = λ j f. set_keeps (λ z. link z f) slots i new lt (added_link (slot_of slots i) bin n f) j;
   here = λ b. ap (λ z. count z b) at_i ∙ added_count (slot_of slots i) bin n b t;
   old_count = λ j b d. ap (λ z. count z b) (slot-set_other slots i j new d);
-  old_kind = λ j. old_kind j (cases_eq j i);
+  old_kind = set_keeps is_table slots i new lt (added_kind (slot_of slots i) bin n);
 }
   where
     new : Slot
@@ -225,14 +210,6 @@ counts_more slots i bin n lt t = record {
 
     at_i : slot_of next i ≡ new
     at_i = slot-set slots i new lt
-
-    links : (j : ℕ) (f : Step) → (j ≡ i) ⊎ (j ≡ i → ⊥) → link_of next j f ≡ link_of slots j f
-    links j f (inl x) = ap (λ z. link_of next z f) x ∙ (ap (λ z. link z f) at_i ∙ (added_link (slot_of slots i) bin n f ∙ ap (λ z. link_of slots z f) (sym x)))
-    links j f (inr d) = ap (λ z. link z f) (slot-set_other slots i j new d)
-
-    old_kind : (j : ℕ) → (j ≡ i) ⊎ (j ≡ i → ⊥) → is_table (slot_of next j) ≡ is_table (slot_of slots j)
-    old_kind j (inl x) = ap (λ z. is_table (slot_of next z)) x ∙ (ap is_table at_i ∙ (added_kind (slot_of slots i) bin n ∙ ap (λ z. is_table (slot_of slots z)) (sym x)))
-    old_kind j (inr d) = ap is_table (slot-set_other slots i j new d)
 
 -- the pairs of calls of a trail and of a visit
 pub grow_put : (slots : List Slot) (i l : ℕ) (s : Slot) → i < length slots → is_table (slot_of slots i) ≡ false → link_of slots i (down l) ≡ None → IsGrown slots (put_child (slots ++ s ∷ []) i l (proper (length slots))) i (down l) s

@@ -7,11 +7,11 @@ use Rattle.node_arena.specs.Calls.{copied, share}
 use Rattle.node_arena.specs.Shape.{home_of, HasHomes, IsLinked, HoldsSpots}
 use Rattle.proper_path.specs.Changes.{IsGrown, Came, of_new, of_set, of_old, of_none}
 use Rattle.cube_view.proofs.Walking.{step_across_finer, under_before, finer-step, finer-trans}
-use Rattle.node_arena.proofs.Reaching.{target-lt, link_coarser}
+use Rattle.node_arena.proofs.Walks.{target-lt, link_coarser}
 use Rattle.std.specs.FinMap.{empty, get-empty}
 use Rattle.std.specs.Ordering.{nat_cmp}
 use Rattle.std.proofs.Common.{unwrap_or}
-use Rattle.proper_path.proofs.Links.{link-copied, share-some, proper≢shared, same_place}
+use Rattle.proper_path.proofs.Links.{link-copied, share-some, proper≢shared, same_place, empty_link}
 use Rattle.proper_path.proofs.Homes.{grown_homes, grown_home, KeepsHomes, keeps_homes, cases_grown, FitsUnder}
 
 -- what the added slot has to be at its address, among the homes of the old ones
@@ -128,11 +128,7 @@ pub record IsEmpty (s : Slot) : Type 0 where
   pub no_count : (bin : ℕ) → count s bin ≡ 0
 
 pub node_empty : IsEmpty empty_node
-node_empty = record { no_link = links; no_count = λ bin. ap (λ o. unwrap_or o 0) (get-empty nat_cmp bin) }
-  where
-    links : (f : Step) → link empty_node f ≡ None
-    links (down l) = refl
-    links across = refl
+node_empty = record { no_link = empty_link; no_count = λ bin. ap (λ o. unwrap_or o 0) (get-empty nat_cmp bin) }
 
 pub table_empty : IsEmpty (table empty)
 table_empty = record { no_link = λ f. refl; no_count = λ bin. ap (λ o. unwrap_or o 0) (get-empty nat_cmp bin) }

@@ -6,7 +6,7 @@ use Rattle.cube_view.specs.Walks.{Step, Walk, IsCoarser}
 use Rattle.node_arena.specs.Slots.{target, proper, shared, Slot, link, link_of}
 use Rattle.node_arena.specs.Shape.{home_of, HasHomes, IsOwned}
 use Rattle.proper_path.specs.Changes.{IsGrown, Came, of_new, of_set, of_old, of_none}
-use Rattle.node_arena.proofs.Linked.{linked-lt}
+use Rattle.node_arena.proofs.Links.{linked-lt}
 use Rattle.proper_path.proofs.Links.{proper≢shared}
 
 -- the homes after a slot was added for the link at i and e, with the link's address for the slot at their end

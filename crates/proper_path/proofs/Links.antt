@@ -7,7 +7,8 @@ use Rattle.node_arena.specs.declared.link.Link.{Link}
 use Rattle.node_arena.specs.Slots.{proper, shared, target, Slot, node, table, empty_node, child, link, count, is_table, slot_of, link_of}
 use Rattle.node_arena.specs.Stats.{is_proper}
 use Rattle.node_arena.specs.Calls.{share, copied}
-use Rattle.node_arena.proofs.Linked.{link_cases}
+use Rattle.node_arena.proofs.Links.{link_cases}
+use Rattle.arena_undo.proofs.Backward.{slot-set}
 
 -- steps are equal or not
 pub cases_step : (e f : Step) → (e ≡ f) ⊎ (e ≡ f → ⊥)
@@ -23,6 +24,14 @@ cases_step across across = inl refl
 -- another slot is set
 pub slot-set_other : (slots : List Slot) (i j : ℕ) (s : Slot) → (j ≡ i → ⊥) → slot_of (set slots i s) j ≡ slot_of slots j
 slot-set_other slots i j s n = get_or-set_other slots i j s empty_node n
+
+-- another slot is set in the place of one: what is the same of both is the same everywhere
+pub set_keeps : {A : Type 0} (f : Slot → A) (slots : List Slot) (i : ℕ) (s : Slot) → i < length slots → f s ≡ f (slot_of slots i) → (j : ℕ) → f (slot_of (set slots i s) j) ≡ f (slot_of slots j)
+set_keeps f slots i s lt same j = go (cases_eq j i)
+  where
+    go : (j ≡ i) ⊎ (j ≡ i → ⊥) → f (slot_of (set slots i s) j) ≡ f (slot_of slots j)
+    go (inl x) = ap (λ z. f (slot_of (set slots i s) z)) x ∙ (ap f (slot-set slots i s lt) ∙ (same ∙ ap (λ z. f (slot_of slots z)) (sym x)))
+    go (inr n) = ap f (slot-set_other slots i j s n)
 
 -- a slot is added
 pub slot-push_old : (slots : List Slot) (s : Slot) (j : ℕ) → j < length slots → slot_of (slots ++ s ∷ []) j ≡ slot_of slots j
@@ -68,6 +77,11 @@ same_place j i f e = go (cases_eq j i) (cases_step f e)
 pub table_link : (s : Slot) (e : Step) → is_table s ≡ true → link s e ≡ None
 table_link (node kids content) e h = absurd (true≢false (sym h))
 table_link (table rows) e h = refl
+
+-- an empty node has no link
+pub empty_link : (f : Step) → link empty_node f ≡ None
+empty_link (down l) = refl
+empty_link across = refl
 
 -- no link is both proper and shared
 pub proper≢shared : (j k : ℕ) → proper j ≡ shared k → ⊥

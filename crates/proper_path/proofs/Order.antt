@@ -3,7 +3,7 @@ use Rattle.std.proofs.Common.{◌≡◌, ℕ, ◌≤◌, ◌⊎◌, inl, inr, �
 use Rattle.cube_view.specs.Walks.{Step, down, across, Walk, Under}
 use Rattle.proper_path.specs.Order.{IsAbove, itself, further, IsBefore}
 use Rattle.proper_path.specs.Midway.{DoneBefore, DoneAfter, IsClosed}
-use Rattle.node_arena.proofs.Labelled.{same_down}
+use Rattle.node_arena.proofs.Labels.{same_down}
 use Rattle.proper_path.proofs.Above.{under_above}
 use Rattle.node_arena.specs.Amounts.{Weighted}
 

@@ -4,16 +4,16 @@ use Rattle.cube_view.specs.Walks.{Step, down, across, Walk, SpotPath, Under, IsC
 use Rattle.proper_path.specs.Order.{IsAbove, itself, further}
 use Rattle.node_arena.specs.declared.link.Link.{Link}
 use Rattle.node_arena.specs.Slots.{proper, shared, target, Slot, link_of}
-use Rattle.node_arena.specs.Shape.{home_of, HasHomes, HasOneChild, SharesContent}
+use Rattle.node_arena.specs.Shape.{home_of, HasHomes, HasOneChild, SharesContent, SharesWithChild}
 use Rattle.proper_path.specs.Midway.{SharesBetween, HasTwoChildren, IsClosed, IsNext}
 use Rattle.proper_path.specs.Changes.{IsGrown, Came, of_new, of_set, of_old, of_none, IsRelinked}
 use Rattle.proper_path.proofs.Above.{comes_before}
 use Rattle.cube_view.proofs.Walking.{coarser_under, under_before}
-use Rattle.node_arena.proofs.Linked.{linked-lt}
+use Rattle.node_arena.proofs.Links.{linked-lt}
 use Rattle.proper_path.proofs.Links.{cases_step, same_place}
 use Rattle.proper_path.proofs.Homes.{IsFree, FitsUnder, grown_homes, grown_home, KeepsHomes, keeps_homes}
 use Rattle.proper_path.proofs.Grow.{still_linked}
-use Rattle.node_arena.proofs.Reaching.{target-lt, link_coarser}
+use Rattle.node_arena.proofs.Walks.{target-lt, link_coarser}
 use Rattle.proper_path.proofs.Order.{before_down}
 use Rattle.proper_path.proofs.Links.{proper≢shared}
 use Rattle.node_arena.specs.Amounts.{Weighted, spots_in}
@@ -45,6 +45,11 @@ child_settled slots homes p done H closed j label l is d u = pick d (cases_addre
     pick (inl x) (inl e) = closed (home_of homes j) (home_of homes (target l)) x u (inl (subst (λ z. IsAbove (home_of homes j) z) e (further itself)))
     pick (inl x) (inr n) = closed (home_of homes j) (home_of homes (target l)) x u (inr (before_down (comes_before (down label ∷ home_of homes j) (home_of homes (target l)) co n)))
 
+-- a node that was visited, or that doesn't hold p, is not one on p's path that isn't visited yet
+apart_from : (homes : List Walk) (p : Weighted) (done : Walk → Type 0) (i : ℕ) → Under p.spot (home_of homes i) → (done (home_of homes i) → ⊥) → (j : ℕ) → (done (home_of homes j) ⊎ (Under p.spot (home_of homes j) → ⊥)) → j ≡ i → ⊥
+apart_from homes p done i u here j (inl d) x = here (subst (λ z. done (home_of homes z)) x d)
+apart_from homes p done i u here j (inr n) x = n (subst (λ z. Under p.spot (home_of homes z)) (sym x) u)
+
 -- the arena grows at a link of a node on p's path that isn't visited yet
 pub shares_grown : (old new : List Slot) (homes : List Walk) (i : ℕ) (e : Step) (s : Slot) (p : Weighted) (done : Walk → Type 0) → IsGrown old new i e s → HasHomes old homes → FitsUnder old homes (e ∷ home_of homes i) s → IsClosed p done → Under p.spot (e ∷ home_of homes i) → (done (home_of homes i) → ⊥) → (done (e ∷ home_of homes i) → ⊥) → (e ≡ across → (label : ℕ) → Under p.spot (down label ∷ home_of homes i) → HasTwoChildren old i) → SharesBetween old homes p done → SharesBetween new (grown_homes homes i e) p done
 shares_grown old new homes i e s p done G H F closed u here there two S = record {
@@ -58,9 +63,8 @@ shares_grown old new homes i e s p done G H F closed u here there two S = record
     settled : (j : ℕ) → j < length old → (done (grown_home homes i e j) ⊎ (Under p.spot (grown_home homes i e j) → ⊥)) → done (home_of homes j) ⊎ (Under p.spot (home_of homes j) → ⊥)
     settled j l d = subst (λ z. done z ⊎ (Under p.spot z → ⊥)) (K.was j l) d
 
-    not_here : (j : ℕ) → (done (home_of homes j) ⊎ (Under p.spot (home_of homes j) → ⊥)) → j ≡ i → ⊥
-    not_here j (inl d) x = here (subst (λ z. done (home_of homes z)) x d)
-    not_here j (inr n) x = n (subst (λ z. Under p.spot (home_of homes z)) (sym x) (under_before p.spot e (home_of homes i) u))
+    on_path : Under p.spot (home_of homes i)
+    on_path = under_before p.spot e (home_of homes i) u
 
     shares : (j label : ℕ) (l : Link) → (done (grown_home homes i e j) ⊎ (Under p.spot (grown_home homes i e j) → ⊥)) → HasOneChild new j label l → Came old i e s (Some (proper (length old))) j (down label) (link_of new j (down label)) → SharesContent new j l
     shares j label l d O (of_new en el) = absurd (settled_new d)
@@ -71,8 +75,8 @@ shares_grown old new homes i e s p done G H F closed u here there two S = record
         settled_new : (done (grown_home homes i e j) ⊎ (Under p.spot (grown_home homes i e j) → ⊥)) → ⊥
         settled_new (inl x) = there (subst done at_new x)
         settled_new (inr n) = n (subst (Under p.spot) (sym at_new) u)
-    shares j label l d O (of_set ei ee el) = absurd (not_here j (settled j (subst (λ z. z < length old) (sym ei) G.place) d) ei)
-    shares j label l d O (of_old lt ne el) = record { content = c.content; of_child = G.old_link (target l) across (target-lt old homes H j (down label) l is) apart ∙ c.of_child; of_node = G.old_link j across lt (λ x y. not_here j d' x) ∙ c.of_node }
+    shares j label l d O (of_set ei ee el) = absurd (apart_from homes p done i on_path here j (settled j (subst (λ z. z < length old) (sym ei) G.place) d) ei)
+    shares j label l d O (of_old lt ne el) = record { content = c.content; of_child = G.old_link (target l) across (target-lt old homes H j (down label) l is) apart ∙ c.of_child; of_node = G.old_link j across lt (λ x y. apart_from homes p done i on_path here j d' x) ∙ c.of_node }
       where
         d' : done (home_of homes j) ⊎ (Under p.spot (home_of homes j) → ⊥)
         d' = settled j lt d
@@ -81,10 +85,10 @@ shares_grown old new homes i e s p done G H F closed u here there two S = record
         is = sym el ∙ O.is
 
         c : SharesContent old j l
-        c = S.shares j label l d' (record { is = is; only = λ m k x. O.only m k (G.old_link j (down m) lt (λ a b. not_here j d' a) ∙ x) })
+        c = S.shares j label l d' (record { is = is; only = λ m k x. O.only m k (G.old_link j (down m) lt (λ a b. apart_from homes p done i on_path here j d' a) ∙ x) })
 
         apart : target l ≡ i → across ≡ e → ⊥
-        apart x y = here (subst (λ z. done (home_of homes z)) x (child_settled old homes p done H closed j label l is d' (subst (λ z. Under p.spot (home_of homes z)) (sym x) (under_before p.spot e (home_of homes i) u))))
+        apart x y = here (subst (λ z. done (home_of homes z)) x (child_settled old homes p done H closed j label l is d' (subst (λ z. Under p.spot (home_of homes z)) (sym x) on_path)))
     shares j label l d O (of_none el) = let k = O.is in absurd cc
 
     more : (j : ℕ) → j < length old → HasTwoChildren old j → HasTwoChildren new j
@@ -122,15 +126,11 @@ shares_relinked old new homes h i u p done R H closed v may S = record {
   many = λ j to label is w. many j to label is w (same_place j i across across);
 }
   where
-    not_here : (j : ℕ) → (done (home_of homes j) ⊎ (Under p.spot (home_of homes j) → ⊥)) → j ≡ i → ⊥
-    not_here j (inl d) x = may.open_node (subst (λ z. done (home_of homes z)) x d)
-    not_here j (inr n) x = n (subst (λ z. Under p.spot (home_of homes z)) (sym x) v)
-
     below : (j m : ℕ) → link_of new j (down m) ≡ link_of old j (down m)
     below j m = R.old_link j (down m) (λ x y. let z : ⊥ = cc in z)
 
     shares : (j label : ℕ) (l : Link) → (done (home_of homes j) ⊎ (Under p.spot (home_of homes j) → ⊥)) → HasOneChild new j label l → SharesContent new j l
-    shares j label l d O = record { content = c.content; of_child = R.old_link (target l) across apart ∙ c.of_child; of_node = R.old_link j across (λ x y. not_here j d x) ∙ c.of_node }
+    shares j label l d O = record { content = c.content; of_child = R.old_link (target l) across apart ∙ c.of_child; of_node = R.old_link j across (λ x y. apart_from homes p done i v may.open_node j d x) ∙ c.of_node }
       where
         is : link_of old j (down label) ≡ Some l
         is = sym (below j label) ∙ O.is
@@ -148,7 +148,7 @@ shares_relinked old new homes h i u p done R H closed v may S = record {
         record { one = t.one; other = t.other; differ = t.differ; first = t.first; second = t.second; is_first = below j t.one ∙ t.is_first; is_second = below j t.other ∙ t.is_second }
 
 -- the visit of a node ends
-pub shares_ends : (slots : List Slot) (homes : List Walk) (p : Weighted) (done next : Walk → Type 0) (i : ℕ) → IsNext slots homes p done next i → ((label : ℕ) (l : Link) → HasOneChild slots i label l → SharesContent slots i l) → SharesBetween slots homes p done → SharesBetween slots homes p next
+pub shares_ends : (slots : List Slot) (homes : List Walk) (p : Weighted) (done next : Walk → Type 0) (i : ℕ) → IsNext slots homes p done next i → SharesWithChild slots i → SharesBetween slots homes p done → SharesBetween slots homes p next
 shares_ends slots homes p done next i N own S = record {
   shares = λ j label l d O. shares j label l O d;
   many = S.many;

@@ -8,7 +8,7 @@ use Rattle.node_arena.specs.Shape.{home_of, HasHomes, HasTables}
 use Rattle.proper_path.specs.Midway.{IsContentHome, IsGrowing, IsMidway, SharesBetween, HasTwoChildren, IsClosed, IsBetween, DoneBefore}
 use Rattle.proper_path.specs.Changes.{IsGrown}
 use Rattle.proper_path.specs.Making.{State, home, AddsSlot, Makes, has, copies, adds, Keeps}
-use Rattle.node_arena.proofs.Linked.{linked-lt}
+use Rattle.node_arena.proofs.Links.{linked-lt}
 use Rattle.proper_path.proofs.Homes.{IsFree, FitsUnder, home_free, grown_homes, KeepsHomes, keeps_homes, homes_grown}
 use Rattle.proper_path.proofs.Between.{StandsAt, midway_grown, tables_grown, copy_kind, copy_stands, empty_stands}
 use Rattle.proper_path.proofs.Grow.{copy_fits, empty_fits}

@@ -4,6 +4,10 @@ use Rattle.cube_view.specs.Walks.{Step}
 use Rattle.node_arena.specs.declared.link.Link.{Link}
 use Rattle.node_arena.specs.Slots.{proper, Slot, link, link_of, slot_of, count, is_table}
 
+-- each slot is a node or a time table as it was
+abbrev pub KeepsKinds : List Slot → List Slot → Type 0
+KeepsKinds old new = (j : ℕ) → is_table (slot_of new j) ≡ is_table (slot_of old j)
+
 -- what a link of the new arena is: one of the added slot, the link that was set, or as it was
 pub data Came (old : List Slot) (i : ℕ) (e : Step) (s : Slot) (set_to : Option Link) (j : ℕ) (f : Step) (now : Option Link) : Type 0 where
   of_new : j ≡ length old → now ≡ link s f → Came old i e s set_to j f now
@@ -31,7 +35,7 @@ pub record IsRelinked (old new : List Slot) (i : ℕ) (e : Step) (l : Link) : Ty
   pub set_link : link_of new i e ≡ Some l
   pub old_link : (j : ℕ) (f : Step) → (j ≡ i → f ≡ e → ⊥) → link_of new j f ≡ link_of old j f
   pub old_count : (j bin : ℕ) → count (slot_of new j) bin ≡ count (slot_of old j) bin
-  pub old_kind : (j : ℕ) → is_table (slot_of new j) ≡ is_table (slot_of old j)
+  pub old_kind : KeepsKinds old new
 
 -- the table i counts so much more in each bin, and nothing else has changed
 pub record IsAdded (old new : List Slot) (i : ℕ) (more : ℕ → ℕ) : Type 0 where
@@ -41,7 +45,7 @@ pub record IsAdded (old new : List Slot) (i : ℕ) (more : ℕ → ℕ) : Type 0
   pub links : (j : ℕ) (f : Step) → link_of new j f ≡ link_of old j f
   pub here : (b : ℕ) → count (slot_of new i) b ≡ count (slot_of old i) b + more b
   pub old_count : (j b : ℕ) → (j ≡ i → ⊥) → count (slot_of new j) b ≡ count (slot_of old j) b
-  pub old_kind : (j : ℕ) → is_table (slot_of new j) ≡ is_table (slot_of old j)
+  pub old_kind : KeepsKinds old new
 
 -- it counts n more at the bin
 abbrev pub IsCounted : List Slot → List Slot → ℕ → ℕ → ℕ → Type 0

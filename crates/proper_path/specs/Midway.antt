@@ -13,11 +13,14 @@ pub record IsContentHome (a : Walk) : Type 0 where
   pub of : Walk
   pub is : a ≡ across ∷ of
 
+-- where p goes along the step from the node, a link leads there to what holds p
+abbrev pub LeadsOn : List Slot → List Walk → Weighted → ℕ → Step → Type 0
+LeadsOn slots homes p i e = Under p.spot (e ∷ home_of homes i) → (l : Link) × (link_of slots i e ≡ Some l) × Under p.spot (home_of homes (target l))
+
 -- what has been visited has the links of p, and they are true of p
 pub record IsVisited (slots : List Slot) (homes : List Walk) (p : Weighted) (done : Walk → Type 0) : Type 0 where
   pub holds : (a : Walk) → done a → Under p.spot a
-  pub links : (i : ℕ) (e : Step) → i < length slots → done (home_of homes i) → Under p.spot (e ∷ home_of homes i) →
-      (l : Link) × (link_of slots i e ≡ Some l) × Under p.spot (home_of homes (target l))
+  pub links : (i : ℕ) (e : Step) → i < length slots → done (home_of homes i) → LeadsOn slots homes p i e
 
 -- a table counts all points exactly when its visit has ended, and the old ones h until then
 pub record CountsBetween (slots : List Slot) (homes : List Walk) (h all : List Weighted) (done : Walk → Type 0) : Type 0 where
@@ -39,11 +42,15 @@ pub record HasTwoChildren (slots : List Slot) (i : ℕ) : Type 0 where
   pub is_first : link_of slots i (down one) ≡ Some first
   pub is_second : link_of slots i (down other) ≡ Some second
 
+-- a node from which p goes down has children at two labels, where it has a content of its own
+abbrev pub HaveTwoChildren : List Slot → List Walk → Weighted → Type 0
+HaveTwoChildren slots homes p = (i to label : ℕ) → link_of slots i across ≡ Some (proper to) → Under p.spot (down label ∷ home_of homes i) → HasTwoChildren slots i
+
 -- What has been visited and what doesn't hold p shares an only child's content; and no proper content stands at a node
 -- of one child.
 pub record SharesBetween (slots : List Slot) (homes : List Walk) (p : Weighted) (done : Walk → Type 0) : Type 0 where
   pub shares : (i label : ℕ) (l : Link) → (done (home_of homes i) ⊎ (Under p.spot (home_of homes i) → ⊥)) → HasOneChild slots i label l → SharesContent slots i l
-  pub many : (i to label : ℕ) → link_of slots i across ≡ Some (proper to) → Under p.spot (down label ∷ home_of homes i) → HasTwoChildren slots i
+  pub many : HaveTwoChildren slots homes p
 
 -- the invariant without the updated set and without shared content
 pub record IsGrowing (dims : ℕ) (slots : List Slot) (homes : List Walk) (h : List Weighted) (p : Weighted) (done : Walk → Type 0) : Type 0 where
@@ -66,12 +73,21 @@ DoneBefore p a b = Under p.spot b × IsBefore b a
 abbrev pub DoneAfter : Weighted → Walk → Walk → Type 0
 DoneAfter p a b = Under p.spot b × (IsBefore b a ⊎ IsAbove a b)
 
+-- each address of the one is one of the other
+abbrev pub IsPartOf : (Walk → Type 0) → (Walk → Type 0) → Type 0
+IsPartOf some more = (a : Walk) → some a → more a
+
 -- the visit of slot i ends: what is done besides is its home, among the slots there are
-pub record IsNext (slots : List Slot) (homes : List Walk) (p : Weighted) (done next : Walk → Type 0) (i : ℕ) : Type 0 where
-  pub kept : (a : Walk) → done a → next a
-  pub holds : (a : Walk) → next a → Under p.spot a
+pub record IsEnded (slots : List Slot) (homes : List Walk) (done next : Walk → Type 0) (i : ℕ) : Type 0 where
+  pub kept : IsPartOf done next
   pub here : next (home_of homes i)
   pub only : (j : ℕ) → j < length slots → next (home_of homes j) → done (home_of homes j) ⊎ (j ≡ i)
+
+-- and what is done then holds p
+pub record IsNext (slots : List Slot) (homes : List Walk) (p : Weighted) (done next : Walk → Type 0) (i : ℕ) : Type 0 where
+  pub ended : IsEnded slots homes done next i
+  pub open ended use *
+  pub holds : IsPartOf next (Under p.spot)
 
 -- the slot joins the set, which holds nothing else that is new
 pub record IsJoined (before : List ℕ) (i : ℕ) (after : List ℕ) : Type 0 where

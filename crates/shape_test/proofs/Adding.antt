@@ -6,7 +6,7 @@ use Rattle.node_arena.specs.declared.link.Link.{Link}
 use Rattle.cube_view.specs.Walks.{down, across}
 use Rattle.node_arena.specs.Slots.{Children, IsRising, Slot, child, children_of, slot_of, target}
 use Rattle.shape_test.specs.Ways.{Way, count_below}
-use Rattle.node_arena.proofs.Labelled.{link_down, child_past, child_here, rising-tail, none_before}
+use Rattle.node_arena.proofs.Labels.{link_down, child_past, child_here, rising-tail, none_before}
 use Rattle.shape_test.proofs.Core.{step_first}
 use Rattle.shape_test.specs.Links.{NoneFrom, IsFirstLink}
 use Rattle.shape_test.specs.Merging.{parts_count}

@@ -9,7 +9,7 @@ use Rattle.node_arena.specs.Calls.{only_link}
 use Rattle.node_arena.specs.Slots.{shared, target, Children, Slot, IsTable, child, children_of, slot_of, link_of, count}
 use Rattle.shape_test.specs.Sharing.{SharesAt}
 use Rattle.shape_test.specs.Ways.{Way, count_below, Merges}
-use Rattle.node_arena.proofs.Labelled.{link_down}
+use Rattle.node_arena.proofs.Labels.{link_down}
 use Rattle.shape_test.proofs.Core.{no_step, step_first}
 use Rattle.shape_test.proofs.OnlyChild.{table_link, alone, has_one}
 use Rattle.shape_test.specs.Agreeing.{content_below, HasCount, AgreesAs, Agrees, CountedAgree, AllAgree, CoversPart, CoversParts, MergesOver}

@@ -4,7 +4,7 @@ use Rattle.std.proofs.Math.ListN.{get_or-eq_default}
 use Rattle.std.proofs.lemmas.Bool.{cases_lt}
 use Rattle.node_arena.specs.Slots.{Children, IsRising, Slot, empty_node, children_of, slot_of}
 use Rattle.node_arena.specs.Stats.{AllRising}
-use Rattle.node_arena.proofs.Labelled.{child_before, rising-tail}
+use Rattle.node_arena.proofs.Labels.{child_before, rising-tail}
 use Rattle.shape_test.proofs.Core.{IsApart}
 
 -- children whose labels rise have labels that are apart

@@ -7,10 +7,10 @@ use Rattle.node_arena.specs.Amounts.{Weighted, spots_in, amount_under}
 use Rattle.node_arena.specs.Reach.{count_reached}
 use Rattle.node_arena.specs.Shape.{home_of, IsShaped}
 use Rattle.node_arena.specs.Slots.{Slot, child, slot_of, children_of, walk_end}
-use Rattle.node_arena.proofs.Reaching.{walk-lt, walk_coarser, walk_home, walk_reaches, walk_counts}
+use Rattle.node_arena.proofs.Walks.{walk-lt, walk_coarser, walk_home, walk_reaches, walk_counts}
 use Rattle.shape_test.specs.Levels.{Levels, level_down, level_across, then_level, left, label_counts}
 use Rattle.shape_test.specs.Ways.{Way, found, along, count_below, IsFinest, Merges}
-use Rattle.node_arena.proofs.Labelled.{link_down}
+use Rattle.node_arena.proofs.Labels.{link_down}
 use Rattle.shape_test.proofs.Core.{IsApart, splits, GoesDown, absent, under_along}
 use Rattle.shape_test.proofs.Local.{left_spot, own_way, levels_of}
 

@@ -5,7 +5,7 @@ use Rattle.cube_view.specs.Walks.{down, across, Walk}
 use Rattle.node_arena.specs.declared.link.Link.{Link}
 use Rattle.node_arena.specs.Calls.{child_from}
 use Rattle.node_arena.specs.Slots.{IsRising, Slot, children_of, slot_of, link_of}
-use Rattle.node_arena.proofs.Labelled.{link_down, child_from-none, child_from-some}
+use Rattle.node_arena.proofs.Labels.{link_down, child_from-none, child_from-some}
 use Rattle.shape_test.specs.Links.{HasSmallLabels, NoneFrom, IsFirstLink, LinkFits, ChildrenFit, LinksFit}
 
 -- what a search from a label on tells

@@ -8,7 +8,7 @@ use Rattle.cube_view.specs.Walks.{Step, Walk}
 use Rattle.cube_view.specs.declared.schema.Schema.{Schema}
 use Rattle.node_arena.specs.Shape.{home_of, IsOwned, HasProperLinks}
 use Rattle.node_arena.specs.Slots.{proper, target, Slot, link_of}
-use Rattle.node_arena.proofs.Linked.{linked-lt}
+use Rattle.node_arena.proofs.Links.{linked-lt}
 use Rattle.shape_test.specs.Homes.{step_of, walk_of, walks_of}
 use Rattle.shape_test.specs.declared.home.Move.{Move}
 use Rattle.shape_test.specs.Owners.{Owners, owner_of, owner_at, IsOwner, HasOwners, IsHomeOf, AddsHome, LeadsBack, OwnersWithin, HasLost, LeadHome, AreShortHomes, AreHomesIn, HasNoHomesIn, most_steps}

@@ -8,7 +8,7 @@ use Rattle.node_arena.specs.declared.link.Link.{Link}
 use Rattle.node_arena.specs.Amounts.{Weighted, spots_in, amount_under}
 use Rattle.node_arena.specs.Reach.{count_reached}
 use Rattle.node_arena.specs.Slots.{target, Children, Slot, child, link_of, slot_of, reached, children_of}
-use Rattle.node_arena.proofs.Labelled.{same_down, link_down}
+use Rattle.node_arena.proofs.Labels.{same_down, link_down}
 use Rattle.shape_test.specs.Ways.{Way, found, along, count_below, IsFinest, Merges}
 
 -- no label stands twice

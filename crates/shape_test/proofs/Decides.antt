@@ -8,7 +8,7 @@ use Rattle.node_arena.specs.Amounts.{Weighted, spots_in}
 use Rattle.node_arena.specs.Shape.{home_of, HasShape}
 use Rattle.node_arena.specs.Slots.{proper, Slot, empty_node, slot_of, children_of, link}
 use Rattle.node_arena.specs.Stats.{AllRising}
-use Rattle.node_arena.proofs.Reaching.{walk_home}
+use Rattle.node_arena.proofs.Walks.{walk_home}
 use Rattle.shape_test.specs.Levels.{Levels, left, no_levels, label_counts}
 use Rattle.shape_test.specs.Local.{HasLevels, IsLocal, AllHaveLevels, AllHaveCounts, AllContentsMerge}
 use Rattle.shape_test.specs.Ways.{Way, along, count_below, IsFinest, Merges}

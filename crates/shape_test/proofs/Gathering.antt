@@ -8,8 +8,8 @@ use Rattle.node_arena.specs.declared.link.Link.{Link}
 use Rattle.node_arena.specs.Shape.{home_of, HasProperLinks, HasHomes, HasTables, SharesOnlyContent, SharesContent, IsLinked}
 use Rattle.node_arena.specs.Slots.{shared, target, Slot, IsNode, IsTable, slot_of, link_of}
 use Rattle.node_arena.specs.Stats.{AllRising}
-use Rattle.node_arena.proofs.Linked.{linked-lt}
-use Rattle.node_arena.proofs.Reaching.{link_coarser, target-lt}
+use Rattle.node_arena.proofs.Links.{linked-lt}
+use Rattle.node_arena.proofs.Walks.{link_coarser, target-lt}
 use Rattle.shape_test.specs.Levels.{Levels, level_step, then_level, left, no_levels}
 use Rattle.shape_test.specs.Local.{AllHaveLevels, AllHaveCounts, AllContentsMerge}
 use Rattle.shape_test.specs.Ways.{Way, count_below, IsFinest, Merges}

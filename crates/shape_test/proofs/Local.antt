@@ -6,8 +6,8 @@ use Rattle.node_arena.specs.declared.link.Link.{Link}
 use Rattle.node_arena.specs.Amounts.{Weighted, spots_in, amount_under}
 use Rattle.node_arena.specs.Slots.{proper, target, Slot, link_of}
 use Rattle.node_arena.specs.Shape.{home_of, IsLinked, IsShaped, HasHomes}
-use Rattle.node_arena.proofs.Linked.{linked-lt}
-use Rattle.node_arena.proofs.Reaching.{link_coarser, target-lt}
+use Rattle.node_arena.proofs.Links.{linked-lt}
+use Rattle.node_arena.proofs.Walks.{link_coarser, target-lt}
 use Rattle.shape_test.specs.Levels.{Levels, level_down, level_across, level_step, then_level, left, label_counts}
 use Rattle.shape_test.specs.Local.{IsLocal}
 use Rattle.shape_test.specs.Ways.{Way, along, count_below, IsFinest}

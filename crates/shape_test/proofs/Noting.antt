@@ -6,7 +6,7 @@ use Rattle.std.proofs.lemmas.List.{length-replicate, get_or-replicate}
 use Rattle.cube_view.specs.Walks.{Step, down, across}
 use Rattle.node_arena.specs.declared.link.Link.{Link}
 use Rattle.node_arena.specs.Slots.{proper, Slot, IsTable, slot_of, link_of}
-use Rattle.node_arena.proofs.Linked.{linked-lt}
+use Rattle.node_arena.proofs.Links.{linked-lt}
 use Rattle.shape_test.specs.Links.{HasSmallLabels, NoneFrom, IsFirstLink}
 use Rattle.shape_test.specs.declared.home.Move.TheVariants.{Down, Across}
 use Rattle.shape_test.specs.Owners.{Owners, owner_of, owner_at, IsNoted, IsSecond, AreOwners, HasOwners, Before, HasNoHomes}

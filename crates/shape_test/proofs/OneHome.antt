@@ -4,7 +4,7 @@ use Rattle.std.proofs.lemmas.List.{ext_get_or}
 use Rattle.cube_view.specs.Walks.{Walk}
 use Rattle.node_arena.specs.Shape.{home_of, HasProperLinks}
 use Rattle.node_arena.specs.Slots.{proper, Slot}
-use Rattle.node_arena.proofs.Linked.{linked-lt}
+use Rattle.node_arena.proofs.Links.{linked-lt}
 use Rattle.shape_test.specs.Laws.{OneHomes}
 
 -- by the steps of a home

@@ -6,9 +6,9 @@ use Rattle.node_arena.specs.Calls.{only_link}
 use Rattle.node_arena.specs.Shape.{HasOneChild, SharesContent}
 use Rattle.node_arena.specs.Slots.{shared, target, Children, IsRising, Slot, node, table, IsTable, slot_of, children_of, link, link_of, child}
 use Rattle.node_arena.specs.Stats.{is_proper}
-use Rattle.node_arena.proofs.Linked.{link_cases}
+use Rattle.node_arena.proofs.Links.{link_cases}
 use Rattle.shape_test.specs.Sharing.{SharesAt, LeadsWithin}
-use Rattle.node_arena.proofs.Labelled.{link_down}
+use Rattle.node_arena.proofs.Labels.{link_down}
 
 -- the one child
 one_of : (children : Children) (l : Link) → only_link children ≡ Some l → (label : ℕ) × (children ≡ (label, l) ∷ [])

@@ -8,7 +8,7 @@ use Rattle.node_arena.specs.declared.link.Link.{Link}
 use Rattle.node_arena.specs.Shape.{home_of, HasProperLinks}
 use Rattle.node_arena.specs.Slots.{proper, shared, target, Slot, link_of}
 use Rattle.node_arena.specs.Stats.{is_proper}
-use Rattle.node_arena.proofs.Linked.{linked-lt, link_cases}
+use Rattle.node_arena.proofs.Links.{linked-lt, link_cases}
 use Rattle.shape_test.specs.Homes.{step_of}
 use Rattle.shape_test.specs.declared.home.Move.{Move}
 use Rattle.shape_test.specs.Owners.{Owners, owner_of, owner_at, IsFree, IsNoted, IsSecond, IsOwner, AreOwners}

@@ -7,7 +7,7 @@ use Rattle.node_arena.specs.Amounts.{Weighted, amount_under}
 use Rattle.node_arena.specs.Reach.{count_reached}
 use Rattle.node_arena.specs.Shape.{home_of}
 use Rattle.node_arena.specs.Slots.{Slot, slot_of, IsTable, walk_end}
-use Rattle.node_arena.proofs.Reaching.{walk-lt, walk_coarser, walk_home}
+use Rattle.node_arena.proofs.Walks.{walk-lt, walk_coarser, walk_home}
 use Rattle.shape_test.specs.Levels.{Levels, level_step, then_level, left}
 use Rattle.shape_test.specs.Local.{IsLocal}
 use Rattle.shape_test.specs.Ways.{Way, along, IsFinest}

@@ -8,7 +8,7 @@ use Rattle.node_arena.specs.declared.link.Link.{Link}
 use Rattle.node_arena.specs.Amounts.{Weighted, spots_in}
 use Rattle.node_arena.specs.Shape.{home_of, HasShape}
 use Rattle.node_arena.specs.Slots.{Slot, IsTable, is_table, slot_of, link_of}
-use Rattle.node_arena.proofs.Reaching.{link_coarser, target-lt}
+use Rattle.node_arena.proofs.Walks.{link_coarser, target-lt}
 use Rattle.shape_test.specs.Laws.{AllTablesCounted}
 use Rattle.shape_test.specs.Levels.{Levels, left, label_counts}
 use Rattle.shape_test.specs.Ways.{Way, along, count_below, IsFinest, Merges}

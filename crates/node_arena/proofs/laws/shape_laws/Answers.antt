@@ -1,5 +1,5 @@
 use Rattle.node_arena.proofs.LinkTotals.{tells_links}
-use Rattle.node_arena.proofs.Reaching.{tells_walks, tells_weights}
+use Rattle.node_arena.proofs.Walks.{tells_walks, tells_weights}
 use Rattle.node_arena.proofs.laws.shape_laws.Goals as goal
 
 pub returns-clause-walks : goal.returns-clause-walks

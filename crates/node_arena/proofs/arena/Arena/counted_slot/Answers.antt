@@ -1,4 +1,4 @@
-use Rattle.node_arena.proofs.Viewed.{slot_from-read}
+use Rattle.node_arena.proofs.SlotChanges.{slot_from-read}
 use Rattle.node_arena.proofs.arena.Arena.counted_slot.Goals as goal
 
 pub returns-clause-slot : goal.returns-clause-slot

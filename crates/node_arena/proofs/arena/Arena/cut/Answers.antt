@@ -1,6 +1,6 @@
 use Rattle.std.proofs.Common.{ap, ◌∙◌, map}
 use Rattle.node_arena.specs.Stored.{slot_from}
-use Rattle.node_arena.proofs.Viewed.{map-slot_from-take}
+use Rattle.node_arena.proofs.SlotChanges.{map-slot_from-take}
 use Rattle.node_arena.proofs.arena.Arena.cut.Goals as goal
 
 pub returns : goal.returns

@@ -1,6 +1,6 @@
 use Rattle.node_arena.specs.Slots.{Slot}
 use Rattle.node_arena.specs.Calls.{unlink}
-use Rattle.node_arena.proofs.Viewed.{map-slot_from-set}
+use Rattle.node_arena.proofs.SlotChanges.{map-slot_from-set}
 use Rattle.node_arena.proofs.arena.Arena.drop_child.Goals as goal
 
 pub returns-clause-dropped : goal.returns-clause-dropped

@@ -1,7 +1,7 @@
 use Rattle.std.proofs.lemmas.Result.{on_ok_weaker}
 use Rattle.node_arena.specs.Slots.{Slot}
 use Rattle.node_arena.specs.Calls.{put}
-use Rattle.node_arena.proofs.Viewed.{map-slot_from-set}
+use Rattle.node_arena.proofs.SlotChanges.{map-slot_from-set}
 use Rattle.node_arena.proofs.arena.Arena.put_child.Goals as goal
 
 pub returns-clause-put : goal.returns-clause-put

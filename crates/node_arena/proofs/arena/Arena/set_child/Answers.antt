@@ -1,6 +1,6 @@
 use Rattle.node_arena.specs.Slots.{Slot}
 use Rattle.node_arena.specs.Calls.{relink}
-use Rattle.node_arena.proofs.Viewed.{map-slot_from-set}
+use Rattle.node_arena.proofs.SlotChanges.{map-slot_from-set}
 use Rattle.node_arena.proofs.arena.Arena.set_child.Goals as goal
 
 pub returns-clause-set : goal.returns-clause-set

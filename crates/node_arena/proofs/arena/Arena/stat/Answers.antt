@@ -1,7 +1,7 @@
 use Rattle.std.proofs.Common.{◌≡◌, ◌<◌, ◌≤◌, ◌^◌, length, ap, arith}
 use Rattle.std.proofs.lemmas.List.{length-map}
 use Rattle.node_arena.specs.Stored.{slot_from}
-use Rattle.node_arena.proofs.Counting.{total_more, total_ends, total_tells}
+use Rattle.node_arena.proofs.LinkCounts.{total_more, total_ends, total_tells}
 use Rattle.node_arena.proofs.arena.Arena.stat.Goals as goal
 
 pub loop-i-preserved : goal.loop-i-preserved

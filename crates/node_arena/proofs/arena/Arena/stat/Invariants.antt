@@ -1,4 +1,4 @@
-use Rattle.node_arena.proofs.Counting.{IsTotalled}
+use Rattle.node_arena.proofs.LinkCounts.{IsTotalled}
 use Rattle.node_arena.proofs.arena.Arena.stat.Given as goal
 
 abbrev pub invariant-loop-i : goal.invariant-loop-i

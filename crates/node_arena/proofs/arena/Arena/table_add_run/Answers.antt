@@ -1,7 +1,7 @@
 use Rattle.std.proofs.lemmas.Result.{on_ok_weaker}
 use Rattle.node_arena.specs.Slots.{Slot}
 use Rattle.node_arena.specs.Calls.{with_run}
-use Rattle.node_arena.proofs.Viewed.{map-slot_from-set}
+use Rattle.node_arena.proofs.SlotChanges.{map-slot_from-set}
 use Rattle.node_arena.proofs.arena.Arena.table_add_run.Goals as goal
 
 pub returns-clause-added : goal.returns-clause-added

@@ -1,6 +1,6 @@
 use Rattle.node_arena.specs.Slots.{Slot}
 use Rattle.node_arena.specs.Calls.{without_many}
-use Rattle.node_arena.proofs.Viewed.{map-slot_from-set}
+use Rattle.node_arena.proofs.SlotChanges.{map-slot_from-set}
 use Rattle.node_arena.proofs.arena.Arena.table_take_many.Goals as goal
 
 pub returns : goal.returns

@@ -1,7 +1,7 @@
 use Rattle.std.proofs.Common.{◌≤◌, length, ap, arith}
 use Rattle.std.proofs.lemmas.List.{length-map}
 use Rattle.node_arena.specs.Stored.{slot_from}
-use Rattle.node_arena.proofs.Counting.{rising_more, rising_ends}
+use Rattle.node_arena.proofs.LinkCounts.{rising_more, rising_ends}
 use Rattle.node_arena.proofs.arena.Arena.tell_order.Goals as goal
 
 pub loop-i-init : goal.loop-i-init

@@ -1,4 +1,4 @@
-use Rattle.node_arena.proofs.Counting.{IsRisingTo}
+use Rattle.node_arena.proofs.LinkCounts.{IsRisingTo}
 use Rattle.node_arena.proofs.arena.Arena.tell_order.Given as goal
 
 abbrev pub invariant-loop-i : goal.invariant-loop-i

@@ -1,5 +1,5 @@
 use Rattle.std.proofs.Common.{arith}
-use Rattle.node_arena.proofs.Counting.{proper-shared}
+use Rattle.node_arena.proofs.LinkCounts.{proper-shared}
 use Rattle.node_arena.proofs.children.Children.link_counts.Goals as goal
 
 pub returns-clause-shared : goal.returns-clause-shared

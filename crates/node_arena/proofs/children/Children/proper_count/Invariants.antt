@@ -1,4 +1,4 @@
-use Rattle.node_arena.proofs.Counting.{IsCounting}
+use Rattle.node_arena.proofs.LinkCounts.{IsCounting}
 use Rattle.node_arena.proofs.children.Children.proper_count.Given as goal
 
 abbrev pub invariant-loop-i : goal.invariant-loop-i

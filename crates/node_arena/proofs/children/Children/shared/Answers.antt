@@ -1,7 +1,7 @@
 use Rattle.std.proofs.Common.{ℕ, ap₂, arith, length, ap, ◌∙◌, set, subst, ◌<◌, ◌≤◌}
 use Rattle.node_arena.specs.declared.link.Link.{Link}
 use Rattle.node_arena.specs.Slots.{IsRising, shared, target}
-use Rattle.node_arena.proofs.Sharing.{share_more, shared_rises}
+use Rattle.node_arena.proofs.SharedLinks.{share_more, shared_rises}
 use Rattle.node_arena.proofs.children.Children.shared.Goals as goal
 
 pub loop-i-preserved : goal.loop-i-preserved

@@ -1,9 +1,20 @@
 -- Amounts under two addresses that have the same spots, and under one that has none.
-use Rattle.std.proofs.Common.{◌≡◌, ℕ, ◌+◌, Bool, true, false, cond, ◌&&◌, eqb, List, [], ◌∷◌, Contains, refl, sym, ap₂, ◌∙◌}
+use Rattle.std.proofs.Common.{◌≡◌, ℕ, ◌+◌, Bool, true, false, cond, ◌&&◌, eqb, ◌⊎◌, List, [], ◌∷◌, ◌++◌, Contains, refl, sym, subst, sum_by, ap₂, ◌∙◌}
+use Rattle.std.proofs.lemmas.List.{map-append}
+use Rattle.std.proofs.lemmas.List.Elements.{Contains-append_cases}
 use Rattle.std.proofs.lemmas.List.Sums.{sum_by-cons}
 use Rattle.cube_view.specs.Walks.{Walk, SpotPath, under, Under, HasSpot}
 use Rattle.cube_view.proofs.Walking.{Contains-cons, Contains-head, iff_same}
 use Rattle.node_arena.specs.Amounts.{Weighted, spots_in, amount_under}
+
+-- the sums of two functions that agree
+pub sum_by-same : {X : Type 0} (f g : X → ℕ) (xs : List X) → ((x : X) → f x ≡ g x) → sum_by f xs ≡ sum_by g xs
+sum_by-same f g [] same = refl
+sum_by-same f g (x ∷ xs) same = sum_by-cons f x xs ∙ (ap₂ ◌+◌ (same x) (sum_by-same f g xs same) ∙ sym (sum_by-cons g x xs))
+
+-- a spot of two lists is in one of them
+pub spots_in-append_cases : (g h : List Weighted) (q : SpotPath) → Contains (spots_in (g ++ h)) q → Contains (spots_in g) q ⊎ Contains (spots_in h) q
+spots_in-append_cases g h q c = Contains-append_cases (spots_in g) (spots_in h) q (subst (λ z. Contains z q) (map-append (λ (x : Weighted). x.spot) g h) c)
 
 -- how much of one counts
 abbrev part : Walk → ℕ → Weighted → ℕ

@@ -4,11 +4,11 @@ use Rattle.node_arena.specs.declared.link.Link.{Link}
 use Rattle.cube_view.specs.Walks.{Step, down, across, Walk, SpotPath, Under, top, IsCoarser, dimension, HasSpot, down_all, whole_from, whole_of, whole}
 use Rattle.node_arena.specs.Slots.{proper, shared, target, Slot, is_table, link_of, slot_of, count, reached, follow, walk_end}
 use Rattle.node_arena.specs.Shape.{home_of, HasHomes, IsShaped}
-use Rattle.node_arena.specs.Reach.{IsWalked, count_reached, weight_at, TellsWalks, TellsWeights}
+use Rattle.node_arena.specs.Reach.{AreCoarser, IsWalked, count_reached, weight_at, TellsWalks, TellsWeights}
 use Rattle.cube_view.proofs.Walking.{finer-refl, finer-step, finer-trans, coarser_under, step_across_finer, under_before, dimension-finer}
 use Rattle.node_arena.specs.Amounts.{Weighted, spots_in, amount_under}
-use Rattle.node_arena.proofs.Amounting.{amount_along, amount-none}
-use Rattle.node_arena.proofs.Linked.{linked-lt, link_cases}
+use Rattle.node_arena.proofs.AddressAmounts.{amount_along, amount-none}
+use Rattle.node_arena.proofs.Links.{linked-lt, link_cases}
 
 -- a link leads to a slot whose home is finer than the link's address
 pub link_coarser : (slots : List Slot) (homes : List Walk) → HasHomes slots homes → (i : ℕ) (e : Step) (l : Link) → link_of slots i e ≡ Some l → IsCoarser (e ∷ home_of homes i) (home_of homes (target l))
@@ -47,7 +47,7 @@ module _ (slots : List Slot) (homes : List Walk) (H : HasHomes slots homes) wher
       subst (λ k. k < length slots) s.4 (target-lt slots homes H s.0 e s.1 s.3)
 
   -- the address is coarser than the home
-  pub walk_coarser : (a : Walk) (j : ℕ) → walk_end slots 0 a ≡ Some j → IsCoarser a (home_of homes j)
+  pub walk_coarser : AreCoarser slots homes
   walk_coarser [] j h = let e : 0 ≡ j = cc in subst (λ z. IsCoarser [] (home_of homes z)) e (subst (λ z. IsCoarser [] z) (sym H.root) top)
   walk_coarser (e ∷ a) j h =
       let s = last_step slots (walk_end slots 0 a) e j h in
