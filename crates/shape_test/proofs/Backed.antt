@@ -10,7 +10,7 @@ use Rattle.shape_test.specs.Homes.{is_across, step_of, walk_of, walks_of}
 use Rattle.shape_test.specs.declared.home.Move.{Move}
 use Rattle.shape_test.specs.Links.{LinkFits}
 use Rattle.shape_test.proofs.Climbing.{home_at}
-use Rattle.shape_test.proofs.Coarser.{by_longer, not_begun, begun_on, after_step, other_step}
+use Rattle.shape_test.proofs.Coarser.{not_begun, begun_on, after_step, other_step}
 
 -- a home is itself
 pub same_place : (homes : List (List Move)) (loose : Bool) (i j : ℕ) → i ≡ j → (true ≡ true) ↔ Finer loose (walk_of (get_or homes i [])) (walk_of (get_or homes j []))

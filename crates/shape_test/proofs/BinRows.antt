@@ -1,10 +1,10 @@
 -- The rows of the tables at whole addresses, as spots.
-use Rattle.std.proofs.Common.{◌≡◌, ◌⊎◌, inl, inr, ℕ, ◌<◌, Bool, true, false, cond, ◌&&◌, eqb, eq-eqb, ne_eqb, eqb-true, List, [], ◌∷◌, map, Option, Some, None, is_some, unwrap_or, Contains, sum_by, refl, sym, ap, ap₂, ◌∙◌, arith, true≢false, nat_cmp, T}
+use Rattle.std.proofs.Common.{◌≡◌, ◌⊎◌, inl, inr, ℕ, Bool, true, false, cond, ◌&&◌, eqb, eq-eqb, ne_eqb, eqb-true, List, [], ◌∷◌, map, Option, Some, None, is_some, unwrap_or, Contains, sum_by, refl, sym, ap, ap₂, ◌∙◌, arith, true≢false, nat_cmp, T}
 use Rattle.std.proofs.lemmas.List.{nil_from_length}
 use Rattle.std.specs.FinMap.{entries, entries_sorted, get-entries, find}
 use Rattle.std.specs.FinMap.Entries.{is_sorted, below_all}
 use Rattle.std.specs.Cmp.{unsigned_tied}
-use Rattle.std.specs.Ordering.{eq_by_cmp}
+use Rattle.std.specs.Ordering.{eq_by_cmp, is_lt}
 use Rattle.std.proofs.lemmas.Bool.{and_parts}
 use Rattle.std.proofs.lemmas.List.Sums.{sum_by-cons}
 use Rattle.cube_view.specs.Walks.{down, across, Walk, SpotPath, Cursor, after_down, after_across, then_step, cursor, Under, whole_of, whole_from, down_all}
@@ -108,7 +108,7 @@ none_there k bin [] e S B = refl
 none_there k bin (x ∷ es) e S B =
     let t = sum_by-cons (λ (e : ℕ × ℕ). cond {A = ℕ} (eqb e.0 bin) e.1 0) x es in
     let up = below k x.0 (first_part _ _ B) in
-    let r = none_there k bin es e (second_part (below_all nat_cmp x.0 es) _ S) (second_part _ _ B) in
+    let r = none_there k bin es e (second_part (below_all nat_cmp x.0 es) (is_sorted nat_cmp es) S) (second_part (is_lt (nat_cmp k x.0)) (below_all nat_cmp k es) B) in
     let o : cond {A = ℕ} (eqb x.0 bin) x.1 0 ≡ 0 = ap (λ (b : Bool). cond {A = ℕ} b x.1 0) (ne_eqb x.0 bin (λ z. omega (arith, z, up, e))) in
     omega (arith, t, r, o)
 

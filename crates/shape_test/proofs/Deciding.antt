@@ -1,5 +1,5 @@
 -- The conditions on single slots hold exactly of a schema's cube.
-use Rattle.std.proofs.Common.{◌≡◌, ◌⊎◌, ℕ, zero, suc, ◌+◌, ◌-◌, ◌<◌, ◌≤◌, true, List, [], length, get_or, Contains, refl, ap, ◌∙◌, arith}
+use Rattle.std.proofs.Common.{◌≡◌, ℕ, zero, suc, ◌+◌, ◌-◌, ◌<◌, ◌≤◌, true, List, [], length, get_or, Contains, refl, ap, ◌∙◌, arith}
 use Rattle.cube_view.specs.Places.{deepest, time_dim}
 use Rattle.cube_view.specs.Walks.{Walk, SpotPath}
 use Rattle.cube_view.specs.declared.schema.Schema.{Schema}

@@ -35,6 +35,10 @@ still_owners slots seen more owners grows none A = record {
 }
 
 module _ (slots : List Slot) (seen : ℕ → Step → Type 0) (old : Owners) (A : AreOwners slots seen old) (i : ℕ) (m : Move) (l : Link) (there : link_of slots i (step_of m) ≡ Some l) where
+  -- a proper link is the one to its target
+  owned : is_proper l ≡ true → link_of slots i (step_of m) ≡ Some (proper (target l))
+  owned p = there ∙ ap Some (⊎_elim (λ (q : l ≡ proper (target l)). q) (λ (q : l ≡ shared (target l)). absurd (true≢false (sym p ∙ ap is_proper q))) (link_cases l))
+
   -- the owner of a link's target, noted
   pub one_owner : (more : ℕ → Step → Type 0) (new : Owners) → IsNoted old new l (owner_of i m) → ((k : ℕ) (e : Step) → seen k e → more k e) → more i (step_of m) → ((k j : ℕ) (e : Step) → more k e → link_of slots k e ≡ Some (proper j) → seen k e ⊎ ((k ≡ i) × (e ≡ step_of m))) → AreOwners slots more new
   one_owner more new N grows here only = go (is_proper l) refl
@@ -79,7 +83,7 @@ module _ (slots : List Slot) (seen : ℕ → Step → Type 0) (old : Owners) (A 
               pick (inl y) =
                   let z : Some (owner_of i m) ≡ Some o = sym here_owner ∙ (ap (owner_at (set old (target l) (Some (owner_of i m)))) (sym y) ∙ x) in
                   let w : owner_of i m ≡ o = cc in
-                  subst (λ (q : Owner). (link_of slots q.by.0 (step_of q.step) ≡ Some (proper j)) × more q.by.0 (step_of q.step)) w (there ∙ (ap Some (proper_is l p) ∙ ap (λ (n : ℕ). Some (proper n)) (sym y)), here)
+                  subst (λ (q : Owner). (link_of slots q.by.0 (step_of q.step) ≡ Some (proper j)) × more q.by.0 (step_of q.step)) w (owned p ∙ ap (λ (n : ℕ). Some (proper n)) (sym y), here)
               pick (inr y) = let t = A.told j o (sym (elsewhere j y) ∙ x) in (t.0, grows o.by.0 (step_of o.step) t.1)
 
           all : (k j : ℕ) (e : Step) → more k e → link_of slots k e ≡ Some (proper j) → (0 < j) × IsOwner (set old (target l) (Some (owner_of i m))) k e j
@@ -104,7 +108,7 @@ module _ (slots : List Slot) (seen : ℕ → Step → Type 0) (old : Owners) (A 
   second_owner unseen S homes H = S.taken (record { some = some (target l) refl; within = within; none = none (owner_at old (target l)) refl })
     where
       own : link_of slots i (step_of m) ≡ Some (proper (target l))
-      own = there ∙ ap Some (⊎_elim (λ (p : l ≡ proper (target l)). p) (λ (s : l ≡ shared (target l)). absurd (true≢false (sym S.owning ∙ ap is_proper s))) (link_cases l))
+      own = owned S.owning
 
       home : (target l < length slots) × (home_of homes (target l) ≡ step_of m ∷ home_of homes i)
       home = H.at_home i (target l) (step_of m) own

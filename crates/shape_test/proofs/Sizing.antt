@@ -2,6 +2,7 @@
 use Rattle.std.proofs.Common.{◌≡◌, ◌⊎◌, inl, inr, ℕ, ◌+◌, ◌<◌, ◌≤◌, Bool, true, false, cond, eqb, eq-eqb, eqb-true, ne_eqb, nat_lt, nat_cmp, T, List, [], ◌∷◌, ◌++◌, map, sum_by, refl, sym, ap, ap₂, ◌∙◌, arith}
 use Rattle.std.specs.FinMap.{entries, entries_sorted, len-entries, len-empty}
 use Rattle.std.specs.FinMap.Entries.{is_sorted, below_all}
+use Rattle.std.specs.Ordering.{is_lt}
 use Rattle.std.proofs.lemmas.Bool.{cases_lt}
 use Rattle.std.proofs.lemmas.List.{nil_from_length}
 use Rattle.std.proofs.lemmas.List.Sums.{sum_by-cons, sum_by-append}
@@ -74,7 +75,7 @@ none_later f n k (e ∷ es) le B =
     let up = below k e.0 (first_part _ _ B) in
     let o : cond {A = ℕ} (eqb e.0 n) (f e.1) 0 ≡ 0 = ap (λ (t : Bool). cond {A = ℕ} t (f e.1) 0) (ne_eqb e.0 n (λ s. omega (arith, s, up, le))) in
     let c = in_cons f n e es in
-    let r = none_later f n k es le (second_part _ _ B) in
+    let r = none_later f n k es le (second_part (is_lt (nat_cmp k e.0)) (below_all nat_cmp k es) B) in
     omega (arith, c, o, r)
 
 -- one row at most is in a bin
