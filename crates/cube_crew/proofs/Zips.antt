@@ -96,7 +96,7 @@ All-taken P [] n few all = All-nil P
 All-taken P (x ∷ xs) zero few all = absurd (omega (arith, few))
 All-taken P (x ∷ xs) (suc n) few all = All-cons P x xs (All-head P x (take n xs) all) (All-taken P xs n (omega (arith, few)) (All-tail P x (take n xs) all))
 
--- the list without its first item
+-- what is left after n items begins with the item at n
 first-drop : {X : Type 0} (n : ℕ) (xs : List X) (d : X) → slice_index_or (drop n xs) 0 d ≡ slice_index_or xs n d
 first-drop zero xs d = refl
 first-drop (suc n) [] d = refl

@@ -13,8 +13,8 @@ use Rattle.cube_image.specs.Bytes.{image_bytes}
 use Rattle.cube_image.specs.Conditions.{HasSomeHomes}
 use Rattle.cube_image.specs.Image.{IsImageOf}
 use Rattle.cube_image.specs.Order.{IsOrder, in_order}
-use Rattle.cube_image.proofs.Owned.{hits, hits-append}
-use Rattle.cube_image.proofs.Ordered.{owned_at, owned}
+use Rattle.cube_image.proofs.OwnedHits.{hits, hits-append}
+use Rattle.cube_image.proofs.OrderFronts.{owned_at, owned}
 
 hits-here : (x : ℕ) (xs : List ℕ) → 0 < hits x (x ∷ xs)
 hits-here x xs = let h : cond {A = ℕ} (eqb x x) 1 0 ≡ 1 = ap (λ (b : Bool). cond {A = ℕ} b 1 0) (eq-eqb x x refl) in omega arith

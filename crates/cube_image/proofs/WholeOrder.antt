@@ -13,8 +13,8 @@ use Rattle.cube_image.specs.Conditions.{HasSomeHomes, HasByteLabels}
 use Rattle.cube_image.specs.Order.{proper_target, owned_children, owned_content, owned_by, IsOrder, moved, in_order}
 use Rattle.cube_image.specs.Rest.{byte_children, below_number}
 use Rattle.node_arena.proofs.Links.{linked-lt}
-use Rattle.cube_image.proofs.Owned.{hits, hits-append, few_once}
-use Rattle.cube_image.proofs.Ordered.{IsFront, owned_at, stand_once}
+use Rattle.cube_image.proofs.OwnedHits.{hits, hits-append, few_once}
+use Rattle.cube_image.proofs.OrderFronts.{IsFront, owned_at, stand_once}
 use Rattle.cube_image.proofs.Rests.{taken, dropped}
 
 -- a child whose label is less is kept

@@ -1,14 +1,14 @@
-mod Fitted
-mod Imaged
-mod Known
-mod Loaded
-pub mod Parsed
-mod Parted
-mod Placed
+mod CubeOfImage
+mod CubeOfSlots
+mod FitRecords
+mod ImageOfCube
+mod ImageSlots
+mod ItemPlaces
+mod ListShares
+mod NumbersInOrder
 mod PointPaths
-mod Renumbered
-mod Rowed
-mod Saved
-mod Summed
-mod Telling
-mod Wholly
+mod RowAmounts
+mod ShapeInOrder
+mod TableCounts
+pub mod TestableSlots
+mod WholeHomes

@@ -11,7 +11,7 @@ use Rattle.cube_view.specs.declared.spot.Spot.{Spot}
 use Rattle.cube_view.proofs.SchemaBounds.{few_categories}
 use Rattle.shape_test.specs.Levels.{label_counts}
 use Rattle.shape_test.specs.Labels.{levels_from, schema_levels, value_count, label_end, label_fits, paths_fit}
-use Rattle.shape_test.proofs.Over.{in_time}
+use Rattle.shape_test.proofs.CategoryWays.{in_time}
 use Rattle.proper_path.proofs.Labels.{length-labels_from}
 
 one-more : (n : ℕ) → n + 1 ≡ suc n

@@ -1,9 +1,9 @@
-pub mod Loops
+pub mod ArenaSlots
 pub mod Fields
-pub mod Linking
-pub mod Noded
-pub mod Tabled
-pub mod Slotted
-pub mod Building
-pub mod Whole
+pub mod ImageReads
+pub mod LinkReads
+pub mod Loops
+pub mod NodeReads
 pub mod Readable
+pub mod SlotReads
+pub mod TableReads

@@ -14,7 +14,7 @@ use Rattle.image_cube.specs.CubeImages.{IsCubeImage, IsCubeOfImage}
 use Rattle.image_cube.specs.Read.{IsFitImage, Refuses}
 use Rattle.image_cube.specs.declared.fault.ImageFault.{ImageFault}
 use Rattle.image_cube.specs.declared.fault.ImageFault.TheVariants as image
-use Rattle.image_parse.proofs.Whole.{one_meaning}
+use Rattle.image_parse.proofs.ImageReads.{one_meaning}
 use Rattle.node_arena.specs.Slots.{Slot}
 use Rattle.outer_io.specs.Faults.{Rose}
 use Rattle.outer_io.specs.Files.{Files, file_or_empty}

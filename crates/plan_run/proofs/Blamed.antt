@@ -7,7 +7,7 @@ use Rattle.outer_io.specs.declared.cutter.CutFault.{CutFault}
 use Rattle.outer_io.specs.declared.cutter.CutFault.TheVariants as cut
 use Rattle.outer_io.specs.declared.fault.IoFault.{IoFault}
 use Rattle.outer_io.specs.declared.fault.IoFault.TheVariants as io
-use Rattle.run_files.proofs.Counts.{faulty-cons}
+use Rattle.run_files.proofs.FaultRises.{faulty-cons}
 use Rattle.run_files.specs.GivingBack.{faulty}
 use Rattle.run_files.specs.Stops.{joined_ends, rank_of, write_end}
 use Rattle.run_files.specs.declared.stop.Stop.{Stop}

@@ -8,7 +8,7 @@ use Rattle.live_session.specs.declared.done.SessionDone.{SessionDone}
 use Rattle.outer_io.specs.Faults.{Rose}
 use Rattle.outer_io.specs.declared.cutter.CutFault.{CutFault}
 use Rattle.outer_io.specs.declared.cutter.CutFault.TheVariants as cut
-use Rattle.run_files.proofs.Counts.{faulty-cons}
+use Rattle.run_files.proofs.FaultRises.{faulty-cons}
 use Rattle.run_files.specs.GivingBack.{faulty}
 use Rattle.session_core.specs.declared.fault.SessionFault.{SessionFault}
 use Rattle.session_core.specs.declared.fault.SessionFault.TheVariants as fault

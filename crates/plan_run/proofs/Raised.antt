@@ -6,7 +6,7 @@ use Rattle.live_session.specs.declared.done.SessionDone.{SessionDone}
 use Rattle.cube_schema.specs.declared.plan.Plan.{Plan}
 use Rattle.outer_io.specs.Faults.{Rose}
 use Rattle.outer_io.specs.declared.fault.IoFault.TheVariants as io
-use Rattle.run_files.proofs.Counts.{counts_failed, counts_grow, rose_from_before, rose_later, rose_once}
+use Rattle.run_files.proofs.FaultRises.{counts_failed, counts_grow, rose_from_before, rose_later, rose_once}
 use Rattle.run_files.specs.GivingBack.{TakesSources}
 use Rattle.run_files.specs.Outside.{PlaceSeen, SinkSeen, SourceSeen}
 use Rattle.run_files.specs.Stops.{write_end}

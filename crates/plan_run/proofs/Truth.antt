@@ -31,7 +31,7 @@ use Rattle.outer_io.specs.Told.{Told}
 use Rattle.outer_io.specs.declared.cutter.CutFault.{CutFault}
 use Rattle.outer_io.specs.declared.fault.IoFault.{IoFault}
 use Rattle.outer_io.specs.declared.fault.IoFault.TheVariants as io
-use Rattle.run_files.proofs.Counts.{counts_failed, counts_grow, rose_from_before, rose_later}
+use Rattle.run_files.proofs.FaultRises.{counts_failed, counts_grow, rose_from_before, rose_later}
 use Rattle.run_files.proofs.Lists.{All-back, All-front}
 use Rattle.run_files.specs.GivingBack.{Lands, faulty}
 use Rattle.run_files.specs.Outside.{at, file_of, parts_seen, PlaceSeen, SinkSeen, SourceSeen}

@@ -1,6 +1,6 @@
 mod Pairs
 pub mod Apart
-pub mod Counts
+pub mod FaultRises
 pub mod Lists
 pub mod Emptied
 pub mod Fronts

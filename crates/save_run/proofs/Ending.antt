@@ -23,7 +23,7 @@ use Rattle.outer_io.specs.Told.{Told}
 use Rattle.outer_io.specs.declared.cutter.CutFault.{CutFault}
 use Rattle.outer_io.specs.declared.cutter.CutFault.TheVariants as cut
 use Rattle.run_files.proofs.Apart.{err_is}
-use Rattle.run_files.proofs.Counts.{faulty-cons, rose_once}
+use Rattle.run_files.proofs.FaultRises.{faulty-cons, rose_once}
 use Rattle.run_files.proofs.Lists.{not_grown}
 use Rattle.run_files.proofs.PlanReads.{plan_end, says_plan}
 use Rattle.run_files.proofs.Putting.{fails_after, puts_after, refuses_saying, silent_after}

@@ -18,7 +18,7 @@ use Rattle.shape_test.specs.declared.home.Move.{Move}
 use Rattle.shape_test.specs.declared.home.Move.TheVariants.{Down, Across}
 use Rattle.shape_test.specs.declared.merging.Role.TheVariants.{Whole, Part}
 use Rattle.shape_test.specs.declared.merging.Side.{Side}
-use Rattle.shape_test.proofs.Over.{over_none, over_one, over_more}
+use Rattle.shape_test.proofs.CategoryWays.{over_none, over_one, over_more}
 
 -- a number that isn't 0
 pub one_less : (n : ℕ) → (n ≡ 0 → ⊥) → n ≡ suc (n - 1)

@@ -14,11 +14,11 @@ use Rattle.shape_test.specs.Levels.{Levels, level_down, level_across, left, no_l
 use Rattle.shape_test.specs.Local.{IsLocal}
 use Rattle.shape_test.specs.Wholes.{is_whole, paths_along, spot_at, rows_at, spelled_rows, spelled_bag, IsCubeOf}
 use Rattle.shape_test.proofs.Core.{HasAmounts}
-use Rattle.shape_test.proofs.Decides.{local_is_shape, shape_is_local}
-use Rattle.shape_test.proofs.Listed.{IsWhole, joined, ListsRows}
+use Rattle.shape_test.proofs.ShapeConditions.{local_is_shape, shape_is_local}
+use Rattle.shape_test.proofs.WholeAddresses.{IsWhole, joined, ListsRows}
 use Rattle.shape_test.proofs.Local.{left_spot, levels_of, level_begun}
 use Rattle.shape_test.proofs.BinRows.{whole_from_test, whole_test, labels_are, same_labels, table_rows, rows_at-paths}
-use Rattle.shape_test.proofs.Timing.{time_of}
+use Rattle.shape_test.proofs.TimeAddresses.{time_of}
 
 -- the first levels
 first_left : (dims : ℕ) (levels : List ℕ) → EndsWithTime dims levels → (c : Levels) × (left levels [] ≡ Some c)

@@ -17,7 +17,7 @@ use Rattle.shape_test.specs.Levels.{Levels, left, label_counts}
 use Rattle.shape_test.specs.Wholes.{is_deepest, is_whole, paths_along, spot_at, rows_at}
 use Rattle.shape_test.proofs.Core.{one_under, amount-cons}
 use Rattle.shape_test.proofs.Local.{levels_of, left_spot}
-use Rattle.shape_test.proofs.Listed.{IsWhole}
+use Rattle.shape_test.proofs.WholeAddresses.{IsWhole}
 
 -- a spot with the labels of an address goes to it
 along_cursor : (a : Walk) (path : List ℕ) (later : List (List ℕ)) (q : SpotPath) → q.paths ≡ paths_along a path later → cursor q a ≡ Some (record { rest = path; later = later })

@@ -11,8 +11,8 @@ use Rattle.node_arena.proofs.Walks.{walk-lt, walk_coarser, walk_home}
 use Rattle.shape_test.specs.Levels.{Levels, level_step, then_level, left}
 use Rattle.shape_test.specs.Local.{IsLocal}
 use Rattle.shape_test.specs.Ways.{Way, along, IsFinest}
-use Rattle.shape_test.proofs.Listed.{IsWhole, joined, ListsRows}
-use Rattle.shape_test.proofs.Back.{found_along, left_along}
+use Rattle.shape_test.proofs.WholeAddresses.{IsWhole, joined, ListsRows}
+use Rattle.shape_test.proofs.LocalOfShape.{found_along, left_along}
 use Rattle.shape_test.proofs.Core.{Tells, one_under, absent}
 use Rattle.shape_test.proofs.Local.{level_begun}
 

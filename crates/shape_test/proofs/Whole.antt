@@ -17,7 +17,7 @@ use Rattle.shape_test.specs.Places.{IsPlaceOf, IsOutside}
 use Rattle.shape_test.specs.Sizes.{table_size, size_of}
 use Rattle.shape_test.specs.declared.place.Place.{Place}
 use Rattle.shape_test.specs.declared.size.BagSize.{BagSize}
-use Rattle.shape_test.proofs.Sizing.{rows_upto, row_added, rows_added, size_plus}
+use Rattle.shape_test.proofs.RowSums.{rows_upto, row_added, rows_added, size_plus}
 
 pub at_place : (schema : Schema) (a : Walk) (p : Place) (n : ℕ) → IsPlaceOf schema a p → n ≡ deepest schema p.dim → nat_le n p.level ≡ is_deepest (left (schema_levels schema) a)
 at_place schema a p n P e = none_left n p.level (deepest schema p.dim) e ∙ sym (ap is_deepest P.levels)

@@ -1,5 +1,5 @@
-use Rattle.cube_image.proofs.Cubed.{can_write, cube_in_order}
-use Rattle.cube_image.proofs.Numbering.{numbered}
+use Rattle.cube_image.proofs.CubeSlots.{can_write, cube_in_order}
+use Rattle.cube_image.proofs.TargetNumbers.{numbered}
 use Rattle.cube_image.proofs.OneOrder.{one_image}
 use Rattle.cube_image.proofs.OwnImage.{own_image}
 use Rattle.cube_image.proofs.laws.image_laws.Goals as goal

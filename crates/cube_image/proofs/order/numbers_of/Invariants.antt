@@ -1,5 +1,5 @@
 use Rattle.std.proofs.Common.{◌≡◌, ◌≤◌, length}
-use Rattle.cube_image.proofs.Numbered.{NumbersFrom}
+use Rattle.cube_image.proofs.SlotNumbers.{NumbersFrom}
 use Rattle.cube_image.proofs.order.numbers_of.Given as goal
 
 abbrev pub invariant-loop-at : goal.invariant-loop-at

@@ -1,5 +1,5 @@
 use Rattle.std.proofs.Common.{ℕ, List, get_or, ap, arith}
-use Rattle.cube_image.proofs.Ordered.{front-all, front-below, front-few}
+use Rattle.cube_image.proofs.OrderFronts.{front-all, front-below, front-few}
 use Rattle.cube_image.proofs.order.places_of.Goals as goal
 
 pub returns-then-i-len-clause-within : goal.returns-then-i-len-clause-within

@@ -1,4 +1,4 @@
-use Rattle.cube_image.proofs.Ordered.{IsFront}
+use Rattle.cube_image.proofs.OrderFronts.{IsFront}
 use Rattle.cube_image.proofs.order.places_of.Given as goal
 
 abbrev pub invariant-loop-i : goal.invariant-loop-i

@@ -1,6 +1,6 @@
 use Rattle.std.proofs.Common.{ap, length, arith}
 use Rattle.cube_view.specs.Walks.{down}
-use Rattle.cube_image.proofs.Linking.{linked_at}
+use Rattle.cube_image.proofs.ChildLists.{linked_at}
 use Rattle.cube_image.proofs.print.put_children.Goals as goal
 
 pub put_child-requires : goal.put_child-requires

@@ -4,7 +4,7 @@ use Rattle.std.specs.Int.{to_be_bytes, w16}
 use Rattle.node_arena.specs.Slots.{slot_of}
 use Rattle.cube_image.specs.Bytes.{link_bytes}
 use Rattle.cube_image.specs.Order.{moved_link}
-use Rattle.cube_image.proofs.Writing.{node_put}
+use Rattle.cube_image.proofs.SlotBytes.{node_put}
 use Rattle.cube_image.proofs.print.put_node.Goals as goal
 
 pub returns-in-Some : goal.returns-in-Some

@@ -1,5 +1,5 @@
 use Rattle.cube_image.specs.Bytes.{row_bytes}
-use Rattle.cube_image.proofs.Moving.{put_more}
+use Rattle.cube_image.proofs.ListPieces.{put_more}
 use Rattle.cube_image.proofs.print.put_rows.Goals as goal
 
 pub loop-row-preserved : goal.loop-row-preserved

@@ -3,7 +3,7 @@ use Rattle.std.specs.List.{flat_map}
 use Rattle.cube_image.specs.Bytes.{slot_bytes}
 use Rattle.cube_image.specs.Image.{most_bytes}
 use Rattle.cube_image.specs.Order.{in_order}
-use Rattle.cube_image.proofs.Writing.{slot_put, slots_long}
+use Rattle.cube_image.proofs.SlotBytes.{slot_put, slots_long}
 use Rattle.cube_image.proofs.print.put_slots.Goals as goal
 
 pub returns-then-size-gt-MOST_BYTES-clause-too_long : goal.returns-then-size-gt-MOST_BYTES-clause-too_long

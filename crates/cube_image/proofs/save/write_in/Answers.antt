@@ -5,7 +5,7 @@ use Rattle.cube_image.specs.declared.fault.SaveFault.{SaveFault}
 use Rattle.cube_image.specs.declared.fault.SaveFault.TheVariants.{TooLong}
 use Rattle.cube_image.specs.Bytes.{slot_bytes}
 use Rattle.cube_image.specs.Order.{in_order}
-use Rattle.cube_image.proofs.Writing.{readable, head_few, image_long, image_put, image_written}
+use Rattle.cube_image.proofs.SlotBytes.{readable, head_few, image_long, image_put, image_written}
 use Rattle.cube_image.proofs.save.write_in.Goals as goal
 
 pub order_of-requires-clause-readable : goal.order_of-requires-clause-readable

@@ -1,7 +1,7 @@
 use Rattle.std.proofs.Common.{ℕ, sym, subst}
 use Rattle.cube_store.specs.Counted.{HasPoints}
-use Rattle.image_cube.proofs.Known.{has_points}
-use Rattle.image_cube.proofs.Loaded.{cube-of-image}
+use Rattle.image_cube.proofs.CubeOfSlots.{has_points}
+use Rattle.image_cube.proofs.CubeOfImage.{cube-of-image}
 use Rattle.image_cube.proofs.load.load_cube.Goals as goal
 
 pub of_slots-requires-clause-counted : goal.of_slots-requires-clause-counted

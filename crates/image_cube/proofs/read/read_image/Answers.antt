@@ -1,6 +1,6 @@
 use Rattle.std.proofs.Common.{arith}
 use Rattle.std.proofs.lemmas.Option.{MatchOption-at_some, MatchOption-at_none}
-use Rattle.image_cube.proofs.Parsed.{image_testable, heavy_unfit, image_read}
+use Rattle.image_cube.proofs.TestableSlots.{image_testable, heavy_unfit, image_read}
 use Rattle.image_cube.proofs.read.read_image.Goals as goal
 
 pub fit_image-requires-clause-testable : goal.fit_image-requires-clause-testable

@@ -1,4 +1,4 @@
-use Rattle.image_cube.proofs.Saved.{each-saved, long-image}
+use Rattle.image_cube.proofs.ImageOfCube.{each-saved, long-image}
 use Rattle.image_cube.proofs.save.save_cube.Goals as goal
 
 pub returns-clause-image : goal.returns-clause-image

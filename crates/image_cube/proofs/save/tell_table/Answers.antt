@@ -1,6 +1,6 @@
 use Rattle.std.proofs.Common.{sym, ◌∙◌}
 use Rattle.node_arena.specs.Slots.{slot_of}
-use Rattle.image_cube.proofs.Telling.{node-counted}
+use Rattle.image_cube.proofs.TableCounts.{node-counted}
 use Rattle.image_cube.proofs.save.tell_table.Goals as goal
 
 pub returns-else-is_table : goal.returns-else-is_table

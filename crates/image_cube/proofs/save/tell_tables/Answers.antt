@@ -1,5 +1,5 @@
 use Rattle.std.proofs.Common.{arith}
-use Rattle.image_cube.proofs.Telling.{all-told}
+use Rattle.image_cube.proofs.TableCounts.{all-told}
 use Rattle.image_cube.proofs.save.tell_tables.Goals as goal
 
 pub returns : goal.returns

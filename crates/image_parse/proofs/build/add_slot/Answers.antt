@@ -7,7 +7,7 @@ use Rattle.node_arena.specs.Slots.{IsRising, Slot, node, table, counts_of}
 use Rattle.node_arena.specs.Calls.{with_slot}
 use Rattle.image_parse.specs.Views.{KeepsOneMore, AreImageChildren, IsLightTable, IsParsed, KeepsLight, kept_if, slot_parsed}
 use Rattle.image_parse.proofs.Readable.{children_rise}
-use Rattle.image_parse.proofs.Building.{keeps_light, keeps_none, keeps_table, node_light}
+use Rattle.image_parse.proofs.ArenaSlots.{keeps_light, keeps_none, keeps_table, node_light}
 use Rattle.image_parse.proofs.build.add_slot.Goals as goal
 
 pub returns-then-not-are_light : goal.returns-then-not-are_light

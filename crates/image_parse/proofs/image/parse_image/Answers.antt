@@ -1,5 +1,5 @@
 use Rattle.std.proofs.Common.{arith}
-use Rattle.image_parse.proofs.Whole.{image_found, image_none}
+use Rattle.image_parse.proofs.ImageReads.{image_found, image_none}
 use Rattle.image_parse.proofs.image.parse_image.Goals as goal
 
 pub returns-clause-image : goal.returns-clause-image

@@ -1,6 +1,6 @@
 use Rattle.std.proofs.Common.{◌∙◌, sym}
 use Rattle.std.proofs.lemmas.Result.{err_from_is_err_and}
-use Rattle.image_parse.proofs.Whole.{all_ends, all_other, all_longer, all_some, all_none}
+use Rattle.image_parse.proofs.ImageReads.{all_ends, all_other, all_longer, all_some, all_none}
 use Rattle.image_parse.proofs.image.take_all.Goals as goal
 
 pub returns-in_err-kept : goal.returns-in_err-kept

@@ -1,5 +1,5 @@
 use Rattle.image_parse.proofs.Readable.{orderly}
-use Rattle.image_parse.proofs.Whole.{one_meaning}
+use Rattle.image_parse.proofs.ImageReads.{one_meaning}
 use Rattle.image_parse.proofs.laws.image_parse_laws.Goals as goal
 
 pub returns-clause-one : goal.returns-clause-one

@@ -2,7 +2,7 @@ use Rattle.std.proofs.Common.{◌≡◌, ◌++◌, ◌∷◌, [], arith}
 use Rattle.std.proofs.lemmas.Result.{err_from_is_err_and}
 use Rattle.image_parse.specs.Reading.{children_at}
 use Rattle.image_parse.proofs.Loops.{child_goes, child_ends, children_done}
-use Rattle.image_parse.proofs.Noded.{children_found}
+use Rattle.image_parse.proofs.NodeReads.{children_found}
 use Rattle.image_parse.proofs.slots.take_children.Goals as goal
 
 pub returns-in_err-child-clause-read : goal.returns-in_err-child-clause-read

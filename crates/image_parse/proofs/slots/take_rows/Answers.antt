@@ -2,7 +2,7 @@ use Rattle.std.proofs.Common.{◌≡◌, ◌++◌, ◌∷◌, [], arith}
 use Rattle.std.proofs.lemmas.Result.{err_from_is_err_and}
 use Rattle.image_parse.specs.Reading.{table_rows_at}
 use Rattle.image_parse.proofs.Loops.{row_goes, row_ends, rows_done}
-use Rattle.image_parse.proofs.Tabled.{rows_found}
+use Rattle.image_parse.proofs.TableReads.{rows_found}
 use Rattle.image_parse.proofs.slots.take_rows.Goals as goal
 
 pub returns-in_err-row-clause-read : goal.returns-in_err-row-clause-read

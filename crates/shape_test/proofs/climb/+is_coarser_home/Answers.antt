@@ -1,5 +1,5 @@
 use Rattle.std.proofs.Common.{[], get_or, arith}
-use Rattle.shape_test.proofs.Backed.{same_place, other_last, same_last}
+use Rattle.shape_test.proofs.CoarserHomes.{same_place, other_last, same_last}
 use Rattle.shape_test.proofs.Coarser.{by_longer}
 use Rattle.shape_test.proofs.climb.+is_coarser_home.Goals as goal
 use Rattle.shape_test.proofs.climb.+is_coarser_home.Goals.{else-may_go_down-via-then-may_go_down+else-is_coarser_home, else-may_go_down-via-else-may_go_down}

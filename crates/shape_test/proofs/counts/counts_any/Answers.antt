@@ -1,6 +1,6 @@
 use Rattle.std.proofs.Common.{sym, ◌∙◌, arith}
 use Rattle.node_arena.specs.Slots.{slot_of}
-use Rattle.shape_test.proofs.Counting.{node_count}
+use Rattle.shape_test.proofs.SlotCounts.{node_count}
 use Rattle.shape_test.proofs.counts.counts_any.Goals as goal
 
 pub returns-then-not-is_table : goal.returns-then-not-is_table

@@ -1,4 +1,4 @@
-use Rattle.shape_test.proofs.Counting.{row_test}
+use Rattle.shape_test.proofs.SlotCounts.{row_test}
 use Rattle.shape_test.proofs.counts.has_row.Goals as goal
 
 pub returns : goal.returns

@@ -1,6 +1,6 @@
 use Rattle.std.proofs.Common.{◌∙◌, sym}
 use Rattle.shape_test.proofs.Coarser.{begun_with}
-use Rattle.shape_test.proofs.Counting.{nothing_along}
+use Rattle.shape_test.proofs.SlotCounts.{nothing_along}
 use Rattle.shape_test.proofs.ends.+end_of.Goals as goal
 
 pub returns-in-None-clause-counted : goal.returns-in-None-clause-counted

@@ -6,8 +6,8 @@ use Rattle.node_arena.specs.Slots.{children_of, slot_of}
 use Rattle.shape_test.specs.Ends.{ends_count, end_count, AreEnds}
 use Rattle.shape_test.specs.Homes.{way_of}
 use Rattle.shape_test.proofs.ChildPlaces.{at_start, behind_child}
-use Rattle.shape_test.proofs.Adding.{sum_upto, part_of, upto_zero, add_part, all_parts}
-use Rattle.shape_test.proofs.Summing.{ends_more, ends_within}
+use Rattle.shape_test.proofs.ChildSums.{sum_upto, part_of, upto_zero, add_part, all_parts}
+use Rattle.shape_test.proofs.WayCounts.{ends_more, ends_within}
 use Rattle.shape_test.proofs.ends.part_ends.Goals as goal
 
 pub loop-label-init : goal.loop-label-init

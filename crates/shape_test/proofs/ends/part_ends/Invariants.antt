@@ -4,7 +4,7 @@ use Rattle.node_arena.specs.Slots.{children_of, slot_of}
 use Rattle.shape_test.specs.Ways.{count_below}
 use Rattle.shape_test.specs.Ends.{ends_count, AreEnds}
 use Rattle.shape_test.specs.Homes.{way_of}
-use Rattle.shape_test.proofs.Adding.{sum_upto}
+use Rattle.shape_test.proofs.ChildSums.{sum_upto}
 use Rattle.shape_test.proofs.ChildPlaces.{HasComeToLabel}
 use Rattle.shape_test.proofs.ends.part_ends.Given as goal
 

@@ -1,6 +1,6 @@
 use Rattle.std.proofs.Common.{refl}
 use Rattle.shape_test.proofs.ChildPlaces.{at_start}
-use Rattle.shape_test.proofs.Filling.{some_child, no_child}
+use Rattle.shape_test.proofs.NodeLinks.{some_child, no_child}
 use Rattle.shape_test.proofs.filled.has_child.Goals as goal
 
 pub returns-in-Some : goal.returns-in-Some

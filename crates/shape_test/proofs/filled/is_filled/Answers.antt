@@ -1,5 +1,5 @@
 use Rattle.std.proofs.Common.{sym, ◌∙◌}
-use Rattle.shape_test.proofs.Filling.{filled_with, filled_without}
+use Rattle.shape_test.proofs.NodeLinks.{filled_with, filled_without}
 use Rattle.shape_test.proofs.filled.is_filled.Goals as goal
 
 pub returns-in-Some : goal.returns-in-Some

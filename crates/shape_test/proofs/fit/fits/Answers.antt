@@ -1,5 +1,5 @@
 use Rattle.std.proofs.lemmas.Option.{MatchOption-at_none}
-use Rattle.shape_test.proofs.Fitting.{unfit}
+use Rattle.shape_test.proofs.FitSlots.{unfit}
 use Rattle.shape_test.proofs.fit.fits.Goals as goal
 
 pub returns-in-None : goal.returns-in-None

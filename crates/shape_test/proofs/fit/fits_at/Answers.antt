@@ -1,7 +1,7 @@
 use Rattle.std.proofs.Common.{sym, ◌∙◌}
 use Rattle.std.proofs.lemmas.List.{length-map}
 use Rattle.shape_test.specs.Homes.{walk_of, walks_of}
-use Rattle.shape_test.proofs.Fitting.{fit_at, unfit_at}
+use Rattle.shape_test.proofs.FitSlots.{fit_at, unfit_at}
 use Rattle.shape_test.proofs.fit.fits_at.Goals as goal
 
 pub size_fits-requires : goal.size_fits-requires

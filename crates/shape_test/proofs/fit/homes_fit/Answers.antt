@@ -2,7 +2,7 @@ use Rattle.std.proofs.Common.{sym, subst}
 use Rattle.std.proofs.lemmas.Option.{MatchOption-at_none}
 use Rattle.shape_test.specs.Homes.{walks_of}
 use Rattle.shape_test.specs.Owners.{HasOwners}
-use Rattle.shape_test.proofs.Fitting.{unplaced}
+use Rattle.shape_test.proofs.FitSlots.{unplaced}
 use Rattle.shape_test.proofs.fit.homes_fit.Goals as goal
 
 pub places_of-requires : goal.places_of-requires

@@ -1,7 +1,7 @@
 use Rattle.std.proofs.Common.{◌≡◌, List, length, Some, length-append, ap, sym, subst, arith, rules}
 use Rattle.shape_test.specs.Owners.{LeadsBack, owner_at}
 use Rattle.shape_test.specs.declared.home.Move.{Move}
-use Rattle.shape_test.proofs.Climbing.{back_more}
+use Rattle.shape_test.proofs.HomesOfOwners.{back_more}
 use Rattle.shape_test.proofs.homes.home_back.Goals as goal
 
 pub loop-last-preserved : goal.loop-last-preserved

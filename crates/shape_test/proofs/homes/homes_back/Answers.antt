@@ -1,4 +1,4 @@
-use Rattle.shape_test.proofs.Climbing.{homes_more}
+use Rattle.shape_test.proofs.HomesOfOwners.{homes_more}
 use Rattle.std.proofs.lemmas.Bool.{MatchBool-at_true}
 use Rattle.shape_test.proofs.homes.homes_back.Goals as goal
 

@@ -1,7 +1,7 @@
 use Rattle.std.proofs.Common.{Some, None, Ok, sym, subst}
 use Rattle.std.proofs.lemmas.Option.{MatchOption-at_none, MatchOption-at_some}
 use Rattle.shape_test.specs.Owners.{HasOwners}
-use Rattle.shape_test.proofs.Climbing.{owners_within, homes_told, some_slots}
+use Rattle.shape_test.proofs.HomesOfOwners.{owners_within, homes_told, some_slots}
 use Rattle.shape_test.proofs.homes.homes_of.Goals as goal
 
 pub homes_back-requires : goal.homes_back-requires

@@ -1,4 +1,4 @@
-use Rattle.shape_test.proofs.Deciding.{decides_cube, owns_bag}
+use Rattle.shape_test.proofs.SchemaConditions.{decides_cube, owns_bag}
 use Rattle.shape_test.proofs.OneHome.{one_home}
 use Rattle.shape_test.proofs.laws.fit_laws.Goals as goal
 

@@ -1,6 +1,6 @@
 use Rattle.std.proofs.Common.{true, refl, sym, arith}
 use Rattle.shape_test.specs.Homes.{is_across}
-use Rattle.shape_test.proofs.Backed.{same_place, same_link, other_link}
+use Rattle.shape_test.proofs.CoarserHomes.{same_place, same_link, other_link}
 use Rattle.shape_test.proofs.links.link_fits.Goals as goal
 
 pub returns-then-not-is_same : goal.returns-then-not-is_same

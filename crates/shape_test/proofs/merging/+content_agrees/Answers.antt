@@ -11,7 +11,7 @@ use Rattle.shape_test.specs.declared.home.Move.TheVariants.{Down, Across}
 use Rattle.shape_test.proofs.ChildPlaces.{at_start, behind_child}
 use Rattle.shape_test.proofs.Agreement.{none_counted, at_end, end_agrees, past_table, children_agree, child_agrees, longer_way, one_less}
 use Rattle.shape_test.proofs.Childwise.{one_more, no_more}
-use Rattle.shape_test.proofs.Ending.{two_off}
+use Rattle.shape_test.proofs.LastTwo.{two_off}
 use Rattle.shape_test.proofs.merging.+content_agrees.Goals as goal
 
 pub returns-in_default-clause-told : goal.returns-in_default-clause-told

@@ -2,7 +2,7 @@ use Rattle.std.proofs.Common.{Bool, ◌≡◌, true, ◌↔◌, ℕ, ◌-◌, �
 use Rattle.std.proofs.lemmas.Result.{IfOk-weaker}
 use Rattle.cube_view.specs.Places.{deepest, time_dim}
 use Rattle.shape_test.specs.Agreeing.{IsOver, MergesFrom, MergesOver}
-use Rattle.shape_test.proofs.Over.{before_end, later_levels}
+use Rattle.shape_test.proofs.CategoryWays.{before_end, later_levels}
 use Rattle.shape_test.proofs.merging.node_merges.Goals as goal
 
 pub returns : goal.returns

@@ -5,8 +5,8 @@ use Rattle.shape_test.specs.Agreeing.{AgreesAs, BinsAgree, HasCount, RowsAgree}
 use Rattle.shape_test.specs.Homes.{way_of}
 use Rattle.shape_test.specs.declared.merging.Role.{Role}
 use Rattle.shape_test.specs.declared.merging.Role.TheVariants.{Whole, Part}
-use Rattle.shape_test.proofs.Counting.{node_count}
-use Rattle.shape_test.proofs.Remaining.{decided_told, decided_all}
+use Rattle.shape_test.proofs.SlotCounts.{node_count}
+use Rattle.shape_test.proofs.RowRemainders.{decided_told, decided_all}
 use Rattle.shape_test.proofs.merging.slot_agrees.Goals as goal
 
 pub returns-then-not-is_table-clause-told : goal.returns-then-not-is_table-clause-told

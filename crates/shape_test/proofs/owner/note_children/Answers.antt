@@ -1,7 +1,7 @@
 use Rattle.std.proofs.Common.{ℕ, ◌+◌, sym, subst}
 use Rattle.shape_test.specs.Owners.{AreOwners, Before}
 use Rattle.shape_test.proofs.ChildPlaces.{at_start, behind_child}
-use Rattle.shape_test.proofs.Noting.{child_noted, child_second, children_noted, when_true, when_false}
+use Rattle.shape_test.proofs.OwnerLists.{child_noted, child_second, children_noted, when_true, when_false}
 use Rattle.shape_test.proofs.owner.note_children.Goals as goal
 
 pub returns-then-not-note_link : goal.returns-then-not-note_link

@@ -1,5 +1,5 @@
 use Rattle.std.proofs.Common.{sym, ◌∙◌}
-use Rattle.shape_test.proofs.Noting.{table_noted, content_noted, content_second, no_content, when_true, with_both}
+use Rattle.shape_test.proofs.OwnerLists.{table_noted, content_noted, content_second, no_content, when_true, with_both}
 use Rattle.shape_test.proofs.owner.note_links.Goals as goal
 
 pub returns-then-is_table : goal.returns-then-is_table

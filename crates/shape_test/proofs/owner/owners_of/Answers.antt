@@ -1,5 +1,5 @@
 use Rattle.std.proofs.Common.{arith}
-use Rattle.shape_test.proofs.Noting.{all_noted}
+use Rattle.shape_test.proofs.OwnerLists.{all_noted}
 use Rattle.shape_test.proofs.owner.owners_of.Goals as goal
 
 pub returns-clause-owners : goal.returns-clause-owners

@@ -1,7 +1,7 @@
 use Rattle.std.proofs.Common.{Some, None, refl}
 use Rattle.shape_test.specs.declared.home.Move.TheVariants.{Across}
 use Rattle.shape_test.proofs.Coarser.{begun_with}
-use Rattle.shape_test.proofs.Placing.{told_after}
+use Rattle.shape_test.proofs.AddressPlaces.{told_after}
 use Rattle.shape_test.proofs.place.+place_of.Goals as goal
 
 pub returns-in-Some-clause-told : goal.returns-in-Some-clause-told

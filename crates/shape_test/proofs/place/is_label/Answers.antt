@@ -1,6 +1,6 @@
 use Rattle.std.proofs.Common.{ℕ, ◌-◌, ◌≡◌, ap₂, nat_lt, arith, ap, ◌∙◌, ne_eqb}
 use Rattle.shape_test.specs.Labels.{label_end}
-use Rattle.shape_test.proofs.Placing.{end_in, end_out, lt_none}
+use Rattle.shape_test.proofs.AddressPlaces.{end_in, end_out, lt_none}
 use Rattle.shape_test.proofs.place.is_label.Goals as goal
 
 pub returns-then-k-len : goal.returns-then-k-len

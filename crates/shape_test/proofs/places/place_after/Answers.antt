@@ -1,7 +1,7 @@
 use Rattle.std.proofs.Common.{◌≡◌, Some, ◌∙◌, arith, rules}
 use Rattle.shape_test.specs.Homes.{walks_of}
 use Rattle.shape_test.specs.Owners.{owner_at}
-use Rattle.shape_test.proofs.Kept.{next_owned}
+use Rattle.shape_test.proofs.MoveHomes.{next_owned}
 use Rattle.shape_test.proofs.places.place_after.Goals as goal
 
 pub next_place-requires : goal.next_place-requires

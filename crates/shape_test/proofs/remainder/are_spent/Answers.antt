@@ -1,4 +1,4 @@
-use Rattle.shape_test.proofs.Remaining.{not_spent}
+use Rattle.shape_test.proofs.RowRemainders.{not_spent}
 use Rattle.shape_test.proofs.remainder.are_spent.Goals as goal
 
 pub returns-then-row-gt0 : goal.returns-then-row-gt0

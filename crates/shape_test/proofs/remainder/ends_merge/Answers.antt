@@ -1,5 +1,5 @@
 use Rattle.std.proofs.Common.{◌∙◌, arith}
-use Rattle.shape_test.proofs.Remaining.{end_amount}
+use Rattle.shape_test.proofs.RowRemainders.{end_amount}
 use Rattle.shape_test.proofs.remainder.ends_merge.Goals as goal
 
 pub returns-then-not-branch : goal.returns-then-not-branch

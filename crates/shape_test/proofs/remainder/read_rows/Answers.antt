@@ -1,6 +1,6 @@
 use Rattle.std.proofs.Common.{sym, ◌∙◌}
 use Rattle.node_arena.specs.Slots.{slot_of}
-use Rattle.shape_test.proofs.Remaining.{table_orderly, node_orderly, node_rows}
+use Rattle.shape_test.proofs.RowRemainders.{table_orderly, node_orderly, node_rows}
 use Rattle.shape_test.proofs.remainder.read_rows.Goals as goal
 
 pub returns-in_ok-put_rows-clause-orderly : goal.returns-in_ok-put_rows-clause-orderly

@@ -1,6 +1,6 @@
 use Rattle.std.proofs.Common.{◌∙◌}
 use Rattle.node_arena.specs.declared.link.SlotId.{SlotId}
-use Rattle.shape_test.proofs.Remaining.{next_fits, next_left}
+use Rattle.shape_test.proofs.RowRemainders.{next_fits, next_left}
 use Rattle.shape_test.proofs.remainder.take_ends.Goals as goal
 
 pub returns-then-not-take_off-clause-all : goal.returns-then-not-take_off-clause-all

@@ -1,6 +1,6 @@
 use Rattle.std.proofs.Common.{length, inl, inr, arith}
 use Rattle.std.proofs.lemmas.Bool.{cases_lt, le-leb}
-use Rattle.shape_test.proofs.Remaining.{taken_more, passed_by, too_many, is_missing}
+use Rattle.shape_test.proofs.RowRemainders.{taken_more, passed_by, too_many, is_missing}
 use Rattle.shape_test.proofs.remainder.take_off.Goals as goal
 use Rattle.shape_test.proofs.remainder.take_off.Goals.{then-left-i+else-left-i-2, else-left-i}
 

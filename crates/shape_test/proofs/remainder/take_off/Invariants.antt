@@ -1,4 +1,4 @@
-use Rattle.shape_test.proofs.Remaining.{IsTaken}
+use Rattle.shape_test.proofs.RowRemainders.{IsTaken}
 use Rattle.shape_test.proofs.remainder.take_off.Given as goal
 
 abbrev pub invariant-loop-i : goal.invariant-loop-i

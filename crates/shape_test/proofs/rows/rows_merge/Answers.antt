@@ -3,7 +3,7 @@ use Rattle.node_arena.specs.declared.link.SlotId.{SlotId}
 use Rattle.shape_test.specs.Ways.{Merges}
 use Rattle.shape_test.specs.Ends.{end_count, ends_count}
 use Rattle.shape_test.specs.Homes.{way_of}
-use Rattle.shape_test.proofs.Remaining.{decides_same}
+use Rattle.shape_test.proofs.RowRemainders.{decides_same}
 use Rattle.shape_test.proofs.rows.rows_merge.Goals as goal
 
 pub returns : goal.returns

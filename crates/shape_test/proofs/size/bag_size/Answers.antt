@@ -3,7 +3,7 @@ use Rattle.std.proofs.lemmas.List.{length-map}
 use Rattle.shape_test.specs.Places.{place_at}
 use Rattle.shape_test.specs.Homes.{walk_of, walks_of}
 use Rattle.shape_test.specs.Labels.{labels_fit, schema_levels}
-use Rattle.shape_test.proofs.Kept.{kept_home}
+use Rattle.shape_test.proofs.MoveHomes.{kept_home}
 use Rattle.shape_test.proofs.Whole.{slot_added}
 use Rattle.shape_test.proofs.size.bag_size.Goals as goal
 

@@ -1,8 +1,8 @@
 use Rattle.std.proofs.Common.{Some, ap, ◌∙◌}
 use Rattle.std.proofs.lemmas.Option.{MatchOption-at_some}
 use Rattle.shape_test.specs.Homes.{walk_of}
-use Rattle.shape_test.proofs.Placing.{place_told}
-use Rattle.shape_test.proofs.Stepping.{time_levels}
+use Rattle.shape_test.proofs.AddressPlaces.{place_told}
+use Rattle.shape_test.proofs.StepBounds.{time_levels}
 use Rattle.shape_test.proofs.size.is_whole_at.Goals as goal
 
 pub is_whole_at_time-requires : goal.is_whole_at_time-requires

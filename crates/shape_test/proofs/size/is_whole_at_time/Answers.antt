@@ -1,7 +1,7 @@
 use Rattle.std.proofs.Common.{sym}
 use Rattle.std.proofs.lemmas.List.{length-map}
 use Rattle.shape_test.specs.Homes.{step_of, walk_of}
-use Rattle.shape_test.proofs.Stepping.{whole_told}
+use Rattle.shape_test.proofs.StepBounds.{whole_told}
 use Rattle.shape_test.proofs.size.is_whole_at_time.Goals as goal
 
 pub returns : goal.returns

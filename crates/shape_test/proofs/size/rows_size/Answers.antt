@@ -1,7 +1,7 @@
 use Rattle.std.proofs.Common.{refl, sym, ap, arith}
 use Rattle.node_arena.specs.Stats.{capped}
 use Rattle.shape_test.specs.Fits.{least_points}
-use Rattle.shape_test.proofs.Sizing.{none_added}
+use Rattle.shape_test.proofs.RowSums.{none_added}
 use Rattle.shape_test.proofs.Whole.{next_row, all_rows}
 use Rattle.shape_test.proofs.size.rows_size.Goals as goal
 

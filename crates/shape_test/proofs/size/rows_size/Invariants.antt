@@ -2,7 +2,7 @@ use Rattle.std.proofs.Common.{◌≡◌, ◌-◌, ◌≤◌}
 use Rattle.std.specs.FinMap.{entries}
 use Rattle.node_arena.specs.Stats.{capped}
 use Rattle.shape_test.specs.Fits.{least_points}
-use Rattle.shape_test.proofs.Sizing.{rows_upto}
+use Rattle.shape_test.proofs.RowSums.{rows_upto}
 use Rattle.shape_test.proofs.size.rows_size.Given as goal
 
 abbrev pub invariant-loop-bin : goal.invariant-loop-bin

@@ -1,5 +1,5 @@
 use Rattle.shape_test.proofs.Light.{tells_light}
-use Rattle.shape_test.proofs.Pointed.{tells_points}
+use Rattle.shape_test.proofs.CubePoints.{tells_points}
 use Rattle.shape_test.proofs.size.size_laws.Goals as goal
 
 pub returns-clause-points : goal.returns-clause-points

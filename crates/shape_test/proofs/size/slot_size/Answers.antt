@@ -2,7 +2,7 @@ use Rattle.std.proofs.Common.{sym, ◌∙◌}
 use Rattle.node_arena.specs.Slots.{slot_of}
 use Rattle.shape_test.specs.Homes.{walk_of}
 use Rattle.shape_test.specs.Labels.{schema_levels}
-use Rattle.shape_test.proofs.Sizing.{whole_size, part_size, node_size}
+use Rattle.shape_test.proofs.RowSums.{whole_size, part_size, node_size}
 use Rattle.shape_test.proofs.size.slot_size.Goals as goal
 use Rattle.shape_test.proofs.size.slot_size.Goals.{then-not-is_table-via-then-not-is_table, then-not-is_table-via-else-not-is_table+then-not-is_whole_at}
 

@@ -5,8 +5,8 @@ use Rattle.node_arena.specs.Shape.{home_of}
 use Rattle.shape_test.specs.Homes.{walk_of, walks_of}
 use Rattle.shape_test.specs.Places.{place_at}
 use Rattle.shape_test.specs.Standing.{MergesAt}
-use Rattle.shape_test.proofs.Kept.{kept_place, stands_shares}
-use Rattle.shape_test.proofs.Placing.{place_told}
+use Rattle.shape_test.proofs.MoveHomes.{kept_place, stands_shares}
+use Rattle.shape_test.proofs.AddressPlaces.{place_told}
 use Rattle.shape_test.proofs.standing.all_merge.Goals as goal
 
 pub node_merges-requires-clause-placed : goal.node_merges-requires-clause-placed

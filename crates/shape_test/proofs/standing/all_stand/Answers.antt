@@ -1,7 +1,7 @@
 use Rattle.std.proofs.Common.{arith}
 use Rattle.std.proofs.lemmas.List.{length-map}
 use Rattle.shape_test.specs.Homes.{walk_of, walks_of}
-use Rattle.shape_test.proofs.Kept.{kept_place}
+use Rattle.shape_test.proofs.MoveHomes.{kept_place}
 use Rattle.shape_test.proofs.standing.all_stand.Goals as goal
 
 pub slot_stands-requires-clause-place : goal.slot_stands-requires-clause-place

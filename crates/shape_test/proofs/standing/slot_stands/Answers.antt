@@ -1,6 +1,6 @@
 use Rattle.std.proofs.Common.{sym}
 use Rattle.shape_test.specs.Homes.{walks_of}
-use Rattle.shape_test.proofs.Kept.{stands_by_links}
+use Rattle.shape_test.proofs.MoveHomes.{stands_by_links}
 use Rattle.shape_test.proofs.standing.slot_stands.Goals as goal
 
 pub returns : goal.returns

@@ -3,8 +3,8 @@ use Rattle.std.proofs.lemmas.Result.{IfOk-weaker}
 use Rattle.shape_test.specs.Fits.{IsSchemaLocal}
 use Rattle.shape_test.specs.Homes.{walks_of}
 use Rattle.shape_test.specs.Standing.{AllMerge}
-use Rattle.shape_test.proofs.Gathering.{gathered}
-use Rattle.shape_test.proofs.Spreading.{all_stand, all_merge}
+use Rattle.shape_test.proofs.LocalOfSlots.{gathered}
+use Rattle.shape_test.proofs.SlotsOfLocal.{all_stand, all_merge}
 use Rattle.shape_test.proofs.standing.slots_fit.Goals as goal
 
 pub returns-then-not-all_stand : goal.returns-then-not-all_stand

@@ -9,11 +9,11 @@ use Rattle.node_arena.specs.Stats.{AllRising}
 use Rattle.shape_test.specs.Laws.{AllTablesCounted}
 use Rattle.shape_test.specs.Fits.{Fits, IsSchemaLocal, IsSizeOf, slots_bag}
 use Rattle.shape_test.specs.Owners.{HasNoHomesIn}
-use Rattle.shape_test.proofs.Deciding.{cube_is_local, local_is_cube}
+use Rattle.shape_test.proofs.SchemaConditions.{cube_is_local, local_is_cube}
 use Rattle.shape_test.specs.Places.{HasOutside}
 use Rattle.shape_test.proofs.OneHome.{one_home}
-use Rattle.shape_test.proofs.Spreading.{all_stand}
-use Rattle.shape_test.proofs.Stepping.{tells_short}
+use Rattle.shape_test.proofs.SlotsOfLocal.{all_stand}
+use Rattle.shape_test.proofs.StepBounds.{tells_short}
 
 module _ (schema : Schema) (slots : List Slot) (counted : AllTablesCounted slots) (rising : AllRising slots) where
   -- slots that fit are local by their homes

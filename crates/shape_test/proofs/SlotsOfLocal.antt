@@ -14,7 +14,7 @@ use Rattle.shape_test.specs.Levels.{Levels, left, label_counts}
 use Rattle.shape_test.specs.Ways.{Way, along, count_below, IsFinest, Merges}
 use Rattle.shape_test.proofs.Core.{under_along}
 use Rattle.shape_test.proofs.Local.{left_spot, own_way, levels_of}
-use Rattle.shape_test.proofs.Decides.{under_home}
+use Rattle.shape_test.proofs.ShapeConditions.{under_home}
 use Rattle.shape_test.specs.Agreeing.{IsOver, MergesFrom}
 use Rattle.shape_test.specs.Filled.{HasRow, HasChild, IsBare, IsFilledNode}
 use Rattle.shape_test.specs.Fits.{IsSchemaCube, IsSchemaLocal, slots_bag}
@@ -23,10 +23,10 @@ use Rattle.shape_test.specs.Links.{LinksFit}
 use Rattle.shape_test.specs.Places.{place_at, levels_at, IsPlaceOf, IsOutside}
 use Rattle.shape_test.specs.Standing.{SuitsPlace, AllStand, MergesAt, AllMerge}
 use Rattle.shape_test.specs.declared.place.Place.{Place}
-use Rattle.shape_test.proofs.Deciding.{ends_with_time, local_is_cube}
-use Rattle.shape_test.proofs.Gathering.{told_at}
-use Rattle.shape_test.proofs.Over.{over_none}
-use Rattle.shape_test.proofs.Placing.{place_told}
+use Rattle.shape_test.proofs.SchemaConditions.{ends_with_time, local_is_cube}
+use Rattle.shape_test.proofs.LocalOfSlots.{told_at}
+use Rattle.shape_test.proofs.CategoryWays.{over_none}
+use Rattle.shape_test.proofs.AddressPlaces.{place_told}
 
 -- before time there is a dimension left
 next_levels : (schema : Schema) (p : Place) → p.dim ≤ time_dim schema → (p.dim ≡ time_dim schema → ⊥) → (m : ℕ) × (later : List ℕ) × ((levels_at schema p).later ≡ m ∷ later)

@@ -7,9 +7,9 @@ use Rattle.node_arena.specs.declared.link.Link.{Link}
 use Rattle.node_arena.specs.Slots.{Children, Slot, node, table, empty_node, is_table, slot_of}
 use Rattle.node_arena.specs.Stats.{is_proper, is_shared, children_that, content_that, links_that, node_count, table_count, proper_count, shared_count, capped, stat_of}
 use Rattle.cube_image.specs.Order.{moved, moved_link, moved_child, moved_content, in_order}
-use Rattle.cube_image.proofs.Owned.{hits}
-use Rattle.image_cube.proofs.Parted.{HasPlace, sum_upto, upto-same, part, part-cons, parted}
-use Rattle.image_cube.proofs.Renumbered.{table-moved}
+use Rattle.cube_image.proofs.OwnedHits.{hits}
+use Rattle.image_cube.proofs.ListShares.{HasPlace, sum_upto, upto-same, part, part-cons, parted}
+use Rattle.image_cube.proofs.ShapeInOrder.{table-moved}
 
 -- ---- sums over the places of a list that has each number once
 

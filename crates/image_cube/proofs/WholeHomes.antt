@@ -13,14 +13,14 @@ use Rattle.shape_test.specs.Levels.{Levels, left, no_levels, label_counts, EndsW
 use Rattle.shape_test.specs.Local.{IsLocal}
 use Rattle.shape_test.specs.Ways.{Way, along, IsFinest}
 use Rattle.shape_test.specs.Wholes.{is_whole, paths_along}
-use Rattle.shape_test.proofs.Back.{left_along}
-use Rattle.shape_test.proofs.Listed.{IsWhole}
+use Rattle.shape_test.proofs.LocalOfShape.{left_along}
+use Rattle.shape_test.proofs.WholeAddresses.{IsWhole}
 use Rattle.shape_test.proofs.Local.{left_spot, levels_of, own_way}
 use Rattle.shape_test.proofs.BinRows.{whole_from_test, whole_test, labels_are, same_labels}
-use Rattle.shape_test.proofs.Timing.{time_of}
+use Rattle.shape_test.proofs.TimeAddresses.{time_of}
 use Rattle.shape_test.proofs.Root.{along_whole, finer_whole}
 use Rattle.shape_test.proofs.Bag.{nothing_later}
-use Rattle.image_cube.proofs.Parted.{HasPlace}
+use Rattle.image_cube.proofs.ListShares.{HasPlace}
 
 -- a spot under a whole address with nothing left has its labels
 paths-at : (levels : List ℕ) (q : SpotPath) (b : Walk) → label_counts q ≡ levels → IsWhole levels b → left levels b ≡ Some no_levels → Under q b → q.paths ≡ paths_along b [] []

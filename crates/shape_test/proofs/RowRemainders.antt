@@ -21,7 +21,7 @@ use Rattle.shape_test.proofs.Core.{one_under, amount-cons}
 use Rattle.shape_test.proofs.BinRows.{table_rows}
 use Rattle.shape_test.specs.Ends.{end_count, ends_count}
 use Rattle.shape_test.specs.Remainder.{AreOrderly, FitIn, IsRemainder, row_key, slot_rows, end_rows}
-use Rattle.shape_test.proofs.Summing.{ends_part}
+use Rattle.shape_test.proofs.WayCounts.{ends_part}
 
 -- ---- what rows count in a bin
 

@@ -12,7 +12,7 @@ use Rattle.shape_test.specs.Labels.{levels_from, schema_levels}
 use Rattle.shape_test.specs.Owners.{most_steps, TellsShort}
 use Rattle.shape_test.specs.Places.{levels_at}
 use Rattle.shape_test.specs.declared.place.Place.{Place}
-use Rattle.shape_test.proofs.Over.{in_category, in_time}
+use Rattle.shape_test.proofs.CategoryWays.{in_category, in_time}
 
 -- the steps across to dimensions and down all their levels
 abbrev steps_over : List ℕ → ℕ

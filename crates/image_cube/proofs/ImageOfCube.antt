@@ -17,19 +17,19 @@ use Rattle.cube_image.specs.Image.{IsWritten, HasLongImage}
 use Rattle.cube_image.specs.declared.fault.SaveFault.{SaveFault}
 use Rattle.cube_image.specs.Order.{moved, moved_child, in_order}
 use Rattle.cube_image.proofs.Labels.{label-byte}
-use Rattle.cube_image.proofs.Numbering.{numbered}
+use Rattle.cube_image.proofs.TargetNumbers.{numbered}
 use Rattle.cube_image.proofs.OwnImage.{own_image}
 use Rattle.cube_image.proofs.WholeOrder.{all_in_order}
 use Rattle.image_parse.specs.Images.{IsImage}
 use Rattle.image_parse.proofs.Readable.{orderly}
-use Rattle.image_parse.proofs.Whole.{slots_few, one_meaning}
+use Rattle.image_parse.proofs.ImageReads.{slots_few, one_meaning}
 use Rattle.image_cube.specs.Read.{IsFitImage}
 use Rattle.shape_test.specs.Laws.{AllTablesCounted}
 use Rattle.image_cube.specs.CubeImages.{AreRecords, IsCubeImage, HasLongCubeImage, KeepsNumbers}
-use Rattle.image_cube.proofs.Fitted.{counted-fits}
-use Rattle.image_cube.proofs.Imaged.{slots-fit}
-use Rattle.image_cube.proofs.Renumbered.{moved_homes, in-places, places-once, each-one, old-lt, shape-again}
-use Rattle.image_cube.proofs.Summed.{stat-again}
+use Rattle.image_cube.proofs.FitRecords.{counted-fits}
+use Rattle.image_cube.proofs.ImageSlots.{slots-fit}
+use Rattle.image_cube.proofs.ShapeInOrder.{moved_homes, in-places, places-once, each-one, old-lt, shape-again}
+use Rattle.image_cube.proofs.NumbersInOrder.{stat-again}
 use Rattle.proper_path.specs.Paths.{paths_of}
 
 -- a slot has its labels and its counts, moved or not

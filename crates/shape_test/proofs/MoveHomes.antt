@@ -19,8 +19,8 @@ use Rattle.shape_test.specs.Standing.{SuitsPlace, SlotStands}
 use Rattle.shape_test.specs.declared.home.Move.{Move}
 use Rattle.shape_test.specs.declared.owner.Owner.{Owner}
 use Rattle.shape_test.specs.declared.place.Place.{Place}
-use Rattle.shape_test.proofs.Climbing.{home_at}
-use Rattle.shape_test.proofs.Placing.{place_told}
+use Rattle.shape_test.proofs.HomesOfOwners.{home_at}
+use Rattle.shape_test.proofs.AddressPlaces.{place_told}
 
 -- the home of a slot, read from the list
 pub kept_home : (homes : List (List Move)) (i : ℕ) (h : List Move) → i < length homes → h ≡ get_or homes i h → walk_of h ≡ home_of (walks_of homes) i

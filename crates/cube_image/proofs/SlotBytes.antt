@@ -18,7 +18,7 @@ use Rattle.cube_image.specs.Conditions.{HasSomeHomes, IsReadable}
 use Rattle.cube_image.specs.Image.{most_bytes, IsWritten, HasLongImage}
 use Rattle.cube_image.specs.Order.{moved, moved_child, moved_content, IsOrder, in_order}
 use Rattle.cube_image.specs.Rest.{byte_children, word_rows}
-use Rattle.cube_image.proofs.Moving.{put_more}
+use Rattle.cube_image.proofs.ListPieces.{put_more}
 use Rattle.cube_image.proofs.Rests.{byte_children-map}
 
 -- what is known of slots with homes

@@ -2,7 +2,7 @@
 use Rattle.std.proofs.Common.{◌≡◌, ℕ, zero, suc, ◌+◌, ◌<◌, ◌≤◌, Bool, cond, not, ◌⊎◌, inl, inr, eqb, eq-eqb, ne_eqb, List, [], ◌∷◌, length, get_or, refl, sym, ap, ◌∙◌, arith}
 use Rattle.std.proofs.lemmas.Bool.{cases_eq, cases_lt}
 use Rattle.cube_image.specs.Order.{order_number}
-use Rattle.cube_image.proofs.Owned.{hits, hits-at, StandOnce, few_once}
+use Rattle.cube_image.proofs.OwnedHits.{hits, hits-at, StandOnce, few_once}
 
 first-number : (x i : ℕ) (xs : List ℕ) → x ≡ i → order_number (x ∷ xs) i ≡ 0
 first-number x i xs e = ap (λ (b : Bool). cond {A = ℕ} (not b) (1 + order_number xs i) 0) (eq-eqb x i e)

@@ -13,12 +13,12 @@ use Rattle.shape_test.specs.Levels.{EndsWithTime}
 use Rattle.shape_test.specs.Wholes.{spelled_rows}
 use Rattle.shape_test.proofs.Bag.{spelled-spot, tells_cube, tells_local}
 use Rattle.shape_test.proofs.BinRows.{rows_at-paths}
-use Rattle.shape_test.proofs.Decides.{under_home}
+use Rattle.shape_test.proofs.ShapeConditions.{under_home}
 use Rattle.shape_test.specs.Fits.{IsSchemaCube, IsSchemaLocal, slots_bag}
 use Rattle.shape_test.specs.Labels.{levels_from, schema_levels, labels_fit, paths_fit}
 use Rattle.shape_test.specs.Laws.{DecidesCube, OwnsBag}
-use Rattle.shape_test.proofs.Labelled.{used_fit, paths_of_fit}
-use Rattle.shape_test.proofs.Over.{in_time}
+use Rattle.shape_test.proofs.AddressLabels.{used_fit, paths_of_fit}
+use Rattle.shape_test.proofs.CategoryWays.{in_time}
 
 length-levels : (schema : Schema) (dim n : ℕ) → length (levels_from schema dim n) ≡ n
 length-levels schema dim zero = refl

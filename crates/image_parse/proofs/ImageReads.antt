@@ -18,8 +18,8 @@ use Rattle.image_parse.specs.Laws.{TellsOneMeaning}
 use Rattle.image_parse.specs.Reading.{Front, Linked, width_number_at, slots_at, form_name_at, head_at, end_at, all_at, image_at}
 use Rattle.image_parse.specs.Views.{Fails, KeepsLight, HasSlots, HasImage}
 use Rattle.image_parse.proofs.Fields.{IsBytes, bind_some, fails_some, passes_some, Takes, Takes-then, wide64, number_takes, number_again, IsBytes-drop}
-use Rattle.image_parse.proofs.Linking.{CountsUp, Numbers}
-use Rattle.image_parse.proofs.Slotted.{slots_take, slots_again}
+use Rattle.image_parse.proofs.LinkReads.{CountsUp, Numbers}
+use Rattle.image_parse.proofs.SlotReads.{slots_take, slots_again}
 
 -- ---- the head
 

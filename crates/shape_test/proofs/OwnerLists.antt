@@ -11,7 +11,7 @@ use Rattle.shape_test.specs.Links.{HasSmallLabels, NoneFrom, IsFirstLink}
 use Rattle.shape_test.specs.declared.home.Move.TheVariants.{Down, Across}
 use Rattle.shape_test.specs.Owners.{Owners, owner_of, owner_at, IsNoted, IsSecond, AreOwners, HasOwners, Before, HasNoHomes}
 use Rattle.shape_test.specs.declared.owner.Owner.{Owner}
-use Rattle.shape_test.proofs.Owning.{still_owners, one_owner, second_owner}
+use Rattle.shape_test.proofs.LinkOwners.{still_owners, one_owner, second_owner}
 use Rattle.shape_test.proofs.OnlyChild.{table_link}
 
 before_more : (n from to : ℕ) → from ≤ to → (k : ℕ) (e : Step) → Before n from k e → Before n to k e

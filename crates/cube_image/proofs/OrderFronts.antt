@@ -13,7 +13,7 @@ use Rattle.node_arena.specs.Stats.{AllRising}
 use Rattle.node_arena.proofs.Links.{linked-lt}
 use Rattle.cube_image.specs.Conditions.{HasSomeHomes}
 use Rattle.cube_image.specs.Order.{owned_by, IsOrder}
-use Rattle.cube_image.proofs.Owned.{hits, hits-take, hits-at, hits-flat_map-none, hits-flat_map-one, slot_hits, StandOnce, few_once}
+use Rattle.cube_image.proofs.OwnedHits.{hits, hits-take, hits-at, hits-flat_map-none, hits-flat_map-one, slot_hits, StandOnce, few_once}
 
 -- the slots that a slot owns, by its place
 abbrev pub owned_at : List Slot → ℕ → List ℕ

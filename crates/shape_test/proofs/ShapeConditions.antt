@@ -12,9 +12,9 @@ use Rattle.node_arena.proofs.Walks.{walk_home}
 use Rattle.shape_test.specs.Levels.{Levels, left, no_levels, label_counts}
 use Rattle.shape_test.specs.Local.{HasLevels, IsLocal, AllHaveLevels, AllHaveCounts, AllContentsMerge}
 use Rattle.shape_test.specs.Ways.{Way, along, count_below, IsFinest, Merges}
-use Rattle.shape_test.proofs.Listed.{joined, ListsRows}
+use Rattle.shape_test.proofs.WholeAddresses.{joined, ListsRows}
 use Rattle.shape_test.proofs.Apart.{all_apart}
-use Rattle.shape_test.proofs.Back.{found_counts, left_along, shape_merges}
+use Rattle.shape_test.proofs.LocalOfShape.{found_counts, left_along, shape_merges}
 use Rattle.shape_test.proofs.Core.{HasAmounts, no_step, counted}
 use Rattle.shape_test.proofs.Local.{levels_of, left_spot, own_way, local_shaped}
 use Rattle.shape_test.proofs.Root.{root_tells}

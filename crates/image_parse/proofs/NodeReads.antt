@@ -14,7 +14,7 @@ use Rattle.image_parse.specs.Images.{AreChildren, IsContent, IsImageSlot}
 use Rattle.image_parse.specs.Reading.{Linked, width_number_at, child_at, children_at, content_at, node_at}
 use Rattle.image_parse.specs.Views.{AreImageChildren}
 use Rattle.image_parse.proofs.Fields.{IsBytes, bind_some, Takes, Takes-then, wide16, number_takes, number_again}
-use Rattle.image_parse.proofs.Linking.{CountsUp, CountsUp-split, Numbers, Numbers-then, Numbers-none, child_takes, child_again, content_takes, content_again}
+use Rattle.image_parse.proofs.LinkReads.{CountsUp, CountsUp-split, Numbers, Numbers-then, Numbers-none, child_takes, child_again, content_takes, content_again}
 
 -- children that were read
 pub record AreChildrenAt (k n from next : ℕ) (bytes : List ℕ) (x : Linked Children) : Type 0 where

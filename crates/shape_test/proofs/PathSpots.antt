@@ -14,7 +14,7 @@ use Rattle.cube_view.specs.declared.schema.Schema.{Schema}
 use Rattle.cube_view.specs.declared.spot.Spot.{Spot}
 use Rattle.shape_test.specs.Levels.{label_counts}
 use Rattle.shape_test.specs.Labels.{levels_from, schema_levels, value_count, label_end, label_fits, paths_fit}
-use Rattle.shape_test.proofs.Over.{in_category, in_time}
+use Rattle.shape_test.proofs.CategoryWays.{in_category, in_time}
 
 -- the number whose bits are those of quadrants, the highest first
 abbrev bits_of : (ℕ → ℕ) → List ℕ → ℕ

@@ -9,7 +9,7 @@ use Rattle.shape_test.proofs.Core.{no_step}
 use Rattle.shape_test.specs.Filled.{HasRow}
 use Rattle.shape_test.specs.Homes.{step_of, way_of}
 use Rattle.shape_test.specs.declared.home.Move.{Move}
-use Rattle.shape_test.proofs.Remaining.{some_row}
+use Rattle.shape_test.proofs.RowRemainders.{some_row}
 
 -- a table that isn't empty has a row, and an empty one has none
 pub row_test : (slots : List Slot) (i : ℕ) (m : BinCounts) (e : Bool) → m ≡ counts_of (slot_of slots i) → AllCounted m → (e ≡ true) ↔ (m ≡ empty) → (not e ≡ true) ↔ HasRow slots i

@@ -11,9 +11,9 @@ use Rattle.cube_image.specs.Order.{owned_by}
 use Rattle.image_parse.specs.Images.{IsImageSlot}
 use Rattle.image_parse.specs.Reading.{Linked, byte_at, node_at, table_at, slot_at, slots_at}
 use Rattle.image_parse.proofs.Fields.{IsBytes, bind_some, chosen, passes_some, Takes, Takes-then, byte_takes}
-use Rattle.image_parse.proofs.Linking.{CountsUp, CountsUp-split, Numbers, Numbers-then, Numbers-none}
-use Rattle.image_parse.proofs.Noded.{node_takes, node_again}
-use Rattle.image_parse.proofs.Tabled.{table_takes, table_again}
+use Rattle.image_parse.proofs.LinkReads.{CountsUp, CountsUp-split, Numbers, Numbers-then, Numbers-none}
+use Rattle.image_parse.proofs.NodeReads.{node_takes, node_again}
+use Rattle.image_parse.proofs.TableReads.{table_takes, table_again}
 
 -- a slot that was read
 pub record IsWholeSlot (n next : ℕ) (bytes : List ℕ) (x : Linked Slot) : Type 0 where

@@ -9,8 +9,8 @@ use Rattle.node_arena.specs.Stats.{is_proper, AllRising}
 use Rattle.cube_image.specs.Conditions.{HasSomeHomes}
 use Rattle.cube_image.specs.Order.{proper_target, owned_children, owned_content, owned_by, IsOrder, IsNumbered, order_number, moved, moved_child, moved_link, moved_content, in_order}
 use Rattle.cube_image.specs.Rest.{byte_children}
-use Rattle.cube_image.proofs.Owned.{hits, hits-append}
-use Rattle.cube_image.proofs.Ordered.{IsFront, owned_at, stand_once}
+use Rattle.cube_image.proofs.OwnedHits.{hits, hits-append}
+use Rattle.cube_image.proofs.OrderFronts.{IsFront, owned_at, stand_once}
 use Rattle.cube_image.proofs.Rests.{byte_children-map}
 
 -- links that are moved lead to the numbers of what they owned

@@ -18,8 +18,8 @@ use Rattle.node_arena.specs.Amounts.{Weighted, amount_under}
 use Rattle.shape_test.specs.Wholes.{spot_at}
 use Rattle.shape_test.proofs.Core.{amount-cons}
 use Rattle.shape_test.specs.Fits.{bag_sum, least_points, least_size}
-use Rattle.shape_test.proofs.Remaining.{where_equal-swapped}
-use Rattle.image_cube.proofs.Parted.{part, part-cons}
+use Rattle.shape_test.proofs.RowRemainders.{where_equal-swapped}
+use Rattle.image_cube.proofs.ListShares.{part, part-cons}
 
 -- how few points have rows
 abbrev least_rows : List (ℕ × ℕ) → ℕ

@@ -9,7 +9,7 @@ use Rattle.node_arena.specs.Slots.{target}
 use Rattle.shape_test.specs.Homes.{is_across, step_of, walk_of, walks_of}
 use Rattle.shape_test.specs.declared.home.Move.{Move}
 use Rattle.shape_test.specs.Links.{LinkFits}
-use Rattle.shape_test.proofs.Climbing.{home_at}
+use Rattle.shape_test.proofs.HomesOfOwners.{home_at}
 use Rattle.shape_test.proofs.Coarser.{not_begun, begun_on, after_step, other_step}
 
 -- a home is itself

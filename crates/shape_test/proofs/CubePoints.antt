@@ -18,7 +18,7 @@ use Rattle.shape_test.proofs.Core.{HasAmounts, one_under, amount-cons}
 use Rattle.shape_test.specs.Fits.{bag_sum, slots_bag, Fits}
 use Rattle.shape_test.specs.Sizes.{seen_points, IsOfPoints, TellsPoints}
 use Rattle.shape_test.proofs.Pieces.{IsWeight, IsMadeOf, pieces, least_by, enough, least_few, least_one}
-use Rattle.shape_test.proofs.Spotting.{HasSpotOf, spot_with}
+use Rattle.shape_test.proofs.PathSpots.{HasSpotOf, spot_with}
 
 -- points at a spot with given weights, before others
 abbrev points_at : Spot → List ℕ → List Point → List Point

@@ -16,7 +16,7 @@ use Rattle.shape_test.specs.Ways.{Way, count_below, IsFinest, Merges}
 use Rattle.shape_test.proofs.Core.{step_first}
 use Rattle.shape_test.proofs.Local.{finer_left, after_root}
 use Rattle.shape_test.proofs.OnlyChild.{table_link}
-use Rattle.shape_test.proofs.Decides.{merges_past}
+use Rattle.shape_test.proofs.ShapeConditions.{merges_past}
 use Rattle.shape_test.specs.Agreeing.{IsOver, MergesFrom}
 use Rattle.shape_test.specs.Filled.{HasRow, HasChild, IsFilledNode}
 use Rattle.shape_test.specs.Fits.{IsSchemaLocal}
@@ -24,7 +24,7 @@ use Rattle.shape_test.specs.Labels.{levels_from, schema_levels}
 use Rattle.shape_test.specs.Places.{place_at, levels_at, IsPlaceOf, IsOutside}
 use Rattle.shape_test.specs.Standing.{SuitsPlace, AllStand, MergesAt, AllMerge}
 use Rattle.shape_test.specs.declared.place.Place.{Place}
-use Rattle.shape_test.proofs.Placing.{place_told}
+use Rattle.shape_test.proofs.AddressPlaces.{place_told}
 
 -- what is told of a place that an address has
 pub told_at : (schema : Schema) (a : Walk) (p : Place) → place_at schema a ≡ Some p → IsPlaceOf schema a p

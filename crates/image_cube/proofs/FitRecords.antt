@@ -26,12 +26,12 @@ use Rattle.shape_test.specs.Local.{IsLocal}
 use Rattle.shape_test.specs.Wholes.{is_whole, spot_at, rows_at, spelled_rows}
 use Rattle.shape_test.specs.Fits.{IsSchemaCube, Fits, slots_bag, bag_sum, least_points, least_size}
 use Rattle.shape_test.specs.Labels.{schema_levels, paths_fit}
-use Rattle.shape_test.proofs.Deciding.{ends_with_time, cube_is_local, owns_bag}
-use Rattle.shape_test.proofs.Spotting.{HasSpotOf}
-use Rattle.image_cube.proofs.Parted.{sum_upto, upto-le, upto-same, part, part-none, parted}
+use Rattle.shape_test.proofs.SchemaConditions.{ends_with_time, cube_is_local, owns_bag}
+use Rattle.shape_test.proofs.PathSpots.{HasSpotOf}
+use Rattle.image_cube.proofs.ListShares.{sum_upto, upto-le, upto-same, part, part-none, parted}
 use Rattle.image_cube.proofs.PointPaths.{path-levels, path-labels}
-use Rattle.image_cube.proofs.Rowed.{rows-sum, rows-least}
-use Rattle.image_cube.proofs.Wholly.{lies_at, all-placed}
+use Rattle.image_cube.proofs.RowAmounts.{rows-sum, rows-least}
+use Rattle.image_cube.proofs.WholeHomes.{lies_at, all-placed}
 
 module _ (schema : Schema) where
   -- a spot that is counted is that of a point

@@ -19,7 +19,7 @@ use Rattle.shape_test.specs.Fits.{bag_sum, least_points, least_size}
 use Rattle.shape_test.specs.Merging.{NoRowFrom, IsFirstRow}
 use Rattle.shape_test.specs.Sizes.{capped_size, table_size, size_of}
 use Rattle.shape_test.specs.declared.size.BagSize.{BagSize}
-use Rattle.shape_test.proofs.Adding.{counted_in, counted_out}
+use Rattle.shape_test.proofs.ChildSums.{counted_in, counted_out}
 
 -- sums that are capped can be added before or after
 pub capped_plus : (a b : ℕ) → capped (capped a + capped b) ≡ capped (a + b)

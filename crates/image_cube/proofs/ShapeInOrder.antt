@@ -13,9 +13,9 @@ use Rattle.node_arena.specs.Stats.{AllRising}
 use Rattle.node_arena.proofs.Links.{link_cases, linked-lt}
 use Rattle.node_arena.proofs.Walks.{target-lt}
 use Rattle.cube_image.specs.Order.{IsOrder, order_number, moved, moved_link, moved_child, moved_content, in_order}
-use Rattle.cube_image.proofs.Owned.{hits, hits-at, StandOnce}
-use Rattle.cube_image.proofs.Ordered.{IsFront, owned_at, stand_once}
-use Rattle.image_cube.proofs.Placed.{number-found, found-again, has-all}
+use Rattle.cube_image.proofs.OwnedHits.{hits, hits-at, StandOnce}
+use Rattle.cube_image.proofs.OrderFronts.{IsFront, owned_at, stand_once}
+use Rattle.image_cube.proofs.ItemPlaces.{number-found, found-again, has-all}
 
 child-moved : (places : List ℕ) (cs : Children) (l : ℕ) → child (map (moved_child places) cs) l ≡ moved_content places (child cs l)
 child-moved places [] l = refl
