@@ -50,10 +50,8 @@ pub struct Waiting {
     backoff: Backoff,
     /// How often it yields yet, after the first tries, before it sleeps.
     yields: u32,
-    /// Whether it has yet to learn of the signal if yields are worth it.
-    is_new: bool,
-    /// How many waits before it have slept.
-    vain: u64,
+    /// How many waits before it have slept, once it has learned that of the signal.
+    vain: Option<u64>,
     said: u64,
 }
 
@@ -69,8 +67,7 @@ impl Waiting {
         Waiting {
             backoff: Backoff::new(),
             yields,
-            is_new: true,
-            vain: 0,
+            vain: None,
             said: 0,
         }
     }
@@ -93,7 +90,7 @@ impl Signal {
             waiting.backoff.snooze();
             return;
         }
-        if waiting.is_new {
+        if waiting.vain.is_none() {
             self.weigh(waiting);
         }
         if waiting.yields > 0 {
@@ -108,11 +105,11 @@ impl Signal {
     /// first three, the 5th, the 9th and the 17th yield, and then each 16th. So a thread for which there is seldom something
     /// to do yields seldom, and soon finds out where that has changed.
     fn weigh(&self, waiting: &mut Waiting) {
-        waiting.is_new = false;
-        waiting.vain = self.vain.load(Ordering::SeqCst);
-        if waiting.vain & waiting.vain.wrapping_sub(1) != 0 {
+        let vain = self.vain.load(Ordering::SeqCst);
+        if vain & vain.wrapping_sub(1) != 0 {
             waiting.yields = 0;
         }
+        waiting.vain = Some(vain);
         // That stands if the wait is over before it sleeps.
         self.vain.store(0, Ordering::SeqCst);
     }
@@ -129,8 +126,9 @@ impl Signal {
         } else {
             // A change from now on finds the word odd. One that came before is found by the caller's next try.
             waiting.said = said;
-            let next = if waiting.vain < 2 * VAIN_WAITS - 1 {
-                waiting.vain + 1
+            let vain = waiting.vain.unwrap_or(0);
+            let next = if vain < 2 * VAIN_WAITS - 1 {
+                vain + 1
             } else {
                 VAIN_WAITS
             };

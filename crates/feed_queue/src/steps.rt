@@ -14,7 +14,7 @@ use std::alloc::Global;
 use std::sync::Wait;
 
 /// How often the drawing end yields before it sleeps, which takes some 0.2 milliseconds. To wake it takes 20 microseconds or
-/// more, which whoever asks for the record would feel. So where items come 5,000 times a second or more it is awake for them.
+/// more, which whoever asks for the record would feel. So where items come evenly, 5,000 a second or more, it is awake for them.
 /// Where they come more seldom, most of its waits sleep at once (`Signal::pause`).
 const YIELDS_FOR_ITEMS: u32 = 400;
 
