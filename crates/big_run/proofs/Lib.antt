@@ -1,7 +1,7 @@
 pub mod GeneratedHeads
 pub mod GeneratedRows
 pub mod AcceptedLines
-pub mod Feeding
-pub mod Asking
-pub mod Answering
+pub mod TwoFeeds
+pub mod FinalQueries
+pub mod FinalReplies
 pub mod PrintedRuns

@@ -15,8 +15,8 @@ use Rattle.outer_io.specs.declared.cutter.CutFault.TheVariants as cut
 use Rattle.query_syntax.specs.Tables.{table}
 use Rattle.world_core.specs.Interleaving.{IsInterleaving, entry_points, list_of, lists_joined}
 use Rattle.world_core.specs.InterleavingLaws.{TablesInterleave}
-use Rattle.big_run.proofs.Answering.{SameTables, final_put}
-use Rattle.big_run.proofs.Feeding.{FeedsEach, counts_line-given, sent-given, two_feeds}
+use Rattle.big_run.proofs.FinalReplies.{SameTables, final_put}
+use Rattle.big_run.proofs.TwoFeeds.{FeedsEach, counts_line-given, sent-given, two_feeds}
 use Rattle.big_run.specs.BuiltIn.{ask_script, big_schema, final_script}
 use Rattle.big_run.specs.Parts.{HasJobs, script_session}
 use Rattle.big_run.specs.Printed.{CameBackWhole, printed, printed_parts}

@@ -1,2 +1,2 @@
 mod WorkRows
-mod Reading
+mod WorkProgress

@@ -1,7 +1,7 @@
 mod Pairs
-mod Paying
-mod Ranked
-mod Summing
+mod RowCosts
+mod RowsByTotal
+mod RowSums
 mod Tables
 mod Topmost
 mod Tops

@@ -1,8 +1,8 @@
 pub mod Zips
-mod Making
-mod Feeding
-mod Answering
-mod Closing
-mod Finishing
-mod Seating
-mod Crewing
+mod LastItem
+mod FeederOutcomes
+mod SessionOutcomes
+mod SessionWorkEnds
+mod RunEnd
+mod RunSeats
+mod RunOutcome

@@ -18,7 +18,7 @@ use Rattle.node_arena.specs.Shape.{home_of}
 use Rattle.node_arena.specs.Slots.{Slot, link_of}
 use Rattle.cube_store.specs.Counted.{CountsPoints}
 use Rattle.cube_view.proofs.SchemaBounds.{each_in_range}
-use Rattle.cube_view.proofs.Weighing.{sound-fits}
+use Rattle.cube_view.proofs.PointWeights.{sound-fits}
 use Rattle.proper_path.specs.Paths.{paths_of}
 
 -- all labels are bytes

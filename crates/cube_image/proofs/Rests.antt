@@ -10,7 +10,7 @@ use Rattle.time_table.specs.Counts.{BinCounts}
 use Rattle.node_arena.specs.declared.link.Link.{Link}
 use Rattle.node_arena.specs.Slots.{Children, IsRising, child}
 use Rattle.time_table.proofs.KeyTests.{from_T}
-use Rattle.cube_store.proofs.Rising.{rises-tail, rises_from_test}
+use Rattle.cube_store.proofs.PairOrder.{rises-tail, rises_from_test}
 use Rattle.cube_image.specs.Order.{moved_child}
 use Rattle.cube_image.specs.Rest.{below_number, byte_children, word_rows}
 

@@ -9,7 +9,7 @@ use Rattle.cube_view.specs.declared.address.Address.{Address}
 use Rattle.cube_view.specs.declared.address.Tile.{Tile}
 use Rattle.cube_view.specs.declared.schema.Schema.{Schema}
 use Rattle.cube_view.proofs.SchemaBounds.{few_categories}
-use Rattle.cube_view.proofs.Shifting.{shifted_up, by_one}
+use Rattle.cube_view.proofs.LevelShifts.{shifted_up, by_one}
 use Rattle.cube_store.specs.Reading.{IsWalkAddress}
 use Rattle.proper_path.specs.Paths.{level_of}
 

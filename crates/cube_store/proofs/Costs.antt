@@ -21,7 +21,7 @@ use Rattle.cube_store.specs.BagCosts.{weighing_under, labels_below, bins_under}
 use Rattle.cube_store.specs.Counted.{CountsPoints}
 use Rattle.cube_store.specs.Holding.{TellsCosts, BoundsBagCosts}
 use Rattle.cube_store.specs.Reading.{IsWalkAddress, slot_under, children_in, counts_in, label_count, bin_count, spot_weight}
-use Rattle.cube_store.proofs.Bagging.{points_of_schema}
+use Rattle.cube_store.proofs.CubeBags.{points_of_schema}
 use Rattle.cube_store.proofs.DistinctNumbers.{distinct_count-same, distinct_count-below, below-kept, member-weighing, member-children, member-bins}
 use Rattle.cube_store.proofs.LinkMeaning.{same_amount, under-steps, fits-contained, reached_there, counts_here, below_some, below_none}
 use Rattle.node_arena.proofs.Labels.{link_down}

@@ -17,7 +17,7 @@ use Rattle.cube_view.specs.Walks.{down, across}
 use Rattle.cube_view.specs.declared.address.Address.{Address}
 use Rattle.cube_view.specs.declared.schema.Schema.{Schema}
 use Rattle.cube_view.specs.declared.spot.Spot.{Spot}
-use Rattle.cube_view.proofs.Weighing.{all-weigh}
+use Rattle.cube_view.proofs.PointWeights.{all-weigh}
 use Rattle.time_table.specs.Counts.{BinCounts, AllCounted, count_of, count_before}
 use Rattle.node_arena.specs.Calls.{child_from}
 use Rattle.node_arena.specs.Slots.{Slot, proper, IsRising, IsNode, IsTable, children_of, counts_of, link_of, slot_of, target, walk_end}
@@ -26,11 +26,11 @@ use Rattle.node_arena.proofs.Labels.{child_from-some}
 use Rattle.proper_path.proofs.Labels.{deepest-time}
 use Rattle.cube_store.specs.Counted.{HasPoints}
 use Rattle.cube_store.specs.Reading.{StandsAt, spot_weight, children_in, counts_in, label_count, bin_count, slot_under}
-use Rattle.cube_store.proofs.Bagging.{points_of_schema}
+use Rattle.cube_store.proofs.CubeBags.{points_of_schema}
 use Rattle.cube_store.proofs.LinkMeaning.{in_range, node_before_time, table_at_time, counts_here, step_some, below_some, below_none, across_some, across_none, next_some, next_none, same_amount, step_on, under-below, fits-contained}
 use Rattle.cube_store.proofs.AddressSteps.{steps-longer, steps-next, walked-longer, walked-next}
 use Rattle.time_table.proofs.KeyTests.{from_T}
-use Rattle.cube_store.proofs.Rising.{rises_from_test, distinct-rising}
+use Rattle.cube_store.proofs.PairOrder.{rises_from_test, distinct-rising}
 use Rattle.cube_store.proofs.TableTotals.{is_under_at, amount_steps, before_total}
 
 quadrant_small : (z : Schema) (s : Spot) (level m : ℕ) → quadrant_at z.depth level s.x s.y ≡ m → m < 4

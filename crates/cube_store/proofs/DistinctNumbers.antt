@@ -18,9 +18,9 @@ use Rattle.cube_view.specs.declared.spot.Spot.{Spot}
 use Rattle.cube_view.proofs.Amounts.{amount-nil, amount-cons}
 use Rattle.time_table.specs.Counts.{BinCounts, count_of}
 use Rattle.node_arena.specs.Slots.{Children, child, child_label}
-use Rattle.proper_path.proofs.Leaving.{turned}
+use Rattle.proper_path.proofs.SpotRemainders.{turned}
 use Rattle.time_table.proofs.KeyTests.{from_T}
-use Rattle.cube_store.proofs.Rising.{Rises, rises_from_test}
+use Rattle.cube_store.proofs.PairOrder.{Rises, rises_from_test}
 
 -- Lists with the same numbers have as many different ones
 

@@ -9,7 +9,7 @@ use Rattle.cube_view.specs.Places.{time_dim}
 use Rattle.cube_view.specs.Points.{Point, spot_of, heaviest}
 use Rattle.cube_view.specs.Validity.{sound}
 use Rattle.cube_view.specs.declared.schema.Schema.{Schema}
-use Rattle.cube_view.proofs.Walking.{Contains-cases}
+use Rattle.cube_view.proofs.FinerWalks.{Contains-cases}
 use Rattle.group_insert.specs.InsertingAll.{CanInsertAll, HasInserted, InsertsAll, IsInsertableAll}
 use Rattle.node_arena.specs.Amounts.{Weighted, spots_in}
 use Rattle.node_arena.specs.Shape.{HasShape}

@@ -12,7 +12,7 @@ use Rattle.cube_view.proofs.Amounts.{amount-append}
 use Rattle.cube_store.specs.Holding.{CubeCounts}
 use Rattle.cube_store.specs.Reading.{spot_weight}
 use Rattle.cube_store.specs.declared.cube.Cube.{Cube}
-use Rattle.cube_store.proofs.Bagging.{Counts-points}
+use Rattle.cube_store.proofs.CubeBags.{Counts-points}
 
 abbrev weight_in : Cube → Spot → ℕ
 weight_in cube = spot_weight cube.schema cube.arena

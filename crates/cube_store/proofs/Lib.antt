@@ -1,4 +1,4 @@
-pub mod Bagging
+pub mod CubeBags
 pub mod Batches
 pub mod Costs
 pub mod DistinctNumbers
@@ -10,7 +10,7 @@ pub mod ListAmounts
 pub mod PointLists
 pub mod Numbers
 pub mod AddressSteps
-pub mod Rising
+pub mod PairOrder
 pub mod RootCalls
 pub mod Cursors
 pub mod SpotPaths

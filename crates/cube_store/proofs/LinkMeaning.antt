@@ -12,9 +12,9 @@ use Rattle.cube_view.specs.declared.address.Address.{Address}
 use Rattle.cube_view.specs.declared.schema.Schema.{Schema}
 use Rattle.cube_view.specs.declared.spot.Spot.{Spot}
 use Rattle.cube_view.proofs.Alike.{Counts-same}
-use Rattle.cube_view.proofs.Stepping.{steps_tell_spots}
-use Rattle.cube_view.proofs.Walking.{under_before, dimension-finer}
-use Rattle.cube_view.proofs.Weighing.{sound-weighs}
+use Rattle.cube_view.proofs.AddressSpots.{steps_tell_spots}
+use Rattle.cube_view.proofs.FinerWalks.{under_before, dimension-finer}
+use Rattle.cube_view.proofs.PointWeights.{sound-weighs}
 use Rattle.node_arena.specs.Amounts.{amount_under}
 use Rattle.node_arena.specs.Shape.{IsShaped, home_of}
 use Rattle.node_arena.specs.Slots.{Slot, children_of, count, is_table, link_of, reached, follow, slot_of, target, walk_end}
@@ -23,9 +23,9 @@ use Rattle.node_arena.specs.declared.link.Link.{Link}
 use Rattle.node_arena.proofs.Walks.{walk_coarser, walk-lt, walk_counts, walk_reaches, walk_only}
 use Rattle.cube_store.specs.Counted.{CountsPoints}
 use Rattle.cube_store.specs.Reading.{IsWalkAddress, StandsAt, spot_weight}
-use Rattle.cube_store.proofs.Bagging.{points_of_schema, Counts-points}
+use Rattle.cube_store.proofs.CubeBags.{points_of_schema, Counts-points}
 use Rattle.node_arena.proofs.Labels.{link_down, IsFirstFrom, child_from-none}
-use Rattle.proper_path.proofs.Leaving.{under-down, under-across, under-top}
+use Rattle.proper_path.proofs.SpotRemainders.{under-down, under-across, under-top}
 use Rattle.group_insert.proofs.GroupParts.{spot_is_of, spot_of_point}
 use Rattle.cube_store.proofs.ListAmounts.{amount-contained, amount-failing, All-contained}
 use Rattle.cube_store.proofs.AddressSteps.{dimension-steps_of, level-steps_of}

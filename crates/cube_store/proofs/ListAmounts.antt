@@ -4,8 +4,8 @@ use Rattle.cube_view.specs.Bag.{amount}
 use Rattle.cube_view.specs.Points.{Point, spot_of, weight_of_point}
 use Rattle.cube_view.specs.declared.spot.Spot.{Spot}
 use Rattle.cube_view.proofs.Amounts.{amount-nil, amount-cons, gives-no}
-use Rattle.cube_view.proofs.Walking.{Contains-cons, Contains-head}
-use Rattle.cube_view.proofs.Weighing.{amount-some}
+use Rattle.cube_view.proofs.FinerWalks.{Contains-cons, Contains-head}
+use Rattle.cube_view.proofs.PointWeights.{amount-some}
 
 -- a point of the list that passes and weighs something
 pub amount-contained : (q : Spot → Bool) (h : List Point) (p : Point) → Contains h p → 0 < weight_of_point p → q (spot_of p) ≡ true → 0 < amount q h

@@ -13,7 +13,7 @@ use Rattle.node_arena.specs.Stats.{stat_of, AllRising}
 use Rattle.node_arena.proofs.LinkCounts.{total_tells}
 use Rattle.cube_store.specs.Counted.{HasPoints}
 use Rattle.cube_store.specs.Numbers.{is_in_memory, lone_root, cube_numbers, OwnsAllButRoot}
-use Rattle.cube_store.proofs.Rising.{rises_from_test, test_from_rises, list_all-from, list_all-to}
+use Rattle.cube_store.proofs.PairOrder.{rises_from_test, test_from_rises, list_all-from, list_all-to}
 use Rattle.proper_path.specs.Paths.{paths_of}
 
 abbrev in_order : Slot → Bool

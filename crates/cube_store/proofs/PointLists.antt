@@ -11,8 +11,8 @@ use Rattle.cube_view.specs.Points.{Point, spot_of, heaviest}
 use Rattle.cube_view.specs.Validity.{sound}
 use Rattle.cube_view.specs.Walks.{Walk, SpotPath, under}
 use Rattle.cube_view.specs.declared.schema.Schema.{Schema}
-use Rattle.cube_view.proofs.Walking.{Contains-cases, Contains-cons, Contains-head}
-use Rattle.cube_view.proofs.Weighing.{sound-light}
+use Rattle.cube_view.proofs.FinerWalks.{Contains-cases, Contains-cons, Contains-head}
+use Rattle.cube_view.proofs.PointWeights.{sound-light}
 use Rattle.node_arena.specs.Amounts.{Weighted, spots_in, amount_under}
 use Rattle.node_arena.specs.Shape.{home_of, HasShape}
 use Rattle.node_arena.specs.Slots.{Slot}

@@ -3,7 +3,7 @@ use Rattle.std.proofs.Common.{◌≡◌, ℕ, ◌<◌, List, [], ◌∷◌, map,
 use Rattle.std.proofs.Math.Logic.{∥∥₁_map}
 use Rattle.std.proofs.lemmas.List.{length-map}
 use Rattle.cube_view.specs.Walks.{Walk, SpotPath, Cursor, after_across, cursor, Under, dimension}
-use Rattle.cube_view.proofs.Walking.{Contains-cases}
+use Rattle.cube_view.proofs.FinerWalks.{Contains-cases}
 use Rattle.node_arena.specs.Amounts.{Weighted, spots_in}
 use Rattle.node_arena.specs.Slots.{Slot}
 use Rattle.node_arena.specs.Shape.{home_of, AreAlike}
@@ -11,7 +11,7 @@ use Rattle.proper_path.specs.Making.{IsSpotOf, AllOfShape}
 use Rattle.proper_path.specs.Rooted.{state}
 use Rattle.point_insert.specs.Known.{IsEnterable, CanEnter}
 use Rattle.point_insert.specs.Visited.{VisitsAll}
-use Rattle.point_insert.proofs.Entering.{enters_root}
+use Rattle.point_insert.proofs.TrailVisits.{enters_root}
 use Rattle.cube_store.specs.Inserting.{IsInsertable, CanInsert, Inserts}
 use Rattle.cube_store.proofs.RootShape.{at_start, shape_after}
 

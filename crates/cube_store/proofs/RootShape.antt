@@ -8,7 +8,7 @@ use Rattle.node_arena.specs.Slots.{target, shared, proper, Slot, node, table, ch
 use Rattle.node_arena.specs.Shape.{home_of, IsLinked, SharesContent, SharesOnlyContent, IsShaped, AreAlike, HasShape}
 use Rattle.proper_path.specs.Midway.{SharesBetween, HasTwoChildren, HaveTwoChildren, DoneBefore, DoneAfter, IsMidway}
 use Rattle.proper_path.specs.Making.{State, home, AllOfShape}
-use Rattle.cube_view.proofs.Walking.{under_before}
+use Rattle.cube_view.proofs.FinerWalks.{under_before}
 use Rattle.node_arena.proofs.Links.{linked-lt}
 use Rattle.point_insert.proofs.Cases.{HasAnyChild, starts, shape_ends, old_child}
 use Rattle.proper_path.proofs.Steps.{Between}

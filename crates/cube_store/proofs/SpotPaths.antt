@@ -10,7 +10,7 @@ use Rattle.cube_view.specs.Validity.{fits, tile_fits, values_fit}
 use Rattle.cube_view.specs.declared.category.Category.{Category}
 use Rattle.cube_view.specs.declared.schema.Schema.{Schema}
 use Rattle.cube_view.specs.declared.spot.Spot.{Spot}
-use Rattle.cube_view.proofs.Shifting.{bit_more, by_one}
+use Rattle.cube_view.proofs.LevelShifts.{bit_more, by_one}
 use Rattle.proper_path.proofs.Labels.{path_at-point_path, get_or-path_of}
 use Rattle.cube_store.specs.Reading.{is_countable}
 

@@ -14,12 +14,12 @@ use Rattle.cube_view.proofs.Amounts.{amount-nil, amount-cons}
 use Rattle.time_table.specs.Counts.{BinCounts, AllCounted, count_of, count_before, amount_at}
 use Rattle.time_table.proofs.AddLaws.{count_before-add_many, count_before-empty}
 use Rattle.time_table.proofs.CountLaws.{same_counts}
-use Rattle.time_table.proofs.Summed.{gathered, count_of-gathered, AllCounted-gathered}
+use Rattle.time_table.proofs.AmountTables.{gathered, count_of-gathered, AllCounted-gathered}
 use Rattle.node_arena.specs.Amounts.{Weighted, amount_under}
 use Rattle.proper_path.specs.Paths.{point_path, paths_of}
 use Rattle.cube_store.specs.Reading.{IsWalkAddress}
 use Rattle.cube_store.proofs.LinkMeaning.{under-steps}
-use Rattle.proper_path.proofs.Leaving.{turned}
+use Rattle.proper_path.proofs.SpotRemainders.{turned}
 use Rattle.cube_store.proofs.SpotPaths.{IsOfSchema}
 
 -- the spot lies under the address in the bin

@@ -1,9 +1,10 @@
 -- What the limits of a schema say of its numbers.
-use Rattle.std.proofs.Common.{◌≡◌, ℕ, ◌≤◌, ◌&&◌, true, nat_le, length}
+use Rattle.std.proofs.Common.{◌≡◌, ℕ, ◌<◌, ◌≤◌, ◌&&◌, true, nat_le, length, refl, arith}
 use Rattle.std.specs.List.{list_all}
-use Rattle.std.proofs.lemmas.Bool.{and_parts, leb-true}
+use Rattle.std.proofs.lemmas.Bool.{and_parts, leb-true, ne_eqb, lt-ltb}
 use Rattle.cube_view.specs.declared.schema.Schema.{Schema}
 use Rattle.cube_view.specs.Limits.{is_between, category_in_range, numbers_in_range, categories_in_range, weight_in_range, parts_in_range, texts_distinct}
+use Rattle.cube_view.specs.Places.{deepest, time_dim}
 
 -- a number between two bounds is from the first on
 pub between_low : (low high n : ℕ) → is_between low high n ≡ true → low ≤ n
@@ -36,3 +37,7 @@ depth_bounds z =
 -- there are at most 4 categories
 pub few_categories : (z : Schema) → length z.categories ≤ 4
 few_categories z = leb-true (length z.categories) 4 (and_parts (nat_le (length z.categories) 4) (list_all category_in_range z.categories) (categories-limits z)).0
+
+-- a category has one level
+pub deepest_category : (z : Schema) (dim : ℕ) → 2 ≤ dim → dim < time_dim z → deepest z dim ≡ 1
+deepest_category z dim low high = rw (ne_eqb dim 1 (λ e. omega (arith, e, low)), lt-ltb dim (time_dim z) high) refl

@@ -6,7 +6,7 @@ use Rattle.cube_view.specs.Places.{shifted, bit_at, is_under, is_below, longer, 
 use Rattle.cube_view.specs.declared.address.Tile.{Tile}
 use Rattle.cube_view.specs.declared.schema.Schema.{Schema}
 use Rattle.cube_view.specs.declared.spot.Spot.{Spot}
-use Rattle.cube_view.proofs.Shifting.{bit_more, shifted_up, low_bit, high_bit, bits_of_label, by_one}
+use Rattle.cube_view.proofs.LevelShifts.{bit_more, shifted_up, low_bit, high_bit, bits_of_label, by_one}
 
 -- the tile of the next level is longer by its label
 pub longer-tile_label : (t : Tile) (i : ℕ) → i < t.z → longer (region_address (tile_at t i)) (tile_label t (i + 1)) ≡ region_address (tile_at t (i + 1))

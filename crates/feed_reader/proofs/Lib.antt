@@ -9,7 +9,7 @@ pub mod FirstFault
 pub mod ValidRows
 pub mod FeedStart
 pub mod FeedLaws
-pub mod Stepping
+pub mod CutterLines
 pub mod AcceptedPoints
 pub mod FewPoints
 pub mod RowLists

@@ -5,7 +5,7 @@ use Rattle.std.proofs.lemmas.List.{get_or_append_left, get_or_push, length_push}
 use Rattle.std.proofs.lemmas.List.Elements.{All-push}
 use Rattle.std.proofs.lemmas.List.Quantifiers.{all_pairs_push}
 use Rattle.cube_view.specs.Walks.{Step, down, Walk, SpotPath, Under, HasSpot}
-use Rattle.cube_view.proofs.Walking.{under_before}
+use Rattle.cube_view.proofs.FinerWalks.{under_before}
 use Rattle.node_arena.specs.Amounts.{Weighted, spots_in}
 use Rattle.node_arena.specs.Shape.{home_of, IsLinked}
 use Rattle.node_arena.specs.Slots.{Slot}

@@ -4,7 +4,7 @@ use Rattle.std.proofs.lemmas.Bool.{cases_lt}
 use Rattle.std.proofs.lemmas.List.{get_or_push, length_push, map-append}
 use Rattle.std.proofs.lemmas.List.Elements.{Contains-append_left}
 use Rattle.cube_view.specs.Walks.{Step, down, across, Walk, SpotPath, Under, HasSpot, IsCoarser, dimension}
-use Rattle.cube_view.proofs.Walking.{step_across_finer, under_before, finer-refl, finer-step, finer-trans}
+use Rattle.cube_view.proofs.FinerWalks.{step_across_finer, under_before, finer-refl, finer-step, finer-trans}
 use Rattle.node_arena.specs.Amounts.{Weighted, spots_in}
 use Rattle.node_arena.specs.Shape.{home_of}
 use Rattle.node_arena.specs.Slots.{target, Slot, walk_end, follow, reached}

@@ -1,7 +1,7 @@
 -- The finer walk of a link that is put off: from the base down the turn, and then the node's own way.
 use Rattle.std.proofs.Common.{◌≡◌, ℕ, ◌<◌, Bool, true, false, List, [], ◌∷◌, ◌++◌, Option, Some, Contains, is_some, length, refl, sym, ap, ◌∙◌, subst, append_assoc, arith}
 use Rattle.cube_view.specs.Walks.{down, across, Walk, SpotPath, Cursor, after_across, then_step, cursor, Under, Finer, top, by_down, by_across, longer, IsCoarser, dimension}
-use Rattle.cube_view.proofs.Walking.{begun, later_kept, under-some, coarser_under, finer-refl, loosen, finer-step, finer-trans}
+use Rattle.cube_view.proofs.FinerWalks.{begun, later_kept, under-some, coarser_under, finer-refl, loosen, finer-step, finer-trans}
 use Rattle.node_arena.specs.Shape.{home_of, HasHomes, HoldsSpots}
 use Rattle.node_arena.specs.Slots.{shared, Slot, walk_end}
 use Rattle.node_arena.proofs.Walks.{link_coarser, target-lt, last_step}

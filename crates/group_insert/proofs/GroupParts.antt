@@ -5,11 +5,11 @@ use Rattle.cube_view.specs.Places.{time_dim, deepest}
 use Rattle.cube_view.specs.Points.{Point, spot_of}
 use Rattle.cube_view.specs.Walks.{Step, down, across, Walk, SpotPath, under, Under, dimension}
 use Rattle.cube_view.specs.declared.schema.Schema.{Schema}
-use Rattle.cube_view.proofs.Walking.{under_before, Contains-head, Contains-cons, Contains-cases}
+use Rattle.cube_view.proofs.FinerWalks.{under_before, Contains-head, Contains-cons, Contains-cases}
 use Rattle.node_arena.specs.Amounts.{spots_in}
 use Rattle.group_insert.specs.Labels.{label_at, points_at}
 use Rattle.group_insert.specs.Parts.{part_of}
-use Rattle.proper_path.proofs.Leaving.{under-down, under-across}
+use Rattle.proper_path.proofs.SpotRemainders.{under-down, under-across}
 use Rattle.proper_path.specs.Paths.{level_of, paths_of}
 
 -- a filter of a filter, where the finer test says so

@@ -3,7 +3,7 @@ use Rattle.std.proofs.Common.{◌≡◌, ℕ, ◌<◌, ◌≤◌, Bool, true, fa
 use Rattle.std.proofs.lemmas.Bool.{cases_lt}
 use Rattle.std.proofs.lemmas.List.Elements.{All-contains}
 use Rattle.cube_view.specs.Walks.{Step, down, across, Walk, SpotPath, Under, HasSpot, dimension}
-use Rattle.cube_view.proofs.Walking.{under_before}
+use Rattle.cube_view.proofs.FinerWalks.{under_before}
 use Rattle.node_arena.specs.Amounts.{Weighted, spots_in}
 use Rattle.node_arena.specs.Shape.{home_of, HasOneChild, SharesContent}
 use Rattle.node_arena.specs.Slots.{proper, shared, target, Slot, link_of, slot_of, is_table}

@@ -3,7 +3,7 @@ use Rattle.std.proofs.Common.{◌≡◌, ℕ, ◌<◌, true, false, ◌⊎◌, i
 use Rattle.std.proofs.lemmas.Bool.{cases_eq}
 use Rattle.std.proofs.lemmas.List.{get_or_push, length_push}
 use Rattle.cube_view.specs.Walks.{Step, down, across, Walk, SpotPath, HasSpot, dimension}
-use Rattle.cube_view.proofs.Walking.{under_before}
+use Rattle.cube_view.proofs.FinerWalks.{under_before}
 use Rattle.node_arena.specs.Calls.{put, relink, put_child, set_child}
 use Rattle.node_arena.proofs.Links.{linked-lt}
 use Rattle.node_arena.specs.Amounts.{Weighted, spots_in}

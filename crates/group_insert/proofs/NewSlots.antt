@@ -1,7 +1,7 @@
 -- The slots that may be added while a group is inserted: an empty one, and the copy of a target that is not visited yet.
 use Rattle.std.proofs.Common.{◌≡◌, ℕ, ◌<◌, true, inr, ◌↔◌, List, ◌∷◌, ◌++◌, Some, None, length, sym, ◌∙◌}
 use Rattle.cube_view.specs.Walks.{Step, Walk, HasSpot, dimension}
-use Rattle.cube_view.proofs.Walking.{step_across_finer, under_before}
+use Rattle.cube_view.proofs.FinerWalks.{step_across_finer, under_before}
 use Rattle.node_arena.specs.Amounts.{Weighted, spots_in}
 use Rattle.node_arena.specs.Calls.{copied}
 use Rattle.node_arena.specs.Shape.{home_of, HasHomes}

@@ -7,7 +7,7 @@ use Rattle.cube_view.specs.Places.{time_dim, deepest}
 use Rattle.cube_view.specs.Points.{Point, spot_of, weight_of_point}
 use Rattle.cube_view.specs.Walks.{down, Walk, SpotPath, cursor, under, Under, HasSpot, dimension}
 use Rattle.cube_view.specs.declared.schema.Schema.{Schema}
-use Rattle.cube_view.proofs.Walking.{under_before, under-some, begun, Contains-head}
+use Rattle.cube_view.proofs.FinerWalks.{under_before, under-some, begun, Contains-head}
 use Rattle.node_arena.specs.Amounts.{Weighted, spots_in, amount_under}
 use Rattle.node_arena.specs.Shape.{home_of, IsLinked}
 use Rattle.node_arena.specs.Slots.{Slot, link_of, slot_of, is_table, count, counts_of}
@@ -27,7 +27,7 @@ use Rattle.group_insert.specs.declared.way.Way.{Way}
 use Rattle.group_insert.specs.Visits.{HasTwoLabels, HasOneLabel}
 use Rattle.group_insert.proofs.GroupTable.{table_visited}
 use Rattle.group_insert.proofs.Earlier.{earlier-irreflexive}
-use Rattle.proper_path.proofs.Leaving.{left, under-down, went_down}
+use Rattle.proper_path.proofs.SpotRemainders.{left, under-down, went_down}
 use Rattle.group_insert.proofs.GroupParts.{of_part, in_part, spot_is_of, spot_of_point}
 
 -- a spot of the group that goes down a label is that of a point of the part with that label ..

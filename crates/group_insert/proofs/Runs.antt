@@ -12,7 +12,7 @@ use Rattle.time_table.proofs.Runs.{total_count-add_run}
 use Rattle.node_arena.specs.Slots.{Slot, node, table, empty_node, slot_of, counts_of, is_table}
 use Rattle.node_arena.specs.Calls.{with_run, table_add_many, table_add_run}
 use Rattle.arena_undo.proofs.RunTrail.{run_none, table_add_run-cons}
-use Rattle.proper_path.proofs.Leaving.{turned}
+use Rattle.proper_path.proofs.SpotRemainders.{turned}
 use Rattle.arena_undo.proofs.Backward.{slot-set}
 use Rattle.proper_path.specs.Changes.{IsAdded}
 use Rattle.group_insert.specs.Added.{IsOneBin, IsRunOf, amount_in, part_weight}

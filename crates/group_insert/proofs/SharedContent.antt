@@ -1,7 +1,7 @@
 -- A node with one child shares that child's content, also while a group is inserted: a link of an open node changes.
 use Rattle.std.proofs.Common.{◌≡◌, ℕ, ◌<◌, ◌⊎◌, inl, inr, List, ◌∷◌, Some, All, length, refl, sym, ap, ◌∙◌, subst, subst₂, arith}
 use Rattle.cube_view.specs.Walks.{Step, down, across, Walk, HasSpot, IsCoarser, dimension}
-use Rattle.cube_view.proofs.Walking.{coarser_under, under_before, dimension-finer}
+use Rattle.cube_view.proofs.FinerWalks.{coarser_under, under_before, dimension-finer}
 use Rattle.node_arena.specs.Amounts.{Weighted, spots_in}
 use Rattle.node_arena.specs.Calls.{copied, share}
 use Rattle.node_arena.specs.Shape.{home_of, HasHomes, IsLinked, HasOneChild, SharesContent}

@@ -4,7 +4,7 @@ use Rattle.std.proofs.lemmas.List.{map-append, length-map}
 use Rattle.std.proofs.lemmas.List.Elements.{Contains-append_right, Contains-append_cases}
 use Rattle.std.proofs.lemmas.List.Sums.{sum_by-append}
 use Rattle.cube_view.specs.Walks.{Step, Walk, SpotPath, under, Under, HasSpot}
-use Rattle.cube_view.proofs.Walking.{under_before, Contains-head, Contains-cons, Contains-cases}
+use Rattle.cube_view.proofs.FinerWalks.{under_before, Contains-head, Contains-cons, Contains-cases}
 use Rattle.node_arena.specs.Amounts.{Weighted, spots_in, amount_under}
 use Rattle.node_arena.specs.Shape.{home_of, IsLinked, SharesContent, SharesOnlyContent, IsShaped, AreAlike, HasShape}
 use Rattle.node_arena.specs.Slots.{target, Slot, link_of, slot_of, is_table, count}

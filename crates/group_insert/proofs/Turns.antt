@@ -13,7 +13,7 @@ use Rattle.proper_path.specs.Order.{IsAbove}
 use Rattle.proper_path.specs.Paths.{level_of, paths_of}
 use Rattle.proper_path.proofs.Above.{under_above}
 use Rattle.proper_path.proofs.Homes.{IsFree}
-use Rattle.proper_path.proofs.Leaving.{under-down}
+use Rattle.proper_path.proofs.SpotRemainders.{under-down}
 use Rattle.proper_path.proofs.Order.{above-step}
 use Rattle.group_insert.specs.FinerWalk.{LeadsFiner, no_link, same_end}
 use Rattle.group_insert.specs.Halfway.{IsHalfway}

@@ -6,7 +6,7 @@ use Rattle.cube_view.specs.Points.{Point, spot_of}
 use Rattle.cube_view.specs.Walks.{Step, down, across, Walk, SpotPath, Under, HasSpot, dimension}
 use Rattle.cube_view.specs.declared.schema.Schema.{Schema}
 use Rattle.cube_view.proofs.SchemaBounds.{few_categories}
-use Rattle.cube_view.proofs.Walking.{Contains-head, Contains-cons, Contains-cases}
+use Rattle.cube_view.proofs.FinerWalks.{Contains-head, Contains-cons, Contains-cases}
 use Rattle.node_arena.specs.Amounts.{Weighted, spots_in}
 use Rattle.node_arena.specs.Shape.{home_of}
 use Rattle.node_arena.specs.Slots.{Slot, empty_node, slot_of, is_table}
@@ -21,7 +21,7 @@ use Rattle.proper_path.specs.Stepped as stepped
 use Rattle.proper_path.proofs.Dims.{goes_across}
 use Rattle.proper_path.proofs.Grow.{node_empty}
 use Rattle.proper_path.proofs.Steps.{IsPlaced, makes_placed}
-use Rattle.proper_path.proofs.Trailing.{node_before}
+use Rattle.proper_path.proofs.TrailSteps.{node_before}
 use Rattle.group_insert.specs.Halfway.{IsHalfwayBefore, IsHalfwayAfter}
 use Rattle.group_insert.specs.InsertingAll.{IsInsertableAll, InsertsAll}
 use Rattle.group_insert.specs.Labels.{HasLabel, IsLeastFrom, points_at, label_at}
@@ -33,7 +33,7 @@ use Rattle.group_insert.specs.declared.way.Way.{Way}
 use Rattle.node_arena.specs.declared.link.SlotId.{SlotId}
 use Rattle.group_insert.specs.Visits.{ArePoints, IsAmong}
 use Rattle.group_insert.proofs.Among.{content_at, among_content, label_at_child}
-use Rattle.proper_path.proofs.Leaving.{under-top}
+use Rattle.proper_path.proofs.SpotRemainders.{under-top}
 use Rattle.group_insert.proofs.Routes.{on_way_kept, on_way_across, on_way_down}
 use Rattle.group_insert.proofs.Ways.{way_in_space}
 use Rattle.group_insert.proofs.GroupParts.{part_down, part_across, spot_is_of}

@@ -10,10 +10,10 @@ use Rattle.cube_view.specs.Points.{Point, spot_of, weight_of_point, heaviest}
 use Rattle.cube_view.specs.Validity.{sound, weight_is_told, valid}
 use Rattle.cube_view.specs.Walks.{Walk, SpotPath, under}
 use Rattle.cube_view.specs.declared.schema.Schema.{Schema}
-use Rattle.cube_view.proofs.Walking.{Contains-cases}
-use Rattle.cube_view.proofs.Weighing.{sound-fits, sound-weighs, sound-light}
+use Rattle.cube_view.proofs.FinerWalks.{Contains-cases}
+use Rattle.cube_view.proofs.PointWeights.{sound-fits, sound-weighs, sound-light}
 use Rattle.time_table.specs.Counts.{BinCounts, AllCounted, count_of}
-use Rattle.time_table.proofs.Passing.{nothing}
+use Rattle.time_table.proofs.KeySums.{nothing}
 use Rattle.node_arena.specs.Amounts.{Weighted, spots_in, amount_under}
 use Rattle.node_arena.specs.Shape.{home_of}
 use Rattle.node_arena.specs.Slots.{Slot, node, table, empty_node, is_table, slot_of, counts_of, count}

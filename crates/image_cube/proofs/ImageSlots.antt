@@ -10,10 +10,10 @@ use Rattle.cube_view.specs.Points.{Point, spot_of, weight_of_point, heaviest}
 use Rattle.cube_view.specs.Validity.{sound}
 use Rattle.cube_view.specs.Walks.{down, across, Walk, under}
 use Rattle.cube_view.specs.declared.schema.Schema.{Schema}
-use Rattle.cube_view.proofs.Weighing.{sound-light}
+use Rattle.cube_view.proofs.PointWeights.{sound-light}
 use Rattle.time_table.specs.Counts.{AllCounted, count_of}
 use Rattle.time_table.proofs.Entries.{find_here, find_later, find_before}
-use Rattle.time_table.proofs.Passing.{counted_at}
+use Rattle.time_table.proofs.KeySums.{counted_at}
 use Rattle.node_arena.specs.declared.link.Link.{Link}
 use Rattle.node_arena.specs.Amounts.{amount_under}
 use Rattle.node_arena.specs.Shape.{home_of}

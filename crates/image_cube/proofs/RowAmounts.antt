@@ -12,8 +12,8 @@ use Rattle.time_table.specs.Counts.{BinCounts, AllCounted, add_many, count_of, a
 use Rattle.time_table.specs.Places.{count_at}
 use Rattle.time_table.proofs.CountLaws.{same_counts, total_count-same}
 use Rattle.time_table.proofs.Entries.{find_here, find_later, find_before, put_first, put_here, put_later}
-use Rattle.time_table.proofs.Passing.{first_part, second_part, find_below, nothing}
-use Rattle.time_table.proofs.Summed.{gathered, count_of-gathered, AllCounted-gathered}
+use Rattle.time_table.proofs.KeySums.{first_part, second_part, find_below, nothing}
+use Rattle.time_table.proofs.AmountTables.{gathered, count_of-gathered, AllCounted-gathered}
 use Rattle.node_arena.specs.Amounts.{Weighted, amount_under}
 use Rattle.shape_test.specs.Wholes.{spot_at}
 use Rattle.shape_test.proofs.Core.{amount-cons}

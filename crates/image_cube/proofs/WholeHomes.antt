@@ -4,7 +4,7 @@ use Rattle.std.proofs.lemmas.Bool.{and_parts}
 use Rattle.std.proofs.lemmas.List.{nil_from_length}
 use Rattle.std.proofs.lemmas.List.Elements.{All-nil, All-cons}
 use Rattle.cube_view.specs.Walks.{Walk, SpotPath, Cursor, cursor, after_across, under, Under, dimension}
-use Rattle.cube_view.proofs.Walking.{under-some, Contains-head, Contains-cons}
+use Rattle.cube_view.proofs.FinerWalks.{under-some, Contains-head, Contains-cons}
 use Rattle.node_arena.specs.Amounts.{Weighted, spots_in}
 use Rattle.node_arena.specs.Shape.{home_of, HasShape}
 use Rattle.node_arena.specs.Slots.{Slot, IsTable, is_table, slot_of, walk_end}

@@ -4,7 +4,7 @@ use Rattle.std.proofs.lemmas.List.{map-append}
 use Rattle.std.proofs.lemmas.List.Elements.{Contains-append_cases}
 use Rattle.std.proofs.lemmas.List.Sums.{sum_by-cons}
 use Rattle.cube_view.specs.Walks.{Walk, SpotPath, under, Under, HasSpot}
-use Rattle.cube_view.proofs.Walking.{Contains-cons, Contains-head, iff_same}
+use Rattle.cube_view.proofs.FinerWalks.{Contains-cons, Contains-head, iff_same}
 use Rattle.node_arena.specs.Amounts.{Weighted, spots_in, amount_under}
 
 -- the sums of two functions that agree

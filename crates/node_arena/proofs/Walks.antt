@@ -5,7 +5,7 @@ use Rattle.cube_view.specs.Walks.{Step, down, across, Walk, SpotPath, Under, top
 use Rattle.node_arena.specs.Slots.{proper, shared, target, Slot, is_table, link_of, slot_of, count, reached, follow, walk_end}
 use Rattle.node_arena.specs.Shape.{home_of, HasHomes, IsShaped}
 use Rattle.node_arena.specs.Reach.{AreCoarser, IsWalked, count_reached, weight_at, TellsWalks, TellsWeights}
-use Rattle.cube_view.proofs.Walking.{finer-refl, finer-step, finer-trans, coarser_under, step_across_finer, under_before, dimension-finer}
+use Rattle.cube_view.proofs.FinerWalks.{finer-refl, finer-step, finer-trans, coarser_under, step_across_finer, under_before, dimension-finer}
 use Rattle.node_arena.specs.Amounts.{Weighted, spots_in, amount_under}
 use Rattle.node_arena.proofs.AddressAmounts.{amount_along, amount-none}
 use Rattle.node_arena.proofs.Links.{linked-lt, link_cases}

@@ -2,7 +2,7 @@
 use Rattle.std.proofs.Common.{◌≡◌, ℕ, List, [], ◌∷◌, ◌++◌, map, sym, ◌∙◌, ap, subst}
 use Rattle.std.proofs.lemmas.List.{map-append}
 use Rattle.outer_io.specs.Faults.{Rose}
-use Rattle.run_files.proofs.Returning.{takes_more, takes_none}
+use Rattle.run_files.proofs.SourceReturns.{takes_more, takes_none}
 use Rattle.run_files.specs.GivingBack.{TakesSources}
 use Rattle.run_files.specs.Outside.{PlaceSeen}
 

@@ -6,8 +6,8 @@ use Rattle.std.specs.Result.{result_err}
 use Rattle.cube_schema.specs.Files.{input_names, output_names}
 use Rattle.cube_schema.specs.declared.plan.Plan.{Plan}
 use Rattle.outer_io.specs.Faults.{Rose}
-use Rattle.run_files.proofs.Putting.{silent_after, silent_itself}
-use Rattle.run_files.proofs.Returning.{leaves_given_back}
+use Rattle.run_files.proofs.SinkPuts.{silent_after, silent_itself}
+use Rattle.run_files.proofs.SourceReturns.{leaves_given_back}
 use Rattle.run_files.proofs.Stages.{all_opened, fails_at, fails_on, leaves_more, leaves_reading, leaves_then, nothing_made}
 use Rattle.run_files.specs.GivingBack.{TakesSources}
 use Rattle.run_files.specs.Headed.{HasHeader, OpensFeeds}
@@ -17,7 +17,7 @@ use Rattle.run_files.specs.Planned.{ReadsPlan}
 use Rattle.run_files.specs.Scripted.{OpensScripts}
 use Rattle.run_files.specs.declared.stop.Stop.{Stop}
 use Rattle.run_files.specs.declared.stop.Stop.TheVariants.{NoMemory, PlanRefused, ReadFault, WriteFault, FeedRefused}
-use Rattle.plan_run.proofs.Putting.{order_not_plan, order_on, order_silent}
+use Rattle.plan_run.proofs.OpenOrder.{order_not_plan, order_on, order_silent}
 use Rattle.plan_run.specs.Opening.{OpensFiles, OpensRun, plan_in}
 
 -- what ends a run with its plan

@@ -8,7 +8,7 @@ use Rattle.node_arena.specs.Slots.{proper, target, Slot, link_of, slot_of, count
 use Rattle.node_arena.specs.Shape.{home_of, HasHomes, HoldsSpots, IsLinked, HasOneChild, IsShaped}
 use Rattle.proper_path.specs.Making.{AllOfShape}
 use Rattle.proper_path.specs.Midway.{LeadsOn, IsGrowing, IsMidway}
-use Rattle.cube_view.proofs.Walking.{coarser_under, under_before, Contains-cons, Contains-cases, begun, under-some, loosen, finer_cursor, finer-trans}
+use Rattle.cube_view.proofs.FinerWalks.{coarser_under, under_before, Contains-cons, Contains-cases, begun, under-some, loosen, finer_cursor, finer-trans}
 use Rattle.node_arena.proofs.Links.{linked-lt}
 use Rattle.proper_path.proofs.Homes.{IsFree}
 use Rattle.node_arena.proofs.Walks.{link_coarser, target-lt}

@@ -1,11 +1,11 @@
-pub mod Stacked
+pub mod TrailStacks
 pub mod Cases
-pub mod Entering
-pub mod Filling
+pub mod TrailVisits
+pub mod NodeContents
 pub mod Light
-pub mod Spending
+pub mod ChangeAllowance
 pub mod Totals
-pub mod Updating
-pub mod Visiting
+pub mod PlaceSets
+pub mod VisitCalls
 pub mod Visits
 pub mod Whole

@@ -6,7 +6,7 @@ use Rattle.std.proofs.lemmas.Bool.{cases_order, eq-eqb, ne_eqb, eqb-true}
 use Rattle.std.proofs.lemmas.List.Sums.{sum_by-cons, sum-map}
 use Rattle.time_table.specs.Counts.{BinCounts, count_of, total_count}
 use Rattle.time_table.proofs.Entries.{find_here, find_later, find_before}
-use Rattle.time_table.proofs.Passing.{first_part, second_part, below}
+use Rattle.time_table.proofs.KeySums.{first_part, second_part, below}
 
 abbrev count_at : ℕ → List (ℕ × ℕ) → ℕ
 count_at k es = unwrap_or (find nat_cmp k es) 0

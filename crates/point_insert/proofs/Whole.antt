@@ -11,7 +11,7 @@ use Rattle.proper_path.specs.Making.{State, home, IsSpotOf, AllOfShape, Keeps}
 use Rattle.proper_path.specs.Trails.{IsTrailLink}
 use Rattle.point_insert.specs.Ending.{Ends, HasNotOneChild}
 use Rattle.point_insert.specs.Visited.{HasPathChild, IsEntered}
-use Rattle.cube_view.proofs.Walking.{under_before, Contains-cases}
+use Rattle.cube_view.proofs.FinerWalks.{under_before, Contains-cases}
 use Rattle.node_arena.proofs.Labels.{same_down}
 use Rattle.proper_path.proofs.Above.{under_above}
 use Rattle.proper_path.proofs.Links.{table_link}

@@ -1,3 +1,3 @@
 pub mod BitLaws
 pub mod Digits
-pub mod Searching
+pub mod BinarySearch

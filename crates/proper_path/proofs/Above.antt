@@ -1,7 +1,7 @@
 -- What finer, above and before say of the spots under an address.
 use Rattle.std.proofs.Common.{◌≡◌, ℕ, Bool, true, false, ◌∷◌, Some, refl, ap, subst, is_some}
 use Rattle.cube_view.specs.Walks.{down, across, Walk, SpotPath, Cursor, cursor, Under, Finer, top, by_down, by_across, longer}
-use Rattle.cube_view.proofs.Walking.{under_before}
+use Rattle.cube_view.proofs.FinerWalks.{under_before}
 use Rattle.proper_path.specs.Order.{IsAbove, itself, further, IsBefore}
 
 pub some-under : (q : SpotPath) (a : Walk) (c : Cursor) → cursor q a ≡ Some c → Under q a

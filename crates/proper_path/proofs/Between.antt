@@ -7,7 +7,7 @@ use Rattle.node_arena.specs.Calls.{copied}
 use Rattle.node_arena.specs.Shape.{home_of, HasHomes, HasTables}
 use Rattle.proper_path.specs.Midway.{IsContentHome, IsVisited, CountsBetween, HasUpdated, IsGrowing, IsMidway}
 use Rattle.proper_path.specs.Changes.{IsGrown}
-use Rattle.cube_view.proofs.Walking.{dimension-finer, coarser_under, Contains-head}
+use Rattle.cube_view.proofs.FinerWalks.{dimension-finer, coarser_under, Contains-head}
 use Rattle.node_arena.proofs.AddressAmounts.{amount-none, amount_along}
 use Rattle.proper_path.proofs.Links.{count-copied, is_table-copied}
 use Rattle.proper_path.proofs.Homes.{grown_homes, grown_home, KeepsHomes, keeps_homes, cases_grown, FitsUnder, IsFree, homes_grown}

@@ -2,7 +2,7 @@
 use Rattle.std.proofs.Common.{◌≡◌, ℕ, ◌-◌, zero, suc, ◌<◌, ◌≤◌, Bool, true, false, cond, eqb, List, [], ◌∷◌, Option, Some, None, get_or, drop, length, refl, sym, ap, ◌∙◌, subst, arith, is_some}
 use Rattle.cube_view.specs.Walks.{Step, down, across, Walk, SpotPath, Cursor, after_down, after_across, then_step, cursor, Under, dimension}
 use Rattle.proper_path.specs.Making.{IsSpotOf}
-use Rattle.cube_view.proofs.Walking.{begun, under-some}
+use Rattle.cube_view.proofs.FinerWalks.{begun, under-some}
 
 drop_next : {X : Type 0} (xs ys : List X) (y d : X) (n : ℕ) → drop n xs ≡ y ∷ ys → (get_or xs n d ≡ y) × (drop (suc n) xs ≡ ys) × (n < length xs)
 drop_next [] ys y d zero e = absurd cc

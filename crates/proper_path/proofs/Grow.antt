@@ -6,7 +6,7 @@ use Rattle.node_arena.specs.Slots.{proper, shared, target, Slot, table, empty_no
 use Rattle.node_arena.specs.Calls.{copied, share}
 use Rattle.node_arena.specs.Shape.{home_of, HasHomes, IsLinked, HoldsSpots}
 use Rattle.proper_path.specs.Changes.{IsGrown, Came, of_new, of_set, of_old, of_none}
-use Rattle.cube_view.proofs.Walking.{step_across_finer, under_before, finer-step, finer-trans}
+use Rattle.cube_view.proofs.FinerWalks.{step_across_finer, under_before, finer-step, finer-trans}
 use Rattle.node_arena.proofs.Walks.{target-lt, link_coarser}
 use Rattle.std.specs.FinMap.{empty, get-empty}
 use Rattle.std.specs.Ordering.{nat_cmp}

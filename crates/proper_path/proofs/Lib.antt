@@ -7,9 +7,9 @@ pub mod Homes
 pub mod Links
 pub mod Order
 pub mod Shares
-pub mod Stepping
+pub mod StepCalls
 pub mod Steps
 pub mod Stacks
-pub mod Trailing
+pub mod TrailSteps
 pub mod Labels
-pub mod Leaving
+pub mod SpotRemainders

@@ -8,7 +8,7 @@ use Rattle.node_arena.specs.Shape.{home_of, HasHomes, HasOneChild, SharesContent
 use Rattle.proper_path.specs.Midway.{SharesBetween, HasTwoChildren, IsClosed, IsNext}
 use Rattle.proper_path.specs.Changes.{IsGrown, Came, of_new, of_set, of_old, of_none, IsRelinked}
 use Rattle.proper_path.proofs.Above.{comes_before}
-use Rattle.cube_view.proofs.Walking.{coarser_under, under_before}
+use Rattle.cube_view.proofs.FinerWalks.{coarser_under, under_before}
 use Rattle.node_arena.proofs.Links.{linked-lt}
 use Rattle.proper_path.proofs.Links.{cases_step, same_place}
 use Rattle.proper_path.proofs.Homes.{IsFree, FitsUnder, grown_homes, grown_home, KeepsHomes, keeps_homes}

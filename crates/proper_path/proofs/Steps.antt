@@ -12,7 +12,7 @@ use Rattle.node_arena.proofs.Links.{linked-lt}
 use Rattle.proper_path.proofs.Homes.{IsFree, FitsUnder, home_free, grown_homes, KeepsHomes, keeps_homes, homes_grown}
 use Rattle.proper_path.proofs.Between.{StandsAt, midway_grown, tables_grown, copy_kind, copy_stands, empty_stands}
 use Rattle.proper_path.proofs.Grow.{copy_fits, empty_fits}
-use Rattle.cube_view.proofs.Walking.{dimension-finer}
+use Rattle.cube_view.proofs.FinerWalks.{dimension-finer}
 use Rattle.proper_path.proofs.Shares.{shares_grown}
 use Rattle.proper_path.proofs.Order.{above_same, above-trans, down_before, before_down}
 use Rattle.proper_path.proofs.Links.{proper≢shared}

@@ -1,14 +1,14 @@
 pub mod BoxSteps
 pub mod ChoicesAt
-pub mod Cutting
+pub mod BytePieces
 pub mod FilterSteps
-pub mod Listing
+pub mod ValueLists
 pub mod Places
 pub mod PrintedFilters
 pub mod PrintedItems
 pub mod PrintedNumbers
 pub mod PrintedVerbs
-pub mod Quoting
+pub mod PieceQuotes
 pub mod ReadBack
 pub mod SaidParts
 pub mod SchemaLimits

@@ -17,7 +17,7 @@ use Rattle.query_syntax.specs.declared.query.Choice.{Choice}
 use Rattle.query_syntax.specs.declared.query.Choice.TheVariants.{Only}
 use Rattle.query_syntax.proofs.Places.{position_at, position_of, values_at-seam, has_item-seam}
 use Rattle.query_syntax.proofs.PrintedNumbers.{some_from_length}
-use Rattle.query_syntax.proofs.Quoting.{no_quote, filter_same, bare-in_quotes, well_quoted_plain, well_quoted_between}
+use Rattle.query_syntax.proofs.PieceQuotes.{no_quote, filter_same, bare-in_quotes, well_quoted_plain, well_quoted_between}
 use Rattle.query_syntax.proofs.WholeTexts.{stays_whole, all_weaker, is_plain, plain_whole, whole-append, pieces_joined, value_whole_in_item, value_whole_in_line, quotes_parity, is_word}
 
 -- no value has a quote

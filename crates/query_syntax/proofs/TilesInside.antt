@@ -9,7 +9,7 @@ use Rattle.std.proofs.lemmas.List.Elements.{filter-append}
 use Rattle.std.proofs.lemmas.Grind.{flat_map-append}
 use Rattle.cube_view.specs.Places.{shifted, longer_tile, tile_within}
 use Rattle.cube_view.specs.declared.address.Tile.{Tile}
-use Rattle.cube_view.proofs.Shifting.{by_one}
+use Rattle.cube_view.proofs.LevelShifts.{by_one}
 use Rattle.query_syntax.specs.Queries.{whole_space}
 use Rattle.query_syntax.specs.TileOrder.{quadrants, tiles_of_level, tiles_inside}
 

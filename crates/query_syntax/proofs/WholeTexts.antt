@@ -9,8 +9,8 @@ use Rattle.outer_io.specs.Lines.{onto_first}
 use Rattle.query_syntax.specs.Items.{is_quote, in_quotes}
 use Rattle.query_syntax.specs.Spelling.{needs_quotes, value_text, spaced}
 use Rattle.query_syntax.specs.Words.{quote, space, bar, cuts, quoted_after, cut_pieces, pieces_from, words, is_some_text}
-use Rattle.query_syntax.proofs.Cutting.{pieces_from-uncut, pieces_from-cut, is_cut}
-use Rattle.query_syntax.proofs.Quoting.{no_quote, filter_same}
+use Rattle.query_syntax.proofs.BytePieces.{pieces_from-uncut, pieces_from-cut, is_cut}
+use Rattle.query_syntax.proofs.PieceQuotes.{no_quote, filter_same}
 
 -- no byte is a mark that cuts, where the first byte is in quotes or not, and at the end nothing is in quotes
 abbrev pub stays_whole : ℕ → Bool → List ℕ → Bool

@@ -1,8 +1,8 @@
 pub mod Addresses
-pub mod Boxed
-pub mod Costing
-pub mod Descends
-pub mod Drilling
+pub mod QueryBoxes
+pub mod CategoryCosts
+pub mod WaysDown
+pub mod TileRows
 pub mod MapCosts
 pub mod OneValue
 pub mod Regions

@@ -2,7 +2,7 @@
 use Rattle.std.proofs.Common.{◌≡◌, ℕ, suc, ◌+◌, ◌*◌, ◌<◌, ◌≤◌, Bool, true, ltb, List, length, sym, ◌∙◌, ap, subst, arith}
 use Rattle.std.proofs.Math.Nat.{add-mul, mul-le-mul_right}
 use Rattle.std.proofs.lemmas.Bool.{lt-ltb}
-use Rattle.cube_view.proofs.Costing.{cost_if-true, has_spot-quadrant}
+use Rattle.cube_view.proofs.StepCosts.{cost_if-true, has_spot-quadrant}
 use Rattle.cube_view.specs.Bag.{amount}
 use Rattle.cube_view.specs.Costs.{ViewCosts, is_found, cost_if}
 use Rattle.cube_view.specs.Places.{is_below, longer_tile, region_address}

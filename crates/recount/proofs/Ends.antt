@@ -9,7 +9,7 @@ use Rattle.outer_io.specs.Lines.{input_limit}
 use Rattle.run_files.proofs.Apart.{err_is, ok_not_err, same_stop, stopped}
 use Rattle.run_files.proofs.Fronts.{no_fault}
 use Rattle.run_files.proofs.PlanReads.{plan_end}
-use Rattle.run_files.proofs.Putting.{fails_after, puts_after, silent_after}
+use Rattle.run_files.proofs.SinkPuts.{fails_after, puts_after, silent_after}
 use Rattle.run_files.proofs.Stages.{leaves_ended, leaves_more, leaves_then, nothing_made, same_created, same_files}
 use Rattle.run_files.specs.Leaving.{LeavesPlace}
 use Rattle.run_files.specs.Outside.{FailsToPut, file_of, PlaceSeen, Silent, SinkSeen}

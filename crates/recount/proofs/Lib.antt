@@ -7,11 +7,11 @@ pub mod ReplyTexts
 pub mod Fronts
 pub mod Faults
 pub mod OneVerdict
-pub mod Compared
-pub mod Reading
-pub mod Auditing
-pub mod Asking
-mod Appended
+pub mod ReplyLines
+pub mod JournalEntries
+pub mod ReplyTests
+pub mod ScriptLines
+mod TextPieces
 mod AuditTexts
 mod Puts
 mod Ends

@@ -2,7 +2,7 @@
 use Rattle.std.proofs.Common.{◌≡◌, ℕ, List, length, Ok, Err, inl, subst}
 use Rattle.std.specs.Prelude.{◌↔◌}
 use Rattle.cube_schema.specs.declared.plan.Plan.{Plan}
-use Rattle.run_files.proofs.Putting.{says_done, says_ended}
+use Rattle.run_files.proofs.SinkPuts.{says_done, says_ended}
 use Rattle.run_files.specs.Outside.{SinkSeen}
 use Rattle.run_files.specs.Saying.{SaysText}
 use Rattle.run_files.specs.declared.stop.Stop.{Stop}

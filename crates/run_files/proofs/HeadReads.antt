@@ -22,8 +22,8 @@ use Rattle.outer_io.specs.Files.{Files, file_or_empty}
 use Rattle.outer_io.specs.Lines.{Line}
 use Rattle.outer_io.specs.Told.{Told}
 use Rattle.run_files.proofs.Lists.{AllZip-firsts, AllZip-more}
-use Rattle.run_files.proofs.Putting.{fails_after, puts_after, silent_after, silent_itself}
-use Rattle.run_files.proofs.Returning.{leaves_given_back}
+use Rattle.run_files.proofs.SinkPuts.{fails_after, puts_after, silent_after, silent_itself}
+use Rattle.run_files.proofs.SourceReturns.{leaves_given_back}
 use Rattle.run_files.proofs.Stages.{fails_at, fails_on, leaves_reading, leaves_then, leaves_more, nothing_made, all_opened}
 use Rattle.run_files.specs.GivingBack.{TakesSources}
 use Rattle.run_files.specs.Leaving.{FailsAtLast, LeavesPlace}

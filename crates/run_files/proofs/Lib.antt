@@ -2,14 +2,14 @@ mod Pairs
 pub mod Apart
 pub mod FaultRises
 pub mod Lists
-pub mod Emptied
+pub mod EmptyFiles
 pub mod Fronts
 pub mod Stages
-pub mod Returning
+pub mod SourceReturns
 pub mod PlanReads
-pub mod Putting
+pub mod SinkPuts
 pub mod HeadReads
-pub mod Answered
+pub mod ScriptAnswers
 mod ScriptReads
 mod SinkReturns
 mod ScriptStages

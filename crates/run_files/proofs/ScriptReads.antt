@@ -10,11 +10,11 @@ use Rattle.std.specs.Result.{result_err}
 use Rattle.outer_io.specs.Cutting.{Cutter}
 use Rattle.outer_io.specs.Faults.{Rose}
 use Rattle.outer_io.specs.Files.{ChangesOnly, Files, HasFile}
-use Rattle.run_files.proofs.Emptied.{told_still}
+use Rattle.run_files.proofs.EmptyFiles.{told_still}
 use Rattle.run_files.proofs.Lists.{AllZip-more}
 use Rattle.run_files.proofs.Apart.{lacked_not_read}
 use Rattle.run_files.proofs.Stages.{KeepsOthers-one, fails_at, fails_on, leaves_and_creates, leaves_as_before, leaves_more, leaves_not, leaves_reading, leaves_then, leaves_unmade, nothing_made}
-use Rattle.run_files.proofs.Returning.{leaves_given_back}
+use Rattle.run_files.proofs.SourceReturns.{leaves_given_back}
 use Rattle.run_files.specs.GivingBack.{TakesSources}
 use Rattle.run_files.specs.Leaving.{LeavesPlace}
 use Rattle.run_files.specs.Outside.{file_of, PlaceSeen, SinkSeen}

@@ -16,7 +16,7 @@ use Rattle.outer_io.specs.declared.fault.IoFault.TheVariants as fault
 use Rattle.run_files.proofs.Apart.{none_not_some, ok_not_err, same_stop}
 use Rattle.std.proofs.lemmas.Bool.{false≢true}
 use Rattle.run_files.proofs.FaultRises.{counts_failed, counts_grow, rose_from_before, rose_later}
-use Rattle.run_files.proofs.Emptied.{empty_given, told_still}
+use Rattle.run_files.proofs.EmptyFiles.{empty_given, told_still}
 use Rattle.run_files.proofs.Lists.{All-back, All-front, AllZip-more, in_one}
 use Rattle.run_files.proofs.ScriptReads.{lacked_not_write}
 use Rattle.run_files.proofs.Stages.{back_nil, KeepsOthers-itself, KeepsOthers-more, KeepsOthers-one}

@@ -7,7 +7,7 @@ use Rattle.std.specs.Prelude.{IsSome}
 use Rattle.std.specs.Result.{result_err}
 use Rattle.outer_io.specs.Faults.{Rose}
 use Rattle.outer_io.specs.Files.{ChangesOnly, Files, HasFile}
-use Rattle.run_files.proofs.Emptied.{emptied_after, told_still}
+use Rattle.run_files.proofs.EmptyFiles.{emptied_after, told_still}
 use Rattle.run_files.specs.Leaving.{FailsAtLast, KeepsOthers, LeavesPlace}
 use Rattle.run_files.specs.Outside.{PlaceSeen}
 use Rattle.run_files.specs.declared.stop.Stop.{Stop}

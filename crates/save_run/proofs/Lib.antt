@@ -2,10 +2,10 @@ mod Groups
 mod Tallies
 mod FeedReads
 mod FeedLists
-mod Ending
-mod Fed
+mod SaveEnds
+mod FeedRows
 mod Lists
 mod Records
-mod Saving
-mod Stood
+mod ImageLineFaults
+mod EndsAfterFeeds
 mod Written

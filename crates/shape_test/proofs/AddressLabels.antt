@@ -4,7 +4,7 @@ use Rattle.std.specs.List.{list_all}
 use Rattle.std.proofs.lemmas.Bool.{and_parts}
 use Rattle.cube_view.specs.Walks.{down, across, Walk, SpotPath, Cursor, after_down, after_across, cursor, dimension}
 use Rattle.cube_view.specs.declared.schema.Schema.{Schema}
-use Rattle.cube_view.proofs.Walking.{begun}
+use Rattle.cube_view.proofs.FinerWalks.{begun}
 use Rattle.shape_test.specs.Wholes.{paths_along}
 use Rattle.shape_test.specs.Labels.{label_fits, labels_fit, paths_fit}
 

@@ -5,7 +5,7 @@ use Rattle.std.specs.FinMap.{entries, len-entries, len-empty}
 use Rattle.std.specs.Ordering.{nat_cmp}
 use Rattle.std.proofs.lemmas.List.Elements.{All-nil, All-cons, All-head, All-tail, All-append, Contains-append_cases}
 use Rattle.cube_view.specs.Walks.{down, across, Walk, SpotPath}
-use Rattle.cube_view.proofs.Walking.{under-some}
+use Rattle.cube_view.proofs.FinerWalks.{under-some}
 use Rattle.node_arena.specs.Amounts.{Weighted, spots_in, amount_under}
 use Rattle.node_arena.specs.Shape.{home_of, HasShape}
 use Rattle.node_arena.specs.Slots.{Slot, node, table, empty_node, slot_of, counts_of, IsTable}

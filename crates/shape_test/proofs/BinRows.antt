@@ -8,9 +8,9 @@ use Rattle.std.specs.Ordering.{eq_by_cmp, is_lt}
 use Rattle.std.proofs.lemmas.Bool.{and_parts}
 use Rattle.std.proofs.lemmas.List.Sums.{sum_by-cons}
 use Rattle.cube_view.specs.Walks.{down, across, Walk, SpotPath, Cursor, after_down, after_across, then_step, cursor, Under, whole_of, whole_from, down_all}
-use Rattle.cube_view.proofs.Walking.{begun, Contains-cases}
+use Rattle.cube_view.proofs.FinerWalks.{begun, Contains-cases}
 use Rattle.time_table.specs.Counts.{BinCounts, count_of}
-use Rattle.time_table.proofs.Passing.{first_part, second_part, below}
+use Rattle.time_table.proofs.KeySums.{first_part, second_part, below}
 use Rattle.node_arena.specs.Amounts.{spots_in, amount_under}
 use Rattle.node_arena.specs.Slots.{Slot, counts_of}
 use Rattle.shape_test.specs.Levels.{Levels, left, label_counts}

@@ -1,6 +1,7 @@
 -- Ways through categories.
 use Rattle.std.proofs.Common.{◌≡◌, ◌⊎◌, inl, inr, ℕ, zero, suc, ◌+◌, ◌-◌, ◌<◌, ◌≤◌, List, [], ◌∷◌, refl, sym, ap, ap₂, ◌∙◌, subst, arith}
 use Rattle.std.proofs.lemmas.Bool.{cases_lt}
+use Rattle.cube_view.proofs.SchemaBounds.{deepest_category}
 use Rattle.cube_view.specs.Places.{deepest, time_dim}
 use Rattle.cube_view.specs.Walks.{down, across}
 use Rattle.cube_view.specs.declared.schema.Schema.{Schema}
@@ -44,17 +45,14 @@ pub over_more : (n l : ℕ) (way : Way) → IsOver (value_levels n) way → IsOv
 over_more zero l way f = (0, refl, (0, [], refl, refl, f))
 over_more (suc n) l way f = (0, refl, (1, value_levels n, refl, refl, f))
 
--- the levels of a category, and of time
-pub in_category : (schema : Schema) (d : ℕ) → 2 ≤ d → d < time_dim schema → deepest schema d ≡ 1
-in_category schema d two less = grind arith
-
+-- the levels of time
 pub in_time : (schema : Schema) (d : ℕ) → time_dim schema ≤ d → deepest schema d ≡ 0
 in_time schema d le = grind arith
 
 -- the levels of categories and time
 pub category_levels : (schema : Schema) (n d : ℕ) → 2 ≤ d → d + n ≡ time_dim schema → levels_from schema d (suc n) ≡ value_levels n
 category_levels schema zero d two is = ap (λ (m : ℕ). m ∷ []) (in_time schema d (omega (arith, is)))
-category_levels schema (suc n) d two is = ap₂ (λ (m : ℕ) (ms : List ℕ). m ∷ ms) (in_category schema d two (omega (arith, is))) (category_levels schema n (suc d) (omega (arith, two)) (omega (arith, is)))
+category_levels schema (suc n) d two is = ap₂ (λ (m : ℕ) (ms : List ℕ). m ∷ ms) (deepest_category schema d two (omega (arith, is))) (category_levels schema n (suc d) (omega (arith, two)) (omega (arith, is)))
 
 -- the levels behind a place in space or a category
 pub later_levels : (schema : Schema) (p : Place) (n : ℕ) → 1 ≤ p.dim → p.dim + 1 + n ≡ time_dim schema → (levels_at schema p).later ≡ value_levels n

@@ -2,7 +2,7 @@
 use Rattle.std.proofs.Common.{◌≡◌, ◌↔◌, ◌&&◌, not, ap₂, ℕ, zero, suc, ◌≤◌, Bool, true, false, eqb, eqb-true, ◌-◌, ◌<◌, List, [], ◌∷◌, length, take, drop, get_or, slice_get, Some, refl, sym, ap, ◌∙◌, subst, arith, true≢false}
 use Rattle.std.proofs.lemmas.List.{length-map}
 use Rattle.cube_view.specs.Walks.{down, across, Walk, Finer, top, by_down, by_across, longer}
-use Rattle.cube_view.proofs.Walking.{finer-refl}
+use Rattle.cube_view.proofs.FinerWalks.{finer-refl}
 use Rattle.shape_test.specs.declared.home.Move.{Move}
 use Rattle.shape_test.specs.declared.home.Move.TheVariants.{Down, Across}
 use Rattle.shape_test.specs.Homes.{is_across, step_of, walk_of}

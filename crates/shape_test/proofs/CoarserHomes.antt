@@ -1,7 +1,7 @@
 -- Coarser homes, found along the homes of owners.
 use Rattle.std.proofs.Common.{◌≡◌, ◌↔◌, ◌&&◌, not, Bool, true, false, ℕ, ◌<◌, List, [], ◌∷◌, length, get_or, slice_get, Some, refl, sym, ap, ◌∙◌, subst, arith}
 use Rattle.std.proofs.lemmas.List.{length-map}
-use Rattle.cube_view.proofs.Walking.{finer-refl}
+use Rattle.cube_view.proofs.FinerWalks.{finer-refl}
 use Rattle.cube_view.specs.Walks.{Finer}
 use Rattle.node_arena.specs.Shape.{home_of}
 use Rattle.node_arena.specs.declared.link.Link.{Link}

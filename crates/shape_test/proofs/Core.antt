@@ -3,7 +3,7 @@ use Rattle.std.proofs.Common.{◌≡◌, ℕ, zero, suc, ◌+◌, ◌<◌, ◌�
 use Rattle.std.proofs.lemmas.List.Elements.{All-head, All-tail}
 use Rattle.std.proofs.lemmas.List.Sums.{sum_by-cons}
 use Rattle.cube_view.specs.Walks.{Step, down, across, Walk, SpotPath, Cursor, after_across, then_step, cursor, under, Under, IsCoarser}
-use Rattle.cube_view.proofs.Walking.{begun, later_kept, under-some, finer-step, coarser_under, under_before, Contains-cons, Contains-head, Contains-cases}
+use Rattle.cube_view.proofs.FinerWalks.{begun, later_kept, under-some, finer-step, coarser_under, under_before, Contains-cons, Contains-head, Contains-cases}
 use Rattle.node_arena.specs.declared.link.Link.{Link}
 use Rattle.node_arena.specs.Amounts.{Weighted, spots_in, amount_under}
 use Rattle.node_arena.specs.Reach.{count_reached}

@@ -10,7 +10,7 @@ use Rattle.cube_view.specs.Validity.{fits, weight_is_told, valid}
 use Rattle.cube_view.specs.Walks.{Walk, SpotPath, under, HasSpot}
 use Rattle.cube_view.specs.declared.schema.Schema.{Schema}
 use Rattle.cube_view.specs.declared.spot.Spot.{Spot}
-use Rattle.cube_view.proofs.Walking.{Contains-cons, Contains-head, Contains-cases}
+use Rattle.cube_view.proofs.FinerWalks.{Contains-cons, Contains-head, Contains-cases}
 use Rattle.node_arena.specs.Amounts.{Weighted, spots_in, amount_under}
 use Rattle.node_arena.specs.Shape.{home_of, HasShape}
 use Rattle.node_arena.specs.Slots.{Slot}

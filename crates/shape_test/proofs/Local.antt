@@ -1,7 +1,7 @@
 -- The conditions on slots give the shape.
 use Rattle.std.proofs.Common.{◌≡◌, ℕ, zero, suc, ◌<◌, Bool, true, false, cond, ◌&&◌, eqb, List, [], ◌∷◌, length, map, Option, Some, None, is_some, Contains, refl, sym, ap, ◌∙◌, subst, arith, eq-eqb, true≢false}
 use Rattle.cube_view.specs.Walks.{Step, down, across, Walk, SpotPath, Cursor, after_down, after_across, then_step, cursor, under, Under, HasSpot, Finer, top, by_down, by_across, longer}
-use Rattle.cube_view.proofs.Walking.{begun, Contains-cons, Contains-head, under-some}
+use Rattle.cube_view.proofs.FinerWalks.{begun, Contains-cons, Contains-head, under-some}
 use Rattle.node_arena.specs.declared.link.Link.{Link}
 use Rattle.node_arena.specs.Amounts.{Weighted, spots_in, amount_under}
 use Rattle.node_arena.specs.Slots.{proper, target, Slot, link_of}

@@ -1,7 +1,7 @@
 -- The shape gives the conditions on slots.
 use Rattle.std.proofs.Common.{◌≡◌, ℕ, suc, ◌<◌, List, [], ◌∷◌, length, map, Option, Some, None, Contains, sum_by, refl, sym, ap, ◌∙◌, subst, ap₂}
 use Rattle.cube_view.specs.Walks.{down, across, Walk, SpotPath, Under, dimension}
-use Rattle.cube_view.proofs.Walking.{under-some, dimension-finer}
+use Rattle.cube_view.proofs.FinerWalks.{under-some, dimension-finer}
 use Rattle.node_arena.specs.declared.link.Link.{Link}
 use Rattle.node_arena.specs.Amounts.{Weighted, spots_in, amount_under}
 use Rattle.node_arena.specs.Reach.{count_reached}

@@ -3,7 +3,7 @@ use Rattle.std.proofs.Common.{◌≡◌, ◌↔◌, ◌⊎◌, inl, inr, ℕ, ze
 use Rattle.std.proofs.lemmas.Bool.{cases_lt}
 use Rattle.std.proofs.lemmas.List.{get_or_append_left, get_or_push, length-map}
 use Rattle.std.proofs.lemmas.Option.{MatchOption-at_some}
-use Rattle.cube_view.proofs.Walking.{finer-refl}
+use Rattle.cube_view.proofs.FinerWalks.{finer-refl}
 use Rattle.cube_view.specs.Walks.{down, Walk, IsCoarser}
 use Rattle.cube_view.specs.declared.schema.Schema.{Schema}
 use Rattle.node_arena.specs.Shape.{home_of, HasProperLinks, SharesContent}

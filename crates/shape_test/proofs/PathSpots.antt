@@ -5,6 +5,7 @@ use Rattle.std.proofs.Math.ListN.{get_or-eq_default}
 use Rattle.std.proofs.lemmas.Bool.{and_parts, cases_lt, lt-ltb}
 use Rattle.std.proofs.lemmas.Nat.{div-mul-add}
 use Rattle.std.proofs.Math.Nat.{pow-suc}
+use Rattle.cube_view.proofs.SchemaBounds.{deepest_category}
 use Rattle.cube_view.specs.Paths.{labels_from, path_of, paths_from, spot_path}
 use Rattle.cube_view.specs.Places.{deepest, time_dim, label_of, quadrant_at, bit_at}
 use Rattle.cube_view.specs.Validity.{fits, values_fit}
@@ -14,7 +15,7 @@ use Rattle.cube_view.specs.declared.schema.Schema.{Schema}
 use Rattle.cube_view.specs.declared.spot.Spot.{Spot}
 use Rattle.shape_test.specs.Levels.{label_counts}
 use Rattle.shape_test.specs.Labels.{levels_from, schema_levels, value_count, label_end, label_fits, paths_fit}
-use Rattle.shape_test.proofs.CategoryWays.{in_category, in_time}
+use Rattle.shape_test.proofs.CategoryWays.{in_time}
 
 -- the number whose bits are those of quadrants, the highest first
 abbrev bits_of : (ℕ → ℕ) → List ℕ → ℕ
@@ -136,7 +137,7 @@ module _ (schema : Schema) where
   under_ends (suc n) d (p ∷ ps) two e fit zero l m =
       let h : length p ≡ deepest schema d = cc in
       let f = and_parts (list_all (label_fits schema d) p) (paths_fit schema (suc d) ps) fit in
-      let o = one_label p (deepest schema d) h (in_category schema d two (omega (arith, m))) in
+      let o = one_label p (deepest schema d) h (deepest_category schema d two (omega (arith, m))) in
       let t : list_all (label_fits schema d) (first_of_path p ∷ []) ≡ true = ap (list_all (label_fits schema d)) (sym o) ∙ f.0 in
       let a = and_parts (label_fits schema d (first_of_path p)) true t in
       let b = ltb-true (first_of_path p) (label_end schema d) a.0 in
@@ -171,7 +172,7 @@ module _ (schema : Schema) where
 
       own : (d < time_dim schema) ⊎ (time_dim schema ≤ d) → path_of schema s d ≡ p
       own (inl x) =
-          let one = in_category schema d two x in
+          let one = deepest_category schema d two x in
           let o = one_label p (deepest schema d) here one in
           let w : get_or s.values (d - 2) 0 ≡ first_of_path p = ap (λ (k : ℕ). get_or s.values k 0) (let y : d - 2 ≡ d + 0 - 2 = omega arith in y) ∙ v 0 (omega (arith, x)) in
           ap (labels_from schema s d 1) one ∙ (ap (λ (l : ℕ). l ∷ []) (value_label schema s d two ∙ w) ∙ sym o)

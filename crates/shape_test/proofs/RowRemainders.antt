@@ -11,8 +11,8 @@ use Rattle.std.proofs.lemmas.List.Kept.{AllPairs-cons}
 use Rattle.std.proofs.lemmas.List.Sums.{sum_by-cons, sum_by-append, sum_by_push, sum_by_more, sum_by-set, sum_by_more_le}
 use Rattle.probe_core.specs.Places.{RisesBy}
 use Rattle.time_table.specs.Counts.{BinCounts, AllCounted, amount_at, count_of}
-use Rattle.time_table.proofs.Counted.{counts-nil, entries-counts}
-use Rattle.time_table.proofs.Passing.{first_part, second_part, below}
+use Rattle.time_table.proofs.RowCounts.{counts-nil, entries-counts}
+use Rattle.time_table.proofs.KeySums.{first_part, second_part, below}
 use Rattle.node_arena.specs.Amounts.{amount_under}
 use Rattle.node_arena.specs.declared.link.SlotId.{SlotId}
 use Rattle.node_arena.specs.Slots.{Slot, node, table, IsNode, slot_of, count, counts_of}

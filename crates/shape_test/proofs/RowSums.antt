@@ -8,7 +8,7 @@ use Rattle.std.proofs.lemmas.List.{nil_from_length}
 use Rattle.std.proofs.lemmas.List.Sums.{sum_by-cons, sum_by-append}
 use Rattle.cube_view.specs.Walks.{Walk}
 use Rattle.time_table.specs.Counts.{BinCounts, count_of}
-use Rattle.time_table.proofs.Passing.{first_part, second_part, below}
+use Rattle.time_table.proofs.KeySums.{first_part, second_part, below}
 use Rattle.node_arena.specs.Amounts.{Weighted, amount_under}
 use Rattle.node_arena.specs.Slots.{Slot, node, table, IsNode, counts_of}
 use Rattle.node_arena.specs.Stats.{capped}

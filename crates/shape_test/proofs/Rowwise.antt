@@ -4,7 +4,7 @@ use Rattle.std.specs.FinMap.{entries, entries_sorted}
 use Rattle.std.specs.FinMap.Entries.{is_sorted, below_all}
 use Rattle.std.proofs.lemmas.Bool.{cases_lt}
 use Rattle.time_table.specs.Counts.{BinCounts, count_of, first_from}
-use Rattle.time_table.proofs.Passing.{first_part, second_part, below}
+use Rattle.time_table.proofs.KeySums.{first_part, second_part, below}
 use Rattle.node_arena.specs.Amounts.{amount_under}
 use Rattle.shape_test.specs.Wholes.{spot_at}
 use Rattle.shape_test.proofs.Core.{one_under, amount-cons}

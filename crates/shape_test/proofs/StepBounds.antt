@@ -1,6 +1,7 @@
 -- Addresses within a schema's levels have few steps.
 use Rattle.std.proofs.Common.{◌≡◌, ℕ, zero, suc, ◌+◌, ◌*◌, ◌-◌, ◌<◌, ◌≤◌, ◌&&◌, Bool, true, false, eqb, eqb-true, eq-eqb, ne_eqb, List, [], ◌∷◌, length, Some, refl, sym, ap, ap₂, ◌∙◌, arith}
 use Rattle.std.proofs.lemmas.Bool.{and_parts}
+use Rattle.cube_view.proofs.SchemaBounds.{deepest_category}
 use Rattle.cube_view.specs.Places.{deepest, time_dim}
 use Rattle.cube_view.specs.Walks.{down, across, Walk}
 use Rattle.cube_view.specs.declared.schema.Schema.{Schema}
@@ -12,7 +13,7 @@ use Rattle.shape_test.specs.Labels.{levels_from, schema_levels}
 use Rattle.shape_test.specs.Owners.{most_steps, TellsShort}
 use Rattle.shape_test.specs.Places.{levels_at}
 use Rattle.shape_test.specs.declared.place.Place.{Place}
-use Rattle.shape_test.proofs.CategoryWays.{in_category, in_time}
+use Rattle.shape_test.proofs.CategoryWays.{in_time}
 
 -- the steps across to dimensions and down all their levels
 abbrev steps_over : List ℕ → ℕ
@@ -93,7 +94,7 @@ part_steps levels (across ∷ a) c e w =
 category_steps : (schema : Schema) (n d : ℕ) → 2 ≤ d → d + n ≡ time_dim schema → steps_over (levels_from schema d (suc n)) ≡ 2 * n + 1
 category_steps schema zero d two is = let t = in_time schema d (omega (arith, is)) in omega (arith, t)
 category_steps schema (suc n) d two is =
-    let c = in_category schema d two (omega (arith, is)) in
+    let c = deepest_category schema d two (omega (arith, is)) in
     let r = category_steps schema n (suc d) (omega (arith, two)) (omega (arith, is)) in
     omega (arith, c, r)
 

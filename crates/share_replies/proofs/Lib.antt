@@ -3,11 +3,11 @@ pub mod LineSums
 pub mod TextSums
 pub mod PutSums
 pub mod LineFaults
-pub mod Refusing
+pub mod ShareLines
 pub mod FileSums
 pub mod RightFiles
 pub mod OneRefusal
-pub mod Asking
+pub mod ShallowQueries
 pub mod Outcomes
-pub mod Saying
-pub mod Ending
+pub mod ShareClaims
+pub mod ShareEnds

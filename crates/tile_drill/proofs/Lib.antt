@@ -1,4 +1,4 @@
-pub mod Gaining
-pub mod Growing
-pub mod Paying
+pub mod SumGains
+pub mod RowSteps
+pub mod RowCosts
 pub mod Rows

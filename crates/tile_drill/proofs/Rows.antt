@@ -21,7 +21,7 @@ use Rattle.query_walk.specs.Walks.{is_left_in_set, meets_from, AsksAtCategory, H
 use Rattle.cube_view.specs.Found.{totals_before}
 use Rattle.tile_drill.specs.Series.{row_at_value, row_left, row_span, row_under, AreRowTotals, FitsEach, GainsEach}
 use Rattle.tile_drill.specs.declared.sums.Series.{Series}
-use Rattle.tile_drill.proofs.Gaining.{HasSame}
+use Rattle.tile_drill.proofs.SumGains.{HasSame}
 
 -- the bins of a row are in order
 pub row_order : (s : Series) (i : ℕ) → (row_span s i).from ≤ (row_span s i).to

@@ -7,7 +7,7 @@ use Rattle.std.specs.FinMap.{empty, get, contains_key, entries, entries-insert, 
 use Rattle.std.proofs.lemmas.Bool.{eq-eqb}
 use Rattle.std.proofs.lemmas.List.Elements.{All-nil}
 use Rattle.time_table.specs.Counts.{BinCounts, AllCounted, count_of, add_many, total_count, count_before}
-use Rattle.time_table.proofs.Passing.{passing, passing-add_many, total_count-passing, nothing, kept_some, counted_put}
+use Rattle.time_table.proofs.KeySums.{passing, passing-add_many, total_count-passing, nothing, kept_some, counted_put}
 
 -- there is nothing in a table without bins ..
 pub total_count-empty : total_count empty ≡ 0

@@ -7,9 +7,9 @@ use Rattle.std.specs.FinMap.{get, insert, remove, contains_key, entries, get-ent
 use Rattle.std.proofs.lemmas.Bool.{cases_eq, eq-eqb, ne_eqb, eqb-true}
 use Rattle.time_table.specs.Counts.{BinCounts, AllCounted, count_of, add_many, take_many, total_count, count_before, amount_at, first_from}
 use Rattle.time_table.proofs.AddLaws.{count_of-add_many, total_count-add_many, count_before-add_many}
-use Rattle.time_table.proofs.Nexts.{found_at}
-use Rattle.time_table.proofs.Passing.{counted_at, got, got_some, got_count, put_back, put_again, same_got}
-use Rattle.time_table.proofs.Summed.{gathered, count_of-gathered, total_count-gathered, AllCounted-gathered}
+use Rattle.time_table.proofs.NextRows.{found_at}
+use Rattle.time_table.proofs.KeySums.{counted_at, got, got_some, got_count, put_back, put_again, same_got}
+use Rattle.time_table.proofs.AmountTables.{gathered, count_of-gathered, total_count-gathered, AllCounted-gathered}
 
 -- a bin that is there has a record
 pub count_of-some : (m : BinCounts) (bin : ℕ) → AllCounted m → contains_key m bin ≡ true → 0 < count_of m bin

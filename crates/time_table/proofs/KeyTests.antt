@@ -2,7 +2,7 @@
 use Rattle.std.proofs.Common.{◌≡◌, ℕ, ◌<◌, Bool, true, false, T, refl}
 use Rattle.std.specs.Ordering.{nat_cmp, is_lt}
 use Rattle.std.proofs.lemmas.Float.{T_from_true}
-use Rattle.time_table.proofs.Passing.{below}
+use Rattle.time_table.proofs.KeySums.{below}
 
 -- a test that holds, as an equation
 pub from_T : (b : Bool) → T b → b ≡ true

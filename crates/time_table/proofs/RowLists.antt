@@ -14,9 +14,9 @@ use Rattle.time_table.specs.Rows.{AreRows, row_total}
 use Rattle.time_table.specs.Totals.{Rise, counts, counts_from, totals_from, last_total}
 use Rattle.time_table.specs.Blocks.{Block, parts, Held}
 use Rattle.time_table.specs.Forms.{IsSingle, IsForm, rows_of, form_entries}
-use Rattle.time_table.proofs.Counted.{both}
-use Rattle.time_table.proofs.Formed.{entries-form}
-use Rattle.time_table.proofs.Joined.{Rise-least, counts_from-append}
+use Rattle.time_table.proofs.RowCounts.{both}
+use Rattle.time_table.proofs.TableForms.{entries-form}
+use Rattle.time_table.proofs.TwoRowLists.{Rise-least, counts_from-append}
 
 -- ---- rows that are read
 

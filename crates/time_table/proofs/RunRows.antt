@@ -11,7 +11,7 @@ use Rattle.time_table.specs.Counts.{IsBinRun, run_total}
 use Rattle.time_table.specs.Totals.{Rise, last_total, raised}
 use Rattle.time_table.specs.Places.{with_first, added, added_run, new_row, PutsLesser}
 use Rattle.time_table.specs.Forms.{IsSingle}
-use Rattle.time_table.proofs.Adding.{added_at, all_past, last_total-take-le, fits_all}
+use Rattle.time_table.proofs.MoreRecords.{added_at, all_past, last_total-take-le, fits_all}
 use Rattle.time_table.proofs.Runs.{added_run-push, Rise-added_run, last_total-added_run, length-added_run-le}
 
 raised-raised : (n m : ℕ) (rows : List Row) → map (raised n) (map (raised m) rows) ≡ map (raised (m + n)) rows

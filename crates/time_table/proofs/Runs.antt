@@ -13,10 +13,10 @@ use Rattle.time_table.specs.declared.row.Row.{Row}
 use Rattle.time_table.specs.Counts.{BinCounts, AllCounted, count_of, add_many, take_many, total_count, amount_at, run_total, add_run, take_run, CanTakeRun}
 use Rattle.time_table.specs.Totals.{Rise, counts_from, last_total}
 use Rattle.time_table.specs.Places.{added, more, added_run, more_run}
-use Rattle.time_table.proofs.Adding.{Rise-added, last_total-added, length-added, counts_from-added}
+use Rattle.time_table.proofs.MoreRecords.{Rise-added, last_total-added, length-added, counts_from-added}
 use Rattle.time_table.proofs.AddLaws.{count_of-add_many, total_count-add_many, AllCounted-add_many}
 use Rattle.time_table.proofs.CountLaws.{take_many-add_many}
-use Rattle.time_table.proofs.Summed.{more_there}
+use Rattle.time_table.proofs.AmountTables.{more_there}
 
 -- each amount of a run is above 0
 abbrev AreSome : List (ℕ × ℕ) → Type 0

@@ -1,5 +1,5 @@
 mod Points
-mod Loaded
-mod Ended
+mod FeedLoads
+mod DemoEnds
 mod Forms
 mod Causes

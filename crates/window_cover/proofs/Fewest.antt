@@ -8,7 +8,7 @@ use Rattle.std.proofs.lemmas.List.Folds.{list_all-append}
 use Rattle.std.proofs.lemmas.List.Sums.{sum_by-cons, sum_by-le-sum_by}
 use Rattle.std.proofs.lemmas.Nat.{pow-add}
 use Rattle.cube_view.proofs.OneWeight.{one_if}
-use Rattle.cube_view.proofs.Shifting.{shifted_up}
+use Rattle.cube_view.proofs.LevelShifts.{shifted_up}
 use Rattle.cube_view.specs.Places.{longer_tile, shifted, tile_within}
 use Rattle.cube_view.specs.declared.address.Tile.{Tile}
 use Rattle.query_syntax.specs.Queries.{whole_space}
@@ -18,8 +18,8 @@ use Rattle.query_syntax.specs.declared.rect.Rect.{Rect}
 use Rattle.window_cover.specs.Covers.{cover, is_largest, parent, FillsRect, IsLeastCover}
 use Rattle.window_cover.specs.Rects.{holds, is_inside, tile_rect}
 use Rattle.window_cover.specs.Ways.{cover_below}
-use Rattle.window_cover.proofs.Counting.{apart, exact}
-use Rattle.window_cover.proofs.Filtering.{cover_is, is_open, open_quadrant}
+use Rattle.window_cover.proofs.TileHolders.{apart, exact}
+use Rattle.window_cover.proofs.LargestTiles.{cover_is, is_open, open_quadrant}
 use Rattle.window_cover.proofs.Order.{ordered}
 use Rattle.window_cover.proofs.Quadrants.{contains_from, contains_numbers, holds_from, holds_numbers, place_inside, tile_numbers}
 use Rattle.window_cover.proofs.Sides.{in_side, side_positive}

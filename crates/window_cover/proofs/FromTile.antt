@@ -4,7 +4,7 @@ use Rattle.std.proofs.Common.{◌≡◌, ℕ, zero, suc, ◌+◌, ◌<◌, ◌�
 use Rattle.std.specs.List.{sum_by}
 use Rattle.std.proofs.lemmas.Bool.{ne_eqb}
 use Rattle.cube_view.proofs.Amounts.{amount-same}
-use Rattle.cube_view.proofs.Costing.{cost_if-true}
+use Rattle.cube_view.proofs.StepCosts.{cost_if-true}
 use Rattle.cube_view.specs.Bag.{amount, anywhere}
 use Rattle.cube_view.specs.Costs.{ViewCosts, has_spot, is_found, cost_if, down_in_space, space_cost, categories_cost, after_space_cost, address_cost}
 use Rattle.cube_view.specs.Places.{in_tile, longer, next_dim, region_address, tile_at}

@@ -1,8 +1,8 @@
-pub mod Counting
+pub mod TileHolders
 pub mod Fewest
-pub mod Filtering
+pub mod LargestTiles
 pub mod FromTile
 pub mod Order
 pub mod Quadrants
-pub mod Sharing
+pub mod QuadrantShares
 pub mod Sides

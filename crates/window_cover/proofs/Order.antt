@@ -5,7 +5,7 @@ use Rattle.std.specs.List.{flat_map}
 use Rattle.std.proofs.lemmas.Bool.{both_ways, false_from_ne_true}
 use Rattle.std.proofs.lemmas.Grind.{flat_map-append}
 use Rattle.std.proofs.lemmas.List.{append-nil}
-use Rattle.cube_view.proofs.Shifting.{by_one}
+use Rattle.cube_view.proofs.LevelShifts.{by_one}
 use Rattle.cube_view.specs.Places.{longer_tile}
 use Rattle.cube_view.specs.declared.address.Tile.{Tile}
 use Rattle.query_syntax.proofs.TilesInside.{inside_deeper}
@@ -16,7 +16,7 @@ use Rattle.window_cover.specs.Covers.{cover, finest_tiles}
 use Rattle.query_syntax.specs.Windows.{has_place}
 use Rattle.window_cover.specs.Rects.{is_inside, tile_rect}
 use Rattle.window_cover.specs.Ways.{cover_below}
-use Rattle.window_cover.proofs.Filtering.{cover_is, filter-flat_map, four_same}
+use Rattle.window_cover.proofs.LargestTiles.{cover_is, filter-flat_map, four_same}
 use Rattle.window_cover.proofs.Quadrants.{contains_numbers, finest_inside, holds_from, place_from, place_meets, quadrant_inside}
 
 flat_map-flat_map : {A B C : Type 0} (f : B → List C) (g : A → List B) (xs : List A) → flat_map f (flat_map g xs) ≡ flat_map (λ x. flat_map f (g x)) xs

@@ -10,7 +10,7 @@ use Rattle.cube_view.specs.Points.{Point, weight_of_point}
 use Rattle.cube_view.specs.Validity.{sound, valid, weight_is_told}
 use Rattle.cube_view.specs.declared.schema.Schema.{Schema}
 use Rattle.cube_view.proofs.Amounts.{amount-take}
-use Rattle.cube_view.proofs.Weighing.{amount-most}
+use Rattle.cube_view.proofs.PointWeights.{amount-most}
 use Rattle.world_core.specs.Interleaving.{entry_points, list_of, IsInterleaving, sum_of_feeders}
 use Rattle.world_core.specs.Worlds.{pushed_of, KeepsOrder}
 use Rattle.world_core.specs.declared.world.World.{World}

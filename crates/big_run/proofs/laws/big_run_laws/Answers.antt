@@ -1,5 +1,5 @@
 use Rattle.big_run.proofs.AcceptedLines.{all_accepted}
-use Rattle.big_run.proofs.Asking.{asks_four}
+use Rattle.big_run.proofs.FinalQueries.{asks_four}
 use Rattle.big_run.proofs.laws.big_run_laws.Goals as goal
 
 pub returns-clause-accepted : goal.returns-clause-accepted

@@ -4,7 +4,7 @@ use Rattle.cross_table.proofs.Tops.{best_above, first_are_top}
 use Rattle.cross_table.specs.Ranking.{IsFirstByTotal}
 use Rattle.std.proofs.Common.{List, subst}
 use Rattle.query_syntax.specs.declared.table.RowOut.{RowOut}
-use Rattle.query_walk.proofs.Boxed.{valid_has_box}
+use Rattle.query_walk.proofs.QueryBoxes.{valid_has_box}
 use Rattle.cross_table.proofs.best.best_answer.Goals as goal
 
 pub area_rows-requires-clause-has_box : goal.area_rows-requires-clause-has_box

@@ -1,6 +1,6 @@
 use Rattle.std.proofs.Common.{List, take, ◌∙◌, subst, rules}
 use Rattle.std.proofs.lemmas.List.Sorted.{answers_always}
-use Rattle.cross_table.proofs.Ranked.{sorted_first}
+use Rattle.cross_table.proofs.RowsByTotal.{sorted_first}
 use Rattle.cross_table.specs.Ranking.{total_of_row, IsFirstByTotal}
 use Rattle.query_syntax.specs.declared.table.RowOut.{RowOut}
 use Rattle.cross_table.proofs.best.first_by_total.Goals as goal

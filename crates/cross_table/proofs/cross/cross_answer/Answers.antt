@@ -1,8 +1,8 @@
 use Rattle.std.proofs.Common.{◌∙◌, arith}
-use Rattle.cross_table.proofs.Summing.{cross_valid}
+use Rattle.cross_table.proofs.RowSums.{cross_valid}
 use Rattle.cross_table.proofs.Tables.{table_is}
 use Rattle.query_syntax.specs.CrossTables.{cross_rows}
-use Rattle.query_walk.proofs.Boxed.{valid_has_box}
+use Rattle.query_walk.proofs.QueryBoxes.{valid_has_box}
 use Rattle.cross_table.proofs.cross.cross_answer.Goals as goal
 
 pub cross_rows-requires-clause-has_box : goal.cross_rows-requires-clause-has_box

@@ -1,9 +1,9 @@
 use Rattle.std.proofs.Common.{◌≡◌, ℕ, ◌∙◌, ap, arith}
 use Rattle.std.specs.List.{flat_map}
-use Rattle.cross_table.proofs.Paying.{number_of_values, rows_more, paid_more, paid_in_all, paid_to_value, texts_counted, values_under}
+use Rattle.cross_table.proofs.RowCosts.{number_of_values, rows_more, paid_more, paid_in_all, paid_to_value, texts_counted, values_under}
 use Rattle.cross_table.specs.Costs.{within_cost}
 use Rattle.query_syntax.specs.CrossTables.{rows_within, cross_rows}
-use Rattle.query_walk.proofs.Boxed.{region_deep, region_within}
+use Rattle.query_walk.proofs.QueryBoxes.{region_deep, region_within}
 use Rattle.cross_table.proofs.cross.cross_rows.Goals as goal
 
 pub region_cursor-region-requires-clause-deep : goal.region_cursor-region-requires-clause-deep

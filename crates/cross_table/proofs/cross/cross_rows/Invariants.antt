@@ -2,7 +2,7 @@ use Rattle.std.proofs.Common.{◌≡◌, ◌+◌, ◌≤◌}
 use Rattle.std.specs.List.{flat_map, sum_by}
 use Rattle.cube_view.specs.Bag.{EachCounted}
 use Rattle.cross_table.specs.Costs.{within_cost}
-use Rattle.cross_table.proofs.Paying.{values_under}
+use Rattle.cross_table.proofs.RowCosts.{values_under}
 use Rattle.query_syntax.specs.CrossTables.{rows_within}
 use Rattle.cross_table.proofs.cross.cross_rows.Given as goal
 

@@ -1,5 +1,5 @@
 use Rattle.std.proofs.Common.{◌≡◌, ℕ, ◌++◌, map, ◌∙◌, ap, arith}
-use Rattle.cross_table.proofs.Paying.{number_of_values, row_more, paid_more, paid_in_all, paid_to_value, texts_counted, values_under}
+use Rattle.cross_table.proofs.RowCosts.{number_of_values, row_more, paid_more, paid_in_all, paid_to_value, texts_counted, values_under}
 use Rattle.cross_table.specs.Costs.{pair_cost}
 use Rattle.query_syntax.specs.CrossTables.{pair_row}
 use Rattle.cross_table.proofs.cross.push_rows_within.Goals as goal

@@ -2,7 +2,7 @@ use Rattle.std.proofs.Common.{◌≡◌, ◌+◌, ◌≤◌, ◌++◌, map}
 use Rattle.std.specs.List.{sum_by}
 use Rattle.cube_view.specs.Bag.{EachCounted}
 use Rattle.cross_table.specs.Costs.{pair_cost}
-use Rattle.cross_table.proofs.Paying.{values_under}
+use Rattle.cross_table.proofs.RowCosts.{values_under}
 use Rattle.query_syntax.specs.CrossTables.{pair_row}
 use Rattle.cross_table.proofs.cross.push_rows_within.Given as goal
 

@@ -1,4 +1,4 @@
-use Rattle.cross_table.proofs.Summing.{rows_add_up}
+use Rattle.cross_table.proofs.RowSums.{rows_add_up}
 use Rattle.cross_table.proofs.laws.cross_sum.Goals as goal
 
 pub returns : goal.returns

@@ -7,7 +7,7 @@ use Rattle.cube_crew.specs.Ending.{EndsAsk, EndsFinal}
 use Rattle.cube_crew.specs.Starving.{FoundMemory}
 use Rattle.cube_crew.specs.Works.{HasLearned}
 use Rattle.live_session.specs.State.{ends_of}
-use Rattle.cube_crew.proofs.Closing.{MayClose, asks_end, finals_end, learned_last, learned_no_turn, ran_last}
+use Rattle.cube_crew.proofs.SessionWorkEnds.{MayClose, asks_end, finals_end, learned_last, learned_no_turn, ran_last}
 use Rattle.cube_crew.proofs.Zips.{AllZip-length, front_back}
 use Rattle.cube_crew.proofs.ending.end_sessions.Given.{Over}
 use Rattle.cube_crew.proofs.ending.end_sessions.Goals.{After-teach, After-teach-2, After-run_sessions}

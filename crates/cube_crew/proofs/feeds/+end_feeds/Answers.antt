@@ -1,6 +1,6 @@
 use Rattle.std.proofs.Common.{rules, ◌≡◌, true}
 use Rattle.cube_crew.specs.Works.{end_of, fed_of}
-use Rattle.cube_crew.proofs.Making.{map-last}
+use Rattle.cube_crew.proofs.LastItem.{map-last}
 use Rattle.cube_crew.proofs.Zips.{All-init, All-last}
 use Rattle.cube_crew.proofs.feeds.+end_feeds.Goals as goal
 

@@ -1,6 +1,6 @@
 use Rattle.std.proofs.Common.{rules, ◌≡◌, ◌++◌, ◌∷◌, [], sym, ◌∙◌}
 use Rattle.cube_crew.specs.Works.{works_of}
-use Rattle.cube_crew.proofs.Feeding.{works_of-push}
+use Rattle.cube_crew.proofs.FeederOutcomes.{works_of-push}
 use Rattle.cube_crew.proofs.Zips.{All-init, All-last}
 use Rattle.cube_crew.proofs.feeds.+seat_feeds.Goals as goal
 

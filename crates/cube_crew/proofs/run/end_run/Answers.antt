@@ -15,9 +15,9 @@ use Rattle.live_session.specs.State.{ends_of}
 use Rattle.feed_queue.proofs.InTurn.{ends_in_turn}
 use Rattle.published_pair.specs.Rules.{Known}
 use Rattle.world_core.specs.Interleaving.{IsInterleaving, entry_points, list_of}
-use Rattle.cube_crew.proofs.Answering.{or_false}
+use Rattle.cube_crew.proofs.SessionOutcomes.{or_false}
 use Rattle.world_core.specs.PairFact.{IsPrefix}
-use Rattle.cube_crew.proofs.Finishing.{all_within, ends_run, finals_starve}
+use Rattle.cube_crew.proofs.RunEnd.{all_within, ends_run, finals_starve}
 use Rattle.cube_crew.proofs.run.end_run.Given.{Over}
 use Rattle.cube_crew.proofs.run.end_run.Goals.{After-into_journal-journal, In-Err}
 use Rattle.cube_crew.proofs.run.end_run.Goals as goal

@@ -12,11 +12,11 @@ use Rattle.cube_crew.specs.Opened.{IsMail}
 use Rattle.cube_crew.specs.Works.{session_works_of, works_of}
 use Rattle.live_session.specs.State.{ends_of}
 use Rattle.mailbox.specs.Ends.{OutEnd}
-use Rattle.cube_crew.proofs.Answering.{all_works}
-use Rattle.cube_crew.proofs.Crewing.{crewed}
+use Rattle.cube_crew.proofs.SessionOutcomes.{all_works}
+use Rattle.cube_crew.proofs.RunOutcome.{crewed}
 use Rattle.feed_queue.proofs.InTurn.{length-new_feeds}
-use Rattle.cube_crew.proofs.Feeding.{IsNewEnd, new_ends, works_ready}
-use Rattle.cube_crew.proofs.Seating.{Seats, batch_bounds, is_run, seats_of}
+use Rattle.cube_crew.proofs.FeederOutcomes.{IsNewEnd, new_ends, works_ready}
+use Rattle.cube_crew.proofs.RunSeats.{Seats, batch_bounds, is_run, seats_of}
 use Rattle.cube_crew.proofs.Zips.{AllZip-length, AllZip-right}
 use Rattle.cube_crew.proofs.run.run_opened.Given.{Over}
 use Rattle.cube_crew.proofs.run.run_opened.Goals.{After-new-builder, After-run_together, After-seat_feeds-works, After-seat_sessions-asks, After-seat_sessions-finals}

@@ -1,7 +1,7 @@
 use Rattle.std.proofs.Common.{rules, ◌≡◌, Option, IfSome, IsSome, sym, subst}
 use Rattle.live_session.specs.Work.{done_of}
 use Rattle.published_pair.specs.Rules.{Known}
-use Rattle.cube_crew.proofs.Making.{map-last}
+use Rattle.cube_crew.proofs.LastItem.{map-last}
 use Rattle.cube_crew.proofs.Zips.{All-and, All-init, All-last}
 use Rattle.published_pair.specs.Pair.{Fresh}
 use Rattle.cube_crew.proofs.sessions.+close_sessions.Goals as goal

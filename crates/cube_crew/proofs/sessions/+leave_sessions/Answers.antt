@@ -3,7 +3,7 @@ use Rattle.live_session.specs.Work.{done_of}
 use Rattle.cube_crew.specs.Ending.{IsWithin}
 use Rattle.published_pair.specs.Pair.{Fresh}
 use Rattle.published_pair.specs.Rules.{Known}
-use Rattle.cube_crew.proofs.Making.{map-last}
+use Rattle.cube_crew.proofs.LastItem.{map-last}
 use Rattle.cube_crew.proofs.Zips.{All-and, All-init, All-last}
 use Rattle.cube_crew.proofs.sessions.+leave_sessions.Goals as goal
 

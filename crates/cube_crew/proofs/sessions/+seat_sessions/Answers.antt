@@ -3,7 +3,7 @@ use Rattle.published_pair.specs.Pair.{IsNewViewer}
 use Rattle.published_pair.specs.Rules.{Known}
 use Rattle.live_session.specs.Work.{HadNoTurn}
 use Rattle.cube_crew.specs.Works.{new_session_work, session_works_of}
-use Rattle.cube_crew.proofs.Answering.{session_works_of-push}
+use Rattle.cube_crew.proofs.SessionOutcomes.{session_works_of-push}
 use Rattle.cube_crew.proofs.Zips.{All-init, All-last, length-init}
 use Rattle.cube_crew.proofs.sessions.+seat_sessions.Goals as goal
 

@@ -1,4 +1,4 @@
-use Rattle.cube_view.proofs.Stepping.{steps_tell_spots}
+use Rattle.cube_view.proofs.AddressSpots.{steps_tell_spots}
 use Rattle.cube_view.proofs.laws.address_laws.Goals as goal
 
 pub returns : goal.returns

@@ -1,6 +1,6 @@
 use Rattle.std.proofs.Common.{ap, Ok}
 use Rattle.outer_io.specs.Lines.{Bytes}
-use Rattle.feed_reader.proofs.Stepping.{passes_one}
+use Rattle.feed_reader.proofs.CutterLines.{passes_one}
 use Rattle.feed_reader.proofs.feed.next_row.Goals as goal
 
 pub returns-in-Ok-clause-row : goal.returns-in-Ok-clause-row

@@ -1,7 +1,7 @@
 use Rattle.std.proofs.Common.{ap, Ok}
 use Rattle.outer_io.specs.Lines.{Bytes}
 use Rattle.feed_reader.proofs.FeedLaws.{leaves_accepted}
-use Rattle.feed_reader.proofs.Stepping.{header_is, passes_one, refused_line}
+use Rattle.feed_reader.proofs.CutterLines.{header_is, passes_one, refused_line}
 use Rattle.feed_reader.proofs.feed.read_header.Goals as goal
 
 pub returns-in-Ok-Line-clause-header : goal.returns-in-Ok-Line-clause-header

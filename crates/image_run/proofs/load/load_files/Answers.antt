@@ -6,7 +6,7 @@ use Rattle.image_run.specs.Ends.{LoadEnds}
 use Rattle.image_run.specs.Names.{image_names}
 use Rattle.image_run.specs.Taking.{TakesImage}
 use Rattle.image_run.specs.declared.end.ImageEnd.{ImageEnd}
-use Rattle.image_run.proofs.Ending.{ended_by_image, ended_by_plan, ended_by_refusal, ended_taking, ended_with, ended_without}
+use Rattle.image_run.proofs.LoadEnds.{ended_by_image, ended_by_plan, ended_by_refusal, ended_taking, ended_with, ended_without}
 use Rattle.run_files.proofs.Apart.{residual_is}
 use Rattle.image_run.proofs.load.load_files.Given.{Over}
 use Rattle.image_run.proofs.load.load_files.Goals as goal

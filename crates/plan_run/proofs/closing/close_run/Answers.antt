@@ -5,7 +5,7 @@ use Rattle.run_files.specs.Stops.{write_end}
 use Rattle.run_files.specs.declared.stop.Stop.TheVariants.{NoMemory}
 use Rattle.world_core.specs.declared.entry.Entry.{Entry}
 use Rattle.plan_run.specs.Journals.{PutsJournal}
-use Rattle.plan_run.proofs.Closed.{ends_of_all, joined_both, text_of_counts}
+use Rattle.plan_run.proofs.StepEnds.{ends_of_all, joined_both, text_of_counts}
 use Rattle.plan_run.specs.Closing.{run_text, threads_end}
 use Rattle.plan_run.specs.Counted.{script_counts}
 use Rattle.plan_run.proofs.closing.close_run.Goals as goal

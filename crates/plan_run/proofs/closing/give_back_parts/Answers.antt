@@ -6,7 +6,7 @@ use Rattle.feed_reader.specs.declared.counts.FeedCounts.{FeedCounts}
 use Rattle.run_files.specs.GivingBack.{TakesSinks, TakesSources}
 use Rattle.run_files.specs.Outside.{of_place, of_sink}
 use Rattle.run_files.specs.declared.counts.ScriptCounts.{ScriptCounts}
-use Rattle.plan_run.proofs.Returned.{counted_of, sinks_of_both}
+use Rattle.plan_run.proofs.PartReturns.{counted_of, sinks_of_both}
 use Rattle.plan_run.specs.Counted.{script_counts}
 use Rattle.plan_run.specs.declared.counts.RunCounts.{RunCounts}
 use Rattle.plan_run.proofs.closing.give_back_parts.Goals as goal

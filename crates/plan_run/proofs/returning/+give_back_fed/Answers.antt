@@ -5,7 +5,7 @@ use Rattle.crew_feeder.specs.declared.done.FeedDone.{FeedDone}
 use Rattle.feed_reader.specs.declared.counts.FeedCounts.{FeedCounts}
 use Rattle.outer_io.specs.Faults.{Rose}
 use Rattle.run_files.specs.Outside.{of_place}
-use Rattle.plan_run.proofs.Returned.{counted_more, returned_more}
+use Rattle.plan_run.proofs.PartReturns.{counted_more, returned_more}
 use Rattle.plan_run.proofs.returning.+give_back_fed.Goals as goal
 
 pub returns-clause-back : goal.returns-clause-back

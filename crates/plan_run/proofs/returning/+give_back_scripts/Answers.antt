@@ -2,7 +2,7 @@ use Rattle.std.proofs.Common.{Vec, Global}
 use Rattle.live_session.specs.declared.done.SessionDone.{SessionDone}
 use Rattle.run_files.specs.Outside.{of_place}
 use Rattle.run_files.specs.declared.counts.ScriptCounts.{ScriptCounts}
-use Rattle.plan_run.proofs.Returned.{counted_more, returned_more}
+use Rattle.plan_run.proofs.PartReturns.{counted_more, returned_more}
 use Rattle.plan_run.specs.Counted.{script_counts}
 use Rattle.plan_run.proofs.returning.+give_back_scripts.Goals as goal
 

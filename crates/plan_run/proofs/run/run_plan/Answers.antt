@@ -1,5 +1,5 @@
 use Rattle.std.proofs.Common.{◌≡◌, Err, rules, subst, sym}
-use Rattle.plan_run.proofs.Ended.{ended_by_opening, ended_by_parts}
+use Rattle.plan_run.proofs.RunEnds.{ended_by_opening, ended_by_parts}
 use Rattle.plan_run.specs.Ends.{RunEnds}
 use Rattle.run_files.specs.Outside.{at, of_place, of_sink, of_source}
 use Rattle.plan_run.proofs.run.run_plan.Goals as goal

@@ -3,7 +3,7 @@ use Rattle.feed_reader.specs.declared.job.FeedJob.{FeedJob}
 use Rattle.live_session.specs.State.{SessionState}
 use Rattle.run_files.specs.GivingBack.{TakesSinks, TakesSources}
 use Rattle.run_files.specs.Outside.{of_place, of_sink}
-use Rattle.plan_run.proofs.Returned.{sinks_of_both}
+use Rattle.plan_run.proofs.PartReturns.{sinks_of_both}
 use Rattle.plan_run.proofs.unrun.give_back_unrun.Goals as goal
 
 pub returns : goal.returns

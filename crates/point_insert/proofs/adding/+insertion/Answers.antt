@@ -4,12 +4,12 @@ use Rattle.cube_view.specs.Places.{time_dim}
 use Rattle.proper_path.specs.Paths.{point_path}
 use Rattle.proper_path.specs.Rooted.{places_of}
 use Rattle.arena_undo.specs.Worked.{Worked}
-use Rattle.proper_path.proofs.Stepping.{places-push}
-use Rattle.point_insert.proofs.Stacked.{stack_size, taken_size}
-use Rattle.point_insert.proofs.Entering.{leaves_trail, visits_all, can_visit_last, leaves_pop, table_visits, is_table_there, enters_content, root_of}
+use Rattle.proper_path.proofs.StepCalls.{places-push}
+use Rattle.point_insert.proofs.TrailStacks.{stack_size, taken_size}
+use Rattle.point_insert.proofs.TrailVisits.{leaves_trail, visits_all, can_visit_last, leaves_pop, table_visits, is_table_there, enters_content, root_of}
 use Rattle.point_insert.proofs.Light.{point_fits}
-use Rattle.point_insert.proofs.Spending.{spending_starts, spending_room, spending_more, keeps_within, trail_within, update_room}
-use Rattle.point_insert.proofs.Visiting.{visited_shared, child_in, child_node, visited_skips, can_enter, visited_updates, content_in, visit_node}
+use Rattle.point_insert.proofs.ChangeAllowance.{spending_starts, spending_room, spending_more, keeps_within, trail_within, update_room}
+use Rattle.point_insert.proofs.VisitCalls.{visited_shared, child_in, child_node, visited_skips, can_enter, visited_updates, content_in, visit_node}
 use Rattle.point_insert.proofs.adding.+insertion.Goals as goal
 
 pub add_in-trail-requires-clause-root : goal.add_in-trail-requires-clause-root

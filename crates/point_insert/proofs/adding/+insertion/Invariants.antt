@@ -3,7 +3,7 @@ use Rattle.cube_view.specs.Places.{time_dim}
 use Rattle.proper_path.specs.Paths.{point_path}
 use Rattle.proper_path.specs.Rooted.{places_of}
 use Rattle.point_insert.specs.Visited.{Leaves}
-use Rattle.point_insert.proofs.Spending.{IsSpending}
+use Rattle.point_insert.proofs.ChangeAllowance.{IsSpending}
 use Rattle.point_insert.proofs.adding.+insertion.Given as goal
 
 abbrev pub decreases-add_in : goal.decreases-add_in

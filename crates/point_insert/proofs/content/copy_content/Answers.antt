@@ -3,7 +3,7 @@ use Rattle.node_arena.specs.declared.link.SlotId.{SlotId}
 use Rattle.node_arena.specs.declared.link.Link.{Link}
 use Rattle.node_arena.specs.Calls.{set_content}
 use Rattle.arena_undo.specs.Worked.{Worked}
-use Rattle.point_insert.proofs.Filling.{filled_copied}
+use Rattle.point_insert.proofs.NodeContents.{filled_copied}
 use Rattle.point_insert.proofs.content.copy_content.Goals as goal
 
 pub returns-clause-filled : goal.returns-clause-filled

@@ -3,7 +3,7 @@ use Rattle.node_arena.specs.declared.link.SlotId.{SlotId}
 use Rattle.node_arena.specs.declared.link.Link.{Link}
 use Rattle.node_arena.specs.Calls.{set_content}
 use Rattle.arena_undo.specs.Worked.{Worked}
-use Rattle.point_insert.proofs.Filling.{filled_table, filled_node}
+use Rattle.point_insert.proofs.NodeContents.{filled_table, filled_node}
 use Rattle.point_insert.proofs.content.make_content.Goals as goal
 
 pub returns-in_ok-table-clause-filled : goal.returns-in_ok-table-clause-filled

@@ -1,6 +1,6 @@
 use Rattle.std.proofs.Common.{sym, subst}
 use Rattle.point_insert.specs.Visited.{TellsOnlyChild}
-use Rattle.point_insert.proofs.Filling.{only_tells}
+use Rattle.point_insert.proofs.NodeContents.{only_tells}
 use Rattle.point_insert.proofs.content.only_child.Goals as goal
 
 pub returns : goal.returns

@@ -1,7 +1,7 @@
 use Rattle.std.proofs.Common.{sym, ◌∙◌}
 use Rattle.cube_view.specs.Walks.{across}
 use Rattle.proper_path.proofs.Links.{shared_there, proper_there}
-use Rattle.point_insert.proofs.Filling.{filled_had, filled_skips}
+use Rattle.point_insert.proofs.NodeContents.{filled_had, filled_skips}
 use Rattle.point_insert.proofs.content.own_content.Goals as goal
 
 pub returns-then-is_proper-clause-filled : goal.returns-then-is_proper-clause-filled

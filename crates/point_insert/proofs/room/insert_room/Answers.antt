@@ -1,5 +1,5 @@
 use Rattle.std.proofs.Common.{◌≡◌, ◌+◌, ◌*◌, ◌^◌, length, ap, ◌∙◌, arith}
-use Rattle.point_insert.proofs.Spending.{below_small, visits-doubled, visits_within}
+use Rattle.point_insert.proofs.ChangeAllowance.{below_small, visits-doubled, visits_within}
 use Rattle.point_insert.proofs.room.insert_room.Goals as goal
 
 pub overflow_mul-below : goal.overflow_mul-below

@@ -6,8 +6,8 @@ use Rattle.cube_view.specs.Paths.{path_of}
 use Rattle.proper_path.specs.Paths.{point_path}
 use Rattle.proper_path.specs.Rooted.{MakesTrail, places_of}
 use Rattle.proper_path.proofs.Labels.{length-path_of, get_or-path_of, path_at-point_path}
-use Rattle.proper_path.proofs.Stepping.{places-push}
-use Rattle.proper_path.proofs.Trailing.{makes_start, makes_more, can_step, made_trail}
+use Rattle.proper_path.proofs.StepCalls.{places-push}
+use Rattle.proper_path.proofs.TrailSteps.{makes_start, makes_more, can_step, made_trail}
 use Rattle.proper_path.proofs.path.trail_in.Goals as goal
 
 pub loop-above-init : goal.loop-above-init

@@ -5,7 +5,7 @@ use Rattle.node_arena.specs.declared.link.Link.{Link}
 use Rattle.node_arena.specs.Calls.{set_child, put_child}
 use Rattle.arena_undo.specs.Worked.{Worked}
 use Rattle.proper_path.proofs.Links.{shared_there}
-use Rattle.proper_path.proofs.Stepping.{step_copied, step_added}
+use Rattle.proper_path.proofs.StepCalls.{step_copied, step_added}
 use Rattle.proper_path.proofs.step.step_down.Goals as goal
 
 pub copy_slot-requires-clause-in_range : goal.copy_slot-requires-clause-in_range

@@ -1,4 +1,4 @@
-use Rattle.query_syntax.proofs.Quoting.{text_is_bare}
+use Rattle.query_syntax.proofs.PieceQuotes.{text_is_bare}
 use Rattle.query_syntax.proofs.item.bare_text.Goals as goal
 
 pub returns : goal.returns

@@ -1,5 +1,5 @@
 use Rattle.std.proofs.Common.{◌∙◌}
-use Rattle.query_syntax.proofs.Quoting.{quotes_test}
+use Rattle.query_syntax.proofs.PieceQuotes.{quotes_test}
 use Rattle.query_syntax.proofs.item.is_piece_well_quoted.Goals as goal
 
 pub returns : goal.returns

@@ -2,7 +2,7 @@ use Rattle.std.proofs.Common.{◌≡◌, ◌∙◌, sym, ap, arith, string_bytes
 use Rattle.cube_view.specs.declared.category.Category.{Category}
 use Rattle.cube_view.proofs.SchemaBounds.{few_categories}
 use Rattle.query_syntax.specs.Items.{values_at}
-use Rattle.query_syntax.proofs.Listing.{choices_bytes}
+use Rattle.query_syntax.proofs.ValueLists.{choices_bytes}
 use Rattle.query_syntax.proofs.SchemaLimits.{few_values, values_at-get}
 use Rattle.query_syntax.proofs.printing.push_choices.Goals as goal
 

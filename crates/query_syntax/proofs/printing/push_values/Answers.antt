@@ -2,7 +2,7 @@ use Rattle.std.proofs.Common.{◌≡◌, ◌∙◌, ◌++◌, ◌+◌, List, ℕ
 use Rattle.std.specs.List.{join_with_byte}
 use Rattle.query_syntax.specs.Words.{bar}
 use Rattle.query_syntax.specs.Spelling.{value_texts}
-use Rattle.query_syntax.proofs.Listing.{lists_none, listed_bytes, listed_first, unlisted_is, value_texts-all}
+use Rattle.query_syntax.proofs.ValueLists.{lists_none, listed_bytes, listed_first, unlisted_is, value_texts-all}
 use Rattle.query_syntax.proofs.printing.push_values.Goals as goal
 use Rattle.query_syntax.proofs.printing.push_values.Goals.{then-has+in_ok-push_listed, else-has}
 

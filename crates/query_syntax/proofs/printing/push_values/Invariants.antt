@@ -2,7 +2,7 @@ use Rattle.std.proofs.Common.{◌≡◌, ◌++◌, take, string_bytes}
 use Rattle.std.specs.List.{join_with_byte}
 use Rattle.query_syntax.specs.Words.{bar}
 use Rattle.query_syntax.specs.Spelling.{value_texts}
-use Rattle.query_syntax.proofs.Listing.{lists_none}
+use Rattle.query_syntax.proofs.ValueLists.{lists_none}
 use Rattle.query_syntax.proofs.printing.push_values.Given as goal
 
 abbrev pub invariant-loop-v : goal.invariant-loop-v

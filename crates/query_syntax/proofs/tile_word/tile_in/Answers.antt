@@ -1,7 +1,7 @@
 use Rattle.std.proofs.Common.{◌≡◌, ◌∷◌, sym}
 use Rattle.query_syntax.specs.Tiles.{tile_value}
 use Rattle.query_syntax.specs.Words.{cut_pieces, slash}
-use Rattle.query_syntax.proofs.Cutting.{pieces-some, too_many_pieces}
+use Rattle.query_syntax.proofs.BytePieces.{pieces-some, too_many_pieces}
 use Rattle.query_syntax.proofs.tile_word.tile_in.Goals as goal
 
 pub returns-in-Some-clause-value : goal.returns-in-Some-clause-value

@@ -1,6 +1,6 @@
 use Rattle.std.proofs.Common.{◌≡◌, ◌∷◌, [], sym, ◌∙◌}
 use Rattle.query_syntax.specs.Words.{cut_pieces, words, space}
-use Rattle.query_syntax.proofs.Cutting.{words-more, words-skip, words-last}
+use Rattle.query_syntax.proofs.BytePieces.{words-more, words-skip, words-last}
 use Rattle.query_syntax.proofs.words.next_word.Goals as goal
 
 pub returns-then-not-is_empty-clause-some : goal.returns-then-not-is_empty-clause-some

@@ -1,6 +1,6 @@
 use Rattle.std.proofs.Common.{◌≡◌, false}
 use Rattle.query_syntax.specs.Words.{pieces_from}
-use Rattle.query_syntax.proofs.Cutting.{pieces_at}
+use Rattle.query_syntax.proofs.BytePieces.{pieces_at}
 use Rattle.query_syntax.proofs.words.piece_len.Given as goal
 
 abbrev pub invariant-loop-i : goal.invariant-loop-i

@@ -1,6 +1,6 @@
 use Rattle.std.proofs.Common.{◌≡◌, ◌+◌, ℕ, Bool, false, get_or, inl, inr, sym, ◌∙◌, ap, arith}
 use Rattle.query_syntax.specs.Words.{cut_pieces, cuts, quoted_after}
-use Rattle.query_syntax.proofs.Cutting.{pieces_at, is_cut, is_uncut, toggles_at, keeps_at, pieces_at-start, pieces_at-step, pieces_at-cut, pieces_at-end}
+use Rattle.query_syntax.proofs.BytePieces.{pieces_at, is_cut, is_uncut, toggles_at, keeps_at, pieces_at-start, pieces_at-step, pieces_at-cut, pieces_at-end}
 use Rattle.query_syntax.proofs.words.quoted_piece_len.Goals as goal
 use Rattle.query_syntax.proofs.words.quoted_piece_len.Goals.{then-b-eq34, else-b-eq34}
 

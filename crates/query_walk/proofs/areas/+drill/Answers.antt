@@ -2,7 +2,7 @@ use Rattle.std.proofs.Common.{◌-◌, ◌++◌, ◌∙◌, ap, arith}
 use Rattle.cube_view.specs.declared.address.Tile.{Tile}
 use Rattle.query_walk.specs.Areas.{areas_inside}
 use Rattle.query_walk.proofs.MapCosts.{paid_through, paid_past, paid_in_all, paid_whole}
-use Rattle.query_walk.proofs.Drilling.{quadrant_gone_through, quadrant_passed_over}
+use Rattle.query_walk.proofs.TileRows.{quadrant_gone_through, quadrant_passed_over}
 use Rattle.query_walk.proofs.areas.+drill.Goals as goal
 use Rattle.query_walk.proofs.areas.+drill.Goals.{in-Some+in_ok-drill, in_default}
 

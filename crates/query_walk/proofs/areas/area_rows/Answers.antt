@@ -2,7 +2,7 @@ use Rattle.std.proofs.Common.{◌++◌, List, sym, ◌∙◌, ap, arith}
 use Rattle.cube_view.specs.Places.{is_under, region_address}
 use Rattle.query_syntax.specs.declared.table.RowOut.{RowOut}
 use Rattle.query_walk.specs.Areas.{areas_inside}
-use Rattle.query_walk.proofs.Drilling.{no_rows_under, no_points, rows_of_way}
+use Rattle.query_walk.proofs.TileRows.{no_rows_under, no_points, rows_of_way}
 use Rattle.query_walk.proofs.MapCosts.{map_way, map_found}
 use Rattle.query_walk.proofs.areas.area_rows.Goals as goal
 use Rattle.query_walk.proofs.areas.area_rows.Goals.{in-Some+in_ok-drill, in_default}

@@ -3,13 +3,13 @@ use Rattle.std.specs.Coded.{le_prop}
 use Rattle.std.proofs.Math.Logic.{∥∥₁_elim}
 use Rattle.std.proofs.lemmas.Bool.{cond-true}
 use Rattle.cube_view.proofs.Amounts.{none-anywhere}
-use Rattle.cube_view.proofs.Weighing.{IsBag-small}
+use Rattle.cube_view.proofs.PointWeights.{IsBag-small}
 use Rattle.cube_view.specs.Places.{next_dim}
 use Rattle.cube_view.specs.declared.address.Address.{Address}
 use Rattle.cube_view.specs.declared.schema.Schema.{Schema}
 use Rattle.query_syntax.specs.Items.{HasNoneFrom}
 use Rattle.query_walk.specs.Costs.{choices_from, rest_cost, choice_value_cost}
-use Rattle.query_walk.proofs.Costing.{next_choice, no_choices, value_is}
+use Rattle.query_walk.proofs.CategoryCosts.{next_choice, no_choices, value_is}
 use Rattle.query_walk.proofs.Sums.{sum_over-within, sum_upto-more}
 use Rattle.query_walk.proofs.Sets as sets
 use Rattle.query_walk.proofs.Valid.{asks_for, below_four, choices_next}

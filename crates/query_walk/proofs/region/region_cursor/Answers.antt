@@ -1,6 +1,6 @@
 use Rattle.std.proofs.Common.{◌∙◌, refl, arith}
 use Rattle.cube_view.proofs.TileWays.{tile_at-zero}
-use Rattle.query_walk.proofs.Descends.{none_here, found_next, next_place, paid_further, paid_at_end}
+use Rattle.query_walk.proofs.WaysDown.{none_here, found_next, next_place, paid_further, paid_at_end}
 use Rattle.query_walk.proofs.region.region_cursor.Goals as goal
 
 pub loop-level-init : goal.loop-level-init

@@ -1,4 +1,4 @@
-use Rattle.query_walk.proofs.Boxed.{valid_has_box}
+use Rattle.query_walk.proofs.QueryBoxes.{valid_has_box}
 use Rattle.query_walk.proofs.search.total.Goals as goal
 
 pub total_in_box-requires-clause-has_box : goal.total_in_box-requires-clause-has_box

@@ -1,6 +1,6 @@
 use Rattle.std.proofs.Common.{arith}
 use Rattle.query_walk.proofs.Addresses.{walk_within}
-use Rattle.query_walk.proofs.Boxed.{region_deep, region_within}
+use Rattle.query_walk.proofs.QueryBoxes.{region_deep, region_within}
 use Rattle.query_walk.proofs.search.total_in_box.Goals as goal
 
 pub region_cursor-region-requires-clause-deep : goal.region_cursor-region-requires-clause-deep

@@ -1,5 +1,5 @@
 use Rattle.std.proofs.Common.{arith}
-use Rattle.cube_view.proofs.Costing.{cost_if-true}
+use Rattle.cube_view.proofs.StepCosts.{cost_if-true}
 use Rattle.cube_view.specs.Costs.{is_found}
 use Rattle.query_walk.specs.Costs.{onward_cost}
 use Rattle.query_walk.proofs.Regions.{walked_place, walked_found, walked_none}

@@ -3,7 +3,7 @@ use Rattle.cube_view.specs.Places.{next_dim}
 use Rattle.cube_view.specs.declared.address.Address.{Address}
 use Rattle.query_syntax.specs.Parts.{with_region}
 use Rattle.query_walk.specs.Costs.{choices_from, rest_cost}
-use Rattle.query_walk.proofs.Costing.{onward_is}
+use Rattle.query_walk.proofs.CategoryCosts.{onward_is}
 use Rattle.query_walk.proofs.Sets.{box_is, none_in_bag}
 use Rattle.query_walk.proofs.Valid.{has_choices}
 use Rattle.query_walk.proofs.tile.total_in_tile.Goals as goal

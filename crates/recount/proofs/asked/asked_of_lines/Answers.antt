@@ -1,6 +1,6 @@
 use Rattle.std.proofs.Common.{◌∷◌, [], ◌++◌, if◌then◌else◌, Bool, true, Some, None, Ok, sym, ap, ◌∙◌, subst}
 use Rattle.session_core.specs.Turns.{AsksNext}
-use Rattle.recount.proofs.Asking.{asked_then-added, asked_on, asked_last}
+use Rattle.recount.proofs.ScriptLines.{asked_then-added, asked_on, asked_last}
 use Rattle.recount.proofs.asked.asked_of_lines.Goals as goal
 
 pub returns-then-is_end-clause-asked : goal.returns-then-is_end-clause-asked

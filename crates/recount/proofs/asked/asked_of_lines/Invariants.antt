@@ -1,6 +1,6 @@
 use Rattle.std.proofs.Common.{◌-◌}
 use Rattle.outer_io.specs.Lines.{input_limit}
-use Rattle.recount.proofs.Asking.{AskedSoFar}
+use Rattle.recount.proofs.ScriptLines.{AskedSoFar}
 use Rattle.recount.proofs.asked.asked_of_lines.Given as goal
 
 abbrev pub invariant-lines : goal.invariant-lines

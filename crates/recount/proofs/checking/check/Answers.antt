@@ -3,7 +3,7 @@ use Rattle.cube_view.specs.Validity.{sound}
 use Rattle.recount.specs.Reading.{ReadsJournal}
 use Rattle.recount.specs.declared.verdict.Verdict.TheVariants as verdict
 use Rattle.recount.proofs.OneVerdict.{one_verdict, agree_agrees, agrees_agree, decided_by, if_ok_each}
-use Rattle.recount.proofs.Reading.{points_sound}
+use Rattle.recount.proofs.JournalEntries.{points_sound}
 use Rattle.recount.proofs.checking.check.Goals as goal
 
 pub check_replies-requires-clause-sound : goal.check_replies-requires-clause-sound

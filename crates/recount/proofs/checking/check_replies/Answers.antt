@@ -4,7 +4,7 @@ use Rattle.recount.specs.Comparing.{Tests}
 use Rattle.recount.specs.Faults.{RepliesDiffer}
 use Rattle.recount.specs.Verdicts.{RepliesAgree}
 use Rattle.recount.specs.declared.verdict.Why.TheVariants.{TooMany}
-use Rattle.recount.proofs.Auditing.{audited_none, audited_next, audited_fails, audited_all, audited_many}
+use Rattle.recount.proofs.ReplyTests.{audited_none, audited_next, audited_fails, audited_all, audited_many}
 use Rattle.recount.proofs.checking.check_replies.Goals as goal
 
 pub replies-init : goal.replies-init

@@ -1,4 +1,4 @@
-use Rattle.recount.proofs.Auditing.{Audited}
+use Rattle.recount.proofs.ReplyTests.{Audited}
 use Rattle.recount.proofs.checking.check_replies.Given as goal
 
 abbrev pub invariant-replies : goal.invariant-replies

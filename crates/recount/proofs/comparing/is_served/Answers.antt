@@ -4,7 +4,7 @@ use Rattle.plain_cube.specs.Kept.{points_of, schema_of}
 use Rattle.plain_cube.specs.Listed.{no_structure}
 use Rattle.plain_cube.specs.Owned.{Counts-own}
 use Rattle.session_core.specs.Serving.{Serves}
-use Rattle.recount.proofs.Compared.{served_is}
+use Rattle.recount.proofs.ReplyLines.{served_is}
 use Rattle.recount.proofs.comparing.is_served.Goals as goal
 
 pub returns-in-Reply : goal.returns-in-Reply

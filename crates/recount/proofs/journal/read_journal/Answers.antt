@@ -1,6 +1,6 @@
 use Rattle.std.proofs.Common.{List, [], ◌∷◌, refl, sym, subst}
 use Rattle.cube_view.specs.Points.{Point}
-use Rattle.recount.proofs.Reading.{SoFar, zero_at, so_far_none, so_far_push}
+use Rattle.recount.proofs.JournalEntries.{SoFar, zero_at, so_far_none, so_far_push}
 use Rattle.recount.proofs.journal.read_journal.Goals as goal
 
 pub lines-init : goal.lines-init

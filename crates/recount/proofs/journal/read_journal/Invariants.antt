@@ -1,5 +1,5 @@
 use Rattle.std.proofs.Common.{length}
-use Rattle.recount.proofs.Reading.{SoFar}
+use Rattle.recount.proofs.JournalEntries.{SoFar}
 use Rattle.recount.proofs.journal.read_journal.Given as goal
 
 abbrev pub invariant-lines : goal.invariant-lines

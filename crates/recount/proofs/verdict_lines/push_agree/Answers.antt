@@ -1,7 +1,7 @@
 use Rattle.std.proofs.Common.{◌++◌, ◌∙◌, ap, append_assoc, sym}
 use Rattle.std.specs.Fmt.{decimal}
 use Rattle.std.specs.Prelude.{codes, string_bytes}
-use Rattle.recount.proofs.Appended.{appended_then}
+use Rattle.recount.proofs.TextPieces.{appended_then}
 use Rattle.recount.specs.VerdictLines.{agree_line, without_line}
 use Rattle.recount.proofs.verdict_lines.push_agree.Goals as goal
 

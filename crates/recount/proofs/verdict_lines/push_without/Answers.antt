@@ -1,7 +1,7 @@
 use Rattle.std.proofs.Common.{[], ◌∷◌, append_assoc, sym}
 use Rattle.std.specs.Fmt.{decimal}
 use Rattle.std.specs.Prelude.{codes, string_bytes}
-use Rattle.recount.proofs.Appended.{appended_as}
+use Rattle.recount.proofs.TextPieces.{appended_as}
 use Rattle.recount.specs.VerdictLines.{without_line}
 use Rattle.recount.proofs.verdict_lines.push_without.Goals as goal
 

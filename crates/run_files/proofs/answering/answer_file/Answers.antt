@@ -4,7 +4,7 @@ use Rattle.run_files.specs.Outside.{at, of_place, of_sink}
 use Rattle.run_files.specs.declared.stop.Stop.{Stop}
 use Rattle.run_files.specs.Answering.{AnswersFile}
 use Rattle.run_files.specs.Views.{of_view}
-use Rattle.run_files.proofs.Answered.{answered_file, unopened_file}
+use Rattle.run_files.proofs.ScriptAnswers.{answered_file, unopened_file}
 use Rattle.run_files.proofs.answering.answer_file.Goals as goal
 
 pub returns-in-Ok-clause-file : goal.returns-in-Ok-clause-file

@@ -2,7 +2,7 @@ use Rattle.std.proofs.Common.{◌∙◌, Err, Some, ap, refl, subst}
 use Rattle.outer_io.specs.Faults.{Rose}
 use Rattle.run_files.proofs.Apart.{ok_not_err, failed_fault, lacked_fault, none_not_some, read_not_refused, read_not_write, read_not_plan, same_stop}
 use Rattle.run_files.proofs.HeadReads.{opens_one, opens_not, refuses_head}
-use Rattle.run_files.proofs.Putting.{silent_itself}
+use Rattle.run_files.proofs.SinkPuts.{silent_itself}
 use Rattle.run_files.specs.Outside.{of_place, of_sink}
 use Rattle.run_files.proofs.feeds.open_feed.Goals as goal
 

@@ -1,6 +1,6 @@
 use Rattle.std.proofs.Common.{◌≡◌, ◌++◌, ◌∷◌, [], ◌∙◌, map, ap, sym, subst}
 use Rattle.std.proofs.lemmas.List.{map-append}
-use Rattle.run_files.proofs.Returning.{takes_more}
+use Rattle.run_files.proofs.SourceReturns.{takes_more}
 use Rattle.run_files.specs.GivingBack.{TakesSources}
 use Rattle.run_files.specs.Outside.{of_place}
 use Rattle.run_files.proofs.giving_back.+give_back_sources.Goals as goal

@@ -6,9 +6,9 @@ use Rattle.run_files.proofs.Apart.{residual_is}
 use Rattle.run_files.specs.Headed.{IsHeaded, OpensFeeds}
 use Rattle.run_files.specs.Outside.{at, file_of, of_place, of_sink, of_source, PlaceSeen, SinkSeen}
 use Rattle.run_files.specs.declared.stop.Stop.{Stop}
-use Rattle.save_run.proofs.Ending.{ended_by_header, ended_by_plan, ended_reading, stood_reading}
-use Rattle.save_run.proofs.Fed.{all_unread, few_feeds}
-use Rattle.save_run.proofs.Stood.{ended_by_cube}
+use Rattle.save_run.proofs.SaveEnds.{ended_by_header, ended_by_plan, ended_reading, stood_reading}
+use Rattle.save_run.proofs.FeedRows.{all_unread, few_feeds}
+use Rattle.save_run.proofs.EndsAfterFeeds.{ended_by_cube}
 use Rattle.save_run.specs.Ends.{SaveEnds}
 use Rattle.save_run.specs.Names.{saving}
 use Rattle.save_run.specs.Writing.{SavesCube}

@@ -4,7 +4,7 @@ use Rattle.run_files.specs.Saying.{SaysText}
 use Rattle.run_files.specs.declared.stop.Stop.{Stop}
 use Rattle.image_run.specs.declared.end.ImageEnd.{ImageEnd}
 use Rattle.run_files.proofs.Apart.{residual_is}
-use Rattle.save_run.proofs.Saving.{image_unsaid, long_unsaid}
+use Rattle.save_run.proofs.ImageLineFaults.{image_unsaid, long_unsaid}
 use Rattle.save_run.specs.Lines.{saved_text}
 use Rattle.save_run.specs.Writing.{SavesCube, Writes}
 use Rattle.save_run.proofs.save.save_read.Goals as goal

@@ -9,10 +9,10 @@ use Rattle.session_core.specs.Asked.{asked}
 use Rattle.share_replies.specs.Ends.{OutcomeOver, given_names}
 use Rattle.share_replies.specs.Shares.{together}
 use Rattle.share_replies.proofs.Outcomes.{some_plan, under_plan}
-use Rattle.share_replies.proofs.Saying.{says_shares}
+use Rattle.share_replies.proofs.ShareClaims.{says_shares}
 use Rattle.run_files.proofs.Apart.{residual_is}
 use Rattle.share_replies.specs.Causes.{EndsByFiles, LeavesSink, OpensShares}
-use Rattle.share_replies.proofs.Ending.{ended_after, ended_by_plan}
+use Rattle.share_replies.proofs.ShareEnds.{ended_after, ended_by_plan}
 use Rattle.share_replies.proofs.adding.add_shares.Goals as goal
 
 pub returns-clause-law : goal.returns-clause-law

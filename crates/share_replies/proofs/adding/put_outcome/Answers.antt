@@ -11,7 +11,7 @@ use Rattle.run_files.proofs.Apart.{residual_is}
 use Rattle.run_files.specs.declared.stop.Stop.{Stop}
 use Rattle.share_replies.specs.Causes.{PutsAfter, stop_in_shares}
 use Rattle.share_replies.specs.declared.adding.Outcome.{Outcome}
-use Rattle.share_replies.proofs.Ending.{put_failed}
+use Rattle.share_replies.proofs.ShareEnds.{put_failed}
 use Rattle.share_replies.proofs.adding.put_outcome.Goals as goal
 
 pub returns-in-Err-clause-law : goal.returns-in-Err-clause-law

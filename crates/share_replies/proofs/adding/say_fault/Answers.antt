@@ -6,8 +6,8 @@ use Rattle.share_replies.specs.Ends.{SaysWrong}
 use Rattle.share_replies.specs.Texts.{wrong_line}
 use Rattle.share_replies.specs.declared.adding.Outcome.TheVariants as outcome
 use Rattle.share_replies.specs.declared.fault.SharesFault.{SharesFault}
-use Rattle.share_replies.proofs.Saying.{both_of}
-use Rattle.run_files.proofs.Putting.{silent_itself}
+use Rattle.share_replies.proofs.ShareClaims.{both_of}
+use Rattle.run_files.proofs.SinkPuts.{silent_itself}
 use Rattle.share_replies.specs.Causes.{PutsAfter, stop_of_shares}
 use Rattle.share_replies.proofs.adding.say_fault.Goals as goal
 

@@ -8,11 +8,11 @@ use Rattle.run_files.specs.Outside.{file_of, of_place}
 use Rattle.session_core.specs.Asked.{asked}
 use Rattle.share_replies.specs.Shares.{nothing}
 use Rattle.share_replies.specs.Sums.{SumsOver}
-use Rattle.share_replies.proofs.Asking.{all_shallow}
+use Rattle.share_replies.proofs.ShallowQueries.{all_shallow}
 use Rattle.share_replies.proofs.FileSums.{told_is}
 use Rattle.share_replies.proofs.Outcomes.{sums_asked}
-use Rattle.share_replies.proofs.Saying.{decides_script}
-use Rattle.share_replies.proofs.Ending.{files_lacked, front_one, front_then}
+use Rattle.share_replies.proofs.ShareClaims.{decides_script}
+use Rattle.share_replies.proofs.ShareEnds.{files_lacked, front_one, front_then}
 use Rattle.share_replies.proofs.adding.sums_of.Goals as goal
 
 pub add_files-requires-clause-shallow : goal.add_files-requires-clause-shallow

@@ -4,7 +4,7 @@ use Rattle.share_replies.specs.Shares.{IsShare}
 use Rattle.share_replies.specs.Refusals.{IsRight, IsWrongAt, totals_of}
 use Rattle.share_replies.proofs.FileSums.{told_is}
 use Rattle.share_replies.proofs.RightFiles.{at_file, told_keep}
-use Rattle.share_replies.proofs.Ending.{file_faulty}
+use Rattle.share_replies.proofs.ShareEnds.{file_faulty}
 use Rattle.share_replies.proofs.files.add_file.Goals as goal
 
 pub returns-clause-law : goal.returns-clause-law

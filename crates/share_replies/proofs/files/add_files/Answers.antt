@@ -11,7 +11,7 @@ use Rattle.share_replies.proofs.FileSums.{file_adds, front_of, no_shares}
 use Rattle.share_replies.proofs.RightFiles.{at_share, first_wrong, right_all, right_more, same_share, told_none}
 use Rattle.share_replies.proofs.TextSums.{take_at_item}
 use Rattle.share_replies.specs.Causes.{ReadsFront}
-use Rattle.share_replies.proofs.Ending.{all_more, files_read, front_more, names_at, none_read}
+use Rattle.share_replies.proofs.ShareEnds.{all_more, files_read, front_more, names_at, none_read}
 use Rattle.share_replies.proofs.files.add_files.Goals as goal
 
 pub loop-i-init : goal.loop-i-init

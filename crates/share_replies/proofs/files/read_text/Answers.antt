@@ -6,7 +6,7 @@ use Rattle.run_files.proofs.Fronts.{told_whole}
 use Rattle.run_files.proofs.Apart.{residual_is}
 use Rattle.run_files.specs.declared.stop.Stop.{Stop}
 use Rattle.share_replies.specs.Causes.{ReadsFiles}
-use Rattle.share_replies.proofs.Ending.{files_read, text_ended, text_refused}
+use Rattle.share_replies.proofs.ShareEnds.{files_read, text_ended, text_refused}
 use Rattle.share_replies.proofs.files.read_text.Goals as goal
 
 pub returns-clause-whole : goal.returns-clause-whole

@@ -7,7 +7,7 @@ use Rattle.reply_json.specs.declared.reply.Reply.{Reply}
 use Rattle.share_replies.specs.Refusals.{total_of_sum, totals_of}
 use Rattle.share_replies.specs.declared.summed.Summed.{Summed}
 use Rattle.share_replies.proofs.LineSums.{no_items, some_items}
-use Rattle.share_replies.proofs.Refusing.{HasRead, at_line, line_of, nothing_left, read_all, read_more, read_none, read_wrong, totals_at}
+use Rattle.share_replies.proofs.ShareLines.{HasRead, at_line, line_of, nothing_left, read_all, read_more, read_none, read_wrong, totals_at}
 use Rattle.share_replies.proofs.TextSums.{Going, going_all, going_first, going_on, line_adds, take_at_item}
 use Rattle.share_replies.proofs.text.add_text.Goals as goal
 

@@ -3,7 +3,7 @@ use Rattle.cube_view.specs.declared.schema.Schema.{Schema}
 use Rattle.share_replies.specs.Shares.{IsShare, Share}
 use Rattle.share_replies.specs.Refusals.{totals_of}
 use Rattle.share_replies.specs.Sums.{SumsOver}
-use Rattle.share_replies.proofs.Refusing.{HasRead}
+use Rattle.share_replies.proofs.ShareLines.{HasRead}
 use Rattle.share_replies.proofs.TextSums.{Going}
 use Rattle.share_replies.proofs.text.add_text.Given as goal
 

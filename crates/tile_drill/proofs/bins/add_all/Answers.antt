@@ -1,12 +1,12 @@
 use Rattle.std.proofs.Common.{◌+◌, ◌∙◌, ap, arith}
-use Rattle.cube_view.proofs.Weighing.{IsBag-small}
+use Rattle.cube_view.proofs.PointWeights.{IsBag-small}
 use Rattle.cube_view.specs.Places.{next_dim}
 use Rattle.cube_view.specs.declared.address.Address.{Address}
-use Rattle.query_walk.proofs.Boxed.{region_deep, region_within}
+use Rattle.query_walk.proofs.QueryBoxes.{region_deep, region_within}
 use Rattle.query_walk.proofs.Valid.{has_choices}
 use Rattle.query_walk.specs.Costs.{choices_from, walk_cost}
 use Rattle.tile_drill.specs.Costs.{ends_cost}
-use Rattle.tile_drill.proofs.Paying.{series_across, series_found}
+use Rattle.tile_drill.proofs.RowCosts.{series_across, series_found}
 use Rattle.tile_drill.proofs.Rows.{fits_zeros, totals_none_in_bag, totals_none_in_region, totals_of_walk}
 use Rattle.tile_drill.proofs.bins.add_all.Goals as goal
 

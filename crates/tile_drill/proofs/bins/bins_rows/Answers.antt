@@ -3,7 +3,7 @@ use Rattle.std.proofs.Math.Nat.{mul-le-mul_right}
 use Rattle.query_syntax.specs.Boxes.{box, total}
 use Rattle.query_syntax.specs.Narrowing.{with_bins}
 use Rattle.query_syntax.specs.Tables.{bins_row}
-use Rattle.tile_drill.proofs.Growing.{one_row_more, bins_row_is}
+use Rattle.tile_drill.proofs.RowSteps.{one_row_more, bins_row_is}
 use Rattle.tile_drill.proofs.bins.bins_rows.Goals as goal
 
 pub row_totals-requires-clause-small : goal.row_totals-requires-clause-small

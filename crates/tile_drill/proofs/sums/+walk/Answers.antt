@@ -8,13 +8,13 @@ use Rattle.query_syntax.specs.Items.{HasNoneFrom}
 use Rattle.query_syntax.specs.Parts.{with_span}
 use Rattle.query_syntax.specs.declared.query.Choice.TheVariants.{All}
 use Rattle.query_walk.specs.Costs.{choices_from, value_walk_cost, walk_cost}
-use Rattle.query_walk.proofs.Costing.{next_choice, no_choices, set_within, value_walk_is}
+use Rattle.query_walk.proofs.CategoryCosts.{next_choice, no_choices, set_within, value_walk_is}
 use Rattle.query_walk.proofs.Sets.{none_at}
 use Rattle.query_walk.proofs.Sums.{sum_upto-more}
 use Rattle.query_walk.proofs.Valid.{asks_for, asks_there, below_four, choices_next}
 use Rattle.tile_drill.specs.Costs.{ends_cost}
 use Rattle.tile_drill.specs.Series.{row_at_value, row_left, row_span, GainsEach}
-use Rattle.tile_drill.proofs.Gaining.{fits_after, fits_same, gains_more, gains_nothing, gains_same}
+use Rattle.tile_drill.proofs.SumGains.{fits_after, fits_same, gains_more, gains_nothing, gains_same}
 use Rattle.tile_drill.proofs.Rows.{any_row, row_all, row_below, row_no, row_none, row_within, row_yes, same_row, time_row}
 use Rattle.tile_drill.proofs.sums.+walk.Goals.{add_in_set-then-has, add_in_set-else-has}
 use Rattle.tile_drill.proofs.sums.+walk.Goals as goal

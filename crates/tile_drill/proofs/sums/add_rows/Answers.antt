@@ -2,7 +2,7 @@ use Rattle.std.proofs.Common.{◌+◌, ◌-◌, ◌<◌, ◌^◌, get_or, length
 use Rattle.std.specs.Coded.{le_prop}
 use Rattle.std.proofs.Math.Logic.{∥∥₁_elim}
 use Rattle.tile_drill.specs.Series.{row_under}
-use Rattle.tile_drill.proofs.Gaining.{under_all, under_more, under_none}
+use Rattle.tile_drill.proofs.SumGains.{under_all, under_more, under_none}
 use Rattle.tile_drill.proofs.Rows.{row_apart}
 use Rattle.tile_drill.proofs.sums.add_rows.Goals as goal
 

@@ -1,6 +1,6 @@
 use Rattle.cube_view.specs.Bag.{EachCounted}
 use Rattle.tile_drill.specs.Series.{row_under}
-use Rattle.tile_drill.proofs.Gaining.{GainsUnder}
+use Rattle.tile_drill.proofs.SumGains.{GainsUnder}
 use Rattle.tile_drill.proofs.sums.add_rows.Given as goal
 
 -- the sums under i have gained what their rows have

@@ -1,4 +1,4 @@
-use Rattle.query_walk.proofs.Boxed.{valid_has_box}
+use Rattle.query_walk.proofs.QueryBoxes.{valid_has_box}
 use Rattle.query_syntax.proofs.ValidParts.{hist_known, map_above, series_small}
 use Rattle.tile_drill.proofs.table.table_rows.Goals as goal
 

@@ -3,9 +3,9 @@ use Rattle.std.specs.List.{range_with_len}
 use Rattle.query_syntax.specs.Items.{values_at}
 use Rattle.query_syntax.proofs.SchemaLimits.{few_values}
 use Rattle.query_syntax.specs.Tables.{value_row}
-use Rattle.query_walk.proofs.Boxed.{region_deep, region_within}
-use Rattle.tile_drill.proofs.Paying.{value_paid, values_paid}
-use Rattle.tile_drill.proofs.Growing.{one_row_more, category_values, value_row_is, value_text_is}
+use Rattle.query_walk.proofs.QueryBoxes.{region_deep, region_within}
+use Rattle.tile_drill.proofs.RowCosts.{value_paid, values_paid}
+use Rattle.tile_drill.proofs.RowSteps.{one_row_more, category_values, value_row_is, value_text_is}
 use Rattle.tile_drill.proofs.values.value_rows.Goals as goal
 
 pub region_cursor-region-requires-clause-deep : goal.region_cursor-region-requires-clause-deep

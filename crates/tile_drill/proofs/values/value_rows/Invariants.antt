@@ -3,7 +3,7 @@ use Rattle.std.specs.List.{range_with_len}
 use Rattle.cube_view.specs.Bag.{EachCounted}
 use Rattle.query_syntax.specs.Tables.{value_row}
 use Rattle.query_walk.specs.Costs.{sum_upto}
-use Rattle.tile_drill.proofs.Paying.{value_cost}
+use Rattle.tile_drill.proofs.RowCosts.{value_cost}
 use Rattle.tile_drill.proofs.values.value_rows.Given as goal
 
 abbrev pub invariant-loop-value : goal.invariant-loop-value

@@ -1,7 +1,7 @@
 use Rattle.std.proofs.Common.{List, length, ap, arith, ◌∙◌}
 use Rattle.std.specs.List.{insert}
 use Rattle.time_table.specs.Blocks.{Block}
-use Rattle.time_table.proofs.Begun.{put_last}
+use Rattle.time_table.proofs.FirstBlocks.{put_last}
 use Rattle.time_table.proofs.blocks_of.put_part.Goals as goal
 
 pub returns-clause-part : goal.returns-clause-part

@@ -1,6 +1,6 @@
 use Rattle.std.proofs.Common.{◌-◌, ◌++◌, ℕ, get_or, sym, ◌∙◌, arith}
 use Rattle.std.proofs.lemmas.List.{get_or_default, take-append-drop}
-use Rattle.time_table.proofs.Begun.{begun_more, begun_whole}
+use Rattle.time_table.proofs.FirstBlocks.{begun_more, begun_whole}
 use Rattle.time_table.proofs.blocks_of.split_of.Goals as goal
 
 pub loop-rest-preserved : goal.loop-rest-preserved

@@ -1,5 +1,5 @@
 use Rattle.std.proofs.Common.{length}
-use Rattle.time_table.proofs.Begun.{IsBegun}
+use Rattle.time_table.proofs.FirstBlocks.{IsBegun}
 use Rattle.time_table.proofs.blocks_of.split_of.Given as goal
 
 abbrev pub invariant-loop-rest : goal.invariant-loop-rest

@@ -2,7 +2,7 @@ use Rattle.std.proofs.Common.{ℕ, ◌+◌, ◌<◌, ◌^◌, List, All, sym, su
 use Rattle.time_table.specs.declared.row.Row.{Row}
 use Rattle.probe_core.specs.Places.{IsPlace}
 use Rattle.time_table.specs.Totals.{row_bin}
-use Rattle.time_table.proofs.Adding.{added_by, fits_with_row}
+use Rattle.time_table.proofs.MoreRecords.{added_by, fits_with_row}
 use Rattle.time_table.proofs.change.add_record.Goals as goal
 
 pub raise-requires-clause-fits : goal.raise-requires-clause-fits

@@ -2,7 +2,7 @@ use Rattle.std.proofs.Common.{ℕ, ◌<◌, ◌≤◌, List, All, drop, sym, sub
 use Rattle.time_table.specs.declared.row.Row.{Row}
 use Rattle.probe_core.specs.Places.{IsPlace}
 use Rattle.time_table.specs.Totals.{row_bin}
-use Rattle.time_table.proofs.Taking.{taken_by, place_within, all_above_from, some_from_place}
+use Rattle.time_table.proofs.FewerRecords.{taken_by, place_within, all_above_from, some_from_place}
 use Rattle.time_table.proofs.change.take_record.Goals as goal
 
 pub drop_spent-requires-clause-within : goal.drop_spent-requires-clause-within

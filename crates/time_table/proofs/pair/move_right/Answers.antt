@@ -1,5 +1,5 @@
 use Rattle.std.proofs.Common.{arith, refl}
-use Rattle.time_table.proofs.Joined.{shorter, is_last, moved_right}
+use Rattle.time_table.proofs.TwoRowLists.{shorter, is_last, moved_right}
 use Rattle.time_table.proofs.pair.move_right.Goals as goal
 
 pub overflow_sub-count : goal.overflow_sub-count

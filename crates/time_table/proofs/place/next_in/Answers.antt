@@ -1,5 +1,5 @@
 use Rattle.std.proofs.Common.{◌-◌, Some, sym, ap, ◌∙◌, arith}
-use Rattle.time_table.proofs.Nexts.{first_none, first_some, total_above}
+use Rattle.time_table.proofs.NextRows.{first_none, first_some, total_above}
 use Rattle.time_table.proofs.place.next_in.Goals as goal
 
 pub returns-in_err-row-clause-next : goal.returns-in_err-row-clause-next

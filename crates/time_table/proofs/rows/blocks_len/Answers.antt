@@ -1,5 +1,5 @@
 use Rattle.std.proofs.Common.{◌≡◌, ◌≤◌, arith}
-use Rattle.time_table.proofs.Told.{rows_within, rows_whole}
+use Rattle.time_table.proofs.SeriesTotals.{rows_within, rows_whole}
 use Rattle.time_table.proofs.rows.blocks_len.Goals as goal
 
 pub overflow_add-len : goal.overflow_add-len

@@ -3,7 +3,7 @@ use Rattle.time_table.specs.declared.form.Form.{Form}
 use Rattle.time_table.specs.declared.form.Split.{Split}
 use Rattle.time_table.specs.Blocks.{flat}
 use Rattle.time_table.specs.Forms.{rows_of}
-use Rattle.time_table.proofs.Formed.{rows-few}
+use Rattle.time_table.proofs.TableForms.{rows-few}
 use Rattle.time_table.proofs.rows.form_len.Goals as goal
 
 pub blocks_len-requires : goal.blocks_len-requires

@@ -2,9 +2,9 @@ use Rattle.std.proofs.Common.{◌≡◌, length, ap, sym, subst, ◌∙◌, arit
 use Rattle.time_table.specs.declared.form.Form.{Form}
 use Rattle.time_table.specs.Blocks.{flat, IsSplit}
 use Rattle.time_table.specs.Forms.{IsForm, rows_of}
-use Rattle.time_table.proofs.Blocked.{held_len}
-use Rattle.time_table.proofs.Counting.{length-flat}
-use Rattle.time_table.proofs.Formed.{some_heads}
+use Rattle.time_table.proofs.BlockRows.{held_len}
+use Rattle.time_table.proofs.BlockCounts.{length-flat}
+use Rattle.time_table.proofs.TableForms.{some_heads}
 use Rattle.time_table.proofs.rows.is_bare.Goals as goal
 
 pub returns-in-Split : goal.returns-in-Split

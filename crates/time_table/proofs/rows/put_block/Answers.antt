@@ -1,7 +1,7 @@
 use Rattle.std.proofs.Common.{◌-◌, ◌++◌, [], ◌∷◌, take, ap, sym, ◌∙◌, append_assoc, arith}
 use Rattle.time_table.specs.Totals.{counts_from}
 use Rattle.time_table.proofs.RowLists.{total_rises, counts_from-more}
-use Rattle.time_table.proofs.Told.{total_upto}
+use Rattle.time_table.proofs.SeriesTotals.{total_upto}
 use Rattle.time_table.proofs.rows.put_block.Goals as goal
 
 pub overflow_sub-row : goal.overflow_sub-row

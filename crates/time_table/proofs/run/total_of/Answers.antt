@@ -1,5 +1,5 @@
 use Rattle.std.proofs.Common.{◌-◌, arith}
-use Rattle.time_table.proofs.Joined.{last_total_at}
+use Rattle.time_table.proofs.TwoRowLists.{last_total_at}
 use Rattle.time_table.proofs.run.total_of.Goals as goal
 
 pub returns : goal.returns

@@ -1,5 +1,5 @@
 use Rattle.std.proofs.Common.{◌≡◌, ◌≤◌, arith}
-use Rattle.time_table.proofs.Told.{rows_within, rows_whole}
+use Rattle.time_table.proofs.SeriesTotals.{rows_within, rows_whole}
 use Rattle.time_table.proofs.series.are_few.Goals as goal
 
 pub returns-then-left-len : goal.returns-then-left-len

@@ -1,4 +1,4 @@
-use Rattle.time_table.proofs.Counting.{digits_are}
+use Rattle.time_table.proofs.BlockCounts.{digits_are}
 use Rattle.time_table.proofs.series.digits.Goals as goal
 
 pub returns-clause-digits : goal.returns-clause-digits

@@ -3,9 +3,9 @@ use Rattle.std.proofs.lemmas.List.Sums.{sum_by-take-le, sum_by_more}
 use Rattle.time_table.specs.Counts.{count_before}
 use Rattle.time_table.specs.Totals.{counts, last_total}
 use Rattle.time_table.specs.Blocks.{Block, flat}
-use Rattle.time_table.proofs.Counting.{count_before-all}
-use Rattle.time_table.proofs.Blocked.{held_len, Rise-heads, Rise-at, total_at}
-use Rattle.time_table.proofs.Told.{none_told, room_for, all_told, none_left, known_in_block, heads_total, past_heads, blocks_past, past_later, length-flat-sum}
+use Rattle.time_table.proofs.BlockCounts.{count_before-all}
+use Rattle.time_table.proofs.BlockRows.{held_len, Rise-heads, Rise-at, total_at}
+use Rattle.time_table.proofs.SeriesTotals.{none_told, room_for, all_told, none_left, known_in_block, heads_total, past_heads, blocks_past, past_later, length-flat-sum}
 use Rattle.time_table.proofs.series.pass_blocks.Goals as goal
 
 pub place_of-place-requires : goal.place_of-place-requires

@@ -3,8 +3,8 @@ use Rattle.std.proofs.lemmas.Bool.{cases_lt}
 use Rattle.std.proofs.lemmas.List.Elements.{All-nil}
 use Rattle.time_table.specs.declared.row.Row.{Row}
 use Rattle.time_table.specs.Totals.{last_total}
-use Rattle.time_table.proofs.Adding.{last_total-take-le}
-use Rattle.time_table.proofs.Told.{stays, goes_on, is_place, past_more, total_upto}
+use Rattle.time_table.proofs.MoreRecords.{last_total-take-le}
+use Rattle.time_table.proofs.SeriesTotals.{stays, goes_on, is_place, past_more, total_upto}
 use Rattle.time_table.proofs.series.pass_rows.Goals as goal
 
 pub loop-i-init : goal.loop-i-init

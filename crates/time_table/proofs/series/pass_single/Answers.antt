@@ -1,7 +1,7 @@
 use Rattle.std.proofs.Common.{ℕ, length, sym, ◌∙◌, arith}
 use Rattle.time_table.specs.Counts.{count_before}
 use Rattle.time_table.specs.Totals.{counts}
-use Rattle.time_table.proofs.Told.{none_told, room_for, all_told, none_left, rows_known, rows_past}
+use Rattle.time_table.proofs.SeriesTotals.{none_told, room_for, all_told, none_left, rows_known, rows_past}
 use Rattle.time_table.proofs.series.pass_single.Goals as goal
 
 pub pass_rows-whole-requires-clause-room : goal.pass_rows-whole-requires-clause-room

@@ -1,6 +1,6 @@
 use Rattle.std.proofs.Common.{◌∙◌, arith}
 use Rattle.std.proofs.lemmas.List.{length-set}
-use Rattle.time_table.proofs.Told.{room_more, told_more, stays}
+use Rattle.time_table.proofs.SeriesTotals.{room_more, told_more, stays}
 use Rattle.time_table.proofs.series.tell.Goals as goal
 
 pub loop-ends-init : goal.loop-ends-init

@@ -3,10 +3,10 @@ use Rattle.time_table.specs.declared.row.Row.{Row}
 use Rattle.time_table.specs.Totals.{last_total}
 use Rattle.time_table.specs.Places.{added}
 use Rattle.time_table.specs.Blocks.{Held, AreLast}
-use Rattle.time_table.proofs.Adding.{fits_all}
-use Rattle.time_table.proofs.Blocked.{held_len, Rise-heads, Rise-at, total_at, Held-added, parts-added, last_total-raised_from}
-use Rattle.time_table.proofs.Lasts.{AreLast-added}
-use Rattle.time_table.proofs.Merged.{sized_at, SizedBut-set, added_loose, ok_gives, with_room, longer_at}
+use Rattle.time_table.proofs.MoreRecords.{fits_all}
+use Rattle.time_table.proofs.BlockRows.{held_len, Rise-heads, Rise-at, total_at, Held-added, parts-added, last_total-raised_from}
+use Rattle.time_table.proofs.LastBins.{AreLast-added}
+use Rattle.time_table.proofs.BlockSizes.{sized_at, SizedBut-set, added_loose, ok_gives, with_room, longer_at}
 use Rattle.time_table.proofs.split.add_at.Goals as goal
 
 pub index_mut-block-requires : goal.index_mut-block-requires

@@ -3,9 +3,9 @@ use Rattle.time_table.specs.declared.row.Row.{Row}
 use Rattle.time_table.specs.Places.{more}
 use Rattle.time_table.specs.Totals.{last_total}
 use Rattle.time_table.specs.Blocks.{Block, SizedBut, parts}
-use Rattle.time_table.proofs.Blocked.{Rise-heads, placed}
-use Rattle.time_table.proofs.Lasts.{AreLast-in_hand}
-use Rattle.time_table.proofs.Merged.{tighten_all, read_length, Held-in_hand, parts-in_hand}
+use Rattle.time_table.proofs.BlockRows.{Rise-heads, placed}
+use Rattle.time_table.proofs.LastBins.{AreLast-in_hand}
+use Rattle.time_table.proofs.BlockSizes.{tighten_all, read_length, Held-in_hand, parts-in_hand}
 use Rattle.time_table.proofs.split.add_in.Goals as goal
 
 pub place_of-place-requires : goal.place_of-place-requires

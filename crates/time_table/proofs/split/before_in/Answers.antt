@@ -1,9 +1,9 @@
 use Rattle.std.proofs.Common.{◌≡◌, ◌+◌, ◌<◌, ◌≤◌, ◌^◌, length, take, arith, ◌∙◌}
 use Rattle.time_table.specs.Totals.{last_total}
-use Rattle.time_table.proofs.Adding.{last_total-take-le}
-use Rattle.time_table.proofs.Blocked.{held_len, Rise-heads, Rise-at, total_at}
-use Rattle.time_table.proofs.Counting.{count_before-blocks, count_before-all, steps_in_block}
-use Rattle.time_table.proofs.Merged.{sized_at}
+use Rattle.time_table.proofs.MoreRecords.{last_total-take-le}
+use Rattle.time_table.proofs.BlockRows.{held_len, Rise-heads, Rise-at, total_at}
+use Rattle.time_table.proofs.BlockCounts.{count_before-blocks, count_before-all, steps_in_block}
+use Rattle.time_table.proofs.BlockSizes.{sized_at}
 use Rattle.time_table.proofs.split.before_in.Goals as goal
 
 pub place_of-place-requires : goal.place_of-place-requires

@@ -1,8 +1,8 @@
 use Rattle.std.proofs.Common.{◌≡◌, ◌-◌, ◌<◌, ◌≤◌, List, length, arith, ap, ◌∙◌}
 use Rattle.std.specs.List.{insert}
 use Rattle.time_table.specs.Blocks.{Block}
-use Rattle.time_table.proofs.Merged.{sized_at}
-use Rattle.time_table.proofs.Copied.{copied_more, take-lists}
+use Rattle.time_table.proofs.BlockSizes.{sized_at}
+use Rattle.time_table.proofs.BlockCopies.{copied_more, take-lists}
 use Rattle.time_table.proofs.split.copy_blocks.Goals as goal
 
 pub overflow_sub-len : goal.overflow_sub-len

@@ -2,9 +2,9 @@ use Rattle.std.proofs.Common.{◌≡◌, ◌+◌, ◌-◌, ◌<◌, List, length
 use Rattle.time_table.specs.declared.row.Row.{Row}
 use Rattle.time_table.specs.Totals.{last_total}
 use Rattle.time_table.specs.Blocks.{IsHeld}
-use Rattle.time_table.proofs.Blocked.{held_len}
-use Rattle.time_table.proofs.Joined.{bin_after_at}
-use Rattle.time_table.proofs.Lasts.{AreLast-end, AreLast-fitted, Held-fitted, last_total-fitted, some_at}
+use Rattle.time_table.proofs.BlockRows.{held_len}
+use Rattle.time_table.proofs.TwoRowLists.{bin_after_at}
+use Rattle.time_table.proofs.LastBins.{AreLast-end, AreLast-fitted, Held-fitted, last_total-fitted, some_at}
 use Rattle.time_table.proofs.split.fit_head.Goals as goal
 
 pub returns-then-place-len-clause-held : goal.returns-then-place-len-clause-held

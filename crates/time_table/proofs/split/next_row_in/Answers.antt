@@ -3,10 +3,10 @@ use Rattle.probe_core.specs.Bits.{bits}
 use Rattle.time_table.specs.Counts.{first_from}
 use Rattle.time_table.specs.Totals.{counts_from}
 use Rattle.time_table.specs.Blocks.{flat}
-use Rattle.time_table.proofs.Blocked.{held_len, Rise-heads, Rise-at, placed}
-use Rattle.time_table.proofs.Counting.{length-flat, steps_in_blocks}
-use Rattle.time_table.proofs.Merged.{sized_at}
-use Rattle.time_table.proofs.Nexts.{first_in}
+use Rattle.time_table.proofs.BlockRows.{held_len, Rise-heads, Rise-at, placed}
+use Rattle.time_table.proofs.BlockCounts.{length-flat, steps_in_blocks}
+use Rattle.time_table.proofs.BlockSizes.{sized_at}
+use Rattle.time_table.proofs.NextRows.{first_in}
 use Rattle.time_table.proofs.split.next_row_in.Goals as goal
 
 pub place_of-place-requires : goal.place_of-place-requires

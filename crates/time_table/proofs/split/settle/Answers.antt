@@ -4,10 +4,10 @@ use Rattle.std.proofs.lemmas.List.{nil_from_length}
 use Rattle.time_table.specs.declared.row.Row.{Row}
 use Rattle.time_table.specs.Totals.{last_total}
 use Rattle.time_table.specs.Blocks.{Block, Held, AreLast, AllSized, one_list, in_hand, parts}
-use Rattle.time_table.proofs.Blocked.{held_len, Rise-at, total_at, Held-all_left, parts-all_left, AllSized-set, Held-parted, parts-parted, AllSized-parted, IsParted, last_total-insert, head_total_at}
-use Rattle.time_table.proofs.Joined.{one_list-nil, last_total_at, last_total-one_list, bin_after_at}
-use Rattle.time_table.proofs.Lasts.{AreLast-all_left, AreLast-parted}
-use Rattle.time_table.proofs.Merged.{both, in_hand_at, in_hand_long, but_at, at_least}
+use Rattle.time_table.proofs.BlockRows.{held_len, Rise-at, total_at, Held-all_left, parts-all_left, AllSized-set, Held-parted, parts-parted, AllSized-parted, IsParted, last_total-insert, head_total_at}
+use Rattle.time_table.proofs.TwoRowLists.{one_list-nil, last_total_at, last_total-one_list, bin_after_at}
+use Rattle.time_table.proofs.LastBins.{AreLast-all_left, AreLast-parted}
+use Rattle.time_table.proofs.BlockSizes.{both, in_hand_at, in_hand_long, but_at, at_least}
 use Rattle.time_table.proofs.split.settle.Given.{Over}
 use Rattle.time_table.proofs.split.settle.Goals.{After-index_mut-left, After-level, After-at-head}
 use Rattle.time_table.proofs.split.settle.Goals as goal

@@ -3,10 +3,10 @@ use Rattle.time_table.specs.declared.row.Row.{Row}
 use Rattle.time_table.specs.Totals.{Rise, counts_from, last_total, lowered}
 use Rattle.time_table.specs.Places.{count_at}
 use Rattle.time_table.specs.Blocks.{Held, AreLastBut, parts}
-use Rattle.time_table.proofs.Taking.{last_total-taken}
-use Rattle.time_table.proofs.Blocked.{Rise-heads, Rise-at, placed, count_in, lower_fits, Held-taken, parts-taken, total-taken_from, set_within}
-use Rattle.time_table.proofs.Lasts.{AreLast-changed, length-mapped_from}
-use Rattle.time_table.proofs.Merged.{sized_at, SizedBut-set, taken_loose}
+use Rattle.time_table.proofs.FewerRecords.{last_total-taken}
+use Rattle.time_table.proofs.BlockRows.{Rise-heads, Rise-at, placed, count_in, lower_fits, Held-taken, parts-taken, total-taken_from, set_within}
+use Rattle.time_table.proofs.LastBins.{AreLast-changed, length-mapped_from}
+use Rattle.time_table.proofs.BlockSizes.{sized_at, SizedBut-set, taken_loose}
 use Rattle.time_table.proofs.split.take_at.Goals as goal
 
 pub place_of-place-requires : goal.place_of-place-requires

@@ -3,9 +3,9 @@ use Rattle.std.specs.List.{remove}
 use Rattle.time_table.specs.declared.row.Row.{Row}
 use Rattle.time_table.specs.Totals.{last_total}
 use Rattle.time_table.specs.Blocks.{Block, Held, AreLast, SizedBut, in_hand, parts}
-use Rattle.time_table.proofs.Blocked.{held_len, last_total-remove}
-use Rattle.time_table.proofs.Lasts.{AreLast-removed}
-use Rattle.time_table.proofs.Merged.{tighten, Held-removed, parts-removed, sized-removed, loose_at}
+use Rattle.time_table.proofs.BlockRows.{held_len, last_total-remove}
+use Rattle.time_table.proofs.LastBins.{AreLast-removed}
+use Rattle.time_table.proofs.BlockSizes.{tighten, Held-removed, parts-removed, sized-removed, loose_at}
 use Rattle.time_table.proofs.split.take_in.Goals as goal
 
 pub returns-then-len-gt31-clause-sized : goal.returns-then-len-gt31-clause-sized

@@ -1,4 +1,4 @@
-use Rattle.top_call.proofs.Ended.{ended_at_once, ends_by_feed, ends_by_script}
+use Rattle.top_call.proofs.DemoEnds.{ended_at_once, ends_by_feed, ends_by_script}
 use Rattle.run_files.specs.Outside.{of_place, of_sink}
 use Rattle.top_call.proofs.demo.run_demo.Goals as goal
 

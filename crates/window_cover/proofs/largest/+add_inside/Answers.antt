@@ -2,7 +2,7 @@ use Rattle.std.proofs.Common.{◌-◌, ◌++◌, List, ◌∙◌, ap, sym}
 use Rattle.std.proofs.lemmas.List.{append-nil, append_assoc}
 use Rattle.cube_view.specs.declared.address.Tile.{Tile}
 use Rattle.window_cover.specs.Ways.{cover_below, cover_inside}
-use Rattle.window_cover.proofs.Filtering.{uncrossed_apart, inside_whole, inside_unmet, inside_quadrant, one_quadrant_more, four_quadrants}
+use Rattle.window_cover.proofs.LargestTiles.{uncrossed_apart, inside_whole, inside_unmet, inside_quadrant, one_quadrant_more, four_quadrants}
 use Rattle.window_cover.proofs.largest.+add_inside.Goals as goal
 
 pub returns-then-has_tile : goal.returns-then-has_tile

@@ -4,7 +4,7 @@ use Rattle.query_syntax.specs.Queries.{whole_space}
 use Rattle.window_cover.specs.Covers.{IsLeastCover}
 use Rattle.window_cover.specs.Ways.{cover_inside}
 use Rattle.window_cover.proofs.Fewest.{least}
-use Rattle.window_cover.proofs.Filtering.{cover_is_inside}
+use Rattle.window_cover.proofs.LargestTiles.{cover_is_inside}
 use Rattle.window_cover.proofs.largest.cover.Goals as goal
 
 pub returns-clause-tiles : goal.returns-clause-tiles

@@ -1,12 +1,12 @@
 use Rattle.std.proofs.Common.{◌+◌, ◌<◌, ◌^◌, ◌∙◌, ap, arith, sym}
 use Rattle.std.specs.Coded.{le_prop}
 use Rattle.std.proofs.Math.Logic.{∥∥₁_elim}
-use Rattle.cube_view.proofs.Weighing.{IsBag-small}
+use Rattle.cube_view.proofs.PointWeights.{IsBag-small}
 use Rattle.cube_view.specs.declared.address.Tile.{Tile}
 use Rattle.query_walk.proofs.Sets.{sum_fits}
 use Rattle.window_cover.proofs.FromTile.{asked_total, onward_within}
-use Rattle.window_cover.proofs.Sharing as sharing
-use Rattle.window_cover.proofs.Sharing.{is_window_under, deep_in, tells_crossed, tells_inside}
+use Rattle.window_cover.proofs.QuadrantShares as sharing
+use Rattle.window_cover.proofs.QuadrantShares.{is_window_under, deep_in, tells_crossed, tells_inside}
 use Rattle.window_cover.specs.Ways.{inside_cost}
 use Rattle.window_cover.proofs.window.+total_inside.Goals.{in-Some, in_default}
 use Rattle.window_cover.proofs.window.+total_inside.Goals as goal

@@ -2,7 +2,7 @@ use Rattle.std.proofs.Common.{◌≡◌, ◌+◌, ◌*◌, ◌-◌, ◌≤◌}
 use Rattle.cube_view.specs.Bag.{amount, EachCounted}
 use Rattle.cube_view.specs.Places.{longer_tile, region_address}
 use Rattle.query_walk.specs.Costs.{sum_upto}
-use Rattle.window_cover.proofs.Sharing.{is_window_under}
+use Rattle.window_cover.proofs.QuadrantShares.{is_window_under}
 use Rattle.window_cover.specs.Ways.{inside_cost}
 use Rattle.window_cover.proofs.window.+total_inside.Given as goal
 

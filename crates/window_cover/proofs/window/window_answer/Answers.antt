@@ -1,5 +1,5 @@
 use Rattle.std.proofs.Common.{◌∙◌}
-use Rattle.window_cover.proofs.Sharing.{table_is}
+use Rattle.window_cover.proofs.QuadrantShares.{table_is}
 use Rattle.window_cover.proofs.window.window_answer.Goals as goal
 
 pub returns-clause-table : goal.returns-clause-table

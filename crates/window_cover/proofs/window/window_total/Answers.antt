@@ -1,7 +1,7 @@
 use Rattle.std.proofs.Common.{◌∙◌, ap, sym}
 use Rattle.query_syntax.specs.Windows.{window_total}
 use Rattle.query_syntax.specs.declared.query.Verb.{Verb}
-use Rattle.window_cover.proofs.Sharing.{comes_to_whole, no_window, rect_range, window_is, window_paid}
+use Rattle.window_cover.proofs.QuadrantShares.{comes_to_whole, no_window, rect_range, window_is, window_paid}
 use Rattle.window_cover.specs.Windows.{rect_of_verb}
 use Rattle.window_cover.proofs.window.window_total.Goals as goal
 

@@ -1,5 +1,5 @@
 use Rattle.std.proofs.Common.{sym, arith}
-use Rattle.crew_feeder.proofs.Reading.{few_taken, takes_row}
+use Rattle.crew_feeder.proofs.WorkProgress.{few_taken, takes_row}
 use Rattle.crew_feeder.proofs.work.FeedWork.take_rows.Goals as goal
 
 pub take_row-requires-clause-few : goal.take_row-requires-clause-few

@@ -1,6 +1,6 @@
 use Rattle.std.proofs.Common.{◌-◌}
 use Rattle.outer_io.specs.Lines.{input_limit}
-use Rattle.crew_feeder.proofs.Reading.{GoesOn}
+use Rattle.crew_feeder.proofs.WorkProgress.{GoesOn}
 use Rattle.crew_feeder.proofs.work.FeedWork.take_rows.Given as goal
 
 abbrev pub invariant-rows : goal.invariant-rows

@@ -4,7 +4,7 @@ use Rattle.node_arena.specs.Slots.{Slot}
 use Rattle.proper_path.specs.Paths.{point_path}
 use Rattle.cube_store.specs.Counted.{HasPoints}
 use Rattle.cube_store.specs.Inserting.{CanInsert, Inserts}
-use Rattle.cube_store.proofs.Bagging.{IsBag-cube}
+use Rattle.cube_store.proofs.CubeBags.{IsBag-cube}
 use Rattle.cube_store.proofs.PointLists.{can_insert, counts_joined, has_more, root_of_points}
 use Rattle.cube_store.proofs.Numbers.{OwnsAllButRoot-cube}
 use Rattle.cube_store.proofs.cube.Cube.insert.Goals as goal

@@ -5,7 +5,7 @@ use Rattle.cube_view.specs.Points.{Point}
 use Rattle.cube_view.specs.Validity.{sound}
 use Rattle.node_arena.specs.Slots.{Slot}
 use Rattle.cube_store.specs.Counted.{AddsPoints, HasPoints}
-use Rattle.cube_store.proofs.Bagging.{IsBag-cube}
+use Rattle.cube_store.proofs.CubeBags.{IsBag-cube}
 use Rattle.cube_store.proofs.Growth.{counts_one}
 use Rattle.cube_store.proofs.Batches.{adds_permuted, has_added}
 use Rattle.cube_store.proofs.Numbers.{OwnsAllButRoot-cube}

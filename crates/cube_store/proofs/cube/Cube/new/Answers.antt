@@ -4,7 +4,7 @@ use Rattle.node_arena.specs.Slots.{Slot, id_of}
 use Rattle.cube_view.specs.declared.schema.Schema.{Schema}
 use Rattle.node_arena.specs.declared.link.SlotId.{SlotId}
 use Rattle.cube_store.specs.Counted.{CountsPoints, HasPoints}
-use Rattle.cube_store.proofs.Bagging.{Counts-points, IsBag-cube}
+use Rattle.cube_store.proofs.CubeBags.{Counts-points, IsBag-cube}
 use Rattle.cube_store.proofs.Empty.{counts_none}
 use Rattle.cube_store.proofs.Numbers.{OwnsAllButRoot-cube}
 use Rattle.cube_store.proofs.cube.Cube.new.Goals as goal

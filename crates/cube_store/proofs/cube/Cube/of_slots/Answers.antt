@@ -1,4 +1,4 @@
-use Rattle.cube_store.proofs.Bagging.{IsBag-cube}
+use Rattle.cube_store.proofs.CubeBags.{IsBag-cube}
 use Rattle.cube_store.proofs.Numbers.{OwnsAllButRoot-cube}
 use Rattle.cube_store.proofs.cube.Cube.of_slots.Goals as goal
 

@@ -2,7 +2,7 @@ use Rattle.std.proofs.Common.{ℕ, length, ◌∙◌}
 use Rattle.cube_view.specs.Bag.{amount}
 use Rattle.cube_view.specs.Places.{is_before}
 use Rattle.cube_view.proofs.Ends.{totals-alike}
-use Rattle.plain_cube.proofs.Scanned.{same_count}
+use Rattle.plain_cube.proofs.ListScans.{same_count}
 use Rattle.plain_cube.proofs.cube.PlainCubeCubeView.before_each.Goals as goal
 
 pub returns-clause-totals : goal.returns-clause-totals

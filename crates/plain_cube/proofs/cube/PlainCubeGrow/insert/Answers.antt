@@ -1,4 +1,4 @@
-use Rattle.plain_cube.proofs.Grown.{counts_inserted, counts_kept}
+use Rattle.plain_cube.proofs.InsertedPoints.{counts_inserted, counts_kept}
 use Rattle.plain_cube.proofs.cube.PlainCubeGrow.insert.Goals as goal
 
 pub returns-clause-counted : goal.returns-clause-counted

@@ -1,4 +1,4 @@
-use Rattle.plain_cube.proofs.Grown.{all_inserted, counts_kept}
+use Rattle.plain_cube.proofs.InsertedPoints.{all_inserted, counts_kept}
 use Rattle.plain_cube.proofs.cube.PlainCubeGrow.insert_all.Goals as goal
 
 pub returns-clause-counted : goal.returns-clause-counted

@@ -1,6 +1,6 @@
 use Rattle.std.proofs.Common.{ap, ◌∙◌, eqb}
 use Rattle.std.specs.List.{list_any}
-use Rattle.point_insert.proofs.Updating.{found_in}
+use Rattle.point_insert.proofs.PlaceSets.{found_in}
 use Rattle.point_insert.proofs.updated.Updated.has.Goals as goal
 
 pub returns : goal.returns

@@ -1,6 +1,6 @@
 use Rattle.std.proofs.Common.{subst, List, ℕ}
 use Rattle.proper_path.specs.Midway.{IsJoined}
-use Rattle.point_insert.proofs.Updating.{joined_by}
+use Rattle.point_insert.proofs.PlaceSets.{joined_by}
 use Rattle.point_insert.proofs.updated.Updated.put.Goals as goal
 use Rattle.point_insert.proofs.updated.Updated.put.Goals.{in-Ok, in-Err}
 

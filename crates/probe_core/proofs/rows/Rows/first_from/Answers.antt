@@ -1,5 +1,5 @@
 use Rattle.std.proofs.Common.{refl, subst, arith, ◌<◌, ◌≤◌}
-use Rattle.probe_core.proofs.Searching.{search_up, search_down}
+use Rattle.probe_core.proofs.BinarySearch.{search_up, search_down}
 use Rattle.probe_core.proofs.rows.Rows.first_from.Goals as goal
 
 pub loop-low-preserved-then-key-from : goal.loop-low-preserved-then-key-from

@@ -1,6 +1,6 @@
 use Rattle.std.proofs.Common.{◌-◌, ◌+◌, ◌≤◌, length}
 use Rattle.probe_core.specs.Bits.{bits}
-use Rattle.probe_core.proofs.Searching.{IsSearching}
+use Rattle.probe_core.proofs.BinarySearch.{IsSearching}
 use Rattle.probe_core.proofs.rows.Rows.first_from.Given as goal
 
 abbrev pub invariant-loop-low : goal.invariant-loop-low

@@ -1,6 +1,6 @@
 use Rattle.std.proofs.Common.{◌∙◌}
 use Rattle.time_table.specs.Fews.{few_rows}
-use Rattle.time_table.proofs.Below.{below_from-counts}
+use Rattle.time_table.proofs.TotalBeforeEnd.{below_from-counts}
 use Rattle.time_table.proofs.few.Few.below.Goals as goal
 
 pub returns : goal.returns

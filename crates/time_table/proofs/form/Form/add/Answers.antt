@@ -3,8 +3,8 @@ use Rattle.std.proofs.lemmas.Result.{on_ok_weaker}
 use Rattle.time_table.specs.Totals.{counts_from}
 use Rattle.time_table.specs.Places.{added, more}
 use Rattle.time_table.specs.Forms.{IsSingle, IsForm, HasRoom, form_entries}
-use Rattle.time_table.proofs.Adding.{counts_from-added}
-use Rattle.time_table.proofs.Formed.{single_either}
+use Rattle.time_table.proofs.MoreRecords.{counts_from-added}
+use Rattle.time_table.proofs.TableForms.{single_either}
 use Rattle.time_table.proofs.form.Form.add.Goals as goal
 
 pub returns-in-Single-clause-form : goal.returns-in-Single-clause-form

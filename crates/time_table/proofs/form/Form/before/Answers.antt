@@ -3,7 +3,7 @@ use Rattle.time_table.specs.Counts.{count_before}
 use Rattle.time_table.specs.Totals.{counts}
 use Rattle.time_table.specs.declared.form.Form.{Form}
 use Rattle.time_table.specs.Forms.{IsSingle, IsForm, rows_of}
-use Rattle.time_table.proofs.Counted.{count_before-counts}
+use Rattle.time_table.proofs.RowCounts.{count_before-counts}
 use Rattle.time_table.proofs.form.Form.before.Goals as goal
 
 pub returns-in-Single-clause-sum : goal.returns-in-Single-clause-sum

@@ -1,7 +1,7 @@
 use Rattle.std.proofs.Common.{length}
 use Rattle.time_table.specs.Forms.{rows_of, find_cost}
-use Rattle.time_table.proofs.Formed.{find_cost-le}
-use Rattle.time_table.proofs.Told.{each_cost-pass, each_cost-search}
+use Rattle.time_table.proofs.TableForms.{find_cost-le}
+use Rattle.time_table.proofs.SeriesTotals.{each_cost-pass, each_cost-search}
 use Rattle.time_table.proofs.form.Form.before_each.Goals as goal
 
 pub returns-then-is_short-clause-cost : goal.returns-then-is_short-clause-cost

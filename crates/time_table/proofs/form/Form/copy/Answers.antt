@@ -4,8 +4,8 @@ use Rattle.time_table.specs.declared.form.Split.{Split}
 use Rattle.time_table.specs.Forms.{IsForm, form_entries}
 use Rattle.time_table.specs.Blocks.{IsSplit}
 use Rattle.time_table.specs.Blocks.{parts, lists}
-use Rattle.time_table.proofs.Copied.{parts-lists, Held-lists}
-use Rattle.time_table.proofs.Lasts.{AreLast-lists}
+use Rattle.time_table.proofs.BlockCopies.{parts-lists, Held-lists}
+use Rattle.time_table.proofs.LastBins.{AreLast-lists}
 use Rattle.time_table.proofs.form.Form.copy.Goals as goal
 
 pub returns-in_ok-boxed-in-Split : goal.returns-in_ok-boxed-in-Split

@@ -6,8 +6,8 @@ use Rattle.time_table.specs.declared.form.Split.{Split}
 use Rattle.time_table.specs.Totals.{last_total}
 use Rattle.time_table.specs.Blocks.{Block}
 use Rattle.time_table.specs.Forms.{IsSingle, IsForm, total_of}
-use Rattle.time_table.proofs.Joined.{last_total_at}
-use Rattle.time_table.proofs.Formed.{one_block}
+use Rattle.time_table.proofs.TwoRowLists.{last_total_at}
+use Rattle.time_table.proofs.TableForms.{one_block}
 use Rattle.time_table.proofs.form.Form.grow.Goals as goal
 
 pub returns-clause-form : goal.returns-clause-form

@@ -3,8 +3,8 @@ use Rattle.time_table.specs.declared.form.Form.{Form}
 use Rattle.time_table.specs.declared.form.Split.{Split}
 use Rattle.time_table.specs.Forms.{rows_of, find_cost}
 use Rattle.time_table.specs.Blocks.{flat}
-use Rattle.time_table.proofs.Formed.{rows-few}
-use Rattle.time_table.proofs.Told.{decided}
+use Rattle.time_table.proofs.TableForms.{rows-few}
+use Rattle.time_table.proofs.SeriesTotals.{decided}
 use Rattle.time_table.proofs.form.Form.is_short.Goals as goal
 
 pub returns-in-Split : goal.returns-in-Split

@@ -5,7 +5,7 @@ use Rattle.time_table.specs.Totals.{counts_from}
 use Rattle.time_table.specs.declared.form.Form.{Form}
 use Rattle.time_table.specs.Forms.{IsSingle, IsForm, form_entries, rows_of}
 use Rattle.time_table.specs.Fews.{few_rows}
-use Rattle.time_table.proofs.Formed.{few-le}
+use Rattle.time_table.proofs.TableForms.{few-le}
 use Rattle.time_table.proofs.form.Form.next_row.Goals as goal
 
 pub next_in-requires : goal.next_in-requires

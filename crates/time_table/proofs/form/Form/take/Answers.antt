@@ -3,8 +3,8 @@ use Rattle.time_table.specs.Totals.{counts_from}
 use Rattle.time_table.specs.Places.{count_at, less}
 use Rattle.time_table.specs.Blocks.{Block}
 use Rattle.time_table.specs.Forms.{IsSingle, IsForm, form_entries}
-use Rattle.time_table.proofs.Taking.{counts_from-taken}
-use Rattle.time_table.proofs.Formed.{single_taken, sole}
+use Rattle.time_table.proofs.FewerRecords.{counts_from-taken}
+use Rattle.time_table.proofs.TableForms.{single_taken, sole}
 use Rattle.time_table.proofs.form.Form.take.Goals as goal
 
 pub returns-in-Single-clause-form : goal.returns-in-Single-clause-form

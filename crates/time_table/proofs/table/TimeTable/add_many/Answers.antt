@@ -3,7 +3,7 @@ use Rattle.std.proofs.lemmas.Result.{on_ok_weaker, on_err_weaker}
 use Rattle.time_table.specs.Counts.{BinCounts, AllCounted, add_many, total_count}
 use Rattle.time_table.specs.Places.{more}
 use Rattle.time_table.specs.Forms.{form_entries}
-use Rattle.time_table.proofs.Formed.{total-form, added-form, same-form, AllCounted-form}
+use Rattle.time_table.proofs.TableForms.{total-form, added-form, same-form, AllCounted-form}
 use Rattle.time_table.proofs.table.TimeTable.add_many.Goals as goal
 
 pub add-requires-clause-fits : goal.add-requires-clause-fits

@@ -3,7 +3,7 @@ use Rattle.std.proofs.lemmas.Result.{on_ok_weaker, on_err_weaker}
 use Rattle.time_table.specs.Counts.{BinCounts, AllCounted, add_run, run_total, total_count}
 use Rattle.time_table.specs.Places.{more_run}
 use Rattle.time_table.specs.Forms.{form_entries}
-use Rattle.time_table.proofs.Formed.{total-form, run-form, same-form, AllCounted-form}
+use Rattle.time_table.proofs.TableForms.{total-form, run-form, same-form, AllCounted-form}
 use Rattle.time_table.proofs.Runs.{AllCounted-either}
 use Rattle.time_table.proofs.table.TimeTable.add_run.Goals as goal
 

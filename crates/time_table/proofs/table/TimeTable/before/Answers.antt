@@ -2,7 +2,7 @@ use Rattle.std.proofs.Common.{◌+◌, ◌≤◌, subst, ap, ◌∙◌, sym, ari
 use Rattle.std.specs.FinMap.{len}
 use Rattle.probe_core.specs.Bits.{bits}
 use Rattle.time_table.specs.Counts.{BinCounts, AllCounted}
-use Rattle.time_table.proofs.Formed.{len-form, AllCounted-form, find_cost-le}
+use Rattle.time_table.proofs.TableForms.{len-form, AllCounted-form, find_cost-le}
 use Rattle.time_table.proofs.table.TimeTable.before.Goals as goal
 
 pub returns-clause-cost : goal.returns-clause-cost

@@ -2,7 +2,7 @@ use Rattle.std.proofs.Common.{◌+◌, ◌≤◌, length, subst, ap, ◌∙◌, 
 use Rattle.std.specs.FinMap.{len}
 use Rattle.time_table.specs.Counts.{BinCounts, AllCounted}
 use Rattle.time_table.specs.Series.{each_before, each_cost}
-use Rattle.time_table.proofs.Formed.{len-form, AllCounted-form}
+use Rattle.time_table.proofs.TableForms.{len-form, AllCounted-form}
 use Rattle.time_table.proofs.table.TimeTable.before_each.Goals as goal
 
 pub returns-clause-cost : goal.returns-clause-cost

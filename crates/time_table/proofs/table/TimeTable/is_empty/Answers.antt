@@ -4,8 +4,8 @@ use Rattle.std.proofs.lemmas.List.{nil_from_length}
 use Rattle.time_table.specs.Counts.{BinCounts, AllCounted}
 use Rattle.time_table.specs.Totals.{counts}
 use Rattle.time_table.specs.Forms.{rows_of}
-use Rattle.time_table.proofs.Counted.{counts-nil, len-counts}
-use Rattle.time_table.proofs.Formed.{len-form, AllCounted-form}
+use Rattle.time_table.proofs.RowCounts.{counts-nil, len-counts}
+use Rattle.time_table.proofs.TableForms.{len-form, AllCounted-form}
 use Rattle.time_table.proofs.table.TimeTable.is_empty.Goals as goal
 
 pub returns-clause-empty : goal.returns-clause-empty

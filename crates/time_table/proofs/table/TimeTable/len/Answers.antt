@@ -1,7 +1,7 @@
 use Rattle.std.proofs.Common.{ap, sym, ◌∙◌}
 use Rattle.std.specs.FinMap.{len}
 use Rattle.time_table.specs.Counts.{BinCounts}
-use Rattle.time_table.proofs.Formed.{len-form}
+use Rattle.time_table.proofs.TableForms.{len-form}
 use Rattle.time_table.proofs.table.TimeTable.len.Goals as goal
 
 pub returns-clause-count : goal.returns-clause-count

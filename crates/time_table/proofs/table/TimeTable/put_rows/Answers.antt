@@ -3,7 +3,7 @@ use Rattle.std.specs.FinMap.{entries}
 use Rattle.std.proofs.lemmas.Result.{on_ok_weaker}
 use Rattle.time_table.specs.Counts.{BinCounts, AllCounted}
 use Rattle.time_table.specs.Forms.{form_entries}
-use Rattle.time_table.proofs.Formed.{entries-form, AllCounted-form}
+use Rattle.time_table.proofs.TableForms.{entries-form, AllCounted-form}
 use Rattle.time_table.proofs.table.TimeTable.put_rows.Goals as goal
 
 pub returns-clause-put : goal.returns-clause-put

@@ -1,7 +1,7 @@
 use Rattle.std.proofs.Common.{◌<◌, subst, arith}
 use Rattle.time_table.specs.Counts.{AllCounted, count_of}
 use Rattle.time_table.proofs.CountLaws.{count_of-some}
-use Rattle.time_table.proofs.Formed.{AllCounted-form}
+use Rattle.time_table.proofs.TableForms.{AllCounted-form}
 use Rattle.time_table.proofs.table.TimeTable.take.Goals as goal
 
 pub take_many-requires-clause-there : goal.take_many-requires-clause-there

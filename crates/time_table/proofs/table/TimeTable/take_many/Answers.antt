@@ -1,6 +1,6 @@
 use Rattle.std.proofs.Common.{◌≤◌, subst, ap, ◌∙◌, sym}
 use Rattle.time_table.specs.Counts.{BinCounts, take_many, count_of}
-use Rattle.time_table.proofs.Formed.{count-form, taken-form, AllCounted-form}
+use Rattle.time_table.proofs.TableForms.{count-form, taken-form, AllCounted-form}
 use Rattle.time_table.proofs.table.TimeTable.take_many.Goals as goal
 
 pub take-requires-clause-there : goal.take-requires-clause-there

@@ -1,5 +1,5 @@
 use Rattle.std.proofs.Common.{ap, subst, Err}
-use Rattle.top_call.proofs.Loaded.{head_of_refused, taken}
+use Rattle.top_call.proofs.FeedLoads.{head_of_refused, taken}
 use Rattle.cube_view.specs.declared.schema.Schema.{Schema}
 use Rattle.feed_reader.proofs.FeedLaws.{head_refused, too_large_refused}
 use Rattle.feed_reader.specs.Reading.{IsHeadRefused, LeavesAccepted, ReadsHeader}
