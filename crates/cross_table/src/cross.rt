@@ -46,7 +46,7 @@ fn text_of(alloc: Global, schema: &Schema, of: CategoryValue) -> Result<Text, No
     ensures { IfOk result (λ text. text ≡ text_of_value schema.now of.category of.value) }
 {
     let texts = value_texts(schema, of.category);
-    Text::copy_of(alloc, texts[usize::from(of.value)].as_str())
+    texts[usize::from(of.value)].copy(alloc)
 }
 
 /// How much the bag has in the query's box that has both values, where the walk to the region has ended with that cursor,

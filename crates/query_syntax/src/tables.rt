@@ -17,7 +17,7 @@ use crate::item::values_of;
 use crate::totals::{total_of, total_with};
 use crate::{Query, RowOut, Span, Table, Verb};
 use cube_view::{Point, Schema, Tile, quadrant};
-use outer_io::{List, NoMemory, Text};
+use outer_io::{List, NoMemory};
 use std::alloc::Global;
 
 /// The row of the total alone.
@@ -52,7 +52,7 @@ fn value_rows(
     let mut rows = List::new(alloc);
     for (v, text) in values_of(schema, k).iter().enumerate() {
         let total = total_with(schema, query, points, k, v as u8);
-        let text = Text::copy_of(alloc, text.as_str())?;
+        let text = text.copy(alloc)?;
         rows.add(RowOut::Value(text, total))?;
     }
     Ok(rows)

@@ -28,15 +28,15 @@ fn sum_row(alloc: Global, row: &RowOut, other: &RowOut) -> Result<RowOut, SumFau
     match (row, other) {
         (RowOut::One(n), RowOut::One(m)) => Ok(RowOut::One(sum_totals(*n, *m)?)),
         (RowOut::Value(s, n), RowOut::Value(t, m)) if is_same(s, t) => {
-            let text = Text::copy_of(alloc, s.as_str())?;
+            let text = s.copy(alloc)?;
             Ok(RowOut::Value(text, sum_totals(*n, *m)?))
         }
         (RowOut::Bin(s, n), RowOut::Bin(t, m)) if s == t => {
             Ok(RowOut::Bin(*s, sum_totals(*n, *m)?))
         }
         (RowOut::Pair(s, v, n), RowOut::Pair(t, w, m)) if is_same(s, t) && is_same(v, w) => {
-            let first = Text::copy_of(alloc, s.as_str())?;
-            let second = Text::copy_of(alloc, v.as_str())?;
+            let first = s.copy(alloc)?;
+            let second = v.copy(alloc)?;
             Ok(RowOut::Pair(first, second, sum_totals(*n, *m)?))
         }
         _ => Err(SumFault::OtherRows),

@@ -9,7 +9,7 @@ ghost use Rattle.query_walk.specs.Walks.{HasBox};
 ghost use Rattle.tile_drill.specs.Costs.{values_cost};
 
 use cube_view::CubeView;
-use outer_io::{List, NoMemory, Text};
+use outer_io::{List, NoMemory};
 use probe_core::Steps;
 use query_syntax::{Query, RowOut, Verb};
 use query_walk::{region_cursor, value_total};
@@ -34,7 +34,7 @@ pub fn value_rows<V: CubeView, L: Ledger>(
     let values = &view.schema().categories.get(place).values;
     let region = region_cursor(view, &query.region, steps);
     for value in 0..values.len() {
-        let text = Text::copy_of(alloc, values.get(value).as_str())?;
+        let text = values.get(value).copy(alloc)?;
         let total = value_total(view, query, place, value as u8, region, steps);
         rows.add(RowOut::Value(text, total))?;
     }

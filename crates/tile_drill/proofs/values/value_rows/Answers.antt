@@ -34,7 +34,7 @@ pub loop-value-preserved : goal.loop-value-preserved
 loop-value-preserved g c =
     let z = g.V.CubeView.schema c.args.view.now in
     let values = category_values c.schema.result.now z c.args.category c.from-place.result c.get.result.now c.get.ensures c.schema.ensures c.from-place.ensures c.requires.category in
-    let text = value_text_is c.get.result.now.values (values_at z.categories c.args.category) c.loop-value.value c.get-in-loop-value.result.now c.in_ok-text.text values (omega (arith, c.len-value-end.ensures, c.loop-value-test.true)) c.get-in-loop-value.ensures (c.in_ok-text.ensures ∙ c.as_str.ensures) in
+    let text = value_text_is c.get.result.now.values (values_at z.categories c.args.category) c.loop-value.value c.get-in-loop-value.result.now c.in_ok-text.text values (omega (arith, c.len-value-end.ensures, c.loop-value-test.true)) c.get-in-loop-value.ensures c.in_ok-text.ensures in
     record {
       rows = λ h counts. one_row_more (value_row z c.args.query.now h c.args.category) c.loop-value.value c.loop-value.rows c.add.new.self _ c.in_ok-add.ensures.added (c.loop-value.invariant.rows h counts)
           (value_row_is z c.args.query.now h c.args.category c.loop-value.value c.from-place.result c.value_total-total.result c.in_ok-text.text c.from-place.ensures text (c.value_total-total.ensures.total h counts));
