@@ -6,7 +6,7 @@
 # Its sources lie in bench/NAME with `.txt` after their names, since only a crate may hold sources.
 set -e
 # As `./nanocube` sets it.
-export GLIBC_TUNABLES="${GLIBC_TUNABLES:-glibc.malloc.hugetlb=1:glibc.malloc.tcache_count=512}"
+export GLIBC_TUNABLES="${GLIBC_TUNABLES:-glibc.malloc.hugetlb=1:glibc.malloc.arena_max=1:glibc.malloc.tcache_count=512}"
 unproved=
 if [ "$1" = --unproved ]; then
     unproved=yes

@@ -9,7 +9,7 @@ import argparse, os, shutil, subprocess, sys, tempfile, time
 
 BENCH = os.path.dirname(os.path.realpath(__file__))
 # All programs, peers too, are run with what `./nanocube` sets.
-os.environ.setdefault("GLIBC_TUNABLES", "glibc.malloc.hugetlb=1:glibc.malloc.tcache_count=512")
+os.environ.setdefault("GLIBC_TUNABLES", "glibc.malloc.hugetlb=1:glibc.malloc.arena_max=1:glibc.malloc.tcache_count=512")
 SECTIONS = {
     "feeds": ["python3 {bench}/feed_times.py {program} {feed_lines}"],
     "lists": ["{bench}/measure.sh table_times", "{tables}"],
