@@ -1,4 +1,5 @@
-//! The program `add_replies PLAN SCRIPT REPLIES REPLIES ..`: the replies to one script from 1 to 1,024 shares, added up.
+//! Shares. The program `add_replies PLAN SCRIPT REPLIES REPLIES ..`: the replies to one script from 1 to 1,024 shares, added
+//! up.
 //!
 //! [`program::add_replies`] does what the words of the command line say over a place and a sink, and `main` makes both
 //! for the real files and standard output, and ends with the status that the call gives. What a share is, and the law of

@@ -1,4 +1,4 @@
-//! An arena whose changes can be taken back.
+//! Cube. An arena whose changes can be taken back.
 //!
 //! A [`Work`] holds an arena and a trail of the changes that were made on it. The memory for the trail
 //! is taken before the changes, at the beginning or by [`Work::reserve`], so neither [`Work::keep`] nor

@@ -1,4 +1,4 @@
-//! A large run from one number: two generated feeds, a session beside them, and a summary over all records.
+//! Program. A large run from one number: two generated feeds, a session beside them, and a summary over all records.
 //!
 //! [`run_big`] makes the feeds of the states 1 and 2, runs them with two cubes by `cube_crew`, drops what the session beside
 //! them replied, and puts two lines of the report and the replies of the session after them in one put. The text is the

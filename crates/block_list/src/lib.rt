@@ -1,4 +1,4 @@
-//! A list whose items keep their places in memory for as long as they are in it.
+//! Cube. A list whose items keep their places in memory for as long as they are in it.
 //!
 //! Items lie in blocks of 64, each of which is asked for where all before it are full, and none of which grows. So no
 //! item is ever moved, and growing never wants the old and the new memory at once: `push_item` and `pop_item` of

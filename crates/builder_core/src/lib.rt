@@ -1,4 +1,4 @@
-//! The builder: it takes the items that a lane's drawing end draws, appends their entries to a pair, and publishes.
+//! Threads. The builder: it takes the items that a lane's drawing end draws, appends their entries to a pair, and publishes.
 //!
 //! A [`Builder`] publishes whenever as many entries are pending as its batch has, and what is left at the last feeder's
 //! End. Its journal is, entry for entry, the list that viewers have been shown beginnings of, and a prefix of the entries

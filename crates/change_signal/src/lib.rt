@@ -1,4 +1,4 @@
-//! How a thread waits until another one has changed what both share: it tries a few times, and then it sleeps.
+//! Threads. How a thread waits until another one has changed what both share: it tries a few times, and then it sleeps.
 //!
 //! What is shared, as a queue, is the caller's. A thread that cannot go on calls [`Signal::pause`] after each try that
 //! failed, and one that has changed what others may wait for calls [`Signal::notify`], which reads one word where nobody

@@ -1,4 +1,4 @@
-//! The feeders of a run: each reads the rows of one feed and sends their points through a lane.
+//! Threads. The feeders of a run: each reads the rows of one feed and sends their points through a lane.
 //!
 //! A feed's job with its end of a lane becomes a [`FeedWork`], which one thread runs in place; [`FeedWork::finish`]
 //! then takes it apart into a [`FeedDone`] and what is left of the end. What a run leaves is the record `HasFed` of

@@ -1,4 +1,4 @@
-//! Tables by two categories, and the tiles with the greatest totals, over any cube view.
+//! Cube. Tables by two categories, and the tiles with the greatest totals, over any cube view.
 //!
 //! [`cross_answer`] gives a row for each value of one category and, within it, each value of another. It walks to the
 //! region once, and from there on for each row with these two values alone: `specs/Costs.antt`. [`best_answer`] gives the

@@ -1,4 +1,5 @@
-//! A whole run of feeds and scripts on threads: feeders, the builder and the asks beside each other, and then the finals.
+//! Threads. A whole run of feeds and scripts on threads: feeders, the builder and the asks beside each other, and then the
+//! finals.
 //!
 //! [`run_crew`] is given [`Jobs`], each with its own source and sink, and two empty views of one schema. It opens a lane, a
 //! pair of the views and a mailbox for each session, runs all works by fork and join, ends the pair, runs the finals over

@@ -1,4 +1,4 @@
-//! The image of a cube: one text of bytes for its slots, whatever way they came about.
+//! Cube. The image of a cube: one text of bytes for its slots, whatever way they came about.
 //!
 //! An arena's slots stand in the order in which the cube's points made them. An image has them in an order of its own:
 //! the root, and then the targets of proper links as they appear (`specs/Order.antt`), each link leading to a place in

@@ -1,4 +1,4 @@
-//! The program. It calls [`top_call::nanocube`] over the real files and standard output.
+//! Program. It calls [`top_call::nanocube`] over the real files and standard output.
 //!
 //! `main` makes both, and ends with the status that the call gives. It prints nothing by itself.
 //!

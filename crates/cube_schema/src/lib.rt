@@ -1,4 +1,4 @@
-//! Plans: what a run is told, as one JSON object. [`read_plan`] reads its bytes and [`print_plan`] writes them.
+//! Text. Plans: what a run is told, as one JSON object. [`read_plan`] reads its bytes and [`print_plan`] writes them.
 //!
 //! It stands on `cube_view` for the schema, `outer_io` for texts and lists, and `serde_json` for JSON. It opens no file:
 //! that is left to whoever runs the plan. What bytes mean is the definition `plan_meaning` of `specs/Meaning.antt`, which

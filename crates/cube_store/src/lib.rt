@@ -1,4 +1,4 @@
-//! Cube: a cube that counts points, and answers without looking at each of them.
+//! Cube. A cube that counts points, and answers without looking at each of them.
 //!
 //! The type of a [`Cube`] keeps that there are points, sound for the schema, of which the arena has the shape: nodes with
 //! one child share its content, tables hold exactly the weights under their addresses, and links are exactly where a

@@ -1,4 +1,4 @@
-//! The records that a cube counts, the schema that says what they may be, and a cube as its readers see it.
+//! Cube. The records that a cube counts, the schema that says what they may be, and a cube as its readers see it.
 //!
 //! A [`Schema`] names the dimensions; a [`Point`] is a record at a [`Spot`] of them, with a weight. A [`CubeView`] is a
 //! bag of spots that is read by cursors: each stands at an [`Address`], and its calls count their steps; a view that

@@ -1,4 +1,4 @@
-//! Schemas, points and tiles that the tests of several crates share.
+//! Tests. Schemas, points and tiles that the tests of several crates share.
 //!
 //! The crate stands on `cube_view` and `outer_io`. Nothing but tests uses it.
 //!

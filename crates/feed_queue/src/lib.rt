@@ -1,4 +1,4 @@
-//! The lane from feeders to the builder: a bounded queue whose order is proved, whatever its threads do.
+//! Threads. The lane from feeders to the builder: a bounded queue whose order is proved, whatever its threads do.
 //!
 //! [`open_lane`] gives an end for each feeder, which sends entries and last its End, and one end that draws them.
 //! Contracts see each end as a small record (`specs/Ends.antt`), so that one clause says what a call does. Of each item

@@ -1,4 +1,4 @@
-//! The lines of a feed: a header, which says in which column each part of a record stands, and rows, which are points.
+//! Text. The lines of a feed: a header, which says in which column each part of a record stands, and rows, which are points.
 //!
 //! A line is read by itself. What a field and a record are is `csv`'s own definition, which `record_of` of
 //! `specs/Records.antt` cites; a regular line is split in place, and every other line is read by `csv`. What the bytes mean is the definition `head_of` of

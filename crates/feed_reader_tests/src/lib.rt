@@ -1,4 +1,4 @@
-//! What rows mean beside `csv`'s own reader, on random lines.
+//! Tests. What rows mean beside `csv`'s own reader, on random lines.
 //!
 //! A feed's reader reads regular lines by itself, and the others by `csv`. A line has to mean the same row as the line in
 //! which each field that `csv` reads stands in quotes. It stands on `feed_reader` for rows and on `csv`. All of it is

@@ -1,4 +1,4 @@
-//! Cube: the insertion of a group of points, each address that holds some of them visited once.
+//! Cube. The insertion of a group of points, each address that holds some of them visited once.
 //!
 //! [`add_group`] copies the points and visits the root with all of them. A visit of a node takes the content first and
 //! then label after label, from the least up, so whatever is copied is as it was before the group. A node all of whose

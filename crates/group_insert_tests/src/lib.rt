@@ -1,4 +1,4 @@
-//! Cubes that take their points in batches, against plain counts over the list of the points.
+//! Tests. Cubes that take their points in batches, against plain counts over the list of the points.
 //!
 //! A cube of drawn points is made again in several batchings: one by one, in groups of one size, and single points and
 //! groups by turns. After each the total at every address is what a plain count over the list gives, and each slot but

@@ -1,4 +1,4 @@
-//! Cubes saved as their images, and made again of them.
+//! Cube. Cubes saved as their images, and made again of them.
 //!
 //! [`read_image`] takes the bytes that `cube_image` writes, and no others: `image_parse` parses them, and `shape_test`
 //! decides whether the slots are a cube of the schema, with a size that some list of its points has. What it answers is one

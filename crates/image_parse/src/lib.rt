@@ -1,4 +1,4 @@
-//! Images read back: bytes that are taken for the image of a cube, and the slots of which they are the image.
+//! Cube. Images read back: bytes that are taken for the image of a cube, and the slots of which they are the image.
 //!
 //! `cube_image` says which bytes are the image of slots, and writes it. [`parse_image`] decides of any bytes whether they
 //! are an image, and builds the arena of its slots: `specs/Images.antt` says what an image is, and that bytes are the

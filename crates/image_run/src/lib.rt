@@ -1,4 +1,4 @@
-//! The form `load PLAN IMAGE SCRIPT` of the program: a script answered over the cube of an image, from files.
+//! Program. The form `load PLAN IMAGE SCRIPT` of the program: a script answered over the cube of an image, from files.
 //!
 //! [`load_files`] reads the plan as a run does, reads the image and makes its cube by `image_cube`, and answers the script
 //! over it as over a loaded feed. An image that is refused has its line, `image: FAULT`, and the script is not opened;

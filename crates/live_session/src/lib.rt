@@ -1,4 +1,4 @@
-//! A session at a live pair: a script answered line by line, each line over what the pair shows then.
+//! Sessions. A session at a live pair: a script answered line by line, each line over what the pair shows then.
 //!
 //! [`Session::turn`] reads one line, learns what the session's mailbox holds, looks once where the line asks for it, and
 //! puts at most one reply, in one put; [`Session::run`] does so to the script's end. What the sink gained is a transcript

@@ -1,4 +1,4 @@
-//! A mailbox from a pair's publisher to one session: a place for one told length, the last that was put.
+//! Threads. A mailbox from a pair's publisher to one session: a place for one told length, the last that was put.
 //!
 //! [`open_mail`] gives the end that puts and the end that takes. Contracts see in both the mailbox's own name and the
 //! pair's, in [`MailIn`] the lengths that were put, in order, and in [`MailOut`] how often it was asked

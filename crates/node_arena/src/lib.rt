@@ -1,4 +1,4 @@
-//! Cube: its slots, which are nodes and time tables, and the links between them.
+//! Cube. Its slots, which are nodes and time tables, and the links between them.
 //!
 //! An [`Arena`] is seen as a list of slots. A node has children, which are labels with links in rising
 //! order of label, and perhaps a content link; a time table has its counts. A link is proper or shared.

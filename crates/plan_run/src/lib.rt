@@ -1,4 +1,4 @@
-//! The run of a plan: its feeds are loaded by threads into a cube while its scripts are answered.
+//! Program. The run of a plan: its feeds are loaded by threads into a cube while its scripts are answered.
 //!
 //! [`run_plan`] opens what the plan names, runs feeders, builder and sessions over two empty cubes, and closes the run.
 //! What it leaves is one record, `RunEnds` of `specs/Ends.antt`. Its heart is `IsCompleted` of `specs/Completed.antt`, which

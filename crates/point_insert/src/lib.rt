@@ -1,4 +1,4 @@
-//! Cube: adding a point to a dimension, which is its trail and what each node of it gets as content.
+//! Cube. Adding a point to a dimension, which is its trail and what each node of it gets as content.
 //!
 //! [`add`] makes the point's trail and visits its nodes from the finest to the root. A visit takes the first of five
 //! cases: an only child's content is shared; a content that is not there is made; a shared one that was not updated is

@@ -1,4 +1,4 @@
-//! The trail of a point: its nodes in one dimension, made the root's own.
+//! Cube. The trail of a point: its nodes in one dimension, made the root's own.
 //!
 //! [`trail`] starts at the root of a dimension and follows the point's labels. A child that is not there is added, a
 //! shared child is replaced by a shallow copy, and a proper child is kept, so what is written at or below a node of the

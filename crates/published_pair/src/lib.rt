@@ -1,4 +1,5 @@
-//! A pair of copies of a cube: one publisher adds points to it, and viewers look at it without waiting for the publisher.
+//! Threads. A pair of copies of a cube: one publisher adds points to it, and viewers look at it without waiting for the
+//! publisher.
 //!
 //! [`open`] gives a [`Publisher`] and its viewers. What is appended is seen by nobody until it is published. Each
 //! [`Viewer::look`] shows a view that counts a published list, of which every list that this viewer was shown or told

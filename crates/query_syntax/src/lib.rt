@@ -1,4 +1,4 @@
-//! The query language, read and printed, and what a query asks for.
+//! Text. The query language, read and printed, and what a query asks for.
 //!
 //! [`parse`] answers the meaning of a line, which `specs/Meaning.antt` defines: a query, or the first fault from the
 //! left with the number of its word. [`print`] answers the line of a query, which `specs/Spelling.antt` defines; that

@@ -1,4 +1,4 @@
-//! What lines of the query language mean, how their queries are printed, which queries a schema takes, and what their
+//! Tests. What lines of the query language mean, how their queries are printed, which queries a schema takes, and what their
 //! tables are, on worked examples.
 //!
 //! Expected values are those of the language's definition, written out by hand. A test is a table of lines that a helper

@@ -1,4 +1,4 @@
-//! The total of a query over any cube view, and the rows of a map.
+//! Cube. The total of a query over any cube view, and the rows of a map.
 //!
 //! [`total`] walks from all of space to the query's region, through each category, by the values of its set where it
 //! has one, and to time, where it reads two running totals. So its steps are bounded by what the query's addresses

@@ -1,4 +1,5 @@
-//! A session's transcript audited without the tree: a journal, a script and the replies to it, compared by plain filters.
+//! Program. A session's transcript audited without the tree: a journal, a script and the replies to it, compared by plain
+//! filters.
 //!
 //! [`check`] needs nothing of the run that made the texts. When they agree is defined in `specs/Agreement.antt`, by the
 //! journal's text (`feed_queue`), interleavings (`world_core`) and transcripts (`session_core`), which are what a run

@@ -1,4 +1,4 @@
-//! Replies: what is answered to a query, as one line of compact JSON, printed and read.
+//! Text. Replies: what is answered to a query, as one line of compact JSON, printed and read.
 //!
 //! [`print_reply_in`] writes the text of a reply, which `specs/Printed.antt` defines, and [`read_reply`] reads exactly
 //! these texts. Tables and faults come from `query_syntax`, digits from the kit's `itoa`, the escapes of a text from its

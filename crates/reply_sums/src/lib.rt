@@ -1,4 +1,4 @@
-//! Replies to one question over disjoint lists of points, added up.
+//! Shares. Replies to one question over disjoint lists of points, added up.
 //!
 //! Totals over disjoint lists of points add up, so the reply over all of them is the sum of the replies over each.
 //! [`reply_over_none`] is the reply over no points, and [`sum_replies`] adds two: the rows of `count`, `hist`, `series`,

@@ -1,4 +1,4 @@
-//! The files of a run of a plan, before its threads start and after they ended, and what a run prints.
+//! Program. The files of a run of a plan, before its threads start and after they ended, and what a run prints.
 //!
 //! [`load_plan`] reads the plan, [`open_feeds`] opens the feeds and reads their headers, which makes jobs of them, and
 //! [`open_scripts`] opens the scripts and creates the files for their replies and the journal. The first trouble ends

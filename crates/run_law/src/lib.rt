@@ -1,4 +1,5 @@
-//! The law of whole runs: what the ends of a run do, step by step, is what the loading machine does, event by event.
+//! Threads. The law of whole runs: what the ends of a run do, step by step, is what the loading machine does, event by
+//! event.
 //!
 //! A run is seen as its ends show it at one moment (`specs/Views.antt`): what each feeder has sent, what is queued and
 //! drawn, the builder, and what each session was shown and told. `specs/Moves.antt` says what each step changes, by the

@@ -1,4 +1,4 @@
-//! The form `save PLAN IMAGE` of the program: the cube of a plan's feeds, saved as its image.
+//! Program. The form `save PLAN IMAGE` of the program: the cube of a plan's feeds, saved as its image.
 //!
 //! [`save_files`] reads the plan and the headers as a run does, reads the feeds in the plan's order into one cube, and
 //! writes the cube's image to the named file. It says what was counted of the feeds and how long the image is, or the one

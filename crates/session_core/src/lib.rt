@@ -1,4 +1,4 @@
-//! Sessions: scripts answered line by line over a cube view.
+//! Sessions. Scripts answered line by line over a cube view.
 //!
 //! [`next_asked`] says what the next line means, [`serve`] answers it, [`serve_unseen`] where it asks for no look at the
 //! view, and [`answer_lines`] and [`answer_script`] answer the lines of a script up to its first `quit`, in a sink. What a script asks is defined in `specs/Asked.antt`, and what is answered to it, its

@@ -1,4 +1,4 @@
-//! What makes slots a cube of a schema, said slot by slot, and tested of single slots.
+//! Cube. What makes slots a cube of a schema, said slot by slot, and tested of single slots.
 //!
 //! The shape of `node_arena` says of slots and of a list of spots that the slots are a cube which counts the list. Where
 //! slots alone are given, as by an image, no list is known. The conditions of `specs/Local.antt` speak of slots alone:

@@ -1,4 +1,4 @@
-//! The replies of shares to one script, added up from files.
+//! Shares. The replies of shares to one script, added up from files.
 //!
 //! A share is a list of points of its own, with the final replies to a script over them. [`add_shares`] reads the plan, the
 //! script and the replies of each share, and puts the replies over all of them. That these are the final transcript over

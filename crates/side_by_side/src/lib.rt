@@ -1,4 +1,5 @@
-//! Two works side by side, by fork and join: one in a thread of its own, where one can be made, and one in the caller's.
+//! Threads. Two works side by side, by fork and join: one in a thread of its own, where one can be made, and one in the
+//! caller's.
 //!
 //! [`run_both`] gives each work its number and a value that it alone may change, and returns when both are done. What it
 //! promises of each is what that work promises, over every order of the two threads' steps. It stands on std alone. What the

@@ -1,4 +1,4 @@
-//! The table of a count, a histogram, a map or a series over any cube view.
+//! Cube. The table of a count, a histogram, a map or a series over any cube view.
 //!
 //! [`answer`] gives the rows that `query_syntax` defines over any list of points that the view counts. It reads the
 //! view by cursors alone. The rows of a histogram are walks from one cursor at the region, those of a series are read off

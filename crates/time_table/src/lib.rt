@@ -1,4 +1,4 @@
-//! How much fell into each bin of time.
+//! Cube. How much fell into each bin of time.
 //!
 //! A [`TimeTable`] is seen as a finite map from a bin to its count. The count of an interval is the
 //! difference of two calls of `before`, and each of these takes at most one step more than the number

@@ -1,4 +1,4 @@
-//! Time tables that grow, are split and shrink, each test a list of cases that one helper takes.
+//! Tests. Time tables that grow, are split and shrink, each test a list of cases that one helper takes.
 //!
 //! It stands on `time_table` for the tables, and on `probe_core` for steps. All of it is tests.
 //!

@@ -1,4 +1,4 @@
-//! The top call. [`nanocube`] does what the words of the command line say over a place and a sink.
+//! Program. The top call. [`nanocube`] does what the words of the command line say over a place and a sink.
 //!
 //! It stands on all crates that the program uses, and leaves to them what a feed, a script and a reply are; it decides
 //! which words are a form, what each form reads and writes, and why a status comes. The program `cube_main` calls it

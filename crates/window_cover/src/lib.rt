@@ -1,4 +1,4 @@
-//! Windows over any cube view: totals of rectangles of finest tiles.
+//! Cube. Windows over any cube view: totals of rectangles of finest tiles.
 //!
 //! [`cover`] gives the largest tiles inside a rectangle, in path order: they are the fewest tiles that hold its finest
 //! tiles, each of these once. [`window_total`] counts what a query asks for in the rectangle of its verb. It walks from

@@ -1,4 +1,4 @@
-//! Runs the cases of files, one after another: the top call over files in memory, and what it leaves.
+//! Program. Runs the cases of files, one after another: the top call over files in memory, and what it leaves.
 //!
 //! The words of the command line name the files. A case puts files into a place, says which calls on them fail, runs the
 //! top call on words, and names the files to show. What is printed is compared with a stored text, so a case costs no

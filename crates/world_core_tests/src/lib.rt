@@ -1,4 +1,5 @@
-//! Runs of the loading machine, against worlds that were worked out by hand and against a straight program over lists.
+//! Tests. Runs of the loading machine, against worlds that were worked out by hand and against a straight program over
+//! lists.
 //!
 //! It stands on `world_core`, and on `query_syntax` for the queries of looks. All of it is tests; which steps of the lane are
 //! events of the machine is proved in `feed_queue`.
