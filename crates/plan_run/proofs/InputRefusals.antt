@@ -84,8 +84,9 @@ module _ {I O : Type 0} (i : SourceSeen I) (s : SinkSeen O) (is_stat : Stat → 
   abbrev pub IsRefusedScript : List ℕ → Type 0
   IsRefusedScript name = is_script_refused schema (file_or_empty files name) ≡ true
 
+  -- the script of a session that had too much is over the limit, and it is refused
   pub large_script : (name : List ℕ) (before : SessionState I O) (done : SessionDone I O) → IsSessionOf i.left i.faults s (Some files) name before → LeavesTranscript (ends_seen i s) is_stat schema final (closing closed starved points) before done
-      → session_end done.fault ≡ Err FeedRefused → IsLarge name
+      → session_end done.fault ≡ Err FeedRefused → IsLarge name × IsRefusedScript name
   large_script name before done ready leaves end =
       let much : IsErrOf leaves.end fault.TooMuch = ended_by leaves.end fault.TooMuch (sym leaves.numbers.2 ∙ session_refused_end done.fault end) in
       let script = file_or_empty files name in
@@ -94,14 +95,7 @@ module _ {I O : Type 0} (i : SourceSeen I) (s : SinkSeen O) (is_stat : Stat → 
       ap (λ (k : Cutter I). input_size i.left k) ready.script.is_new
       ∙ ap (λ (o : Option (List ℕ)). option_map (λ rest. 0 + length rest) (option_map (λ more. [] ++ more) o)) ready.script.left_is in
       let large = Told-some (input_size i.left cutter) (0 + length script) (λ n. input_limit < n) size (leaves.too_much much).1 in
-      omega (arith, large)
-
-  -- the script of a session that had too much is refused
-  refused_script : (name : List ℕ) (before : SessionState I O) (done : SessionDone I O) → IsSessionOf i.left i.faults s (Some files) name before → LeavesTranscript (ends_seen i s) is_stat schema final (closing closed starved points) before done
-      → session_end done.fault ≡ Err FeedRefused → IsRefusedScript name
-  refused_script name before done ready leaves end =
-      let much : IsErrOf leaves.end fault.TooMuch = ended_by leaves.end fault.TooMuch (sym leaves.numbers.2 ∙ session_refused_end done.fault end) in
-      Told-some (i.left before.source.source) (file_or_empty files name) (λ script. is_script_refused schema script ≡ true) ready.script.left_is (leaves.refused much ready.script.is_new)
+      (omega (arith, large), Told-some (i.left before.source.source) (file_or_empty files name) (λ script. is_script_refused schema script ≡ true) ready.script.left_is (leaves.refused much ready.script.is_new))
 
   pub refused_scripts : (names : List (List ℕ)) (befores : List (SessionState I O)) (dones : List (SessionDone I O)) → AllZip (IsSessionOf i.left i.faults s (Some files)) names befores
       → AllZip (LeavesTranscript (ends_seen i s) is_stat schema final (closing closed starved points)) befores dones → AnyOf (λ (d : SessionDone I O). session_end d.fault ≡ Err FeedRefused) dones → AnyOf IsRefusedScript names
@@ -110,5 +104,5 @@ module _ {I O : Type 0} (i : SourceSeen I) (s : SinkSeen O) (is_stat : Stat → 
   refused_scripts [] (b ∷ befores) dones ready leave any = absurd ready
   refused_scripts (n ∷ names) [] dones ready leave any = absurd ready
   refused_scripts (n ∷ names) (b ∷ befores) [] ready leave any = absurd any
-  refused_scripts (n ∷ names) (b ∷ befores) (d ∷ dones) ready leave (inl end) = inl (refused_script n b d ready.0 leave.0 end)
+  refused_scripts (n ∷ names) (b ∷ befores) (d ∷ dones) ready leave (inl end) = inl (large_script n b d ready.0 leave.0 end).1
   refused_scripts (n ∷ names) (b ∷ befores) (d ∷ dones) ready leave (inr any) = inr (refused_scripts names befores dones ready.1 leave.1 any)

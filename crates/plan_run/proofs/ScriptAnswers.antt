@@ -70,7 +70,7 @@ module _ {I O : Type 0} (i : SourceSeen I) (s : SinkSeen O) (schema : Schema) (f
   pub stops_script : end ≢ Err PlanRefused → (name : List ℕ) (done : SessionDone I O) → HasRun name done → rank_end end ≤ rank_end (session_end done.fault) → StopsScript schema closed end files name (script_counts done)
   stops_script planned name done run first = record {
     read = session_read end planned done.fault first;
-    too_much = λ much. large_script i s OwnsAllButRoot schema final closed starved points files name run.before done run.ready run.leaves (ap session_end much);
+    too_much = λ much. (large_script i s OwnsAllButRoot schema final closed starved points files name run.before done run.ready run.leaves (ap session_end much)).0;
     refused = λ shut r w m bad. run.leaves.numbers.2 ∙ named_end run.leaves.end
         (λ whole. Told-some (i.left run.before.source.source) (file_or_empty files name) (λ script. is_script_refused schema script ≡ false) run.ready.script.left_is (taken_end run.leaves.end whole (run.leaves.taken shut) run.ready.script.is_new))
         (λ is. r (run.leaves.numbers.2 ∙ is)) (λ is. w (run.leaves.numbers.2 ∙ is)) (λ is. m (run.leaves.numbers.2 ∙ is)) bad;
