@@ -63,9 +63,9 @@ module _ (is_stat : Stat → Type 0) (count : ℕ) (jobs : Jobs RunSource StillO
   printed-found interleave found =
       let each = feeds_each in
       let all = crewed.found found in
-      let fed : All (λ (done : FeedDone RunSource). done.fault ≢ Some cut.NoMemory) (each.done ∷ each.done_too ∷ []) = subst (All (λ (done : FeedDone RunSource). done.fault ≢ Some cut.NoMemory)) each.dones_are all.feeds in
-      let first_found : each.done.fault ≢ Some cut.NoMemory = fed 0 each.done (lit< tt) in
-      let second_found : each.done_too.fault ≢ Some cut.NoMemory = fed 1 each.done (lit< tt) in
+      let fed : All (λ (done : FeedDone RunSource). done.counts.fault ≢ Some cut.NoMemory) (each.done ∷ each.done_too ∷ []) = subst (All (λ (done : FeedDone RunSource). done.counts.fault ≢ Some cut.NoMemory)) each.dones_are all.feeds in
+      let first_found : each.done.counts.fault ≢ Some cut.NoMemory = fed 0 each.done (lit< tt) in
+      let second_found : each.done_too.counts.fault ≢ Some cut.NoMemory = fed 1 each.done (lit< tt) in
       let sent = sent-given 1 count has.feeds.first each.sent each.done has.feeds.first_is each.first_leaves first_found in
       let sent_too = sent-given 2 count has.feeds.second each.sent_too each.done_too has.feeds.second_is each.second_leaves second_found in
       let line = counts_line-given (codes "gen1") 1 count has.feeds.first each.sent each.done has.feeds.first_is each.first_leaves first_found in

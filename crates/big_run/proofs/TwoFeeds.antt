@@ -1,6 +1,6 @@
 -- What the two feeds of a large run leave where memory was found.
 use Rattle.std.proofs.Common.{◌≡◌, ◌≢◌, ℕ, ◌<◌, ◌≤◌, List, [], ◌∷◌, map, length, Option, Some, None, refl, ap, ◌∙◌, arith, IsSomeAnd}
-use Rattle.crew_feeder.specs.Leaving.{GivesUntil, feed_counts}
+use Rattle.crew_feeder.specs.Leaving.{GivesUntil}
 use Rattle.crew_feeder.specs.declared.done.FeedDone.{FeedDone}
 use Rattle.cube_crew.specs.Crewed.{FeedsLeave, LeavesFeed, feed_rows}
 use Rattle.cube_view.specs.Points.{Point}
@@ -37,27 +37,27 @@ all_given start now lines (Some cut.Read) P given found within has = absurd (ome
 all_given start now lines (Some cut.NoMemory) P given found within has = absurd (found refl)
 
 -- so its rows are those of the whole feed
-rows-given : (state count : ℕ) (job : FeedJob RunSource) (sent : List Point) (done : FeedDone RunSource) → IsFeed state count job → (left : LeavesFeed left_in no_faults job sent done) → done.fault ≢ Some cut.NoMemory
+rows-given : (state count : ℕ) (job : FeedJob RunSource) (sent : List Point) (done : FeedDone RunSource) → IsFeed state count job → (left : LeavesFeed left_in no_faults job sent done) → done.counts.fault ≢ Some cut.NoMemory
     → feed_rows job left.lines ≡ rows big_schema (generated_feed state count)
 rows-given state count job sent done is left found =
     ap (λ (s : Schema). map (row_of_line s job.header.places) left.lines) is.schema
-    ∙ all_given job.cutter left.cutter left.lines done.fault (λ lines. map (row_of_line big_schema job.header.places) lines ≡ rows big_schema (generated_feed state count)) left.given found is.size is.rows
+    ∙ all_given job.cutter left.cutter left.lines done.counts.fault (λ lines. map (row_of_line big_schema job.header.places) lines ≡ rows big_schema (generated_feed state count)) left.given found is.size is.rows
 
 -- it sent the accepted points of the feed
-pub sent-given : (state count : ℕ) (job : FeedJob RunSource) (sent : List Point) (done : FeedDone RunSource) → IsFeed state count job → LeavesFeed left_in no_faults job sent done → done.fault ≢ Some cut.NoMemory
+pub sent-given : (state count : ℕ) (job : FeedJob RunSource) (sent : List Point) (done : FeedDone RunSource) → IsFeed state count job → LeavesFeed left_in no_faults job sent done → done.counts.fault ≢ Some cut.NoMemory
     → sent ≡ accepted big_schema (generated_feed state count)
 unfolding accepted
 sent-given state count job sent done is left found = left.accepted.0 ∙ ap points_in (rows-given state count job sent done is left found)
 
 -- and counted its rows
-pub counts_line-given : (name : List ℕ) (state count : ℕ) (job : FeedJob RunSource) (sent : List Point) (done : FeedDone RunSource) → IsFeed state count job → LeavesFeed left_in no_faults job sent done → done.fault ≢ Some cut.NoMemory
-    → counts_line name (feed_counts done) ≡ feed_line name state count
+pub counts_line-given : (name : List ℕ) (state count : ℕ) (job : FeedJob RunSource) (sent : List Point) (done : FeedDone RunSource) → IsFeed state count job → LeavesFeed left_in no_faults job sent done → done.counts.fault ≢ Some cut.NoMemory
+    → counts_line name done.counts ≡ feed_line name state count
 unfolding counts_line feed_line
 counts_line-given name state count job sent done is left found =
     let same = rows-given state count job sent done is left found in
-    let fed : done.accepted ≡ length (points_in (rows big_schema (generated_feed state count))) = left.accepted.1 ∙ ap length (left.accepted.0 ∙ ap points_in same) in
-    let blank : done.blank ≡ count_blank (rows big_schema (generated_feed state count)) = left.counts.0 ∙ ap count_blank same in
-    let refused : done.refused ≡ count_refused (rows big_schema (generated_feed state count)) = left.counts.1 ∙ ap count_refused same in
+    let fed : done.counts.accepted ≡ length (points_in (rows big_schema (generated_feed state count))) = left.accepted.1 ∙ ap length (left.accepted.0 ∙ ap points_in same) in
+    let blank : done.counts.blank ≡ count_blank (rows big_schema (generated_feed state count)) = left.counts.0 ∙ ap count_blank same in
+    let refused : done.counts.refused ≡ count_refused (rows big_schema (generated_feed state count)) = left.counts.1 ∙ ap count_refused same in
     rw (fed, blank, refused) refl
 
 -- What two feeds leave, each by itself

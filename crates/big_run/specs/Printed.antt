@@ -1,6 +1,5 @@
 -- What is printed of a run that has ended.
 use Rattle.std.specs.Prelude.{◌≡◌, ℕ, List, [], ◌∷◌, ◌++◌, codes, length}
-use Rattle.crew_feeder.specs.Leaving.{feed_counts}
 use Rattle.crew_feeder.specs.declared.done.FeedDone.{FeedDone}
 use Rattle.live_session.specs.declared.done.SessionDone.{SessionDone}
 use Rattle.cube_crew.specs.declared.jobs.Crewed.{Crewed}
@@ -14,7 +13,7 @@ CameBackWhole c = (length c.feeds ≡ 2) × (length c.asks ≡ 1) × (length c.f
 
 -- the lines of two feeds, and what the session after them has put
 abbrev pub printed_parts : List (FeedDone RunSource) → List (SessionDone RunSource StillOutput) → List ℕ
-printed_parts (first ∷ second ∷ []) (last ∷ []) = counts_line (codes "gen1") (feed_counts first) ++ counts_line (codes "gen2") (feed_counts second) ++ last.sink.held
+printed_parts (first ∷ second ∷ []) (last ∷ []) = counts_line (codes "gen1") first.counts ++ counts_line (codes "gen2") second.counts ++ last.sink.held
 printed_parts feeds finals = []
 
 -- what is printed of a run of that shape

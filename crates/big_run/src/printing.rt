@@ -4,6 +4,7 @@ ghost use Rattle.run_files.specs.Lines.{counts_line};
 ghost use Rattle.big_run.specs.Printed.{CameBackWhole, printed};
 
 use crate::source::RunSource;
+use crew_feeder::FeedDone;
 use cube_crew::Crewed;
 use feed_reader::FeedCounts;
 use live_session::SessionDone;
@@ -26,6 +27,14 @@ fn parts_text(
     let mut text = lines.into_bytes();
     text.extend_from_slice(replies)?;
     Ok(text)
+}
+
+/// What was counted of a feed, whose source is dropped.
+fn counts_of(done: FeedDone<RunSource>) -> FeedCounts
+    ensures { result ≡ done.counts }
+{
+    let FeedDone { source: _, counts } = done;
+    counts
 }
 
 /// The sink of a session, all else of which is dropped.
@@ -92,8 +101,7 @@ pub(crate) fn print_run(
         closed: _,
     } = crewed;
     let (first, second) = both_of(feeds);
-    let (_source, first) = first.into_counts();
-    let (_source, second) = second.into_counts();
+    let (first, second) = (counts_of(first), counts_of(second));
     let _unused = sink_of(only_of(asks));
     let sink = sink_of(only_of(finals));
     if starved {

@@ -3,7 +3,6 @@ use Rattle.std.specs.Prelude.{◌≡◌, ℕ, ◌+◌, ◌≤◌, Bool, List, �
 use Rattle.feed_reader.specs.Feeds.{points_in}
 use Rattle.feed_reader.specs.RowCounts.{count_blank, count_refused, first_refusals}
 use Rattle.feed_reader.specs.Rows.{row_of_line}
-use Rattle.feed_reader.specs.declared.counts.FeedCounts.{FeedCounts}
 use Rattle.feed_reader.specs.declared.row.Row.{Row}
 use Rattle.outer_io.specs.Cutting.{Cutter, lines_left}
 use Rattle.outer_io.specs.Faults.{Rose}
@@ -12,12 +11,7 @@ use Rattle.outer_io.specs.Progress.{IsTooLarge, PassesAll}
 use Rattle.outer_io.specs.Told.{Told}
 use Rattle.outer_io.specs.declared.cutter.CutFault.{CutFault}
 use Rattle.outer_io.specs.declared.cutter.CutFault.TheVariants as fault
-use Rattle.crew_feeder.specs.declared.done.FeedDone.{FeedDone}
 use Rattle.crew_feeder.specs.declared.work.FeedWork.{FeedWork}
-
--- what is counted of a feed that was read
-abbrev pub feed_counts : {I : Type 0} → FeedDone I → FeedCounts
-feed_counts feed = record { accepted = feed.accepted; blank = feed.blank; refused = feed.refused; fault = feed.fault; first = feed.first }
 
 -- What a work has done since it was as at first, where it took these rows
 pub record HasTaken {I : Type 0} (start now : FeedWork I) (rows : List Row) : Type 0 where

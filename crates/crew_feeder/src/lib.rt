@@ -13,7 +13,7 @@
 //! let mut work = FeedWork::new(FeedJob { cutter, header }, end, first);
 //! work.run(rt, alloc, &schema);
 //! let (done, ended) = work.finish();
-//! done.accepted;  // how many entries were sent
+//! done.counts.accepted;  // how many entries were sent
 //! ```
 #![tactic(auto)]
 

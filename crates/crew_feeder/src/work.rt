@@ -8,7 +8,7 @@ ghost use Rattle.crew_feeder.specs.Taking.{IsReady, having_ended, having_fed, ha
 use crate::FeedDone;
 use cube_view::{Point, Schema};
 use feed_queue::{Ended, FeedEnd, Item};
-use feed_reader::{FeedJob, FirstRefusals, Header, Refusal, Row, next_row};
+use feed_reader::{FeedCounts, FeedJob, FirstRefusals, Header, Refusal, Row, next_row};
 use outer_io::{CutFault, LineCutter, Source};
 use std::alloc::Global;
 use std::sync::Wait;
@@ -112,14 +112,14 @@ impl<I: Source> FeedWork<I> {
         send_end(rt, &mut self.end);
     }
 
-    /// What was counted, and what is left of the end. It takes no memory.
+    /// The source with what was counted, and what is left of the end. It takes no memory.
     pub fn finish(self) -> (FeedDone<I>, Ended)
         requires { self.end.ended ≡ true }
         ensures source { result.0.source ≡ self.cutter.source }
-        ensures accepted { result.0.accepted ≡ length self.end.points }
-        ensures counts { (result.0.blank ≡ self.blank) × (result.0.refused ≡ self.refused) }
-        ensures first { result.0.first ≡ self.first }
-        ensures fault { result.0.fault ≡ self.fault }
+        ensures accepted { result.0.counts.accepted ≡ length self.end.points }
+        ensures counts { (result.0.counts.blank ≡ self.blank) × (result.0.counts.refused ≡ self.refused) }
+        ensures first { result.0.counts.first ≡ self.first }
+        ensures fault { result.0.counts.fault ≡ self.fault }
         ensures ended { result.1 ≡ self.end }
     {
         let FeedWork {
@@ -131,14 +131,14 @@ impl<I: Source> FeedWork<I> {
             first,
             fault,
         } = self;
-        let done = FeedDone {
-            source: cutter.into_source(),
+        let counts = FeedCounts {
             accepted: u64::from(end.sent()),
             blank,
             refused,
-            first: first.into_list(),
             fault,
+            first: first.into_list(),
         };
-        (done, end.finish())
+        let source = cutter.into_source();
+        (FeedDone { source, counts }, end.finish())
     }
 }

@@ -55,7 +55,7 @@ module _ {I O : Type 0} (these : SessionEnds I O) (is_stat : Stat → Type 0) (s
         journal = all;
         closed = (ends.found enough).0;
         told = subst (All (λ (mail : InEnd). mail.lengths ≡ told_lengths schema.batch (length c.journal))) (sym ends.mails) at_journal;
-        feeds = subst (All (λ (done : FeedDone I). done.fault ≢ Some cut.NoMemory)) (sym ends.feeds) (All-map (λ (done : FeedDone I). done.fault ≢ Some cut.NoMemory) fed_of works (ends.fed enough).0);
+        feeds = subst (All (λ (done : FeedDone I). done.counts.fault ≢ Some cut.NoMemory)) (sym ends.feeds) (All-map (λ (done : FeedDone I). done.counts.fault ≢ Some cut.NoMemory) fed_of works (ends.fed enough).0);
       }
 
   pub crewed : StaysTranscript is_stat → (draws : DrawState) (front : Known) (ends : List FeedState) (puts : List InEnd) (takes final_takes : List OutEnd) (works : List (FeedWork I)) (before building : Building) (asks : List (WorkState I O)) (c : Crewed I O)

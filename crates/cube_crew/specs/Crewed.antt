@@ -42,15 +42,15 @@ pub record LeavesFeed {I : Type 0} (left : I → Option (List ℕ)) (faults : I 
   -- the cutter after them
   pub cutter : Cutter I
   -- it gave them until the fault, or until its end
-  pub given : GivesUntil left faults job.cutter cutter lines done.fault
+  pub given : GivesUntil left faults job.cutter cutter lines done.counts.fault
   -- the source is as it left it
   pub source : done.source ≡ cutter.source
   -- the accepted points among their rows were sent
-  pub accepted : (sent ≡ points_in (feed_rows job lines)) × (done.accepted ≡ length sent)
+  pub accepted : (sent ≡ points_in (feed_rows job lines)) × (done.counts.accepted ≡ length sent)
   -- the blank and the refused rows were counted
-  pub counts : (done.blank ≡ count_blank (feed_rows job lines)) × (done.refused ≡ count_refused (feed_rows job lines))
+  pub counts : (done.counts.blank ≡ count_blank (feed_rows job lines)) × (done.counts.refused ≡ count_refused (feed_rows job lines))
   -- and the first refusals kept, with the numbers of their lines
-  pub first : done.first ≡ first_refusals (job.cutter.given + 1) (feed_rows job lines)
+  pub first : done.counts.first ≡ first_refusals (job.cutter.given + 1) (feed_rows job lines)
 
 module _ {I : Type 0} (left : I → Option (List ℕ)) (faults : I → ℕ) where
   -- each feed leaves that, in order
@@ -89,7 +89,7 @@ pub record FoundAll {I O : Type 0} (schema : Schema) (c : Crewed I O) : Type 0 w
   -- each mailbox got the multiples of the batch up to the journal's length, and then that length
   pub told : All (λ (mail : InEnd). mail.lengths ≡ told_lengths schema.batch (length c.journal)) c.mails
   -- and no feed ended for want of memory
-  pub feeds : All (λ (done : FeedDone I). done.fault ≢ Some cut.NoMemory) c.feeds
+  pub feeds : All (λ (done : FeedDone I). done.counts.fault ≢ Some cut.NoMemory) c.feeds
 
 -- over what contracts see of sources and sinks, a structure whose numbers meet the test, and a schema
 module _ {I O : Type 0} (ends : SessionEnds I O) (is_stat : Stat → Type 0) (schema : Schema) where

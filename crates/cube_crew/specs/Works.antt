@@ -20,7 +20,7 @@ works_of (job ∷ jobs) (end ∷ ends) = new_work job end ∷ works_of jobs ends
 
 -- what a feeder's work gives back
 abbrev pub fed_of : {I : Type 0} → FeedWork I → FeedDone I
-fed_of work = record { source = work.cutter.source; accepted = length work.end.points; blank = work.blank; refused = work.refused; first = work.first; fault = work.fault }
+fed_of work = record { source = work.cutter.source; counts = record { accepted = length work.end.points; blank = work.blank; refused = work.refused; fault = work.fault; first = work.first } }
 
 -- what is left of its end
 abbrev pub end_of : {I : Type 0} → FeedWork I → FeedState

@@ -31,8 +31,8 @@ use Rattle.plan_run.specs.Parts.{ends_seen}
 
 -- A feed's source met faults exactly where reading ended the feed
 pub record FeedCause {I : Type 0} (faults : I → ℕ) (done : FeedDone I) : Type 0 where
-  pub read : done.fault ≡ Some cut.Read → Rose 0 (faults done.source)
-  pub quiet : done.fault ≢ Some cut.Read → faults done.source ≡ 0
+  pub read : done.counts.fault ≡ Some cut.Read → Rose 0 (faults done.source)
+  pub quiet : done.counts.fault ≢ Some cut.Read → faults done.source ≡ 0
 
 -- A session's source and sink met faults exactly where reading and putting ended it
 pub record SessionCause {I O : Type 0} (faults : I → ℕ) (put_faults : O → ℕ) (done : SessionDone I O) : Type 0 where
@@ -80,7 +80,7 @@ module _ {I : Type 0} (left : I → Option (List ℕ)) (faults : I → ℕ) wher
   feed_cause job sent done fresh leaves =
       record {
         read = λ e. subst (λ n. Rose 0 n) (sym (ap faults leaves.source)) (rose_from 0 (faults job.cutter.source) (faults leaves.cutter.source) fresh (until_read job.cutter leaves.cutter leaves.lines (subst (GivesUntil left faults job.cutter leaves.cutter leaves.lines) e leaves.given)));
-        quiet = λ e. ap faults leaves.source ∙ until_quiet job.cutter leaves.cutter leaves.lines done.fault e leaves.given ∙ fresh;
+        quiet = λ e. ap faults leaves.source ∙ until_quiet job.cutter leaves.cutter leaves.lines done.counts.fault e leaves.given ∙ fresh;
       }
 
   pub feed_causes : (jobs : List (FeedJob I)) (sents : List (List Point)) (dones : List (FeedDone I)) → All (λ (job : FeedJob I). faults job.cutter.source ≡ 0) jobs → FeedsLeave left faults jobs sents dones → All (FeedCause faults) dones

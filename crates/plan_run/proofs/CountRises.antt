@@ -43,8 +43,8 @@ module _ {P I O T : Type 0} {p : PlaceSeen P} {i : SourceSeen I} {s : SinkSeen O
   fed_read : feeds_end done.feeds ≡ Err ReadFault → AnyOf MetFault (map (feed_count i) done.feeds)
   fed_read is =
       any_mapped (feed_count i) MetFault done.feeds
-      (any_with (λ (d : FeedDone I). feed_end d.fault ≡ Err ReadFault) (FeedCause i.faults) (λ d. MetFault (feed_count i d)) done.feeds (λ d end cause. cause.read (feed_read_end d.fault end))
-      (any_unmapped (λ (d : FeedDone I). feed_end d.fault) (λ end. end ≡ Err ReadFault) done.feeds (all_err (map (λ (d : FeedDone I). feed_end d.fault) done.feeds) ReadFault is)) feeds)
+      (any_with (λ (d : FeedDone I). feed_end d.counts.fault ≡ Err ReadFault) (FeedCause i.faults) (λ d. MetFault (feed_count i d)) done.feeds (λ d end cause. cause.read (feed_read_end d.counts.fault end))
+      (any_unmapped (λ (d : FeedDone I). feed_end d.counts.fault) (λ end. end ≡ Err ReadFault) done.feeds (all_err (map (λ (d : FeedDone I). feed_end d.counts.fault) done.feeds) ReadFault is)) feeds)
 
   sessions_read : (sessions : List (SessionDone I O)) → All (SessionCause i.faults s.faults) sessions → sessions_end sessions ≡ Err ReadFault → AnyOf MetFault (map (session_count i) sessions)
   sessions_read sessions causes is =
@@ -88,9 +88,9 @@ module _ {P I O T : Type 0} {p : PlaceSeen P} {i : SourceSeen I} {s : SinkSeen O
       (any_with (λ (d : SessionDone I O). session_end d.fault ≡ Err WriteFault) (SessionCause i.faults s.faults) (λ d. MetFault (s.faults d.sink)) sessions (λ d end cause. cause.write (session_write_end d.fault end))
       (any_unmapped (λ (d : SessionDone I O). session_end d.fault) (λ end. end ≡ Err WriteFault) sessions (all_err (map (λ (d : SessionDone I O). session_end d.fault) sessions) WriteFault is)) causes)
 
-  no_feed_writes : (ds : List (FeedDone I)) → ¬ AnyOf (λ (d : FeedDone I). feed_end d.fault ≡ Err WriteFault) ds
+  no_feed_writes : (ds : List (FeedDone I)) → ¬ AnyOf (λ (d : FeedDone I). feed_end d.counts.fault ≡ Err WriteFault) ds
   no_feed_writes [] any = any
-  no_feed_writes (d ∷ ds) (inl is) = feed_not_write d.fault is
+  no_feed_writes (d ∷ ds) (inl is) = feed_not_write d.counts.fault is
   no_feed_writes (d ∷ ds) (inr any) = no_feed_writes ds any
 
   before_sinks : p.write_faults closes.parts.read ≡ p.write_faults place
@@ -118,7 +118,7 @@ module _ {P I O T : Type 0} {p : PlaceSeen P} {i : SourceSeen I} {s : SinkSeen O
 
       threads : AnyOf (λ end. end ≡ Err WriteFault) (starved_end done.starved ∷ feeds_end done.feeds ∷ sessions_end done.asks ∷ sessions_end done.finals ∷ []) → Written
       threads (inl starved) = absurd (starved_of done.starved WriteFault (λ e. cc e) starved)
-      threads (inr (inl fed)) = absurd (no_feed_writes done.feeds (any_unmapped (λ (d : FeedDone I). feed_end d.fault) (λ end. end ≡ Err WriteFault) done.feeds (all_err (map (λ (d : FeedDone I). feed_end d.fault) done.feeds) WriteFault fed)))
+      threads (inr (inl fed)) = absurd (no_feed_writes done.feeds (any_unmapped (λ (d : FeedDone I). feed_end d.counts.fault) (λ end. end ≡ Err WriteFault) done.feeds (all_err (map (λ (d : FeedDone I). feed_end d.counts.fault) done.feeds) WriteFault fed)))
       threads (inr (inr (inl asked))) = some_sink (any_left (λ sink. MetFault (s.faults sink)) (map sink_of done.asks) (map sink_of done.finals) (sessions_write done.asks asks asked))
       threads (inr (inr (inr (inl ended)))) = some_sink (any_right (λ sink. MetFault (s.faults sink)) (map sink_of done.asks) (map sink_of done.finals) (sessions_write done.finals finals ended))
       threads (inr (inr (inr (inr none)))) = absurd none
@@ -135,9 +135,9 @@ module _ {P I O T : Type 0} {p : PlaceSeen P} {i : SourceSeen I} {s : SinkSeen O
 
   -- ---- no refused plan
 
-  no_feed_plans : (ds : List (FeedDone I)) → ¬ AnyOf (λ (d : FeedDone I). feed_end d.fault ≡ Err PlanRefused) ds
+  no_feed_plans : (ds : List (FeedDone I)) → ¬ AnyOf (λ (d : FeedDone I). feed_end d.counts.fault ≡ Err PlanRefused) ds
   no_feed_plans [] any = any
-  no_feed_plans (d ∷ ds) (inl is) = feed_not_plan d.fault is
+  no_feed_plans (d ∷ ds) (inl is) = feed_not_plan d.counts.fault is
   no_feed_plans (d ∷ ds) (inr any) = no_feed_plans ds any
 
   no_session_plans : (ds : List (SessionDone I O)) → ¬ AnyOf (λ (d : SessionDone I O). session_end d.fault ≡ Err PlanRefused) ds
@@ -150,7 +150,7 @@ module _ {P I O T : Type 0} {p : PlaceSeen P} {i : SourceSeen I} {s : SinkSeen O
     where
       threads : ¬ AnyOf (λ end. end ≡ Err PlanRefused) (starved_end done.starved ∷ feeds_end done.feeds ∷ sessions_end done.asks ∷ sessions_end done.finals ∷ [])
       threads (inl starved) = starved_of done.starved PlanRefused (λ e. cc e) starved
-      threads (inr (inl fed)) = no_feed_plans done.feeds (any_unmapped (λ (d : FeedDone I). feed_end d.fault) (λ end. end ≡ Err PlanRefused) done.feeds (all_err (map (λ (d : FeedDone I). feed_end d.fault) done.feeds) PlanRefused fed))
+      threads (inr (inl fed)) = no_feed_plans done.feeds (any_unmapped (λ (d : FeedDone I). feed_end d.counts.fault) (λ end. end ≡ Err PlanRefused) done.feeds (all_err (map (λ (d : FeedDone I). feed_end d.counts.fault) done.feeds) PlanRefused fed))
       threads (inr (inr (inl asked))) = no_session_plans done.asks (any_unmapped (λ (d : SessionDone I O). session_end d.fault) (λ end. end ≡ Err PlanRefused) done.asks (all_err (map (λ (d : SessionDone I O). session_end d.fault) done.asks) PlanRefused asked))
       threads (inr (inr (inr (inl ended)))) = no_session_plans done.finals (any_unmapped (λ (d : SessionDone I O). session_end d.fault) (λ end. end ≡ Err PlanRefused) done.finals (all_err (map (λ (d : SessionDone I O). session_end d.fault) done.finals) PlanRefused ended))
       threads (inr (inr (inr (inr none)))) = none

@@ -1,6 +1,6 @@
 -- What a feed of a run leaves that was read to its end.
 use Rattle.std.proofs.Common.{◌≡◌, ◌+◌, ℕ, false, List, ◌∷◌, length, map, Option, Some, None, IsSomeAnd, sym, ap, subst, ◌∙◌}
-use Rattle.crew_feeder.specs.Leaving.{GivesUntil, feed_counts}
+use Rattle.crew_feeder.specs.Leaving.{GivesUntil}
 use Rattle.crew_feeder.specs.declared.done.FeedDone.{FeedDone}
 use Rattle.cube_crew.specs.Crewed.{LeavesFeed, feed_rows}
 use Rattle.cube_view.specs.Points.{Point}
@@ -21,11 +21,11 @@ use Rattle.plan_run.specs.Completed.{whole_rows}
 -- A feed with these bytes was read to its end, and these are its points
 pub record IsFed {I : Type 0} (schema : Schema) (bytes : List ℕ) (sent : List Point) (done : FeedDone I) : Type 0 where
   pub sent_is : sent ≡ accepted schema bytes
-  pub counts : feed_counts done ≡ counts_of_rows (whole_rows schema bytes)
+  pub counts : done.counts ≡ counts_of_rows (whole_rows schema bytes)
   pub taken : is_feed_refused schema bytes ≡ false
 
 module _ {I : Type 0} (left : I → Option (List ℕ)) (faults : I → ℕ) (schema : Schema) (bytes : List ℕ) where
-  pub is_fed : (job : FeedJob I) (sent : List Point) (done : FeedDone I) → IsHeaded left faults schema (Some bytes) (record { cutter = job.cutter; header = job.header }) → LeavesFeed left faults job sent done → done.fault ≡ None → IsFed schema bytes sent done
+  pub is_fed : (job : FeedJob I) (sent : List Point) (done : FeedDone I) → IsHeaded left faults schema (Some bytes) (record { cutter = job.cutter; header = job.header }) → LeavesFeed left faults job sent done → done.counts.fault ≡ None → IsFed schema bytes sent done
   is_fed job sent done headed leaves whole =
       let before = headed.reads.before in
       let new = headed.reads.made in

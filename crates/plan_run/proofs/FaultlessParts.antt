@@ -3,7 +3,6 @@ use Rattle.std.proofs.Common.{◌≡◌, ◌≢◌, ℕ, Bool, true, false, List
 use Rattle.std.specs.List.{AllZip}
 use mathlib.Core.List.{map-map}
 use Rattle.std.proofs.lemmas.List.Elements.{All-cons, All-head, All-nil, All-tail}
-use Rattle.crew_feeder.specs.Leaving.{feed_counts}
 use Rattle.crew_feeder.specs.declared.done.FeedDone.{FeedDone}
 use Rattle.feed_reader.specs.RowCounts.{counts_of_rows}
 use Rattle.feed_reader.specs.declared.job.FeedJob.{FeedJob}
@@ -36,12 +35,12 @@ use Rattle.session_core.specs.Transcript.{replies_text}
 
 module _ {I : Type 0} (left : I → Option (List ℕ)) (faults : I → ℕ) (schema : Schema) (bytes : List ℕ → List ℕ) where
   abbrev Unfaulted : FeedDone I → Type 0
-  Unfaulted done = done.fault ≡ None
+  Unfaulted done = done.counts.fault ≡ None
 
   -- What feeds leave that were all read to their ends
   pub record AreFed (names : List (List ℕ)) (sents : List (List Point)) (dones : List (FeedDone I)) : Type 0 where
     pub sent : sents ≡ map (λ name. accepted schema (bytes name)) names
-    pub counts : map feed_counts dones ≡ map (λ name. counts_of_rows (whole_rows schema (bytes name))) names
+    pub counts : map (λ (done : FeedDone I). done.counts) dones ≡ map (λ name. counts_of_rows (whole_rows schema (bytes name))) names
     pub taken : All (λ name. is_feed_refused schema (bytes name) ≡ false) names
 
   abbrev Headed : List ℕ → FeedJob I → Type 0
@@ -62,7 +61,7 @@ module _ {I : Type 0} (left : I → Option (List ℕ)) (faults : I → ℕ) (sch
       let later = are_fed names jobs sents dones headed.1 leave.1 (All-tail Unfaulted d dones well) in
       record {
         sent = ap (λ x. x ∷ sents) one.sent_is ∙ ap (λ xs. accepted schema (bytes n) ∷ xs) later.sent;
-        counts = ap (λ x. x ∷ map feed_counts dones) one.counts ∙ ap (λ xs. counts_of_rows (whole_rows schema (bytes n)) ∷ xs) later.counts;
+        counts = ap (λ x. x ∷ map (λ (done : FeedDone I). done.counts) dones) one.counts ∙ ap (λ xs. counts_of_rows (whole_rows schema (bytes n)) ∷ xs) later.counts;
         taken = All-cons (λ name. is_feed_refused schema (bytes name) ≡ false) n names one.taken later.taken;
       }
 

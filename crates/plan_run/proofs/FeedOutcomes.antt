@@ -3,7 +3,7 @@ use Rattle.std.proofs.Common.{◌≡◌, ◌≢◌, ◌+◌, ◌<◌, ◌≤◌,
 use Rattle.std.specs.List.{AllZip}
 use Rattle.std.proofs.lemmas.List.{map-append}
 use Rattle.std.proofs.lemmas.List.Elements.{All-head, All-tail}
-use Rattle.crew_feeder.specs.Leaving.{GivesUntil, feed_counts}
+use Rattle.crew_feeder.specs.Leaving.{GivesUntil}
 use Rattle.crew_feeder.specs.declared.done.FeedDone.{FeedDone}
 use Rattle.cube_crew.specs.Crewed.{FeedsLeave, LeavesFeed, feed_rows}
 use Rattle.cube_view.specs.Points.{Point}
@@ -42,14 +42,14 @@ module _ {I : Type 0} (left : I → Option (List ℕ)) (faults : I → ℕ) wher
   pub record Gave (jobs : List (FeedJob I)) (sents : List (List Point)) (dones : List (FeedDone I)) : Type 0 where
     pub feeds : List FeedRows
     pub gave : AllZip GaveRows jobs feeds
-    pub counts : map feed_counts dones ≡ map counts_of_rows feeds
+    pub counts : map (λ (done : FeedDone I). done.counts) dones ≡ map counts_of_rows feeds
     pub points : sents ≡ map (λ (feed : FeedRows). points_in feed.rows) feeds
-    pub faults_are : map (λ (feed : FeedRows). feed.fault) feeds ≡ map (λ (done : FeedDone I). done.fault) dones
+    pub faults_are : map (λ (feed : FeedRows). feed.fault) feeds ≡ map (λ (done : FeedDone I). done.counts.fault) dones
 
   abbrev rows_given : (job : FeedJob I) (sent : List Point) (done : FeedDone I) → LeavesFeed left faults job sent done → FeedRows
-  rows_given job sent done leaves = record { rows = feed_rows job leaves.lines; fault = done.fault }
+  rows_given job sent done leaves = record { rows = feed_rows job leaves.lines; fault = done.counts.fault }
 
-  one_counts : (job : FeedJob I) (sent : List Point) (done : FeedDone I) → job.cutter.given ≡ 1 → (leaves : LeavesFeed left faults job sent done) → feed_counts done ≡ counts_of_rows (rows_given job sent done leaves)
+  one_counts : (job : FeedJob I) (sent : List Point) (done : FeedDone I) → job.cutter.given ≡ 1 → (leaves : LeavesFeed left faults job sent done) → done.counts ≡ counts_of_rows (rows_given job sent done leaves)
   one_counts job sent done one leaves =
       let number : job.cutter.given + 1 ≡ 2 = ap (λ (n : ℕ). n + 1) one in
       λ i. record {
@@ -57,7 +57,7 @@ module _ {I : Type 0} (left : I → Option (List ℕ)) (faults : I → ℕ) wher
         blank = leaves.counts.0 i;
         refused = leaves.counts.1 i;
         first = (leaves.first ∙ ap (λ n. first_refusals n (feed_rows job leaves.lines)) number) i;
-        fault = done.fault;
+        fault = done.counts.fault;
       }
 
   -- the cutter of the job has given the header alone
@@ -79,9 +79,9 @@ module _ {I : Type 0} (left : I → Option (List ℕ)) (faults : I → ℕ) wher
       record {
         feeds = feed ∷ later.feeds;
         gave = (record { lines = l.lines; cutter = l.cutter; given = l.given; rows_are = refl }, later.gave);
-        counts = ap (λ c. c ∷ map feed_counts dones) (one_counts j s d (All-head StandsAfterOne j jobs ones) l) ∙ ap (λ cs. counts_of_rows feed ∷ cs) later.counts;
+        counts = ap (λ c. c ∷ map (λ (done : FeedDone I). done.counts) dones) (one_counts j s d (All-head StandsAfterOne j jobs ones) l) ∙ ap (λ cs. counts_of_rows feed ∷ cs) later.counts;
         points = ap (λ ps. ps ∷ sents) l.accepted.0 ∙ ap (λ pss. points_in feed.rows ∷ pss) later.points;
-        faults_are = ap (λ fs. d.fault ∷ fs) later.faults_are;
+        faults_are = ap (λ fs. d.counts.fault ∷ fs) later.faults_are;
       }
 
   -- the lines that a cutter gave are the first of those that it had

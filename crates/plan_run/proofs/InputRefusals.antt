@@ -56,17 +56,17 @@ module _ {I : Type 0} (left : I → Option (List ℕ)) (faults : I → ℕ) (sch
   abbrev IsRefusedFeed : List ℕ → Type 0
   IsRefusedFeed name = is_feed_refused schema (bytes name) ≡ true
 
-  large_feed : (name : List ℕ) (job : FeedJob I) (sent : List Point) (done : FeedDone I) → IsJobOf left faults schema (Some (bytes name)) job → LeavesFeed left faults job sent done → feed_end done.fault ≡ Err FeedRefused → IsRefusedFeed name
+  large_feed : (name : List ℕ) (job : FeedJob I) (sent : List Point) (done : FeedDone I) → IsJobOf left faults schema (Some (bytes name)) job → LeavesFeed left faults job sent done → feed_end done.counts.fault ≡ Err FeedRefused → IsRefusedFeed name
   large_feed name job sent done is leaves end =
       let headed = is.headed in
       let before = headed.reads.before in
-      let given = subst (GivesUntil left faults job.cutter leaves.cutter leaves.lines) (feed_refused_end done.fault end) leaves.given in
+      let given = subst (GivesUntil left faults job.cutter leaves.cutter leaves.lines) (feed_refused_end done.counts.fault end) leaves.given in
       let start : (before.taken ≡ 0) × (before.given ≡ 0) = (ap (λ (k : Cutter I). k.taken) headed.reads.made, ap (λ (k : Cutter I). k.given) headed.reads.made) in
       Told-some (rest_of left before) (bytes name) (λ feed. is_feed_refused schema feed ≡ true) (new_rest left before headed.source (bytes name) headed.reads.made headed.left_is)
       (too_large_refused left faults schema before job.cutter (headed.reads.header.0 ∷ []) start headed.reads.header.2.passed given.1)
 
   pub large_feeds : (names : List (List ℕ)) (jobs : List (FeedJob I)) (sents : List (List Point)) (dones : List (FeedDone I)) → AllZip (λ name job. IsJobOf left faults schema (Some (bytes name)) job) names jobs → FeedsLeave left faults jobs sents dones
-      → AnyOf (λ (d : FeedDone I). feed_end d.fault ≡ Err FeedRefused) dones → AnyOf IsRefusedFeed names
+      → AnyOf (λ (d : FeedDone I). feed_end d.counts.fault ≡ Err FeedRefused) dones → AnyOf IsRefusedFeed names
   large_feeds [] [] sents [] ready leave any = absurd any
   large_feeds [] [] [] (d ∷ dones) ready leave any = absurd leave
   large_feeds [] [] (s ∷ sents) (d ∷ dones) ready leave any = absurd leave

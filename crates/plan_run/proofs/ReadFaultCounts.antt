@@ -41,14 +41,14 @@ module _ {I : Type 0} (faults : I → ℕ) where
   feed_counts_one n (Some cut.TooMuch) read quiet = none_met n (quiet (λ is. cc is))
   feed_counts_one n (Some cut.NoMemory) read quiet = none_met n (quiet (λ is. cc is))
 
-  pub unread_feeds : (dones : List (FeedDone I)) → All (FeedCause faults) dones → faulty (map (λ (done : FeedDone I). faults done.source) dones) ≡ count_by (λ (done : FeedDone I). is_unread done.fault) dones
+  pub unread_feeds : (dones : List (FeedDone I)) → All (FeedCause faults) dones → faulty (map (λ (done : FeedDone I). faults done.source) dones) ≡ count_by (λ (done : FeedDone I). is_unread done.counts.fault) dones
   unread_feeds [] causes = refl
   unread_feeds (d ∷ dones) causes =
       let cause = All-head (FeedCause faults) d dones causes in
       let later = unread_feeds dones (All-tail (FeedCause faults) d dones causes) in
       let a = faulty-cons (faults d.source) (map (λ (done : FeedDone I). faults done.source) dones) in
-      let b = sum_by-cons (λ (done : FeedDone I). cond (is_unread done.fault) 1 0) d dones in
-      let c = feed_counts_one (faults d.source) d.fault cause.read cause.quiet in
+      let b = sum_by-cons (λ (done : FeedDone I). cond (is_unread done.counts.fault) 1 0) d dones in
+      let c = feed_counts_one (faults d.source) d.counts.fault cause.read cause.quiet in
       omega (arith, later, a, b, c)
 
 module _ {I O : Type 0} (faults : I → ℕ) (put_faults : O → ℕ) where

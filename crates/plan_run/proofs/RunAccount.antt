@@ -153,10 +153,10 @@ module _ {P I O T : Type 0} (p : PlaceSeen P) (i : SourceSeen I) (s : SinkSeen O
   abbrev FeedFirst : Option CutFault → Type 0
   FeedFirst f = rank_end result ≤ rank_end (feed_end f)
 
-  feeds_first : All (λ (d : FeedDone I). FeedFirst d.fault) crewed.feeds
+  feeds_first : All (λ (d : FeedDone I). FeedFirst d.counts.fault) crewed.feeds
   feeds_first =
-      All-unmapped (λ (d : FeedDone I). feed_end d.fault) (λ (e : End). rank_end result ≤ rank_end e) crewed.feeds
-      (within (rank_end result) (map (λ (d : FeedDone I). feed_end d.fault) crewed.feeds) (four_ends 1 well (omega arith)))
+      All-unmapped (λ (d : FeedDone I). feed_end d.counts.fault) (λ (e : End). rank_end result ≤ rank_end e) crewed.feeds
+      (within (rank_end result) (map (λ (d : FeedDone I). feed_end d.counts.fault) crewed.feeds) (four_ends 1 well (omega arith)))
 
   abbrev SessionFirst : SessionDone I O → Type 0
   SessionFirst d = rank_end result ≤ rank_end (session_end d.fault)
@@ -204,7 +204,7 @@ module _ {P I O T : Type 0} (p : PlaceSeen P) (i : SourceSeen I) (s : SinkSeen O
       let script_unread : ScriptCounts → Bool = λ script. is_script_unread script.fault in
       let fed : count_by (λ (feed : FeedRows). is_unread feed.fault) gave.feeds ≡ faulty (map (λ (d : FeedDone I). i.faults d.source) crewed.feeds) =
       sym (count-map (λ (feed : FeedRows). feed.fault) is_unread gave.feeds) ∙ ap (λ (fs : List (Option CutFault)). count_by is_unread fs) gave.faults_are
-      ∙ count-map (λ (d : FeedDone I). d.fault) is_unread crewed.feeds ∙ sym (unread_feeds i.faults crewed.feeds feed_causes) in
+      ∙ count-map (λ (d : FeedDone I). d.counts.fault) is_unread crewed.feeds ∙ sym (unread_feeds i.faults crewed.feeds feed_causes) in
       let asked : count_by script_unread (map script_counts crewed.asks) ≡ faulty (map (λ (d : SessionDone I O). i.faults d.source) crewed.asks) =
       count-map script_counts script_unread crewed.asks ∙ sym (unread_scripts i.faults s.faults crewed.asks ask_causes) in
       let ended : count_by script_unread (map script_counts crewed.finals) ≡ faulty (map (λ (d : SessionDone I O). i.faults d.source) crewed.finals) =
@@ -334,7 +334,7 @@ module _ {P I O T : Type 0} (p : PlaceSeen P) (i : SourceSeen I) (s : SinkSeen O
         AllZip-with (λ name feed. (job : FeedJob I) × IsJobOf i.left i.faults plan.schema (Some (file_or_empty files name)) job × GaveRows i.left i.faults job feed) (λ (feed : FeedRows). FeedFirst feed.fault) (ReportsFeed plan.schema result files) plan.feeds gave.feeds
         (λ name feed is first. takes_feed i.left i.faults plan.schema result planned files name is.0 feed is.1 is.2 first)
         (AllZip-then (λ name. IsJobOf i.left i.faults plan.schema (Some (file_or_empty files name))) (GaveRows i.left i.faults) _ plan.feeds parts.feeds gave.feeds (λ name job feed is gives. (job, is, gives)) it_is.feeds gave.gave)
-        (All-unmapped (λ (feed : FeedRows). feed.fault) FeedFirst gave.feeds (subst (All FeedFirst) (sym gave.faults_are) (All-map FeedFirst (λ (d : FeedDone I). d.fault) crewed.feeds feeds_first)))
+        (All-unmapped (λ (feed : FeedRows). feed.fault) FeedFirst gave.feeds (subst (All FeedFirst) (sym gave.faults_are) (All-map FeedFirst (λ (d : FeedDone I). d.counts.fault) crewed.feeds feeds_first)))
 
     text : List ℕ
     text = journal_text plan.schema crewed.journal

@@ -7,7 +7,6 @@ use Rattle.std.specs.FinMap.{get}
 use Rattle.std.specs.Prelude.{Contains, OnOk}
 use mathlib.Core.List.{map-map}
 use Rattle.std.proofs.lemmas.List.Elements.{All-append, All-head, All-tail, All-weaker}
-use Rattle.crew_feeder.specs.Leaving.{feed_counts}
 use Rattle.crew_feeder.specs.declared.done.FeedDone.{FeedDone}
 use Rattle.live_session.specs.declared.done.SessionDone.{SessionDone}
 use Rattle.cube_crew.proofs.Zips.{AllZip-length}
@@ -55,7 +54,7 @@ module _ {P I O T : Type 0} (p : PlaceSeen P) (i : SourceSeen I) (s : SinkSeen O
   -- What ended well of a run that was closed, and was to end well
   pub record EndsWell (crewed : Crewed I O) (closes : ClosesRun plan (run_done_of crewed parts.journal) (parts_seen p i s) t (at place out) (at place' out') (Ok tt)) : Type 0 where
     pub fed : crewed.starved ≡ false
-    pub feeds : All (λ (done : FeedDone I). done.fault ≡ None) crewed.feeds
+    pub feeds : All (λ (done : FeedDone I). done.counts.fault ≡ None) crewed.feeds
     pub asks : All (λ (done : SessionDone I O). done.fault ≡ None) crewed.asks
     pub finals : All (λ (done : SessionDone I O). done.fault ≡ None) crewed.finals
     pub wrote : closes.wrote ≡ Ok tt
@@ -76,11 +75,11 @@ module _ {P I O T : Type 0} (p : PlaceSeen P) (i : SourceSeen I) (s : SinkSeen O
       let fed = All-tail IsWell (starved_end crewed.starved) (feeds_end crewed.feeds ∷ sessions_end crewed.asks ∷ sessions_end crewed.finals ∷ []) inner in
       let asked = All-tail IsWell (feeds_end crewed.feeds) (sessions_end crewed.asks ∷ sessions_end crewed.finals ∷ []) fed in
       let finals = All-tail IsWell (sessions_end crewed.asks) (sessions_end crewed.finals ∷ []) asked in
-      let feed : FeedDone I → Result (Unit {0}) Stop = λ (done : FeedDone I). feed_end done.fault in
+      let feed : FeedDone I → Result (Unit {0}) Stop = λ (done : FeedDone I). feed_end done.counts.fault in
       let session : SessionDone I O → Result (Unit {0}) Stop = λ (done : SessionDone I O). session_end done.fault in
       record {
         fed = starved_well crewed.starved (All-head IsWell (starved_end crewed.starved) (feeds_end crewed.feeds ∷ sessions_end crewed.asks ∷ sessions_end crewed.finals ∷ []) inner);
-        feeds = All-weaker (λ (done : FeedDone I). IsWell (feed done)) (λ (done : FeedDone I). done.fault ≡ None) (λ done e. feed_well done.fault e) crewed.feeds
+        feeds = All-weaker (λ (done : FeedDone I). IsWell (feed done)) (λ (done : FeedDone I). done.counts.fault ≡ None) (λ done e. feed_well done.counts.fault e) crewed.feeds
             (All-unmapped feed IsWell crewed.feeds (all_well (map feed crewed.feeds) (All-head IsWell (feeds_end crewed.feeds) (sessions_end crewed.asks ∷ sessions_end crewed.finals ∷ []) fed)));
         asks = All-weaker (λ (done : SessionDone I O). IsWell (session done)) (λ (done : SessionDone I O). done.fault ≡ None) (λ done e. session_well done.fault e) crewed.asks
             (All-unmapped session IsWell crewed.asks (all_well (map session crewed.asks) (All-head IsWell (sessions_end crewed.asks) (sessions_end crewed.finals ∷ []) asked)));
@@ -148,14 +147,15 @@ module _ {P I O T : Type 0} (p : PlaceSeen P) (i : SourceSeen I) (s : SinkSeen O
       let valid = entries_valid laws plan files crewed.journal names order in
       -- the report
       let counted : List FeedCounts → List ScriptCounts → List ScriptCounts → Bool → List ℕ = λ fs qs ls closed. counts_text plan fs qs ls closed (length crewed.journal) in
-      let report : counted (map feed_counts crewed.feeds) (map script_counts crewed.asks) (map script_counts crewed.finals) crewed.closed
+      let fed_counts : List FeedCounts = map (λ (done : FeedDone I). done.counts) crewed.feeds in
+      let report : counted fed_counts (map script_counts crewed.asks) (map script_counts crewed.finals) crewed.closed
       ≡ counted (map counts_of_rows (map (λ name. whole_rows plan.schema (file_or_empty files name)) plan.feeds)) (map reply_counts to_asks.0) (map reply_counts to_finals.0) true =
       ap (λ fs. counted fs (map script_counts crewed.asks) (map script_counts crewed.finals) crewed.closed) (fed.counts ∙ sym (map-map counts_of_rows (λ name. whole_rows plan.schema (file_or_empty files name)) plan.feeds))
       ∙ ap (λ qs. counted (map counts_of_rows (map (λ name. whole_rows plan.schema (file_or_empty files name)) plan.feeds)) qs (map script_counts crewed.finals) crewed.closed) to_asks.2
       ∙ ap (λ ls. counted (map counts_of_rows (map (λ name. whole_rows plan.schema (file_or_empty files name)) plan.feeds)) (map reply_counts to_asks.0) ls crewed.closed) to_finals.2
       ∙ ap (λ c. counted (map counts_of_rows (map (λ name. whole_rows plan.schema (file_or_empty files name)) plan.feeds)) (map reply_counts to_asks.0) (map reply_counts to_finals.0) c) found.closed in
-      let puts : Gains (t.held out) (t.held out') (counted (map feed_counts crewed.feeds) (map script_counts crewed.asks) (map script_counts crewed.finals) crewed.closed) =
-      (subst (λ r. OnOk r (Said t out out' (counted (map feed_counts crewed.feeds) (map script_counts crewed.asks) (map script_counts crewed.finals) crewed.closed))) well.said closes.report.puts).held in
+      let puts : Gains (t.held out) (t.held out') (counted fed_counts (map script_counts crewed.asks) (map script_counts crewed.finals) crewed.closed) =
+      (subst (λ r. OnOk r (Said t out out' (counted fed_counts (map script_counts crewed.asks) (map script_counts crewed.finals) crewed.closed))) well.said closes.report.puts).held in
       subst (λ o. IsSomeAnd o (λ files'. IsCompleted plan files files' (t.held out) (t.held out'))) (sym last.1)
       (record {
         entries = crewed.journal;

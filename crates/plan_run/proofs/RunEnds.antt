@@ -231,7 +231,7 @@ module _ {P T : Type 0} (p : PlaceSeen P) (t : SinkSeen T) where
         done = run_done_of crewed parts.journal
 
         abbrev feed_ends : FeedDone I → End
-        feed_ends d = feed_end d.fault
+        feed_ends d = feed_end d.counts.fault
 
         abbrev session_ends : SessionDone I O → End
         session_ends d = session_end d.fault

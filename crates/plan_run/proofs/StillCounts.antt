@@ -82,7 +82,7 @@ module _ {P I O T : Type 0} {p : PlaceSeen P} {i : SourceSeen I} {s : SinkSeen O
 
   fed_quiet : 3 ≤ rank_end result → All IsZero (map (feed_count i) done.feeds)
   fed_quiet late =
-      let ends = All-unmapped (λ (d : FeedDone I). feed_end d.fault) (λ (e : End). 3 ≤ rank_end e) done.feeds (within 3 (map (λ (d : FeedDone I). feed_end d.fault) done.feeds) (four_ends 3 late 1 well (omega arith))) in
+      let ends = All-unmapped (λ (d : FeedDone I). feed_end d.counts.fault) (λ (e : End). 3 ≤ rank_end e) done.feeds (within 3 (map (λ (d : FeedDone I). feed_end d.counts.fault) done.feeds) (four_ends 3 late 1 well (omega arith))) in
       All-map IsZero (feed_count i) done.feeds (λ k d low. (feeds k d low).quiet (late_feed _ (ends k d low)))
 
   sources_quiet : (sessions : List (SessionDone I O)) → All (SessionCause i.faults s.faults) sessions → 3 ≤ rank_end (sessions_end sessions) → All IsZero (map (session_count i) sessions)

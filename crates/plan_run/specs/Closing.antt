@@ -1,6 +1,5 @@
 -- What is left of a run after its threads: what giving its parts back, writing its journal and reporting leave.
 use Rattle.std.specs.Prelude.{◌≡◌, ℕ, List, [], ◌∷◌, ◌++◌, length, map, Result, Err}
-use Rattle.crew_feeder.specs.Leaving.{feed_counts}
 use Rattle.crew_feeder.specs.declared.done.FeedDone.{FeedDone}
 use Rattle.live_session.specs.declared.done.SessionDone.{SessionDone}
 use Rattle.cube_schema.specs.declared.plan.Plan.{Plan}
@@ -51,7 +50,7 @@ threads_end done = all_ends (starved_end done.starved ∷ feeds_end done.feeds �
 module _ {I O : Type 0} (plan : Plan) (done : RunDone I O) where
   -- what a run reports
   abbrev pub run_text : List ℕ
-  run_text = counts_text plan (map feed_counts done.feeds) (map script_counts done.asks) (map script_counts done.finals) done.closed (length done.entries)
+  run_text = counts_text plan (map (λ (feed : FeedDone I). feed.counts) done.feeds) (map script_counts done.asks) (map script_counts done.finals) done.closed (length done.entries)
 
   -- What closing a run leaves of a place and a sink, and how the run ends
   pub record ClosesRun {P T : Type 0} (seen : PartsSeen P I O) (t : SinkSeen T) (before after : Outside P T) (result : Result (Unit {0}) Stop) : Type 0 where

@@ -29,7 +29,7 @@ all_ends ends = fold joined_ends (Ok tt) ends
 
 -- by all its feeds
 abbrev pub feeds_end : {I : Type 0} → List (FeedDone I) → Result (Unit {0}) Stop
-feeds_end feeds = all_ends (map (λ (feed : FeedDone _). feed_end feed.fault) feeds)
+feeds_end feeds = all_ends (map (λ (feed : FeedDone _). feed_end feed.counts.fault) feeds)
 
 -- by the sessions of a list
 abbrev pub sessions_end : {I O : Type 0} → List (SessionDone I O) → Result (Unit {0}) Stop

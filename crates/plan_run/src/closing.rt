@@ -1,6 +1,5 @@
 //! The end of a run: its journal, its parts and its report.
 ghost use Rattle.std.specs.Prelude.{◌≡◌, ◌+◌, ◌≤◌, [], ℕ, List, map, length, IfOk, vec_len, vec_capacity};
-ghost use Rattle.crew_feeder.specs.Leaving.{feed_counts};
 ghost use Rattle.run_files.specs.Outside.{at, of_parts, of_place, of_sink};
 ghost use Rattle.run_files.specs.Saying.{SaysText};
 ghost use Rattle.plan_run.specs.Closing.{ClosesRun, ReturnsParts, ReturnsSink};
@@ -32,7 +31,7 @@ fn give_back_parts<P: Place>(
     requires empty { (room.items ≡ []) × (vec_len room ≡ 0) }
     requires room { length asks + length finals ≤ vec_capacity room }
     ensures back { ReturnsParts (of_parts P.Place P.In.Source P.Out.Sink) place.old place.new feeds asks finals result.1 }
-    ensures feeds { IfOk result.0 (λ counts. counts.feeds.items ≡ map feed_counts feeds) }
+    ensures feeds { IfOk result.0 (λ counts. counts.feeds.items ≡ map (λ feed. feed.counts) feeds) }
     ensures asks { IfOk result.0 (λ counts. counts.asks.items ≡ map script_counts asks) }
     ensures finals { IfOk result.0 (λ counts. counts.finals.items ≡ map script_counts finals) }
 {

@@ -43,7 +43,7 @@ fn feeds_end<I: Source>(feeds: &[FeedDone<I>]) -> Result<(), Stop>
 {
     let mut end = Ok(());
     for feed in feeds {
-        end = joined_ends(end, feed_end(feed.fault));
+        end = joined_ends(end, feed_end(feed.counts.fault));
     }
     end
 }

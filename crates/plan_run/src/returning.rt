@@ -1,6 +1,5 @@
 //! The sources of feeds and scripts given back, with what was counted of them.
 ghost use Rattle.std.specs.Prelude.{◌≡◌, ◌+◌, ◌≤◌, ◌++◌, map, IfOk, vec_len, vec_capacity};
-ghost use Rattle.crew_feeder.specs.Leaving.{feed_counts};
 ghost use Rattle.run_files.specs.GivingBack.{TakesSources};
 ghost use Rattle.run_files.specs.Outside.{of_place};
 ghost use Rattle.plan_run.specs.Counted.{script_counts};
@@ -20,14 +19,17 @@ pub(crate) fn give_back_fed<P: Place>(
     mut feeds: Vec<FeedDone<P::In>>,
 ) -> Result<Vec<FeedCounts>, NoMemory>
     ensures back { TakesSources (of_place P.Place) place.old place.new (map (λ f. P.In.faults f.source) feeds.items) }
-    ensures counts { IfOk result (λ counts. counts.items ≡ map feed_counts feeds.items) }
+    ensures counts { IfOk result (λ counts. counts.items ≡ map (λ feed. feed.counts) feeds.items) }
 {
     let Some(last) = feeds.pop() else {
         feeds.destroy_empty();
         return Ok(Vec::new(alloc));
     };
     let counts = give_back_fed(alloc, place, feeds);
-    let (source, more) = last.into_counts();
+    let FeedDone {
+        source,
+        counts: more,
+    } = last;
     place.give_back_in(source);
     with_one_more(counts, more)
 }

@@ -14,7 +14,7 @@ pub returns-clause-dones : goal.returns-clause-dones
 returns-clause-dones g t c =
     let is = c.finish-done.ensures in
     map-last fed_of c.args.works.items c.pop.new.self.items c.in-Some.work c.end_feeds-dones.result.0.items c.push_reserved.new.self.items c.finish-done.result.0 c.in-Some.ensures.items c.end_feeds-dones.ensures.dones
-    (λ i. record { source = is.source i; accepted = is.accepted i; blank = is.counts.0 i; refused = is.counts.1 i; first = is.first i; fault = is.fault i }) c.push_reserved.ensures.items
+    (λ i. record { source = is.source i; counts = record { accepted = is.accepted i; blank = is.counts.0 i; refused = is.counts.1 i; fault = is.fault i; first = is.first i } }) c.push_reserved.ensures.items
 
 pub returns-clause-ended : goal.returns-clause-ended
 returns-clause-ended g t c =

@@ -1,5 +1,5 @@
 use Rattle.std.proofs.Common.{List, length, map, subst, Err}
-use Rattle.crew_feeder.specs.Leaving.{feed_counts}
+use Rattle.crew_feeder.specs.declared.done.FeedDone.{FeedDone}
 use Rattle.feed_queue.specs.Journal.{journal_text}
 use Rattle.run_files.specs.Stops.{write_end}
 use Rattle.run_files.specs.declared.stop.Stop.TheVariants.{NoMemory}
@@ -26,7 +26,7 @@ returns g c =
       journal = c.give_back_journal-kept.ensures;
       said = c.say_run-said.result;
       report = c.say_run-said.ensures.said (run_text c.args.plan.now c.args.done)
-          (text_of_counts c.args.plan.now c.give_back_parts-counts.result.0 (map (feed_counts {I = g.row.P-In.Denot}) c.args.done.feeds) (map (script_counts {I = g.row.P-In.Denot} {O = g.row.P-Out.Denot}) c.args.done.asks) (map (script_counts {I = g.row.P-In.Denot} {O = g.row.P-Out.Denot}) c.args.done.finals)
+          (text_of_counts c.args.plan.now c.give_back_parts-counts.result.0 (map (λ (f : FeedDone g.row.P-In.Denot). f.counts) c.args.done.feeds) (map (script_counts {I = g.row.P-In.Denot} {O = g.row.P-Out.Denot}) c.args.done.asks) (map (script_counts {I = g.row.P-In.Denot} {O = g.row.P-Out.Denot}) c.args.done.finals)
           c.args.done.closed c.len-count.result (length c.args.done.entries) c.len-count.ensures c.give_back_parts-counts.ensures.feeds c.give_back_parts-counts.ensures.asks c.give_back_parts-counts.ensures.finals);
       unsaid = λ e. c.say_run-said.ensures.unsaid (joined_both c.joined_ends.result c.write_end-wrote.result (write_end wrote) c.write_end-kept.result (write_end kept) (Err NoMemory) c.joined_ends.ensures c.write_end-wrote.ensures c.write_end-kept.ensures e);
       ends = ends_of_all c.threads_end-threads.result (threads_end c.args.done) c.write_end-wrote.result (write_end wrote) c.give_back_parts-counts.result.1 c.write_end-kept.result (write_end kept) c.say_run-said.result

@@ -1,5 +1,4 @@
 use Rattle.std.proofs.Common.{List, map, subst, Vec, Global}
-use Rattle.crew_feeder.specs.Leaving.{feed_counts}
 use Rattle.crew_feeder.specs.declared.done.FeedDone.{FeedDone}
 use Rattle.live_session.specs.declared.done.SessionDone.{SessionDone}
 use Rattle.feed_reader.specs.declared.counts.FeedCounts.{FeedCounts}
@@ -32,7 +31,7 @@ returns-clause-back g c =
 
 pub returns-clause-feeds : goal.returns-clause-feeds
 returns-clause-feeds g c =
-    counted_of (λ (v : Vec FeedCounts Global). v.items) (λ (k : RunCounts). k.feeds) (feed_counts {I = g.row.P-In.Denot}) c.all_counts.result c.give_back_fed-feeds.result
+    counted_of (λ (v : Vec FeedCounts Global). v.items) (λ (k : RunCounts). k.feeds) (λ (f : FeedDone g.row.P-In.Denot). f.counts) c.all_counts.result c.give_back_fed-feeds.result
     c.into_vec.result.items c.args.feeds c.into_vec.ensures c.all_counts.ensures.feeds c.give_back_fed-feeds.ensures.counts
 
 pub returns-clause-asks : goal.returns-clause-asks
