@@ -8,6 +8,7 @@ use Rattle.crew_feeder.specs.declared.done.FeedDone.{FeedDone}
 use Rattle.live_session.specs.Work.{ending_fault}
 use Rattle.live_session.specs.declared.done.SessionDone.{SessionDone}
 use Rattle.cube_crew.specs.Crewed.{FeedsLeave, LeavesFeed, LeavesTranscript, closing}
+use Rattle.cube_crew.specs.declared.jobs.Crewed.{Crewed}
 use Rattle.cube_schema.specs.declared.plan.Plan.{Plan}
 use Rattle.cube_view.specs.Points.{Point}
 use Rattle.cube_view.specs.declared.schema.Schema.{Schema}
@@ -26,7 +27,6 @@ use Rattle.session_core.specs.declared.fault.SessionFault.{SessionFault}
 use Rattle.session_core.specs.declared.fault.SessionFault.TheVariants as fault
 use Rattle.plan_run.specs.Ready.{IsSessionOf}
 use Rattle.plan_run.specs.Closing.{ClosesRun}
-use Rattle.plan_run.specs.declared.done.RunDone.{RunDone}
 use Rattle.plan_run.specs.Parts.{ends_seen}
 
 -- A feed's source met faults exactly where reading ended the feed
@@ -42,13 +42,13 @@ pub record SessionCause {I O : Type 0} (faults : I → ℕ) (put_faults : O → 
   pub write_quiet : done.fault ≢ Some fault.Write → put_faults done.sink ≡ 0
 
 -- A run was closed, and its parts met faults exactly where these ended them.
-pub record RunCause {P I O T : Type 0} (p : PlaceSeen P) (i : SourceSeen I) (s : SinkSeen O) (t : SinkSeen T) (plan : Plan) (done : RunDone I O) (place place' : P) (out out' : T) (result : Result (Unit {0}) Stop) : Type 0 where
+pub record RunCause {P I O T : Type 0} (p : PlaceSeen P) (i : SourceSeen I) (s : SinkSeen O) (t : SinkSeen T) (plan : Plan) (crewed : Crewed I O) (unwritten : O) (place place' : P) (out out' : T) (result : Result (Unit {0}) Stop) : Type 0 where
   -- the journal had met none before
-  pub fresh : s.faults done.journal ≡ 0
-  pub feeds : All (FeedCause i.faults) done.feeds
-  pub asks : All (SessionCause i.faults s.faults) done.asks
-  pub finals : All (SessionCause i.faults s.faults) done.finals
-  pub closes : ClosesRun plan done (parts_seen p i s) t (at place out) (at place' out') result
+  pub fresh : s.faults unwritten ≡ 0
+  pub feeds : All (FeedCause i.faults) crewed.feeds
+  pub asks : All (SessionCause i.faults s.faults) crewed.asks
+  pub finals : All (SessionCause i.faults s.faults) crewed.finals
+  pub closes : ClosesRun plan crewed unwritten (parts_seen p i s) t (at place out) (at place' out') result
 
 -- how many faults the source of a feed met
 abbrev pub feed_count : {I : Type 0} → SourceSeen I → FeedDone I → ℕ

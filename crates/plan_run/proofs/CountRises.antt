@@ -3,6 +3,7 @@ use Rattle.std.proofs.Common.{◌≡◌, ◌≢◌, ◌⊎◌, inl, inr, ◌≤�
 use Rattle.std.specs.Prelude.{IsErrOf}
 use Rattle.crew_feeder.specs.declared.done.FeedDone.{FeedDone}
 use Rattle.live_session.specs.declared.done.SessionDone.{SessionDone}
+use Rattle.cube_crew.specs.declared.jobs.Crewed.{Crewed}
 use Rattle.cube_schema.specs.declared.plan.Plan.{Plan}
 use Rattle.outer_io.specs.Faults.{Rose}
 use Rattle.outer_io.specs.declared.fault.IoFault.TheVariants as io
@@ -14,7 +15,6 @@ use Rattle.run_files.specs.declared.stop.Stop.{Stop}
 use Rattle.run_files.specs.declared.stop.Stop.TheVariants.{NoMemory, PlanRefused, ReadFault, WriteFault}
 use Rattle.plan_run.specs.Closing.{threads_end}
 use Rattle.plan_run.specs.ThreadEnds.{feed_end, feeds_end, session_end, sessions_end, starved_end}
-use Rattle.plan_run.specs.declared.done.RunDone.{RunDone}
 use Rattle.plan_run.proofs.EndFaults.{AnyOf, all_err, any_in, any_left, any_mapped, any_right, any_unmapped, any_with, feed_not_plan, feed_not_write, feed_read_end, session_not_plan, session_read_end, session_write_end, some_faulty, write_failed, write_not_plan, write_not_read}
 use Rattle.plan_run.proofs.Causes.{FeedCause, RunCause, SessionCause, feed_count, session_count, sink_of}
 
@@ -22,29 +22,29 @@ pub starved_of : (starved : Bool) (e : Stop) → e ≢ NoMemory → starved_end 
 starved_of true e other is = other (sym (cc is))
 starved_of false e other is = cc is
 
-module _ {P I O T : Type 0} {p : PlaceSeen P} {i : SourceSeen I} {s : SinkSeen O} {t : SinkSeen T} {plan : Plan} {done : RunDone I O} {place place' : P} {out out' : T} {result : Result (Unit {0}) Stop} (run : RunCause p i s t plan done place place' out out' result) where
+module _ {P I O T : Type 0} {p : PlaceSeen P} {i : SourceSeen I} {s : SinkSeen O} {t : SinkSeen T} {plan : Plan} {crewed : Crewed I O} {unwritten : O} {place place' : P} {out out' : T} {result : Result (Unit {0}) Stop} (run : RunCause p i s t plan crewed unwritten place place' out out' result) where
   open run use {fresh, feeds, asks, finals, closes}
 
   abbrev MetFault : ℕ → Type 0
   MetFault n = Rose 0 n
 
   -- which of the five ends it is
-  five_ends : (e : Stop) → result ≡ Err e → AnyOf (λ end. end ≡ Err e) (threads_end done ∷ write_end closes.wrote ∷ closes.given ∷ write_end closes.kept ∷ closes.said ∷ [])
-  five_ends e is = all_err (threads_end done ∷ write_end closes.wrote ∷ closes.given ∷ write_end closes.kept ∷ closes.said ∷ []) e (sym closes.ends ∙ is)
+  five_ends : (e : Stop) → result ≡ Err e → AnyOf (λ end. end ≡ Err e) (threads_end crewed ∷ write_end closes.wrote ∷ closes.given ∷ write_end closes.kept ∷ closes.said ∷ [])
+  five_ends e is = all_err (threads_end crewed ∷ write_end closes.wrote ∷ closes.given ∷ write_end closes.kept ∷ closes.said ∷ []) e (sym closes.ends ∙ is)
 
-  four_ends : (e : Stop) → threads_end done ≡ Err e → AnyOf (λ end. end ≡ Err e) (starved_end done.starved ∷ feeds_end done.feeds ∷ sessions_end done.asks ∷ sessions_end done.finals ∷ [])
-  four_ends e is = all_err (starved_end done.starved ∷ feeds_end done.feeds ∷ sessions_end done.asks ∷ sessions_end done.finals ∷ []) e is
+  four_ends : (e : Stop) → threads_end crewed ≡ Err e → AnyOf (λ end. end ≡ Err e) (starved_end crewed.starved ∷ feeds_end crewed.feeds ∷ sessions_end crewed.asks ∷ sessions_end crewed.finals ∷ [])
+  four_ends e is = all_err (starved_end crewed.starved ∷ feeds_end crewed.feeds ∷ sessions_end crewed.asks ∷ sessions_end crewed.finals ∷ []) e is
 
   -- ---- reading
 
   rose_by : (before after : P) (counts : List ℕ) → TakesSources p before after counts → AnyOf MetFault counts → Rose (p.read_faults before) (p.read_faults after)
   rose_by before after counts takes any = rose_once _ _ _ (some_faulty counts any) takes.rose
 
-  fed_read : feeds_end done.feeds ≡ Err ReadFault → AnyOf MetFault (map (feed_count i) done.feeds)
+  fed_read : feeds_end crewed.feeds ≡ Err ReadFault → AnyOf MetFault (map (feed_count i) crewed.feeds)
   fed_read is =
-      any_mapped (feed_count i) MetFault done.feeds
-      (any_with (λ (d : FeedDone I). feed_end d.counts.fault ≡ Err ReadFault) (FeedCause i.faults) (λ d. MetFault (feed_count i d)) done.feeds (λ d end cause. cause.read (feed_read_end d.counts.fault end))
-      (any_unmapped (λ (d : FeedDone I). feed_end d.counts.fault) (λ end. end ≡ Err ReadFault) done.feeds (all_err (map (λ (d : FeedDone I). feed_end d.counts.fault) done.feeds) ReadFault is)) feeds)
+      any_mapped (feed_count i) MetFault crewed.feeds
+      (any_with (λ (d : FeedDone I). feed_end d.counts.fault ≡ Err ReadFault) (FeedCause i.faults) (λ d. MetFault (feed_count i d)) crewed.feeds (λ d end cause. cause.read (feed_read_end d.counts.fault end))
+      (any_unmapped (λ (d : FeedDone I). feed_end d.counts.fault) (λ end. end ≡ Err ReadFault) crewed.feeds (all_err (map (λ (d : FeedDone I). feed_end d.counts.fault) crewed.feeds) ReadFault is)) feeds)
 
   sessions_read : (sessions : List (SessionDone I O)) → All (SessionCause i.faults s.faults) sessions → sessions_end sessions ≡ Err ReadFault → AnyOf MetFault (map (session_count i) sessions)
   sessions_read sessions causes is =
@@ -62,17 +62,17 @@ module _ {P I O T : Type 0} {p : PlaceSeen P} {i : SourceSeen I} {s : SinkSeen O
       to_end : Rose (p.read_faults place) (p.read_faults closes.parts.read) → Rose (p.read_faults place) (p.read_faults place')
       to_end rose = subst (Rose (p.read_faults place)) (sym after_sources) rose
 
-      threads : AnyOf (λ end. end ≡ Err ReadFault) (starved_end done.starved ∷ feeds_end done.feeds ∷ sessions_end done.asks ∷ sessions_end done.finals ∷ []) → Rose (p.read_faults place) (p.read_faults closes.parts.read)
-      threads (inl starved) = absurd (starved_of done.starved ReadFault (λ e. cc e) starved)
+      threads : AnyOf (λ end. end ≡ Err ReadFault) (starved_end crewed.starved ∷ feeds_end crewed.feeds ∷ sessions_end crewed.asks ∷ sessions_end crewed.finals ∷ []) → Rose (p.read_faults place) (p.read_faults closes.parts.read)
+      threads (inl starved) = absurd (starved_of crewed.starved ReadFault (λ e. cc e) starved)
       threads (inr (inl fed)) =
           rose_later _ _ _ (rose_later _ _ _ (rose_by _ _ _ closes.parts.feeds_back (fed_read fed)) closes.parts.asks_back.rose.0) closes.parts.finals_back.rose.0
       threads (inr (inr (inl asked))) =
-          rose_later _ _ _ (rose_from_before _ _ _ closes.parts.feeds_back.rose.0 (rose_by _ _ _ closes.parts.asks_back (sessions_read done.asks asks asked))) closes.parts.finals_back.rose.0
+          rose_later _ _ _ (rose_from_before _ _ _ closes.parts.feeds_back.rose.0 (rose_by _ _ _ closes.parts.asks_back (sessions_read crewed.asks asks asked))) closes.parts.finals_back.rose.0
       threads (inr (inr (inr (inl ended)))) =
-          rose_from_before _ _ _ closes.parts.feeds_back.rose.0 (rose_from_before _ _ _ closes.parts.asks_back.rose.0 (rose_by _ _ _ closes.parts.finals_back (sessions_read done.finals finals ended)))
+          rose_from_before _ _ _ closes.parts.feeds_back.rose.0 (rose_from_before _ _ _ closes.parts.asks_back.rose.0 (rose_by _ _ _ closes.parts.finals_back (sessions_read crewed.finals finals ended)))
       threads (inr (inr (inr (inr none)))) = absurd none
 
-      by : AnyOf (λ end. end ≡ Err ReadFault) (threads_end done ∷ write_end closes.wrote ∷ closes.given ∷ write_end closes.kept ∷ closes.said ∷ []) → Rose (p.read_faults place) (p.read_faults place')
+      by : AnyOf (λ end. end ≡ Err ReadFault) (threads_end crewed ∷ write_end closes.wrote ∷ closes.given ∷ write_end closes.kept ∷ closes.said ∷ []) → Rose (p.read_faults place) (p.read_faults place')
       by (inl is) = to_end (threads (four_ends ReadFault is))
       by (inr (inl wrote)) = absurd (write_not_read closes.wrote wrote)
       by (inr (inr (inl given))) = absurd (closes.parts.sinks_back.only.1 given)
@@ -111,19 +111,19 @@ module _ {P I O T : Type 0} {p : PlaceSeen P} {i : SourceSeen I} {s : SinkSeen O
   pub closing_write : result ≡ Err WriteFault → Written
   closing_write is = by (five_ends WriteFault is)
     where
-      some_sink : AnyOf (λ sink. MetFault (s.faults sink)) (map sink_of done.asks ++ map sink_of done.finals) → Written
+      some_sink : AnyOf (λ sink. MetFault (s.faults sink)) (map sink_of crewed.asks ++ map sink_of crewed.finals) → Written
       some_sink any =
-          let one = any_in (λ sink. MetFault (s.faults sink)) (map sink_of done.asks ++ map sink_of done.finals) any in
+          let one = any_in (λ sink. MetFault (s.faults sink)) (map sink_of crewed.asks ++ map sink_of crewed.finals) any in
           by_sinks (closes.parts.sinks_back.met one.0 one.1 one.2)
 
-      threads : AnyOf (λ end. end ≡ Err WriteFault) (starved_end done.starved ∷ feeds_end done.feeds ∷ sessions_end done.asks ∷ sessions_end done.finals ∷ []) → Written
-      threads (inl starved) = absurd (starved_of done.starved WriteFault (λ e. cc e) starved)
-      threads (inr (inl fed)) = absurd (no_feed_writes done.feeds (any_unmapped (λ (d : FeedDone I). feed_end d.counts.fault) (λ end. end ≡ Err WriteFault) done.feeds (all_err (map (λ (d : FeedDone I). feed_end d.counts.fault) done.feeds) WriteFault fed)))
-      threads (inr (inr (inl asked))) = some_sink (any_left (λ sink. MetFault (s.faults sink)) (map sink_of done.asks) (map sink_of done.finals) (sessions_write done.asks asks asked))
-      threads (inr (inr (inr (inl ended)))) = some_sink (any_right (λ sink. MetFault (s.faults sink)) (map sink_of done.asks) (map sink_of done.finals) (sessions_write done.finals finals ended))
+      threads : AnyOf (λ end. end ≡ Err WriteFault) (starved_end crewed.starved ∷ feeds_end crewed.feeds ∷ sessions_end crewed.asks ∷ sessions_end crewed.finals ∷ []) → Written
+      threads (inl starved) = absurd (starved_of crewed.starved WriteFault (λ e. cc e) starved)
+      threads (inr (inl fed)) = absurd (no_feed_writes crewed.feeds (any_unmapped (λ (d : FeedDone I). feed_end d.counts.fault) (λ end. end ≡ Err WriteFault) crewed.feeds (all_err (map (λ (d : FeedDone I). feed_end d.counts.fault) crewed.feeds) WriteFault fed)))
+      threads (inr (inr (inl asked))) = some_sink (any_left (λ sink. MetFault (s.faults sink)) (map sink_of crewed.asks) (map sink_of crewed.finals) (sessions_write crewed.asks asks asked))
+      threads (inr (inr (inr (inl ended)))) = some_sink (any_right (λ sink. MetFault (s.faults sink)) (map sink_of crewed.asks) (map sink_of crewed.finals) (sessions_write crewed.finals finals ended))
       threads (inr (inr (inr (inr none)))) = absurd none
 
-      by : AnyOf (λ end. end ≡ Err WriteFault) (threads_end done ∷ write_end closes.wrote ∷ closes.given ∷ write_end closes.kept ∷ closes.said ∷ []) → Written
+      by : AnyOf (λ end. end ≡ Err WriteFault) (threads_end crewed ∷ write_end closes.wrote ∷ closes.given ∷ write_end closes.kept ∷ closes.said ∷ []) → Written
       by (inl is) = threads (four_ends WriteFault is)
       by (inr (inl wrote)) =
           let rose = closes.written.cause.rose (subst (λ r. IsErrOf r io.Failed) (sym (write_failed closes.wrote wrote)) refl) in
@@ -148,14 +148,14 @@ module _ {P I O T : Type 0} {p : PlaceSeen P} {i : SourceSeen I} {s : SinkSeen O
   pub closing_not_plan : result ≢ Err PlanRefused
   closing_not_plan is = by (five_ends PlanRefused is)
     where
-      threads : ¬ AnyOf (λ end. end ≡ Err PlanRefused) (starved_end done.starved ∷ feeds_end done.feeds ∷ sessions_end done.asks ∷ sessions_end done.finals ∷ [])
-      threads (inl starved) = starved_of done.starved PlanRefused (λ e. cc e) starved
-      threads (inr (inl fed)) = no_feed_plans done.feeds (any_unmapped (λ (d : FeedDone I). feed_end d.counts.fault) (λ end. end ≡ Err PlanRefused) done.feeds (all_err (map (λ (d : FeedDone I). feed_end d.counts.fault) done.feeds) PlanRefused fed))
-      threads (inr (inr (inl asked))) = no_session_plans done.asks (any_unmapped (λ (d : SessionDone I O). session_end d.fault) (λ end. end ≡ Err PlanRefused) done.asks (all_err (map (λ (d : SessionDone I O). session_end d.fault) done.asks) PlanRefused asked))
-      threads (inr (inr (inr (inl ended)))) = no_session_plans done.finals (any_unmapped (λ (d : SessionDone I O). session_end d.fault) (λ end. end ≡ Err PlanRefused) done.finals (all_err (map (λ (d : SessionDone I O). session_end d.fault) done.finals) PlanRefused ended))
+      threads : ¬ AnyOf (λ end. end ≡ Err PlanRefused) (starved_end crewed.starved ∷ feeds_end crewed.feeds ∷ sessions_end crewed.asks ∷ sessions_end crewed.finals ∷ [])
+      threads (inl starved) = starved_of crewed.starved PlanRefused (λ e. cc e) starved
+      threads (inr (inl fed)) = no_feed_plans crewed.feeds (any_unmapped (λ (d : FeedDone I). feed_end d.counts.fault) (λ end. end ≡ Err PlanRefused) crewed.feeds (all_err (map (λ (d : FeedDone I). feed_end d.counts.fault) crewed.feeds) PlanRefused fed))
+      threads (inr (inr (inl asked))) = no_session_plans crewed.asks (any_unmapped (λ (d : SessionDone I O). session_end d.fault) (λ end. end ≡ Err PlanRefused) crewed.asks (all_err (map (λ (d : SessionDone I O). session_end d.fault) crewed.asks) PlanRefused asked))
+      threads (inr (inr (inr (inl ended)))) = no_session_plans crewed.finals (any_unmapped (λ (d : SessionDone I O). session_end d.fault) (λ end. end ≡ Err PlanRefused) crewed.finals (all_err (map (λ (d : SessionDone I O). session_end d.fault) crewed.finals) PlanRefused ended))
       threads (inr (inr (inr (inr none)))) = none
 
-      by : ¬ AnyOf (λ end. end ≡ Err PlanRefused) (threads_end done ∷ write_end closes.wrote ∷ closes.given ∷ write_end closes.kept ∷ closes.said ∷ [])
+      by : ¬ AnyOf (λ end. end ≡ Err PlanRefused) (threads_end crewed ∷ write_end closes.wrote ∷ closes.given ∷ write_end closes.kept ∷ closes.said ∷ [])
       by (inl is) = threads (four_ends PlanRefused is)
       by (inr (inl wrote)) = write_not_plan closes.wrote wrote
       by (inr (inr (inl given))) = closes.parts.sinks_back.only.0 given

@@ -52,8 +52,8 @@ module _ {P I O : Type 0} (p : PlaceSeen P) (i : SourceSeen I) (s : SinkSeen O) 
   given_back_empty a b makes told_before back all =
       let same : p.files back.read ≡ p.files a = back.finals_back.files ∙ back.asks_back.files ∙ back.feeds_back.files in
       let told_read : IsSome (p.files back.read) = subst IsSome (sym same) told_before in
-      let sinks : List O = map sink_in parts.asks ++ map sink_in parts.finals in
-      let hold : All HoldsNothing sinks = All-append HoldsNothing (map sink_in parts.asks) (map sink_in parts.finals) (hold_nothing plan.asks parts.asks ready.asks) (hold_nothing plan.finals parts.finals ready.finals) in
+      let sinks : List O = map sink_in parts.jobs.asks ++ map sink_in parts.jobs.finals in
+      let hold : All HoldsNothing sinks = All-append HoldsNothing (map sink_in parts.jobs.asks) (map sink_in parts.jobs.finals) (hold_nothing plan.asks parts.jobs.asks ready.asks) (hold_nothing plan.finals parts.jobs.finals ready.finals) in
       let told_replied = told_still (p.files back.read) (p.files back.replied) (map s.name sinks) back.sinks_back.others told_read in
       All-weaker (λ name. HasFile (p.files a) name []) (λ name. HasFile (p.files b) name []) (λ name has.
       empty_given (p.files back.replied) (p.files b) (s.name parts.journal) name (s.held parts.journal) back.kept told_replied (of_told files (HoldsNothing parts.journal) told ready.journal.holds_nothing)

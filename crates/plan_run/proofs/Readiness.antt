@@ -83,7 +83,7 @@ module _ {I O : Type 0} (left : I → Option (List ℕ)) (faults : I → ℕ) (s
   -- ---- both
 
   pub are_ready : (plan : Plan) (feeds : List (FeedJob I)) (scripts : ScriptParts (Cutter I) O) (parts : RunParts I O) → AllZip (λ name. IsHeaded left faults plan.schema (file_of files name)) plan.feeds feeds → AreScriptParts left faults s files plan scripts
-      → parts.feeds ≡ feeds → parts.asks ≡ sessions_of scripts.asks scripts.ask_outputs → parts.finals ≡ sessions_of scripts.finals scripts.final_outputs → parts.journal ≡ scripts.journal → AreReady left faults s files plan parts
+      → parts.jobs.feeds ≡ feeds → parts.jobs.asks ≡ sessions_of scripts.asks scripts.ask_outputs → parts.jobs.finals ≡ sessions_of scripts.finals scripts.final_outputs → parts.journal ≡ scripts.journal → AreReady left faults s files plan parts
   are_ready plan feeds scripts parts headed are fed asked finally kept = record {
     feeds = subst (AllZip (λ name. IsJobOf left faults plan.schema (file_of files name)) plan.feeds) (sym fed) (are_jobs left faults plan.schema files plan.feeds feeds headed);
     asks = subst (AllZip (IsSessionOf left faults s files) plan.asks) (sym asked) (are_sessions plan.asks scripts.asks scripts.ask_outputs are.asks are.ask_outputs);
@@ -96,17 +96,19 @@ module _ {I O : Type 0} (left : I → Option (List ℕ)) (faults : I → ℕ) (s
   are_fit plan parts few ready empty room =
       let job = λ (name : List ℕ). IsJobOf left faults plan.schema (file_of files name) in
       let session = IsSessionOf left faults s files in
-      let fed = AllZip-long job plan.feeds parts.feeds ready.feeds in
-      let asked = AllZip-long session plan.asks parts.asks ready.asks in
-      let finally = AllZip-long session plan.finals parts.finals ready.finals in
+      let fed = AllZip-long job plan.feeds parts.jobs.feeds ready.feeds in
+      let asked = AllZip-long session plan.asks parts.jobs.asks ready.asks in
+      let finally = AllZip-long session plan.finals parts.jobs.finals ready.finals in
       let none : length parts.room.items ≡ 0 = ap length empty in
       record {
-        headers = each_second job (λ (j : FeedJob I). j.header.schema ≡ plan.schema) (λ name j is. is.headed.reads.schema_is) plan.feeds parts.feeds ready.feeds;
-        going = each_second job (λ (j : FeedJob I). IsGoing j.cutter) (λ name j is. is.headed.reads.header.2.goes_on) plan.feeds parts.feeds ready.feeds;
-        feeds = (omega (arith, fed, few.feeds.0), omega (arith, fed, few.feeds.1));
-        sessions = (omega (arith, asked, few.few_asks), omega (arith, finally, few.few_finals));
-        asks = each_second session HadNoTurn (λ name k is. is.no_turn) plan.asks parts.asks ready.asks;
-        finals = each_second session HadNoTurn (λ name k is. is.no_turn) plan.finals parts.finals ready.finals;
+        jobs = record {
+          headers = each_second job (λ (j : FeedJob I). j.header.schema ≡ plan.schema) (λ name j is. is.headed.reads.schema_is) plan.feeds parts.jobs.feeds ready.feeds;
+          going = each_second job (λ (j : FeedJob I). IsGoing j.cutter) (λ name j is. is.headed.reads.header.2.goes_on) plan.feeds parts.jobs.feeds ready.feeds;
+          feeds = (omega (arith, fed, few.feeds.0), omega (arith, fed, few.feeds.1));
+          sessions = (omega (arith, asked, few.few_asks), omega (arith, finally, few.few_finals));
+          asks = each_second session HadNoTurn (λ name k is. is.no_turn) plan.asks parts.jobs.asks ready.asks;
+          finals = each_second session HadNoTurn (λ name k is. is.no_turn) plan.finals parts.jobs.finals ready.finals;
+        };
         empty = (empty, omega (arith, none, parts.room.ok.0));
         room = omega (arith, asked, finally, room);
       }

@@ -50,7 +50,6 @@ use Rattle.plan_run.specs.declared.parts.RunParts.{RunParts}
 use Rattle.plan_run.specs.Closing.{ClosesRun, run_text, threads_end}
 use Rattle.plan_run.specs.Counted.{script_counts}
 use Rattle.plan_run.specs.ThreadEnds.{feed_end, feeds_end, session_end, sessions_end, starved_end}
-use Rattle.plan_run.specs.declared.done.RunDone.{RunDone}
 use Rattle.plan_run.proofs.ScriptAnswers.{HasRun, answers_script, stops_script}
 use Rattle.plan_run.proofs.Causes.{FeedCause, SessionCause}
 use Rattle.plan_run.proofs.ReadFaultCounts.{count-map, unread_feeds, unread_scripts}
@@ -64,7 +63,7 @@ use Rattle.plan_run.proofs.EndRanks.{ComesFirst, all_ranked, lacking, rank_end, 
 use Rattle.plan_run.proofs.FeedOutcomes.{Gave, GaveRows, StandsAfterOne, all_gave, points_begin, takes_feed}
 use Rattle.plan_run.proofs.Zips.{AllZip-ap, AllZip-mapped, AllZip-with}
 use Rattle.plan_run.specs.Interrupted.{Account, BeginsFiles, AnswersInFile, HoldsFiles, InterleavesFronts, StopsScript, ReportsFeed, account_text, accepted_lists, is_script_unread, is_unread, read_stops}
-use Rattle.plan_run.specs.Parts.{ends_seen, jobs_of, run_done_of}
+use Rattle.plan_run.specs.Parts.{ends_seen}
 
 abbrev Answer : Type 0
 Answer = Result (Unit {0}) IoFault
@@ -118,21 +117,18 @@ part_lands f g after name text held n is told empty (Err io.Failed) lands =
 part_lands f g after name text held n is told empty (Err io.NoMemory) lands = (0, subst (λ o. IsSomeAnd o (λ now. get now name ≡ get f name)) told lands ∙ empty)
 
 module _ {P I O T : Type 0} (p : PlaceSeen P) (i : SourceSeen I) (s : SinkSeen O) (t : SinkSeen T) (plan : Plan) (parts : RunParts I O) (place place' : P) (out out' : T) (o : Option Files) (ready : AreReady i.left i.faults s o plan parts) (crewed : Crewed I O)
-    (ran : IsCrewed (ends_seen i s) OwnsAllButRoot plan.schema (jobs_of parts) crewed)
+    (ran : IsCrewed (ends_seen i s) OwnsAllButRoot plan.schema parts.jobs crewed)
     (feed_causes : All (FeedCause i.faults) crewed.feeds) (ask_causes : All (SessionCause i.faults s.faults) crewed.asks) (final_causes : All (SessionCause i.faults s.faults) crewed.finals)
-    (result : Result (Unit {0}) Stop) (planned : result ≢ Err PlanRefused) (closes : ClosesRun plan (run_done_of crewed parts.journal) (parts_seen p i s) t (at place out) (at place' out') result) where
-  abbrev done : RunDone I O
-  done = run_done_of crewed parts.journal
-
+    (result : Result (Unit {0}) Stop) (planned : result ≢ Err PlanRefused) (closes : ClosesRun plan crewed parts.journal (parts_seen p i s) t (at place out) (at place' out') result) where
   abbrev sink_of : SessionDone I O → O
   sink_of session = session.sink
 
   -- ---- which ends come no earlier
 
-  five_ends : ComesFirst (rank_end result) (threads_end done ∷ write_end closes.wrote ∷ closes.given ∷ write_end closes.kept ∷ closes.said ∷ [])
+  five_ends : ComesFirst (rank_end result) (threads_end crewed ∷ write_end closes.wrote ∷ closes.given ∷ write_end closes.kept ∷ closes.said ∷ [])
   five_ends =
-      subst (λ (e : End). ComesFirst (rank_end e) (threads_end done ∷ write_end closes.wrote ∷ closes.given ∷ write_end closes.kept ∷ closes.said ∷ [])) (sym closes.ends)
-      (all_ranked (threads_end done ∷ write_end closes.wrote ∷ closes.given ∷ write_end closes.kept ∷ closes.said ∷ []))
+      subst (λ (e : End). ComesFirst (rank_end e) (threads_end crewed ∷ write_end closes.wrote ∷ closes.given ∷ write_end closes.kept ∷ closes.said ∷ [])) (sym closes.ends)
+      (all_ranked (threads_end crewed ∷ write_end closes.wrote ∷ closes.given ∷ write_end closes.kept ∷ closes.said ∷ []))
 
   four_ends : ComesFirst (rank_end result) (starved_end crewed.starved ∷ feeds_end crewed.feeds ∷ sessions_end crewed.asks ∷ sessions_end crewed.finals ∷ [])
   four_ends = within (rank_end result) (starved_end crewed.starved ∷ feeds_end crewed.feeds ∷ sessions_end crewed.asks ∷ sessions_end crewed.finals ∷ []) (five_ends 0 well (omega arith))
@@ -185,13 +181,13 @@ module _ {P I O T : Type 0} (p : PlaceSeen P) (i : SourceSeen I) (s : SinkSeen O
 
   -- ---- what it reports
 
-  gave : Gave i.left i.faults parts.feeds ran.sent crewed.feeds
-  gave = all_gave i.left i.faults parts.feeds ran.sent crewed.feeds (AllZip-right (λ name. IsJobOf i.left i.faults plan.schema (file_of o name)) (StandsAfterOne i.left i.faults) plan.feeds parts.feeds (λ name job is. is.given) ready.feeds) ran.feeds
+  gave : Gave i.left i.faults parts.jobs.feeds ran.sent crewed.feeds
+  gave = all_gave i.left i.faults parts.jobs.feeds ran.sent crewed.feeds (AllZip-right (λ name. IsJobOf i.left i.faults plan.schema (file_of o name)) (StandsAfterOne i.left i.faults) plan.feeds parts.jobs.feeds (λ name job is. is.given) ready.feeds) ran.feeds
 
   pub account : Account
   account = record { feeds = gave.feeds; asks = map script_counts crewed.asks; finals = map script_counts crewed.finals; closed = crewed.closed; entries = crewed.journal; drawn = crewed.drawn }
 
-  pub account_is : run_text plan done ≡ account_text plan account
+  pub account_is : run_text plan crewed ≡ account_text plan account
   unfolding account
   account_is = ap (λ (fs : List FeedCounts). counts_text plan fs (map script_counts crewed.asks) (map script_counts crewed.finals) crewed.closed (length crewed.journal)) gave.counts
 
@@ -285,12 +281,12 @@ module _ {P I O T : Type 0} (p : PlaceSeen P) (i : SourceSeen I) (s : SinkSeen O
     asks_run : AllZip (HasRun i s plan.schema false crewed.closed crewed.starved points files result) plan.asks crewed.asks
     asks_run =
         AllZip-then (IsSessionOf i.left i.faults s (Some files)) (LeavesTranscript (ends_seen i s) OwnsAllButRoot plan.schema false (closing crewed.closed crewed.starved points)) (HasRun i s plan.schema false crewed.closed crewed.starved points files result)
-        plan.asks parts.asks crewed.asks (λ name before d r l. record { before = before; ready = r; leaves = l }) it_is.asks ran.asks
+        plan.asks parts.jobs.asks crewed.asks (λ name before d r l. record { before = before; ready = r; leaves = l }) it_is.asks ran.asks
 
     finals_run : AllZip (HasRun i s plan.schema true crewed.closed crewed.starved points files result) plan.finals crewed.finals
     finals_run =
         AllZip-then (IsSessionOf i.left i.faults s (Some files)) (LeavesTranscript (ends_seen i s) OwnsAllButRoot plan.schema true (closing crewed.closed crewed.starved points)) (HasRun i s plan.schema true crewed.closed crewed.starved points files result)
-        plan.finals parts.finals crewed.finals (λ name before d r l. record { before = before; ready = r; leaves = l }) it_is.finals ran.finals
+        plan.finals parts.jobs.finals crewed.finals (λ name before d r l. record { before = before; ready = r; leaves = l }) it_is.finals ran.finals
 
     stopped : (final : Bool) (scripts : List (List ℕ)) (sessions : List (SessionDone I O)) → AllZip (HasRun i s plan.schema final crewed.closed crewed.starved points files result) scripts sessions → All SessionFirst sessions → AllZip (StopsScript plan.schema crewed.closed result files) scripts (map script_counts sessions)
     stopped final scripts sessions run first =
@@ -322,8 +318,8 @@ module _ {P I O T : Type 0} (p : PlaceSeen P) (i : SourceSeen I) (s : SinkSeen O
     sinks_named : map s.name sinks ≡ outs
     sinks_named =
         map-append s.name (map sink_of crewed.asks) (map sink_of crewed.finals)
-        ∙ ap (λ ns. ns ++ map s.name (map sink_of crewed.finals)) (dones_named i s o OwnsAllButRoot plan.schema false crewed.closed crewed.starved points plan.asks parts.asks crewed.asks ready.asks ran.asks)
-        ∙ ap (λ ns. outputs plan.asks ++ ns) (dones_named i s o OwnsAllButRoot plan.schema true crewed.closed crewed.starved points plan.finals parts.finals crewed.finals ready.finals ran.finals)
+        ∙ ap (λ ns. ns ++ map s.name (map sink_of crewed.finals)) (dones_named i s o OwnsAllButRoot plan.schema false crewed.closed crewed.starved points plan.asks parts.jobs.asks crewed.asks ready.asks ran.asks)
+        ∙ ap (λ ns. outputs plan.asks ++ ns) (dones_named i s o OwnsAllButRoot plan.schema true crewed.closed crewed.starved points plan.finals parts.jobs.finals crewed.finals ready.finals ran.finals)
 
     -- what is said of the outputs' names is said of those of the sinks
     of_sinks : (Q : List ℕ → Type 0) → All Q outs → All (λ sink. Q (s.name sink)) sinks
@@ -333,26 +329,26 @@ module _ {P I O T : Type 0} (p : PlaceSeen P) (i : SourceSeen I) (s : SinkSeen O
     takes =
         AllZip-with (λ name feed. (job : FeedJob I) × IsJobOf i.left i.faults plan.schema (Some (file_or_empty files name)) job × GaveRows i.left i.faults job feed) (λ (feed : FeedRows). FeedFirst feed.fault) (ReportsFeed plan.schema result files) plan.feeds gave.feeds
         (λ name feed is first. takes_feed i.left i.faults plan.schema result planned files name is.0 feed is.1 is.2 first)
-        (AllZip-then (λ name. IsJobOf i.left i.faults plan.schema (Some (file_or_empty files name))) (GaveRows i.left i.faults) _ plan.feeds parts.feeds gave.feeds (λ name job feed is gives. (job, is, gives)) it_is.feeds gave.gave)
+        (AllZip-then (λ name. IsJobOf i.left i.faults plan.schema (Some (file_or_empty files name))) (GaveRows i.left i.faults) _ plan.feeds parts.jobs.feeds gave.feeds (λ name job feed is gives. (job, is, gives)) it_is.feeds gave.gave)
         (All-unmapped (λ (feed : FeedRows). feed.fault) FeedFirst gave.feeds (subst (All FeedFirst) (sym gave.faults_are) (All-map FeedFirst (λ (d : FeedDone I). d.counts.fault) crewed.feeds feeds_first)))
 
     text : List ℕ
     text = journal_text plan.schema crewed.journal
 
-    count : length parts.feeds ≡ length plan.feeds
-    count = AllZip-length (λ name job. IsJobOf i.left i.faults plan.schema (Some (file_or_empty files name)) job) plan.feeds parts.feeds it_is.feeds
+    count : length parts.jobs.feeds ≡ length plan.feeds
+    count = AllZip-length (λ name job. IsJobOf i.left i.faults plan.schema (Some (file_or_empty files name)) job) plan.feeds parts.jobs.feeds it_is.feeds
 
     fronts : (entries : List Entry) → IsPrefix entries crewed.drawn → InterleavesFronts (accepted_lists plan files) entries
     fronts entries begins =
         let acc : List ℕ → List Point = λ name. accepted plan.schema (file_or_empty files name) in
         let prefixes : AllZip IsPrefix (map (λ (feed : FeedRows). points_in feed.rows) gave.feeds) (accepted_lists plan files) =
         AllZip-ap (ReportsFeed plan.schema result files) IsPrefix (λ name. accepted plan.schema (file_or_empty files name)) (λ (feed : FeedRows). points_in feed.rows) plan.feeds gave.feeds (points_begin plan.schema result files) takes in
-        interleaves_fronts (accepted_lists plan files) ran.sent (length parts.feeds) entries crewed.drawn (count ∙ sym (length-map plan.feeds acc)) (subst (λ ls. AllZip IsPrefix ls (accepted_lists plan files)) (sym gave.points) prefixes) ran.drawn begins
+        interleaves_fronts (accepted_lists plan files) ran.sent (length parts.jobs.feeds) entries crewed.drawn (count ∙ sym (length-map plan.feeds acc)) (subst (λ ls. AllZip IsPrefix ls (accepted_lists plan files)) (sym gave.points) prefixes) ran.drawn begins
 
     drawn : result ≢ Err NoMemory → IsInterleaving (length plan.feeds) (list_of (map (λ (feed : FeedRows). points_in feed.rows) gave.feeds)) crewed.journal
     drawn found =
         let all = ran.found (fed_where crewed.starved refl found) in
-        subst (λ ls. IsInterleaving (length plan.feeds) (list_of ls) crewed.journal) gave.points (subst (λ n. IsInterleaving n (list_of ran.sent) crewed.journal) count (subst (IsInterleaving (length parts.feeds) (list_of ran.sent)) (sym all.journal) ran.drawn))
+        subst (λ ls. IsInterleaving (length plan.feeds) (list_of ls) crewed.journal) gave.points (subst (λ n. IsInterleaving n (list_of ran.sent) crewed.journal) count (subst (IsInterleaving (length parts.jobs.feeds) (list_of ran.sent)) (sym all.journal) ran.drawn))
 
     abbrev WasEmpty : List ℕ → Type 0
     WasEmpty name = get now name ≡ Some []

@@ -31,7 +31,7 @@ use Rattle.plan_run.proofs.WellEnds.{All-unmapped, IsWell, all_well, feed_well, 
 use Rattle.plan_run.proofs.OutputFiles.{AllPairs-back, AllPairs-front, AllPairs-last, all_landed, some_is, told_pair}
 use Rattle.plan_run.proofs.OneJournal.{EntryLaws, entries_valid}
 use Rattle.plan_run.specs.Completed.{IsCompleted, reply_counts, whole_rows}
-use Rattle.plan_run.specs.Parts.{ends_seen, jobs_of, run_done_of}
+use Rattle.plan_run.specs.Parts.{ends_seen}
 use Rattle.run_files.proofs.Lists.{All-back, All-front}
 use Rattle.run_files.specs.GivingBack.{Lands, TakesSinks}
 use Rattle.run_files.specs.Outside.{at, parts_seen, PlaceSeen, Puts as Said, SinkSeen, SourceSeen}
@@ -52,7 +52,7 @@ use Rattle.world_core.specs.Interleaving.{IsInterleaving, entry_points, list_of}
 
 module _ {P I O T : Type 0} (p : PlaceSeen P) (i : SourceSeen I) (s : SinkSeen O) (t : SinkSeen T) (plan : Plan) (parts : RunParts I O) (place place' : P) (out out' : T) where
   -- What ended well of a run that was closed, and was to end well
-  pub record EndsWell (crewed : Crewed I O) (closes : ClosesRun plan (run_done_of crewed parts.journal) (parts_seen p i s) t (at place out) (at place' out') (Ok tt)) : Type 0 where
+  pub record EndsWell (crewed : Crewed I O) (closes : ClosesRun plan crewed parts.journal (parts_seen p i s) t (at place out) (at place' out') (Ok tt)) : Type 0 where
     pub fed : crewed.starved ≡ false
     pub feeds : All (λ (done : FeedDone I). done.counts.fault ≡ None) crewed.feeds
     pub asks : All (λ (done : SessionDone I O). done.fault ≡ None) crewed.asks
@@ -62,12 +62,11 @@ module _ {P I O T : Type 0} (p : PlaceSeen P) (i : SourceSeen I) (s : SinkSeen O
     pub kept : closes.kept ≡ Ok tt
     pub said : closes.said ≡ Ok tt
 
-  pub ends_well : (crewed : Crewed I O) (closes : ClosesRun plan (run_done_of crewed parts.journal) (parts_seen p i s) t (at place out) (at place' out') (Ok tt)) → EndsWell crewed closes
+  pub ends_well : (crewed : Crewed I O) (closes : ClosesRun plan crewed parts.journal (parts_seen p i s) t (at place out) (at place' out') (Ok tt)) → EndsWell crewed closes
   ends_well crewed closes =
-      let done = run_done_of crewed parts.journal in
-      let five = all_well (threads_end done ∷ write_end closes.wrote ∷ closes.given ∷ write_end closes.kept ∷ closes.said ∷ []) (sym closes.ends) in
-      let threads = All-head IsWell (threads_end done) (write_end closes.wrote ∷ closes.given ∷ write_end closes.kept ∷ closes.said ∷ []) five in
-      let four = All-tail IsWell (threads_end done) (write_end closes.wrote ∷ closes.given ∷ write_end closes.kept ∷ closes.said ∷ []) five in
+      let five = all_well (threads_end crewed ∷ write_end closes.wrote ∷ closes.given ∷ write_end closes.kept ∷ closes.said ∷ []) (sym closes.ends) in
+      let threads = All-head IsWell (threads_end crewed) (write_end closes.wrote ∷ closes.given ∷ write_end closes.kept ∷ closes.said ∷ []) five in
+      let four = All-tail IsWell (threads_end crewed) (write_end closes.wrote ∷ closes.given ∷ write_end closes.kept ∷ closes.said ∷ []) five in
       let three = All-tail IsWell (write_end closes.wrote) (closes.given ∷ write_end closes.kept ∷ closes.said ∷ []) four in
       let two = All-tail IsWell closes.given (write_end closes.kept ∷ closes.said ∷ []) three in
       let one = All-tail IsWell (write_end closes.kept) (closes.said ∷ []) two in
@@ -95,8 +94,8 @@ module _ {P I O T : Type 0} (p : PlaceSeen P) (i : SourceSeen I) (s : SinkSeen O
   sink_of done = done.sink
 
   -- the files of a run that was closed and ended well
-  pub completed : EntryLaws → (files now : Files) (crewed : Crewed I O) → NamesFiles plan → AreReady i.left i.faults s (Some files) plan parts → IsCrewed (ends_seen i s) OwnsAllButRoot plan.schema (jobs_of parts) crewed
-      → p.files place ≡ Some now → (closes : ClosesRun plan (run_done_of crewed parts.journal) (parts_seen p i s) t (at place out) (at place' out') (Ok tt)) → IsSomeAnd (p.files place') (λ files'. IsCompleted plan files files' (t.held out) (t.held out'))
+  pub completed : EntryLaws → (files now : Files) (crewed : Crewed I O) → NamesFiles plan → AreReady i.left i.faults s (Some files) plan parts → IsCrewed (ends_seen i s) OwnsAllButRoot plan.schema parts.jobs crewed
+      → p.files place ≡ Some now → (closes : ClosesRun plan crewed parts.journal (parts_seen p i s) t (at place out) (at place' out') (Ok tt)) → IsSomeAnd (p.files place') (λ files'. IsCompleted plan files files' (t.held out) (t.held out'))
   completed laws files now crewed names ready ran told closes =
       let well = ends_well crewed closes in
       let found = ran.found well.fed in
@@ -109,11 +108,11 @@ module _ {P I O T : Type 0} (p : PlaceSeen P) (i : SourceSeen I) (s : SinkSeen O
       let replied = told_pair (p.files back.read) (p.files closes.replied) now (λ a b. (other : List ℕ) → ¬ Contains (map s.name sinks) other → get b other ≡ get a other) told_read sinks_back.others in
       let last = told_pair (p.files closes.replied) (p.files place') replied.0 (λ a b. SameBut a b (s.name closes.sink)) replied.1 closes.journal.others in
       -- feeds and scripts
-      let fed = are_fed i.left i.faults plan.schema (file_or_empty files) plan.feeds parts.feeds ran.sent crewed.feeds ready.feeds ran.feeds well.feeds in
-      let ran_asks = subst (λ closed. AllZip (LeavesTranscript (ends_seen i s) OwnsAllButRoot plan.schema false (closing crewed.closed crewed.starved (answered_over closed crewed.journal crewed.drawn))) parts.asks crewed.asks) found.closed ran.asks in
-      let ran_finals = subst (λ closed. AllZip (LeavesTranscript (ends_seen i s) OwnsAllButRoot plan.schema true (closing crewed.closed crewed.starved (answered_over closed crewed.journal crewed.drawn))) parts.finals crewed.finals) found.closed ran.finals in
-      let asks = all_replied i s plan.schema false points files crewed.closed crewed.starved plan.asks parts.asks crewed.asks found.closed well.fed ready.asks ran_asks well.asks in
-      let finals = all_replied i s plan.schema true points files crewed.closed crewed.starved plan.finals parts.finals crewed.finals found.closed well.fed ready.finals ran_finals well.finals in
+      let fed = are_fed i.left i.faults plan.schema (file_or_empty files) plan.feeds parts.jobs.feeds ran.sent crewed.feeds ready.feeds ran.feeds well.feeds in
+      let ran_asks = subst (λ closed. AllZip (LeavesTranscript (ends_seen i s) OwnsAllButRoot plan.schema false (closing crewed.closed crewed.starved (answered_over closed crewed.journal crewed.drawn))) parts.jobs.asks crewed.asks) found.closed ran.asks in
+      let ran_finals = subst (λ closed. AllZip (LeavesTranscript (ends_seen i s) OwnsAllButRoot plan.schema true (closing crewed.closed crewed.starved (answered_over closed crewed.journal crewed.drawn))) parts.jobs.finals crewed.finals) found.closed ran.finals in
+      let asks = all_replied i s plan.schema false points files crewed.closed crewed.starved plan.asks parts.jobs.asks crewed.asks found.closed well.fed ready.asks ran_asks well.asks in
+      let finals = all_replied i s plan.schema true points files crewed.closed crewed.starved plan.finals parts.jobs.finals crewed.finals found.closed well.fed ready.finals ran_finals well.finals in
       -- names
       let apart : AllPairs (λ n m. n ≢ m) (output_names plan) = AllPairs-back (λ n m. n ≢ m) (input_names plan) (output_names plan) names.apart in
       let outs : List (List ℕ) = outputs plan.asks ++ outputs plan.finals in
@@ -139,9 +138,9 @@ module _ {P I O T : Type 0} (p : PlaceSeen P) (i : SourceSeen I) (s : SinkSeen O
       let to_finals = transcripts i s plan.schema true points files (p.files closes.replied) (p.files place') replied.0 last.0 plan.journal replied.1 last.1 same plan.finals crewed.finals finals
       (All-back (λ sink. Told (s.held sink) (HasFile (p.files closes.replied) (s.name sink))) (map sink_of crewed.asks) (map sink_of crewed.finals) landed) (All-back (λ name. name ≢ plan.journal) (outputs plan.asks) (outputs plan.finals) others) in
       -- the order of the entries
-      let count : length parts.feeds ≡ length plan.feeds = AllZip-length (λ name job. IsJobOf i.left i.faults plan.schema (Some (file_or_empty files name)) job) plan.feeds parts.feeds ready.feeds in
+      let count : length parts.jobs.feeds ≡ length plan.feeds = AllZip-length (λ name job. IsJobOf i.left i.faults plan.schema (Some (file_or_empty files name)) job) plan.feeds parts.jobs.feeds ready.feeds in
       let drawn : IsInterleaving (length plan.feeds) (list_of ran.sent) crewed.journal =
-      subst (λ n. IsInterleaving n (list_of ran.sent) crewed.journal) count (subst (IsInterleaving (length parts.feeds) (list_of ran.sent)) (sym found.journal) ran.drawn) in
+      subst (λ n. IsInterleaving n (list_of ran.sent) crewed.journal) count (subst (IsInterleaving (length parts.jobs.feeds) (list_of ran.sent)) (sym found.journal) ran.drawn) in
       let order : IsInterleaving (length plan.feeds) (list_of (map (λ name. accepted plan.schema (file_or_empty files name)) plan.feeds)) crewed.journal =
       subst (λ ls. IsInterleaving (length plan.feeds) (list_of ls) crewed.journal) fed.sent drawn in
       let valid = entries_valid laws plan files crewed.journal names order in

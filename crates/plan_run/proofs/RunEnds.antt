@@ -41,7 +41,6 @@ use Rattle.plan_run.specs.Ready.{IsJobOf, IsSessionOf}
 use Rattle.plan_run.specs.declared.parts.RunParts.{RunParts}
 use Rattle.plan_run.specs.Closing.{ClosesRun, run_text, threads_end}
 use Rattle.plan_run.specs.ThreadEnds.{feed_end, feeds_end, session_end, sessions_end, starved_end}
-use Rattle.plan_run.specs.declared.done.RunDone.{RunDone}
 use Rattle.plan_run.proofs.Causes.{FeedCause, RunCause, SessionCause, feed_causes, session_causes}
 use Rattle.plan_run.proofs.WellEnds.{End, ended}
 use Rattle.plan_run.proofs.OutputFiles.{some_is, told_pair}
@@ -59,7 +58,7 @@ use Rattle.plan_run.proofs.EarlyEnds.{empty_made, given_back_empty}
 use Rattle.plan_run.specs.Completed.{IsCompleted}
 use Rattle.plan_run.specs.Ends.{EndsUnderPlan, HasBegun, HasRefusedInput, HasReported, LacksPlan, LacksReport, RunEnds}
 use Rattle.plan_run.specs.Interrupted.{Account, BeginsFiles, HoldsFiles, account_text, read_stops}
-use Rattle.plan_run.specs.Parts.{GivesBack, RunsParts, ends_seen, jobs_of, run_done_of}
+use Rattle.plan_run.specs.Parts.{GivesBack, RunsParts, ends_seen}
 
 -- an end of opening among those of a run
 unplanned_end : (stop : Stop) → (Some stop ≡ Some NoMemory) ⊎ (Some stop ≡ Some ReadFault) ⊎ (Some stop ≡ Some PlanRefused) → (ended stop ≡ ended NoMemory) ⊎ (ended stop ≡ ended ReadFault) ⊎ (ended stop ≡ ended PlanRefused)
@@ -172,25 +171,25 @@ module _ {P T : Type 0} (p : PlaceSeen P) (t : SinkSeen T) where
       both_named : (asks finals : List O) → map s.name asks ≡ outputs plan.asks → map s.name finals ≡ outputs plan.finals → map s.name (asks ++ finals) ≡ outputs plan.asks ++ outputs plan.finals
       both_named asks finals one two = map-append s.name asks finals ∙ ap (λ ns. ns ++ map s.name finals) one ∙ ap (λ ns. outputs plan.asks ++ ns) two
 
-      module _ (result : Result (Unit {0}) Stop) (crewed : Crewed I O) (ran : IsCrewed (ends_seen i s) OwnsAllButRoot plan.schema (jobs_of parts) crewed)
-          (closes : ClosesRun plan (run_done_of crewed parts.journal) (parts_seen p i s) t (at mid out1) (at place' out') result) where
-        fresh : All (λ (job : FeedJob I). i.faults job.cutter.source ≡ 0) parts.feeds
-        fresh = AllZip-right (λ name. IsJobOf i.left i.faults plan.schema (file_of (p.files place) name)) (λ (job : FeedJob I). i.faults job.cutter.source ≡ 0) plan.feeds parts.feeds (λ name job is. is.fresh) ready.feeds
+      module _ (result : Result (Unit {0}) Stop) (crewed : Crewed I O) (ran : IsCrewed (ends_seen i s) OwnsAllButRoot plan.schema parts.jobs crewed)
+          (closes : ClosesRun plan crewed parts.journal (parts_seen p i s) t (at mid out1) (at place' out') result) where
+        fresh : All (λ (job : FeedJob I). i.faults job.cutter.source ≡ 0) parts.jobs.feeds
+        fresh = AllZip-right (λ name. IsJobOf i.left i.faults plan.schema (file_of (p.files place) name)) (λ (job : FeedJob I). i.faults job.cutter.source ≡ 0) plan.feeds parts.jobs.feeds (λ name job is. is.fresh) ready.feeds
 
         feeds : All (FeedCause i.faults) crewed.feeds
-        feeds = feed_causes i.left i.faults parts.feeds ran.sent crewed.feeds fresh ran.feeds
+        feeds = feed_causes i.left i.faults parts.jobs.feeds ran.sent crewed.feeds fresh ran.feeds
 
         asks : All (SessionCause i.faults s.faults) crewed.asks
-        asks = session_causes i s OwnsAllButRoot plan.schema false crewed.closed crewed.starved (answered_over crewed.closed crewed.journal crewed.drawn) (p.files place) plan.asks parts.asks crewed.asks ready.asks ran.asks
+        asks = session_causes i s OwnsAllButRoot plan.schema false crewed.closed crewed.starved (answered_over crewed.closed crewed.journal crewed.drawn) (p.files place) plan.asks parts.jobs.asks crewed.asks ready.asks ran.asks
 
         finals : All (SessionCause i.faults s.faults) crewed.finals
-        finals = session_causes i s OwnsAllButRoot plan.schema true crewed.closed crewed.starved (answered_over crewed.closed crewed.journal crewed.drawn) (p.files place) plan.finals parts.finals crewed.finals ready.finals ran.finals
+        finals = session_causes i s OwnsAllButRoot plan.schema true crewed.closed crewed.starved (answered_over crewed.closed crewed.journal crewed.drawn) (p.files place) plan.finals parts.jobs.finals crewed.finals ready.finals ran.finals
 
         named : map s.name (map sink_of crewed.asks ++ map sink_of crewed.finals) ≡ outputs plan.asks ++ outputs plan.finals
         named =
             both_named (map sink_of crewed.asks) (map sink_of crewed.finals)
-            (dones_named i s (p.files place) OwnsAllButRoot plan.schema false crewed.closed crewed.starved (answered_over crewed.closed crewed.journal crewed.drawn) plan.asks parts.asks crewed.asks ready.asks ran.asks)
-            (dones_named i s (p.files place) OwnsAllButRoot plan.schema true crewed.closed crewed.starved (answered_over crewed.closed crewed.journal crewed.drawn) plan.finals parts.finals crewed.finals ready.finals ran.finals)
+            (dones_named i s (p.files place) OwnsAllButRoot plan.schema false crewed.closed crewed.starved (answered_over crewed.closed crewed.journal crewed.drawn) plan.asks parts.jobs.asks crewed.asks ready.asks ran.asks)
+            (dones_named i s (p.files place) OwnsAllButRoot plan.schema true crewed.closed crewed.starved (answered_over crewed.closed crewed.journal crewed.drawn) plan.finals parts.jobs.finals crewed.finals ready.finals ran.finals)
 
         journal_named : s.name closes.sink ≡ plan.journal
         journal_named = closes.written.name ∙ ready.journal.name_is
@@ -221,14 +220,11 @@ module _ {P T : Type 0} (p : PlaceSeen P) (t : SinkSeen T) where
         -- the files of a run that is completed
         is_done : EntryLaws → result ≡ Ok tt → Told (p.files place) (λ files. IsSomeAnd (p.files place') (λ files'. IsCompleted plan files files' (t.held out) (t.held out')))
         is_done laws well =
-            let closed : ClosesRun plan (run_done_of crewed parts.journal) (parts_seen p i s) t (at mid out1) (at place' out') (Ok tt) = subst (ClosesRun plan (run_done_of crewed parts.journal) (parts_seen p i s) t (at mid out1) (at place' out')) well closes in
+            let closed : ClosesRun plan crewed parts.journal (parts_seen p i s) t (at mid out1) (at place' out') (Ok tt) = subst (ClosesRun plan crewed parts.journal (parts_seen p i s) t (at mid out1) (at place' out')) well closes in
             told_by (p.files place) (λ files. IsSomeAnd (p.files place') (λ files'. IsCompleted plan files files' (t.held out) (t.held out'))) (λ files told.
             let now = told_pair (p.files place) (p.files mid) files (λ a b. (other : List ℕ) → ¬ Contains leaves.makes other → get b other ≡ get a other) told leaves.others in
             subst (λ o. IsSomeAnd (p.files place') (λ files'. IsCompleted plan files files' o (t.held out'))) silent.held
             (completed p i s t plan parts mid place' out1 out' laws files now.0 crewed plan_is.files (subst (λ o. AreReady i.left i.faults s o plan parts) told ready) ran now.1 closed))
-
-        abbrev done : RunDone I O
-        done = run_done_of crewed parts.journal
 
         abbrev feed_ends : FeedDone I → End
         feed_ends d = feed_end d.counts.fault
@@ -238,7 +234,7 @@ module _ {P T : Type 0} (p : PlaceSeen P) (t : SinkSeen T) where
 
         -- which feed or script is refused
         is_refused : result ≡ Err FeedRefused → (files : Files) → p.files place ≡ Some files → HasRefusedInput files plan
-        is_refused is files told = by (all_err (threads_end done ∷ write_end closes.wrote ∷ closes.given ∷ write_end closes.kept ∷ closes.said ∷ []) FeedRefused (sym closes.ends ∙ is))
+        is_refused is files told = by (all_err (threads_end crewed ∷ write_end closes.wrote ∷ closes.given ∷ write_end closes.kept ∷ closes.said ∷ []) FeedRefused (sym closes.ends ∙ is))
           where
             it_is : AreReady i.left i.faults s (Some files) plan parts
             it_is = subst (λ o. AreReady i.left i.faults s o plan parts) told ready
@@ -256,12 +252,12 @@ module _ {P T : Type 0} (p : PlaceSeen P) (t : SinkSeen T) where
             threads (inl starved) = absurd (starved_of crewed.starved FeedRefused (λ e. cc e) starved)
             threads (inr (inl fed)) =
                 inl (any_in (λ name. is_feed_refused plan.schema (file_or_empty files name) ≡ true) plan.feeds
-                (large_feeds i.left i.faults plan.schema (file_or_empty files) plan.feeds parts.feeds ran.sent crewed.feeds it_is.feeds ran.feeds (any_unmapped feed_ends (λ end. end ≡ Err FeedRefused) crewed.feeds (all_err (map feed_ends crewed.feeds) FeedRefused fed))))
-            threads (inr (inr (inl asked))) = among (any_left (λ name. is_script_refused plan.schema (file_or_empty files name) ≡ true) plan.asks plan.finals (script false plan.asks parts.asks crewed.asks it_is.asks ran.asks asked))
-            threads (inr (inr (inr (inl last)))) = among (any_right (λ name. is_script_refused plan.schema (file_or_empty files name) ≡ true) plan.asks plan.finals (script true plan.finals parts.finals crewed.finals it_is.finals ran.finals last))
+                (large_feeds i.left i.faults plan.schema (file_or_empty files) plan.feeds parts.jobs.feeds ran.sent crewed.feeds it_is.feeds ran.feeds (any_unmapped feed_ends (λ end. end ≡ Err FeedRefused) crewed.feeds (all_err (map feed_ends crewed.feeds) FeedRefused fed))))
+            threads (inr (inr (inl asked))) = among (any_left (λ name. is_script_refused plan.schema (file_or_empty files name) ≡ true) plan.asks plan.finals (script false plan.asks parts.jobs.asks crewed.asks it_is.asks ran.asks asked))
+            threads (inr (inr (inr (inl last)))) = among (any_right (λ name. is_script_refused plan.schema (file_or_empty files name) ≡ true) plan.asks plan.finals (script true plan.finals parts.jobs.finals crewed.finals it_is.finals ran.finals last))
             threads (inr (inr (inr (inr none)))) = absurd none
 
-            by : AnyOf (λ end. end ≡ Err FeedRefused) (threads_end done ∷ write_end closes.wrote ∷ closes.given ∷ write_end closes.kept ∷ closes.said ∷ []) → HasRefusedInput files plan
+            by : AnyOf (λ end. end ≡ Err FeedRefused) (threads_end crewed ∷ write_end closes.wrote ∷ closes.given ∷ write_end closes.kept ∷ closes.said ∷ []) → HasRefusedInput files plan
             by (inl e) = threads (all_err (starved_end crewed.starved ∷ feeds_end crewed.feeds ∷ sessions_end crewed.asks ∷ sessions_end crewed.finals ∷ []) FeedRefused e)
             by (inr (inl wrote)) = absurd (write_not_refused closes.wrote wrote)
             by (inr (inr (inl given))) = absurd (closes.parts.sinks_back.only.2 given)
@@ -272,7 +268,7 @@ module _ {P T : Type 0} (p : PlaceSeen P) (t : SinkSeen T) where
         refused : result ≡ Err FeedRefused → Told (p.files place) (λ files. HasRefusedInput files plan)
         refused e = told_by (p.files place) (λ files. HasRefusedInput files plan) (λ files told. is_refused e files told)
 
-        cause : RunCause p i s t plan done mid place' out1 out' result
+        cause : RunCause p i s t plan crewed parts.journal mid place' out1 out' result
         cause = record { fresh = ready.journal.fresh; feeds = feeds; asks = asks; finals = finals; closes = closes }
 
         not_plan : result ≢ Err PlanRefused
@@ -340,7 +336,7 @@ module _ {P T : Type 0} (p : PlaceSeen P) (t : SinkSeen T) where
             holds_files p i s t plan parts mid place' out1 out' (p.files place) ready crewed ran feeds asks finals result not_plan closes files now.0 told plan_is.files now.1 (empty_outputs files now.0 told now.1) quiet
             (wrote_well p i s t plan parts mid place' out1 out' (p.files place) ready crewed ran feeds asks finals result not_plan closes quiet wrote) (kept_well p i s t plan parts mid place' out1 out' (p.files place) ready crewed ran feeds asks finals result not_plan closes quiet kept))
 
-        its_text : run_text plan done ≡ account_text plan its_account
+        its_text : run_text plan crewed ≡ account_text plan its_account
         unfolding its_account
         its_text = account_is p i s t plan parts mid place' out1 out' (p.files place) ready crewed ran feeds asks finals result not_plan closes
 
@@ -348,7 +344,7 @@ module _ {P T : Type 0} (p : PlaceSeen P) (t : SinkSeen T) where
         unfolding its_account
         its_reads = subst (λ n. RoseBy (read_stops its_account) n (p.read_faults place')) read_before (reads_counted p i s t plan parts mid place' out1 out' (p.files place) ready crewed ran feeds asks finals result not_plan closes)
 
-        reported : EntryLaws → PutsOrFails t out out' (run_text plan done) → closes.said ≢ Err NoMemory → HasReported p t (at place out) (at place' out') name plan result
+        reported : EntryLaws → PutsOrFails t out out' (run_text plan crewed) → closes.said ≢ Err NoMemory → HasReported p t (at place out) (at place' out') name plan result
         reported laws puts found = record {
           begun = begun;
           account = its_account;
@@ -364,8 +360,8 @@ module _ {P T : Type 0} (p : PlaceSeen P) (t : SinkSeen T) where
           planned = not_plan;
         }
 
-        stage : EntryLaws → (r : End) → closes.said ≡ r → SaysText t out1 out' (run_text plan done) r → LacksReport p t (at place out) (at place' out') name plan result ⊎ HasReported p t (at place out) (at place' out') name plan result
-        stage laws (Ok x) is text = inr (reported laws (inl (puts_after t out out1 out' silent (run_text plan done) text.puts)) (λ bad. cc (is, bad)))
+        stage : EntryLaws → (r : End) → closes.said ≡ r → SaysText t out1 out' (run_text plan crewed) r → LacksReport p t (at place out) (at place' out') name plan result ⊎ HasReported p t (at place out) (at place' out') name plan result
+        stage laws (Ok x) is text = inr (reported laws (inl (puts_after t out out1 out' silent (run_text plan crewed) text.puts)) (λ bad. cc (is, bad)))
         stage laws (Err NoMemory) is text = inl (record {
           begun = begun;
           lacking = said_lost p i s t plan parts mid place' out1 out' (p.files place) ready crewed ran feeds asks finals result not_plan closes is;
@@ -375,7 +371,7 @@ module _ {P T : Type 0} (p : PlaceSeen P) (t : SinkSeen T) where
         })
         stage laws (Err PlanRefused) is text = absurd (text.ends.0 refl)
         stage laws (Err ReadFault) is text = absurd (text.ends.1 refl)
-        stage laws (Err WriteFault) is text = inr (reported laws (inr (fails_after t out out1 out' silent (run_text plan done) (text.fails refl))) (λ bad. cc (is, bad)))
+        stage laws (Err WriteFault) is text = inr (reported laws (inr (fails_after t out out1 out' silent (run_text plan crewed) (text.fails refl))) (λ bad. cc (is, bad)))
         stage laws (Err FeedRefused) is text = absurd (text.ends.2 refl)
 
         pub ended_by_closing : EntryLaws → RunEnds p t (at place out) (at place' out') name result
@@ -388,8 +384,8 @@ module _ {P T : Type 0} (p : PlaceSeen P) (t : SinkSeen T) where
       pub ended_unrun : (result : Result (Unit {0}) Stop) → result ≡ Err NoMemory → out' ≡ out1 → GivesBack (parts_seen p i s) parts mid place' → RunEnds p t (at place out) (at place' out') name result
       unfolding names_then
       ended_unrun result is said back =
-          let named : map s.name (map sink_in parts.asks ++ map sink_in parts.finals) ≡ outputs plan.asks ++ outputs plan.finals =
-          both_named (map sink_in parts.asks) (map sink_in parts.finals) (sessions_named i s (p.files place) plan.asks parts.asks ready.asks) (sessions_named i s (p.files place) plan.finals parts.finals ready.finals) in
+          let named : map s.name (map sink_in parts.jobs.asks ++ map sink_in parts.jobs.finals) ≡ outputs plan.asks ++ outputs plan.finals =
+          both_named (map sink_in parts.jobs.asks) (map sink_in parts.jobs.finals) (sessions_named i s (p.files place) plan.asks parts.jobs.asks ready.asks) (sessions_named i s (p.files place) plan.finals parts.jobs.finals ready.finals) in
           let created : p.created place' ≡ p.created mid = back.journal_back.created ∙ back.sinks_back.created ∙ back.finals_back.created ∙ back.asks_back.created ∙ back.feeds_back.created in
           let kept : KeepsOthers (p.files mid) (p.files place') (output_names plan) =
           KeepsOthers-after (p.files mid) (p.files back.read) (p.files place') (output_names plan) (back.finals_back.files ∙ back.asks_back.files ∙ back.feeds_back.files)

@@ -4,6 +4,7 @@ use Rattle.std.specs.Prelude.{IsErrOf, OnOk}
 use Rattle.std.proofs.lemmas.List.Elements.{All-append, All-map}
 use Rattle.crew_feeder.specs.declared.done.FeedDone.{FeedDone}
 use Rattle.live_session.specs.declared.done.SessionDone.{SessionDone}
+use Rattle.cube_crew.specs.declared.jobs.Crewed.{Crewed}
 use Rattle.cube_schema.specs.declared.plan.Plan.{Plan}
 use Rattle.outer_io.specs.declared.cutter.CutFault.{CutFault}
 use Rattle.outer_io.specs.declared.cutter.CutFault.TheVariants as cut
@@ -17,7 +18,6 @@ use Rattle.session_core.specs.declared.fault.SessionFault.{SessionFault}
 use Rattle.session_core.specs.declared.fault.SessionFault.TheVariants as fault
 use Rattle.plan_run.specs.Closing.{run_text, threads_end}
 use Rattle.plan_run.specs.ThreadEnds.{feed_end, feeds_end, session_end, sessions_end, starved_end}
-use Rattle.plan_run.specs.declared.done.RunDone.{RunDone}
 use Rattle.plan_run.proofs.Causes.{RunCause, SessionCause, feed_count, session_count, sink_of}
 use Rattle.plan_run.proofs.WellEnds.{All-unmapped, End, written_well}
 use Rattle.plan_run.proofs.EndRanks.{ComesFirst, rank_end, within}
@@ -55,17 +55,17 @@ not_failed : (r : Result (Unit {0}) IoFault) → r ≡ Ok tt → ¬ IsErrOf r io
 not_failed (Ok x) is bad = cc bad
 not_failed (Err e) is bad = cc is
 
-module _ {P I O T : Type 0} {p : PlaceSeen P} {i : SourceSeen I} {s : SinkSeen O} {t : SinkSeen T} {plan : Plan} {done : RunDone I O} {place place' : P} {out out' : T} {result : Result (Unit {0}) Stop} (run : RunCause p i s t plan done place place' out out' result) where
+module _ {P I O T : Type 0} {p : PlaceSeen P} {i : SourceSeen I} {s : SinkSeen O} {t : SinkSeen T} {plan : Plan} {crewed : Crewed I O} {unwritten : O} {place place' : P} {out out' : T} {result : Result (Unit {0}) Stop} (run : RunCause p i s t plan crewed unwritten place place' out out' result) where
   open run use {fresh, feeds, asks, finals, closes}
 
   abbrev IsZero : ℕ → Type 0
   IsZero n = n ≡ 0
 
   abbrev five : List End
-  five = threads_end done ∷ write_end closes.wrote ∷ closes.given ∷ write_end closes.kept ∷ closes.said ∷ []
+  five = threads_end crewed ∷ write_end closes.wrote ∷ closes.given ∷ write_end closes.kept ∷ closes.said ∷ []
 
   abbrev four : List End
-  four = starved_end done.starved ∷ feeds_end done.feeds ∷ sessions_end done.asks ∷ sessions_end done.finals ∷ []
+  four = starved_end crewed.starved ∷ feeds_end crewed.feeds ∷ sessions_end crewed.asks ∷ sessions_end crewed.finals ∷ []
 
   -- what comes no later than the run's end comes no later than each of them
   five_ends : (n : ℕ) → n ≤ rank_end result → ComesFirst n five
@@ -80,10 +80,10 @@ module _ {P I O T : Type 0} {p : PlaceSeen P} {i : SourceSeen I} {s : SinkSeen O
 
   -- ---- reading
 
-  fed_quiet : 3 ≤ rank_end result → All IsZero (map (feed_count i) done.feeds)
+  fed_quiet : 3 ≤ rank_end result → All IsZero (map (feed_count i) crewed.feeds)
   fed_quiet late =
-      let ends = All-unmapped (λ (d : FeedDone I). feed_end d.counts.fault) (λ (e : End). 3 ≤ rank_end e) done.feeds (within 3 (map (λ (d : FeedDone I). feed_end d.counts.fault) done.feeds) (four_ends 3 late 1 well (omega arith))) in
-      All-map IsZero (feed_count i) done.feeds (λ k d low. (feeds k d low).quiet (late_feed _ (ends k d low)))
+      let ends = All-unmapped (λ (d : FeedDone I). feed_end d.counts.fault) (λ (e : End). 3 ≤ rank_end e) crewed.feeds (within 3 (map (λ (d : FeedDone I). feed_end d.counts.fault) crewed.feeds) (four_ends 3 late 1 well (omega arith))) in
+      All-map IsZero (feed_count i) crewed.feeds (λ k d low. (feeds k d low).quiet (late_feed _ (ends k d low)))
 
   sources_quiet : (sessions : List (SessionDone I O)) → All (SessionCause i.faults s.faults) sessions → 3 ≤ rank_end (sessions_end sessions) → All IsZero (map (session_count i) sessions)
   sources_quiet sessions causes late =
@@ -93,8 +93,8 @@ module _ {P I O T : Type 0} {p : PlaceSeen P} {i : SourceSeen I} {s : SinkSeen O
   pub read_still : 3 ≤ rank_end result → p.read_faults place' ≡ p.read_faults place
   read_still late =
       let back = closes.parts in
-      closes.journal.read_faults ∙ back.sinks_back.read_faults ∙ back.finals_back.quiet (sources_quiet done.finals finals (four_ends 3 late 3 well (omega arith)))
-      ∙ back.asks_back.quiet (sources_quiet done.asks asks (four_ends 3 late 2 well (omega arith))) ∙ back.feeds_back.quiet (fed_quiet late)
+      closes.journal.read_faults ∙ back.sinks_back.read_faults ∙ back.finals_back.quiet (sources_quiet crewed.finals finals (four_ends 3 late 3 well (omega arith)))
+      ∙ back.asks_back.quiet (sources_quiet crewed.asks asks (four_ends 3 late 2 well (omega arith))) ∙ back.feeds_back.quiet (fed_quiet late)
 
   -- ---- writing
 
@@ -109,12 +109,12 @@ module _ {P I O T : Type 0} {p : PlaceSeen P} {i : SourceSeen I} {s : SinkSeen O
       let wrote : closes.wrote ≡ Ok tt = written_well closes.wrote (last_well (write_end closes.wrote) (write_not_refused closes.wrote) (five_ends 4 late 1 well (omega arith))) in
       let given : closes.given ≡ Ok tt = last_well closes.given back.sinks_back.only.2 (five_ends 4 late 2 well (omega arith)) in
       let kept : closes.kept ≡ Ok tt = written_well closes.kept (last_well (write_end closes.kept) (write_not_refused closes.kept) (five_ends 4 late 3 well (omega arith))) in
-      let quiet = All-append (λ sink. s.faults sink ≡ 0) (map sink_of done.asks) (map sink_of done.finals) (sinks_quiet done.asks asks (four_ends 4 late 2 well (omega arith))) (sinks_quiet done.finals finals (four_ends 4 late 3 well (omega arith))) in
-      let sinks = subst (λ r. OnOk r (All (λ sink. s.faults sink ≡ 0) (map sink_of done.asks ++ map sink_of done.finals) → p.write_faults closes.replied ≡ p.write_faults back.read)) given back.sinks_back.quiet in
+      let quiet = All-append (λ sink. s.faults sink ≡ 0) (map sink_of crewed.asks) (map sink_of crewed.finals) (sinks_quiet crewed.asks asks (four_ends 4 late 2 well (omega arith))) (sinks_quiet crewed.finals finals (four_ends 4 late 3 well (omega arith))) in
+      let sinks = subst (λ r. OnOk r (All (λ sink. s.faults sink ≡ 0) (map sink_of crewed.asks ++ map sink_of crewed.finals) → p.write_faults closes.replied ≡ p.write_faults back.read)) given back.sinks_back.quiet in
       let journal : s.faults closes.sink ≡ 0 = closes.written.cause.quiet (not_failed closes.wrote wrote) ∙ fresh in
       (closes.journal.counts.cause journal).quiet (not_failed closes.kept kept) ∙ sinks quiet ∙ back.finals_back.write_faults ∙ back.asks_back.write_faults ∙ back.feeds_back.write_faults
 
   pub put_still : 4 ≤ rank_end result → t.faults out' ≡ t.faults out
   put_still late =
       let said : closes.said ≡ Ok tt = last_well closes.said closes.report.ends.2 (five_ends 4 late 4 well (omega arith)) in
-      (subst (λ r. OnOk r (Puts t out out' (run_text plan done))) said closes.report.puts).faults
+      (subst (λ r. OnOk r (Puts t out out' (run_text plan crewed))) said closes.report.puts).faults

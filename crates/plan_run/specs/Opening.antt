@@ -1,14 +1,12 @@
 -- What the stages of a run before its threads leave, put together.
 use Rattle.std.specs.Prelude.{◌≡◌, ◌≢◌, ◌⊎◌, ℕ, ◌+◌, ◌<◌, ◌≤◌, List, [], ◌∷◌, ◌++◌, get_or, length, Option, Some, None, IfSome, Result, Ok, Err, All, vec_len, vec_capacity}
 use Rattle.std.specs.List.{AllZip}
-use Rattle.live_session.specs.Work.{HadNoTurn}
+use Rattle.cube_crew.specs.Begins.{MayRun}
 use Rattle.cube_schema.specs.Files.{input_names, output_names}
 use Rattle.cube_schema.specs.declared.plan.Plan.{Plan}
 use Rattle.cube_view.specs.declared.schema.Schema.{Schema}
-use Rattle.feed_reader.specs.declared.job.FeedJob.{FeedJob}
 use Rattle.outer_io.specs.Faults.{Rose}
 use Rattle.outer_io.specs.Files.{Files}
-use Rattle.outer_io.specs.Progress.{IsGoing}
 use Rattle.run_files.specs.Headed.{HasHeader, RefusesLast}
 use Rattle.run_files.specs.Leaving.{FailsAtLast, LeavesPlace}
 use Rattle.run_files.specs.Outside.{FailsToPut, file_of, Outside, PlaceSeen, Puts, Silent, SinkSeen}
@@ -90,26 +88,17 @@ pub record OpensRun {P O : Type 0} (p : PlaceSeen P) (s : SinkSeen O) (before af
 -- The parts are ready to run under the plan, each over its file's bytes, where these are told
 pub record AreReady {I O : Type 0} (left : I → Option (List ℕ)) (faults : I → ℕ) (s : SinkSeen O) (files : Option Files) (plan : Plan) (parts : RunParts I O) : Type 0 where
   -- each feed's cutter stands behind its header
-  pub feeds : AllZip (λ name. IsJobOf left faults plan.schema (file_of files name)) plan.feeds parts.feeds
+  pub feeds : AllZip (λ name. IsJobOf left faults plan.schema (file_of files name)) plan.feeds parts.jobs.feeds
   -- each session has had no turn, over its script and an empty sink under its name
-  pub asks : AllZip (IsSessionOf left faults s files) plan.asks parts.asks
-  pub finals : AllZip (IsSessionOf left faults s files) plan.finals parts.finals
+  pub asks : AllZip (IsSessionOf left faults s files) plan.asks parts.jobs.asks
+  pub finals : AllZip (IsSessionOf left faults s files) plan.finals parts.jobs.finals
   -- the journal's sink is empty under its name
   pub journal : IsOutput s files plan.journal parts.journal
 
 -- The parts meet what threads ask of them, whatever the files tell
 pub record AreFit {I O : Type 0} (schema : Schema) (parts : RunParts I O) : Type 0 where
-  -- each header was read with the schema
-  pub headers : All (λ (job : FeedJob I). job.header.schema ≡ schema) parts.feeds
-  -- each feed's cutter gives lines
-  pub going : All (λ (job : FeedJob I). IsGoing job.cutter) parts.feeds
-  -- there are 1 to 8 feeds
-  pub feeds : (1 ≤ length parts.feeds) × (length parts.feeds ≤ 8)
-  -- and at most 8 asks and 8 finals
-  pub sessions : (length parts.asks ≤ 8) × (length parts.finals ≤ 8)
-  -- none of which has had a turn
-  pub asks : All HadNoTurn parts.asks
-  pub finals : All HadNoTurn parts.finals
+  -- the jobs may run
+  pub jobs : MayRun schema parts.jobs
   -- there is room for the sinks of all sessions, and nothing in it
   pub empty : (parts.room.items ≡ []) × (vec_len parts.room ≡ 0)
-  pub room : length parts.asks + length parts.finals ≤ vec_capacity parts.room
+  pub room : length parts.jobs.asks + length parts.jobs.finals ≤ vec_capacity parts.room

@@ -6,12 +6,12 @@ ghost use Rattle.plan_run.specs.Closing.{ClosesRun, ReturnsParts, ReturnsSink};
 ghost use Rattle.plan_run.specs.Counted.{IsReportOf, script_counts};
 
 use crate::counts::{RunCounts, all_counts};
-use crate::done::RunDone;
 use crate::ends::threads_end;
 use crate::journal::write_journal;
 use crate::returning::{give_back_fed, give_back_scripts};
 use crate::saying::put_report;
 use crew_feeder::FeedDone;
+use cube_crew::Crewed;
 use cube_schema::Plan;
 use live_session::SessionDone;
 use outer_io::{IoFault, List, NoMemory, Place, Sink};
@@ -86,25 +86,27 @@ fn say_run<O: Sink>(
 pub(crate) fn close_run<P: Place, O: Sink>(
     alloc: Global,
     plan: &Plan,
-    done: RunDone<P::In, P::Out>,
+    crewed: Crewed<P::In, P::Out>,
+    mut journal: P::Out,
     room: Vec<P::Out>,
     place: &mut P,
     out: &mut O,
 ) -> Result<(), Stop>
     requires empty { (room.items ≡ []) × (vec_len room ≡ 0) }
-    requires room { length done.asks + length done.finals ≤ vec_capacity room }
-    ensures { ClosesRun plan.now done (of_parts P.Place P.In.Source P.Out.Sink) (of_sink O.Sink) (at place.old out.old) (at place.new out.new) result }
+    requires room { length crewed.asks + length crewed.finals ≤ vec_capacity room }
+    ensures { ClosesRun plan.now crewed journal (of_parts P.Place P.In.Source P.Out.Sink) (of_sink O.Sink) (at place.old out.old) (at place.new out.new) result }
 {
-    let threads = threads_end(&done);
-    let RunDone {
+    let threads = threads_end(&crewed);
+    let Crewed {
         feeds,
         asks,
         finals,
-        entries,
-        mut journal,
-        closed,
+        journal: entries,
+        drawn: _,
+        mails: _,
         starved: _,
-    } = done;
+        closed,
+    } = crewed;
     let wrote = write_journal(alloc, &plan.schema, entries.as_slice(), &mut journal);
     let count = entries.len() as u64;
     let (counts, given) = give_back_parts(alloc, place, feeds, asks, finals, room);

@@ -3,8 +3,8 @@ ghost use Rattle.std.specs.Prelude.{◌≡◌};
 ghost use Rattle.plan_run.specs.Closing.{threads_end};
 ghost use Rattle.plan_run.specs.ThreadEnds.{feed_end, feeds_end, session_end, sessions_end, starved_end};
 
-use crate::done::RunDone;
 use crew_feeder::FeedDone;
+use cube_crew::Crewed;
 use live_session::SessionDone;
 use outer_io::{CutFault, Source};
 use run_files::{Stop, joined_ends, stop_of_cut, stop_of_session};
@@ -60,10 +60,13 @@ fn sessions_end<I, O>(sessions: &[SessionDone<I, O>]) -> Result<(), Stop>
 }
 
 /// How it ends by what its threads met.
-pub(crate) fn threads_end<I: Source, O>(done: &RunDone<I, O>) -> Result<(), Stop>
-    ensures { result ≡ threads_end done.now }
+pub(crate) fn threads_end<I: Source, O>(crewed: &Crewed<I, O>) -> Result<(), Stop>
+    ensures { result ≡ threads_end crewed.now }
 {
-    let feeds = joined_ends(starved_end(done.starved), feeds_end(done.feeds.as_slice()));
-    let asks = joined_ends(feeds, sessions_end(done.asks.as_slice()));
-    joined_ends(asks, sessions_end(done.finals.as_slice()))
+    let feeds = joined_ends(
+        starved_end(crewed.starved),
+        feeds_end(crewed.feeds.as_slice()),
+    );
+    let asks = joined_ends(feeds, sessions_end(crewed.asks.as_slice()));
+    joined_ends(asks, sessions_end(crewed.finals.as_slice()))
 }

@@ -27,7 +27,6 @@
 mod closing;
 mod counts;
 mod cubes;
-mod done;
 mod ends;
 mod journal;
 mod opening;

@@ -6,12 +6,11 @@ ghost use Rattle.cube_store.specs.Numbers.{OwnsAllButRoot};
 ghost use Rattle.live_session.specs.State.{ends_of};
 ghost use Rattle.run_files.specs.Outside.{at, of_parts, of_place, of_sink};
 ghost use Rattle.plan_run.specs.Ends.{RunEnds};
-ghost use Rattle.plan_run.specs.Parts.{RunsParts, run_done_of};
+ghost use Rattle.plan_run.specs.Parts.{RunsParts};
 ghost use Rattle.plan_run.specs.Opening.{AreFit};
 
 use crate::closing::close_run;
 use crate::cubes::empty_cubes;
-use crate::done::RunDone;
 use crate::opening::open_run;
 use crate::parts::RunParts;
 use crate::unrun::give_back_unrun;
@@ -43,31 +42,6 @@ fn run_jobs<R: Threads + Wait + Sync, I: Source + Send, O: Sink + Send>(
     }
 }
 
-/// What is closed of a run once its jobs have run.
-fn run_done_of<I: Source, O: Sink>(crewed: Crewed<I, O>, journal: O) -> RunDone<I, O>
-    ensures { result ≡ run_done_of crewed journal }
-{
-    let Crewed {
-        feeds,
-        asks,
-        finals,
-        journal: entries,
-        drawn: _,
-        mails: _,
-        starved,
-        closed,
-    } = crewed;
-    RunDone {
-        feeds,
-        asks,
-        finals,
-        entries,
-        journal,
-        closed,
-        starved,
-    }
-}
-
 /// Runs the opened parts and closes the run, or gives them back where they cannot begin for want of memory.
 fn run_parts<R: Threads + Wait + Sync, P: Place, O: Sink>(
     rt: &R,
@@ -81,29 +55,15 @@ fn run_parts<R: Threads + Wait + Sync, P: Place, O: Sink>(
     ensures { RunsParts (of_parts P.Place P.In.Source P.Out.Sink) (of_sink O.Sink) plan.now parts (at place.old out.old) (at place.new out.new) result }
 {
     let RunParts {
-        feeds,
-        asks,
-        finals,
+        jobs,
         journal,
         room,
     } = parts;
-    let jobs = Jobs {
-        feeds,
-        asks,
-        finals,
-    };
     match run_jobs(rt, alloc, &plan.schema, jobs) {
-        Ok(crewed) => close_run(alloc, plan, run_done_of(crewed, journal), room, place, out),
+        Ok(crewed) => close_run(alloc, plan, crewed, journal, room, place, out),
         Err(jobs) => {
-            let Jobs {
-                feeds,
-                asks,
-                finals,
-            } = jobs;
             let parts = RunParts {
-                feeds,
-                asks,
-                finals,
+                jobs,
                 journal,
                 room,
             };

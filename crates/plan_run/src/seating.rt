@@ -5,6 +5,7 @@ ghost use Rattle.plan_run.specs.Seated.{HasSeatsFor, sessions_of};
 
 use crate::parts::RunParts;
 use crate::rooms::Rooms;
+use cube_crew::Jobs;
 use feed_reader::FeedJob;
 use live_session::Session;
 use outer_io::{LineCutter, List, Sink, Source};
@@ -48,9 +49,9 @@ pub(crate) fn seat_parts<I: Source, O: Sink>(
     requires new { All (λ script. IsNew script.source script) scripts.asks × All (λ script. IsNew script.source script) scripts.finals }
     requires pairs { (length scripts.ask_outputs ≡ length scripts.asks) × (length scripts.final_outputs ≡ length scripts.finals) }
     requires room { HasSeatsFor rooms (length scripts.asks) (length scripts.finals) }
-    ensures feeds { result.feeds ≡ feeds }
-    ensures asks { result.asks ≡ sessions_of scripts.asks scripts.ask_outputs }
-    ensures finals { result.finals ≡ sessions_of scripts.finals scripts.final_outputs }
+    ensures feeds { result.jobs.feeds ≡ feeds }
+    ensures asks { result.jobs.asks ≡ sessions_of scripts.asks scripts.ask_outputs }
+    ensures finals { result.jobs.finals ≡ sessions_of scripts.finals scripts.final_outputs }
     ensures journal { result.journal ≡ scripts.journal }
     ensures room { result.room ≡ rooms.sinks }
 {
@@ -73,10 +74,13 @@ pub(crate) fn seat_parts<I: Source, O: Sink>(
         final_outputs.into_vec(),
         final_room,
     );
-    RunParts {
+    let jobs = Jobs {
         feeds,
         asks: List::from_vec(asks),
         finals: List::from_vec(finals),
+    };
+    RunParts {
+        jobs,
         journal,
         room: sinks,
     }

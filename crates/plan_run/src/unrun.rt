@@ -6,6 +6,7 @@ ghost use Rattle.plan_run.specs.Parts.{GivesBack};
 
 use crate::closing::give_back_journal;
 use crate::parts::RunParts;
+use cube_crew::Jobs;
 use live_session::Session;
 use outer_io::Place;
 use run_files::{give_back_feeds, give_back_sinks};
@@ -36,16 +37,19 @@ fn give_back_sessions<P: Place>(
 /// ones.
 pub(crate) fn give_back_unrun<P: Place>(place: &mut P, parts: RunParts<P::In, P::Out>)
     requires empty { (parts.room.items ≡ []) × (vec_len parts.room ≡ 0) }
-    requires room { length parts.asks + length parts.finals ≤ vec_capacity parts.room }
+    requires room { length parts.jobs.asks + length parts.jobs.finals ≤ vec_capacity parts.room }
     ensures { GivesBack (of_parts P.Place P.In.Source P.Out.Sink) parts place.old place.new }
 {
     let RunParts {
-        feeds,
-        asks,
-        finals,
+        jobs,
         journal,
         room,
     } = parts;
+    let Jobs {
+        feeds,
+        asks,
+        finals,
+    } = jobs;
     give_back_feeds(place, feeds.into_vec());
     let sinks = give_back_sessions(place, asks.into_vec(), room);
     let sinks = give_back_sessions(place, finals.into_vec(), sinks);

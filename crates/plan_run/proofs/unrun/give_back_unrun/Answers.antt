@@ -24,7 +24,7 @@ returns g c =
       asks_back = subst (λ (ks : List (SessionState g.row.P-In.Denot g.row.P-Out.Denot)). TakesSources p c.give_back_feeds.new.place c.give_back_sessions-sinks.new.place (map source ks)) c.into_vec-2.ensures c.give_back_sessions-sinks.ensures.back;
       finals_back = subst (λ (ks : List (SessionState g.row.P-In.Denot g.row.P-Out.Denot)). TakesSources p c.give_back_sessions-sinks.new.place c.give_back_sessions-sinks-2.new.place (map source ks)) c.into_vec-3.ensures c.give_back_sessions-sinks-2.ensures.back;
       sinks_back = subst (λ (sinks : List g.row.P-Out.Denot). TakesSinks p s c.give_back_sessions-sinks-2.new.place c.give_back_sinks-given.new.place sinks c.give_back_sinks-given.result)
-          (sinks_of_both sink c.args.parts.room.items c.give_back_sessions-sinks.result.items c.give_back_sessions-sinks-2.result.items c.into_vec-2.result.items c.into_vec-3.result.items c.args.parts.asks c.args.parts.finals c.requires.empty.0 c.into_vec-2.ensures c.into_vec-3.ensures c.give_back_sessions-sinks.ensures.sinks c.give_back_sessions-sinks-2.ensures.sinks)
+          (sinks_of_both sink c.args.parts.room.items c.give_back_sessions-sinks.result.items c.give_back_sessions-sinks-2.result.items c.into_vec-2.result.items c.into_vec-3.result.items c.args.parts.jobs.asks c.args.parts.jobs.finals c.requires.empty.0 c.into_vec-2.ensures c.into_vec-3.ensures c.give_back_sessions-sinks.ensures.sinks c.give_back_sessions-sinks-2.ensures.sinks)
           c.give_back_sinks-given.ensures;
       journal_back = c.give_back_journal-kept.ensures;
     }
