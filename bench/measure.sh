@@ -5,8 +5,6 @@
 #   bench/measure.sh --unproved table_times [WORD..]
 # Its sources lie in bench/NAME with `.txt` after their names, since only a crate may hold sources.
 set -e
-# As `./nanocube` sets it.
-export GLIBC_TUNABLES="${GLIBC_TUNABLES:-glibc.malloc.hugetlb=1:glibc.malloc.arena_max=1:glibc.malloc.tcache_count=512}"
 unproved=
 if [ "$1" = --unproved ]; then
     unproved=yes
@@ -15,6 +13,8 @@ fi
 name=$1
 shift
 here=$(cd "$(dirname "$0")" && pwd)
+# What `./nanocube` sets.
+eval "$(grep '^export GLIBC_TUNABLES=' "$here/../nanocube")"
 copy=$(mktemp -d)
 git clone -q "$here/.." "$copy/clone"
 cd "$copy/clone"
