@@ -5,12 +5,11 @@ PROGRAM is crates/cube_main/out/cube_main, as `./nanocube` builds it; BEFORE an 
 a section compares programs. The peers are built in FOLDER (a new one): bench/groups.rs, nanocube.rs, prober.rs and tables.rs by `rustc`,
 bench/feed_lines.rs by `cargo` with the crate `csv`, bench/refuse.c by `gcc`. A section whose peer cannot be built is skipped
 and named. bench/gate_times, which measures the gate, and a first build are not among them: each takes the whole machine."""
-import argparse, os, re, shutil, subprocess, sys, tempfile, time
+import argparse, os, shutil, subprocess, sys, tempfile, time
+
+import pipes  # All programs, peers too, are run with what `./nanocube` tells the C library.
 
 BENCH = os.path.dirname(os.path.realpath(__file__))
-# All programs, peers too, are run with what `./nanocube` sets.
-with open(f"{BENCH}/../nanocube", encoding="utf-8") as it:
-    os.environ.setdefault("GLIBC_TUNABLES", re.search(r"GLIBC_TUNABLES:-(.*)}", it.read())[1])
 SECTIONS = {
     "feeds": ["python3 {bench}/feed_times.py {program} {feed_lines}"],
     "lists": ["{bench}/measure.sh table_times", "{tables}"],

@@ -1,12 +1,15 @@
 """A run of the program over pipes, for the scripts beside this one (live_times.py, short_runs.py, soak.py).
 
-Usage: from pipes import Run, Replies. It measures and prints nothing by itself.
+Usage: from pipes import Run, Replies. It measures and prints nothing by itself. What imports it runs all programs, peers too, with
+what `./nanocube` tells the C library.
 
 The program opens its feeds in order and reads the header of each before it opens the next, then the asks, then the finals, and
 then creates the outputs of the asks. `Run` opens the other ends in that order, and gives each opening and the whole run a time
 limit, at which the program that was started here is killed and what its threads waited in is told."""
-import errno, json, os, select, shutil, subprocess, tempfile, threading, time
+import errno, json, os, re, select, shutil, subprocess, tempfile, threading, time
 
+with open(os.path.join(os.path.dirname(os.path.realpath(__file__)), "../nanocube"), encoding="utf-8") as it:
+    os.environ.setdefault("GLIBC_TUNABLES", re.search(r"GLIBC_TUNABLES:-(.*)}", it.read())[1])
 
 class Stuck(Exception):
     """A run or a reply that did not come within its limit."""

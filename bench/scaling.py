@@ -14,6 +14,8 @@ import subprocess
 import sys
 import tempfile
 
+from pipes import plan_of
+
 
 def feed(path, records, depth, values, bins, clustered):
     random.seed(7)
@@ -30,11 +32,10 @@ def feed(path, records, depth, values, bins, clustered):
 
 def measure(nanocube, records, depth, values, bins, clustered):
     with tempfile.TemporaryDirectory() as top:
-        plan = {"asks": [], "batch": 65536, "depth": depth, "feeds": ["a.csv"], "finals": [], "journal": "j.txt", "start": 0, "version": 1,
-                "width": 1, "categories": [{"name": f"c{k}", "values": [f"v{v}" for v in range(n)]} for k, n in enumerate(values)]}
+        plan = plan_of(1, 0, 65536, depth, [(f"c{k}", [f"v{v}" for v in range(n)]) for k, n in enumerate(values)])
         with open(os.path.join(top, "plan.json"), "w", encoding="utf-8") as file:
             json.dump(plan, file)
-        feed(os.path.join(top, "a.csv"), records, depth, values, bins, clustered)
+        feed(os.path.join(top, plan["feeds"][0]), records, depth, values, bins, clustered)
         child = subprocess.Popen([nanocube, "save", "plan.json", "cube.img"], cwd=top, stdout=subprocess.DEVNULL)
         _, status, used = os.wait4(child.pid, 0)
         assert status == 0, status
