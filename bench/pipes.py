@@ -11,6 +11,7 @@ import errno, json, os, re, select, shutil, subprocess, tempfile, threading, tim
 with open(os.path.join(os.path.dirname(os.path.realpath(__file__)), "../nanocube"), encoding="utf-8") as it:
     os.environ.setdefault("GLIBC_TUNABLES", re.search(r"GLIBC_TUNABLES:-(.*)}", it.read())[1])
 
+
 class Stuck(Exception):
     """A run or a reply that did not come within its limit."""
 
