@@ -1,7 +1,7 @@
 #!/usr/bin/env bash
 # Builds one of the measuring programs in a clone of this repository, after its proof, and runs it:
 #   bench/measure.sh table_times [WORD..]
-# or makes it by bench/build_unproved, to compare before anything is proved:
+# or makes it by tools/build_unproved, to compare before anything is proved:
 #   bench/measure.sh --unproved table_times [WORD..]
 # Its sources lie in bench/NAME with `.txt` after their names, since only a crate may hold sources.
 set -e
@@ -14,7 +14,7 @@ name=$1
 shift
 here=$(cd "$(dirname "$0")" && pwd)
 # What `./nanocube` sets.
-eval "$(grep '^export GLIBC_TUNABLES=' "$here/../nanocube")"
+export GLIBC_TUNABLES="${GLIBC_TUNABLES:-$(<"$here/../tools/glibc_tunables")}"
 copy=$(mktemp -d)
 git clone -q "$here/.." "$copy/clone"
 cd "$copy/clone"
@@ -30,7 +30,7 @@ cp "$here/$name/main.rt.txt" "crates/$name/src/main.rt"
 done
 echo "$name: $(cat "$here/$name/stands_on")" >>crates.txt
 if [ -n "$unproved" ]; then
-    "$here/build_unproved" "$copy/clone" "$copy/$name" "$name"
+    "$here/../tools/build_unproved" "$copy/clone" "$copy/$name" "$name"
     exec "$copy/$name" "$@"
 fi
 cd "crates/$name"

@@ -8,8 +8,8 @@ then creates the outputs of the asks. `Run` opens the other ends in that order, 
 limit, at which the program that was started here is killed and what its threads waited in is told."""
 import errno, json, os, re, select, shutil, subprocess, tempfile, threading, time
 
-with open(os.path.join(os.path.dirname(os.path.realpath(__file__)), "../nanocube"), encoding="utf-8") as it:
-    os.environ.setdefault("GLIBC_TUNABLES", re.search(r"GLIBC_TUNABLES:-(.*)}", it.read())[1])
+with open(os.path.join(os.path.dirname(os.path.realpath(__file__)), "../tools/glibc_tunables"), encoding="utf-8") as it:
+    os.environ.setdefault("GLIBC_TUNABLES", it.read().strip())
 
 
 class Stuck(Exception):
