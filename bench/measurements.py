@@ -29,7 +29,7 @@ SECTIONS = {
     "scaling": ["python3 {bench}/scaling.py {program}"],
     "refused": ["python3 {bench}/judge_interrupted.py {program} {refuse}", "python3 {bench}/judge_interrupted.py {program} {refuse} 64", "python3 {bench}/judge_interrupted.py {program} {refuse} rows",
                 "python3 {bench}/judge_forms.py {program} {refuse}", "python3 {bench}/refused_tests.py {refuse}"],
-    "least": ["python3 {bench}/judge_least.py {program}"],
+    "least": ["python3 {bench}/judge_least.py {program}", "python3 {bench}/judge_one_image.py {program}"],
 }
 MANIFEST = """[package]
 name = "feed_lines"
