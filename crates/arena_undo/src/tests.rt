@@ -6,7 +6,7 @@ ghost use Rattle.arena_undo.specs.Worked.{begun};
 use crate::Work;
 use cube_view::Stat;
 use node_arena::{Arena, Link, SlotId};
-use outer_io::NoMemory;
+use texts::NoMemory;
 use std::alloc::Global;
 use std::test::Fail;
 

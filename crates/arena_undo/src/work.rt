@@ -11,7 +11,7 @@ ghost use Rattle.arena_undo.specs.Worked.{begun, changed, changed_by};
 use crate::change::{Change, note, note_run, take_change_back};
 use cube_view::Stat;
 use node_arena::{Arena, Link, SlotId};
-use outer_io::NoMemory;
+use texts::NoMemory;
 use probe_core::Steps;
 use std::alloc::Global;
 use std::marker::Model;

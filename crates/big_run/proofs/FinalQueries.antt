@@ -2,7 +2,7 @@
 use Rattle.std.proofs.Common.{◌≡◌, Bool, true, false, ap, refl}
 use Rattle.std.specs.List.{list_all}
 use Rattle.std.specs.Str.{chars, is_utf8}
-use Rattle.outer_io.specs.Decimals.{decimal_value}
+use Rattle.texts.specs.Decimals.{decimal_value}
 use Rattle.query_syntax.specs.Filters.{filters_at}
 use Rattle.query_syntax.specs.Items.{category_number}
 use Rattle.query_syntax.specs.Meaning.{meaning, query_after_verb, query_of}

@@ -15,7 +15,8 @@ use Rattle.feed_reader.specs.declared.header.HeadFault.{HeadFault}
 use Rattle.feed_reader.specs.declared.job.FeedJob.{FeedJob}
 use Rattle.outer_io.proofs.LineLists.{counted-within}
 use Rattle.outer_io.specs.Cutting.{Cutter, IsNew, lines_left}
-use Rattle.outer_io.specs.Lines.{Line, Bytes, input_limit, lines, lines_of, pieces}
+use Rattle.outer_io.specs.Lines.{Line, Bytes, input_limit, lines, lines_of}
+use Rattle.texts.specs.LineFeeds.{pieces}
 use Rattle.outer_io.specs.Progress.{Passes}
 use Rattle.big_run.specs.BuiltIn.{big_schema}
 use Rattle.big_run.specs.Parts.{IsFeed}

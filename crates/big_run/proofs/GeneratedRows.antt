@@ -28,8 +28,9 @@ use Rattle.feed_reader.specs.declared.row.Row.{Row}
 use Rattle.feed_reader.specs.declared.row.Row.TheVariants as row
 use Rattle.feed_reader.specs.declared.row.RowFault.{RowFault}
 use Rattle.feed_reader.specs.declared.row.RowFault.TheVariants as fault
-use Rattle.outer_io.specs.Decimals.{is_decimal}
-use Rattle.outer_io.specs.Lines.{Bytes, line_of, lines_of, pieces, without_return}
+use Rattle.texts.specs.Decimals.{is_decimal}
+use Rattle.outer_io.specs.Lines.{Bytes, line_of, lines_of, without_return}
+use Rattle.texts.specs.LineFeeds.{pieces}
 use Rattle.big_run.specs.BuiltIn.{big_schema, letter_kind}
 
 tells_digits : IsDigitsTest (λ ds. list_all is_ascii_digit ds ≡ true)

@@ -5,7 +5,7 @@ ghost use Rattle.cube_view.specs.Bag.{Counts};
 
 use cube_store::Cube;
 use cube_view::{Category, CubeView, Schema};
-use outer_io::{List, NoMemory, Text};
+use texts::{List, NoMemory, Text};
 use std::alloc::Global;
 
 /// The values of the category.

@@ -7,7 +7,8 @@ use crate::source::RunSource;
 use cube_view::Schema;
 use feed_maker::GenSource;
 use feed_reader::{FeedJob, NoHeader, read_header};
-use outer_io::{LineCutter, List, NoMemory};
+use outer_io::LineCutter;
+use texts::{List, NoMemory};
 use std::alloc::Global;
 
 /// The job of the generated feed of so many rows from a state.

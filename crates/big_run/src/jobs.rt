@@ -9,7 +9,8 @@ use crate::sessions::{let_go_sessions, one_session};
 use crate::source::RunSource;
 use cube_crew::Jobs;
 use live_session::Session;
-use outer_io::{List, NoMemory, StillSink};
+use outer_io::StillSink;
+use texts::{List, NoMemory};
 use std::alloc::Global;
 
 /// The script of the session beside the feeds.

@@ -8,7 +8,8 @@ use crew_feeder::FeedDone;
 use cube_crew::Crewed;
 use feed_reader::FeedCounts;
 use live_session::SessionDone;
-use outer_io::{List, NoMemory, StillSink};
+use outer_io::StillSink;
+use texts::{List, NoMemory};
 use run_files::push_counts;
 use std::alloc::{AllocError, Global};
 

@@ -4,7 +4,8 @@ ghost use Rattle.big_run.specs.Parts.{script_session};
 
 use crate::source::RunSource;
 use live_session::Session;
-use outer_io::{LineCutter, List, NoMemory, StillSink, StillSource};
+use outer_io::{LineCutter, StillSink, StillSource};
+use texts::{List, NoMemory};
 use std::alloc::Global;
 
 /// How many bytes of a script are given at a time.

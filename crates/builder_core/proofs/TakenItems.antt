@@ -13,7 +13,7 @@ use Rattle.feed_queue.specs.Ends.{DrawState}
 use Rattle.feed_queue.specs.declared.item.Item.{Item}
 use Rattle.feed_queue.specs.declared.item.Item.TheVariants.{One, End}
 use Rattle.mailbox.specs.Ends.{InEnd}
-use Rattle.outer_io.specs.declared.fault.NoMemory.{NoMemory}
+use Rattle.texts.specs.declared.no_memory.NoMemory.{NoMemory}
 use Rattle.world_core.specs.declared.entry.Entry.{Entry}
 use Rattle.builder_core.specs.Telling.{multiples_up_to, told_lengths, having_put, having_answered}
 use Rattle.builder_core.specs.Work.{BuilderWorkState, work_state}

@@ -13,7 +13,7 @@ use Rattle.feed_queue.specs.declared.item.Item.{Item}
 use Rattle.feed_queue.specs.declared.item.Item.TheVariants.{One}
 use Rattle.feed_queue.proofs.ItemOrder.{has_end_entry}
 use Rattle.mailbox.specs.Ends.{InEnd}
-use Rattle.outer_io.specs.declared.fault.NoMemory.{NoMemory}
+use Rattle.texts.specs.declared.no_memory.NoMemory.{NoMemory}
 use Rattle.world_core.specs.PairFact.{IsPrefix}
 use Rattle.world_core.specs.declared.entry.Entry.{Entry}
 use Rattle.world_core.proofs.Prefixes.{IsPrefix-then}

@@ -5,7 +5,7 @@ use Rattle.builder_core.specs.Taking.{IsTaking}
 use Rattle.builder_core.specs.declared.taken.Taken.{Taken}
 use Rattle.feed_queue.specs.Ends.{MayBeDrawn, having_drawn}
 use Rattle.feed_queue.specs.declared.item.Item.{Item}
-use Rattle.outer_io.specs.declared.fault.NoMemory.{NoMemory}
+use Rattle.texts.specs.declared.no_memory.NoMemory.{NoMemory}
 use Rattle.builder_core.specs.Telling.{having_answered}
 use Rattle.builder_core.specs.Work.{BuilderWorkState}
 

@@ -13,7 +13,7 @@ use crate::taken::Taken;
 use cube_view::Grow;
 use feed_queue::Item;
 use ghost_values::GhostList;
-use outer_io::{List, NoMemory};
+use texts::{List, NoMemory};
 use published_pair::{GivenUp, Last, Of, Pairing, Publisher, Rested, Told};
 use std::alloc::Global;
 use std::marker::Model;

@@ -6,7 +6,7 @@ ghost use Rattle.world_core.specs.Interleaving.{entry_points};
 ghost use Rattle.world_core.specs.PairFact.{IsPrefix};
 
 use cube_view::Grow;
-use outer_io::{List, NoMemory};
+use texts::{List, NoMemory};
 use published_pair::{GivenUp, Last, Of, Pairing, Publisher, PublisherOf, Rested};
 use std::alloc::Global;
 use std::sync::Wait;

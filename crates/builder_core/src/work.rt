@@ -12,7 +12,7 @@ use crate::telling::tell_all;
 use cube_view::Grow;
 use feed_queue::DrawEnd;
 use mailbox::MailIn;
-use outer_io::{List, NoMemory};
+use texts::{List, NoMemory};
 use published_pair::{Of, Pairing};
 use std::marker::Model;
 use std::sync::Wait;

@@ -8,7 +8,7 @@ ghost use Rattle.query_syntax.specs.Tables.{table};
 ghost use Rattle.query_walk.specs.Views.{EachListOf, TakesUpTo};
 
 use cube_view::CubeView;
-use outer_io::{List, NoMemory};
+use texts::{List, NoMemory};
 use probe_core::Steps;
 use query_syntax::{Query, RowOut, Table, Verb};
 use query_walk::area_rows;

@@ -17,7 +17,7 @@ ghost use Rattle.query_walk.specs.Views.{EachListOf, TakesUpTo};
 ghost use Rattle.query_walk.specs.Walks.{HasBox, HasWalked};
 
 use cube_view::{CubeView, Schema};
-use outer_io::{List, NoMemory, Text};
+use texts::{List, NoMemory, Text};
 use probe_core::Steps;
 use query_syntax::{Query, RowOut, Table, Verb};
 use query_walk::{region_cursor, value_total};

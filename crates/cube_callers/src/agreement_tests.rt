@@ -6,7 +6,7 @@ ghost use Rattle.probe_core.specs.Blanks.{IsBlankOf};
 use cube_store::Cube;
 use cube_view::{CubeView, Grow, Point, Schema, Spot, Tile, is_sound};
 use example_schemas::{point, schema_of_kinds, schema_of_two_categories, tile};
-use outer_io::NoMemory;
+use texts::NoMemory;
 use plain_cube::PlainCube;
 use probe_core::Steps;
 use query_walk::region_cursor;

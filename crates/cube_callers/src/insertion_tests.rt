@@ -5,7 +5,7 @@ ghost use Rattle.example_schemas.specs.Examples.{named_category};
 use cube_store::Cube;
 use cube_view::{Category, CubeView, Point, Schema, Spot, Stat, are_sound, is_sound};
 use example_schemas::{point, schema_of_kinds, schema_of_two_categories};
-use outer_io::{List, NoMemory, Text};
+use texts::{List, NoMemory, Text};
 use std::alloc::Global;
 use std::process::Abort;
 use std::test::Fail;

@@ -9,7 +9,7 @@ ghost use Rattle.cube_callers.specs.Records.{HasBinsUnder, IsFew, count_of_a};
 use cube_store::{Cube, cost_laws};
 use cube_view::{CubeView, Grow, Point, Tile, is_sound};
 use example_schemas::{point, schema_of_kinds};
-use outer_io::NoMemory;
+use texts::NoMemory;
 use probe_core::Steps;
 use query_syntax::{Choice, Query, Span, Verb};
 use query_walk::total;

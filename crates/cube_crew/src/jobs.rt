@@ -5,7 +5,8 @@ use feed_queue::Drawn;
 use feed_reader::FeedJob;
 use live_session::{Session, SessionDone};
 use mailbox::MailIn;
-use outer_io::{List, Sink, Source};
+use outer_io::{Sink, Source};
+use texts::List;
 use world_core::Entry;
 
 /// The feeds of a run, the sessions that run beside them, and the sessions that run after them.

@@ -8,7 +8,7 @@ use cube_view::{Grow, Schema};
 use feed_queue::{DrawEnd, FeedEnd, open_lane};
 use feed_reader::FirstRefusals;
 use mailbox::{MailIn, MailOut, open_mail};
-use outer_io::{List, NoMemory};
+use texts::{List, NoMemory};
 use published_pair::{Publisher, Viewer, open};
 use std::alloc::Global;
 use std::sync::Wait;

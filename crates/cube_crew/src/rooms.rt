@@ -3,7 +3,7 @@ ghost use Rattle.std.specs.Prelude.{◌≡◌, ◌≤◌, [], All, IfOk, OnOk, v
 
 use feed_queue::Ended;
 use feed_reader::FirstRefusals;
-use outer_io::NoMemory;
+use texts::NoMemory;
 use std::alloc::{AllocError, Global};
 
 /// Empty lists: of feeders' works, of what feeds give back, of sessions' works and of what sessions give back. They name no

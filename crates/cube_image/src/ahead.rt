@@ -4,7 +4,7 @@
 ghost use Rattle.std.specs.Prelude.{◌≡◌, ◌<◌, ◌≤◌, length, All};
 
 use node_arena::{Arena, SlotId};
-use outer_io::{List, NoMemory};
+use texts::{List, NoMemory};
 
 /// How many slots are looked at in one loop.
 const AHEAD: usize = 32;

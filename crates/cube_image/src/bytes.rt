@@ -2,7 +2,7 @@
 ghost use Rattle.std.specs.Prelude.{◌≡◌, ◌∷◌, ◌++◌, OnOk};
 ghost use Rattle.std.specs.Int.{to_be_bytes, w16, w32, w64};
 
-use outer_io::{NoMemory, put};
+use texts::{NoMemory, put};
 
 /// Puts a number in 8 bytes, the most significant one first.
 pub fn put_number(out: &mut Vec<u8>, number: u64) -> Result<(), NoMemory>

@@ -1,5 +1,5 @@
 //! Why an image isn't written.
-use outer_io::NoMemory;
+use texts::NoMemory;
 
 /// Why no image was made.
 #[derive(Clone, Copy, PartialEq, Eq, Debug)]

@@ -8,7 +8,7 @@ ghost use Rattle.cube_image.specs.Rest.{told_children};
 use crate::ahead::make_place;
 use crate::children::child_count;
 use node_arena::{Arena, Link, SlotId};
-use outer_io::{List, NoMemory};
+use texts::{List, NoMemory};
 use probe_core::Steps;
 use std::alloc::Global;
 use std::sync::ledger::Ledger;

@@ -15,7 +15,7 @@ use crate::fault::SaveFault;
 use crate::order::Order;
 use crate::rows::read_rows;
 use node_arena::{Arena, Link, SlotId};
-use outer_io::{NoMemory, put_byte};
+use texts::{NoMemory, put_byte};
 use probe_core::Steps;
 use std::alloc::Global;
 use std::sync::ledger::Ledger;

@@ -2,7 +2,7 @@
 ghost use Rattle.std.specs.Prelude.{◌≡◌, ◌≤◌, ◌^◌, length, OnOk};
 ghost use Rattle.cube_image.specs.Rest.{word_rows};
 
-use outer_io::NoMemory;
+use texts::NoMemory;
 use probe_core::Steps;
 use std::sync::ledger::Ledger;
 use time_table::TimeTable;

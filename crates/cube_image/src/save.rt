@@ -11,7 +11,7 @@ use crate::fault::SaveFault;
 use crate::order::order_of;
 use crate::print::put_slots;
 use node_arena::{Arena, SlotId};
-use outer_io::{List, NoMemory, put};
+use texts::{List, NoMemory, put};
 use probe_core::Steps;
 use std::alloc::Global;
 use std::marker::Brand;

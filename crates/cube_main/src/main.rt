@@ -8,7 +8,8 @@
 //! ```
 #![tactic(auto)]
 
-use outer_io::{FilePlace, NoMemory, StdSink};
+use outer_io::{FilePlace, StdSink};
+use texts::NoMemory;
 use std::env;
 use std::io::ErrorKind;
 use std::process::ExitCode;

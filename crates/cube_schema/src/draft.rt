@@ -1,6 +1,6 @@
 //! What the members of a plan's text say.
 use cube_view::Category;
-use outer_io::{List, Text};
+use texts::{List, Text};
 
 /// What the members of a plan's text say, before their ranges are tested.
 #[derive(Drop)]

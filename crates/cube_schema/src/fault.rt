@@ -1,6 +1,6 @@
 //! Why bytes are no plan.
 use crate::Member;
-use outer_io::{NoMemory, Text};
+use texts::{NoMemory, Text};
 
 /// Why bytes are no plan: the first fault, where `TooLong` is tested first and the others in their order.
 #[derive(Drop)]

@@ -11,7 +11,7 @@ use crate::draft::Draft;
 use crate::versions::is_weighted;
 use crate::{Member, PlanFault};
 use cube_view::Category;
-use outer_io::{List, NoMemory, Text};
+use texts::{List, NoMemory, Text};
 use serde_json::Value;
 use std::alloc::Global;
 

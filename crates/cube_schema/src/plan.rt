@@ -1,6 +1,6 @@
 //! What a run is told.
 use cube_view::Schema;
-use outer_io::{List, Text};
+use texts::{List, Text};
 
 /// What a run is told: the schema, and the names of its files.
 #[derive(Drop)]

@@ -9,7 +9,7 @@ ghost use Rattle.cube_schema.specs.Printed.{texts_value, category_value, categor
 use crate::Plan;
 use crate::versions::version_of;
 use cube_view::Category;
-use outer_io::{List, NoMemory, Text};
+use texts::{List, NoMemory, Text};
 use serde_json::{Value, json};
 use std::alloc::{AllocError, Global};
 

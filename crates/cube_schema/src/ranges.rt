@@ -9,7 +9,7 @@ use crate::draft::Draft;
 use crate::member::MEMBERS;
 use crate::versions::version_of;
 use cube_view::Category;
-use outer_io::Text;
+use texts::Text;
 
 fn is_file_byte(byte: u8) -> bool
     ensures { result ≡ is_file_byte byte }

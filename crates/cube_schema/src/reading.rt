@@ -16,7 +16,7 @@ use crate::ranges::first_out_of_range;
 use crate::repeats::first_repeated;
 use crate::{Plan, PlanFault};
 use cube_view::Schema;
-use outer_io::Text;
+use texts::Text;
 use serde_json::Value;
 use std::alloc::Global;
 

@@ -6,7 +6,7 @@ ghost use Rattle.cube_schema.specs.Repeats.{repeated_in, repeated_value, outputs
 use crate::draft::Draft;
 use crate::texts::has_text;
 use cube_view::Category;
-use outer_io::{List, NoMemory, Text};
+use texts::{List, NoMemory, Text};
 use std::alloc::Global;
 
 // The first text of the list that stood earlier in it.

@@ -3,7 +3,7 @@ ghost use Rattle.std.specs.Prelude.{◌≡◌};
 ghost use Rattle.cube_view.specs.Limits.{has_text};
 
 use cube_view::is_same_text;
-use outer_io::Text;
+use texts::Text;
 
 /// Whether the text stands in the list.
 pub(crate) fn has_text(texts: &[Text], text: &str) -> bool

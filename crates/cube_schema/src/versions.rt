@@ -4,7 +4,7 @@ ghost use Rattle.serde_json.specs.View.{view};
 ghost use Rattle.cube_schema.specs.Versions.{version_of, is_weighted, has_member};
 
 use crate::Member;
-use outer_io::Text;
+use texts::Text;
 use serde_json::Value;
 
 /// The version of a plan whose weight column has this name, or that has none.

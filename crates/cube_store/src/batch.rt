@@ -12,7 +12,7 @@ use arena_undo::Work;
 use cube_view::{Point, Schema};
 use group_insert::add_group;
 use node_arena::{Arena, SlotId};
-use outer_io::NoMemory;
+use texts::NoMemory;
 use std::alloc::Global;
 
 /// The points in rising order of bin: a part of a group has its points in the order of the group, and a time table takes

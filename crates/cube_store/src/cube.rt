@@ -16,7 +16,7 @@ use crate::batch::{in_order, insert_group};
 use arena_undo::Work;
 use cube_view::{CubeView, Point, Schema};
 use node_arena::{Arena, SlotId};
-use outer_io::NoMemory;
+use texts::NoMemory;
 use point_insert::{Updated, add, insert_room};
 use std::alloc::Global;
 use std::mem::replace;

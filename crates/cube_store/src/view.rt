@@ -2,7 +2,7 @@
 use crate::cube::Cube;
 use cube_view::{Address, CubeView, Grow, Point, Schema, Stat};
 use node_arena::SlotId;
-use outer_io::NoMemory;
+use texts::NoMemory;
 use probe_core::Steps;
 use std::sync::ledger::Ledger;
 

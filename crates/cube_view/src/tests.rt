@@ -2,7 +2,7 @@
 use crate::{
     Category, Point, Schema, Spot, Tile, is_sound, is_valid, label, lies_in, quadrant, tile_label,
 };
-use outer_io::{List, Text};
+use texts::{List, Text};
 use std::alloc::Global;
 use std::test::Fail;
 

@@ -11,7 +11,7 @@ ghost use Rattle.cube_view.specs.declared.spot.Spot.{Spot};
 ghost use Rattle.cube_view.specs.declared.stat.Stat.{Stat};
 
 use crate::{Point, Schema, Stat};
-use outer_io::NoMemory;
+use texts::NoMemory;
 use probe_core::Steps;
 use std::sync::ledger::Ledger;
 

@@ -13,7 +13,7 @@ ghost use Rattle.cube_view.specs.Points.{point_at};
 ghost use Rattle.example_schemas.specs.Examples.{named_category, kinds, two_categories};
 
 use cube_view::{Category, Point, Schema, Spot, Tile};
-use outer_io::{List, NoMemory, Text};
+use texts::{List, NoMemory, Text};
 use std::alloc::Global;
 
 /// The category of that name and of two values.

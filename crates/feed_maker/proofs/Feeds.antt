@@ -4,7 +4,7 @@ use Rattle.std.specs.Prelude.{Option, Some, None, MatchOption}
 use Rattle.std.specs.Fmt.{decimal}
 use Rattle.std.proofs.lemmas.Fmt.{length-decimal-le}
 use Rattle.std.proofs.Math.Nat.{mod-add-mod, mul_comm}
-use Rattle.outer_io.specs.Lines.{pieces}
+use Rattle.texts.specs.LineFeeds.{pieces}
 use Rattle.feed_maker.specs.GeneratedFeed.{next_state, generated_columns, generated_row, generated_rows, generated_feed}
 
 -- a step in two operations that each wrap

@@ -1,6 +1,6 @@
 //! The feed as a source.
 ghost use Rattle.std.specs.Prelude.{◌≡◌, ◌+◌, ◌*◌, ◌<◌, ◌≤◌, ◌∷◌, [], min, length, drop, IfOk, IsOk, MatchOption};
-ghost use Rattle.outer_io.specs.Lines.{pieces};
+ghost use Rattle.texts.specs.LineFeeds.{pieces};
 ghost use Rattle.outer_io.specs.Memory.{filled};
 ghost use Rattle.feed_maker.specs.GeneratedFeed.{generated_columns, generated_rows, generated_feed};
 

@@ -11,7 +11,7 @@ use crate::feed::Ended;
 use crate::item::Item;
 use crate::line::{Lane, LanePass, Line, Settling};
 use crate::steps::{count_draw, pop, wait_pop};
-use outer_io::List;
+use texts::List;
 use std::marker::Model;
 use std::sync::{Arc, Wait};
 

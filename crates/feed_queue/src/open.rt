@@ -12,7 +12,7 @@ use crate::line::{Lane, LanePass, Parts};
 use crate::steps::open_line;
 use change_signal::Signal;
 use cube_view::Schema;
-use outer_io::{List, NoMemory};
+use texts::{List, NoMemory};
 use std::alloc::Global;
 use std::sync::Arc;
 

@@ -6,7 +6,7 @@ ghost use Rattle.feed_queue.specs.Journal.{entry_text, told_weight};
 ghost use Rattle.feed_queue.specs.NumberReading.{spaced_number};
 
 use cube_view::{Point, Schema};
-use outer_io::{List, NoMemory};
+use texts::{List, NoMemory};
 use std::alloc::{AllocError, Global};
 use world_core::Entry;
 

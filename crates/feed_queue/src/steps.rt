@@ -9,7 +9,7 @@ use crate::item::{Item, Slot};
 use crate::line::{Begins, Lane, LanePass, Line, Opens, Sends, Takes};
 use change_signal::Waiting;
 use cube_view::Schema;
-use outer_io::NoMemory;
+use texts::NoMemory;
 use std::alloc::Global;
 use std::sync::Wait;
 

@@ -3,7 +3,8 @@ use Rattle.std.proofs.Common.{◌≡◌, ℕ, suc, ◌+◌, ◌-◌, ◌≤◌, 
 use Rattle.std.specs.Prelude.{if◌then◌else◌}
 use Rattle.std.proofs.lemmas.Bool.{leb-true}
 use Rattle.std.proofs.lemmas.List.{length-drop, length-map, length-take}
-use Rattle.outer_io.specs.Lines.{counted, input_limit, lines, lines_of, onto_first, onto_whole, pieces, whole_lines}
+use Rattle.outer_io.specs.Lines.{counted, input_limit, lines, lines_of, onto_whole, whole_lines}
+use Rattle.texts.specs.LineFeeds.{onto_first, pieces}
 use Rattle.feed_reader.specs.Accepting.{AcceptsWithin}
 use Rattle.feed_reader.specs.Feeds.{accepted, feed_head, head_of_lines, points_in, rows, rows_under}
 use Rattle.feed_reader.specs.Rows.{row_of_line}

@@ -7,7 +7,7 @@ use Rattle.cube_view.specs.Validity.{is_weight, valid}
 use Rattle.cube_view.specs.declared.category.Category.{Category}
 use Rattle.cube_view.specs.declared.schema.Schema.{Schema}
 use Rattle.outer_io.specs.Lines.{Line, Bytes, Long}
-use Rattle.outer_io.specs.Decimals.{is_decimal}
+use Rattle.texts.specs.Decimals.{is_decimal}
 use Rattle.std.specs.Str.Parse.{digits_value}
 use Rattle.feed_reader.specs.Columns.{weight_item, category_items}
 use Rattle.feed_reader.specs.Headers.{place_in}

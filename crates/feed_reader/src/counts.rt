@@ -1,7 +1,8 @@
 //! What is counted of a feed.
 
 use crate::Refusal;
-use outer_io::{CutFault, List};
+use outer_io::CutFault;
+use texts::List;
 
 /// Of a feed: how many rows were accepted, blank and refused, its first refusals, and the fault that ended it.
 #[derive(Drop)]

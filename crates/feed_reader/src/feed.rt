@@ -9,7 +9,8 @@ ghost use Rattle.outer_io.specs.Progress.{IsGoing};
 
 use crate::{HeadFault, Header, Row, RowFault};
 use cube_view::Schema;
-use outer_io::{Cut, CutFault, LineCutter, NoMemory, Source};
+use outer_io::{Cut, CutFault, LineCutter, Source};
+use texts::NoMemory;
 use std::alloc::Global;
 
 /// Why a feed has no header.

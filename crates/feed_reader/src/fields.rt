@@ -9,7 +9,7 @@ use crate::line_parts::LineParts;
 use crate::record::{field_of, one_record};
 use crate::regular::regular_fields;
 use cube_view::is_same_text;
-use outer_io::NoMemory;
+use texts::NoMemory;
 use std::alloc::Global;
 use std::marker::Model;
 

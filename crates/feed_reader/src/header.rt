@@ -9,7 +9,7 @@ use crate::row::row_of_record;
 use crate::{Column, Row, RowFault};
 use cube_view::Schema;
 use ghost_values::GhostValue;
-use outer_io::{List, NoMemory};
+use texts::{List, NoMemory};
 use std::alloc::Global;
 use std::marker::Model;
 

@@ -5,7 +5,7 @@ ghost use Rattle.csv.specs.Records.{fields_of};
 ghost use Rattle.feed_reader.specs.Records.{IsReaderOf, begins_with_mark, record_of};
 
 use csv::{ByteRecord, Reader, ReaderBuilder};
-use outer_io::NoMemory;
+use texts::NoMemory;
 use std::alloc::Global;
 
 // A reader that has yet to read the line.

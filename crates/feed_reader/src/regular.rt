@@ -7,7 +7,7 @@ ghost use Rattle.feed_reader.specs.Records.{only};
 ghost use Rattle.feed_reader.specs.Regular.{IsFront, begins_record, stops_field};
 
 use crate::line_parts::LineParts;
-use outer_io::NoMemory;
+use texts::NoMemory;
 use std::alloc::Global;
 
 // What comes after a field: a comma and the bytes of further fields, or the end of the line.

@@ -2,7 +2,7 @@
 ghost use Rattle.std.specs.Prelude.{IfSome, ◌≡◌, ◌<◌, ◌≤◌, ◌-◌, ◌/◌, ◌^◌, Some, None, is_some, IsTrue, nat_le, nat_lt, not, map, length, get_or, option_map, [], ◌∷◌, false, true};
 ghost use Rattle.cube_view.specs.Limits.{has_text, category_in_range, categories_in_range};
 ghost use Rattle.feed_reader.specs.Columns.{needed_count, weight_item, category_items};
-ghost use Rattle.outer_io.specs.Decimals.{is_decimal};
+ghost use Rattle.texts.specs.Decimals.{is_decimal};
 ghost use Rattle.cube_view.specs.Validity.{is_weight};
 ghost use Rattle.feed_reader.specs.Headers.{place_in};
 ghost use Rattle.feed_reader.specs.Rows.{AnswersUnless, fault_if, number, unknown_value, values_of, is_weight_unread, weight_in, MeansParts, is_short, text_at, texts_at, row_of_record, IsValidRow};
@@ -10,7 +10,7 @@ ghost use Rattle.feed_reader.specs.Rows.{AnswersUnless, fault_if, number, unknow
 use crate::Column;
 use crate::fields::Fields;
 use cube_view::{Category, Point, Schema, Spot, is_same_text};
-use outer_io::{List, decimal_of};
+use texts::{List, decimal_of};
 
 /// Why a line is no point. A category goes by its number, from 0.
 #[derive(Clone, Copy, PartialEq, Eq, Debug)]

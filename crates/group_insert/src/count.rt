@@ -11,7 +11,7 @@ ghost use Rattle.group_insert.specs.Added.{IsOneBin, IsRunOf, amount_in, part_we
 use arena_undo::Work;
 use cube_view::{Point, Schema};
 use node_arena::SlotId;
-use outer_io::NoMemory;
+use texts::NoMemory;
 
 /// Counts a point in a time table.
 fn count_point(

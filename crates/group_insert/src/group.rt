@@ -12,7 +12,7 @@ use crate::way::Way;
 use arena_undo::Work;
 use cube_view::{Point, Schema};
 use node_arena::SlotId;
-use outer_io::NoMemory;
+use texts::NoMemory;
 use probe_core::Steps;
 use std::alloc::Global;
 use std::marker::Brand;

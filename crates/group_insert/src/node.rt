@@ -12,7 +12,7 @@ use crate::parts::one_label;
 use arena_undo::Work;
 use cube_view::{Point, Schema};
 use node_arena::{Link, SlotId};
-use outer_io::NoMemory;
+use texts::NoMemory;
 use point_insert::{copy_content, make_content, only_child};
 use probe_core::Steps;
 use proper_path::step_down;

@@ -11,7 +11,7 @@ ghost use Rattle.group_insert.specs.Ways.{way_from};
 
 use arena_undo::Work;
 use node_arena::{Link, SlotId};
-use outer_io::NoMemory;
+use texts::NoMemory;
 use probe_core::Steps;
 use std::sync::ledger::Ledger;
 

@@ -13,7 +13,7 @@ use crate::put_off::{PutOffLink, finer};
 use arena_undo::Work;
 use cube_view::{Point, Schema};
 use node_arena::SlotId;
-use outer_io::NoMemory;
+use texts::NoMemory;
 use probe_core::Steps;
 use std::sync::ledger::Ledger;
 

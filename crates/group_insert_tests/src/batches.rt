@@ -1,7 +1,7 @@
 //! Points that a cube takes in batches.
 use cube_store::Cube;
 use cube_view::{Point, are_sound};
-use outer_io::NoMemory;
+use texts::NoMemory;
 use std::process::Abort;
 
 /// Inserts the points as one group.

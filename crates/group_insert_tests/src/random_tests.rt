@@ -5,7 +5,7 @@ use crate::draws::{Draws, draw_point, draw_shape};
 use crate::schemas::schema_of;
 use cube_store::Cube;
 use cube_view::{Point, Schema};
-use outer_io::{List, NoMemory};
+use texts::{List, NoMemory};
 use std::alloc::Global;
 use std::process::Abort;
 use std::test::Fail;

@@ -1,7 +1,7 @@
 //! Schemas of so many levels and values.
 use cube_schema::read_plan;
 use cube_view::Schema;
-use outer_io::NoMemory;
+use texts::NoMemory;
 use std::alloc::{AllocError, Global};
 
 /// Appends a category of that number and of so many values, which are named by their numbers.

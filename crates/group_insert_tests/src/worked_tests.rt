@@ -6,7 +6,7 @@ use crate::schemas::schema_of;
 use cube_store::Cube;
 use cube_view::{CubeView, Point};
 use example_schemas::point;
-use outer_io::{List, NoMemory};
+use texts::{List, NoMemory};
 use std::alloc::Global;
 use std::process::Abort;
 use std::test::Fail;

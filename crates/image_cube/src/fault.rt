@@ -1,5 +1,5 @@
 //! Why an image isn't read.
-use outer_io::NoMemory;
+use texts::NoMemory;
 
 /// Why no arena was made of bytes. They are tested in this order.
 #[derive(Clone, Copy, PartialEq, Eq, Debug)]

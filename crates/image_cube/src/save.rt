@@ -12,7 +12,7 @@ ghost use Rattle.image_cube.specs.CubeImages.{HasLongCubeImage, IsSavedCube};
 use cube_image::{SaveFault, image_laws, write_image};
 use cube_store::Cube;
 use node_arena::{Arena, SlotId};
-use outer_io::List;
+use texts::List;
 use probe_core::Steps;
 use std::alloc::Global;
 use std::marker::Brand;

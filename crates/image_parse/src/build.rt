@@ -5,7 +5,7 @@ ghost use Rattle.image_parse.specs.Views.{KeepsOneMore, IsLightTable, IsParsed, 
 
 use crate::slots::{ParsedSlot, Room};
 use node_arena::Arena;
-use outer_io::NoMemory;
+use texts::NoMemory;
 
 /// The most records that a table holds.
 const MOST_RECORDS: u64 = 1 << 63;

@@ -1,5 +1,5 @@
 //! Why bytes aren't parsed.
-use outer_io::NoMemory;
+use texts::NoMemory;
 use std::alloc::{AllocError, AllocFailed};
 
 /// Why no arena was made of bytes.

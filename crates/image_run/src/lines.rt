@@ -3,7 +3,7 @@ ghost use Rattle.std.specs.Prelude.{◌≡◌, ◌++◌, IfOk, OnOk, string_byte
 ghost use Rattle.image_run.specs.Lines.{image_fault_text, image_line};
 
 use image_cube::ImageFault;
-use outer_io::{List, NoMemory};
+use texts::{List, NoMemory};
 use std::alloc::{AllocError, Global};
 
 /// The name of a fault.

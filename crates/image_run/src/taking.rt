@@ -8,7 +8,8 @@ use crate::lines::image_refused;
 use cube_store::Cube;
 use cube_view::Schema;
 use image_cube::{ImageFault, load_cube};
-use outer_io::{List, Sink};
+use outer_io::Sink;
+use texts::List;
 use run_files::{Stop, put_text};
 use std::alloc::Global;
 

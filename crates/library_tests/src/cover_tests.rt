@@ -1,7 +1,7 @@
 //! Covers that were drawn by hand.
 use cube_view::{Schema, Tile};
 use example_schemas::{schema_of_kinds, tile};
-use outer_io::{List, NoMemory};
+use texts::{List, NoMemory};
 use query_syntax::Rect;
 use std::alloc::Global;
 use std::test::Fail;

@@ -7,7 +7,7 @@ ghost use Rattle.feed_queue.specs.Items.{count_ends};
 use cube_view::Point;
 use example_schemas::{point, schema_of_kinds};
 use feed_queue::{DrawEnd, Ended, FeedEnd, Item, open_lane};
-use outer_io::{List, NoMemory};
+use texts::{List, NoMemory};
 use std::alloc::Global;
 use std::process::Abort;
 use std::sync::Wait;

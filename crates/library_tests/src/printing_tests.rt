@@ -1,6 +1,6 @@
 //! Plans that are printed as they were read.
 use cube_schema::{print_plan, read_plan};
-use outer_io::List;
+use texts::List;
 use std::alloc::Global;
 use std::test::Fail;
 

@@ -1,7 +1,8 @@
 //! Reports of runs that memory, a put or a limit stopped, byte by byte.
 use cube_schema::{Plan, PlanFault, read_plan};
 use feed_reader::{Column, FeedCounts, HeadFault, Refusal, RowFault};
-use outer_io::{CutFault, List, NoMemory};
+use outer_io::CutFault;
+use texts::{List, NoMemory};
 use run_files::{ScriptCounts, header_refused, plan_refused, report};
 use session_core::SessionFault;
 use std::alloc::Global;

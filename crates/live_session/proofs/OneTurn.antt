@@ -12,7 +12,7 @@ use Rattle.live_session.specs.Turned.{HasFaults, is_no_memory}
 use Rattle.live_session.specs.Viewers.{AsksViewer, IsSameViewer, ends_view}
 use Rattle.live_session.proofs.TurnLaws.{Reads}
 use Rattle.mailbox.specs.Ends.{OutEnd}
-use Rattle.outer_io.specs.Counts.{next_count}
+use Rattle.texts.specs.Counts.{next_count}
 use Rattle.outer_io.specs.Cutting.{Cutter}
 use Rattle.outer_io.specs.Faults.{HasCause}
 use Rattle.outer_io.specs.Progress.{PassesAll}

@@ -13,7 +13,7 @@ use Rattle.live_session.specs.Turned.{BreaksOff, ComesToEnd, HasFaults, IsTurn, 
 use Rattle.live_session.specs.declared.turn.Turn.{Turn}
 use Rattle.live_session.specs.declared.turn.Turn.TheVariants as turn
 use Rattle.mailbox.specs.Ends.{OutEnd}
-use Rattle.outer_io.specs.Counts.{next_count}
+use Rattle.texts.specs.Counts.{next_count}
 use Rattle.outer_io.specs.Bytes.{Gains, GainsPart}
 use Rattle.outer_io.specs.Cuts.{IsTooMuch}
 use Rattle.outer_io.specs.Cutting.{lines_left}

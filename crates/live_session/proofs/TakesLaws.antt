@@ -6,8 +6,9 @@ use Rattle.cube_view.specs.Points.{Point}
 use Rattle.cube_view.specs.declared.schema.Schema.{Schema}
 use Rattle.cube_view.specs.declared.stat.Stat.{Stat}
 use Rattle.live_session.specs.News.{takes_after, takes_for}
-use Rattle.outer_io.specs.Counts.{next_count}
-use Rattle.outer_io.specs.Faults.{RoseBy, last_count}
+use Rattle.texts.specs.Counts.{next_count}
+use Rattle.outer_io.specs.Faults.{RoseBy}
+use Rattle.texts.specs.Counts.{last_count}
 use Rattle.outer_io.specs.Lines.{Line}
 use Rattle.query_syntax.specs.declared.fault.QueryFault.{QueryFault}
 use Rattle.query_syntax.specs.declared.query.Parsed.{Parsed}

@@ -3,7 +3,7 @@ use Rattle.std.specs.Prelude.{◌≡◌, ℕ, ◌≤◌, ◌⊎◌, max, Bool, t
 use Rattle.cube_view.specs.Points.{Point}
 use Rattle.cube_view.specs.declared.schema.Schema.{Schema}
 use Rattle.mailbox.specs.Ends.{OutEnd, and_taken}
-use Rattle.outer_io.specs.Counts.{next_count}
+use Rattle.texts.specs.Counts.{next_count}
 use Rattle.outer_io.specs.Lines.{Line}
 use Rattle.published_pair.specs.Rules.{Known}
 use Rattle.published_pair.specs.declared.told.Told.{Told}

@@ -4,7 +4,8 @@ use Rattle.cube_view.specs.Points.{Point}
 use Rattle.cube_view.specs.declared.schema.Schema.{Schema}
 use Rattle.cube_view.specs.declared.stat.Stat.{Stat}
 use Rattle.live_session.specs.News.{takes_after}
-use Rattle.outer_io.specs.Faults.{RoseBy, last_count}
+use Rattle.outer_io.specs.Faults.{RoseBy}
+use Rattle.texts.specs.Counts.{last_count}
 use Rattle.outer_io.specs.Lines.{Line}
 use Rattle.reply_json.specs.declared.reply.Reply.{Reply}
 use Rattle.session_core.specs.Asked.{asked}

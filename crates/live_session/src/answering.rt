@@ -11,7 +11,7 @@ ghost use Rattle.world_core.specs.PairFact.{IsPrefix};
 use crate::asking::{asks_look, asks_news};
 use cube_view::Grow;
 use mailbox::MailOut;
-use outer_io::{List, NoMemory};
+use texts::{List, NoMemory};
 use probe_core::Steps;
 use published_pair::Viewer;
 use query_syntax::Parsed;

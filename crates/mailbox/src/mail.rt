@@ -2,11 +2,11 @@
 ghost use Rattle.std.specs.Prelude.{◌≡◌, ◌≤◌, [], ◌∷◌, ◌++◌, length, IfOk, IfSome};
 ghost use Rattle.mailbox.specs.Ends.{and_taken, mail_in, mail_out};
 ghost use Rattle.mailbox.specs.Rule.{WasPutLast};
-ghost use Rattle.outer_io.specs.Counts.{next_count};
+ghost use Rattle.texts.specs.Counts.{next_count};
 
 use crate::place::{Begins, Letter, MailPass, Names, Parts, Place, Puts, Removes, Takes};
 use cube_view::Grow;
-use outer_io::NoMemory;
+use texts::NoMemory;
 use published_pair::{Publisher, Told};
 use std::alloc::Global;
 use std::marker::Model;

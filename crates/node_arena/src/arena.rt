@@ -17,7 +17,7 @@ use crate::packed::Content;
 use crate::slot::Stored;
 use block_list::BlockList;
 use cube_view::Stat;
-use outer_io::NoMemory;
+use texts::NoMemory;
 use probe_core::Steps;
 use std::alloc::Global;
 use std::marker::{Brand, Model};

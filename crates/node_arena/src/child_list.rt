@@ -9,7 +9,7 @@ use crate::short::{
     Form, Found, boxed, find_in_one, find_in_three, find_in_two, set_in_three, set_in_two,
     with_fourth, with_second, with_third, without_second, without_third,
 };
-use outer_io::NoMemory;
+use texts::NoMemory;
 use probe_core::Steps;
 use std::alloc::Global;
 use std::marker::Model;

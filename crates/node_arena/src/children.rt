@@ -11,7 +11,7 @@ use crate::child_list::ChildList;
 use crate::link::Link;
 use crate::packed::Child;
 use crate::short::Found;
-use outer_io::NoMemory;
+use texts::NoMemory;
 use probe_core::Steps;
 use std::alloc::Global;
 use std::marker::{Brand, Model};

@@ -5,7 +5,7 @@ ghost use Rattle.node_arena.specs.Slots.{child_label};
 ghost use Rattle.node_arena.specs.Short.{form_children};
 
 use crate::packed::Child;
-use outer_io::NoMemory;
+use texts::NoMemory;
 use probe_core::{Rows, Steps};
 use std::alloc::Global;
 use std::sync::ledger::Ledger;

@@ -13,7 +13,7 @@ use crate::children::Children;
 use crate::link::Link;
 use crate::packed::Content;
 use cube_view::Stat;
-use outer_io::NoMemory;
+use texts::NoMemory;
 use probe_core::Steps;
 use std::alloc::Global;
 use std::sync::ledger::Ledger;

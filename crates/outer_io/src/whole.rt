@@ -4,8 +4,9 @@ ghost use Rattle.outer_io.specs.Bytes.{Adds, IsAtEnd, Takes, TakesSome};
 ghost use Rattle.outer_io.specs.Faults.{HasCause};
 ghost use Rattle.outer_io.specs.Told.{Told};
 
-use crate::{IoFault, List, Source};
+use crate::{IoFault, Source};
 use std::alloc::Global;
+use texts::{List, put};
 
 /// The most bytes that are asked for at once.
 const CHUNK_LEN: usize = 4096;
@@ -25,10 +26,8 @@ fn read_more<S: Source>(source: &mut S, bytes: &mut Vec<u8>, room: usize) -> Res
     let Ok(n) = source.read(buf) else {
         return Err(IoFault::Failed);
     };
-    match bytes.extend_from_slice(&buf[..n]) {
-        Ok(()) => Ok(n),
-        Err(_) => Err(IoFault::NoMemory),
-    }
+    put(bytes, &buf[..n])?;
+    Ok(n)
 }
 
 /// All bytes that are left, or the first `most + 1` of them where there are more. After a fault some of them were taken.

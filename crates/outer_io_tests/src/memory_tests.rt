@@ -1,8 +1,7 @@
 //! What lists, sources and sinks in memory give.
 use crate::shared::{bytes, number};
-use outer_io::{
-    Failed, IoFault, List, MemSink, MemSource, Sink, Source, StillSink, StillSource, read_up_to,
-};
+use outer_io::{Failed, IoFault, MemSink, MemSource, Sink, Source, StillSink, StillSource, read_up_to};
+use texts::List;
 use std::alloc::{AllocError, Global};
 
 /// What comes off a list of 1 and 2 in three times; none where they had no room.

@@ -1,5 +1,6 @@
 //! What the tests of several modules share.
-use outer_io::{Failed, IoFault, List, Place, Sink, Source};
+use outer_io::{Failed, IoFault, Place, Sink, Source};
+use texts::List;
 use std::alloc::{AllocError, Global};
 
 /// A list of those bytes.

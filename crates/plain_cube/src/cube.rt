@@ -6,7 +6,7 @@ ghost use Rattle.cube_view.specs.Validity.{sound};
 
 use crate::scans::{any_below, count_before, count_before_each, least_below};
 use cube_view::{Address, CubeView, Grow, Point, Schema, Stat};
-use outer_io::NoMemory;
+use texts::NoMemory;
 use probe_core::Steps;
 use std::alloc::Global;
 use std::sync::ledger::Ledger;

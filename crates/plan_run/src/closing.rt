@@ -14,7 +14,8 @@ use crew_feeder::FeedDone;
 use cube_crew::Crewed;
 use cube_schema::Plan;
 use live_session::SessionDone;
-use outer_io::{IoFault, List, NoMemory, Place, Sink};
+use outer_io::{IoFault, Place, Sink};
+use texts::{List, NoMemory};
 use run_files::{Stop, give_back_sinks, joined_ends, write_end};
 use std::alloc::Global;
 

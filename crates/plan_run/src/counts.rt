@@ -2,7 +2,7 @@
 ghost use Rattle.std.specs.Prelude.{◌≡◌, ◌++◌, [], ◌∷◌, IfOk, IsOkAnd};
 
 use feed_reader::FeedCounts;
-use outer_io::NoMemory;
+use texts::NoMemory;
 use run_files::ScriptCounts;
 
 /// What was counted of all feeds, asks and finals.

@@ -4,7 +4,7 @@ ghost use Rattle.cube_crew.specs.Begins.{AreEmptyViews};
 
 use cube_store::Cube;
 use cube_view::{CubeView, Schema};
-use outer_io::NoMemory;
+use texts::NoMemory;
 use std::alloc::Global;
 
 /// Two cubes of no points under the schema.

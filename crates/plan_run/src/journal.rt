@@ -7,7 +7,8 @@ ghost use Rattle.plan_run.specs.Journals.{Moves, PutsJournal};
 
 use cube_view::Schema;
 use feed_queue::print_entry;
-use outer_io::{IoFault, NoMemory, Sink};
+use outer_io::{IoFault, Sink};
+use texts::NoMemory;
 use std::alloc::Global;
 use world_core::Entry;
 

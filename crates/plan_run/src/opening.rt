@@ -13,7 +13,8 @@ use crate::rooms::Rooms;
 use crate::seating::seat_parts;
 use cube_schema::Plan;
 use feed_reader::FeedJob;
-use outer_io::{LineCutter, List, Place, Sink};
+use outer_io::{LineCutter, Place, Sink};
+use texts::List;
 use run_files::{ScriptParts, Stop, give_back_feeds, load_plan, open_feeds, open_scripts};
 use std::alloc::Global;
 

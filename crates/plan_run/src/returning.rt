@@ -8,7 +8,8 @@ use crate::counts::with_one_more;
 use crew_feeder::FeedDone;
 use feed_reader::FeedCounts;
 use live_session::SessionDone;
-use outer_io::{NoMemory, Place};
+use outer_io::Place;
+use texts::NoMemory;
 use run_files::ScriptCounts;
 use std::alloc::Global;
 

@@ -8,7 +8,8 @@ use crate::rooms::Rooms;
 use cube_crew::Jobs;
 use feed_reader::FeedJob;
 use live_session::Session;
-use outer_io::{LineCutter, List, Sink, Source};
+use outer_io::{LineCutter, Sink, Source};
+use texts::List;
 use run_files::ScriptParts;
 use std::alloc::Global;
 

@@ -14,7 +14,7 @@ use crate::updated::Updated;
 use arena_undo::Work;
 use cube_view::{Point, Schema};
 use node_arena::SlotId;
-use outer_io::{List, NoMemory};
+use texts::{List, NoMemory};
 use probe_core::Steps;
 use proper_path::trail;
 use std::alloc::Global;

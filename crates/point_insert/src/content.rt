@@ -10,7 +10,7 @@ use crate::updated::Updated;
 use arena_undo::Work;
 use cube_view::Schema;
 use node_arena::{Link, SlotId};
-use outer_io::NoMemory;
+use texts::NoMemory;
 use probe_core::Steps;
 use std::sync::ledger::Ledger;
 

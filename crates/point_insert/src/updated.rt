@@ -3,7 +3,7 @@ ghost use Rattle.std.specs.Prelude.{◌≡◌, ◌↔◌, [], Contains, IsTrue, 
 ghost use Rattle.proper_path.specs.Midway.{IsJoined};
 
 use node_arena::SlotId;
-use outer_io::NoMemory;
+use texts::NoMemory;
 use std::alloc::Global;
 use std::collections::HashSet;
 use std::marker::Model;

@@ -11,7 +11,7 @@ use crate::step::step_down;
 use arena_undo::Work;
 use cube_view::{Point, Schema, label};
 use node_arena::SlotId;
-use outer_io::{List, NoMemory};
+use texts::{List, NoMemory};
 use probe_core::Steps;
 use std::marker::Brand;
 use std::sync::ledger::{Blank, Ledger};

@@ -6,7 +6,7 @@ ghost use Rattle.proper_path.specs.Stepped.{IsStepped, LeadsInside, KeepsRoom};
 
 use arena_undo::Work;
 use node_arena::{Link, SlotId};
-use outer_io::NoMemory;
+use texts::NoMemory;
 use probe_core::Steps;
 use std::sync::ledger::Ledger;
 

@@ -2,7 +2,7 @@
 //! the copies wait for each look in their own way, by yielding, and find none where this has waited for it.
 use change_signal::{Signal, Waiting};
 use crossbeam_utils::CachePadded;
-use outer_io::NoMemory;
+use texts::NoMemory;
 use std::alloc::Global;
 use std::sync::atomic::{AtomicU64, Ordering};
 use std::sync::{Arc, Wait};

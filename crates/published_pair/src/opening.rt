@@ -14,7 +14,7 @@ use crate::viewer::Viewer;
 use cube_view::{Grow, Schema};
 use ghost_values::{GhostList, GhostValue};
 use left_right::writer::Writer;
-use outer_io::{List, NoMemory};
+use texts::{List, NoMemory};
 use std::alloc::Global;
 use std::sync::{Arc, Wait};
 

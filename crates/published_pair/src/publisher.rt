@@ -19,7 +19,7 @@ use cube_view::{Grow, Point, Schema};
 use ghost_values::GhostList;
 use left_right::Absorb;
 use left_right::writer::Writer;
-use outer_io::{List, NoMemory};
+use texts::{List, NoMemory};
 use std::alloc::Global;
 use std::marker::PhantomData;
 use std::mem::replace;

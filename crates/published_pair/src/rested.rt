@@ -14,7 +14,7 @@ use crate::stand::Sent;
 use crate::told::{GivenUp, Last};
 use cube_view::{Grow, Schema};
 use left_right::writer::Writer;
-use outer_io::{List, NoMemory};
+use texts::{List, NoMemory};
 use std::alloc::Global;
 use std::sync::{Arc, Wait};
 

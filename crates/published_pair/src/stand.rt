@@ -4,7 +4,7 @@ ghost use Rattle.cube_view.specs.Bag.{Counts};
 use crate::book::Front;
 use cube_view::{Grow, Point};
 use ghost_values::GhostList;
-use outer_io::List;
+use texts::List;
 
 /// A view, the list of points that it counts, and the published list that it stands at once it is shown.
 #[derive(Drop)]

@@ -5,7 +5,7 @@ ghost use Rattle.published_pair.specs.Pair.{Fresh};
 use crate::book::{Front, Whole};
 use crate::viewer::Viewer;
 use cube_view::Grow;
-use outer_io::NoMemory;
+use texts::NoMemory;
 
 /// The published list at some moment. Contracts see its book, which names the pair, and its points.
 #[derive(Drop)]

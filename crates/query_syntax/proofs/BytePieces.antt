@@ -6,7 +6,7 @@ use Rattle.std.proofs.lemmas.List.{take_more}
 use Rattle.std.proofs.Math.Seq.{take-length, drop-length}
 use Rattle.std.proofs.lemmas.Bool.{false≢true}
 use Rattle.std.proofs.lemmas.Bool.Decides.{nat_tests}
-use Rattle.outer_io.specs.Lines.{onto_first}
+use Rattle.texts.specs.LineFeeds.{onto_first}
 use Rattle.query_syntax.specs.Tiles.{tile_of_pieces}
 use Rattle.query_syntax.specs.Words.{cut_pieces, pieces_from, cuts, quoted_after, words, is_some_text, space}
 

@@ -7,7 +7,7 @@ use Rattle.std.proofs.Math.Bool.{or-true}
 use Rattle.std.proofs.lemmas.Bool.{false≢true, and_parts, and_from}
 use Rattle.std.proofs.lemmas.List.{append_cancel_right}
 use Rattle.std.proofs.lemmas.Slice.Eq.{bytes_eq-Decides}
-use Rattle.outer_io.specs.Lines.{onto_first}
+use Rattle.texts.specs.LineFeeds.{onto_first}
 use Rattle.cube_view.proofs.FinerWalks.{iff_same}
 use Rattle.query_syntax.specs.Words.{quote, bar, cut_pieces, pieces_from, cuts, quoted_after}
 use Rattle.query_syntax.specs.Items.{is_quote, bare, in_quotes, is_well_quoted, are_well_quoted}

@@ -8,7 +8,7 @@ use Rattle.std.proofs.lemmas.Bool.Decides.{nat_tests}
 use Rattle.std.proofs.lemmas.Str.Parse.{IsNumeralModel, numerals_by_value, IsDigitsTest}
 use Rattle.std.proofs.lemmas.Fmt.{digits_decimal, digits_value-decimal, decimal_nonempty, length-decimal-le}
 use Rattle.cube_view.specs.Limits.{is_between}
-use Rattle.outer_io.specs.Decimals.{decimal_value, is_decimal}
+use Rattle.texts.specs.Decimals.{decimal_value, is_decimal}
 use Rattle.query_syntax.specs.Reading.{number_of}
 use Rattle.query_syntax.specs.Words.{space, slash, is_some_text}
 use Rattle.query_syntax.proofs.WholeTexts.{stays_whole, is_plain, plain_whole, all_weaker, is_word}

@@ -5,7 +5,7 @@ use Rattle.std.specs.List.{list_all, list_any, flat_map, join_with_byte}
 use Rattle.std.proofs.Math.Bool.{and-false}
 use Rattle.std.proofs.lemmas.Bool.{false≢true, and_parts, and_from, not-true}
 use Rattle.std.proofs.lemmas.List.Sums.{sum_by-cons}
-use Rattle.outer_io.specs.Lines.{onto_first}
+use Rattle.texts.specs.LineFeeds.{onto_first}
 use Rattle.query_syntax.specs.Items.{is_quote, in_quotes}
 use Rattle.query_syntax.specs.Spelling.{needs_quotes, value_text, spaced}
 use Rattle.query_syntax.specs.Words.{quote, space, bar, cuts, quoted_after, cut_pieces, pieces_from, words, is_some_text}

@@ -2,7 +2,7 @@
 use Rattle.std.specs.Prelude.{◌≡◌, ℕ, if◌then◌else◌, List, [], ◌∷◌, Option, Some, None, Result, Ok, Err}
 use Rattle.cube_view.specs.Limits.{is_between}
 use Rattle.cube_view.specs.Results.{◌>>=◌}
-use Rattle.outer_io.specs.Decimals.{decimal_value}
+use Rattle.texts.specs.Decimals.{decimal_value}
 use Rattle.query_syntax.specs.declared.fault.QueryFault.{QueryFault}
 use Rattle.query_syntax.specs.declared.fault.QueryFault.TheVariants.{MissingWord, BadNumber, OutOfRange}
 use Rattle.query_syntax.specs.declared.fault.WordFault.{WordFault}

@@ -1,7 +1,7 @@
 -- Tiles: which there are, and how a word writes one.
 use Rattle.std.specs.Prelude.{ℕ, ◌^◌, Bool, ◌&&◌, nat_le, nat_lt, if◌then◌else◌, List, [], ◌∷◌, Option, Some, None, option_and_then}
 use Rattle.cube_view.specs.declared.address.Tile.{Tile}
-use Rattle.outer_io.specs.Decimals.{decimal_value}
+use Rattle.texts.specs.Decimals.{decimal_value}
 use Rattle.query_syntax.specs.Words.{cut_pieces, slash}
 
 -- of a level down to the depth, and within the columns and rows of its level

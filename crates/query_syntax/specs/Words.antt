@@ -3,7 +3,7 @@
 -- Quotes open and close in turn. What lies between a quote and the next one is in quotes, and where the
 -- last one isn't closed, all that comes after it.
 use Rattle.std.specs.Prelude.{ℕ, Bool, true, false, not, ◌&&◌, ◌==◌, if◌then◌else◌, List, [], ◌∷◌, filter, Option, Some, None}
-use Rattle.outer_io.specs.Lines.{onto_first}
+use Rattle.texts.specs.LineFeeds.{onto_first}
 
 abbrev pub quote : ℕ
 quote = 34

@@ -12,7 +12,7 @@ use crate::verb_words::category_named;
 use crate::words::next_piece;
 use crate::{Choice, ValueSet};
 use cube_view::Schema;
-use outer_io::Text;
+use texts::Text;
 
 /// The text between two quotes, or else the piece itself.
 fn without_quotes(piece: &[u8]) -> &[u8]

@@ -16,7 +16,7 @@ use crate::verb_words::verb_of;
 use crate::words::next_word;
 use crate::{Parsed, Verb};
 use cube_view::Schema;
-use outer_io::NoMemory;
+use texts::NoMemory;
 use std::alloc::Global;
 
 /// How many words the verb has.

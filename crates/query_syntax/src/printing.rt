@@ -11,7 +11,7 @@ ghost use Rattle.query_syntax.specs.Spelling.{spaced, value_text, value_texts, n
 use crate::verb_words::BINS;
 use crate::{Choice, Query, Rect, Span, ValueSet, Verb};
 use cube_view::{Category, Schema, Tile};
-use outer_io::{List, NoMemory, Text};
+use texts::{List, NoMemory, Text};
 use std::alloc::{AllocError, Global};
 
 /// Appends a space and the word.

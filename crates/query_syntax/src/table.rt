@@ -1,7 +1,7 @@
 //! What a query of a table verb answers.
 
 use cube_view::Tile;
-use outer_io::{List, Text};
+use texts::{List, Text};
 
 /// A row of a table: a total alone, or the total of a value of a category, of a tile, of the bins from the first one of
 /// the row on, or of two values of two categories.

@@ -17,7 +17,7 @@ use crate::item::values_of;
 use crate::totals::{total_of, total_with};
 use crate::{Query, RowOut, Span, Table, Verb};
 use cube_view::{Point, Schema, Tile, quadrant};
-use outer_io::{List, NoMemory};
+use texts::{List, NoMemory};
 use std::alloc::Global;
 
 /// The row of the total alone.

@@ -7,7 +7,7 @@ ghost use Rattle.query_syntax.specs.declared.fault.QueryFault.TheVariants.{BadTi
 use crate::fault::{QueryFault, WordFault};
 use crate::words::next_piece;
 use cube_view::Tile;
-use outer_io::decimal_of;
+use texts::decimal_of;
 
 /// The tile of these numbers, if there is one.
 fn tile_from(depth: u8, z: u64, x: u64, y: u64) -> Option<Tile>

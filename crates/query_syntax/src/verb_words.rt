@@ -11,7 +11,7 @@ use crate::fault::{QueryFault, WordFault};
 use crate::words::{is_text, word_of};
 use crate::{Rect, Verb};
 use cube_view::Schema;
-use outer_io::decimal_of;
+use texts::decimal_of;
 
 /// How many bins there are.
 pub const BINS: u64 = 1 << 32;

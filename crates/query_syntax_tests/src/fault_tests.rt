@@ -5,7 +5,7 @@ use QueryFault::{
 };
 use cube_view::Schema;
 use example_schemas::schema_of_kinds;
-use outer_io::NoMemory;
+use texts::NoMemory;
 use query_syntax::{Parsed, QueryFault, parse};
 use std::alloc::Global;
 

@@ -2,7 +2,7 @@
 use crate::schemas::spaced_schema;
 use cube_view::{Schema, Tile};
 use example_schemas::schema_of_kinds;
-use outer_io::NoMemory;
+use texts::NoMemory;
 use query_syntax::{Choice, Parsed, Query, QueryFault, Span, ValueSet, Verb, parse};
 use std::alloc::Global;
 

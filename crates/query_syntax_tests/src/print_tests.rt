@@ -5,7 +5,7 @@ ghost use Rattle.query_syntax.specs.Queries.{is_valid_query};
 use crate::schemas::spaced_schema;
 use cube_view::Schema;
 use example_schemas::schema_of_kinds;
-use outer_io::NoMemory;
+use texts::NoMemory;
 use query_syntax::{Parsed, Query, parse, print};
 use std::alloc::Global;
 

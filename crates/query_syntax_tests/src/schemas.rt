@@ -2,7 +2,7 @@
 ghost use Rattle.std.specs.Prelude.{◌≡◌, ◌∷◌, [], IfOk, codes};
 
 use cube_view::{Category, Schema};
-use outer_io::{List, NoMemory, Text};
+use texts::{List, NoMemory, Text};
 use std::alloc::Global;
 
 /// The category of that name and of three values.

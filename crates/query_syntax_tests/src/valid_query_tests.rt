@@ -1,7 +1,7 @@
 //! Which queries a schema takes: those up to the ends of their ranges, and no further ones.
 use cube_view::Tile;
 use example_schemas::schema_of_kinds;
-use outer_io::NoMemory;
+use texts::NoMemory;
 use query_syntax::{Choice, Query, Rect, Span, ValueSet, Verb, is_valid_query};
 use std::alloc::Global;
 

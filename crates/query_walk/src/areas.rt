@@ -10,7 +10,7 @@ ghost use Rattle.query_walk.specs.Walks.{HasBox};
 use crate::region::region_cursor;
 use crate::tile::total_in_tile;
 use cube_view::{CubeView, Tile, quadrant};
-use outer_io::{List, NoMemory};
+use texts::{List, NoMemory};
 use probe_core::Steps;
 use query_syntax::{Query, RowOut, Verb};
 use std::alloc::Global;

@@ -8,8 +8,8 @@ use Rattle.cube_view.specs.Validity.{weight_is_told, sound}
 use Rattle.cube_view.specs.declared.schema.Schema.{Schema}
 use Rattle.feed_queue.specs.Journal.{number_text, entry_numbers, entry_text, entry_line, IsEntryOf, LinesArePrefixFree}
 use Rattle.feed_queue.proofs.EntryNumbers.{parts, numbers_small}
-use Rattle.outer_io.specs.Pieces.{NoFeed}
-use Rattle.outer_io.proofs.Feeds.{NoFeed-append}
+use Rattle.texts.specs.LineFeeds.{NoFeed}
+use Rattle.texts.proofs.LineFeeds.{NoFeed-append}
 use Rattle.world_core.specs.declared.entry.Entry.{Entry}
 use Rattle.recount.specs.Faults.{BeginsWithEntry}
 use Rattle.recount.proofs.LinesApart.{same_first, no_line}

@@ -2,7 +2,7 @@
 use Rattle.std.proofs.Common.{◌≡◌, ℕ, ◌+◌, eqb, eq-eqb, false, List, [], ◌∷◌, ◌++◌, length, take, refl, sym, ap, ◌∙◌, append_assoc, arith, length-append}
 use Rattle.std.proofs.Math.Seq.{take-append_seam}
 use Rattle.std.proofs.lemmas.Bool.{false≢true}
-use Rattle.outer_io.specs.Pieces.{NoFeed}
+use Rattle.texts.specs.LineFeeds.{NoFeed}
 
 not_feed : (c : ℕ) → 10 ≡ c → eqb c 10 ≡ false → ⊥
 not_feed c is never = false≢true (sym never ∙ eq-eqb c 10 (sym is))

@@ -2,7 +2,7 @@
 use Rattle.std.specs.Prelude.{◌≡◌, ℕ, ◌≤◌, max, Bool, true, false, List, [], ◌∷◌, ◌++◌, length, take, Some}
 use Rattle.cube_view.specs.Points.{Point}
 use Rattle.cube_view.specs.declared.schema.Schema.{Schema}
-use Rattle.outer_io.specs.Pieces.{NoFeed}
+use Rattle.texts.specs.LineFeeds.{NoFeed}
 use Rattle.plain_cube.specs.Kept.{points_of, schema_of}
 use Rattle.plain_cube.specs.Listed.{no_structure}
 use Rattle.plain_cube.specs.declared.cube.PlainCube.{PlainCube}

@@ -9,7 +9,8 @@ ghost use Rattle.query_syntax.specs.Meaning.{asks_valid};
 ghost use Rattle.session_core.specs.Asked.{asked, asks_reply, asks_to_end};
 
 use cube_view::Schema;
-use outer_io::{LineCutter, List, NoMemory, Source, StillSource};
+use outer_io::{LineCutter, Source, StillSource};
+use texts::{List, NoMemory};
 use query_syntax::{Parsed, Verb};
 use session_core::{SessionFault, next_asked};
 use std::alloc::Global;

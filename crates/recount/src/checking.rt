@@ -13,7 +13,7 @@ use crate::testing::{Audit, Tested, test_next};
 use crate::{Verdict, Why};
 use cube_view::{Point, Schema};
 use feed_queue::journal_laws;
-use outer_io::NoMemory;
+use texts::NoMemory;
 use plain_cube::PlainCube;
 use query_syntax::Parsed;
 use std::alloc::Global;

@@ -16,7 +16,7 @@ ghost use Rattle.session_core.specs.Transcript.{seen_in};
 
 use crate::replies::NextReply;
 use cube_view::{CubeView, Point, Stat};
-use outer_io::{List, NoMemory};
+use texts::{List, NoMemory};
 use plain_cube::PlainCube;
 use probe_core::Steps;
 use query_syntax::{Parsed, QueryFault, Verb};

@@ -7,7 +7,7 @@ ghost use Rattle.world_core.specs.declared.entry.Entry.{Entry};
 use crate::Why;
 use crate::entries::next_entry;
 use cube_view::{Point, Schema};
-use outer_io::NoMemory;
+use texts::NoMemory;
 use std::alloc::Global;
 use world_core::Entry;
 

@@ -1,6 +1,6 @@
 //! The lines of a text.
 ghost use Rattle.std.specs.Prelude.{◌≡◌, ◌==◌, position, IfSome, IfNone};
-ghost use Rattle.outer_io.specs.Pieces.{NoFeed};
+ghost use Rattle.texts.specs.LineFeeds.{NoFeed};
 ghost use Rattle.recount.specs.Comparing.{SplitsFirst};
 
 /// A line without its line feed, the same with it, and what follows it.

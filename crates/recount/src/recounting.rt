@@ -12,7 +12,8 @@ use crate::saying::say_verdict;
 use crate::texts::{Texts, read_texts};
 use crate::{Audit, RecountNames};
 use cube_schema::Plan;
-use outer_io::{NoMemory, Place, Sink};
+use outer_io::{Place, Sink};
+use texts::NoMemory;
 use run_files::{Stop, load_plan};
 use std::alloc::Global;
 

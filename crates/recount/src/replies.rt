@@ -5,7 +5,7 @@ ghost use Rattle.recount.specs.Faults.{BeginsWithReply};
 ghost use Rattle.reply_json.specs.declared.reply.Reply.{Reply};
 
 use crate::lines::first_line;
-use outer_io::NoMemory;
+use texts::NoMemory;
 use reply_json::{Reply, ReplyFault, read_reply};
 use std::alloc::Global;
 

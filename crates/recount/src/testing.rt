@@ -15,7 +15,7 @@ use crate::Why;
 use crate::comparing::is_answer;
 use crate::replies::{NextReply, next_reply};
 use cube_view::Point;
-use outer_io::NoMemory;
+use texts::NoMemory;
 use plain_cube::PlainCube;
 use query_syntax::Parsed;
 use reply_json::Reply;

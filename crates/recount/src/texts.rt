@@ -2,7 +2,8 @@
 ghost use Rattle.run_files.specs.Outside.{of_place};
 ghost use Rattle.recount.specs.AuditTexts.{ReadsText, ReadsTexts};
 
-use outer_io::{List, Place};
+use outer_io::Place;
+use texts::List;
 use run_files::{Stop, read_file};
 use std::alloc::Global;
 

@@ -3,7 +3,7 @@ ghost use Rattle.std.specs.Prelude.{◌≡◌, ◌++◌, IfOk, OnOk, string_byte
 ghost use Rattle.recount.specs.VerdictLines.{agree_line, verdict_line, without_line, why_text};
 
 use crate::{Verdict, Why};
-use outer_io::{List, NoMemory};
+use texts::{List, NoMemory};
 use std::alloc::{AllocError, Global};
 
 /// The name of a test.

@@ -14,7 +14,7 @@ use crate::Reply;
 use crate::plain::are_plain;
 use crate::put::{bytes_before, digits_before, item_before, put_number, put_text};
 use cube_view::{Stat, Tile};
-use outer_io::{List, NoMemory, Text, put, put_byte};
+use texts::{List, NoMemory, Text, put, put_byte};
 use query_syntax::{QueryFault, RowOut, Table};
 use std::alloc::Global;
 

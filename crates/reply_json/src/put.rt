@@ -5,7 +5,7 @@ ghost use Rattle.reply_json.specs.Types.{IsCount};
 
 use crate::plain::are_plain;
 use json::Writer;
-use outer_io::{NoMemory, put, put_byte};
+use texts::{NoMemory, put, put_byte};
 use std::mem::replace;
 
 /// Puts bytes, and a number in decimal.

@@ -14,7 +14,7 @@ use crate::printing::fault_name;
 use crate::rows::{rows_in, u32_of};
 use crate::{Reply, ReplyFault, is_valid_reply, print_reply};
 use cube_view::Stat;
-use outer_io::NoMemory;
+use texts::NoMemory;
 use query_syntax::{QueryFault, Table};
 use serde_json::Value;
 use std::alloc::Global;

@@ -5,7 +5,7 @@ ghost use Rattle.serde_json.specs.View.{view, items_view};
 ghost use Rattle.reply_json.specs.Reading.{number_in, number_under, area_of, pair_of, value_or_bin, row_in, rows_in};
 
 use cube_view::Tile;
-use outer_io::{List, NoMemory, Text};
+use texts::{List, NoMemory, Text};
 use query_syntax::RowOut;
 use serde_json::Value;
 use std::alloc::Global;

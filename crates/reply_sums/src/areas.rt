@@ -9,7 +9,7 @@ use crate::cursor::Cursor;
 use crate::fault::fault_of_great;
 use crate::totals::sum_totals;
 use cube_view::{Tile, quadrant};
-use outer_io::List;
+use texts::List;
 use query_syntax::RowOut;
 use std::alloc::Global;
 

@@ -11,7 +11,7 @@ ghost use Rattle.session_core.specs.Asked.{asked_reply};
 
 use cross_table::cross_answer;
 use cube_view::Schema;
-use outer_io::NoMemory;
+use texts::NoMemory;
 use plain_cube::PlainCube;
 use probe_core::Steps;
 use query_syntax::{Parsed, Query, Table, Verb, has_table};

@@ -1,7 +1,7 @@
 //! Why two replies have no sum.
 ghost use Rattle.std.specs.Prelude.{◌≡◌, if◌then◌else◌};
 
-use outer_io::NoMemory;
+use texts::NoMemory;
 
 /// Why two replies have no sum: they are not replies to what was asked that have rows of the same keys; a total or a
 /// number of points of their sum is 2^64 or more; or memory ran out.

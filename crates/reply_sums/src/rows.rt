@@ -7,7 +7,7 @@ ghost use Rattle.reply_sums.specs.Rows.{sum_row, sum_rows};
 use crate::SumFault;
 use crate::fault::fault_of_great;
 use crate::totals::sum_totals;
-use outer_io::{List, Text};
+use texts::{List, Text};
 use query_syntax::RowOut;
 use std::alloc::Global;
 

@@ -11,7 +11,7 @@ use crate::SumFault;
 use crate::areas::sum_areas;
 use crate::rows::sum_rows;
 use crate::totals::sum_totals;
-use outer_io::List;
+use texts::List;
 use query_syntax::{Parsed, Query, QueryFault, RowOut, Table, Verb};
 use reply_json::Reply;
 use std::alloc::Global;

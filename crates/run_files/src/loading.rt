@@ -10,7 +10,8 @@ ghost use Rattle.run_files.specs.Planned.{ReadsPlan};
 use crate::stop::read_end;
 use crate::{Stop, plan_refused};
 use cube_schema::{Plan, PlanFault, read_plan};
-use outer_io::{IoFault, List, NoMemory, Place, Sink, read_up_to};
+use outer_io::{IoFault, Place, Sink, read_up_to};
+use texts::{List, NoMemory};
 use std::alloc::Global;
 
 /// The most bytes of a plan.

@@ -9,7 +9,7 @@ use crate::lines::{push_feeds, push_scripts};
 use cube_schema::{Plan, PlanFault};
 use cube_view::Schema;
 use feed_reader::{FeedCounts, HeadFault};
-use outer_io::{List, NoMemory, Text};
+use texts::{List, NoMemory, Text};
 use std::alloc::{AllocError, Global};
 
 #[tactic(auto, unfolding(crate::specs::Lines::plan_line))]

@@ -11,7 +11,8 @@ ghost use Rattle.run_files.specs.Scripted.{AreScriptParts, AreScripts, IsOutput,
 use crate::giving_back::{give_back_cutters, give_back_sinks};
 use crate::{Stop, ended_after};
 use cube_schema::Plan;
-use outer_io::{IoFault, LineCutter, List, NoMemory, Place, Text};
+use outer_io::{IoFault, LineCutter, Place};
+use texts::{List, NoMemory, Text};
 use std::alloc::Global;
 
 /// The scripts of a run, cut into lines, and the sinks for their replies and for the journal.

@@ -4,7 +4,7 @@ use Rattle.std.specs.Prelude.{IsTrue, slice_get}
 use Rattle.cube_view.specs.declared.schema.Schema.{Schema}
 use Rattle.live_session.specs.News.{AsksOfEnds, EndsView, LearnsTold, asks_news}
 use Rattle.mailbox.specs.Ends.{OutEnd, and_taken, mail_out}
-use Rattle.outer_io.specs.Counts.{next_count}
+use Rattle.texts.specs.Counts.{next_count}
 use Rattle.published_pair.specs.Pair.{Sees}
 use Rattle.published_pair.specs.Rules.{Known, first_word_of}
 use Rattle.published_pair.specs.declared.told.Told.{Told}

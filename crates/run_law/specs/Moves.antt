@@ -10,8 +10,8 @@ use Rattle.feed_queue.specs.declared.item.Item.TheVariants.{One, End}
 use Rattle.live_session.specs.News.{IsLonger}
 use Rattle.mailbox.specs.Ends.{mail_in, mail_out, and_taken, lengths_of}
 use Rattle.mailbox.specs.Rule.{IsLastPut}
-use Rattle.outer_io.specs.Counts.{next_count}
-use Rattle.outer_io.specs.declared.fault.NoMemory.{NoMemory}
+use Rattle.texts.specs.Counts.{next_count}
+use Rattle.texts.specs.declared.no_memory.NoMemory.{NoMemory}
 use Rattle.published_pair.specs.Pair.{Sees, names}
 use Rattle.published_pair.specs.Rules.{Known}
 use Rattle.published_pair.specs.declared.names.Names.{Names}

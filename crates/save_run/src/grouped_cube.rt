@@ -6,7 +6,7 @@ ghost use Rattle.cube_view.specs.Validity.{sound};
 
 use cube_store::Cube;
 use cube_view::{Point, Schema};
-use outer_io::NoMemory;
+use texts::NoMemory;
 use std::alloc::Global;
 
 /// A cube, and the points that follow those that it counts. They are inserted as one group: where there are as many as the

@@ -8,7 +8,8 @@ use crate::taking::cube_of_feeds;
 use cube_store::Cube;
 use cube_view::Schema;
 use feed_reader::{FeedCounts, FeedJob};
-use outer_io::{CutFault, List, Place};
+use outer_io::{CutFault, Place};
+use texts::List;
 use run_files::{Stop, give_back_feeds, stop_of_cut};
 use std::alloc::Global;
 

@@ -13,7 +13,8 @@ use crate::tally::{Tally, take_row};
 use cube_store::Cube;
 use cube_view::Schema;
 use feed_reader::{FeedCounts, FeedJob, next_row};
-use outer_io::{CutFault, List, Source};
+use outer_io::{CutFault, Source};
+use texts::List;
 use std::alloc::Global;
 
 /// Reads the rows of all lines that the feed has left, takes the points among them behind the others, and counts the

@@ -8,7 +8,7 @@ ghost use Rattle.save_run.specs.Grouping.{GroupsTake, grouped_size};
 
 use crate::grouped_cube::GroupedCube;
 use feed_reader::{FeedCounts, FirstRefusals, Refusal, Row};
-use outer_io::NoMemory;
+use texts::NoMemory;
 use std::alloc::Global;
 
 /// Of the rows of a feed so far: how many were accepted, blank and refused, and which were refused first.

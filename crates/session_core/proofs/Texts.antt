@@ -5,7 +5,7 @@ use Rattle.std.specs.Prelude.{⊤}
 use Rattle.cube_view.specs.Points.{Point}
 use Rattle.cube_view.specs.declared.schema.Schema.{Schema}
 use Rattle.cube_view.specs.declared.stat.Stat.{Stat}
-use Rattle.outer_io.specs.Lines.{pieces}
+use Rattle.texts.specs.LineFeeds.{pieces}
 use Rattle.outer_io.proofs.LineLists.{pieces-piece}
 use Rattle.query_syntax.specs.declared.query.Parsed.{Parsed}
 use Rattle.session_core.specs.Asked.{reply_line}

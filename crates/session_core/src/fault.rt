@@ -1,7 +1,7 @@
 //! Why a script is not answered to its end.
 ghost use Rattle.std.specs.Prelude.{◌≡◌};
 
-use outer_io::NoMemory;
+use texts::NoMemory;
 
 /// Why a script is not answered to its end: its source or the sink of its replies failed, it has more than 2^30 bytes
 /// and no `quit` among its lines, or memory ran out.

@@ -15,7 +15,7 @@ ghost use Rattle.session_core.specs.Serving.{Serves, ServesOver, ServesWithin};
 
 use cross_table::{best_answer, cross_answer};
 use cube_view::CubeView;
-use outer_io::{List, NoMemory};
+use texts::{List, NoMemory};
 use probe_core::Steps;
 use query_syntax::{Parsed, Query, Table, Verb};
 use reply_json::{Reply, print_reply_in};

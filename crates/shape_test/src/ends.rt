@@ -13,7 +13,7 @@ use crate::children::first_child;
 use crate::counts::link_along;
 use crate::home::Move;
 use node_arena::{Arena, SlotId};
-use outer_io::NoMemory;
+use texts::NoMemory;
 use probe_core::Steps;
 use std::sync::ledger::Ledger;
 

@@ -14,7 +14,7 @@ use crate::size::size_fits;
 use crate::standing::slots_fit;
 use cube_view::Schema;
 use node_arena::Arena;
-use outer_io::{List, NoMemory};
+use texts::{List, NoMemory};
 use probe_core::Steps;
 use std::alloc::Global;
 use std::sync::ledger::Ledger;

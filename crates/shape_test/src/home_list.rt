@@ -3,7 +3,7 @@ ghost use Rattle.std.specs.Prelude.{◌≡◌, ◌<◌, ◌++◌, ◌∷◌, [],
 ghost use Rattle.shape_test.specs.Spans.{spanned, with_step, AreSpans};
 
 use crate::home::Move;
-use outer_io::NoMemory;
+use texts::NoMemory;
 use std::alloc::Global;
 use std::marker::Model;
 

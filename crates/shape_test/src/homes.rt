@@ -8,7 +8,7 @@ use crate::home_list::HomeList;
 use crate::owner::{Owner, owners_of};
 use cube_view::Schema;
 use node_arena::Arena;
-use outer_io::{List, NoMemory};
+use texts::{List, NoMemory};
 use probe_core::Steps;
 use std::alloc::Global;
 use std::sync::ledger::Ledger;

@@ -15,7 +15,7 @@ use crate::place::{Place, deepest, time_dim};
 use crate::rows::{Room, rows_merge};
 use cube_view::Schema;
 use node_arena::{Arena, SlotId};
-use outer_io::{List, NoMemory};
+use texts::{List, NoMemory};
 use probe_core::Steps;
 use std::sync::ledger::Ledger;
 

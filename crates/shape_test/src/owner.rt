@@ -7,7 +7,7 @@ ghost use Rattle.shape_test.specs.Owners.{AreOwners, Before, HasNoHomes, HasOwne
 use crate::children::first_child;
 use crate::home::Move;
 use node_arena::{Arena, Link, SlotId};
-use outer_io::NoMemory;
+use texts::NoMemory;
 use probe_core::Steps;
 use std::alloc::Global;
 use std::sync::ledger::Ledger;

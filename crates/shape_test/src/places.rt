@@ -10,7 +10,7 @@ use crate::owner::Owner;
 use crate::place::{Place, next_place, place_of};
 use cube_view::Schema;
 use node_arena::Arena;
-use outer_io::{List, NoMemory};
+use texts::{List, NoMemory};
 use std::alloc::Global;
 
 /// Where a slot's home stands: a step from the place of its owner's, where that is known.

@@ -6,7 +6,7 @@ ghost use Rattle.shape_test.specs.Ends.{end_count, ends_count, IsEndIn, AreEnds}
 ghost use Rattle.shape_test.specs.Remainder.{AreOrderly, FitIn, IsRemainder, row_key, end_rows, slot_rows};
 
 use node_arena::{Arena, SlotId};
-use outer_io::NoMemory;
+use texts::NoMemory;
 use probe_core::Steps;
 use std::sync::ledger::Ledger;
 

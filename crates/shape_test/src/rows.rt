@@ -11,7 +11,7 @@ use crate::ends::{content_end, part_ends};
 use crate::home::Move;
 use crate::remainder::ends_merge;
 use node_arena::{Arena, SlotId};
-use outer_io::NoMemory;
+use texts::NoMemory;
 use probe_core::Steps;
 use std::alloc::Global;
 use std::sync::ledger::Ledger;

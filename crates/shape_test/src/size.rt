@@ -20,7 +20,7 @@ use crate::place::{Place, deepest, place_of, time_dim};
 use crate::rows::first_row;
 use cube_view::Schema;
 use node_arena::{Arena, SlotId};
-use outer_io::List;
+use texts::List;
 use probe_core::Steps;
 use std::sync::ledger::Ledger;
 use time_table::TimeTable;

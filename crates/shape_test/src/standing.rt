@@ -20,7 +20,7 @@ use crate::rows::Room;
 use crate::sharing::shares_only;
 use cube_view::Schema;
 use node_arena::{Arena, SlotId};
-use outer_io::{List, NoMemory};
+use texts::{List, NoMemory};
 use probe_core::Steps;
 use std::alloc::Global;
 use std::sync::ledger::Ledger;

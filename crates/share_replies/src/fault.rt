@@ -1,7 +1,7 @@
 //! Why a share's replies are not added.
 ghost use Rattle.std.specs.Prelude.{◌≡◌};
 
-use outer_io::NoMemory;
+use texts::NoMemory;
 use run_files::Stop;
 
 /// What is wrong with a reply of a share: there are fewer lines than replies were asked for, or more, the line is no

@@ -6,7 +6,7 @@ ghost use Rattle.share_replies.specs.Sums.{IsSumOver, SumsOver};
 
 use crate::summed::Summed;
 use cube_view::Schema;
-use outer_io::{List, NoMemory};
+use texts::{List, NoMemory};
 use query_syntax::Parsed;
 use reply_sums::{adds_up, reply_over_none};
 use std::alloc::Global;

@@ -9,7 +9,7 @@ ghost use Rattle.share_replies.specs.declared.fault.WrongReply.{WrongReply};
 
 use crate::fault::{LineFault, WrongReply};
 use crate::summed::Summed;
-use outer_io::NoMemory;
+use texts::NoMemory;
 use query_syntax::{Parsed, Verb};
 use recount::next_reply;
 use reply_json::Reply;

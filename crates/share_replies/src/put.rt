@@ -16,7 +16,8 @@ ghost use Rattle.share_replies.specs.Sums.{IsSumOver, SumsOver};
 ghost use Rattle.share_replies.specs.Texts.{IsLineOver, PutsSumLine, PutsSums, not_additive_line, total_line, totals_text};
 
 use crate::summed::Summed;
-use outer_io::{IoFault, List, NoMemory, Sink};
+use outer_io::{IoFault, Sink};
+use texts::{List, NoMemory};
 use reply_json::{Reply, print_reply};
 use run_files::Stop;
 use std::alloc::Global;

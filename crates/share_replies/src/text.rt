@@ -9,7 +9,7 @@ ghost use Rattle.share_replies.specs.declared.fault.WrongReply.{WrongReply};
 use crate::fault::{LineFault, TextFault, WrongReply};
 use crate::line::{Added, add_next};
 use crate::summed::Summed;
-use outer_io::List;
+use texts::List;
 use query_syntax::Parsed;
 use std::alloc::Global;
 

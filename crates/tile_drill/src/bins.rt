@@ -9,7 +9,7 @@ ghost use Rattle.tile_drill.specs.Series.{AreRowTotals, HasSeriesRoom};
 
 use crate::sums::{Series, add_from};
 use cube_view::CubeView;
-use outer_io::{List, NoMemory};
+use texts::{List, NoMemory};
 use probe_core::Steps;
 use query_syntax::{Query, RowOut, Verb};
 use query_walk::region_cursor;

@@ -9,7 +9,7 @@ ghost use Rattle.tile_drill.specs.Costs.{table_cost};
 use crate::bins::bins_rows;
 use crate::values::value_rows;
 use cube_view::CubeView;
-use outer_io::{List, NoMemory};
+use texts::{List, NoMemory};
 use probe_core::Steps;
 use query_syntax::{Query, RowOut, Table, Verb};
 use query_walk::{area_rows, total};

@@ -7,7 +7,7 @@ use crate::form::Split;
 use crate::row::Row;
 use crate::rows::totals_of;
 use crate::split::{put_block, reserve_block};
-use outer_io::NoMemory;
+use texts::NoMemory;
 use probe_core::Rows;
 use std::alloc::Global;
 

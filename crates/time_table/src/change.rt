@@ -5,7 +5,7 @@ ghost use Rattle.time_table.specs.Places.{with_row, without_spent, added, taken,
 
 use crate::place::{BinPlace, place_of};
 use crate::row::Row;
-use outer_io::NoMemory;
+use texts::NoMemory;
 use probe_core::{Rows, Steps};
 use std::sync::ledger::Ledger;
 

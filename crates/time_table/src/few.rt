@@ -7,7 +7,7 @@ ghost use Rattle.time_table.specs.Fews.{few_rows, below_from};
 ghost use Rattle.time_table.specs.Series.{each_before};
 
 use crate::row::{Row, ThinRow};
-use outer_io::NoMemory;
+use texts::NoMemory;
 use probe_core::{Rows, Steps};
 use std::alloc::Global;
 use std::sync::ledger::Ledger;

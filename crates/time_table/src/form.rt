@@ -19,7 +19,7 @@ use crate::series::{are_few, digits, pass_blocks, pass_single};
 use crate::split::{
     add_in, before_in, copy_blocks, next_row_in, put_block, reserve_block, take_in,
 };
-use outer_io::NoMemory;
+use texts::NoMemory;
 use probe_core::{Rows, Steps};
 use std::alloc::Global;
 use std::mem::replace;

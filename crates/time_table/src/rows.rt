@@ -10,7 +10,7 @@ use crate::blocks_of::split_of;
 use crate::few::Few;
 use crate::form::{Form, boxed};
 use crate::row::{Row, ThinRow};
-use outer_io::NoMemory;
+use texts::NoMemory;
 use probe_core::{Rows, Steps};
 use std::alloc::Global;
 use std::sync::ledger::Ledger;

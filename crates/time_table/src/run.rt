@@ -6,7 +6,7 @@ ghost use Rattle.time_table.specs.Places.{PutsLesser, added_run, new_row};
 ghost use Rattle.time_table.specs.Forms.{IsSingle};
 
 use crate::row::Row;
-use outer_io::NoMemory;
+use texts::NoMemory;
 use probe_core::{Rows, Steps};
 use std::alloc::Global;
 use std::sync::ledger::Ledger;

@@ -11,7 +11,7 @@ use crate::change::{add_record, lower, raise, take_record};
 use crate::pair::{level, put_row};
 use crate::place::{next_in, place_of};
 use crate::row::Row;
-use outer_io::NoMemory;
+use texts::NoMemory;
 use probe_core::{Rows, Steps};
 use std::alloc::Global;
 use std::sync::ledger::Ledger;

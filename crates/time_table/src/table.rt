@@ -10,7 +10,7 @@ ghost use Rattle.time_table.specs.Series.{each_before, each_cost};
 use crate::few::Few;
 use crate::form::Form;
 use crate::rows::{form_len, form_of, is_bare, put_form};
-use outer_io::NoMemory;
+use texts::NoMemory;
 use probe_core::Steps;
 use std::alloc::Global;
 use std::marker::{Brand, Model};

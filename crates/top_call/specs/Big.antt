@@ -4,7 +4,7 @@ use Rattle.big_run.specs.Ends.{BigEnds}
 use Rattle.top_call.specs.Statuses.{status_of_end}
 use Rattle.top_call.specs.declared.status.Status.{Status}
 use Rattle.cube_view.specs.Limits.{same_text}
-use Rattle.outer_io.specs.Decimals.{decimal_value}
+use Rattle.texts.specs.Decimals.{decimal_value}
 use Rattle.run_files.specs.Outside.{SinkSeen}
 use Rattle.run_files.specs.declared.stop.Stop.{Stop}
 

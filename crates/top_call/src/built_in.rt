@@ -3,7 +3,7 @@ ghost use Rattle.std.specs.Prelude.{◌≡◌, IfOk, [], ◌∷◌, codes};
 ghost use Rattle.top_call.specs.BuiltIn.{built_in, kind};
 
 use cube_view::{Category, Schema};
-use outer_io::{List, NoMemory, Text};
+use texts::{List, NoMemory, Text};
 use std::alloc::Global;
 
 /// A list of two items.

@@ -11,7 +11,8 @@ use crate::built_in::built_in_schema;
 use crate::demo::loading::load;
 use cube_store::Cube;
 use cube_view::CubeView;
-use outer_io::{NoMemory, Place, Sink};
+use outer_io::{Place, Sink};
+use texts::NoMemory;
 use run_files::{Stop, answer_file};
 use std::alloc::Global;
 

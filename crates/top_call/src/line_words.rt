@@ -12,7 +12,7 @@ ghost use Rattle.top_call.specs.Save.{save_names};
 
 use cube_view::is_same_text;
 use image_run::LoadNames;
-use outer_io::decimal_of;
+use texts::decimal_of;
 use recount::RecountNames;
 
 /// The most rows of a generated feed.

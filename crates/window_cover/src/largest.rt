@@ -6,7 +6,7 @@ ghost use Rattle.window_cover.specs.Ways.{cover_inside};
 
 use crate::rect::{crosses, has_tile};
 use cube_view::{Schema, Tile, quadrant};
-use outer_io::{List, NoMemory};
+use texts::{List, NoMemory};
 use query_syntax::Rect;
 use std::alloc::Global;
 

@@ -16,7 +16,7 @@ ghost use Rattle.window_cover.specs.Windows.{rect_of_verb};
 
 use crate::rect::{crosses, has_tile};
 use cube_view::{CubeView, Tile, quadrant};
-use outer_io::{List, NoMemory};
+use texts::{List, NoMemory};
 use probe_core::Steps;
 use query_syntax::{Query, Rect, RowOut, Table, Verb};
 use query_walk::total_in_tile;

@@ -1,6 +1,6 @@
 //! Texts of cases as bytes.
 use anyhow::{Result, bail};
-use outer_io::List;
+use texts::List;
 use std::alloc::Global;
 
 /// The number that the text writes.

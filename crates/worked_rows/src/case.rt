@@ -4,7 +4,7 @@ use crate::draft::Draft;
 use crate::files::{Files, run};
 use crate::line::Line;
 use anyhow::{Result, bail};
-use outer_io::List;
+use texts::List;
 use std::alloc::Global;
 use std::mem;
 use std::sync::Wait;

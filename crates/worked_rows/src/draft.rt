@@ -1,7 +1,7 @@
 //! A file of a case before it is put into its place.
 use crate::bytes::{add_bytes, number_of, numbers_of};
 use anyhow::{Result, bail};
-use outer_io::List;
+use texts::List;
 use std::alloc::Global;
 
 /// How many bytes a read gives at most, where a case says nothing else.

@@ -3,7 +3,8 @@ ghost use Rattle.std.specs.Prelude.{◌≢◌};
 
 use crate::draft::Draft;
 use anyhow::{Result, bail};
-use outer_io::{List, MemPlace, MemSink, NoMemory, StillPlace, StillSink};
+use outer_io::{MemPlace, MemSink, StillPlace, StillSink};
+use texts::{List, NoMemory};
 use std::alloc::Global;
 use std::sync::Wait;
 use std::thread::Threads;

@@ -11,7 +11,7 @@ ghost use Rattle.world_core.specs.Worlds.{KeepsOrder};
 
 use crate::{Entry, Event, Shot, World};
 use cube_view::{Point, Schema};
-use outer_io::{List, NoMemory};
+use texts::{List, NoMemory};
 use query_syntax::{Query, is_drill, is_valid_query, table_of};
 use std::alloc::Global;
 use std::collections::VecDeque;

@@ -7,7 +7,7 @@ ghost use Rattle.world_core.specs.Worlds.{KeepsOrder, LooksAreFresh};
 use crate::machine::Machine;
 use crate::{Event, World};
 use cube_view::{Point, Schema};
-use outer_io::{List, NoMemory};
+use texts::{List, NoMemory};
 use std::alloc::Global;
 
 /// The world that the events make of the feeds, where the queue has so much room and there are so many

@@ -2,7 +2,7 @@
 
 use crate::Entry;
 use cube_view::Point;
-use outer_io::List;
+use texts::List;
 use query_syntax::Table;
 
 /// What a look gave: the session, from 0, and the table of its query.

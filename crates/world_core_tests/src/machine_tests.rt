@@ -5,7 +5,7 @@ ghost use Rattle.cube_view.specs.Validity.{valid};
 
 use cube_view::{Point, Schema, Tile, is_valid};
 use example_schemas::{point, schema_of_kinds};
-use outer_io::{List, NoMemory};
+use texts::{List, NoMemory};
 use query_syntax::{Choice, Query, Rect, RowOut, Span, ValueSet, Verb};
 use std::alloc::Global;
 use std::process::Abort;

@@ -4,7 +4,7 @@ ghost use Rattle.std.specs.Prelude.{◌<◌};
 use crate::machine_tests::{CountShot, Plan, are_shots, count, counted, entry, query, world_of};
 use cube_view::{Point, Tile};
 use example_schemas::point;
-use outer_io::{List, NoMemory};
+use texts::{List, NoMemory};
 use query_syntax::{Query, Verb};
 use std::alloc::Global;
 use std::process::Abort;

@@ -11,7 +11,7 @@ use crate::children::Children;
 use crate::link::{Link, SlotId};
 use crate::packed::Content;
 use crate::slot::Stored;
-use outer_io::NoMemory;
+use texts::NoMemory;
 use time_table::TimeTable;
 
 impl Arena {

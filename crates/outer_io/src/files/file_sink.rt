@@ -1,12 +1,12 @@
 //! A sink over a writer of the system.
 ghost use Rattle.std.specs.Prelude.{◌≡◌, OnErr, IsOkUnless};
-ghost use Rattle.outer_io.specs.Counts.{next_count};
+ghost use Rattle.texts.specs.Counts.{next_count};
 ghost use Rattle.outer_io.specs.Faults.{HasCause};
 
-use crate::count::next_count;
-use crate::{IoFault, Sink, Text};
+use crate::{IoFault, Sink};
 use std::io::Write;
 use std::marker::Model;
+use texts::{Text, next_count};
 
 /// A file or another writer, of whose bytes nothing is told. Contracts see its name and its count of faults.
 #[derive(Drop)]

@@ -1,7 +1,7 @@
 use Rattle.std.proofs.Common.{◌∷◌, ◌++◌, ◌+◌, ◌-◌, ◌≤◌, length, take, drop, sym, ap, ◌∙◌, arith, length-drop}
 use Rattle.std.proofs.lemmas.List.{take_all, length-take-le}
-use Rattle.outer_io.specs.Pieces.{NoFeed}
-use Rattle.outer_io.proofs.Feeds.{first_feed-None, first_feed-Some}
+use Rattle.texts.specs.LineFeeds.{NoFeed}
+use Rattle.texts.proofs.LineFeeds.{first_feed-None, first_feed-Some}
 use Rattle.feed_queue.proofs.ByteByByte.{if_none}
 use Rattle.recount.proofs.LinesApart.{whole_line}
 use Rattle.recount.proofs.lines.first_line.Goals as goal

@@ -1,7 +1,7 @@
 -- Texts as they are stored.
 use Rattle.std.specs.Prelude.{ℕ, List, string_bytes}
-use Rattle.outer_io.specs.declared.text.Form.{Form}
-use Rattle.outer_io.specs.declared.text.Form.TheVariants.{Short, Long}
+use Rattle.texts.specs.declared.text.Form.{Form}
+use Rattle.texts.specs.declared.text.Form.TheVariants.{Short, Long}
 
 -- the bytes of a text, wherever they stand
 abbrev pub form_bytes : Form → List ℕ

@@ -1,0 +1,4 @@
+pub mod Counts
+pub mod Decimals
+pub mod LineFeeds
+pub mod Texts
