@@ -11,11 +11,11 @@ ghost use Rattle.arena_undo.specs.Worked.{begun, changed, changed_by};
 use crate::change::{Change, note, note_run, take_change_back};
 use cube_view::Stat;
 use node_arena::{Arena, Link, SlotId};
-use texts::NoMemory;
 use probe_core::Steps;
 use std::alloc::Global;
 use std::marker::Model;
 use std::sync::ledger::Ledger;
+use texts::NoMemory;
 use time_table::TimeTable;
 
 /// An arena, and a trail of the changes that were made on it, with room for a number of them.

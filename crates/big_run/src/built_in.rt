@@ -5,8 +5,8 @@ ghost use Rattle.cube_view.specs.Bag.{Counts};
 
 use cube_store::Cube;
 use cube_view::{Category, CubeView, Schema};
-use texts::{List, NoMemory, Text};
 use std::alloc::Global;
+use texts::{List, NoMemory, Text};
 
 /// The values of the category.
 fn letters(alloc: Global) -> Result<List<Text>, NoMemory>

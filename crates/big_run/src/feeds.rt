@@ -8,8 +8,8 @@ use cube_view::Schema;
 use feed_maker::GenSource;
 use feed_reader::{FeedJob, NoHeader, read_header};
 use outer_io::LineCutter;
-use texts::{List, NoMemory};
 use std::alloc::Global;
+use texts::{List, NoMemory};
 
 /// The job of the generated feed of so many rows from a state.
 fn feed_of(
@@ -93,9 +93,7 @@ pub(crate) fn feeds_of(
     requires rows { rows ≤ 100000 }
     ensures { IfOk result (AreFeeds rows) }
 {
-    let Ok(mut feeds) = Vec::with_capacity(alloc, 2) else {
-        return Err(NoMemory);
-    };
+    let mut feeds = Vec::with_capacity(alloc, 2)?;
     match add_both(alloc, schema, rows, &mut feeds) {
         Ok(()) => Ok(List::from_vec(feeds)),
         Err(NoMemory) => {

@@ -10,8 +10,8 @@ use crate::source::RunSource;
 use cube_crew::Jobs;
 use live_session::Session;
 use outer_io::StillSink;
-use texts::{List, NoMemory};
 use std::alloc::Global;
+use texts::{List, NoMemory};
 
 /// The script of the session beside the feeds.
 const ASK: &[u8] = b"count\ntold\ncount\n";

@@ -9,9 +9,9 @@ use cube_crew::Crewed;
 use feed_reader::FeedCounts;
 use live_session::SessionDone;
 use outer_io::StillSink;
-use texts::{List, NoMemory};
 use run_files::push_counts;
 use std::alloc::{AllocError, Global};
+use texts::{List, NoMemory};
 
 /// The lines of the two feeds, and then the replies.
 fn parts_text(
@@ -108,8 +108,6 @@ pub(crate) fn print_run(
     if starved {
         return Err(NoMemory);
     }
-    match parts_text(alloc, &first, &second, sink.bytes()) {
-        Ok(text) => Ok(List::from_vec(text)),
-        Err(_) => Err(NoMemory),
-    }
+    let text = parts_text(alloc, &first, &second, sink.bytes())?;
+    Ok(List::from_vec(text))
 }

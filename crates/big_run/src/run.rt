@@ -9,11 +9,11 @@ use crate::jobs::{jobs_of, let_go};
 use crate::printing::print_run;
 use cube_crew::run_crew;
 use outer_io::Sink;
-use texts::{List, NoMemory};
 use run_files::{Stop, put_text};
 use std::alloc::Global;
 use std::sync::Wait;
 use std::thread::Threads;
+use texts::{List, NoMemory};
 use world_core::interleaving_laws;
 
 /// What a run with feeds of so many rows prints.
@@ -49,8 +49,6 @@ pub fn run_big<R: Threads + Wait + Sync, O: Sink>(
     requires { rows ≤ 100000 }
     ensures { BigEnds (of_sink O.Sink) out.old out.new rows result }
 {
-    let Ok(text) = big_text(rt, alloc, rows) else {
-        return Err(Stop::NoMemory);
-    };
+    let text = big_text(rt, alloc, rows)?;
     put_text(text.as_slice(), out)
 }

@@ -5,8 +5,8 @@ ghost use Rattle.big_run.specs.Parts.{script_session};
 use crate::source::RunSource;
 use live_session::Session;
 use outer_io::{LineCutter, StillSink, StillSource};
-use texts::{List, NoMemory};
 use std::alloc::Global;
+use texts::{List, NoMemory};
 
 /// How many bytes of a script are given at a time.
 const PIECE: usize = 4096;
@@ -15,9 +15,7 @@ const PIECE: usize = 4096;
 fn session_of(alloc: Global, script: &[u8]) -> Result<Session<RunSource, StillSink>, NoMemory>
     ensures { IfOk result (λ session. session ≡ script_session script.now) }
 {
-    let Ok(bytes) = Vec::from_slice(alloc, script) else {
-        return Err(NoMemory);
-    };
+    let bytes = Vec::from_slice(alloc, script)?;
     let source = RunSource::Held(StillSource::new(List::from_vec(bytes), PIECE));
     match LineCutter::new(alloc, source) {
         Ok(cutter) => Ok(Session::new(alloc, cutter, StillSink::new(alloc))),
@@ -32,9 +30,7 @@ pub(crate) fn one_session(
 ) -> Result<List<Session<RunSource, StillSink>>, NoMemory>
     ensures { IfOk result (λ sessions. sessions ≡ script_session script.now ∷ []) }
 {
-    let Ok(mut sessions) = Vec::with_capacity(alloc, 1) else {
-        return Err(NoMemory);
-    };
+    let mut sessions = Vec::with_capacity(alloc, 1)?;
     match session_of(alloc, script) {
         Ok(session) => {
             sessions.push_reserved(session);

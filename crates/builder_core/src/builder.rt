@@ -13,11 +13,11 @@ use crate::taken::Taken;
 use cube_view::Grow;
 use feed_queue::Item;
 use ghost_values::GhostList;
-use texts::{List, NoMemory};
 use published_pair::{GivenUp, Last, Of, Pairing, Publisher, Rested, Told};
 use std::alloc::Global;
 use std::marker::Model;
 use std::sync::Wait;
+use texts::{List, NoMemory};
 use world_core::Entry;
 
 /// The builder of a pairing. Contracts see the items that it has taken, its journal, what is pending, whether it is spent,

@@ -6,10 +6,10 @@ ghost use Rattle.world_core.specs.Interleaving.{entry_points};
 ghost use Rattle.world_core.specs.PairFact.{IsPrefix};
 
 use cube_view::Grow;
-use texts::{List, NoMemory};
 use published_pair::{GivenUp, Last, Of, Pairing, Publisher, PublisherOf, Rested};
 use std::alloc::Global;
 use std::sync::Wait;
+use texts::{List, NoMemory};
 use world_core::Entry;
 
 /// A publisher with the entry of each point that was appended to it. Those in front are published.
@@ -32,9 +32,7 @@ impl<V: Grow> EntryPublisherOf<Of<V>> {
         ensures published { (self.new.published ≡ self.old.published) × (self.new.publisher.published ≡ self.old.publisher.published) }
         ensures pair { (self.new.publisher.schema ≡ self.old.publisher.schema) × (self.new.publisher.viewers ≡ self.old.publisher.viewers) }
     {
-        let Ok(()) = self.entries.reserve(1) else {
-            return Err(NoMemory);
-        };
+        self.entries.reserve(1)?;
         self.publisher.append(entry.point)?;
         match self.entries.push(entry) {
             Ok(()) => Ok(()),

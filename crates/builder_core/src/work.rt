@@ -12,10 +12,10 @@ use crate::telling::tell_all;
 use cube_view::Grow;
 use feed_queue::DrawEnd;
 use mailbox::MailIn;
-use texts::{List, NoMemory};
 use published_pair::{Of, Pairing};
 use std::marker::Model;
 use std::sync::Wait;
+use texts::{List, NoMemory};
 
 /// A builder with the end that draws for it and the mailboxes that it tells. Contracts see each of them.
 pub struct BuilderWorkOf<K: Pairing> {

@@ -8,13 +8,13 @@ ghost use Rattle.query_syntax.specs.Tables.{table};
 ghost use Rattle.query_walk.specs.Views.{EachListOf, TakesUpTo};
 
 use cube_view::CubeView;
-use texts::{List, NoMemory};
 use probe_core::Steps;
 use query_syntax::{Query, RowOut, Table, Verb};
 use query_walk::area_rows;
 use std::alloc::Global;
 use std::cmp::Reverse;
 use std::sync::ledger::Ledger;
+use texts::{List, NoMemory};
 
 /// The total of a row.
 fn row_weight(row: &RowOut) -> u64

@@ -17,12 +17,12 @@ ghost use Rattle.query_walk.specs.Views.{EachListOf, TakesUpTo};
 ghost use Rattle.query_walk.specs.Walks.{HasBox, HasWalked};
 
 use cube_view::{CubeView, Schema};
-use texts::{List, NoMemory, Text};
 use probe_core::Steps;
 use query_syntax::{Query, RowOut, Table, Verb};
 use query_walk::{region_cursor, value_total};
 use std::alloc::Global;
 use std::sync::ledger::Ledger;
+use texts::{List, NoMemory, Text};
 
 /// A value of a category, each by its number from 0.
 #[derive(Clone, Copy)]

@@ -6,7 +6,6 @@ ghost use Rattle.probe_core.specs.Blanks.{IsBlankOf};
 use cube_store::Cube;
 use cube_view::{CubeView, Grow, Point, Schema, Spot, Tile, is_sound};
 use example_schemas::{point, schema_of_kinds, schema_of_two_categories, tile};
-use texts::NoMemory;
 use plain_cube::PlainCube;
 use probe_core::Steps;
 use query_walk::region_cursor;
@@ -15,6 +14,7 @@ use std::marker::Brand;
 use std::process::Abort;
 use std::sync::ledger::{Blank, Ledger};
 use std::test::Fail;
+use texts::NoMemory;
 
 // The tile of that number: they are counted level by level from all of space on.
 fn tile_of(number: u32) -> Tile

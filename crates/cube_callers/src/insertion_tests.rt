@@ -5,10 +5,10 @@ ghost use Rattle.example_schemas.specs.Examples.{named_category};
 use cube_store::Cube;
 use cube_view::{Category, CubeView, Point, Schema, Spot, Stat, are_sound, is_sound};
 use example_schemas::{point, schema_of_kinds, schema_of_two_categories};
-use texts::{List, NoMemory, Text};
 use std::alloc::Global;
 use std::process::Abort;
 use std::test::Fail;
+use texts::{List, NoMemory, Text};
 
 /// A point, and the numbers of nodes, proper links, shared links and tables after it.
 #[derive(Clone, Copy)]

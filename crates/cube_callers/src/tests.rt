@@ -9,7 +9,6 @@ ghost use Rattle.cube_callers.specs.Records.{HasBinsUnder, IsFew, count_of_a};
 use cube_store::{Cube, cost_laws};
 use cube_view::{CubeView, Grow, Point, Tile, is_sound};
 use example_schemas::{point, schema_of_kinds};
-use texts::NoMemory;
 use probe_core::Steps;
 use query_syntax::{Choice, Query, Span, Verb};
 use query_walk::total;
@@ -18,6 +17,7 @@ use std::marker::Brand;
 use std::process::Abort;
 use std::sync::ledger::{Blank, Ledger};
 use std::test::Fail;
+use texts::NoMemory;
 
 /// The record that a number draws, whose bin is under `spread`. If that is 1 there is one such record.
 fn record_of(drawn: u32, spread: u32) -> Point

@@ -10,11 +10,11 @@ use crate::starving::has_starved_session;
 use cube_view::Grow;
 use live_session::{SessionDone, SessionWork};
 use outer_io::{Sink, Source};
-use texts::List;
 use published_pair::{Last, Rested};
 use std::alloc::Global;
 use std::sync::Wait;
 use std::thread::Threads;
+use texts::List;
 
 /// What the sessions of a run leave, and whether a final found no memory.
 pub(crate) struct Answered<I, O> {

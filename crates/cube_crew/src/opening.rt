@@ -8,10 +8,10 @@ use cube_view::{Grow, Schema};
 use feed_queue::{DrawEnd, FeedEnd, open_lane};
 use feed_reader::FirstRefusals;
 use mailbox::{MailIn, MailOut, open_mail};
-use texts::{List, NoMemory};
 use published_pair::{Publisher, Viewer, open};
 use std::alloc::Global;
 use std::sync::Wait;
+use texts::{List, NoMemory};
 
 /// How many items the lane has room for.
 const ROOM: usize = 1024;
@@ -38,10 +38,7 @@ fn open_mails<V: Grow>(
     for _ in 0..sessions {
         let (put, take) = open_mail(alloc, publisher)?;
         ins.add(put)?;
-        match outs.push(take) {
-            Ok(()) => {}
-            Err(_) => return Err(NoMemory),
-        }
+        outs.push(take)?;
     }
     Ok((ins, outs))
 }

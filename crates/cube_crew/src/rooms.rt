@@ -3,8 +3,8 @@ ghost use Rattle.std.specs.Prelude.{◌≡◌, ◌≤◌, [], All, IfOk, OnOk, v
 
 use feed_queue::Ended;
 use feed_reader::FirstRefusals;
-use texts::NoMemory;
 use std::alloc::{AllocError, Global};
+use texts::NoMemory;
 
 /// Empty lists: of feeders' works, of what feeds give back, of sessions' works and of what sessions give back. They name no
 /// view, source or sink, so that their proofs are short.
@@ -86,10 +86,7 @@ pub(crate) fn first_refusals(alloc: Global, feeds: usize) -> Result<Vec<FirstRef
     let mut firsts = Vec::new(alloc);
     for _ in 0..feeds {
         let first = FirstRefusals::new(alloc)?;
-        match firsts.push(first) {
-            Ok(()) => {}
-            Err(_) => return Err(NoMemory),
-        }
+        firsts.push(first)?;
     }
     Ok(firsts)
 }

@@ -20,11 +20,11 @@ use cube_view::Grow;
 use feed_queue::Ended;
 use live_session::{SessionDone, SessionWork, transcript_laws};
 use outer_io::{Sink, Source};
-use texts::{List, NoMemory};
 use published_pair::{Publisher, Viewer};
 use std::alloc::Global;
 use std::sync::Wait;
 use std::thread::Threads;
+use texts::{List, NoMemory};
 
 /// Runs the feeders, the builder and the asks side by side, and then the finals. Where what a run opens or gives back finds
 /// no memory, the jobs come back as they were, and nothing was read or written.

@@ -31,10 +31,8 @@ pub fn make_room(
         return Ok(());
     }
     let ahead = look_ahead(arena, places, at);
-    match out.try_reserve(14 * AHEAD + 8 * ahead.contents + 12 * ahead.tables) {
-        Ok(()) => Ok(()),
-        Err(_) => Err(NoMemory),
-    }
+    out.try_reserve(14 * AHEAD + 8 * ahead.contents + 12 * ahead.tables)?;
+    Ok(())
 }
 
 /// Looks before each 32nd slot of an order that is being made at the next 32, as far as they are known, and makes room for

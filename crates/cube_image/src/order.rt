@@ -8,10 +8,10 @@ ghost use Rattle.cube_image.specs.Rest.{told_children};
 use crate::ahead::make_place;
 use crate::children::child_count;
 use node_arena::{Arena, Link, SlotId};
-use texts::{List, NoMemory};
 use probe_core::Steps;
 use std::alloc::Global;
 use std::sync::ledger::Ledger;
+use texts::{List, NoMemory};
 
 /// The slots in an image's order, and the place of each slot in it.
 #[derive(Drop)]
@@ -115,9 +115,7 @@ fn numbers_of(alloc: Global, places: &[u32], n: usize) -> Result<Vec<usize>, NoM
     ensures numbers { IfOk result (λ numbers. AreNumbers places.now numbers.items) }
     ensures all { IfOk result (λ numbers. length numbers.items ≡ n) }
 {
-    let Ok(mut numbers) = vec![in alloc; places.len(); n] else {
-        return Err(NoMemory);
-    };
+    let mut numbers = vec![in alloc; places.len(); n]?;
     let mut at = places.len();
     while at > 0 {
         at -= 1;

@@ -15,10 +15,10 @@ use crate::fault::SaveFault;
 use crate::order::Order;
 use crate::rows::read_rows;
 use node_arena::{Arena, Link, SlotId};
-use texts::{NoMemory, put_byte};
 use probe_core::Steps;
 use std::alloc::Global;
 use std::sync::ledger::Ledger;
+use texts::{NoMemory, put_byte};
 use time_table::TimeTable;
 
 /// The most bytes that an image has.

@@ -2,9 +2,9 @@
 ghost use Rattle.std.specs.Prelude.{◌≡◌, ◌≤◌, ◌^◌, length, OnOk};
 ghost use Rattle.cube_image.specs.Rest.{word_rows};
 
-use texts::NoMemory;
 use probe_core::Steps;
 use std::sync::ledger::Ledger;
+use texts::NoMemory;
 use time_table::TimeTable;
 
 /// The rows of a time table in rising order of bin, in place of what a list had: at most 2^32. The bin that it reads

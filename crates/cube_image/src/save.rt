@@ -11,11 +11,11 @@ use crate::fault::SaveFault;
 use crate::order::order_of;
 use crate::print::put_slots;
 use node_arena::{Arena, SlotId};
-use texts::{List, NoMemory, put};
 use probe_core::Steps;
 use std::alloc::Global;
 use std::marker::Brand;
 use std::sync::ledger::{Blank, Ledger};
+use texts::{List, NoMemory, put};
 
 /// The image of the slots of a cube with a size. `TooLong` comes exactly where it has more than 2^30 bytes, unless
 /// memory was wanted before. Contracts learn too that the labels of each node rise.

@@ -9,11 +9,11 @@
 #![tactic(auto)]
 
 use outer_io::{FilePlace, StdSink};
-use texts::NoMemory;
 use std::env;
 use std::io::ErrorKind;
 use std::process::ExitCode;
 use std::rt::Env;
+use texts::NoMemory;
 use top_call::{Status, nanocube};
 
 /// The words after the program's name. A word that is not UTF-8 leaves a line of no words, which is no form.

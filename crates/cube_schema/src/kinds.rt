@@ -11,9 +11,9 @@ use crate::draft::Draft;
 use crate::versions::is_weighted;
 use crate::{Member, PlanFault};
 use cube_view::Category;
-use texts::{List, NoMemory, Text};
 use serde_json::Value;
 use std::alloc::Global;
+use texts::{List, NoMemory, Text};
 
 // The texts of the items, or `None` where one of them is no text.
 fn texts_of(alloc: Global, items: &[Value]) -> Result<Option<List<Text>>, NoMemory>

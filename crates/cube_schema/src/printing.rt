@@ -9,9 +9,9 @@ ghost use Rattle.cube_schema.specs.Printed.{texts_value, category_value, categor
 use crate::Plan;
 use crate::versions::version_of;
 use cube_view::Category;
-use texts::{List, NoMemory, Text};
 use serde_json::{Value, json};
 use std::alloc::{AllocError, Global};
+use texts::{List, NoMemory, Text};
 
 fn texts_value(alloc: Global, texts: &[Text]) -> Result<Value, AllocError>
     ensures { IfOk result (λ value. view value ≡ texts_value texts.now) }
@@ -96,11 +96,7 @@ pub fn print_plan(alloc: Global, plan: &Plan) -> Result<List<u8>, NoMemory>
     ensures text { IfOk result (λ bytes. bytes ≡ plan_text plan.now) }
     ensures read_back { IfOk result (λ bytes. plan_meaning bytes ≡ Ok (draft_of plan.now)) }
 {
-    let Ok(value) = plan_value(alloc, plan) else {
-        return Err(NoMemory);
-    };
-    match value.to_vec(alloc) {
-        Ok(bytes) => Ok(List::from_vec(bytes)),
-        Err(_) => Err(NoMemory),
-    }
+    let value = plan_value(alloc, plan)?;
+    let bytes = value.to_vec(alloc)?;
+    Ok(List::from_vec(bytes))
 }

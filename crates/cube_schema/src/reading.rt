@@ -16,9 +16,9 @@ use crate::ranges::first_out_of_range;
 use crate::repeats::first_repeated;
 use crate::{Plan, PlanFault};
 use cube_view::Schema;
-use texts::Text;
 use serde_json::Value;
 use std::alloc::Global;
+use texts::Text;
 
 const LONGEST_PLAN: usize = 1_048_576;
 

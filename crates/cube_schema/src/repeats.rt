@@ -6,8 +6,8 @@ ghost use Rattle.cube_schema.specs.Repeats.{repeated_in, repeated_value, outputs
 use crate::draft::Draft;
 use crate::texts::has_text;
 use cube_view::Category;
-use texts::{List, NoMemory, Text};
 use std::alloc::Global;
+use texts::{List, NoMemory, Text};
 
 // The first text of the list that stood earlier in it.
 fn repeated_in(texts: &[Text]) -> Option<&str>
@@ -56,9 +56,7 @@ fn add_outputs(alloc: Global, texts: &mut List<Text>, names: &[Text]) -> Result<
     ensures { OnOk result (texts.new ≡ texts.old ++ outputs names.now) }
 {
     for name in names {
-        let Ok(output) = format!(in alloc; "{}.out", name.as_str()) else {
-            return Err(NoMemory);
-        };
+        let output = format!(in alloc; "{}.out", name.as_str())?;
         texts.add(Text::from_string(output))?;
     }
     Ok(())

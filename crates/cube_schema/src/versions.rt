@@ -4,8 +4,8 @@ ghost use Rattle.serde_json.specs.View.{view};
 ghost use Rattle.cube_schema.specs.Versions.{version_of, is_weighted, has_member};
 
 use crate::Member;
-use texts::Text;
 use serde_json::Value;
+use texts::Text;
 
 /// The version of a plan whose weight column has this name, or that has none.
 pub(crate) fn version_of(weight: &Option<Text>) -> u64

@@ -12,21 +12,17 @@ use arena_undo::Work;
 use cube_view::{Point, Schema};
 use group_insert::add_group;
 use node_arena::{Arena, SlotId};
-use texts::NoMemory;
 use std::alloc::Global;
+use texts::NoMemory;
 
 /// The points in rising order of bin: a part of a group has its points in the order of the group, and a time table takes
 /// bins that rise at its end.
 pub fn in_order(alloc: Global, points: &[Point]) -> Result<Vec<Point>, NoMemory>
     ensures { IfOk result (λ sorted. IsPermutation points.now sorted.items) }
 {
-    let Ok(mut sorted) = Vec::from_slice(alloc, points) else {
-        return Err(NoMemory);
-    };
-    match sorted.sort_by_key(|point| point.spot.bin) {
-        Ok(()) => Ok(sorted),
-        Err(_) => Err(NoMemory),
-    }
+    let mut sorted = Vec::from_slice(alloc, points)?;
+    sorted.sort_by_key(|point| point.spot.bin)?;
+    Ok(sorted)
 }
 
 /// Contracts learn that the spots have four values. It does nothing more when run.

@@ -16,10 +16,10 @@ use crate::batch::{in_order, insert_group};
 use arena_undo::Work;
 use cube_view::{CubeView, Point, Schema};
 use node_arena::{Arena, SlotId};
-use texts::NoMemory;
 use point_insert::{Updated, add, insert_room};
 use std::alloc::Global;
 use std::mem::replace;
+use texts::NoMemory;
 
 /// Points of a schema, at most 2^35, as an arena of nodes and time tables that counts them. What they weigh together is
 /// at least their number and at most so many of the heaviest, and each slot but the root has one proper link to it.

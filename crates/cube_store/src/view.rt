@@ -2,9 +2,9 @@
 use crate::cube::Cube;
 use cube_view::{Address, CubeView, Grow, Point, Schema, Stat};
 use node_arena::SlotId;
-use texts::NoMemory;
 use probe_core::Steps;
 use std::sync::ledger::Ledger;
+use texts::NoMemory;
 
 /// Where a walk stands in a cube: at a slot, and at an address, since a shared slot has many.
 #[derive(Clone, Copy)]

@@ -2,9 +2,9 @@
 use crate::{
     Category, Point, Schema, Spot, Tile, is_sound, is_valid, label, lies_in, quadrant, tile_label,
 };
-use texts::{List, Text};
 use std::alloc::Global;
 use std::test::Fail;
+use texts::{List, Text};
 
 // Depth 3 and one category of two values.
 fn schema_of_two_kinds(alloc: Global) -> Result<Schema, Fail> {

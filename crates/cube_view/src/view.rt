@@ -11,9 +11,9 @@ ghost use Rattle.cube_view.specs.declared.spot.Spot.{Spot};
 ghost use Rattle.cube_view.specs.declared.stat.Stat.{Stat};
 
 use crate::{Point, Schema, Stat};
-use texts::NoMemory;
 use probe_core::Steps;
 use std::sync::ledger::Ledger;
+use texts::NoMemory;
 
 /// A bag of spots that is read by cursors. Each clause on amounts speaks of any list `h` of points that the bag counts.
 pub trait CubeView: Drop {

@@ -13,8 +13,8 @@ ghost use Rattle.cube_view.specs.Points.{point_at};
 ghost use Rattle.example_schemas.specs.Examples.{named_category, kinds, two_categories};
 
 use cube_view::{Category, Point, Schema, Spot, Tile};
-use texts::{List, NoMemory, Text};
 use std::alloc::Global;
+use texts::{List, NoMemory, Text};
 
 /// The category of that name and of two values.
 fn category(alloc: Global, name: &str, first: &str, second: &str) -> Result<Category, NoMemory>

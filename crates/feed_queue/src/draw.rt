@@ -11,9 +11,9 @@ use crate::feed::Ended;
 use crate::item::Item;
 use crate::line::{Lane, LanePass, Line, Settling};
 use crate::steps::{count_draw, pop, wait_pop};
-use texts::List;
 use std::marker::Model;
 use std::sync::{Arc, Wait};
+use texts::List;
 
 /// The end that draws what the feeders send. Contracts see its lane and the lane's schema, how many feeders there are,
 /// and what was drawn.

@@ -12,9 +12,9 @@ use crate::line::{Lane, LanePass, Parts};
 use crate::steps::open_line;
 use change_signal::Signal;
 use cube_view::Schema;
-use texts::{List, NoMemory};
 use std::alloc::Global;
 use std::sync::Arc;
+use texts::{List, NoMemory};
 
 /// A lane of so many feeders, whose queue has room for so many items. The feeders' ends stand in the order of their
 /// numbers, from 1.
@@ -35,9 +35,7 @@ pub fn open_lane(
         filled: Signal::new(),
         freed: Signal::new(),
     };
-    let Ok(lane) = Arc::new(alloc, lane) else {
-        return Err(NoMemory);
-    };
+    let lane = Arc::new(alloc, lane)?;
     let mut ends = List::new(alloc);
     for made in 0..feeders {
         let end = add_feeder(&lane, &mut pass, made)?;
@@ -60,9 +58,7 @@ fn add_feeder(lane: &Arc<Lane>, pass: &mut LanePass, made: u8) -> Result<FeedEnd
     ensures draws { IfOk result (λ _. view pass.new ≡ split_left (view pass.old)) }
     ensures end { IfOk result (λ e. e ≡ feed_state pass.old.table_id (known_schema (view pass.old)) (made + 1) [] false) }
 {
-    let Ok(shared) = Arc::try_clone(lane) else {
-        return Err(NoMemory);
-    };
+    let shared = Arc::try_clone(lane)?;
     // The drawing end's pass has made one feeder more, whose pass has sent nothing.
     let part = lane.line.another::<Parts>(pass);
     Ok(FeedEnd {

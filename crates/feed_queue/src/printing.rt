@@ -6,8 +6,8 @@ ghost use Rattle.feed_queue.specs.Journal.{entry_text, told_weight};
 ghost use Rattle.feed_queue.specs.NumberReading.{spaced_number};
 
 use cube_view::{Point, Schema};
-use texts::{List, NoMemory};
 use std::alloc::{AllocError, Global};
+use texts::{List, NoMemory};
 use world_core::Entry;
 
 /// Appends a space and the number.
@@ -64,8 +64,6 @@ fn line_of(alloc: Global, schema: &Schema, entry: &Entry) -> Result<String, Allo
 pub fn print_entry(alloc: Global, schema: &Schema, entry: &Entry) -> Result<List<u8>, NoMemory>
     ensures { IfOk result (λ text. text ≡ entry_text schema.now entry.now) }
 {
-    match line_of(alloc, schema, entry) {
-        Ok(text) => Ok(List::from_vec(text.into_bytes())),
-        Err(_) => Err(NoMemory),
-    }
+    let text = line_of(alloc, schema, entry)?;
+    Ok(List::from_vec(text.into_bytes()))
 }

@@ -9,9 +9,9 @@ use crate::item::{Item, Slot};
 use crate::line::{Begins, Lane, LanePass, Line, Opens, Sends, Takes};
 use change_signal::Waiting;
 use cube_view::Schema;
-use texts::NoMemory;
 use std::alloc::Global;
 use std::sync::Wait;
+use texts::NoMemory;
 
 /// How often the drawing end yields before it sleeps, which takes some 0.2 milliseconds. To wake it takes 20 microseconds or
 /// more, which whoever asks for the record would feel. So where items come evenly, 5,000 a second or more, it is awake for them.
@@ -92,12 +92,8 @@ pub(crate) fn open_line(
     requires { 0 < room }
     ensures { IfOk result (λ t. IsPassOf t.0 t.1 × (view t.1 ≡ Draws (drawing schema.now [] 0 []))) }
 {
-    let Ok((line, mut pass)) = Line::ruled(alloc, room) else {
-        return Err(NoMemory);
-    };
-    let Ok(copy) = Box::new(alloc, schema.copy(alloc)?) else {
-        return Err(NoMemory);
-    };
+    let (line, mut pass) = Line::ruled(alloc, room)?;
+    let copy = Box::new(alloc, schema.copy(alloc)?)?;
     // The queue holds the schema alone, and the pass knows it. No other thread is in the way, so this is not refused.
     match line.try_push_as::<Opens>(&mut pass, Slot::Opens(copy)) {
         Ok(()) => {}

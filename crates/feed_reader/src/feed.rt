@@ -10,8 +10,8 @@ ghost use Rattle.outer_io.specs.Progress.{IsGoing};
 use crate::{HeadFault, Header, Row, RowFault};
 use cube_view::Schema;
 use outer_io::{Cut, CutFault, LineCutter, Source};
-use texts::NoMemory;
 use std::alloc::Global;
+use texts::NoMemory;
 
 /// Why a feed has no header.
 #[derive(Clone, Copy, PartialEq, Eq, Debug)]

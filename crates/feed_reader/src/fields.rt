@@ -9,9 +9,9 @@ use crate::line_parts::LineParts;
 use crate::record::{field_of, one_record};
 use crate::regular::regular_fields;
 use cube_view::is_same_text;
-use texts::NoMemory;
 use std::alloc::Global;
 use std::marker::Model;
+use texts::NoMemory;
 
 /// The fields of a line, seen as the list of their bytes.
 #[derive(Drop)]

@@ -9,9 +9,9 @@ use crate::row::row_of_record;
 use crate::{Column, Row, RowFault};
 use cube_view::Schema;
 use ghost_values::GhostValue;
-use texts::{List, NoMemory};
 use std::alloc::Global;
 use std::marker::Model;
+use texts::{List, NoMemory};
 
 /// Why a line is no header.
 #[derive(Clone, Copy, PartialEq, Eq, Debug)]

@@ -1,9 +1,9 @@
 //! Fields that are parts of their line.
 ghost use Rattle.std.specs.Prelude.{◌≡◌, ◌<◌, ◌∷◌, ◌++◌, [], IfOk, get_or, length};
 
-use texts::{List, NoMemory};
 use std::alloc::Global;
 use std::marker::Model;
+use texts::{List, NoMemory};
 
 // How many fields have room at first.
 const ROOM: usize = 16;

@@ -5,8 +5,8 @@ ghost use Rattle.csv.specs.Records.{fields_of};
 ghost use Rattle.feed_reader.specs.Records.{IsReaderOf, begins_with_mark, record_of};
 
 use csv::{ByteRecord, Reader, ReaderBuilder};
-use texts::NoMemory;
 use std::alloc::Global;
+use texts::NoMemory;
 
 // A reader that has yet to read the line.
 fn reader(alloc: Global, line: &[u8]) -> Reader<&[u8]>

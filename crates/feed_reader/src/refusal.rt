@@ -3,9 +3,9 @@ ghost use Rattle.std.specs.Prelude.{◌≡◌, [], IfOk};
 ghost use Rattle.feed_reader.specs.RowCounts.{having_kept};
 
 use crate::RowFault;
-use texts::{List, NoMemory};
 use std::alloc::Global;
 use std::marker::Model;
+use texts::{List, NoMemory};
 
 /// How many refusals of a feed are kept.
 const KEPT: usize = 5;
@@ -40,10 +40,8 @@ impl FirstRefusals {
     pub fn new(alloc: Global) -> Result<FirstRefusals, NoMemory>
         ensures { IfOk result (λ first. first ≡ []) }
     {
-        match Vec::with_capacity(alloc, KEPT) {
-            Ok(items) => Ok(FirstRefusals { items }),
-            Err(_) => Err(NoMemory),
-        }
+        let items = Vec::with_capacity(alloc, KEPT)?;
+        Ok(FirstRefusals { items })
     }
 
     /// Keeps one more, unless there are five. It takes no memory.

@@ -7,8 +7,8 @@ ghost use Rattle.feed_reader.specs.Records.{only};
 ghost use Rattle.feed_reader.specs.Regular.{IsFront, begins_record, stops_field};
 
 use crate::line_parts::LineParts;
-use texts::NoMemory;
 use std::alloc::Global;
+use texts::NoMemory;
 
 // What comes after a field: a comma and the bytes of further fields, or the end of the line.
 #[derive(Clone, Copy)]

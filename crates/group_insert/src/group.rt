@@ -12,11 +12,11 @@ use crate::way::Way;
 use arena_undo::Work;
 use cube_view::{Point, Schema};
 use node_arena::SlotId;
-use texts::NoMemory;
 use probe_core::Steps;
 use std::alloc::Global;
 use std::marker::Brand;
 use std::sync::ledger::{Blank, Ledger};
+use texts::NoMemory;
 
 /// Adds sound points to a cube's arena, each address that holds some of them visited once. For want of memory the arena
 /// holds the changes that were recorded.
@@ -66,9 +66,7 @@ fn add_counted<L: Ledger>(
     ensures start { work.new.start ≡ work.old.start }
 {
     // The points of a label are put behind these, and taken off when its child has been visited.
-    let Ok(mut pile) = Vec::from_slice(alloc, points) else {
-        return Err(NoMemory);
-    };
+    let mut pile = Vec::from_slice(alloc, points)?;
     let mut put_off = Vec::<PutOffLink>::new(alloc);
     let place = root_place(root, points.len());
     let mut steps = Steps::<L>::new(blank);

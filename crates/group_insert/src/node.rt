@@ -12,11 +12,11 @@ use crate::parts::one_label;
 use arena_undo::Work;
 use cube_view::{Point, Schema};
 use node_arena::{Link, SlotId};
-use texts::NoMemory;
 use point_insert::{copy_content, make_content, only_child};
 use probe_core::Steps;
 use proper_path::step_down;
 use std::sync::ledger::Ledger;
+use texts::NoMemory;
 
 /// Whether no child is at another label.
 pub fn is_alone<L: Ledger>(work: &Work, at: SlotId, label: u8, steps: &mut Steps<L>) -> bool

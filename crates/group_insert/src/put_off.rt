@@ -11,9 +11,9 @@ ghost use Rattle.group_insert.specs.Ways.{way_from};
 
 use arena_undo::Work;
 use node_arena::{Link, SlotId};
-use texts::NoMemory;
 use probe_core::Steps;
 use std::sync::ledger::Ledger;
+use texts::NoMemory;
 
 /// The link of a label at a node that is put off. Its target is found from the base, a slot of dimension `from`: down the
 /// turn, and then across so many dimensions, down the value of each if there is one, and at last down the label.

@@ -13,10 +13,10 @@ use crate::way::{Way, below, on, put_later};
 use arena_undo::Work;
 use cube_view::{Point, Schema};
 use node_arena::SlotId;
-use texts::NoMemory;
 use point_insert::{is_time, only_child, share_content};
 use probe_core::Steps;
 use std::sync::ledger::Ledger;
+use texts::NoMemory;
 
 /// Where a part stands in the pile.
 #[derive(Clone, Copy)]

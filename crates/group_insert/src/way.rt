@@ -13,9 +13,9 @@ use crate::put_off::{PutOffLink, finer};
 use arena_undo::Work;
 use cube_view::{Point, Schema};
 use node_arena::SlotId;
-use texts::NoMemory;
 use probe_core::Steps;
 use std::sync::ledger::Ledger;
+use texts::NoMemory;
 
 /// By the number of a dimension, the value that was gone down there, and the slot at its level 0 or, of space, the node.
 /// `level` is that node's.
@@ -169,10 +169,8 @@ pub fn put_later<L: Ledger>(
     };
     match first_turn(work, schema, part, way, node, label, dim, old, steps) {
         Some(entry) => {
-            match put_off.push(entry) {
-                Ok(()) => Ok(true),
-                Err(_) => Err(NoMemory),
-            }
+            put_off.push(entry)?;
+            Ok(true)
         }
         None => Ok(false),
     }

@@ -1,8 +1,8 @@
 //! Points that a cube takes in batches.
 use cube_store::Cube;
 use cube_view::{Point, are_sound};
-use texts::NoMemory;
 use std::process::Abort;
+use texts::NoMemory;
 
 /// Inserts the points as one group.
 pub(crate) fn insert_group(

@@ -5,10 +5,10 @@ use crate::draws::{Draws, draw_point, draw_shape};
 use crate::schemas::schema_of;
 use cube_store::Cube;
 use cube_view::{Point, Schema};
-use texts::{List, NoMemory};
 use std::alloc::Global;
 use std::process::Abort;
 use std::test::Fail;
+use texts::{List, NoMemory};
 
 /// How many points are inserted together, by turns: one, groups of one size, all, and single points and groups by turns.
 const BATCHINGS: [&[usize]; 8] = [

@@ -1,8 +1,8 @@
 //! Schemas of so many levels and values.
 use cube_schema::read_plan;
 use cube_view::Schema;
-use texts::NoMemory;
 use std::alloc::{AllocError, Global};
+use texts::NoMemory;
 
 /// Appends a category of that number and of so many values, which are named by their numbers.
 fn push_category(text: &mut String, k: usize, values: u16) -> Result<(), AllocError> {
@@ -36,9 +36,7 @@ fn plan_text(alloc: Global, depth: u8, values: &[u16; 4]) -> Result<String, Allo
 
 /// The schema of that plan.
 pub(crate) fn schema_of(alloc: Global, depth: u8, values: &[u16; 4]) -> Result<Schema, NoMemory> {
-    let Ok(text) = plan_text(alloc, depth, values) else {
-        return Err(NoMemory);
-    };
+    let text = plan_text(alloc, depth, values)?;
     match read_plan(alloc, text.as_bytes()) {
         Ok(plan) => plan.schema.copy(alloc),
         Err(_) => Err(NoMemory),

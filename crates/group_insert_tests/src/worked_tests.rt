@@ -6,10 +6,10 @@ use crate::schemas::schema_of;
 use cube_store::Cube;
 use cube_view::{CubeView, Point};
 use example_schemas::point;
-use texts::{List, NoMemory};
 use std::alloc::Global;
 use std::process::Abort;
 use std::test::Fail;
+use texts::{List, NoMemory};
 
 /// How many levels a cube has, and how many values each category.
 #[derive(Clone, Copy)]

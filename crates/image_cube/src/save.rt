@@ -12,11 +12,11 @@ ghost use Rattle.image_cube.specs.CubeImages.{HasLongCubeImage, IsSavedCube};
 use cube_image::{SaveFault, image_laws, write_image};
 use cube_store::Cube;
 use node_arena::{Arena, SlotId};
-use texts::List;
 use probe_core::Steps;
 use std::alloc::Global;
 use std::marker::Brand;
 use std::sync::ledger::{Blank, Ledger};
+use texts::List;
 
 /// The image of a cube. Where the points that the cube counts are records of its schema, it is the image of a cube of
 /// them, and what is read of it has the numbers of the cube's slots and links. `TooLong` comes exactly where it has more

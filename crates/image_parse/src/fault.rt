@@ -1,6 +1,6 @@
 //! Why bytes aren't parsed.
-use texts::NoMemory;
 use std::alloc::{AllocError, AllocFailed};
+use texts::NoMemory;
 
 /// Why no arena was made of bytes.
 #[derive(Clone, Copy, PartialEq, Eq, Debug)]

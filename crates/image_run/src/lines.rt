@@ -3,8 +3,8 @@ ghost use Rattle.std.specs.Prelude.{◌≡◌, ◌++◌, IfOk, OnOk, string_byte
 ghost use Rattle.image_run.specs.Lines.{image_fault_text, image_line};
 
 use image_cube::ImageFault;
-use texts::{List, NoMemory};
 use std::alloc::{AllocError, Global};
+use texts::{List, NoMemory};
 
 /// The name of a fault.
 fn fault_name(fault: ImageFault) -> &'static str
@@ -39,8 +39,6 @@ fn refused_text(alloc: Global, fault: ImageFault) -> Result<String, AllocError>
 pub(crate) fn image_refused(alloc: Global, fault: ImageFault) -> Result<List<u8>, NoMemory>
     ensures { IfOk result (λ text. text ≡ image_line fault) }
 {
-    match refused_text(alloc, fault) {
-        Ok(text) => Ok(List::from_vec(text.into_bytes())),
-        Err(_) => Err(NoMemory),
-    }
+    let text = refused_text(alloc, fault)?;
+    Ok(List::from_vec(text.into_bytes()))
 }

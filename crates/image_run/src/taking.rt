@@ -9,17 +9,15 @@ use cube_store::Cube;
 use cube_view::Schema;
 use image_cube::{ImageFault, load_cube};
 use outer_io::Sink;
-use texts::List;
 use run_files::{Stop, put_text};
 use std::alloc::Global;
+use texts::List;
 
 /// Puts the line of an image that is refused, and says how the run ends where that fails.
 pub fn refuse_image<O: Sink>(alloc: Global, fault: ImageFault, out: &mut O) -> Result<(), Stop>
     ensures { SaysText (of_sink O.Sink) out.old out.new (image_line fault) result }
 {
-    let Ok(line) = image_refused(alloc, fault) else {
-        return Err(Stop::NoMemory);
-    };
+    let line = image_refused(alloc, fault)?;
     put_text(line.as_slice(), out)
 }
 

@@ -1,10 +1,10 @@
 //! Covers that were drawn by hand.
 use cube_view::{Schema, Tile};
 use example_schemas::{schema_of_kinds, tile};
-use texts::{List, NoMemory};
 use query_syntax::Rect;
 use std::alloc::Global;
 use std::test::Fail;
+use texts::{List, NoMemory};
 use window_cover::cover;
 
 fn rect(x0: u32, y0: u32, x1: u32, y1: u32) -> Rect {

@@ -7,10 +7,10 @@ ghost use Rattle.feed_queue.specs.Items.{count_ends};
 use cube_view::Point;
 use example_schemas::{point, schema_of_kinds};
 use feed_queue::{DrawEnd, Ended, FeedEnd, Item, open_lane};
-use texts::{List, NoMemory};
 use std::alloc::Global;
 use std::process::Abort;
 use std::sync::Wait;
+use texts::{List, NoMemory};
 use world_core::Entry;
 
 /// Draws, where nothing is queued.
@@ -88,9 +88,7 @@ fn carry_one<R: Wait + Abort>(rt: &R, alloc: Global) -> Result<(), NoMemory> {
     let (one, two, draws) = send_and_draw(rt, one, two, draws, point(7, 7, 1, 1));
     assert_eq!(rt; (one.feeder(), one.sent()), (1, 1));
     assert_eq!(rt; (two.feeder(), two.sent()), (2, 0));
-    let Ok(ended) = vec![in alloc; one, two] else {
-        return Err(NoMemory);
-    };
+    let ended = vec![in alloc; one, two]?;
     draws.settle(rt, List::from_vec(ended));
     Ok(())
 }

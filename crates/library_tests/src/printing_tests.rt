@@ -1,8 +1,8 @@
 //! Plans that are printed as they were read.
 use cube_schema::{print_plan, read_plan};
-use texts::List;
 use std::alloc::Global;
 use std::test::Fail;
+use texts::List;
 
 /// Plans, and how many feeds each names. The first is that of the crate's page.
 const EXAMPLES: [(&str, usize); 6] = [

@@ -2,12 +2,12 @@
 use cube_schema::{Plan, PlanFault, read_plan};
 use feed_reader::{Column, FeedCounts, HeadFault, Refusal, RowFault};
 use outer_io::CutFault;
-use texts::{List, NoMemory};
 use run_files::{ScriptCounts, header_refused, plan_refused, report};
 use session_core::SessionFault;
 use std::alloc::Global;
 use std::process::Abort;
 use std::test::Fail;
+use texts::{List, NoMemory};
 
 /// A plan of two feeds with weights, an ask and a final.
 const TWO_FEEDS: &str =

@@ -11,7 +11,6 @@ ghost use Rattle.world_core.specs.PairFact.{IsPrefix};
 use crate::asking::{asks_look, asks_news};
 use cube_view::Grow;
 use mailbox::MailOut;
-use texts::{List, NoMemory};
 use probe_core::Steps;
 use published_pair::Viewer;
 use query_syntax::Parsed;
@@ -19,6 +18,7 @@ use session_core::{Served, serve, serve_unseen};
 use std::alloc::Global;
 use std::sync::Wait;
 use std::sync::ledger::Ledger;
+use texts::{List, NoMemory};
 
 /// Takes what the mailbox holds and learns it, where the line asks for a look or the told length.
 fn catch_up<V: Grow, R: Wait>(

@@ -20,7 +20,6 @@ use crate::turn::Turn;
 use cube_view::{Grow, Schema};
 use mailbox::MailOut;
 use outer_io::{IoFault, LineCutter, Sink, Source};
-use texts::{List, NoMemory};
 use probe_core::Steps;
 use published_pair::Viewer;
 use query_syntax::Parsed;
@@ -30,6 +29,7 @@ use std::alloc::Global;
 use std::marker::Model;
 use std::sync::Wait;
 use std::sync::ledger::Ledger;
+use texts::{List, NoMemory};
 
 /// A script, where its replies go, and what was put so far.
 pub struct Session<I: Source, O: Sink> {

@@ -6,11 +6,11 @@ ghost use Rattle.texts.specs.Counts.{next_count};
 
 use crate::place::{Begins, Letter, MailPass, Names, Parts, Place, Puts, Removes, Takes};
 use cube_view::Grow;
-use texts::NoMemory;
 use published_pair::{Publisher, Told};
 use std::alloc::Global;
 use std::marker::Model;
 use std::sync::{Arc, Wait};
+use texts::NoMemory;
 
 /// The end that puts told lengths. Contracts see the mailbox's name, the pair's, and the lengths that were put.
 #[derive(Drop)]
@@ -98,9 +98,7 @@ pub fn open_mail<V: Grow>(
     ensures put { IfOk result (λ ends. ends.0 ≡ mail_in ends.1.mailbox publisher.now.published.book []) }
     ensures take { IfOk result (λ ends. ends.1 ≡ mail_out ends.1.mailbox publisher.now.published.book 0 []) }
 {
-    let Ok((place, mut pass)) = Place::ruled(alloc, 1) else {
-        return Err(NoMemory);
-    };
+    let (place, mut pass) = Place::ruled(alloc, 1)?;
     match place.try_push_as::<Names>(&mut pass, Letter::Opens(publisher.tell())) {
         Ok(()) => {}
         Err(_) => return Err(NoMemory),
@@ -110,12 +108,8 @@ pub fn open_mail<V: Grow>(
         None => return Err(NoMemory),
     }
     let taking = place.another::<Parts>(&mut pass);
-    let Ok(place) = Arc::new(alloc, place) else {
-        return Err(NoMemory);
-    };
-    let Ok(shared) = Arc::try_clone(&place) else {
-        return Err(NoMemory);
-    };
+    let place = Arc::new(alloc, place)?;
+    let shared = Arc::try_clone(&place)?;
     Ok((
         MailIn {
             place,

@@ -17,11 +17,11 @@ use crate::packed::Content;
 use crate::slot::Stored;
 use block_list::BlockList;
 use cube_view::Stat;
-use texts::NoMemory;
 use probe_core::Steps;
 use std::alloc::Global;
 use std::marker::{Brand, Model};
 use std::sync::ledger::{Blank, Ledger};
+use texts::NoMemory;
 use time_table::TimeTable;
 
 /// The slots of a cube. Nodes and time tables are added at the end, and a slot keeps its place; where

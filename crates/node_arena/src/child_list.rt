@@ -9,11 +9,11 @@ use crate::short::{
     Form, Found, boxed, find_in_one, find_in_three, find_in_two, set_in_three, set_in_two,
     with_fourth, with_second, with_third, without_second, without_third,
 };
-use texts::NoMemory;
 use probe_core::Steps;
 use std::alloc::Global;
 use std::marker::Model;
 use std::sync::ledger::Ledger;
+use texts::NoMemory;
 
 /// Children in the order in which they stand. Up to three lie in the list's own bytes, more on the heap. A child is taken
 /// off only where an insertion is undone, so a list that was longer stays on the heap.

@@ -11,11 +11,11 @@ use crate::child_list::ChildList;
 use crate::link::Link;
 use crate::packed::Child;
 use crate::short::Found;
-use texts::NoMemory;
 use probe_core::Steps;
 use std::alloc::Global;
 use std::marker::{Brand, Model};
 use std::sync::ledger::{Blank, Ledger};
+use texts::NoMemory;
 
 /// Labels with links, in rising order of label. A link is found by one binary search.
 #[derive(Drop)]

@@ -5,10 +5,10 @@ ghost use Rattle.node_arena.specs.Slots.{child_label};
 ghost use Rattle.node_arena.specs.Short.{form_children};
 
 use crate::packed::Child;
-use texts::NoMemory;
 use probe_core::{Rows, Steps};
 use std::alloc::Global;
 use std::sync::ledger::Ledger;
+use texts::NoMemory;
 
 /// Up to three children, or rows on the heap.
 #[derive(Drop)]
@@ -212,8 +212,5 @@ pub fn find_in_three<L: Ledger>(
 pub fn boxed(alloc: Global, rows: Rows<Child>) -> Result<Box<Rows<Child>>, NoMemory>
     ensures { IfOk result (λ boxed. boxed.value ≡ rows) }
 {
-    match Box::new(alloc, rows) {
-        Ok(boxed) => Ok(boxed),
-        Err(_) => Err(NoMemory),
-    }
+    Ok(Box::new(alloc, rows)?)
 }

@@ -13,10 +13,10 @@ use crate::children::Children;
 use crate::link::Link;
 use crate::packed::Content;
 use cube_view::Stat;
-use texts::NoMemory;
 use probe_core::Steps;
 use std::alloc::Global;
 use std::sync::ledger::Ledger;
+use texts::NoMemory;
 use time_table::TimeTable;
 
 /// A node has children and perhaps a content, a time table its counts. Up to three children, and up to three

@@ -1,8 +1,10 @@
 //! What lists, sources and sinks in memory give.
 use crate::shared::{bytes, number};
-use outer_io::{Failed, IoFault, MemSink, MemSource, Sink, Source, StillSink, StillSource, read_up_to};
-use texts::List;
+use outer_io::{
+    Failed, IoFault, MemSink, MemSource, Sink, Source, StillSink, StillSource, read_up_to,
+};
 use std::alloc::{AllocError, Global};
+use texts::List;
 
 /// What comes off a list of 1 and 2 in three times; none where they had no room.
 fn three_off(alloc: Global) -> Option<[Option<u8>; 3]> {

@@ -1,7 +1,7 @@
 //! What the tests of several modules share.
 use outer_io::{Failed, IoFault, Place, Sink, Source};
-use texts::List;
 use std::alloc::{AllocError, Global};
+use texts::List;
 
 /// A list of those bytes.
 pub(crate) fn bytes(alloc: Global, items: &[u8]) -> Result<List<u8>, AllocError> {

@@ -1,8 +1,8 @@
 //! Steps on one place in memory, each with what it is to answer.
 use crate::shared::{bytes, first_read, number, write_file};
 use outer_io::{Failed, IoFault, MemPlace, MemSink, Place, Sink};
-use texts::List;
 use std::alloc::{AllocError, Global};
+use texts::List;
 
 /// A call on a place, and its answer.
 #[derive(Clone, Copy)]

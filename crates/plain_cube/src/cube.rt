@@ -6,10 +6,10 @@ ghost use Rattle.cube_view.specs.Validity.{sound};
 
 use crate::scans::{any_below, count_before, count_before_each, least_below};
 use cube_view::{Address, CubeView, Grow, Point, Schema, Stat};
-use texts::NoMemory;
 use probe_core::Steps;
 use std::alloc::Global;
 use std::sync::ledger::Ledger;
+use texts::NoMemory;
 
 /// A schema and a list of at most 2^35 points that are sound for it.
 #[derive(Drop)]
@@ -45,10 +45,8 @@ impl PlainCube {
         ensures counted { Counts (⟦<PlainCube as CubeView>⟧.weight_at self.new) (⟦<PlainCube as CubeView>⟧.seen self.new) (points_of self.new) }
         ensures schema { schema_of self.new ≡ schema_of self.old }
     {
-        match self.points.push(point) {
-            Ok(()) => Ok(()),
-            Err(_) => Err(NoMemory),
-        }
+        self.points.push(point)?;
+        Ok(())
     }
 
     /// Adds points behind those that are there, all or none. After a want of memory the cube is as before.
@@ -60,10 +58,8 @@ impl PlainCube {
         ensures counted { Counts (⟦<PlainCube as CubeView>⟧.weight_at self.new) (⟦<PlainCube as CubeView>⟧.seen self.new) (points_of self.new) }
         ensures schema { schema_of self.new ≡ schema_of self.old }
     {
-        match self.points.extend_from_slice(points) {
-            Ok(()) => Ok(()),
-            Err(_) => Err(NoMemory),
-        }
+        self.points.extend_from_slice(points)?;
+        Ok(())
     }
 }
 

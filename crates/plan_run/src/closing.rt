@@ -15,9 +15,9 @@ use cube_crew::Crewed;
 use cube_schema::Plan;
 use live_session::SessionDone;
 use outer_io::{IoFault, Place, Sink};
-use texts::{List, NoMemory};
 use run_files::{Stop, give_back_sinks, joined_ends, write_end};
 use std::alloc::Global;
+use texts::{List, NoMemory};
 
 /// Gives feeds and scripts back, the sources in order and then the sinks, which have room. It says what was counted of
 /// them, where there is memory for it, and how giving back ended.

@@ -2,8 +2,8 @@
 ghost use Rattle.std.specs.Prelude.{◌≡◌, ◌++◌, [], ◌∷◌, IfOk, IsOkAnd};
 
 use feed_reader::FeedCounts;
-use texts::NoMemory;
 use run_files::ScriptCounts;
+use texts::NoMemory;
 
 /// What was counted of all feeds, asks and finals.
 #[derive(Drop)]
@@ -41,8 +41,6 @@ pub(crate) fn with_one_more<T: Drop>(
     ensures { IfOk result (λ all. IsOkAnd items (λ before. all.items ≡ before.items ++ more ∷ [])) }
 {
     let mut items = items?;
-    match items.push(more) {
-        Ok(()) => Ok(items),
-        Err(_) => Err(NoMemory),
-    }
+    items.push(more)?;
+    Ok(items)
 }

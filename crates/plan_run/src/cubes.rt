@@ -4,8 +4,8 @@ ghost use Rattle.cube_crew.specs.Begins.{AreEmptyViews};
 
 use cube_store::Cube;
 use cube_view::{CubeView, Schema};
-use texts::NoMemory;
 use std::alloc::Global;
+use texts::NoMemory;
 
 /// Two cubes of no points under the schema.
 pub(crate) fn empty_cubes(alloc: Global, schema: &Schema) -> Result<(Cube, Cube), NoMemory>

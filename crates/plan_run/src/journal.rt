@@ -8,8 +8,8 @@ ghost use Rattle.plan_run.specs.Journals.{Moves, PutsJournal};
 use cube_view::Schema;
 use feed_queue::print_entry;
 use outer_io::{IoFault, Sink};
-use texts::NoMemory;
 use std::alloc::Global;
+use texts::NoMemory;
 use world_core::Entry;
 
 /// How many bytes are put at once, or a few more; fewer only at the end.
@@ -31,10 +31,8 @@ fn push_line(
     if buffer.extend_from_slice(line.as_slice()).is_err() {
         return Err(NoMemory);
     }
-    match buffer.push(b'\n') {
-        Ok(()) => Ok(()),
-        Err(_) => Err(NoMemory),
-    }
+    buffer.push(b'\n')?;
+    Ok(())
 }
 
 /// Puts the buffer's bytes and clears it, where there are so many.

@@ -14,9 +14,9 @@ use crate::seating::seat_parts;
 use cube_schema::Plan;
 use feed_reader::FeedJob;
 use outer_io::{LineCutter, Place, Sink};
-use texts::List;
 use run_files::{ScriptParts, Stop, give_back_feeds, load_plan, open_feeds, open_scripts};
 use std::alloc::Global;
+use texts::List;
 
 /// The feeds of a plan with their headers read, and then its scripts with their outputs; or how the run ends, with all
 /// given back.

@@ -9,9 +9,9 @@ use crew_feeder::FeedDone;
 use feed_reader::FeedCounts;
 use live_session::SessionDone;
 use outer_io::Place;
-use texts::NoMemory;
 use run_files::ScriptCounts;
 use std::alloc::Global;
+use texts::NoMemory;
 
 /// Gives the sources of feeds back, in order, and says what was counted of them, where there is memory for it.
 pub(crate) fn give_back_fed<P: Place>(

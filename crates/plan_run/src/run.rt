@@ -20,11 +20,11 @@ use cube_view::Schema;
 use feed_queue::journal_laws;
 use feed_reader::accepted_laws;
 use outer_io::{Place, Sink, Source};
-use texts::NoMemory;
 use run_files::Stop;
 use std::alloc::Global;
 use std::sync::Wait;
 use std::thread::Threads;
+use texts::NoMemory;
 
 /// Runs the jobs over two empty cubes. Where that finds no memory to begin with, they come back as they were.
 fn run_jobs<R: Threads + Wait + Sync, I: Source + Send, O: Sink + Send>(

@@ -22,8 +22,6 @@ pub(crate) fn put_report<O: Sink>(
 ) -> Result<(), Stop>
     ensures { SaysText (of_sink O.Sink) out.old out.new (counts_text plan.now feeds.now asks.now finals.now closed count) result }
 {
-    let Ok(text) = report(alloc, plan, feeds, asks, finals, closed, count) else {
-        return Err(Stop::NoMemory);
-    };
+    let text = report(alloc, plan, feeds, asks, finals, closed, count)?;
     put_text(text.as_slice(), out)
 }

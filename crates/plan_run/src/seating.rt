@@ -9,9 +9,9 @@ use cube_crew::Jobs;
 use feed_reader::FeedJob;
 use live_session::Session;
 use outer_io::{LineCutter, Sink, Source};
-use texts::List;
 use run_files::ScriptParts;
 use std::alloc::Global;
+use texts::List;
 
 /// The sessions over scripts and sinks, of which there are as many, in a list that has room for them.
 pub(crate) fn seat_sessions<I: Source, O: Sink>(

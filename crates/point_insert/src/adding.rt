@@ -14,12 +14,12 @@ use crate::updated::Updated;
 use arena_undo::Work;
 use cube_view::{Point, Schema};
 use node_arena::SlotId;
-use texts::{List, NoMemory};
 use probe_core::Steps;
 use proper_path::trail;
 use std::alloc::Global;
 use std::marker::Brand;
 use std::sync::ledger::{Blank, Ledger};
+use texts::{List, NoMemory};
 
 /// Adds a sound point to a dimension. `root` is a node at the dimension's level 0 whose home holds the point, and the
 /// insertion invariant holds of all that comes before it. Afterwards it holds of all that is at or below the root too.

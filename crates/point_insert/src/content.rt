@@ -10,9 +10,9 @@ use crate::updated::Updated;
 use arena_undo::Work;
 use cube_view::Schema;
 use node_arena::{Link, SlotId};
-use texts::NoMemory;
 use probe_core::Steps;
 use std::sync::ledger::Ledger;
+use texts::NoMemory;
 
 /// Whether a dimension is time.
 pub fn is_time(schema: &Schema, dim: u8) -> bool

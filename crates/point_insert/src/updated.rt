@@ -3,10 +3,10 @@ ghost use Rattle.std.specs.Prelude.{◌≡◌, ◌↔◌, [], Contains, IsTrue, 
 ghost use Rattle.proper_path.specs.Midway.{IsJoined};
 
 use node_arena::SlotId;
-use texts::NoMemory;
 use std::alloc::Global;
 use std::collections::HashSet;
 use std::marker::Model;
+use texts::NoMemory;
 
 /// A set of slots, which contracts see as a list of their places.
 #[derive(Drop)]
@@ -27,10 +27,8 @@ impl Updated {
     pub fn with_room(alloc: Global, n: usize) -> Result<Updated, NoMemory>
         ensures { IfOk result (λ updated. updated ≡ []) }
     {
-        match HashSet::with_capacity(alloc, n) {
-            Ok(places) => Ok(Updated { places }),
-            Err(_) => Err(NoMemory),
-        }
+        let places = HashSet::with_capacity(alloc, n)?;
+        Ok(Updated { places })
     }
 
     /// Whether the slot is in the set.
@@ -45,9 +43,7 @@ impl Updated {
         ensures joined { OnOk result (IsJoined self.old id.0 self.new) }
         ensures unchanged { OnErr result (self.new ≡ self.old) }
     {
-        match self.places.insert(id.0) {
-            Ok(_) => Ok(()),
-            Err(_) => Err(NoMemory),
-        }
+        self.places.insert(id.0)?;
+        Ok(())
     }
 }

@@ -11,10 +11,10 @@ use crate::step::step_down;
 use arena_undo::Work;
 use cube_view::{Point, Schema, label};
 use node_arena::SlotId;
-use texts::{List, NoMemory};
 use probe_core::Steps;
 use std::marker::Brand;
 use std::sync::ledger::{Blank, Ledger};
+use texts::{List, NoMemory};
 
 /// How many levels a dimension has below level 0.
 fn levels(schema: &Schema, dim: u8) -> u8

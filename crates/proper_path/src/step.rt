@@ -6,9 +6,9 @@ ghost use Rattle.proper_path.specs.Stepped.{IsStepped, LeadsInside, KeepsRoom};
 
 use arena_undo::Work;
 use node_arena::{Link, SlotId};
-use texts::NoMemory;
 use probe_core::Steps;
 use std::sync::ledger::Ledger;
+use texts::NoMemory;
 
 /// The child of a label is made the node's own, and given. For want of memory the changes so far are recorded.
 pub fn step_down<L: Ledger>(

@@ -2,10 +2,10 @@
 //! the copies wait for each look in their own way, by yielding, and find none where this has waited for it.
 use change_signal::{Signal, Waiting};
 use crossbeam_utils::CachePadded;
-use texts::NoMemory;
 use std::alloc::Global;
 use std::sync::atomic::{AtomicU64, Ordering};
 use std::sync::{Arc, Wait};
+use texts::NoMemory;
 
 /// How often the publisher yields while looks are open, before it sleeps. A look takes some microseconds, and to wake a sleeper
 /// takes longer: with eight sessions that never pause, most publications find one open.

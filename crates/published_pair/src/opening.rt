@@ -14,9 +14,9 @@ use crate::viewer::Viewer;
 use cube_view::{Grow, Schema};
 use ghost_values::{GhostList, GhostValue};
 use left_right::writer::Writer;
-use texts::{List, NoMemory};
 use std::alloc::Global;
 use std::sync::{Arc, Wait};
+use texts::{List, NoMemory};
 
 fn make_viewer<V: Grow>(
     alloc: Global,
@@ -31,12 +31,8 @@ fn make_viewer<V: Grow>(
     ensures viewer { IfOk result (λ v. IsNewViewer schema.now front.now v.schema v.shown v.learned v.last) }
 {
     let schema = schema.copy(alloc)?;
-    let Ok(looks) = Arc::try_clone(looks) else {
-        return Err(NoMemory);
-    };
-    let Ok(mut reader) = writer.factory().reader() else {
-        return Err(NoMemory);
-    };
+    let looks = Arc::try_clone(looks)?;
+    let mut reader = writer.factory().reader()?;
     reader.learn::<Handover>(writer.tell::<Handover>());
     Ok(Viewer {
         reader,
@@ -101,9 +97,7 @@ pub fn open<V: Grow, R: Wait>(
     let (head, front) = open_book();
     let first = make_stand(first, &front);
     let again = make_stand(again, &front);
-    let Ok(writer) = Writer::new(alloc, first, again, viewers.max(1) as usize) else {
-        return Err(NoMemory);
-    };
+    let writer = Writer::new(alloc, first, again, viewers.max(1) as usize)?;
     let (mut writer, outcome) = show(rt, writer, &schema, &front, &front);
     if outcome.is_err() {
         writer.take(rt);

@@ -19,11 +19,11 @@ use cube_view::{Grow, Point, Schema};
 use ghost_values::GhostList;
 use left_right::Absorb;
 use left_right::writer::Writer;
-use texts::{List, NoMemory};
 use std::alloc::Global;
 use std::marker::PhantomData;
 use std::mem::replace;
 use std::sync::{Arc, Wait};
+use texts::{List, NoMemory};
 
 pub(crate) type PairWriter<V> = Writer<Stand<V>, Sent, Option<Names>, PairRule<V>>;
 

@@ -14,9 +14,9 @@ use crate::stand::Sent;
 use crate::told::{GivenUp, Last};
 use cube_view::{Grow, Schema};
 use left_right::writer::Writer;
-use texts::{List, NoMemory};
 use std::alloc::Global;
 use std::sync::{Arc, Wait};
+use texts::{List, NoMemory};
 
 /// The copies of a pairing whose publisher has ended.
 pub struct RestedOf<K: Pairing> {

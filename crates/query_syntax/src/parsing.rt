@@ -16,8 +16,8 @@ use crate::verb_words::verb_of;
 use crate::words::next_word;
 use crate::{Parsed, Verb};
 use cube_view::Schema;
-use texts::NoMemory;
 use std::alloc::Global;
+use texts::NoMemory;
 
 /// How many words the verb has.
 fn words_of_verb(verb: Verb) -> u32

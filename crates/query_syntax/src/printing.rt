@@ -11,8 +11,8 @@ ghost use Rattle.query_syntax.specs.Spelling.{spaced, value_text, value_texts, n
 use crate::verb_words::BINS;
 use crate::{Choice, Query, Rect, Span, ValueSet, Verb};
 use cube_view::{Category, Schema, Tile};
-use texts::{List, NoMemory, Text};
 use std::alloc::{AllocError, Global};
+use texts::{List, NoMemory, Text};
 
 /// Appends a space and the word.
 fn push_word(text: &mut String, word: &str) -> Result<(), AllocError>
@@ -278,8 +278,6 @@ pub fn print(alloc: Global, schema: &Schema, query: &Query) -> Result<List<u8>, 
     ensures text { IfOk result (λ text. text ≡ query_text schema.now query.now) }
     ensures read_back { IfOk result (λ text. meaning schema.now text ≡ Ask query.now) }
 {
-    match text_of_query(alloc, schema, query) {
-        Ok(text) => Ok(List::from_vec(text.into_bytes())),
-        Err(_) => Err(NoMemory),
-    }
+    let text = text_of_query(alloc, schema, query)?;
+    Ok(List::from_vec(text.into_bytes()))
 }

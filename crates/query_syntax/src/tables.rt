@@ -17,8 +17,8 @@ use crate::item::values_of;
 use crate::totals::{total_of, total_with};
 use crate::{Query, RowOut, Span, Table, Verb};
 use cube_view::{Point, Schema, Tile, quadrant};
-use texts::{List, NoMemory};
 use std::alloc::Global;
+use texts::{List, NoMemory};
 
 /// The row of the total alone.
 fn one_row(

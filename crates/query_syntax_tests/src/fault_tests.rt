@@ -5,9 +5,9 @@ use QueryFault::{
 };
 use cube_view::Schema;
 use example_schemas::schema_of_kinds;
-use texts::NoMemory;
 use query_syntax::{Parsed, QueryFault, parse};
 use std::alloc::Global;
+use texts::NoMemory;
 
 /// A line, its fault and the number of the word.
 type Faulty = (&'static [u8], QueryFault, u32);

@@ -2,9 +2,9 @@
 use crate::schemas::spaced_schema;
 use cube_view::{Schema, Tile};
 use example_schemas::schema_of_kinds;
-use texts::NoMemory;
 use query_syntax::{Choice, Parsed, Query, QueryFault, Span, ValueSet, Verb, parse};
 use std::alloc::Global;
+use texts::NoMemory;
 
 /// A count in a tile of level z over some values of the first category, or all, in a span of bins.
 #[derive(Clone, Copy)]

@@ -5,9 +5,9 @@ ghost use Rattle.query_syntax.specs.Queries.{is_valid_query};
 use crate::schemas::spaced_schema;
 use cube_view::Schema;
 use example_schemas::schema_of_kinds;
-use texts::NoMemory;
 use query_syntax::{Parsed, Query, parse, print};
 use std::alloc::Global;
+use texts::NoMemory;
 
 /// A line, and how its query is printed.
 type Printed = (&'static [u8], &'static [u8]);

@@ -6,9 +6,9 @@ use crate::schemas::schema_of_one_value;
 use Want::{Area, Bin, One, Value};
 use cube_view::{Point, Schema, Spot};
 use example_schemas::schema_of_kinds;
-use texts::NoMemory;
 use query_syntax::{Parsed, RowOut, Table, is_drill, parse, table_of};
 use std::alloc::Global;
+use texts::NoMemory;
 
 /// A row that a table has to have.
 #[derive(Clone, Copy)]

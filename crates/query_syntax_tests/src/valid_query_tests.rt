@@ -1,9 +1,9 @@
 //! Which queries a schema takes: those up to the ends of their ranges, and no further ones.
 use cube_view::Tile;
 use example_schemas::schema_of_kinds;
-use texts::NoMemory;
 use query_syntax::{Choice, Query, Rect, Span, ValueSet, Verb, is_valid_query};
 use std::alloc::Global;
+use texts::NoMemory;
 
 /// The bin past the last one.
 const END: u64 = 1 << 32;

@@ -10,11 +10,11 @@ ghost use Rattle.query_walk.specs.Walks.{HasBox};
 use crate::region::region_cursor;
 use crate::tile::total_in_tile;
 use cube_view::{CubeView, Tile, quadrant};
-use texts::{List, NoMemory};
 use probe_core::Steps;
 use query_syntax::{Query, RowOut, Verb};
 use std::alloc::Global;
 use std::sync::ledger::Ledger;
+use texts::{List, NoMemory};
 
 /// Adds the row of the tile at which the cursor stands, if its total isn't 0.
 fn push_area<V: CubeView, L: Ledger>(

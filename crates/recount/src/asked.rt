@@ -10,10 +10,10 @@ ghost use Rattle.session_core.specs.Asked.{asked, asks_reply, asks_to_end};
 
 use cube_view::Schema;
 use outer_io::{LineCutter, Source, StillSource};
-use texts::{List, NoMemory};
 use query_syntax::{Parsed, Verb};
 use session_core::{SessionFault, next_asked};
 use std::alloc::Global;
+use texts::{List, NoMemory};
 
 /// How many bytes of a script are cut at once.
 const PIECE: usize = 4096;
@@ -85,9 +85,7 @@ pub fn asked_of(alloc: Global, schema: &Schema, script: &[u8]) -> Result<List<Pa
     ensures asked { IfOk result (λ ps. ps ≡ asked schema.now (lines script.now)) }
     ensures valid { IfOk result (λ ps. All (λ p. IsTrue (asks_valid schema.now p)) ps) }
 {
-    let Ok(bytes) = Vec::from_slice(alloc, script) else {
-        return Err(NoMemory);
-    };
+    let bytes = Vec::from_slice(alloc, script)?;
     let source = StillSource::new(List::from_vec(bytes), PIECE);
     let Ok(mut cutter) = LineCutter::new(alloc, source) else {
         return Err(NoMemory);

@@ -13,10 +13,10 @@ use crate::testing::{Audit, Tested, test_next};
 use crate::{Verdict, Why};
 use cube_view::{Point, Schema};
 use feed_queue::journal_laws;
-use texts::NoMemory;
 use plain_cube::PlainCube;
 use query_syntax::Parsed;
 use std::alloc::Global;
+use texts::NoMemory;
 
 /// The verdict on the replies, which should answer what was asked over the points of a journal.
 fn check_replies(

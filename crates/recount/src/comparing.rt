@@ -16,7 +16,6 @@ ghost use Rattle.session_core.specs.Transcript.{seen_in};
 
 use crate::replies::NextReply;
 use cube_view::{CubeView, Point, Stat};
-use texts::{List, NoMemory};
 use plain_cube::PlainCube;
 use probe_core::Steps;
 use query_syntax::{Parsed, QueryFault, Verb};
@@ -25,6 +24,7 @@ use session_core::{Served, serve};
 use std::alloc::Global;
 use std::marker::Brand;
 use std::sync::ledger::{Blank, Ledger};
+use texts::{List, NoMemory};
 
 /// Whether the numbers are those of a cube, in which each slot but the root has one proper link to it.
 fn is_cube_stat(stat: &Stat) -> bool

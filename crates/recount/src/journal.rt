@@ -7,8 +7,8 @@ ghost use Rattle.world_core.specs.declared.entry.Entry.{Entry};
 use crate::Why;
 use crate::entries::next_entry;
 use cube_view::{Point, Schema};
-use texts::NoMemory;
 use std::alloc::Global;
+use texts::NoMemory;
 use world_core::Entry;
 
 /// What the journal is read as: the points of its entries, in order, or the first line at which a test holds.
@@ -52,10 +52,7 @@ pub fn read_journal(
         if !take_number(&mut counts, feeders, &next.entry) {
             return Ok(JournalRead::Differs(line, Why::WrongNumber));
         }
-        match points.push(next.entry.point) {
-            Ok(()) => {}
-            Err(_) => return Err(NoMemory),
-        }
+        points.push(next.entry.point)?;
         rest = next.rest;
     }
     Ok(JournalRead::Points(points))

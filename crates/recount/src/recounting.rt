@@ -13,9 +13,9 @@ use crate::texts::{Texts, read_texts};
 use crate::{Audit, RecountNames};
 use cube_schema::Plan;
 use outer_io::{Place, Sink};
-use texts::NoMemory;
 use run_files::{Stop, load_plan};
 use std::alloc::Global;
+use texts::NoMemory;
 
 /// Decides whether the texts agree, for as many feeders as the plan has feeds, and says so.
 fn audit_texts<O: Sink>(

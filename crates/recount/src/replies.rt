@@ -5,9 +5,9 @@ ghost use Rattle.recount.specs.Faults.{BeginsWithReply};
 ghost use Rattle.reply_json.specs.declared.reply.Reply.{Reply};
 
 use crate::lines::first_line;
-use texts::NoMemory;
 use reply_json::{Reply, ReplyFault, read_reply};
 use std::alloc::Global;
+use texts::NoMemory;
 
 /// The reply of a line, the line with its line feed, and what follows it.
 #[derive(Drop)]

@@ -13,8 +13,6 @@ use std::alloc::Global;
 pub(crate) fn say_verdict<O: Sink>(alloc: Global, verdict: Verdict, out: &mut O) -> Result<(), Stop>
     ensures { SaysText (of_sink O.Sink) out.old out.new (verdict_line verdict) result }
 {
-    let Ok(line) = verdict_line(alloc, verdict) else {
-        return Err(Stop::NoMemory);
-    };
+    let line = verdict_line(alloc, verdict)?;
     put_text(line.as_slice(), out)
 }

@@ -15,11 +15,11 @@ use crate::Why;
 use crate::comparing::is_answer;
 use crate::replies::{NextReply, next_reply};
 use cube_view::Point;
-use texts::NoMemory;
 use plain_cube::PlainCube;
 use query_syntax::Parsed;
 use reply_json::Reply;
 use std::alloc::Global;
+use texts::NoMemory;
 
 /// What the replies so far leave: a cube of the first points, no more than they have seen, and the greatest numbers of
 /// points that they print as seen and as told.

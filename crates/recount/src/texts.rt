@@ -3,9 +3,9 @@ ghost use Rattle.run_files.specs.Outside.{of_place};
 ghost use Rattle.recount.specs.AuditTexts.{ReadsText, ReadsTexts};
 
 use outer_io::Place;
-use texts::List;
 use run_files::{Stop, read_file};
 use std::alloc::Global;
+use texts::List;
 
 /// The most bytes of a text.
 const LONGEST_TEXT: usize = 1 << 30;

@@ -3,8 +3,8 @@ ghost use Rattle.std.specs.Prelude.{◌≡◌, ◌++◌, IfOk, OnOk, string_byte
 ghost use Rattle.recount.specs.VerdictLines.{agree_line, verdict_line, without_line, why_text};
 
 use crate::{Verdict, Why};
-use texts::{List, NoMemory};
 use std::alloc::{AllocError, Global};
+use texts::{List, NoMemory};
 
 /// The name of a test.
 fn why_name(why: Why) -> &'static str
@@ -69,8 +69,6 @@ fn verdict_text(alloc: Global, verdict: Verdict) -> Result<String, AllocError>
 pub(crate) fn verdict_line(alloc: Global, verdict: Verdict) -> Result<List<u8>, NoMemory>
     ensures { IfOk result (λ text. text ≡ verdict_line verdict) }
 {
-    match verdict_text(alloc, verdict) {
-        Ok(text) => Ok(List::from_vec(text.into_bytes())),
-        Err(_) => Err(NoMemory),
-    }
+    let text = verdict_text(alloc, verdict)?;
+    Ok(List::from_vec(text.into_bytes()))
 }

@@ -14,9 +14,9 @@ use crate::Reply;
 use crate::plain::are_plain;
 use crate::put::{bytes_before, digits_before, item_before, put_number, put_text};
 use cube_view::{Stat, Tile};
-use texts::{List, NoMemory, Text, put, put_byte};
 use query_syntax::{QueryFault, RowOut, Table};
 use std::alloc::Global;
+use texts::{List, NoMemory, Text, put, put_byte};
 
 /// The line of the reply that memory ran out, with its line feed.
 pub const NO_MEMORY_LINE: &str = "{\"fault\":\"NoMemory\"}\n";

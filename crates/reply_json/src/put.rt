@@ -5,8 +5,8 @@ ghost use Rattle.reply_json.specs.Types.{IsCount};
 
 use crate::plain::are_plain;
 use json::Writer;
-use texts::{NoMemory, put, put_byte};
 use std::mem::replace;
+use texts::{NoMemory, put, put_byte};
 
 /// Puts bytes, and a number in decimal.
 pub fn put_number(out: &mut Vec<u8>, front: &[u8], number: u64) -> Result<(), NoMemory>
@@ -39,10 +39,8 @@ fn put_escaped(out: &mut Vec<u8>, text: &str) -> Result<(), NoMemory>
     let mut writer = Writer::new(replace(out, Vec::new(alloc)));
     let done = writer.string(text);
     *out = writer.into_inner();
-    match done {
-        Ok(()) => Ok(()),
-        Err(_) => Err(NoMemory),
-    }
+    done?;
+    Ok(())
 }
 
 /// Writes the digits of a number before a place of a buffer, and gives the place of the first one.

@@ -14,10 +14,10 @@ use crate::printing::fault_name;
 use crate::rows::{rows_in, u32_of};
 use crate::{Reply, ReplyFault, is_valid_reply, print_reply};
 use cube_view::Stat;
-use texts::NoMemory;
 use query_syntax::{QueryFault, Table};
 use serde_json::Value;
 use std::alloc::Global;
+use texts::NoMemory;
 
 const FAULTS: [QueryFault; 16] = [
     QueryFault::NotText,

@@ -5,10 +5,10 @@ ghost use Rattle.serde_json.specs.View.{view, items_view};
 ghost use Rattle.reply_json.specs.Reading.{number_in, number_under, area_of, pair_of, value_or_bin, row_in, rows_in};
 
 use cube_view::Tile;
-use texts::{List, NoMemory, Text};
 use query_syntax::RowOut;
 use serde_json::Value;
 use std::alloc::Global;
+use texts::{List, NoMemory, Text};
 
 // The number at a place of an array.
 fn number_in(value: &Value, place: usize) -> Option<u64>

@@ -9,9 +9,9 @@ use crate::cursor::Cursor;
 use crate::fault::fault_of_great;
 use crate::totals::sum_totals;
 use cube_view::{Tile, quadrant};
-use texts::List;
 use query_syntax::RowOut;
 use std::alloc::Global;
+use texts::List;
 
 /// Adds the row of the tile, if one of the two has it.
 fn push_sum(

@@ -11,7 +11,6 @@ ghost use Rattle.session_core.specs.Asked.{asked_reply};
 
 use cross_table::cross_answer;
 use cube_view::Schema;
-use texts::NoMemory;
 use plain_cube::PlainCube;
 use probe_core::Steps;
 use query_syntax::{Parsed, Query, Table, Verb, has_table};
@@ -19,6 +18,7 @@ use reply_json::Reply;
 use std::alloc::Global;
 use std::marker::Brand;
 use std::sync::ledger::{Blank, Ledger};
+use texts::NoMemory;
 use tile_drill::answer;
 use window_cover::window_answer;
 

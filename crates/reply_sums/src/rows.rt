@@ -7,9 +7,9 @@ ghost use Rattle.reply_sums.specs.Rows.{sum_row, sum_rows};
 use crate::SumFault;
 use crate::fault::fault_of_great;
 use crate::totals::sum_totals;
-use texts::{List, Text};
 use query_syntax::RowOut;
 use std::alloc::Global;
+use texts::{List, Text};
 
 /// Whether two texts are the same.
 fn is_same(text: &Text, other: &Text) -> bool

@@ -11,10 +11,10 @@ use crate::SumFault;
 use crate::areas::sum_areas;
 use crate::rows::sum_rows;
 use crate::totals::sum_totals;
-use texts::List;
 use query_syntax::{Parsed, Query, QueryFault, RowOut, Table, Verb};
 use reply_json::Reply;
 use std::alloc::Global;
+use texts::List;
 
 /// Whether the replies to what was asked add up. Those of `best` and `stat` do not.
 pub fn adds_up(asked: &Parsed) -> bool

@@ -13,8 +13,8 @@ use crate::{Stop, header_refused};
 use cube_view::Schema;
 use feed_reader::{FeedJob, HeadFault, NoHeader, read_header};
 use outer_io::{IoFault, LineCutter, Place, Sink, Source};
-use texts::{List, Text};
 use std::alloc::Global;
+use texts::{List, Text};
 
 // A cutter over the source, and the header in its first line. With a fault the source comes back.
 fn read_head<S: Source>(

@@ -9,9 +9,9 @@ use crate::faults::{cut_fault_name, push_row_fault, session_fault_name};
 use cube_view::Schema;
 use feed_reader::{FeedCounts, Refusal};
 use outer_io::CutFault;
-use texts::Text;
 use session_core::SessionFault;
 use std::alloc::AllocError;
+use texts::Text;
 
 /// How many refused lines of a feed are printed.
 const PRINTED: usize = 5;

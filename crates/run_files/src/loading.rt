@@ -11,8 +11,8 @@ use crate::stop::read_end;
 use crate::{Stop, plan_refused};
 use cube_schema::{Plan, PlanFault, read_plan};
 use outer_io::{IoFault, Place, Sink, read_up_to};
-use texts::{List, NoMemory};
 use std::alloc::Global;
+use texts::{List, NoMemory};
 
 /// The most bytes of a plan.
 const LONGEST_PLAN: usize = 1_048_576;

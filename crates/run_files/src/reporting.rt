@@ -9,8 +9,8 @@ use crate::lines::{push_feeds, push_scripts};
 use cube_schema::{Plan, PlanFault};
 use cube_view::Schema;
 use feed_reader::{FeedCounts, HeadFault};
-use texts::{List, NoMemory, Text};
 use std::alloc::{AllocError, Global};
+use texts::{List, NoMemory, Text};
 
 #[tactic(auto, unfolding(crate::specs::Lines::plan_line))]
 fn plan_line(alloc: Global, fault: &PlanFault) -> Result<String, AllocError>
@@ -26,10 +26,8 @@ fn plan_line(alloc: Global, fault: &PlanFault) -> Result<String, AllocError>
 pub fn plan_refused(alloc: Global, fault: &PlanFault) -> Result<List<u8>, NoMemory>
     ensures { IfOk result (λ text. text ≡ plan_line fault.now) }
 {
-    match plan_line(alloc, fault) {
-        Ok(text) => Ok(List::from_vec(text.into_bytes())),
-        Err(_) => Err(NoMemory),
-    }
+    let text = plan_line(alloc, fault)?;
+    Ok(List::from_vec(text.into_bytes()))
 }
 
 #[tactic(auto, unfolding(crate::specs::Lines::head_line))]
@@ -56,10 +54,8 @@ pub fn header_refused(
 ) -> Result<List<u8>, NoMemory>
     ensures { IfOk result (λ text. text ≡ head_line schema.now name.now fault) }
 {
-    match head_line(alloc, schema, name, fault) {
-        Ok(text) => Ok(List::from_vec(text.into_bytes())),
-        Err(_) => Err(NoMemory),
-    }
+    let text = head_line(alloc, schema, name, fault)?;
+    Ok(List::from_vec(text.into_bytes()))
 }
 
 /// The lines of the feeds of these names, in order, as a report has them.
@@ -119,8 +115,6 @@ pub fn report(
 ) -> Result<List<u8>, NoMemory>
     ensures { IfOk result (λ text. text ≡ counts_text plan.now feeds.now asks.now finals.now closed count) }
 {
-    match report_text(alloc, plan, feeds, asks, finals, closed, count) {
-        Ok(text) => Ok(List::from_vec(text.into_bytes())),
-        Err(_) => Err(NoMemory),
-    }
+    let text = report_text(alloc, plan, feeds, asks, finals, closed, count)?;
+    Ok(List::from_vec(text.into_bytes()))
 }

@@ -12,8 +12,8 @@ use crate::giving_back::{give_back_cutters, give_back_sinks};
 use crate::{Stop, ended_after};
 use cube_schema::Plan;
 use outer_io::{IoFault, LineCutter, Place};
-use texts::{List, NoMemory, Text};
 use std::alloc::Global;
+use texts::{List, NoMemory, Text};
 
 /// The scripts of a run, cut into lines, and the sinks for their replies and for the journal.
 pub struct ScriptParts<C, O> {
@@ -83,10 +83,8 @@ pub fn create_file<P: Place>(name: &str, place: &mut P) -> Result<P::Out, Stop>
 fn output_name(alloc: Global, name: &str) -> Result<Text, NoMemory>
     ensures { IfOk result (λ text. text ≡ name.now ++ codes ".out") }
 {
-    match format!(in alloc; "{name}.out") {
-        Ok(text) => Ok(Text::from_string(text)),
-        Err(_) => Err(NoMemory),
-    }
+    let text = format!(in alloc; "{name}.out")?;
+    Ok(Text::from_string(text))
 }
 
 // The sink for the replies to the script of that name, created, or how the run ends.

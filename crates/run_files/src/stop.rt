@@ -1,9 +1,11 @@
 //! Why a run ends.
 ghost use Rattle.std.specs.Prelude.{◌≡◌, Err};
+ghost use Rattle.run_files.specs.declared.stop.Stop.TheVariants as stop;
 ghost use Rattle.run_files.specs.Stops.{earlier, joined_ends, rank_of, read_end, stop_of_cut, stop_of_session, write_end};
 
 use outer_io::{CutFault, IoFault};
 use session_core::SessionFault;
+use texts::NoMemory;
 
 /// Why a run ends without doing all that it was told. Where several hold, the first in the order written is answered.
 #[derive(Clone, Copy, PartialEq, Eq, Debug)]
@@ -18,6 +20,14 @@ pub enum Stop {
     WriteFault,
     /// A feed was refused, or a feed or a script had more bytes than are read.
     FeedRefused,
+}
+
+impl From<NoMemory> for Stop {
+    ghost from_gives = { λ _ e. e ≡ stop.NoMemory };
+
+    fn from(_wanted: NoMemory) -> Stop {
+        Stop::NoMemory
+    }
 }
 
 // Its place in the order.

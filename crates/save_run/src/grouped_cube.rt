@@ -6,8 +6,8 @@ ghost use Rattle.cube_view.specs.Validity.{sound};
 
 use cube_store::Cube;
 use cube_view::{Point, Schema};
-use texts::NoMemory;
 use std::alloc::Global;
+use texts::NoMemory;
 
 /// A cube, and the points that follow those that it counts. They are inserted as one group: where there are as many as the
 /// schema's batch and one more comes, and at the end.
@@ -44,10 +44,8 @@ impl GroupedCube {
         ensures size { OnOk result (grouped_size self.new ≡ grouped_size self.old + 1) }
     {
         self.make_room()?;
-        match self.gathered.push(point) {
-            Ok(()) => Ok(()),
-            Err(_) => Err(NoMemory),
-        }
+        self.gathered.push(point)?;
+        Ok(())
     }
 
     /// Inserts the points that were gathered, where they fill a batch.

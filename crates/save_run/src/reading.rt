@@ -9,9 +9,9 @@ use cube_store::Cube;
 use cube_view::Schema;
 use feed_reader::{FeedCounts, FeedJob};
 use outer_io::{CutFault, Place};
-use texts::List;
 use run_files::{Stop, give_back_feeds, stop_of_cut};
 use std::alloc::Global;
+use texts::List;
 
 /// How a run ends by what reading its feeds answered, if that ends it.
 fn taken_end(

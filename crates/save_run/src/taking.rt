@@ -14,8 +14,8 @@ use cube_store::Cube;
 use cube_view::Schema;
 use feed_reader::{FeedCounts, FeedJob, next_row};
 use outer_io::{CutFault, Source};
-use texts::List;
 use std::alloc::Global;
+use texts::List;
 
 /// Reads the rows of all lines that the feed has left, takes the points among them behind the others, and counts the
 /// rows.
@@ -34,13 +34,9 @@ fn take_feed<S: Source>(
     ensures too_much { IsErrOf result CutFault.TooMuch → IsTooLarge S.left feed.old.cutter }
     ensures cause { HasCause (S.faults feed.old.cutter.source) (S.faults feed.new.cutter.source) result CutFault.Read }
 {
-    let Ok(mut tally) = Tally::new(alloc) else {
-        return Err(CutFault::NoMemory);
-    };
+    let mut tally = Tally::new(alloc)?;
     while let Some((row, line)) = next_row(alloc, schema, &feed.header, &mut feed.cutter)? {
-        let Ok(()) = take_row(grouped, &mut tally, row, line) else {
-            return Err(CutFault::NoMemory);
-        };
+        take_row(grouped, &mut tally, row, line)?;
     }
     Ok(tally.into_counts())
 }
@@ -56,18 +52,12 @@ pub(crate) fn cube_of_feeds<S: Source>(
     requires unread { All (IsUnread S.left S.faults schema.now) feeds.old }
     ensures { TakesFeeds S.left S.faults schema.now feeds.old feeds.new result }
 {
-    let Ok(mut grouped) = GroupedCube::new(alloc, schema) else {
-        return Err(CutFault::NoMemory);
-    };
+    let mut grouped = GroupedCube::new(alloc, schema)?;
     let mut counts = List::new(alloc);
     for feed in feeds.iter_mut() {
         let of_feed = take_feed(alloc, schema, feed, &mut grouped)?;
-        let Ok(()) = counts.add(of_feed) else {
-            return Err(CutFault::NoMemory);
-        };
+        counts.add(of_feed)?;
     }
-    let Ok(cube) = grouped.into_cube() else {
-        return Err(CutFault::NoMemory);
-    };
+    let cube = grouped.into_cube()?;
     Ok((cube, counts))
 }

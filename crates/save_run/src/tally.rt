@@ -8,8 +8,8 @@ ghost use Rattle.save_run.specs.Grouping.{GroupsTake, grouped_size};
 
 use crate::grouped_cube::GroupedCube;
 use feed_reader::{FeedCounts, FirstRefusals, Refusal, Row};
-use texts::NoMemory;
 use std::alloc::Global;
+use texts::NoMemory;
 
 /// Of the rows of a feed so far: how many were accepted, blank and refused, and which were refused first.
 #[derive(Drop)]

@@ -21,13 +21,13 @@ use crate::asking::next_asked;
 use crate::serving::{Served, serve};
 use cube_view::CubeView;
 use outer_io::{IoFault, LineCutter, Sink, Source};
-use texts::{List, NoMemory};
 use probe_core::Steps;
 use query_syntax::Parsed;
 use reply_json::no_memory_line;
 use std::alloc::Global;
 use std::marker::Brand;
 use std::sync::ledger::{Blank, Ledger};
+use texts::{List, NoMemory};
 
 /// How the answers to a script ended: whether a reply found no memory and was the line that says so, and the fault that
 /// ended them before the script's own end, if there was one.

@@ -15,13 +15,13 @@ ghost use Rattle.session_core.specs.Serving.{Serves, ServesOver, ServesWithin};
 
 use cross_table::{best_answer, cross_answer};
 use cube_view::CubeView;
-use texts::{List, NoMemory};
 use probe_core::Steps;
 use query_syntax::{Parsed, Query, Table, Verb};
 use reply_json::{Reply, print_reply_in};
 use std::alloc::Global;
 use std::mem::replace;
 use std::sync::ledger::Ledger;
+use texts::{List, NoMemory};
 use tile_drill::answer;
 use window_cover::window_answer;
 

@@ -13,9 +13,9 @@ use crate::children::first_child;
 use crate::counts::link_along;
 use crate::home::Move;
 use node_arena::{Arena, SlotId};
-use texts::NoMemory;
 use probe_core::Steps;
 use std::sync::ledger::Ledger;
+use texts::NoMemory;
 
 /// The slot at the end of a way from a slot, if it leads to one.
 fn end_of<L: Ledger>(
@@ -63,10 +63,8 @@ fn add_end(ends: &mut Vec<SlotId>, end: Option<SlotId>) -> Result<(), NoMemory>
     let Some(end) = end else {
         return Ok(());
     };
-    match ends.push(end) {
-        Ok(()) => Ok(()),
-        Err(_) => Err(NoMemory),
-    }
+    ends.push(end)?;
+    Ok(())
 }
 
 /// The slots at the ends of a way from the contents of a node's children, in place of what a list had.

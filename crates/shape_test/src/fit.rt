@@ -14,10 +14,10 @@ use crate::size::size_fits;
 use crate::standing::slots_fit;
 use cube_view::Schema;
 use node_arena::Arena;
-use texts::{List, NoMemory};
 use probe_core::Steps;
 use std::alloc::Global;
 use std::sync::ledger::Ledger;
+use texts::{List, NoMemory};
 
 /// Whether slots with a size fit the schema, their homes and the places of these being given.
 fn fits_at<L: Ledger>(

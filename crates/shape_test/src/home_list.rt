@@ -3,9 +3,9 @@ ghost use Rattle.std.specs.Prelude.{◌≡◌, ◌<◌, ◌++◌, ◌∷◌, [],
 ghost use Rattle.shape_test.specs.Spans.{spanned, with_step, AreSpans};
 
 use crate::home::Move;
-use texts::NoMemory;
 use std::alloc::Global;
 use std::marker::Model;
+use texts::NoMemory;
 
 /// Where the steps of a home lie: from one place up to another. Behind the first step stands the home of an earlier slot,
 /// if `above` names one.
@@ -97,10 +97,8 @@ impl HomeList {
     pub fn reserve(&mut self, n: usize) -> Result<(), NoMemory>
         ensures { self.new ≡ self.old }
     {
-        match self.spans.try_reserve(n) {
-            Ok(()) => Ok(()),
-            Err(_) => Err(NoMemory),
-        }
+        self.spans.try_reserve(n)?;
+        Ok(())
     }
 }
 
@@ -109,10 +107,8 @@ fn add_span(spans: &mut Vec<Span>, span: Span) -> Result<(), NoMemory>
     ensures added { OnOk result (spans.new.items ≡ spans.old.items ++ span ∷ []) }
     ensures unchanged { OnErr result (spans.new.items ≡ spans.old.items) }
 {
-    match spans.push(span) {
-        Ok(()) => Ok(()),
-        Err(_) => Err(NoMemory),
-    }
+    spans.push(span)?;
+    Ok(())
 }
 
 /// Puts a home behind others, which is an earlier one of them with a step before it. Its steps are copied once.
@@ -129,12 +125,8 @@ fn put_step(
 {
     let behind = spans[above];
     let start = moves.len();
-    let Ok(()) = moves.push(step) else {
-        return Err(NoMemory);
-    };
-    let Ok(()) = moves.extend_from_within(behind.start..behind.end) else {
-        return Err(NoMemory);
-    };
+    moves.push(step)?;
+    moves.extend_from_within(behind.start..behind.end)?;
     let span = Span {
         start,
         end: moves.len(),
@@ -152,9 +144,7 @@ fn put_home(moves: &mut Vec<Move>, spans: &mut Vec<Span>, home: &[Move]) -> Resu
     ensures put { OnOk result (spanned moves.new.items spans.new.items ≡ spanned moves.old.items spans.old.items ++ home.now ∷ []) }
 {
     let start = moves.len();
-    let Ok(()) = moves.extend_from_slice(home) else {
-        return Err(NoMemory);
-    };
+    moves.extend_from_slice(home)?;
     let span = Span {
         start,
         end: moves.len(),

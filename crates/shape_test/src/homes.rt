@@ -8,10 +8,10 @@ use crate::home_list::HomeList;
 use crate::owner::{Owner, owners_of};
 use cube_view::Schema;
 use node_arena::Arena;
-use texts::{List, NoMemory};
 use probe_core::Steps;
 use std::alloc::Global;
 use std::sync::ledger::Ledger;
+use texts::{List, NoMemory};
 
 /// The steps from a slot back to the root, the last one first. None comes where they end elsewhere or are too many.
 fn home_back(

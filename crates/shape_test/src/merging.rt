@@ -15,9 +15,9 @@ use crate::place::{Place, deepest, time_dim};
 use crate::rows::{Room, rows_merge};
 use cube_view::Schema;
 use node_arena::{Arena, SlotId};
-use texts::{List, NoMemory};
 use probe_core::Steps;
 use std::sync::ledger::Ledger;
+use texts::{List, NoMemory};
 
 /// Which contents tables are reached from: a node's own, or those of its children.
 #[derive(Clone, Copy)]

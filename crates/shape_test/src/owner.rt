@@ -7,10 +7,10 @@ ghost use Rattle.shape_test.specs.Owners.{AreOwners, Before, HasNoHomes, HasOwne
 use crate::children::first_child;
 use crate::home::Move;
 use node_arena::{Arena, Link, SlotId};
-use texts::NoMemory;
 use probe_core::Steps;
 use std::alloc::Global;
 use std::sync::ledger::Ledger;
+use texts::NoMemory;
 
 /// A slot that owns another, and the step whose link leads there.
 #[derive(Clone, Copy)]
@@ -108,9 +108,7 @@ pub fn owners_of<L: Ledger>(
     let Ok(slots) = u32::try_from(arena.len()) else {
         return Err(NoMemory);
     };
-    let Ok(mut owners) = vec![in alloc; None; arena.len()] else {
-        return Err(NoMemory);
-    };
+    let mut owners = vec![in alloc; None; arena.len()]?;
     for i in 0..slots {
         if !note_links(owners.as_mut_slice(), arena, SlotId(i), steps) {
             return Ok(None);

@@ -10,8 +10,8 @@ use crate::owner::Owner;
 use crate::place::{Place, next_place, place_of};
 use cube_view::Schema;
 use node_arena::Arena;
-use texts::{List, NoMemory};
 use std::alloc::Global;
+use texts::{List, NoMemory};
 
 /// Where a slot's home stands: a step from the place of its owner's, where that is known.
 fn place_after(

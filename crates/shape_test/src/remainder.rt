@@ -6,9 +6,9 @@ ghost use Rattle.shape_test.specs.Ends.{end_count, ends_count, IsEndIn, AreEnds}
 ghost use Rattle.shape_test.specs.Remainder.{AreOrderly, FitIn, IsRemainder, row_key, end_rows, slot_rows};
 
 use node_arena::{Arena, SlotId};
-use texts::NoMemory;
 use probe_core::Steps;
 use std::sync::ledger::Ledger;
+use texts::NoMemory;
 
 /// Takes rows off others, bin by bin. It says no only where they count more than these in some bin.
 fn take_off(left: &mut [(u32, u64)], rows: &[(u32, u64)]) -> bool

@@ -11,10 +11,10 @@ use crate::ends::{content_end, part_ends};
 use crate::home::Move;
 use crate::remainder::ends_merge;
 use node_arena::{Arena, SlotId};
-use texts::NoMemory;
 use probe_core::Steps;
 use std::alloc::Global;
 use std::sync::ledger::Ledger;
+use texts::NoMemory;
 use time_table::TimeTable;
 
 /// The first row from a bin on. From 2^32 on there is none.

@@ -20,9 +20,9 @@ use crate::place::{Place, deepest, place_of, time_dim};
 use crate::rows::first_row;
 use cube_view::Schema;
 use node_arena::{Arena, SlotId};
-use texts::List;
 use probe_core::Steps;
 use std::sync::ledger::Ledger;
+use texts::List;
 use time_table::TimeTable;
 
 /// The most that a point weighs.

@@ -20,10 +20,10 @@ use crate::rows::Room;
 use crate::sharing::shares_only;
 use cube_view::Schema;
 use node_arena::{Arena, SlotId};
-use texts::{List, NoMemory};
 use probe_core::Steps;
 use std::alloc::Global;
 use std::sync::ledger::Ledger;
+use texts::{List, NoMemory};
 
 /// Whether a time table stands where time is and has a row.
 fn table_stands<L: Ledger>(

@@ -20,10 +20,10 @@ use crate::put::{put_bytes, put_sums};
 use crate::summed::Summed;
 use cube_view::Schema;
 use outer_io::{Place, Sink};
-use texts::List;
 use recount::asked_of;
 use run_files::{Stop, load_plan};
 use std::alloc::{AllocError, Global};
+use texts::List;
 
 /// The names of the plan, the script, and the replies of each share.
 #[derive(Clone, Copy)]
@@ -82,9 +82,7 @@ fn refuse<O: Sink>(
     ensures cause { HasCause (O.faults out.old) (O.faults out.new) result Stop.WriteFault }
     ensures ends { IfErr result IsPutEnd }
 {
-    let Ok(text) = wrong_line(alloc, name, line, why) else {
-        return Err(Stop::NoMemory);
-    };
+    let text = wrong_line(alloc, name, line, why)?;
     put_bytes(text.as_str().as_bytes(), out)?;
     Ok(Outcome::Refused(why))
 }

@@ -1,8 +1,8 @@
 //! Why a share's replies are not added.
 ghost use Rattle.std.specs.Prelude.{◌≡◌};
 
-use texts::NoMemory;
 use run_files::Stop;
+use texts::NoMemory;
 
 /// What is wrong with a reply of a share: there are fewer lines than replies were asked for, or more, the line is no
 /// reply, it is no reply to what was asked or has rows of other keys, or a sum with it is 2^64 or more.

@@ -16,10 +16,10 @@ use crate::fault::{FileFault, SharesFault, TextFault};
 use crate::summed::Summed;
 use crate::text::add_text;
 use outer_io::Place;
-use texts::List;
 use query_syntax::Parsed;
 use run_files::{Stop, read_file};
 use std::alloc::Global;
+use texts::List;
 
 /// The most bytes of a script, and of the replies of a share.
 const LONGEST_TEXT: usize = 1 << 30;

@@ -6,10 +6,10 @@ ghost use Rattle.share_replies.specs.Sums.{IsSumOver, SumsOver};
 
 use crate::summed::Summed;
 use cube_view::Schema;
-use texts::{List, NoMemory};
 use query_syntax::Parsed;
 use reply_sums::{adds_up, reply_over_none};
 use std::alloc::Global;
+use texts::{List, NoMemory};
 
 /// The sum of no replies to what was asked; none where replies do not add up.
 fn first_sum(alloc: Global, schema: &Schema, asked: &Parsed) -> Result<Option<Summed>, NoMemory>

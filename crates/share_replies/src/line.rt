@@ -9,12 +9,12 @@ ghost use Rattle.share_replies.specs.declared.fault.WrongReply.{WrongReply};
 
 use crate::fault::{LineFault, WrongReply};
 use crate::summed::Summed;
-use texts::NoMemory;
 use query_syntax::{Parsed, Verb};
 use recount::next_reply;
 use reply_json::Reply;
 use reply_sums::{SumFault, adds_up, sum_replies};
 use std::alloc::Global;
+use texts::NoMemory;
 
 /// A sum with the reply of a line, and what follows the line.
 #[derive(Drop)]

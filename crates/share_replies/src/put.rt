@@ -17,10 +17,10 @@ ghost use Rattle.share_replies.specs.Texts.{IsLineOver, PutsSumLine, PutsSums, n
 
 use crate::summed::Summed;
 use outer_io::{IoFault, Sink};
-use texts::{List, NoMemory};
 use reply_json::{Reply, print_reply};
 use run_files::Stop;
 use std::alloc::Global;
+use texts::{List, NoMemory};
 
 /// The line that answers what was asked where its replies do not add up.
 const NOT_ADDITIVE_LINE: &str = "{\"fault\":\"NotAdditive\"}\n";

@@ -9,9 +9,9 @@ ghost use Rattle.share_replies.specs.declared.fault.WrongReply.{WrongReply};
 use crate::fault::{LineFault, TextFault, WrongReply};
 use crate::line::{Added, add_next};
 use crate::summed::Summed;
-use texts::List;
 use query_syntax::Parsed;
 use std::alloc::Global;
+use texts::List;
 
 /// The fault of the line after so many.
 fn fault_after(fault: LineFault, lines: usize) -> TextFault

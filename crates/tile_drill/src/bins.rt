@@ -9,21 +9,18 @@ ghost use Rattle.tile_drill.specs.Series.{AreRowTotals, HasSeriesRoom};
 
 use crate::sums::{Series, add_from};
 use cube_view::CubeView;
-use texts::{List, NoMemory};
 use probe_core::Steps;
 use query_syntax::{Query, RowOut, Verb};
 use query_walk::region_cursor;
 use std::alloc::Global;
 use std::sync::ledger::Ledger;
+use texts::{List, NoMemory};
 
 /// So many zeros.
 fn zeros(alloc: Global, count: usize) -> Result<Vec<u64>, NoMemory>
     ensures { IfOk result (λ numbers. numbers.items ≡ replicate count 0) }
 {
-    match vec![in alloc; 0; count] {
-        Ok(numbers) => Ok(numbers),
-        Err(_) => Err(NoMemory),
-    }
+    Ok(vec![in alloc; 0; count]?)
 }
 
 /// Puts each row's total in the place of its zero. It takes no memory.

@@ -9,12 +9,12 @@ ghost use Rattle.tile_drill.specs.Costs.{table_cost};
 use crate::bins::bins_rows;
 use crate::values::value_rows;
 use cube_view::CubeView;
-use texts::{List, NoMemory};
 use probe_core::Steps;
 use query_syntax::{Query, RowOut, Table, Verb};
 use query_walk::{area_rows, total};
 use std::alloc::Global;
 use std::sync::ledger::Ledger;
+use texts::{List, NoMemory};
 
 /// The row of a count.
 fn total_row<V: CubeView, L: Ledger>(

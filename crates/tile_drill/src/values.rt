@@ -9,12 +9,12 @@ ghost use Rattle.query_walk.specs.Walks.{HasBox};
 ghost use Rattle.tile_drill.specs.Costs.{values_cost};
 
 use cube_view::CubeView;
-use texts::{List, NoMemory};
 use probe_core::Steps;
 use query_syntax::{Query, RowOut, Verb};
 use query_walk::{region_cursor, value_total};
 use std::alloc::Global;
 use std::sync::ledger::Ledger;
+use texts::{List, NoMemory};
 
 /// The rows of a histogram: one for each value of the category.
 pub fn value_rows<V: CubeView, L: Ledger>(

@@ -7,9 +7,9 @@ use crate::form::Split;
 use crate::row::Row;
 use crate::rows::totals_of;
 use crate::split::{put_block, reserve_block};
-use texts::NoMemory;
 use probe_core::Rows;
 use std::alloc::Global;
+use texts::NoMemory;
 
 /// Puts rows behind the others as a block of their own, under a head with a bin, and gives the total up to them. `below`
 /// is the total before them.

@@ -5,9 +5,9 @@ ghost use Rattle.time_table.specs.Places.{with_row, without_spent, added, taken,
 
 use crate::place::{BinPlace, place_of};
 use crate::row::Row;
-use texts::NoMemory;
 use probe_core::{Rows, Steps};
 use std::sync::ledger::Ledger;
+use texts::NoMemory;
 
 /// Some records more in a bin. With room for a row it takes no memory.
 pub fn add_record<L: Ledger>(

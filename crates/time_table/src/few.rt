@@ -7,10 +7,10 @@ ghost use Rattle.time_table.specs.Fews.{few_rows, below_from};
 ghost use Rattle.time_table.specs.Series.{each_before};
 
 use crate::row::{Row, ThinRow};
-use texts::NoMemory;
 use probe_core::{Rows, Steps};
 use std::alloc::Global;
 use std::sync::ledger::Ledger;
+use texts::NoMemory;
 
 /// Up to three rows whose totals have 32 bits.
 #[derive(Clone, Copy)]

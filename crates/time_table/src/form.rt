@@ -19,11 +19,11 @@ use crate::series::{are_few, digits, pass_blocks, pass_single};
 use crate::split::{
     add_in, before_in, copy_blocks, next_row_in, put_block, reserve_block, take_in,
 };
-use texts::NoMemory;
 use probe_core::{Rows, Steps};
 use std::alloc::Global;
 use std::mem::replace;
 use std::sync::ledger::{Blank, Ledger};
+use texts::NoMemory;
 
 /// A few rows in the table's own bytes, a short list of rows, or heads and blocks.
 #[derive(Drop)]

@@ -10,10 +10,10 @@ use crate::blocks_of::split_of;
 use crate::few::Few;
 use crate::form::{Form, boxed};
 use crate::row::{Row, ThinRow};
-use texts::NoMemory;
 use probe_core::{Rows, Steps};
 use std::alloc::Global;
 use std::sync::ledger::Ledger;
+use texts::NoMemory;
 
 /// Makes room for so many rows.
 fn make_room(out: &mut Vec<(u32, u64)>, rows: usize) -> Result<(), NoMemory>

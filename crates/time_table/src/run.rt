@@ -6,10 +6,10 @@ ghost use Rattle.time_table.specs.Places.{PutsLesser, added_run, new_row};
 ghost use Rattle.time_table.specs.Forms.{IsSingle};
 
 use crate::row::Row;
-use texts::NoMemory;
 use probe_core::{Rows, Steps};
 use std::alloc::Global;
 use std::sync::ledger::Ledger;
+use texts::NoMemory;
 
 /// The rows with the amounts of a run more, as a new list, by one pass over both.
 pub fn merged<L: Ledger>(

@@ -11,10 +11,10 @@ use crate::change::{add_record, lower, raise, take_record};
 use crate::pair::{level, put_row};
 use crate::place::{next_in, place_of};
 use crate::row::Row;
-use texts::NoMemory;
 use probe_core::{Rows, Steps};
 use std::alloc::Global;
 use std::sync::ledger::Ledger;
+use texts::NoMemory;
 
 /// How many records fell into bins less than `bin_end`, by a search of the heads and one of a block.
 pub fn before_in<L: Ledger>(

@@ -10,11 +10,11 @@ ghost use Rattle.time_table.specs.Series.{each_before, each_cost};
 use crate::few::Few;
 use crate::form::Form;
 use crate::rows::{form_len, form_of, is_bare, put_form};
-use texts::NoMemory;
 use probe_core::Steps;
 use std::alloc::Global;
 use std::marker::{Brand, Model};
 use std::sync::ledger::{Blank, Ledger};
+use texts::NoMemory;
 
 /// How many records fell into each bin of time. A bin without records is not there.
 #[derive(Drop)]

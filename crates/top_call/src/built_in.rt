@@ -3,8 +3,8 @@ ghost use Rattle.std.specs.Prelude.{◌≡◌, IfOk, [], ◌∷◌, codes};
 ghost use Rattle.top_call.specs.BuiltIn.{built_in, kind};
 
 use cube_view::{Category, Schema};
-use texts::{List, NoMemory, Text};
 use std::alloc::Global;
+use texts::{List, NoMemory, Text};
 
 /// A list of two items.
 fn pair(alloc: Global, first: Text, second: Text) -> Result<List<Text>, NoMemory>

@@ -12,9 +12,9 @@ use crate::demo::loading::load;
 use cube_store::Cube;
 use cube_view::CubeView;
 use outer_io::{Place, Sink};
-use texts::NoMemory;
 use run_files::{Stop, answer_file};
 use std::alloc::Global;
+use texts::NoMemory;
 
 /// A cube of no points under the plan that is built in.
 fn empty_cube(alloc: Global) -> Result<Cube, NoMemory>
@@ -35,9 +35,7 @@ pub(crate) fn run_demo<P: Place, O: Sink>(
 ) -> Result<(), Stop>
     ensures { DemoEnds (of_place P.Place) (of_sink O.Sink) place.old place.new out.old out.new (demo_of feed.now script.now) result }
 {
-    let Ok(mut cube) = empty_cube(alloc) else {
-        return Err(Stop::NoMemory);
-    };
+    let mut cube = empty_cube(alloc)?;
     match load(alloc, feed, place, &mut cube) {
         Ok(()) => answer_file(alloc, &cube, script, place, out),
         Err(stop) => Err(stop),

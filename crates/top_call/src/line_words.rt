@@ -12,8 +12,8 @@ ghost use Rattle.top_call.specs.Save.{save_names};
 
 use cube_view::is_same_text;
 use image_run::LoadNames;
-use texts::decimal_of;
 use recount::RecountNames;
+use texts::decimal_of;
 
 /// The most rows of a generated feed.
 const MOST_ROWS: u64 = 100_000;

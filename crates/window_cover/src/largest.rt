@@ -6,9 +6,9 @@ ghost use Rattle.window_cover.specs.Ways.{cover_inside};
 
 use crate::rect::{crosses, has_tile};
 use cube_view::{Schema, Tile, quadrant};
-use texts::{List, NoMemory};
 use query_syntax::Rect;
 use std::alloc::Global;
+use texts::{List, NoMemory};
 
 /// Adds the largest tiles of the rectangle that are inside a tile, if they are not larger than it.
 fn add_inside(depth: u8, rect: &Rect, tile: &Tile, tiles: &mut List<Tile>) -> Result<(), NoMemory>

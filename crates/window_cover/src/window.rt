@@ -16,12 +16,12 @@ ghost use Rattle.window_cover.specs.Windows.{rect_of_verb};
 
 use crate::rect::{crosses, has_tile};
 use cube_view::{CubeView, Tile, quadrant};
-use texts::{List, NoMemory};
 use probe_core::Steps;
 use query_syntax::{Query, Rect, RowOut, Table, Verb};
 use query_walk::total_in_tile;
 use std::alloc::Global;
 use std::sync::ledger::Ledger;
+use texts::{List, NoMemory};
 
 /// How much the bag has of the window in the tile at which the cursor stands.
 fn total_inside<V: CubeView, L: Ledger>(

@@ -1,7 +1,7 @@
 //! Texts of cases as bytes.
 use anyhow::{Result, bail};
-use texts::List;
 use std::alloc::Global;
+use texts::List;
 
 /// The number that the text writes.
 pub(crate) fn number_of(text: &str) -> Result<u32> {

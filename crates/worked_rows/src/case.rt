@@ -4,11 +4,11 @@ use crate::draft::Draft;
 use crate::files::{Files, run};
 use crate::line::Line;
 use anyhow::{Result, bail};
-use texts::List;
 use std::alloc::Global;
 use std::mem;
 use std::sync::Wait;
 use std::thread::Threads;
+use texts::List;
 use top_call::Status;
 
 /// The files of the case at hand, the file that is being written, the puts of the next output that fail, and the report so far.

@@ -1,8 +1,8 @@
 //! A file of a case before it is put into its place.
 use crate::bytes::{add_bytes, number_of, numbers_of};
 use anyhow::{Result, bail};
-use texts::List;
 use std::alloc::Global;
+use texts::List;
 
 /// How many bytes a read gives at most, where a case says nothing else.
 const PIECE: usize = 64;

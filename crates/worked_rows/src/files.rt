@@ -4,10 +4,10 @@ ghost use Rattle.std.specs.Prelude.{◌≢◌};
 use crate::draft::Draft;
 use anyhow::{Result, bail};
 use outer_io::{MemPlace, MemSink, StillPlace, StillSink};
-use texts::{List, NoMemory};
 use std::alloc::Global;
 use std::sync::Wait;
 use std::thread::Threads;
+use texts::{List, NoMemory};
 use top_call::{Status, nanocube};
 
 /// The files of a case: those of which calls may fail, or those of which none does.

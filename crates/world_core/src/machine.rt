@@ -11,10 +11,10 @@ ghost use Rattle.world_core.specs.Worlds.{KeepsOrder};
 
 use crate::{Entry, Event, Shot, World};
 use cube_view::{Point, Schema};
-use texts::{List, NoMemory};
 use query_syntax::{Query, is_drill, is_valid_query, table_of};
 use std::alloc::Global;
 use std::collections::VecDeque;
+use texts::{List, NoMemory};
 
 /// The parts of a world while events happen to it.
 #[derive(Drop)]
@@ -55,10 +55,7 @@ fn lists_of(alloc: Global, rests: Vec<VecDeque<Point>>) -> Result<List<List<Poin
 fn zeros(alloc: Global, count: u32) -> Result<Vec<u64>, NoMemory>
     ensures { IfOk result (λ numbers. numbers.items ≡ replicate count 0) }
 {
-    match vec![in alloc; 0; count as usize] {
-        Ok(numbers) => Ok(numbers),
-        Err(_) => Err(NoMemory),
-    }
+    Ok(vec![in alloc; 0; count as usize]?)
 }
 
 fn points_of(alloc: Global, entries: &[Entry]) -> Result<List<Point>, NoMemory>
@@ -128,10 +125,8 @@ impl Machine {
             number,
             point,
         };
-        match self.queue.push_back(entry) {
-            Ok(()) => Ok(()),
-            Err(_) => Err(NoMemory),
-        }
+        self.queue.push_back(entry)?;
+        Ok(())
     }
 
     fn pop(&mut self) -> Result<(), NoMemory>

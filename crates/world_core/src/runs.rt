@@ -7,8 +7,8 @@ ghost use Rattle.world_core.specs.Worlds.{KeepsOrder, LooksAreFresh};
 use crate::machine::Machine;
 use crate::{Event, World};
 use cube_view::{Point, Schema};
-use texts::{List, NoMemory};
 use std::alloc::Global;
+use texts::{List, NoMemory};
 
 /// The world that the events make of the feeds, where the queue has so much room and there are so many
 /// sessions. An event that isn't possible is noted by its number, from 0. `NoMemory` where the parts of

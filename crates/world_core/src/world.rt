@@ -2,8 +2,8 @@
 
 use crate::Entry;
 use cube_view::Point;
-use texts::List;
 use query_syntax::Table;
+use texts::List;
 
 /// What a look gave: the session, from 0, and the table of its query.
 #[derive(Drop)]

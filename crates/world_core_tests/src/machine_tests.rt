@@ -5,11 +5,11 @@ ghost use Rattle.cube_view.specs.Validity.{valid};
 
 use cube_view::{Point, Schema, Tile, is_valid};
 use example_schemas::{point, schema_of_kinds};
-use texts::{List, NoMemory};
 use query_syntax::{Choice, Query, Rect, RowOut, Span, ValueSet, Verb};
 use std::alloc::Global;
 use std::process::Abort;
 use std::test::Fail;
+use texts::{List, NoMemory};
 use world_core::{Entry, Event, Shot, World, run};
 
 fn are_valid(schema: &Schema, points: &[Point]) -> bool

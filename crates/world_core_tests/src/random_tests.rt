@@ -4,11 +4,11 @@ ghost use Rattle.std.specs.Prelude.{◌<◌};
 use crate::machine_tests::{CountShot, Plan, are_shots, count, counted, entry, query, world_of};
 use cube_view::{Point, Tile};
 use example_schemas::point;
-use texts::{List, NoMemory};
 use query_syntax::{Query, Verb};
 use std::alloc::Global;
 use std::process::Abort;
 use std::test::Fail;
+use texts::{List, NoMemory};
 use world_core::{Entry, Event};
 
 /// Numbers that look random, always the same ones.

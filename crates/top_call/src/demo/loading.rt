@@ -14,9 +14,9 @@ ghost use Rattle.outer_io.specs.Told.{Told};
 use cube_view::Grow;
 use feed_reader::{Header, NoHeader, Row, next_row, read_header};
 use outer_io::{CutFault, IoFault, LineCutter, Place, Source};
-use texts::NoMemory;
 use run_files::Stop;
 use std::alloc::Global;
+use texts::NoMemory;
 
 /// Why a feed is not loaded.
 #[derive(Clone, Copy, PartialEq, Eq, Debug)]
