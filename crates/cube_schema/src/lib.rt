@@ -22,7 +22,7 @@ mod printing;
 mod ranges;
 mod reading;
 mod repeats;
-mod texts;
+mod text_list;
 mod versions;
 
 pub use fault::PlanFault;

@@ -4,7 +4,7 @@ ghost use Rattle.cube_view.specs.Limits.{has_text, with_weight, column_names};
 ghost use Rattle.cube_schema.specs.Repeats.{repeated_in, repeated_value, outputs, file_names, first_repeated};
 
 use crate::draft::Draft;
-use crate::texts::has_text;
+use crate::text_list::has_text;
 use cube_view::Category;
 use std::alloc::Global;
 use texts::{List, NoMemory, Text};

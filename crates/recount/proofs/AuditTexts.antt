@@ -11,7 +11,7 @@ use Rattle.run_files.specs.Outside.{file_of, PlaceSeen}
 use Rattle.run_files.specs.declared.stop.Stop.{Stop}
 use Rattle.run_files.specs.declared.stop.Stop.TheVariants.{PlanRefused, WriteFault, FeedRefused}
 use Rattle.recount.specs.AuditTexts.{IsOneLong, ReadsText, ReadsTexts}
-use Rattle.recount.specs.declared.texts.Texts.{Texts}
+use Rattle.recount.specs.declared.text_reading.Texts.{Texts}
 
 -- what holds of a file that is told holds of its bytes
 pub told_of : (o : Option Files) (files : Files) (name : List ℕ) (Q : List ℕ → Type 0) → o ≡ Some files → Told (file_of o name) Q → Q (file_or_empty files name)

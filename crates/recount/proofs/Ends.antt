@@ -24,7 +24,7 @@ use Rattle.recount.specs.Names.{AuditNames}
 use Rattle.recount.specs.AuditTexts.{AreShort, IsOneLong, ReadsTexts}
 use Rattle.recount.specs.Said.{AuditsTexts, HasVerdictUnder, SaysVerdict}
 use Rattle.recount.specs.declared.audit.Audit.{Audit}
-use Rattle.recount.specs.declared.texts.Texts.{Texts}
+use Rattle.recount.specs.declared.text_reading.Texts.{Texts}
 
 -- texts of which one is long are not short
 not_both : (j q r : List ℕ) → AreShort j q r → IsOneLong j q r → ⊥

@@ -13,7 +13,7 @@ use Rattle.recount.specs.Audits.{audit_of}
 use Rattle.recount.specs.VerdictLines.{verdict_line}
 use Rattle.recount.specs.Said.{AuditsTexts, HasVerdictUnder}
 use Rattle.recount.specs.declared.audit.Audit.{Audit}
-use Rattle.recount.specs.declared.texts.Texts.{Texts}
+use Rattle.recount.specs.declared.text_reading.Texts.{Texts}
 
 -- what is decided of a verdict, for so many feeders
 abbrev Decided : Plan → ℕ → List ℕ → List ℕ → List ℕ → Verdict → Type 0

@@ -8,7 +8,7 @@ use Rattle.run_files.specs.Leaving.{LeavesPlace}
 use Rattle.run_files.specs.Outside.{file_of, PlaceSeen}
 use Rattle.run_files.specs.declared.stop.Stop.{Stop}
 use Rattle.run_files.specs.declared.stop.Stop.TheVariants.{PlanRefused, WriteFault, FeedRefused}
-use Rattle.recount.specs.declared.texts.Texts.{Texts}
+use Rattle.recount.specs.declared.text_reading.Texts.{Texts}
 
 -- each of the three has at most 2^30 bytes
 abbrev pub AreShort : List ℕ → List ℕ → List ℕ → Type 0

@@ -1,6 +1,6 @@
 -- The names of the files of an audit.
 use Rattle.std.specs.Prelude.{ℕ, List}
-use Rattle.recount.specs.declared.texts.RecountNames.{RecountNames}
+use Rattle.recount.specs.declared.text_reading.RecountNames.{RecountNames}
 
 -- Those of the plan, the journal, the script and the replies
 pub record AuditNames : Type 0 where

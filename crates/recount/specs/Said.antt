@@ -11,7 +11,7 @@ use Rattle.recount.specs.declared.verdict.Verdict.{Verdict}
 use Rattle.recount.specs.Audits.{audit_of}
 use Rattle.recount.specs.VerdictLines.{verdict_line}
 use Rattle.recount.specs.declared.audit.Audit.{Audit}
-use Rattle.recount.specs.declared.texts.Texts.{Texts}
+use Rattle.recount.specs.declared.text_reading.Texts.{Texts}
 
 -- The verdict is the one that a journal, a script and replies have under a plan
 pub record HasVerdictUnder (plan : Plan) (journal script replies : List ℕ) (v : Verdict) : Type 0 where

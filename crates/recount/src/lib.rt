@@ -31,7 +31,7 @@ mod recounting;
 mod replies;
 mod saying;
 mod testing;
-mod texts;
+mod text_reading;
 mod verdict;
 mod verdict_lines;
 
@@ -40,5 +40,5 @@ pub use audit::Audit;
 pub use checking::check;
 pub use recounting::recount_files;
 pub use replies::{NextReply, next_reply};
-pub use texts::RecountNames;
+pub use text_reading::RecountNames;
 pub use verdict::{Verdict, Why};

@@ -9,7 +9,7 @@ ghost use Rattle.recount.specs.Said.{AuditsTexts};
 use crate::audit::audit_of;
 use crate::checking::check;
 use crate::saying::say_verdict;
-use crate::texts::{Texts, read_texts};
+use crate::text_reading::{Texts, read_texts};
 use crate::{Audit, RecountNames};
 use cube_schema::Plan;
 use outer_io::{Place, Sink};

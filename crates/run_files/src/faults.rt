@@ -4,7 +4,7 @@ ghost use Rattle.std.specs.List.{slice_get};
 ghost use Rattle.run_files.specs.Faults.{cut_fault_text, head_fault_text, plan_fault_text, row_fault_text, session_fault_text, with_brackets, json_text};
 ghost use Rattle.run_files.specs.Names.{column_name, name_of};
 
-use crate::texts::push_json;
+use crate::json_text::push_json;
 use cube_schema::PlanFault;
 use cube_view::Schema;
 use feed_reader::{Column, HeadFault, RowFault};

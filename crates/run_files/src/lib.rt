@@ -30,13 +30,13 @@ mod counts;
 mod faults;
 mod feeds;
 mod giving_back;
+mod json_text;
 mod lines;
 mod loading;
 mod reporting;
 mod saying;
 mod scripts;
 mod stop;
-mod texts;
 
 pub use answering::answer_file;
 pub use counts::ScriptCounts;

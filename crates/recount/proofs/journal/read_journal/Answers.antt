@@ -13,6 +13,6 @@ pub lines-preserved : goal.lines-preserved
 lines-preserved c =
     let s = c.lines.invariant in
     let next = c.in-Some.ensures.some in
-    subst (λ (l : List Point). SoFar c.args.schema.now c.args.feeders c.args.journal.now l c.take_number.new.counts c.in-Some.next.rest.now) (sym c.in-Ok.ensures.items)
+    subst (λ (l : List Point). SoFar c.args.schema.now c.args.feeders c.args.journal.now l c.take_number.new.counts c.in-Some.next.rest.now) (sym c.in_ok-push.ensures.items)
     (so_far_push c.args.schema.now c.args.feeders c.args.journal.now c.lines.points.items c.lines.counts c.take_number.new.counts c.lines.rest.now c.in-Some.next.rest.now c.in-Some.next.entry s next.0 next.1
     (c.if-not-take_number.ensures s.before s.counted))

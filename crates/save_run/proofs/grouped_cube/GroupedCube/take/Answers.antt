@@ -16,6 +16,6 @@ invariant_of-self c =
       few = omega (arith, few, short);
     }
 
-pub returns-in-Ok-clause-taken : goal.returns-in-Ok-clause-taken
-returns-in-Ok-clause-taken c =
-    takes_behind c.args.self.now c.make_room.new.self _ _ c.in_ok-make_room.ensures.taken (gathers c.make_room.new.self _ c.args.point refl c.in-Ok.ensures.items)
+pub returns-clause-taken : goal.returns-clause-taken
+returns-clause-taken c =
+    takes_behind c.args.self.now c.make_room.new.self _ _ c.in_ok-make_room.ensures.taken (gathers c.make_room.new.self _ c.args.point refl c.in_ok-push.ensures.items)

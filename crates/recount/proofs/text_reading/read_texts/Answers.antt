@@ -3,9 +3,9 @@ use Rattle.run_files.proofs.Apart.{residual_is}
 use Rattle.run_files.specs.Outside.{of_place}
 use Rattle.run_files.specs.declared.stop.Stop.{Stop}
 use Rattle.recount.specs.AuditTexts.{ReadsTexts}
-use Rattle.recount.specs.declared.texts.Texts.{Texts}
+use Rattle.recount.specs.declared.text_reading.Texts.{Texts}
 use Rattle.recount.proofs.AuditTexts.{ended_by_journal, ended_by_replies, ended_by_script, read_all}
-use Rattle.recount.proofs.texts.read_texts.Goals as goal
+use Rattle.recount.proofs.text_reading.read_texts.Goals as goal
 
 pub returns-in_err-journal : goal.returns-in_err-journal
 returns-in_err-journal g c =

@@ -4,7 +4,7 @@ use Rattle.run_files.specs.Outside.{of_place}
 use Rattle.run_files.specs.declared.stop.Stop.{Stop}
 use Rattle.recount.specs.AuditTexts.{ReadsText}
 use Rattle.recount.proofs.AuditTexts.{text_ended, text_read, text_refused}
-use Rattle.recount.proofs.texts.read_text.Goals as goal
+use Rattle.recount.proofs.text_reading.read_text.Goals as goal
 
 pub returns-in_err-bytes : goal.returns-in_err-bytes
 returns-in_err-bytes g c =
