@@ -9,6 +9,7 @@ ghost use Rattle.time_table.specs.Blocks.{parts};
 ghost use Rattle.time_table.specs.Forms.{IsForm, IsWide, HasRoom, HasRoomFor, rows_of, form_entries, find_cost, total_of};
 ghost use Rattle.time_table.specs.Series.{each_before, each_cost};
 
+use crate::block::block_of;
 use crate::change::{add_record, take_record};
 use crate::few::Few;
 use crate::pair::put_row;
@@ -21,7 +22,6 @@ use crate::split::{
 };
 use probe_core::{Rows, Steps};
 use std::alloc::Global;
-use std::mem::replace;
 use std::sync::ledger::{Blank, Ledger};
 use texts::NoMemory;
 
@@ -292,8 +292,9 @@ impl Form {
     }
 
     /// The same rows once more.
-    pub fn copy(&self, alloc: Global) -> Result<Form, NoMemory>
-        requires { IsForm self.now }
+    pub fn copy<L: Ledger>(&self, alloc: Global, blank: Blank) -> Result<Form, NoMemory>
+        requires blank { IsBlankOf L.name L.parts blank }
+        requires form { IsForm self.now }
         ensures { IfOk result (λ form. IsForm form × (form_entries form ≡ form_entries self.now)) }
     {
         match self {
@@ -303,7 +304,8 @@ impl Form {
                 Ok(Form::Single(rows))
             }
             Form::Split(split) => {
-                let blocks = copy_blocks(alloc, &split.blocks)?;
+                let mut steps = Steps::<L>::new(blank);
+                let blocks = copy_blocks(alloc, &split.blocks, &mut steps)?;
                 let heads = split.heads.copy(alloc)?;
                 Ok(Form::Split(boxed(alloc, Split { heads, blocks })?))
             }
@@ -331,7 +333,7 @@ impl Form {
             Form::Split(_) => return Ok(()),
         };
         let last = rows.at(rows.len() - 1, steps);
-        rows.reserve(1)?;
+        let block = block_of(alloc, rows, steps)?;
         let mut heads = Rows::new(alloc);
         heads.reserve(1)?;
         let mut blocks = Vec::new(alloc);
@@ -342,7 +344,6 @@ impl Form {
         };
         put_row(&mut heads, 0, head);
         let mut split = boxed(alloc, Split { heads, blocks })?;
-        let block = replace(rows, Rows::new(alloc));
         put_block(&mut split.blocks, 0, block);
         *self = Form::Split(split);
         Ok(())

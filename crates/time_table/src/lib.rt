@@ -15,6 +15,7 @@
 //! ```
 #![tactic(auto)]
 
+mod block;
 mod blocks_of;
 mod change;
 mod few;

@@ -7,6 +7,7 @@ ghost use Rattle.time_table.specs.Totals.{counts, last_total, row_bin};
 ghost use Rattle.time_table.specs.Places.{count_at, more, less};
 ghost use Rattle.time_table.specs.Blocks.{Block, IsSplit, IsHeld, Held, AreLastBut, AllSized, SizedBut, FitsAt, AddsAt, in_hand, flat, parts, lists};
 
+use crate::block::block_of;
 use crate::change::{add_record, lower, raise, take_record};
 use crate::pair::{level, put_row};
 use crate::place::{next_in, place_of};
@@ -240,16 +241,29 @@ pub fn take_in<L: Ledger>(
     false
 }
 
+/// No blocks, with room for just so many.
+fn room_for(alloc: Global, count: usize) -> Result<Vec<Rows<Row>>, NoMemory>
+    ensures { IfOk result (λ blocks. blocks.items ≡ []) }
+{
+    let mut blocks = Vec::new(alloc);
+    match blocks.try_reserve_exact(count) {
+        Ok(()) => Ok(blocks),
+        Err(_) => Err(NoMemory),
+    }
+}
+
 /// The same blocks once more, each with its room.
-pub fn copy_blocks(alloc: Global, blocks: &Vec<Rows<Row>>) -> Result<Vec<Rows<Row>>, NoMemory>
+pub fn copy_blocks<L: Ledger>(
+    alloc: Global,
+    blocks: &Vec<Rows<Row>>,
+    steps: &mut Steps<L>,
+) -> Result<Vec<Rows<Row>>, NoMemory>
     requires sized { AllSized blocks.now.items }
     ensures { IfOk result (λ copy. (lists copy.items ≡ lists blocks.now.items) × AllSized copy.items) }
 {
-    let mut copies = Vec::new(alloc);
+    let mut copies = room_for(alloc, blocks.len())?;
     for i in 0..blocks.len() {
-        let block = &blocks[i];
-        let mut copy = block.copy(alloc)?;
-        copy.reserve(64 - copy.len())?;
+        let copy = block_of(alloc, &blocks[i], steps)?;
         reserve_block(&mut copies)?;
         put_block(&mut copies, i, copy);
     }

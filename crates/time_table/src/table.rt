@@ -185,7 +185,7 @@ impl TimeTable {
     pub fn copy(&self, alloc: Global) -> Result<TimeTable, NoMemory>
         ensures { IfOk result (λ table. table ≡ self.now) }
     {
-        let form = self.form.copy(alloc)?;
+        let form = self.form.copy::<Brand>(alloc, Blank::new(1))?;
         Ok(TimeTable { alloc, form })
     }
 

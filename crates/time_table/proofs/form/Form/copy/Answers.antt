@@ -9,8 +9,8 @@ use Rattle.time_table.proofs.LastBins.{AreLast-lists}
 use Rattle.time_table.proofs.form.Form.copy.Goals as goal
 
 pub returns-in_ok-boxed-in-Split : goal.returns-in_ok-boxed-in-Split
-returns-in_ok-boxed-in-Split c =
-    let split : IsSplit c.in-Split.split.value.heads.items c.in-Split.split.value.blocks.items = subst IsForm c.in-Split.is c.requires in
+returns-in_ok-boxed-in-Split g c =
+    let split : IsSplit c.in-Split.split.value.heads.items c.in-Split.split.value.blocks.items = subst IsForm c.in-Split.is c.requires.form in
     let copies = c.in_ok-blocks-in-Split.ensures in
     let same : lists c.in_ok-blocks-in-Split.blocks.items ≡ lists c.in-Split.split.value.blocks.items = copies.0 ∙ ap (λ (s : Split). lists s.blocks.items) c.deref.ensures in
     let copied : IsSplit c.in-Split.split.value.heads.items c.in_ok-blocks-in-Split.blocks.items = record {

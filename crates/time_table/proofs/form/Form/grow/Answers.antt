@@ -15,18 +15,15 @@ returns-clause-form g c =
     let single : IsSingle c.in-Single.rows.items = subst IsForm c.in-Single.is c.requires.form in
     let fits : last_total 0 c.in-Single.rows.items ≤ 2 ^ 63 = subst (λ (f : Form). total_of f ≤ 2 ^ 63) c.in-Single.is c.requires.fits in
     let head : Row = record { bin = 4294967295; total = c.at-last.result.total } in
-    let items : c.replace-block.result.items ≡ c.in-Single.rows.items = ap (λ (b : Block). b.items) c.replace-block.ensures.value ∙ c.reserve.ensures.unchanged in
-    let long : length c.replace-block.result.items ≡ length c.in-Single.rows.items = ap length items in
-    let spare : 1 ≤ c.replace-block.result.spare = subst (λ (b : Block). 1 ≤ b.spare) (sym c.replace-block.ensures.value) c.in_ok-reserve.ensures.room in
-    one_block c.in-Single.rows.items _ c.put_block.new.blocks.items c.replace-block.result head single (omega arith) fits
-    (ap (λ (s : Split). s.heads.items) (c.deref_mut.ensures.value ∙ c.in_ok-split.ensures) ∙ c.put_row.ensures.put ∙ ap (λ (zs : List Row). insert zs 0 head) (c.reserve-2.ensures.unchanged ∙ c.new-heads.ensures))
-    (c.put_block.ensures ∙ ap (λ (zs : List Block). insert zs 0 c.replace-block.result) (ap (λ (s : Split). s.blocks.items) (c.deref_mut.ensures.value ∙ c.in_ok-split.ensures) ∙ c.reserve_block.ensures.unchanged ∙ c.new-blocks.ensures.items))
-    items (omega arith) (omega arith)
+    one_block c.in-Single.rows.items _ c.put_block.new.blocks.items c.in_ok-block.block head single (omega arith) fits
+    (ap (λ (s : Split). s.heads.items) (c.deref_mut.ensures.value ∙ c.in_ok-split.ensures) ∙ c.put_row.ensures.put ∙ ap (λ (zs : List Row). insert zs 0 head) (c.reserve.ensures.unchanged ∙ c.new-heads.ensures))
+    (c.put_block.ensures ∙ ap (λ (zs : List Block). insert zs 0 c.in_ok-block.block) (ap (λ (s : Split). s.blocks.items) (c.deref_mut.ensures.value ∙ c.in_ok-split.ensures) ∙ c.reserve_block.ensures.unchanged ∙ c.new-blocks.ensures.items))
+    c.in_ok-block.ensures.same c.in_ok-block.ensures.room (omega arith)
     (last_total_at 0 (c.len-2.result - 1) c.in-Single.rows.items c.at-last.result (omega arith) c.at-last.ensures.item)
 
 pub returns-clause-total : goal.returns-clause-total
 returns-clause-total g c =
     let head : Row = record { bin = 4294967295; total = c.at-last.result.total } in
-    ap (last_total 0) (ap (λ (s : Split). s.heads.items) (c.deref_mut.ensures.value ∙ c.in_ok-split.ensures) ∙ c.put_row.ensures.put ∙ ap (λ (zs : List Row). insert zs 0 head) (c.reserve-2.ensures.unchanged ∙ c.new-heads.ensures))
+    ap (last_total 0) (ap (λ (s : Split). s.heads.items) (c.deref_mut.ensures.value ∙ c.in_ok-split.ensures) ∙ c.put_row.ensures.put ∙ ap (λ (zs : List Row). insert zs 0 head) (c.reserve.ensures.unchanged ∙ c.new-heads.ensures))
     ∙ last_total_at 0 (c.len-2.result - 1) c.in-Single.rows.items c.at-last.result (omega arith) c.at-last.ensures.item
     ∙ sym (ap total_of c.in-Single.is)
