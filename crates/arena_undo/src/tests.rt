@@ -6,9 +6,9 @@ ghost use Rattle.arena_undo.specs.Worked.{begun};
 use crate::Work;
 use cube_view::Stat;
 use node_arena::{Arena, Link, SlotId};
+use texts::NoMemory;
 use std::alloc::Global;
 use std::test::Fail;
-use texts::NoMemory;
 
 /// Work on an arena of one node.
 fn work_on_one_node(alloc: Global) -> Result<Work, NoMemory>
@@ -16,7 +16,10 @@ fn work_on_one_node(alloc: Global) -> Result<Work, NoMemory>
 {
     let mut arena = Arena::new(alloc);
     arena.add_node()?;
-    Ok(Work::begin(alloc, arena, 7)?)
+    match Work::begin(alloc, arena, 7) {
+        Ok(work) => Ok(work),
+        Err(_) => Err(NoMemory),
+    }
 }
 
 /// One change of each kind, of the node that is there where it can be.
