@@ -6,9 +6,9 @@ ghost use Rattle.arena_undo.specs.Worked.{begun};
 use crate::Work;
 use cube_view::Stat;
 use node_arena::{Arena, Link, SlotId};
-use texts::NoMemory;
 use std::alloc::Global;
 use std::test::Fail;
+use texts::NoMemory;
 
 /// Work on an arena of one node.
 fn work_on_one_node(alloc: Global) -> Result<Work, NoMemory>
