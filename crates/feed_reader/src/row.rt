@@ -35,7 +35,7 @@ pub enum Row {
 }
 
 // The number in a column's field.
-#[tactic(auto, unfolding(outer_io::specs::Decimals::decimal_value))]
+#[tactic(auto, unfolding(texts::specs::Decimals::decimal_value))]
 fn number(field: &[u8], column: Column) -> Result<u64, RowFault>
     ensures { AnswersUnless (fault_if (not (is_decimal field.now)) (RowFault.BadNumber column)) (number field.now) result }
 {

@@ -21,4 +21,4 @@ returns-in-None g c =
     (λ (is : c.put_byte.new.out.items ≡ c.put_children.new.out.items ++ 0 ∷ []).
     node_put c.args.order.now.places (slot_of c.args.arena.now c.args.id.0) None c.args.out.now.items c.put_short.new.out.items c.put_children.new.out.items c.put_byte.new.out.items c.requires.is_node c.in-None.ensures.link
     (c.in_ok-put_short.ensures ∙ ap (λ (n : ℕ). c.args.out.now.items ++ (1 ∷ to_be_bytes w16 n)) c.child_count-count.ensures.count) c.in_ok-put_children.ensures is)
-    c.put_byte.ensures
+    c.put_byte.ensures.put

@@ -12,7 +12,7 @@ loop-row-preserved c = record {
 }
 
 pub returns-clause-text : goal.returns-clause-text
-returns-clause-text c = last_row c.loop-row.out.items c.put_byte.new.out.items _ c.loop-row.later c.args.rows.now c.loop-row.row-index c.loop-row-test.false c.in_ok-put_byte.ensures c.loop-row.invariant.text
+returns-clause-text c = last_row c.loop-row.out.items c.put_byte.new.out.items _ c.loop-row.later c.args.rows.now c.loop-row.row-index c.loop-row-test.false c.in_ok-put_byte.ensures.put c.loop-row.invariant.text
 
 pub returns-clause-fits : goal.returns-clause-fits
 returns-clause-fits c = all_fit c.args.rows.now c.loop-row.row-index c.loop-row-test.false c.loop-row.invariant.fits
