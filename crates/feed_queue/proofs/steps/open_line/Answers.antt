@@ -6,7 +6,7 @@ pub ruled-requires-clause-rule : goal.ruled-requires-clause-rule
 ruled-requires-clause-rule c = new_lane
 
 pub try_push_as-requires-clause-rule : goal.try_push_as-requires-clause-rule
-try_push_as-requires-clause-rule c = may_open _ _ _ _ _ c.in_ok-ruled.ensures.3 refl
+try_push_as-requires-clause-rule c = may_open _ _ _ _ _ c.in_ok-line.ensures.3 refl
 
 pub try_pop_as-requires-clause-rule : goal.try_pop_as-requires-clause-rule
 try_pop_as-requires-clause-rule c = may_begin _ _ c.args.schema.now (search rules)

@@ -6,7 +6,7 @@ pub ruled-requires-clause-rule : goal.ruled-requires-clause-rule
 ruled-requires-clause-rule g c = new_place
 
 pub try_push_as-requires-clause-rule : goal.try_push_as-requires-clause-rule
-try_push_as-requires-clause-rule g c = may_name _ _ _ c.tell.result c.in_ok-ruled.ensures.3
+try_push_as-requires-clause-rule g c = may_name _ _ _ c.tell.result c.in_ok-place.ensures.3
 
 pub try_pop_as-requires-clause-rule : goal.try_pop_as-requires-clause-rule
 try_pop_as-requires-clause-rule g c = may_begin _ _ c.tell.result.front (search rules)

@@ -19,5 +19,5 @@ invariant_of-publisher-clause-goes_by g c =
     let schema : g.V.CubeView.schema w.desk.shown.value.view ≡ c.in_ok-schema.schema = search rules in
     rw none schema
 
-pub returns-in-Ok-make_viewers-clause-viewers : goal.returns-in-Ok-make_viewers-clause-viewers
-returns-in-Ok-make_viewers-clause-viewers g c = (search rules, λ k d below. let v = c.in-Ok-make_viewers.ensures.viewers.1 k d below in (search rules, search rules, search rules, search rules))
+pub returns-in-Ok-clause-viewers : goal.returns-in-Ok-clause-viewers
+returns-in-Ok-clause-viewers g c = (search rules, λ k d below. let v = c.in-Ok.ensures.viewers.1 k d below in (search rules, search rules, search rules, search rules))
