@@ -3,7 +3,7 @@ beside its peer in the same run, and prints each command with what it printed an
 
 PROGRAM is crates/cube_main/out/cube_main, as `./nanocube` builds it; BEFORE an earlier one, which is measured beside it where
 a section compares programs. The peers are built in FOLDER (a new one): bench/groups.rs, nanocube.rs, prober.rs and tables.rs by `rustc`,
-bench/feed_lines.rs by `cargo` with the crate `csv`, bench/refuse.c by `gcc`. A section whose peer cannot be built is skipped
+bench/feed_lines.rs by `cargo` with the crate `csv`, bench/refuse.c and live_bytes.c by `gcc`. A section whose peer cannot be built is skipped
 and named. bench/gate_times, which measures the gate, and a first build are not among them: each takes the whole machine."""
 import argparse, os, shutil, subprocess, sys, tempfile, time
 
@@ -16,6 +16,7 @@ SECTIONS = {
     "cube": ["{bench}/measure.sh cube_times", "{nanocube}", "python3 {bench}/sqlite.py"],
     "replies": ["python3 {bench}/reply_times.py {both} --peer {nanocube}"],
     "loading": ["python3 {bench}/load_times.py {both} --groups {groups}"],
+    "memory": ["python3 {bench}/live_bytes.py {live_bytes} {both}"],
     "large": ["python3 {bench}/load_times.py {both} --groups {groups} --records 2000000 --kinds generated,city --batches 1024,65536 --feeds 8",
               "python3 {bench}/load_times.py {both} --groups {groups} --records 1000000 --kinds checkins --batches 64,65536 --feeds 1"],
     "sessions": ["{bench}/measure.sh session_times"],
@@ -61,7 +62,8 @@ def build_peers(folder):
                 for name in ("groups", "nanocube", "prober", "tables")}
     commands["feed_lines"] = (f"{folder}/feed_lines/target/release/feed_lines",
                               ["cargo", "build", "--release", "--quiet", "--manifest-path", f"{folder}/feed_lines/Cargo.toml"])
-    commands["refuse"] = (f"{folder}/refuse.so", ["gcc", "-shared", "-fPIC", "-o", f"{folder}/refuse.so", f"{BENCH}/refuse.c"])
+    for name in ("refuse", "live_bytes"):
+        commands[name] = (f"{folder}/{name}.so", ["gcc", "-O2", "-shared", "-fPIC", "-o", f"{folder}/{name}.so", f"{BENCH}/{name}.c"])
     built = {}
     for name, (path, words) in commands.items():
         where = f"{folder}/feed_lines" if name == "feed_lines" else folder

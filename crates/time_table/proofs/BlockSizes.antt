@@ -1,8 +1,9 @@
 -- Two neighbouring blocks as one, and which blocks are sized.
-use Rattle.std.proofs.Common.{◌≡◌, ℕ, zero, suc, ◌+◌, ◌<◌, ◌≤◌, ◌⊎◌, List, [], ◌∷◌, ◌++◌, length, map, set, get_or, refl, sym, ap, subst, inl, inr, ◌∙◌, arith, append_assoc}
+use Rattle.std.proofs.Common.{◌≡◌, ℕ, zero, suc, ◌+◌, ◌<◌, ◌≤◌, ◌⊎◌, List, [], ◌∷◌, ◌++◌, length, map, set, get_or, refl, sym, ap, subst, inl, inr, ◌∙◌, arith, append_assoc, add-one}
 use Rattle.std.specs.List.{remove}
 use Rattle.std.proofs.lemmas.List.Elements.{All-append, All-weaker}
-use Rattle.std.proofs.lemmas.List.{get_or_read}
+use Rattle.std.proofs.lemmas.List.{get_or_read, get_or-set_other}
+use Rattle.std.proofs.lemmas.List.Edits.{length-remove}
 use Rattle.time_table.specs.declared.row.Row.{Row}
 use Rattle.time_table.specs.Totals.{Rise, counts_from, last_total, raised}
 use Rattle.std.proofs.lemmas.Bool.{false≢true}
@@ -10,7 +11,7 @@ use Rattle.std.specs.Prelude.{Result, Ok, Err, IsOk, OnOk}
 use Rattle.time_table.specs.Places.{added, taken, count_at}
 use Rattle.time_table.proofs.MoreRecords.{length-added}
 use Rattle.time_table.proofs.FewerRecords.{length-taken}
-use Rattle.time_table.specs.Blocks.{Block, parts, IsHead, Held, IsSized, IsLoose, AllSized, SizedBut, one_list, in_hand}
+use Rattle.time_table.specs.Blocks.{Block, parts, IsHead, Held, IsSized, IsLoose, AllSized, SizedBut, FitsAt, one_list, in_hand}
 use Rattle.time_table.proofs.MoreRecords.{Rise-raised, All-raised}
 use Rattle.time_table.proofs.TwoRowLists.{Rise-append, last_total-one_list, counts_from-one_list, one_list-nil}
 
@@ -183,3 +184,30 @@ tighten_all (suc p) (x ∷ bs) sized most = (sized.0, tighten_all p bs sized.1 m
 
 pub read_length : (p : ℕ) (bs : List Block) (b : Block) → p < length bs → b ≡ get_or bs p b → (d : Block) → length (get_or bs p d).items ≡ length b.items
 read_length p bs b within read d = ap (λ (y : Block). length y.items) (sym (get_or_read bs p b within read d))
+
+sized-given : (q : ℕ) (bs : List Block) (right : Block) → SizedBut 0 (suc q) bs → suc q < length bs → right ≡ get_or bs (suc q) right → ((b : Block) → b ≡ get_or bs q b → length b.items ≤ 62) → SizedBut (length right.items) q (remove bs (suc q))
+sized-given q [] right sized within read gap = absurd sized
+sized-given zero (x ∷ []) right sized within read gap = absurd (omega arith)
+sized-given zero (x ∷ y ∷ bs) right sized within read gap =
+    let is : IsLoose 0 right = subst (IsLoose 0) (sym read) sized.1.0 in
+    let few : length x.items ≤ 62 = gap x refl in
+    (record { least = omega (arith, sized.0.least); most = omega arith; enough = omega (arith, sized.0.least); few = omega (arith, is.most); room = sized.0.room }, sized.1.1)
+sized-given (suc q) (x ∷ bs) right sized within read gap = (sized.0, sized-given q bs right sized.1 (omega arith) read gap)
+
+-- a block that may be full is in hand, and the one before it has a gap
+pub fits_given : (q : ℕ) (bs : List Block) (right : Block) → SizedBut 0 (q + 1) bs → q + 1 < length bs → right ≡ get_or bs (q + 1) right → ((b : Block) → b ≡ get_or bs q b → length b.items ≤ 62) → FitsAt q right (remove bs (q + 1))
+fits_given q bs right sized within read gap =
+    let next : q + 1 ≡ suc q = add-one q in
+    let sized' : SizedBut 0 (suc q) bs = subst (λ k. SizedBut 0 k bs) next sized in
+    let read' : right ≡ get_or bs (suc q) right = read ∙ ap (λ k. get_or bs k right) next in
+    let is = but_at 0 (q + 1) bs right sized read in
+    let less : length (remove bs (q + 1)) + 1 ≡ length bs = length-remove bs (q + 1) within in
+    record {
+      within = omega arith;
+      sized = subst (λ k. SizedBut (length right.items) q (remove bs k)) (sym next) (sized-given q bs right sized' (omega arith) read' gap);
+      most = is.most;
+      room = is.room;
+    }
+
+pub others_at : (p : ℕ) (bs : List Block) (b' : Block) → (i : ℕ) (b : Block) → i < p → b ≡ get_or (set bs p b') i b → b ≡ get_or bs i b
+others_at p bs b' i b less read = read ∙ get_or-set_other bs p i b' b (λ same. omega arith)

@@ -15,6 +15,7 @@ pub mod LastBins
 pub mod EntryChanges
 pub mod ItemChanges
 pub mod BlockSizes
+pub mod GivenRows
 pub mod NextRows
 pub mod KeySums
 pub mod RowPlaces

@@ -1,5 +1,5 @@
 -- Some records more in a bin, in rows that rise.
-use Rattle.std.proofs.Common.{◌≡◌, ℕ, zero, suc, ◌+◌, ◌-◌, ◌<◌, ◌≤◌, ◌^◌, true, false, cond, eqb, List, [], ◌∷◌, ◌++◌, length, take, drop, map, None, All, nat_cmp, refl, sym, ap, subst, inl, inr, ◌∙◌, arith}
+use Rattle.std.proofs.Common.{◌≡◌, ℕ, zero, suc, ◌+◌, ◌-◌, ◌<◌, ◌≤◌, ◌^◌, true, false, cond, eqb, List, [], ◌∷◌, ◌++◌, length, get_or, take, drop, map, None, All, nat_cmp, refl, sym, ap, subst, inl, inr, ◌∙◌, arith}
 use Rattle.std.specs.Option.{unwrap_or}
 use Rattle.std.specs.FinMap.{find, put}
 use Rattle.std.proofs.lemmas.Bool.{cases_order, eq-eqb, ne_eqb, lt-ltb, le-ltb}
@@ -141,6 +141,24 @@ length-added before bin n (r ∷ rs) =
       | inr (inr later) ↦
           let rest = length-added r.total bin n rs in
           subst (λ zs. IsLonger (length (r ∷ rs)) (length zs)) (sym (added_later before bin n r rs later)) (record { least = omega (arith, rest.least); most = omega (arith, rest.most) })
+    ]
+
+-- with a row of the bin there is none more
+pub length-added_there : (before bin n i : ℕ) (rows : List Row) (row : Row) → All (λ r. r.bin < bin) (take i rows) → i < length rows → row ≡ get_or rows i row → row.bin ≡ bin → length (added before bin n rows) ≡ length rows
+length-added_there before bin n i [] row lesser within read there = absurd (omega arith)
+length-added_there before bin n zero (r ∷ rs) row lesser within read there =
+    let same : r.bin ≡ row.bin = ap (λ (x : Row). x.bin) (sym read) in
+    elim (cases_order bin r.bin) [
+      | inl equal ↦ ap length (added_here before bin n r rs equal) ∙ length-map (r ∷ rs) (raised n)
+      | inr (inl less) ↦ absurd (omega arith)
+      | inr (inr later) ↦ absurd (omega arith)
+    ]
+length-added_there before bin n (suc i) (r ∷ rs) row lesser within read there =
+    let less' : r.bin < bin = All-head (λ (r : Row). r.bin < bin) r (take i rs) lesser in
+    elim (cases_order bin r.bin) [
+      | inl equal ↦ absurd (omega arith)
+      | inr (inl less) ↦ absurd (omega arith)
+      | inr (inr later) ↦ ap length (added_later before bin n r rs later) ∙ ap suc (length-added_there r.total bin n i rs row (All-tail (λ (r : Row). r.bin < bin) r (take i rs) lesser) (omega arith) read there)
     ]
 
 -- the rows raised at a place, from the bin's place on

@@ -23,7 +23,7 @@ use Rattle.time_table.specs.Blocks.{Block, flat, parts, Held, IsHead}
 use Rattle.time_table.specs.Forms.{IsSingle, IsForm, rows_of, form_entries, find_cost, total_of}
 use Rattle.time_table.specs.Blocks.{IsSplit}
 use Rattle.time_table.specs.Fews.{few_rows}
-use Rattle.time_table.proofs.MoreRecords.{Rise-added, All-added, length-added}
+use Rattle.time_table.proofs.MoreRecords.{Rise-added, All-added}
 use Rattle.time_table.proofs.FewerRecords.{Rise-taken, All-taken, length-taken}
 use Rattle.time_table.proofs.TwoRowLists.{length-le-total}
 use Rattle.time_table.proofs.BlockRows.{counts_from-flat, Rise-flat, last_total-flat, held_len}
@@ -46,14 +46,13 @@ one_block rows heads blocks b h single many fits is is' items room bin total =
     let split : IsSplit (h ∷ []) (b ∷ []) = record { heads_held = record { held = (head, last); last = (λ some. absurd (omega (arith, some)), tt) }; sized = (record { least = omega arith; most = omega (arith, single.few); room = room }, tt); fits = omega arith } in
     subst (λ (hs : List Row). IsSplit hs blocks) (sym is) (subst (λ (bs : List Block). IsSplit (h ∷ []) bs) (sym is') split)
 
-pub single_added : (bin n : ℕ) (rows new : List Row) → IsSingle rows → length rows ≤ 62 → 0 < n → bin ≤ 4294967295 → new ≡ added 0 bin n rows → IsSingle new
+pub single_added : (bin n : ℕ) (rows new : List Row) → IsSingle rows → length (added 0 bin n rows) ≤ 63 → 0 < n → bin ≤ 4294967295 → new ≡ added 0 bin n rows → IsSingle new
 single_added bin n rows new single room some fits is =
-    let longer = length-added 0 bin n rows in
     let long : length new ≡ length (added 0 bin n rows) = ap length is in
     record {
       rise = subst (Rise 0 0) (sym is) (Rise-added 0 0 bin n rows single.rise some (omega arith));
       bins = subst (All (λ (row : Row). row.bin ≤ 4294967295)) (sym is) (All-added 0 bin n 4294967295 rows single.bins fits);
-      few = omega (arith, longer.most);
+      few = omega arith;
     }
 
 pub single_taken : (bin n : ℕ) (rows new : List Row) → IsSingle rows → 0 < n → n ≤ count_at bin (counts_from 0 rows) → new ≡ taken 0 bin n rows → IsSingle new
@@ -82,7 +81,7 @@ sole (h ∷ []) (x ∷ []) b held one read few =
       ap (λ (y : Block). counts_from 0 y.items) read ∙ sym (append-nil (counts_from 0 x.items)),
     )
 
-pub single_either : {X E : Type 0} (r : Result X E) (bin n : ℕ) (rows new : List Row) → IsSingle rows → length rows ≤ 62 → 0 < n → bin ≤ 4294967295 → OnOk r (new ≡ added 0 bin n rows) → OnErr r (new ≡ rows) → IsSingle new
+pub single_either : {X E : Type 0} (r : Result X E) (bin n : ℕ) (rows new : List Row) → IsSingle rows → length (added 0 bin n rows) ≤ 63 → 0 < n → bin ≤ 4294967295 → OnOk r (new ≡ added 0 bin n rows) → OnErr r (new ≡ rows) → IsSingle new
 single_either (Ok x) bin n rows new single room some fits ok err = single_added bin n rows new single room some fits ok
 single_either (Err e) bin n rows new single room some fits ok err = subst IsSingle (sym err) single
 

@@ -1,13 +1,13 @@
 -- Rows that are two lists, one behind the other.
-use Rattle.std.proofs.Common.{◌≡◌, ℕ, zero, suc, ◌+◌, ◌-◌, ◌<◌, ◌≤◌, ◌^◌, List, [], ◌∷◌, ◌++◌, length, take, drop, map, get_or, All, refl, sym, ap, subst, ◌∙◌, arith, append_assoc}
+use Rattle.std.proofs.Common.{◌≡◌, ℕ, zero, suc, ◌+◌, ◌-◌, ◌<◌, ◌≤◌, ◌^◌, List, [], ◌∷◌, ◌++◌, length, take, drop, map, get_or, All, refl, sym, ap, subst, ◌∙◌, arith, append_assoc, add-one}
 use Rattle.std.specs.List.{insert, remove}
-use Rattle.std.proofs.lemmas.List.{append-nil, take_all, drop_all}
+use Rattle.std.proofs.lemmas.List.{append-nil, take_all, drop_all, map-append, get_or-take, length-take-le, length_push}
 use Rattle.std.proofs.lemmas.List.Elements.{All-nil, All-cons, All-head, All-tail}
 use Rattle.std.proofs.lemmas.List.Edits.{length-remove}
 use Rattle.time_table.specs.declared.row.Row.{Row}
 use Rattle.time_table.specs.Totals.{Rise, counts_from, last_total, bin_after, raised, lowered}
 use Rattle.time_table.specs.Blocks.{one_list}
-use Rattle.time_table.proofs.MoreRecords.{counts_from-raised, totals_within, last_total-raised}
+use Rattle.time_table.proofs.MoreRecords.{counts_from-raised, totals_within, last_total-raised, fits_all}
 
 pub counts_from-append : (before : ℕ) (xs ys : List Row) → counts_from before (xs ++ ys) ≡ counts_from before xs ++ counts_from (last_total before xs) ys
 counts_from-append before [] ys = refl
@@ -133,6 +133,9 @@ rest_above l (f ∷ r) rest first rise some read is =
 insert_end : (xs : List Row) (x : Row) → insert xs (length xs) x ≡ xs ++ x ∷ []
 insert_end xs x = ap (λ zs. zs ++ x ∷ drop (length xs) xs) (take_all (length xs) xs (omega arith)) ∙ ap (λ zs. xs ++ x ∷ zs) (drop_all (length xs) xs (omega arith))
 
+pub length-end : (xs new : List Row) (x : Row) (k : ℕ) → k ≡ length xs → new ≡ insert xs k x → length new ≡ length xs + 1
+length-end xs new x k at put = ap length (put ∙ ap (λ n. insert xs n x) at ∙ insert_end xs x) ∙ length_push xs x
+
 pub moved_left : (l l' r rest r' : List Row) (first last row : Row) (k m : ℕ) → k + 1 ≡ length l → m ≡ length l → Rise 0 0 (one_list l r) → 0 < length l → 0 < length r → first ≡ get_or r 0 first → rest ≡ remove r 0 → r' ≡ take 0 rest ++ map (lowered first.total) (drop 0 rest) → last ≡ get_or l k last → row ≡ record { bin = first.bin; total = last.total + first.total } → l' ≡ insert l m row → one_list l' r' ≡ one_list l r
 moved_left l l' [] rest r' first last row k m long at rise some_l some read is down read' made put = absurd (omega arith)
 moved_left l l' (f ∷ r) rest r' first last row k m long at rise some_l some read is down read' made put =
@@ -215,3 +218,65 @@ pub shorter : (l l1 : List Row) (k k1 : ℕ) → k + 1 ≡ length l → 1 < leng
 shorter l l1 k k1 long some is removed =
     let less : length l1 + 1 ≡ length l = ap (λ zs. length zs + 1) removed ∙ length-remove l k (omega arith) in
     omega arith
+
+pub right_fits : (l r : List Row) → Rise 0 0 (one_list l r) → last_total 0 (one_list l r) ≤ 2 ^ 63 → All (λ x. x.total + last_total 0 l < 2 ^ 64) r
+right_fits l r rise fits =
+    let right : Rise 0 0 r = Rise-least (bin_after 0 l) 0 0 r (omega arith) (one_list-right 0 l r rise) in
+    fits_all (last_total 0 l) r right (omega (arith, last_total-one_list l r))
+
+raised-more : (n i : ℕ) (r : List Row) (x : Row) → i < length r → x ≡ get_or r i x → map (raised n) (take i r) ++ raised n x ∷ [] ≡ map (raised n) (take (suc i) r)
+raised-more n i [] x within read = absurd (omega arith)
+raised-more n zero (y ∷ r) x within read = ap (λ (z : Row). raised n z ∷ []) read
+raised-more n (suc i) (y ∷ r) x within read = ap (λ zs. raised n y ∷ zs) (raised-more n i r x (omega arith) read)
+
+-- a row of the right list more behind the left one
+pub appended_more : (i k : ℕ) (l r now new : List Row) (x row : Row) → i < length r → x ≡ get_or r i x → now ≡ one_list l (take i r) → row ≡ record { bin = x.bin; total = x.total + last_total 0 l } → k ≡ length now → new ≡ insert now k row → new ≡ one_list l (take (i + 1) r)
+appended_more i k l r now new x row within read is made at put =
+    put ∙ ap (λ n. insert now n row) at ∙ insert_end now row ∙ ap (λ zs. zs ++ row ∷ []) is ∙ ap (λ (y : Row). one_list l (take i r) ++ y ∷ []) made
+    ∙ append_assoc l (map (raised (last_total 0 l)) (take i r)) (raised (last_total 0 l) x ∷ [])
+    ∙ ap (λ zs. l ++ zs) (raised-more (last_total 0 l) i r x within read)
+    ∙ ap (λ n. one_list l (take n r)) (sym (add-one i))
+
+remove-drop : (i : ℕ) (xs : List Row) → i < length xs → remove (drop i xs) 0 ≡ drop (suc i) xs
+remove-drop i [] within = absurd (omega arith)
+remove-drop zero (x ∷ xs) within = refl
+remove-drop (suc i) (x ∷ xs) within = remove-drop i xs (omega arith)
+
+pub dropped_more : (i : ℕ) (xs now new : List Row) → i < length xs → now ≡ drop i xs → new ≡ remove now 0 → new ≡ drop (i + 1) xs
+dropped_more i xs now new within is removed =
+    removed ∙ ap (λ zs. remove zs 0) is ∙ remove-drop i xs within ∙ ap (λ n. drop n xs) (sym (add-one i))
+
+parted_at : (k : ℕ) (xs : List Row) → take k xs ++ drop k xs ≡ xs
+parted_at zero xs = refl
+parted_at (suc k) [] = refl
+parted_at (suc k) (x ∷ xs) = ap (λ zs. x ∷ zs) (parted_at k xs)
+
+-- the last of the first k rows of the right list
+pub record IsGiven (k : ℕ) (r : List Row) (last : Row) : Type 0 where
+  pub total : last.total ≡ last_total 0 (take k r)
+  pub above : All (λ x. last_total 0 (take k r) ≤ x.total) (drop k r)
+
+pub given : (j k : ℕ) (l r : List Row) (last : Row) → j + 1 ≡ k → k ≤ length r → Rise 0 0 (one_list l r) → last ≡ get_or r j last → IsGiven k r last
+given j k l r last next within rise read =
+    let right : Rise (bin_after 0 l) 0 r = one_list-right 0 l r rise in
+    let back = (Rise-split (bin_after 0 l) 0 (take k r) (drop k r) (subst (Rise (bin_after 0 l) 0) (sym (parted_at k r)) right)).1 in
+    record {
+      total = last_total_at 0 j (take k r) last (omega (arith, length-take-le k r within)) (read ∙ sym (get_or-take k r j last (omega arith)));
+      above = totals_past _ (last_total 0 (take k r)) (last_total 0 (take k r)) (drop k r) back (omega arith);
+    }
+
+pub above_given : (k : ℕ) (r rest : List Row) (last : Row) → IsGiven k r last → rest ≡ drop k r → All (λ x. last.total ≤ x.total) (drop 0 rest)
+above_given k r rest last is dropped =
+    subst (λ n. All (λ (x : Row). n ≤ x.total) rest) (sym is.total) (subst (All (λ (x : Row). last_total 0 (take k r) ≤ x.total)) (sym dropped) is.above)
+
+-- the first k rows of the right list behind the left one
+pub filled : (k : ℕ) (l r l' rest r' : List Row) (last : Row) → IsGiven k r last → l' ≡ one_list l (take k r) → rest ≡ drop k r → r' ≡ take 0 rest ++ map (lowered last.total) (drop 0 rest) → one_list l' r' ≡ one_list l r
+filled k l r l' rest r' last is left dropped down =
+    let n : ℕ = last_total 0 (take k r) in
+    let lower : r' ≡ map (lowered n) (drop k r) = down ∙ ap (λ m. map (lowered m) rest) is.total ∙ ap (map (lowered n)) dropped in
+    ap (λ zs. one_list zs r') left
+    ∙ ap (one_list (one_list l (take k r))) lower
+    ∙ ap (λ m. one_list l (take k r) ++ map (raised m) (map (lowered n) (drop k r))) (last_total-one_list l (take k r))
+    ∙ ap (λ zs. one_list l (take k r) ++ zs) (raised-lowered (last_total 0 l) n (drop k r) is.above)
+    ∙ append_assoc l (map (raised (last_total 0 l)) (take k r)) (map (raised (last_total 0 l)) (drop k r))
+    ∙ ap (λ zs. l ++ zs) (sym (map-append (raised (last_total 0 l)) (take k r) (drop k r)) ∙ ap (map (raised (last_total 0 l))) (parted_at k r))

@@ -103,7 +103,7 @@ in_hand (suc q) right (b ∷ bs) = b ∷ in_hand q right bs
 pub record FitsAt (q : ℕ) (right : Block) (blocks : List Block) : Type 0 where
   pub within : q < length blocks
   pub sized : SizedBut (length right.items) q blocks
-  pub most : length right.items ≤ 63
+  pub most : length right.items ≤ 64
   pub room : 64 ≤ length right.items + right.spare
 
 -- heads and blocks with n records more in a bin of the block at a place, which is not split yet
@@ -115,6 +115,7 @@ pub record AddsAt (place bin n : ℕ) (heads heads' : Block) (blocks blocks' : L
   pub total : last_total 0 heads'.items ≡ last_total 0 heads.items + n
   pub count : length blocks' ≡ length blocks
   pub longer : (d : Block) → length (slice_index_or blocks' place d).items ≤ length (slice_index_or blocks place d).items + 1
+  pub others : (i : ℕ) (b : Block) → i < place → b ≡ slice_index_or blocks' i b → b ≡ slice_index_or blocks i b
   pub spare : heads'.spare ≡ heads.spare
 
 -- two blocks whose rows are enough for one that is sized, and not too many for two

@@ -5,6 +5,7 @@ use Rattle.time_table.specs.declared.row.Row.{Row}
 use Rattle.time_table.specs.declared.form.Form.{Form}
 use Rattle.time_table.specs.declared.form.Form.TheVariants.{Few, Single, Split}
 use Rattle.time_table.specs.Totals.{Rise, counts_from, last_total}
+use Rattle.time_table.specs.Places.{added}
 use Rattle.time_table.specs.Blocks.{flat, parts, IsSplit}
 use Rattle.time_table.specs.Fews.{few_rows}
 
@@ -50,11 +51,11 @@ IsWide (Few few) = ⊥
 IsWide (Single rows) = Unit {0}
 IsWide (Split split) = Unit {0}
 
--- the rows do not lie in the table's own bytes, and a list without blocks has room for a row
-abbrev pub HasRoom : Form → Type 0
-HasRoom (Few few) = ⊥
-HasRoom (Single rows) = length rows.items ≤ 62
-HasRoom (Split split) = Unit {0}
+-- the rows do not lie in the table's own bytes, and a list without blocks has a row of the bin or room for one
+abbrev pub HasRoom : ℕ → Form → Type 0
+HasRoom bin (Few few) = ⊥
+HasRoom bin (Single rows) = (n : ℕ) → length (added 0 bin n rows.items) ≤ 63
+HasRoom bin (Split split) = Unit {0}
 
 -- a list without blocks has room for so many rows more
 abbrev pub HasRoomFor : ℕ → Form → Type 0

@@ -13,7 +13,7 @@ use crate::block::block_of;
 use crate::change::{add_record, take_record};
 use crate::few::Few;
 use crate::pair::put_row;
-use crate::place::{next_in, place_of};
+use crate::place::{has_place, next_in, place_of};
 use crate::row::Row;
 use crate::run::merged;
 use crate::series::{are_few, digits, pass_blocks, pass_single};
@@ -156,7 +156,7 @@ impl Form {
         }
         self.widen(alloc)?;
         let mut steps = Steps::<L>::new(blank);
-        self.grow(alloc, &mut steps)?;
+        self.grow(alloc, bin, &mut steps)?;
         match self {
             Form::Few(_) => unreachable!(),
             Form::Single(rows) => add_record(rows, bin, amount, &mut steps),
@@ -312,20 +312,25 @@ impl Form {
         }
     }
 
-    /// Makes a block of a list of rows that is full. For want of memory the form is as before.
-    fn grow<L: Ledger>(&mut self, alloc: Global, steps: &mut Steps<L>) -> Result<(), NoMemory>
+    /// Makes a block of a list of rows that is full and has none of the bin. For want of memory the form is as before.
+    fn grow<L: Ledger>(
+        &mut self,
+        alloc: Global,
+        bin: u32,
+        steps: &mut Steps<L>,
+    ) -> Result<(), NoMemory>
         requires form { IsForm self.old }
         requires wide { IsWide self.old }
         requires fits { total_of self.old ≤ 2 ^ 63 }
         ensures form { IsForm self.new }
         ensures same { form_entries self.new ≡ form_entries self.old }
         ensures total { total_of self.new ≡ total_of self.old }
-        ensures room { OnOk result (HasRoom self.new) }
+        ensures room { OnOk result (HasRoom bin self.new) }
     {
         let rows = match self {
             Form::Few(_) => unreachable!(),
             Form::Single(rows) => {
-                if rows.len() < 63 {
+                if has_place(rows, bin, steps) {
                     return Ok(());
                 }
                 rows

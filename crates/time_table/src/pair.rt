@@ -1,5 +1,5 @@
 //! Two neighbouring blocks, between which rows are moved.
-ghost use Rattle.std.specs.Prelude.{◌≡◌, ◌+◌, ◌-◌, ◌<◌, ◌≤◌, ◌^◌, ◌⊎◌, [], ◌∷◌, ◌++◌, length, insert};
+ghost use Rattle.std.specs.Prelude.{◌≡◌, ◌+◌, ◌-◌, ◌<◌, ◌≤◌, ◌^◌, ◌⊎◌, [], ◌∷◌, ◌++◌, length, take, drop, insert, All};
 ghost use Rattle.time_table.specs.Totals.{Rise, last_total};
 ghost use Rattle.time_table.specs.Blocks.{one_list, GivesRow, CanLevel, AreLevel};
 
@@ -56,6 +56,54 @@ fn move_right<L: Ledger>(left: &mut Rows<Row>, right: &mut Rows<Row>, steps: &mu
         total: count,
     };
     put_row(right, 0, moved);
+}
+
+/// Puts the first rows of the right block behind those of the left one.
+fn append<L: Ledger>(left: &mut Rows<Row>, right: &Rows<Row>, count: usize, steps: &mut Steps<L>)
+    requires some { 0 < length left.old.items }
+    requires within { count ≤ length right.now.items }
+    requires room { count ≤ left.old.spare }
+    requires fits { All (λ row. row.total + last_total 0 left.old.items < 2 ^ 64) right.now.items }
+    ensures put { left.new.items ≡ one_list left.old.items (take count right.now.items) }
+    ensures room { length left.old.items + left.old.spare ≤ length left.new.items + left.new.spare }
+{
+    let below = left.at(left.len() - 1, steps).total;
+    for i in 0..count {
+        let Row { bin, total } = right.at(i, steps);
+        let row = Row {
+            bin,
+            total: total + below,
+        };
+        put_row(left, left.len(), row);
+    }
+}
+
+/// Takes the first rows off.
+fn drop_first(rows: &mut Rows<Row>, count: usize)
+    requires { count ≤ length rows.old.items }
+    ensures dropped { rows.new.items ≡ drop count rows.old.items }
+    ensures room { length rows.old.items + rows.old.spare ≤ length rows.new.items + rows.new.spare }
+{
+    for i in 0..count {
+        rows.remove(0);
+    }
+}
+
+/// Moves the first rows of a full block to the one before it, until that has 63.
+pub fn fill<L: Ledger>(left: &mut Rows<Row>, right: &mut Rows<Row>, steps: &mut Steps<L>)
+    requires rise { Rise 0 0 (one_list left.old.items right.old.items) }
+    requires fits { last_total 0 (one_list left.old.items right.old.items) ≤ 2 ^ 63 }
+    requires sizes { CanLevel left.old right.old }
+    requires full { length right.old.items ≡ 64 }
+    ensures same { one_list left.new.items right.new.items ≡ one_list left.old.items right.old.items }
+    ensures sizes { AreLevel left.new right.new }
+    ensures some { 32 ≤ length right.new.items }
+{
+    let count = 63 - left.len();
+    let last = right.at(count - 1, steps);
+    append(left, right, count, steps);
+    drop_first(right, count);
+    lower(right, 0, last.total, steps);
 }
 
 /// Moves all rows to the left block where that has the room, and else half of them to each.

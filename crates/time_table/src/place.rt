@@ -1,9 +1,10 @@
 //! The search of rows that stand in rising order of bin.
-ghost use Rattle.std.specs.Prelude.{◌≡◌, ◌+◌, ◌≤◌, length, slice_get, take, MatchOption};
+ghost use Rattle.std.specs.Prelude.{◌≡◌, ℕ, ◌+◌, ◌≤◌, length, slice_get, take, MatchOption, IsTrue, false};
 ghost use Rattle.probe_core.specs.Bits.{bits};
 ghost use Rattle.probe_core.specs.Places.{IsPlace};
 ghost use Rattle.time_table.specs.Counts.{first_from};
 ghost use Rattle.time_table.specs.Totals.{Rise, counts_from, last_total, total_in, row_bin};
+ghost use Rattle.time_table.specs.Places.{added};
 
 use crate::row::Row;
 use probe_core::{Rows, Steps};
@@ -41,6 +42,20 @@ fn total_of(row: Option<Row>) -> u64
         Some(row) => row.total,
         None => 0,
     }
+}
+
+/// Whether rows that may be 63 have one of the bin, or room for it.
+pub fn has_place<L: Ledger>(rows: &Rows<Row>, bin: u32, steps: &mut Steps<L>) -> bool
+    requires rise { Rise 0 0 rows.now.items }
+    requires few { length rows.now.items ≤ 63 }
+    ensures room { IsTrue result → (n : ℕ) → length (added 0 bin n rows.now.items) ≤ 63 }
+    ensures full { result ≡ false → 63 ≤ length rows.now.items }
+{
+    if rows.len() < 63 {
+        return true;
+    }
+    let place = place_of(rows, u64::from(bin), steps);
+    place.index < rows.len() && rows.at(place.index, steps).bin == bin
 }
 
 /// The first row whose bin is `from` or later, as the bin and its count.

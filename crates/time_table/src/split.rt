@@ -1,5 +1,5 @@
 //! Rows in blocks, under a list of heads.
-ghost use Rattle.std.specs.Prelude.{◌≡◌, ◌+◌, ◌-◌, ◌<◌, ◌≤◌, ◌^◌, ◌⊎◌, [], ◌∷◌, ◌++◌, length, take, drop, insert, All, IfOk, OnOk, OnErr, vec_len, vec_capacity, slice_index_or, IsTrue, MatchBool};
+ghost use Rattle.std.specs.Prelude.{◌≡◌, ◌+◌, ◌-◌, ◌<◌, ◌≤◌, ◌^◌, ◌⊎◌, [], ◌∷◌, ◌++◌, length, take, drop, insert, remove, All, IfOk, OnOk, OnErr, vec_len, vec_capacity, slice_index_or, IsTrue, MatchBool};
 ghost use Rattle.probe_core.specs.Bits.{bits};
 ghost use Rattle.probe_core.specs.Places.{IsPlace};
 ghost use Rattle.time_table.specs.Counts.{count_before, first_from};
@@ -9,11 +9,12 @@ ghost use Rattle.time_table.specs.Blocks.{Block, IsSplit, IsHeld, Held, AreLastB
 
 use crate::block::block_of;
 use crate::change::{add_record, lower, raise, take_record};
-use crate::pair::{level, put_row};
+use crate::pair::{fill, level, put_row};
 use crate::place::{next_in, place_of};
 use crate::row::Row;
 use probe_core::{Rows, Steps};
 use std::alloc::Global;
+use std::mem::replace;
 use std::sync::ledger::Ledger;
 use texts::NoMemory;
 
@@ -77,6 +78,37 @@ fn settle<L: Ledger>(
     };
     put_row(heads, q, row);
     put_block(blocks, q + 1, right);
+}
+
+/// Gives rows of a full block to the one before it, until that has 63. The other blocks and heads stay where they are.
+fn give<L: Ledger>(
+    alloc: Global,
+    heads: &mut Rows<Row>,
+    blocks: &mut Vec<Rows<Row>>,
+    q: usize,
+    steps: &mut Steps<L>,
+)
+    requires held { IsHeld heads.old.items blocks.old.items }
+    requires fits { last_total 0 heads.old.items ≤ 2 ^ 63 }
+    requires within { q + 1 < length blocks.old.items }
+    requires pair { (right : Block) → right ≡ slice_index_or blocks.old.items (q + 1) right → FitsAt q right (remove blocks.old.items (q + 1)) }
+    requires full { (right : Block) → right ≡ slice_index_or blocks.old.items (q + 1) right → length right.items ≡ 64 }
+    ensures split { IsSplit heads.new.items blocks.new.items }
+    ensures parts { parts blocks.new.items ≡ parts blocks.old.items }
+{
+    let full = &mut blocks[q + 1];
+    let mut right = replace(full, Rows::new(alloc));
+    let left = &mut blocks[q];
+    fill(left, &mut right, steps);
+    let last = left.at(left.len() - 1, steps);
+    let end = right.at(right.len() - 1, steps);
+    let head = heads.at(q + 1, steps);
+    let row = Row {
+        bin: last.bin,
+        total: head.total - end.total,
+    };
+    heads.set(q, row);
+    blocks[q + 1] = right;
 }
 
 /// Some records more in the block at the place of their bin, which has room for a row.
@@ -163,7 +195,17 @@ pub fn reserve_block(blocks: &mut Vec<Rows<Row>>) -> Result<(), NoMemory>
     }
 }
 
-/// Some records more in a bin. For want of memory the rows are as before.
+/// Whether there is a block before a place, which has fewer rows than it may.
+fn has_gap_before(blocks: &Vec<Rows<Row>>, place: usize) -> bool
+    requires { place ≤ length blocks.now.items }
+    ensures gap { IsTrue result → (left : Block) → left ≡ slice_index_or blocks.now.items (place - 1) left → length left.items ≤ 62 }
+    ensures one { IsTrue result → 0 < place }
+{
+    place > 0 && blocks[place - 1].len() < 63
+}
+
+/// Some records more in a bin. A full block gives rows to the one before it, and is halved where that has all that it may
+/// have. For want of memory the rows are as before.
 pub fn add_in<L: Ledger>(
     alloc: Global,
     heads: &mut Rows<Row>,
@@ -185,13 +227,19 @@ pub fn add_in<L: Ledger>(
         add_at(heads, blocks, place, bin, amount, steps);
         return Ok(());
     }
+    if has_gap_before(blocks, place) {
+        add_at(heads, blocks, place, bin, amount, steps);
+        if blocks[place].len() == 64 {
+            give(alloc, heads, blocks, place - 1, steps);
+        }
+        return Ok(());
+    }
     let mut right = Rows::new(alloc);
     right.reserve(64)?;
     heads.reserve(1)?;
     reserve_block(blocks)?;
     add_at(heads, blocks, place, bin, amount, steps);
-    let block = &blocks[place];
-    if block.len() < 64 {
+    if blocks[place].len() < 64 {
         return Ok(());
     }
     settle(heads, blocks, place, right, steps);
@@ -208,7 +256,7 @@ fn neighbour(place: usize, count: usize) -> usize
     if place + 1 < count { place } else { place - 1 }
 }
 
-/// Some records less in a bin that has as many, and whether the one block that is left is short.
+/// Some records less in a bin that has as many, and whether one block is left, which is then a list.
 pub fn take_in<L: Ledger>(
     heads: &mut Rows<Row>,
     blocks: &mut Vec<Rows<Row>>,
@@ -238,7 +286,7 @@ pub fn take_in<L: Ledger>(
     heads.remove(q);
     let right = blocks.remove(q + 1);
     settle(heads, blocks, q, right, steps);
-    false
+    blocks.len() == 1
 }
 
 /// No blocks, with room for just so many.

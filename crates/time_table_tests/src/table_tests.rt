@@ -227,6 +227,30 @@ fn splits_into_blocks_and_back(rt: HostRuntime) -> Result<(), Fail> {
     Ok(())
 }
 
+/// A record in every other bin below 1,000, from one on, added in rising order.
+fn push_risen(cases: &mut Vec<Case>, from: u32) -> Result<(), AllocError>
+    requires { from < 2 }
+{
+    for i in 0..500u32 {
+        cases.push(Case::Add(2 * i + from, 1))?;
+    }
+    Ok(())
+}
+
+/// In rising bins the last block is full again and again, and then each of the others is.
+#[test]
+fn gives_rows_of_full_blocks_to_the_ones_before(rt: HostRuntime) -> Result<(), Fail> {
+    let mut table = empty(rt.alloc());
+    let mut cases = Vec::new(rt.alloc());
+    push_risen(&mut cases, 0)?;
+    push_risen(&mut cases, 1)?;
+    push_told(&mut cases)?;
+    expect::<Brand>(&rt, Blank::new(1), &mut table, 1000, cases.as_slice());
+    let shrinking = shrinking(rt.alloc())?;
+    expect::<Brand>(&rt, Blank::new(1), &mut table, 0, shrinking.as_slice());
+    Ok(())
+}
+
 /// What a walk from row to row finds where the bins have those counts, and how much is before each bin.
 fn push_rows(cases: &mut Vec<Case>, counts: &[u64; 300]) -> Result<(), AllocError> {
     let mut from = 0u32;
@@ -397,4 +421,26 @@ fn add_thousand<L: Ledger>(rt: &impl Abort, blank: Blank, table: &mut TimeTable)
 fn keeps_its_counts_where_an_addition_is_refused(rt: HostRuntime) {
     let mut table = empty(rt.alloc());
     add_thousand::<Brand>(&rt, Blank::new(1), &mut table);
+}
+
+/// A record in each of 300 bins, the even ones first, in rising order, so that full blocks give rows to the ones before.
+fn add_risen<L: Ledger>(rt: &impl Abort, blank: Blank, table: &mut TimeTable)
+    requires blank { IsBlankOf L.name L.parts blank }
+    requires none { total_count table.old ≡ 0 }
+{
+    let mut steps = Steps::<L>::new(blank);
+    let mut counts = [0u64; 300];
+    for i in 0..300u32 {
+        let bin = if i < 150 { 2 * i } else { 2 * i - 299 };
+        add_again(rt, table, &counts, bin, &mut steps);
+        counts[bin as usize] = 1;
+    }
+    assert!(rt; agrees(table, &counts, &mut steps));
+}
+
+/// As the test before it, where blocks give rows.
+#[test]
+fn keeps_its_counts_where_rows_are_given(rt: HostRuntime) {
+    let mut table = empty(rt.alloc());
+    add_risen::<Brand>(&rt, Blank::new(1), &mut table);
 }

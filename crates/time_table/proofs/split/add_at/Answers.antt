@@ -6,7 +6,7 @@ use Rattle.time_table.specs.Blocks.{Held, AreLast}
 use Rattle.time_table.proofs.MoreRecords.{fits_all}
 use Rattle.time_table.proofs.BlockRows.{held_len, Rise-heads, Rise-at, total_at, Held-added, parts-added, last_total-raised_from}
 use Rattle.time_table.proofs.LastBins.{AreLast-added}
-use Rattle.time_table.proofs.BlockSizes.{sized_at, SizedBut-set, added_loose, ok_gives, with_room, longer_at}
+use Rattle.time_table.proofs.BlockSizes.{sized_at, SizedBut-set, added_loose, ok_gives, with_room, longer_at, others_at}
 use Rattle.time_table.proofs.split.add_at.Goals as goal
 
 pub index_mut-block-requires : goal.index_mut-block-requires
@@ -45,5 +45,6 @@ returns-clause-adds g c =
       total = ap (last_total 0) c.raise.ensures.raised ∙ last_total-raised_from c.args.amount 0 c.args.place c.args.heads.now.items c.requires.within;
       count = length-set c.args.blocks.now.items c.args.place c.add_record.new.rows;
       longer = longer_at c.args.bin c.args.amount c.args.place c.args.blocks.now.items c.index_mut-block.result.now c.add_record.new.rows (omega arith) c.index_mut-block.ensures.value new;
+      others = others_at c.args.place c.args.blocks.now.items c.add_record.new.rows;
       spare = c.raise.ensures.room;
     }

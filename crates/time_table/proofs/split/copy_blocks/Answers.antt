@@ -1,4 +1,4 @@
-use Rattle.std.proofs.Common.{◌≡◌, ◌-◌, ◌<◌, ◌≤◌, List, length, arith, ap, ◌∙◌}
+use Rattle.std.proofs.Common.{◌<◌, List, length, arith, ap, ◌∙◌}
 use Rattle.std.specs.List.{insert}
 use Rattle.time_table.specs.Blocks.{Block}
 use Rattle.time_table.proofs.BlockSizes.{sized_at}

@@ -1,4 +1,4 @@
-use Rattle.std.proofs.Common.{◌≡◌, ◌≤◌, length, arith, sym, ap, subst, ◌∙◌}
+use Rattle.std.proofs.Common.{◌≡◌, arith, sym, ap, subst, ◌∙◌}
 use Rattle.std.proofs.lemmas.Result.{on_ok_weaker}
 use Rattle.time_table.specs.Totals.{counts_from}
 use Rattle.time_table.specs.Places.{added, more}
@@ -10,8 +10,8 @@ use Rattle.time_table.proofs.form.Form.add.Goals as goal
 pub returns-in-Single-clause-form : goal.returns-in-Single-clause-form
 returns-in-Single-clause-form g c =
     let single : IsSingle c.in-Single.rows.items = subst IsForm c.in-Single.is c.grow.ensures.form in
-    let room : length c.in-Single.rows.items ≤ 62 = subst HasRoom c.in-Single.is c.in_ok-grow.ensures.room in
-    single_either c.add_record.result c.args.bin c.args.amount c.in-Single.rows.items c.add_record.new.rows.items single room c.requires.some (omega arith) c.add_record.ensures.added c.add_record.ensures.unchanged
+    let room = subst (HasRoom c.args.bin) c.in-Single.is c.in_ok-grow.ensures.room in
+    single_either c.add_record.result c.args.bin c.args.amount c.in-Single.rows.items c.add_record.new.rows.items single (room c.args.amount) c.requires.some (omega arith) c.add_record.ensures.added c.add_record.ensures.unchanged
 
 pub returns-in-Single-clause-added : goal.returns-in-Single-clause-added
 returns-in-Single-clause-added g c =

@@ -1,4 +1,4 @@
-use Rattle.std.proofs.Common.{◌≡◌, ◌-◌, ◌≤◌, ◌^◌, List, length, arith, sym, ap, subst, ◌∙◌}
+use Rattle.std.proofs.Common.{◌-◌, ◌≤◌, ◌^◌, List, arith, sym, ap, subst, ◌∙◌}
 use Rattle.std.specs.List.{insert}
 use Rattle.time_table.specs.declared.row.Row.{Row}
 use Rattle.time_table.specs.declared.form.Form.{Form}
@@ -19,11 +19,11 @@ returns-clause-form g c =
     (ap (λ (s : Split). s.heads.items) (c.deref_mut.ensures.value ∙ c.in_ok-split.ensures) ∙ c.put_row.ensures.put ∙ ap (λ (zs : List Row). insert zs 0 head) (c.reserve.ensures.unchanged ∙ c.new-heads.ensures))
     (c.put_block.ensures ∙ ap (λ (zs : List Block). insert zs 0 c.in_ok-block.block) (ap (λ (s : Split). s.blocks.items) (c.deref_mut.ensures.value ∙ c.in_ok-split.ensures) ∙ c.reserve_block.ensures.unchanged ∙ c.new-blocks.ensures.items))
     c.in_ok-block.ensures.same c.in_ok-block.ensures.room (omega arith)
-    (last_total_at 0 (c.len-2.result - 1) c.in-Single.rows.items c.at-last.result (omega arith) c.at-last.ensures.item)
+    (last_total_at 0 (c.len.result - 1) c.in-Single.rows.items c.at-last.result (omega arith) c.at-last.ensures.item)
 
 pub returns-clause-total : goal.returns-clause-total
 returns-clause-total g c =
     let head : Row = record { bin = 4294967295; total = c.at-last.result.total } in
     ap (last_total 0) (ap (λ (s : Split). s.heads.items) (c.deref_mut.ensures.value ∙ c.in_ok-split.ensures) ∙ c.put_row.ensures.put ∙ ap (λ (zs : List Row). insert zs 0 head) (c.reserve.ensures.unchanged ∙ c.new-heads.ensures))
-    ∙ last_total_at 0 (c.len-2.result - 1) c.in-Single.rows.items c.at-last.result (omega arith) c.at-last.ensures.item
+    ∙ last_total_at 0 (c.len.result - 1) c.in-Single.rows.items c.at-last.result (omega arith) c.at-last.ensures.item
     ∙ sym (ap total_of c.in-Single.is)
