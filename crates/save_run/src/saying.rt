@@ -9,7 +9,6 @@ use feed_reader::FeedCounts;
 use outer_io::Sink;
 use run_files::{Stop, feeds_report, put_text};
 use std::alloc::{AllocError, Global};
-use texts::NoMemory;
 
 /// Appends the line of an image's length.
 #[tactic(auto, unfolding(crate::specs::Lines::size_line))]
@@ -42,6 +41,8 @@ pub(crate) fn say_saved<O: Sink>(
 ) -> Result<(), Stop>
     ensures { SaysText (of_sink O.Sink) out.old out.new (saved_text plan.now counts.now size) result }
 {
-    let text = saved_text(alloc, plan, counts, size).map_err(NoMemory::from)?;
+    let Ok(text) = saved_text(alloc, plan, counts, size) else {
+        return Err(Stop::NoMemory);
+    };
     put_text(text.as_bytes(), out)
 }

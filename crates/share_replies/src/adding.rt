@@ -82,7 +82,9 @@ fn refuse<O: Sink>(
     ensures cause { HasCause (O.faults out.old) (O.faults out.new) result Stop.WriteFault }
     ensures ends { IfErr result IsPutEnd }
 {
-    let text = wrong_line(alloc, name, line, why)?;
+    let Ok(text) = wrong_line(alloc, name, line, why) else {
+        return Err(Stop::NoMemory);
+    };
     put_bytes(text.as_str().as_bytes(), out)?;
     Ok(Outcome::Refused(why))
 }
