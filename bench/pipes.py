@@ -6,7 +6,7 @@ what `./nanocube` tells the C library.
 The program opens its feeds in order and reads the header of each before it opens the next, then the asks, then the finals, and
 then creates the outputs of the asks. `Run` opens the other ends in that order, and gives each opening and the whole run a time
 limit, at which the program that was started here is killed and what its threads waited in is told."""
-import errno, json, os, re, select, shutil, subprocess, tempfile, threading, time
+import errno, json, os, select, shutil, subprocess, tempfile, threading, time
 
 with open(os.path.join(os.path.dirname(os.path.realpath(__file__)), "../tools/glibc_tunables"), encoding="utf-8") as it:
     os.environ.setdefault("GLIBC_TUNABLES", it.read().strip())

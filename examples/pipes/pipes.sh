@@ -2,7 +2,7 @@
 set -euo pipefail
 export LC_ALL=C
 here=$(cd "$(dirname "$(readlink -f "${BASH_SOURCE[0]}")")" && pwd)
-program=$(readlink -f "${NANOCUBE:-$here/../../nanocube}")
+program=$("$here/../../tools/program_of")
 export here
 started=()
 folder=$(mktemp -d)
@@ -30,7 +30,6 @@ start() {
 
 # begin PIPES..: makes these pipes, and starts the run, which opens the feeds, then the asks, then the outputs.
 begin() {
-  "$program" > /dev/null 2>&1 || [ $? -eq 2 ]      # builds the program, where that is to be done
   cp "$here/plan.json" "$here/after.txt" .
   mkfifo "$@"
   "$program" run plan.json > report.txt &
