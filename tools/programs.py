@@ -30,7 +30,7 @@ import subprocess
 import sys
 import time
 
-TOP = os.environ.get("PROGRAMS_OF") or os.path.dirname(os.path.dirname(os.path.realpath(__file__)))
+TOP = os.path.dirname(os.path.dirname(os.path.realpath(__file__)))
 PARTS = ("src", "specs", "proofs")
 STANDS = "out/programs"
 # As many unproved programs of a crate are kept: to go back to an earlier commit then takes no time.
@@ -228,7 +228,7 @@ def locked():
 
 def builder():
     """tools/build_unproved as a module: it ends with this process, however that ends."""
-    loader = importlib.machinery.SourceFileLoader("build_unproved", f"{os.path.dirname(os.path.realpath(__file__))}/build_unproved")
+    loader = importlib.machinery.SourceFileLoader("build_unproved", f"{TOP}/tools/build_unproved")
     made = importlib.util.module_from_spec(importlib.util.spec_from_loader("build_unproved", loader))
     loader.exec_module(made)
     return made
@@ -263,8 +263,8 @@ def make(name, sources):
     else:
         os.remove(f"{TOP}/{program.path}")
         say("the sources changed meanwhile")
-    # The listing counts from the next second on.
-    time.sleep(1)
+    # From the next second on the listing counts.
+    time.sleep(1 - time.time() % 1)
     return True
 
 
