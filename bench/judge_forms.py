@@ -3,6 +3,8 @@ script over its image, with each allocation, opening, read, write and closing re
 and the image of each run."""
 import os, subprocess, sys, tempfile
 from collections import Counter
+sys.path.insert(0, os.path.join(os.path.dirname(os.path.realpath(__file__)), "../tools"))
+from usage import words_of
 
 PLAN = ('{"version":1,"depth":3,"categories":[{"name":"kind","values":["a","b"]}],"start":0,"width":10,"batch":1,'
         '"feeds":["a.csv","b.csv"],"journal":"j.txt","asks":[],"finals":[]}')
@@ -52,7 +54,7 @@ def judge(program, refuse, words, kind, number, whole, image):
 
 
 def main():
-    program, refuse = os.path.abspath(sys.argv[1]), os.path.abspath(sys.argv[2])
+    program, refuse = map(os.path.abspath, words_of(__doc__, 2)[:2])
     with tempfile.TemporaryDirectory() as folder:
         for name, text in FILES.items():
             open(os.path.join(folder, name), "w").write(text)

@@ -8,6 +8,9 @@ and a final; a final whose second put fails; and two categories. Such a run ends
 and then it is judged as the others are."""
 import collections, json, os, re, subprocess, sys, tempfile
 
+sys.path.insert(0, os.path.join(os.path.dirname(os.path.realpath(__file__)), "../tools"))
+from usage import words_of
+
 NO_MEMORY = {"fault": "NoMemory"}
 
 
@@ -284,7 +287,7 @@ def refuse_each(title, case, program, library, kind):
 
 
 def main():
-    program, library = os.path.abspath(sys.argv[1]), os.path.abspath(sys.argv[2])
+    program, library = map(os.path.abspath, words_of(__doc__, 2)[:2])
     if sys.argv[3:] == ["rows"]:
         for title, case in {"three records by demo": Demo(), **ROWS}.items():
             refuse_each(title, case, program, library, "FAIL_ALLOC")

@@ -3,6 +3,9 @@ each run leaves, by plain counts over its journal and by PROGRAM recount. It pri
 line that is wrong."""
 import json, os, random, subprocess, sys, tempfile, typing
 
+sys.path.insert(0, os.path.join(os.path.dirname(os.path.realpath(__file__)), "../tools"))
+from usage import words_of
+
 FEEDS, RECORDS, ASKS, LINES = 8, 2_000, 8, 500
 DEPTH, VALUES, BINS = 10, "abcd", 1_024
 # The bits of a number with a free place before each. Of a tile's x and y these make the labels from the root to it, as one number.
@@ -141,7 +144,7 @@ def lines_in(path):
 
 
 def main():
-    program, runs = os.path.abspath(sys.argv[1]), int(sys.argv[2])
+    program, runs = os.path.abspath(words_of(__doc__, 2)[0]), int(sys.argv[2])
     rng = random.Random(1)
     replies, audits, fronts, beside = 0, 0, set(), 0
     for run in range(runs):

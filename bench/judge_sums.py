@@ -15,6 +15,9 @@ import subprocess
 import sys
 import tempfile
 
+sys.path.insert(0, os.path.join(os.path.dirname(os.path.realpath(__file__)), "../tools"))
+from usage import words_of
+
 NOT_ADDITIVE = '{"fault":"NotAdditive"}'
 VALUES = {"kind": ["a", "b", "c c"], "day": ["mo", "tu|we"]}
 
@@ -132,7 +135,7 @@ def one_case(nanocube, add_replies, top):
 
 
 def main():
-    nanocube, add_replies = map(os.path.abspath, sys.argv[1:3])
+    nanocube, add_replies = map(os.path.abspath, words_of(__doc__, 2)[:2])
     cases = int(sys.argv[3]) if len(sys.argv) > 3 else 1000
     random.seed(int(sys.argv[4]) if len(sys.argv) > 4 else 1)
     lines = 0

@@ -7,6 +7,8 @@ run_times.py PROGRAM recount: times `recount` of 1,000 replies over a journal of
 import json, os, sys, tempfile, threading, time
 
 from runs import KINDS, step, timed
+sys.path.insert(0, os.path.join(os.path.dirname(os.path.realpath(__file__)), "../tools"))
+from usage import words_of
 
 
 def write_plan(folder, plan):
@@ -115,7 +117,7 @@ def recount(program):
 
 
 def main():
-    program, what = os.path.abspath(sys.argv[1]), sys.argv[2]
+    program, what = os.path.abspath(words_of(__doc__, 2)[0]), sys.argv[2]
     if what == "city":
         city(program, int(sys.argv[3]) if len(sys.argv) > 3 else 1_000_000)
     else:

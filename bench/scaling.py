@@ -16,6 +16,9 @@ import tempfile
 
 from pipes import plan_of
 
+sys.path.insert(0, os.path.join(os.path.dirname(os.path.realpath(__file__)), "../tools"))
+from usage import words_of
+
 
 def feed(path, records, depth, values, bins, clustered):
     random.seed(7)
@@ -43,7 +46,7 @@ def measure(nanocube, records, depth, values, bins, clustered):
 
 
 def main():
-    nanocube = os.path.abspath(sys.argv[1])
+    nanocube = os.path.abspath(words_of(__doc__)[0])
     records = int(sys.argv[2]) if len(sys.argv) > 2 else 200000
     print("depth, categories, bins, places: bytes of memory a record, bytes of image a record, processor seconds a million records")
     for depth, values, bins, clustered in [(6, [4], 1024, False), (10, [4], 1024, False), (10, [4], 1024, True), (16, [4], 1024, False), (16, [4], 1024, True),
