@@ -40,7 +40,7 @@ DIRECTIVES["B"], DIRECTIVES["h"], DIRECTIVES["A"] = DIRECTIVES["b"], DIRECTIVES[
 SHORT_FOR = {"%T": "%H:%M:%S", "%R": "%H:%M", "%D": "%m/%d/%y", "%F": "%Y-%m-%d"}
 
 
-class DateFault(Exception):
+class DateFault(ValueError):
     """Why a text is no instant."""
 
 
@@ -259,7 +259,7 @@ def offset_of(text):
     if text[0] not in "+-":
         return 0
     hours, minutes = int(text[1:3]), int(text[3:].lstrip(":") or 0)
-    if hours > 15 or minutes > 59:
+    if hours > 14 or minutes > 59:
         raise DateFault(IMPOSSIBLE)
     return (3600 * hours + 60 * minutes) * (-1 if text[0] == "-" else 1)
 

@@ -19,7 +19,6 @@ import zoneinfo
 from dataclasses import dataclass
 from dataclasses import field
 
-EPOCH_DAY = datetime.date(1970, 1, 1).toordinal()
 EPOCH = datetime.datetime(1970, 1, 1, tzinfo=datetime.timezone.utc)
 NAME = re.compile(r"[a-z0-9_]{1,32}")
 FILE_NAME = re.compile(r"[A-Za-z0-9_-][A-Za-z0-9._-]{0,63}")
@@ -45,7 +44,7 @@ class Columns:
     longitude: str = None
     categories: list = field(default_factory=list)  # pairs: the name in the plan, the column
     weight: tuple = None  # such a pair
-    others: dict = field(default_factory=dict)  # a category's name: how many of its values are kept by name
+    others: dict = field(default_factory=dict)  # a category's name: how many values keep their names, what the rest is called
     depth: int = 16
     width: int = 3600
     start: str = None
@@ -112,10 +111,10 @@ def take_line(columns, word, rest):
         else:
             columns.categories.append(pair)
     elif word == "others":
-        name, _, number = rest.partition(" ")
+        name, number, value = (rest.split(None, 2) + ["", ""])[:3]
         if name in columns.others:
             raise FolderFault(f"a second line `others {name}`")
-        columns.others[name] = number_of(f"others {name}", number.strip() or "255", 1, 255)
+        columns.others[name] = (number_of(f"others {name}", number or "255", 1, 255), only_name(value or "others"))
     else:
         raise FolderFault(f"no line begins with `{word}`")
 
@@ -134,6 +133,8 @@ def check_columns(path, columns):
     for name in columns.others:
         if name not in (known for known, _ in columns.categories):
             raise FolderFault(f"{path}: `others {name}`, and no category is called so")
+    if columns.scripts and len(columns.scripts) > 8:
+        raise FolderFault(f"{path}: {len(columns.scripts)} scripts; a plan takes 8")
     for name in columns.scripts or ():
         if not FILE_NAME.fullmatch(name):
             raise FolderFault(f"{path}: a plan takes no script of the name `{name}`")
@@ -208,7 +209,10 @@ def scripts_of(folder, columns):
     """The names of the folder's scripts: those that `columns` names, or all *.txt."""
     if columns.scripts is not None:
         return columns.scripts
-    return sorted(name for name in os.listdir(folder) if name.endswith(".txt") and FILE_NAME.fullmatch(name))
+    found = sorted(name for name in os.listdir(folder) if name.endswith(".txt"))
+    if len(found) > 8 or not all(map(FILE_NAME.fullmatch, found)):
+        raise FolderFault(f"{folder} has more than 8 files *.txt, or names that no plan takes; name some by a line `scripts NAME ..`")
+    return found
 
 
 def out_of(folder):
@@ -257,9 +261,12 @@ class Calendar:
 
     def __init__(self, plan, origin):
         self.zone = zone_of(origin.get("zone", "UTC"))
-        begin = datetime.datetime.fromisoformat(origin["origin"].replace("Z", "+00:00"))
+        try:
+            begin = datetime.datetime.fromisoformat(origin["origin"].replace("Z", "+00:00")) - EPOCH
+        except (KeyError, ValueError, TypeError, AttributeError):
+            raise FolderFault("origin.json has no origin as 1970-01-01T00:00:00Z") from None
         # The instant at which bin 0 begins, in seconds since 1970, which is negative before.
-        self.begin = int((begin - EPOCH).total_seconds()) + plan["start"]
+        self.begin = begin.days * 86400 + begin.seconds + plan["start"]
         self.width = plan["width"]
 
     def instant_of(self, number):
