@@ -6,17 +6,21 @@
 
 The time of a line is its instant, in seconds since 1970, which is negative before. A row that gives no record is refused for
 one reason: `refused` has how many, and of the first its number and the value."""
+import collections
 import csv
+import itertools
 import math
 import re
-from math import cos
-from math import log
+from math import asinh
 from math import pi
-from math import sin
+from math import radians
+from math import tan
 
 from dates import DateFault
 from dates import Dates
 from dates import FormFault
+from dates import NOT_THERE
+from dates import OTHER_FORM
 from dates import SKIPPED
 from folder import FolderFault
 
@@ -25,13 +29,16 @@ MOST_LATITUDE = 85.0511
 MOST_WEIGHT = 2**28 - 1
 # A column with more values is no category, and memory is to stay small.
 MOST_VALUES = 100000
-LINES_AT_ONCE = 10000
+ROWS_AT_ONCE = 2000
+# What an empty field of a category is called.
+NO_VALUE = "none"
 
-SHORT, NO_PLACE, NO_NUMBER, OFF_MAP = "too short", "without coordinates", "with a coordinate that is no number", "off the map"
-NO_DATE, WRONG_DATE, SKIPPED_TIME = "without a date", "with a wrong date", "at a local time that the zone skips"
-EARLY, NO_WEIGHT = "before the start", "without a weight"
-# The parts of a date that stands in three to six columns.
-PARTS = ["%Y", "%m", "%d", "%H", "%M", "%S"]
+SHORT, NO_PLACE, NO_NUMBER, OFF_MAP = "too short", "without coordinates", "with coordinates that are no numbers", "off the map"
+NO_WEIGHT, NO_DATE, EARLY = "without a weight", "without a date", "before the start"
+WRONG_FORM, WRONG_DATE = "with a date of another form", "with a date that does not exist"
+SKIPPED_TIME = "at a local time that the zone skips"
+# The form of a date that stands in three to six columns, as `joined` joins them.
+PARTS = ["%Y", "-%m", "-%d", " %H", ":%M", ":%S"]
 
 
 def form_of(columns):
@@ -40,7 +47,7 @@ def form_of(columns):
         return columns.form
     if len(columns.time) > len(PARTS):
         raise FolderFault("a date of more columns than year, month, day, hour, minute and second needs a form")
-    return " ".join([("%y" if columns.century else "%Y"), *PARTS[1 : len(columns.time)]])
+    return "".join([PARTS[0] if columns.century is None else "%y", *PARTS[1 : len(columns.time)]])
 
 
 def dates_of(columns):
@@ -69,59 +76,56 @@ def place_of(name, header):
     raise FolderFault(f'the CSV has no column "{name}"; it has {", ".join(header)}'[:1000])
 
 
-def number_of(text):
-    """A number as it stands, with spaces about it; not what Python would take besides, as 4_1.8."""
-    if "_" in text:
-        raise ValueError
-    return float(text)
+class OffMap(ValueError):
+    """A place is not on the map."""
 
 
 class Values(dict):
-    """The values of one category: of each field a list of what it adds to a line and how many records have it.
-    What no plan may have is an empty text in a line, until the others are gathered."""
+    """The values of one category: of each field of the CSV what stands in the feed's line. What no plan may have as a value
+    stands there as an empty text, which is none, until the others are gathered."""
 
-    def __init__(self, name):
+    def __init__(self, name, place):
         super().__init__()
-        self.name = name
-        # The fields that no plan may have as a value.
-        self.wrong = set()
+        self.name, self.place = name, place
+        # How many records have each field, and the fields that no plan may have.
+        self.counts, self.wrong = collections.Counter(), set()
 
     def __missing__(self, field):
         if len(self) >= MOST_VALUES:
             raise FolderFault(f"the category `{self.name}` has more than {MOST_VALUES} values")
-        if field == "":
-            entry = self["none"]
-        elif len(field.encode()) > 64 or re.search(r'["\x00-\x1f\x7f]', field):
+        if len(field.encode()) > 64 or re.search(r'["\x00-\x1f\x7f]', field):
             self.wrong.add(field)
-            entry = [',""', 0]
+            self[field] = '""'
         else:
-            entry = [f',"{field}"', 0]
-        self[field] = entry
-        return entry
+            self[field] = f'"{field or NO_VALUE}"'
+        return self[field]
 
-    def counts(self):
-        """How many records each value has."""
-        return {field or "none": count for field, (_, count) in self.items()}
+    def totals(self):
+        """How many records have each value."""
+        totals = dict(self.counts)
+        if "" in totals:
+            totals[NO_VALUE] = totals.get(NO_VALUE, 0) + totals.pop("")
+        return totals
 
 
 class Source:
-    """A CSV that is read once."""
+    """A CSV that is read once, some rows at a time: a batch is worked on column by column, which is many times faster than
+    row by row. A batch in which something is wrong is cut in two, down to the row that is wrong."""
 
     def __init__(self, columns, reader):
-        self.columns, self.reader = columns, reader
+        self.columns, self.reader, self.size = columns, reader, 2**columns.depth
         header = [name.strip() for name in next(reader, [])]
         if not header:
             raise FolderFault("the CSV is empty: it has no header")
         self.time = [place_of(name, header) for name in columns.time]
         self.latitude, self.longitude = place_of(columns.latitude, header), place_of(columns.longitude, header)
         self.weight = place_of(columns.weight[1], header) if columns.weight else None
-        self.values = [Values(name) for name, _ in columns.categories]
-        self.places = [place_of(column, header) for _, column in columns.categories]
+        self.values = [Values(name, place_of(column, header)) for name, column in columns.categories]
         # How many fields a row needs.
-        self.needed = 1 + max([*self.time, self.latitude, self.longitude, self.weight or 0, *self.places])
-        self.dates = dates_of(columns)
-        self.earliest = start_of(columns)
-        self.records = 0
+        self.needed = 1 + max([*self.time, self.latitude, self.longitude, self.weight or 0, *(it.place for it in self.values)])
+        self.dates, self.earliest = dates_of(columns), start_of(columns)
+        self.records = self.doubled = 0
+        # Of each reason how many rows, the number of the first and its value.
         self.refused = {}
         # The least and the greatest instant, x and y.
         self.first = self.west = self.north = math.inf
@@ -129,133 +133,128 @@ class Source:
 
     def write(self, sink):
         """Writes a line of each record."""
+        number = 2
         try:
-            for lines in self.batches():
-                sink.write("".join(lines))
+            while rows := list(itertools.islice(self.reader, ROWS_AT_ONCE)):
+                for lines in self.lines_of(rows, number):
+                    sink.write(lines)
+                number += len(rows)
         except csv.Error as fault:
             raise FolderFault(f"line {self.reader.line_num} of the CSV: {fault}") from None
         except UnicodeDecodeError:
             raise FolderFault("the CSV is not UTF-8; iconv makes it so, as `iconv -f latin1 -t utf-8`") from None
 
-    def batches(self):
-        """Lists of lines of a feed."""
-        xs, ys, instants, lines = [], [], [], []
-        for x, y, instant, line in self.lines():
-            xs.append(x)
-            ys.append(y)
-            instants.append(instant)
-            lines.append(line)
-            if len(lines) == LINES_AT_ONCE:
-                self.note(xs, ys, instants)
-                yield lines
-                for each in (xs, ys, instants, lines):
-                    each.clear()
+    def lines_of(self, rows, number):
+        """The lines of some rows, of which the first has that number."""
+        try:
+            yield self.batch(rows)
+        except (ValueError, IndexError):
+            if len(rows) == 1:
+                self.refuse(rows[0], number)
+                return
+            half = len(rows) // 2
+            yield from self.lines_of(rows[:half], number)
+            yield from self.lines_of(rows[half:], number + half)
+
+    def batch(self, rows):
+        """The lines of rows that are all right; else it fails, and changes nothing."""
+        if min(map(len, rows)) < self.needed:
+            raise IndexError
+        fields = list(zip(*rows))
+        instants = self.instants_of(fields, len(rows))
+        xs, ys = tiles_of(fields[self.latitude], fields[self.longitude], self.size)
+        weights = [] if self.weight is None else [[weight_of(text) for text in fields[self.weight]]]
+        labels = [list(map(values.__getitem__, fields[values.place])) for values in self.values]
         self.note(xs, ys, instants)
-        yield lines
+        for values in self.values:
+            values.counts.update(fields[values.place])
+        line = "%d,%d,%d" + ",%d" * bool(weights) + ",%s" * len(labels) + "\n"
+        return "".join([line % parts for parts in zip(xs, ys, instants, *weights, *labels)])
+
+    def instants_of(self, fields, number):
+        """The instants of so many rows' dates."""
+        if not self.time:
+            return [0] * number
+        instants = self.dates.instants_of(joined([fields[at] for at in self.time]))
+        if self.earliest is not None and min(instants) < self.earliest:
+            raise ValueError
+        return instants
 
     def note(self, xs, ys, instants):
-        """Keeps the least and the greatest of each."""
-        if xs:
-            self.records += len(xs)
-            self.west, self.east = min(self.west, min(xs)), max(self.east, max(xs))
-            self.north, self.south = min(self.north, min(ys)), max(self.south, max(ys))
-            self.first, self.last = min(self.first, min(instants)), max(self.last, max(instants))
+        """Counts records, and keeps the least and the greatest of each."""
+        self.records += len(xs)
+        self.doubled += self.dates.doubled
+        self.west, self.east = min(self.west, min(xs)), max(self.east, max(xs))
+        self.north, self.south = min(self.north, min(ys)), max(self.south, max(ys))
+        self.first, self.last = min(self.first, min(instants)), max(self.last, max(instants))
 
-    def lines(self):
-        """Of each record x, y, its instant and its line. A row that is right passes with as few steps as can be."""
-        instant_of, weight_of, labels = self.instant_reader(), self.weight_reader(), list(zip(self.values, self.places))
-        latitude_at, longitude_at, needed, size, number = self.latitude, self.longitude, self.needed, 2**self.columns.depth, 1
-        for cells in self.reader:
-            number += 1
-            try:
-                if len(cells) < needed:
-                    raise ValueError
-                latitude, longitude = number_of(cells[latitude_at]), number_of(cells[longitude_at])
-                if not (-MOST_LATITUDE <= latitude <= MOST_LATITUDE and -180 <= longitude <= 360):
-                    raise ValueError
-                weight, instant = weight_of(cells), instant_of(cells)
-                fields = [cells[at] for _, at in labels]
-            except (ValueError, IndexError):
-                self.refuse(number, cells)
-                continue
-            x, y = tile_of(latitude, longitude, size)
-            line = f"{x},{y},{instant}{weight}"
-            for (values, _), field in zip(labels, fields):
-                entry = values[field]
-                entry[1] += 1
-                line += entry[0]
-            yield x, y, instant, line + "\n"
-
-    def instant_reader(self):
-        """A function that gives the instant of a row, or fails by a ValueError."""
-        instant_of, at = self.dates.instant_of, self.time
-        if not at:
-            return lambda cells: 0
-        if self.earliest is not None:
-            return self.late_enough
-        if len(at) > 1:
-            return lambda cells: instant_of(" ".join([cells[place].strip() for place in at]))
-        return lambda cells, at=at[0]: instant_of(cells[at])
-
-    def late_enough(self, cells):
-        """The same where a start is told."""
-        instant = self.dates.instant_of(self.date_of(cells))
-        if instant < self.earliest:
-            raise ValueError
-        return instant
-
-    def date_of(self, cells):
-        """The text of a row's date."""
-        return " ".join(cells[place].strip() for place in self.time)
-
-    def weight_reader(self):
-        """A function that gives what the weight adds to a line, or fails by a ValueError."""
-        if self.weight is None:
-            return lambda cells: ""
-        return lambda cells, at=self.weight: f",{weight_of(cells[at])}"
-
-    def refuse(self, number, cells):
-        """Counts a row that gives no record, by the first reason that holds."""
-        if not cells:
-            return
-        reason, value = self.reason_of(cells)
-        self.refused.setdefault(reason, [0, number, value])[0] += 1
+    def refuse(self, cells, number):
+        """Counts a row that gives no record, by the first reason that holds. An empty line is no row."""
+        if cells:
+            reason, value = self.reason_of(cells)
+            self.refused.setdefault(reason, [0, number, value])[0] += 1
 
     def reason_of(self, cells):
         """Why a row gives no record, and the value that is wrong."""
         if len(cells) < self.needed:
             return SHORT, f"{len(cells)} fields"
         place = [cells[self.latitude].strip(), cells[self.longitude].strip()]
-        if "" in place:
-            return NO_PLACE, ",".join(place)
         try:
-            latitude, longitude = map(number_of, place)
-        except ValueError:
-            return NO_NUMBER, ",".join(place)
-        if not (-MOST_LATITUDE <= latitude <= MOST_LATITUDE and -180 <= longitude <= 360):
+            tiles_of(place[:1], place[1:], self.size)
+        except OffMap:
             return OFF_MAP, ",".join(place)
+        except ValueError:
+            return (NO_PLACE if "" in place else NO_NUMBER), ",".join(place)
         try:
             if self.weight is not None:
                 weight_of(cells[self.weight])
         except ValueError:
             return NO_WEIGHT, cells[self.weight]
-        text = self.date_of(cells)
-        if not text.strip():
+        return self.reason_of_date(joined([[cells[at]] for at in self.time])[0])
+
+    def reason_of_date(self, text):
+        """The same where only the date is left."""
+        if not text.strip(" -:"):
             return NO_DATE, text
         try:
             self.dates.instant_of(text)
         except DateFault as fault:
-            return (SKIPPED_TIME if str(fault) == SKIPPED else WRONG_DATE), text
+            return {OTHER_FORM: WRONG_FORM, NOT_THERE: WRONG_DATE, SKIPPED: SKIPPED_TIME}[str(fault)], text
         return EARLY, text
 
 
-def tile_of(latitude, longitude, size):
-    """The tile of a place, as map servers number tiles."""
-    angle = latitude * pi / 180
-    x = int((longitude - 180 if longitude >= 180 else longitude + 180) / 360 * size)
-    y = int((1 - log((1 + sin(angle)) / cos(angle)) / pi) / 2 * size)
-    # A longitude so near to 180 that the sum above is rounded to 360 is of the last column.
-    return x if x < size else size - 1, y
+def joined(parts):
+    """The texts of dates whose parts stand in columns: three and more are year, month, day, and hour, minute, second."""
+    if len(parts) == 1:
+        return parts[0]
+    parts = [[text.strip() for text in texts] for texts in parts]
+    if len(parts) > 2:
+        day = list(map("-".join, zip(*parts[:3])))
+        if len(parts) == 3:
+            return day
+        parts = [day, list(map(":".join, zip(*parts[3:])))]
+    return list(map(" ".join, zip(*parts)))
+
+
+def tiles_of(latitudes, longitudes, size):
+    """The columns and rows of tiles, as map servers number them, of places in degrees."""
+    # Python takes 4_1.8 for a number.
+    if "_" in "".join(latitudes) or "_" in "".join(longitudes):
+        raise ValueError
+    latitudes, longitudes = list(map(float, latitudes)), list(map(float, longitudes))
+    if not (-MOST_LATITUDE <= min(latitudes) and max(latitudes) <= MOST_LATITUDE):
+        raise OffMap
+    if not (-180 <= min(longitudes) and max(longitudes) <= 360):
+        raise OffMap
+    if max(longitudes) >= 180:
+        longitudes = [longitude - 360 if longitude >= 180 else longitude for longitude in longitudes]
+    xs = [int((longitude + 180) / 360 * size) for longitude in longitudes]
+    if max(xs) == size:
+        # So near to 180 that the sum was rounded to 360.
+        xs = [min(x, size - 1) for x in xs]
+    # From the equator, tiles to an angle of 1 in the map's projection.
+    middle, scale = size / 2, size / (2 * pi)
+    return xs, [int(middle - north * scale) for north in map(asinh, map(tan, map(radians, latitudes)))]
 
 
 def weight_of(text):
