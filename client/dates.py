@@ -175,13 +175,13 @@ class Dates:
         return offset.days * DAY + offset.seconds
 
     def fault_of_order(self):
-        """Why dates that were read month-first may be wrong, or none."""
+        """A date that was read month-first and may be wrong, and why; or none."""
         if self.month_first and self.day_first:
-            return f'"{self.month_first}" is month-first and "{self.day_first}" is day-first'
+            return self.day_first, f'"{self.month_first}" is month-first and "{self.day_first}" is day-first'
         if self.day_first:
-            return f'"{self.day_first}" is day-first'
+            return self.day_first, f'"{self.day_first}" is day-first'
         if self.both_fit and not self.month_first:
-            return f'each date with slashes, as "{self.both_fit}", may be month-first or day-first'
+            return self.both_fit, f'all dates may be month-first or day-first, as "{self.both_fit}"'
         return None
 
 
@@ -295,3 +295,25 @@ def check_words(words, form, century):
         raise FormFault(f"{form} has not one year, one month and one day, or one year and %j")
     if len(has & {"H", "I"}) > 1 or ("I" in has) != ("p" in has):
         raise FormFault(f"{form} has %H and %I, or only one of %I and %p")
+
+
+# The days of forms that people use besides the default ones, and the clocks.
+DAYS_KNOWN = ["%d.%m.%Y", "%d/%m/%Y", "%d-%m-%Y", "%m-%d-%Y", "%d %b %Y", "%d-%b-%Y", "%b %d, %Y", "%Y.%m.%d", "%Y%m%d", "%d/%m/%y", "%m/%d/%y"]
+CLOCKS_KNOWN = ["", " %H:%M", " %H:%M:%S", " %I:%M %p", " %I:%M:%S %p", "T%H:%M:%S"]
+
+
+def forms_that_read(text, days=tuple(DAYS_KNOWN)):
+    """Forms of a line `time` that would read a text."""
+    forms = [day + clock for day in days for clock in CLOCKS_KNOWN]
+    counted_by = {9: "seconds", 10: "seconds", 12: "milliseconds", 13: "milliseconds"}
+    if re.fullmatch("[0-9]+", text.strip()) and len(text.strip()) in counted_by:
+        return [counted_by[len(text.strip())]]
+    return [form for form in forms if is_read(text, form)]
+
+
+def is_read(text, form):
+    try:
+        Dates("UTC", form, 1970).instant_of(text)
+    except DateFault:
+        return False
+    return True

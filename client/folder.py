@@ -187,11 +187,22 @@ def seconds_of(text):
     return int(found[1]) * UNITS[found[2]]
 
 
+def text_of_width(seconds):
+    """A width as the line `width` takes it: 1h, 1d, 90s."""
+    unit = next(unit for unit in "wdhms" if seconds % UNITS[unit] == 0)
+    return f"{seconds // UNITS[unit]}{unit}"
+
+
+def quoted(name):
+    """A column's name as a line of `columns` takes it."""
+    return '"' + name.replace('"', '""') + '"' if re.search('[,"%]', name) else name
+
+
 def zone_of(name):
     """A time zone by its name in the IANA database."""
     try:
         return zoneinfo.ZoneInfo(name)
-    except (zoneinfo.ZoneInfoNotFoundError, ValueError, OSError):
+    except (ValueError, OSError, zoneinfo.ZoneInfoNotFoundError):
         raise FolderFault(f"no time zone is called `{name}`; they are called as Europe/Lisbon") from None
 
 

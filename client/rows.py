@@ -8,7 +8,6 @@ The time of a line is its instant, in seconds since 1970, which is negative befo
 one reason: `refused` has how many, and of the first its number and the value."""
 import collections
 import csv
-import itertools
 import math
 import re
 from math import asinh
@@ -23,6 +22,7 @@ from dates import NOT_THERE
 from dates import OTHER_FORM
 from dates import SKIPPED
 from folder import FolderFault
+from folder import quoted
 
 # Where the map ends: Web Mercator goes to 85.05113 degrees.
 MOST_LATITUDE = 85.0511
@@ -73,7 +73,9 @@ def place_of(name, header):
         return header.index(name)
     if name in header:
         raise FolderFault(f'the CSV has {header.count(name)} columns "{name}"')
-    raise FolderFault(f'the CSV has no column "{name}"; it has {", ".join(header)}'[:1000])
+    if set(name.split()) <= set(header):
+        raise FolderFault(f'the CSV has no column "{name}"; several columns have commas between: {", ".join(name.split())}')
+    raise FolderFault(f'the CSV has no column "{name}"; it has {", ".join(map(quoted, header))}'[:1000])
 
 
 class OffMap(ValueError):
@@ -133,16 +135,20 @@ class Source:
 
     def write(self, sink):
         """Writes a line of each record."""
-        number = 2
+        number, rows = 2, []
         try:
-            while rows := list(itertools.islice(self.reader, ROWS_AT_ONCE)):
-                for lines in self.lines_of(rows, number):
-                    sink.write(lines)
-                number += len(rows)
+            for cells in self.reader:
+                rows.append(cells)
+                if len(rows) == ROWS_AT_ONCE:
+                    sink.writelines(self.lines_of(rows, number))
+                    number += len(rows)
+                    rows = []
         except csv.Error as fault:
-            raise FolderFault(f"line {self.reader.line_num} of the CSV: {fault}") from None
+            raise FolderFault(f"row {number + len(rows)} of the CSV, which ends in line {self.reader.line_num}: {fault}") from None
         except UnicodeDecodeError:
             raise FolderFault("the CSV is not UTF-8; iconv makes it so, as `iconv -f latin1 -t utf-8`") from None
+        if rows:
+            sink.writelines(self.lines_of(rows, number))
 
     def lines_of(self, rows, number):
         """The lines of some rows, of which the first has that number."""
