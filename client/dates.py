@@ -67,10 +67,10 @@ class Dates:
     def __init__(self, zone="UTC", form=None, century=None):
         self.zone, self.form, self.century = zoneinfo.ZoneInfo(zone), form, century
         self.is_utc = zone == "UTC"
-        # The first date whose order is month-first alone, day-first alone, or may be both, of those without a form.
+        # The first text whose order is month-first alone, day-first alone, or may be both, of those without a form.
         self.month_first = self.day_first = self.both_fit = None
-        # How many of the texts that were read last are local times that come twice.
-        self.doubled = 0
+        # The texts that were read last, and how many of them are local times that come twice.
+        self.doubled, self.texts = 0, []
         patterns, self.cut = ([DEFAULT_DAY, DEFAULT_CLOCK], None) if form is None else patterns_of(form, century)
         patterns = [re.compile(it, re.ASCII | re.IGNORECASE) for it in patterns]
         # A day and a time of day are read each once where the form has first the one, then the other.
@@ -82,7 +82,7 @@ class Dates:
 
     def instants_of(self, texts):
         """The instants of texts, or the DateFault of one."""
-        self.doubled = 0
+        self.doubled, self.texts = 0, texts
         if self.is_cut:
             days, clocks, cut = self.days, self.clocks, self.cut or cut_of(texts[0])
             try:
@@ -134,13 +134,10 @@ class Dates:
         return day_of(parts, self.century)
 
     def note_order(self, first, second, day):
-        """Keeps the first date of each kind."""
-        if 1 <= first <= 12 and 1 <= second <= 12:
-            self.both_fit = self.both_fit or (day if first != second else None)
-        elif first <= 12:
-            self.month_first = self.month_first or day
-        elif second <= 12:
-            self.day_first = self.day_first or day
+        """Keeps the first text of each kind. The day 3/3/2024 is the same in both orders."""
+        kind = "month_first" if second > 12 else "day_first" if first > 12 else "both_fit"
+        if first != second and min(first, second) <= 12 and getattr(self, kind) is None:
+            setattr(self, kind, next(text for text in self.texts if text.strip().startswith(day)))
 
     def placed(self, ordinal, seconds, offset):
         """The instant of a day and the seconds of its clock, at an offset or in the zone."""

@@ -145,8 +145,6 @@ class Source:
                     rows = []
         except csv.Error as fault:
             raise FolderFault(f"row {number + len(rows)} of the CSV, which ends in line {self.reader.line_num}: {fault}") from None
-        except UnicodeDecodeError:
-            raise FolderFault("the CSV is not UTF-8; iconv makes it so, as `iconv -f latin1 -t utf-8`") from None
         if rows:
             sink.writelines(self.lines_of(rows, number))
 
