@@ -3,7 +3,7 @@
 or of a week's calls, each with its duration.
 
 make_export.py incidents 4200 > export.csv
-make_export.py calls 400 > calls.csv
+make_export.py calls 400 > calls/calls.csv
 
 What is put in the incidents, so that a picture of it can be judged:
 - a market at 41.9371, -87.8053, in the sparse north-west, around which every 18th incident is a theft, most within 300 m;
