@@ -11,6 +11,7 @@ docs/FORMATS.md, "A folder of records", has the form of these files. For whoever
     calendar.text_of(768)                        # "2024-02-02", where the bin begins; with hours where it is no midnight
 
 What is wrong is a FolderFault, whose text is one line for a person."""
+import csv
 import datetime
 import json
 import os
@@ -142,14 +143,13 @@ def check_columns(path, columns):
 
 
 def names_of(text):
-    """The names of columns in a line: commas between them; in quotes where a name has a comma, a quote or a %."""
-    names = []
-    for found in re.finditer(r'\s*(?:"((?:[^"]|"")*)"|([^,"]*))\s*(?:,|$)', text):
-        if found.start() == len(text) and names and not text.rstrip().endswith(","):
-            break
-        names.append(found[1].replace('""', '"') if found[1] is not None else found[2].strip())
+    """The names of columns in a line, with commas between; in quotes where a name has a comma, a quote or a %."""
+    try:
+        names = [name.strip() for name in next(csv.reader([text], skipinitialspace=True, strict=True))]
+    except csv.Error:
+        names = []
     if "" in names or not names:
-        raise FolderFault(f"`{text}` names no column")
+        raise FolderFault(f"`{text}` names no column, or has a quote that does not end")
     return names
 
 
@@ -302,7 +302,11 @@ class Calendar:
         """The bin that has a date as 2024-02-01, 2024-02-01 10:30 or 2024-02-01T10:30:00+01:00."""
         from dates import DateFault
         from dates import Dates
+        dates = Dates(self.zone.key)
         try:
-            return self.bin_of(Dates(self.zone.key).instant_of(text))
+            instant = dates.instant_of(text)
         except DateFault as fault:
             raise FolderFault(f"`{text}` {fault}") from None
+        if dates.fault_of_order():
+            raise FolderFault(dates.fault_of_order()[1])
+        return self.bin_of(instant)

@@ -179,7 +179,7 @@ class Source:
         """The instants of so many rows' dates."""
         if not self.time:
             return [0] * number
-        instants = self.dates.instants_of(joined([fields[at] for at in self.time]))
+        instants = self.dates.instants_of(joined([fields[at] for at in self.time], self.columns.form))
         if self.earliest is not None and min(instants) < self.earliest:
             raise ValueError
         return instants
@@ -214,11 +214,11 @@ class Source:
                 weight_of(cells[self.weight])
         except ValueError:
             return NO_WEIGHT, cells[self.weight]
-        return self.reason_of_date(joined([[cells[at]] for at in self.time])[0])
+        return self.reason_of_date(joined([[cells[at]] for at in self.time], self.columns.form)[0])
 
     def reason_of_date(self, text):
         """The same where only the date is left."""
-        if not text.strip(" -:"):
+        if not text.strip(" -:?"):
             return NO_DATE, text
         try:
             self.dates.instant_of(text)
@@ -227,16 +227,14 @@ class Source:
         return EARLY, text
 
 
-def joined(parts):
-    """The texts of dates whose parts stand in columns: three and more are year, month, day, and hour, minute, second."""
+def joined(parts, has_form):
+    """The texts of dates whose parts stand in columns, with spaces between. Without a form, three and more columns are year, month,
+    day, hour, minute and second. A part that is empty is no part of a date, though a day by itself would be one."""
     if len(parts) == 1:
         return parts[0]
-    parts = [[text.strip() for text in texts] for texts in parts]
-    if len(parts) > 2:
-        day = list(map("-".join, zip(*parts[:3])))
-        if len(parts) == 3:
-            return day
-        parts = [day, list(map(":".join, zip(*parts[3:])))]
+    parts = [[text.strip() or "?" for text in texts] for texts in parts]
+    if len(parts) > 2 and not has_form:
+        parts = [map("-".join, zip(*parts[:3]))] + ([map(":".join, zip(*parts[3:]))] if len(parts) > 3 else [])
     return list(map(" ".join, zip(*parts)))
 
 
