@@ -25,8 +25,8 @@ HALF = r"(?P<p>[AP]\.?M\.?)"
 OFFSET = r"(?P<offset>Z|UTC|GMT|[+-]\d\d(?::?\d\d)?)"
 ISO_DAY = r"(?P<Y>\d{4})(?P<cut>[-/])(?P<m>\d\d)(?P=cut)(?P<d>\d\d)"
 AMERICAN_DAY = r"(?P<month>\d\d?)/(?P<day>\d\d?)/(?P<year>\d{4})"
-DEFAULT_DAY = f"{ISO_DAY}|{AMERICAN_DAY}"
-DEFAULT_CLOCK = rf"(?:(?P<H>\d\d?):(?P<M>\d\d)(?::(?P<S>\d\d)(?:[.,]\d+)?)?(?:\s*{HALF})?(?:\s*{OFFSET})?)?"
+CLOCK = rf"(?P<H>\d\d?):(?P<M>\d\d)(?::(?P<S>\d\d)(?:[.,]\d+)?)?(?:\s*{HALF})?(?:\s*{OFFSET})?"
+DEFAULT = rf"(?:{ISO_DAY}|{AMERICAN_DAY})(?:(?:T|\s+){CLOCK})?"
 
 # What each word of a form reads; a number may have fewer digits, and a name may be in small letters or in large ones.
 DIRECTIVES = {
@@ -36,7 +36,8 @@ DIRECTIVES = {
     "a": f"(?P<a>{'|'.join(WEEKDAYS)}|{'|'.join(name[:3] for name in WEEKDAYS)})",
 }  # fmt: skip
 SAME = {"%B": "%b", "%h": "%b", "%A": "%a", "%e": "%d", "%Z": "%z", "%T": "%H:%M:%S", "%R": "%H:%M", "%F": "%Y-%m-%d", "%D": "%m/%d/%y"}
-DAY_WORDS, CLOCK_WORDS = set("Yymdjba%"), set("HIMSfpz%")
+# What may stand before the first colon of a form and after it, so that both can be read apart.
+HEAD_WORDS, TAIL_WORDS = set("YymdjbaHI%"), set("MSfpz%")
 
 
 class DateFault(ValueError):
@@ -62,7 +63,8 @@ class Kept(dict):
 
 
 class Dates:
-    """Reads texts of one form, or of the default ones, in a zone."""
+    """Reads texts of one form, or of the default ones, in a zone. What stands before the first colon of a text, which is a day and an
+    hour, is read once, and so is what stands behind it; the instant is the sum."""
 
     def __init__(self, zone="UTC", form=None, century=None):
         self.zone, self.form, self.century = zoneinfo.ZoneInfo(zone), form, century
@@ -70,90 +72,99 @@ class Dates:
         # The first text whose order is month-first alone, day-first alone, or may be both, of those without a form.
         self.month_first = self.day_first = self.both_fit = None
         # The texts that were read last, and how many of them are local times that come twice.
-        self.doubled, self.texts = 0, []
-        patterns, self.cut = ([DEFAULT_DAY, DEFAULT_CLOCK], None) if form is None else patterns_of(form, century)
-        patterns = [re.compile(it, re.ASCII | re.IGNORECASE) for it in patterns]
-        # A day and a time of day are read each once where the form has first the one, then the other.
-        self.is_cut = len(patterns) == 2
-        self.day, self.clock = patterns if self.is_cut else (None, None)
-        self.whole = patterns[0]
-        self.days, self.clocks, self.shifts = Kept(self.begin_of), Kept(self.seconds_of), Kept(self.shift_of)
-        self.ordinals = Kept(self.ordinal_of)
+        self.texts, self.doubled = [], 0
+        self.whole = re.compile(DEFAULT if form is None else pattern_of(form, century), re.ASCII | re.IGNORECASE)
+        # One o'clock, and what stands behind the colon at each full hour: by a clock of 24 hours, and of 12.
+        self.sample_head, self.sample_tails = samples_of(form)
+        self.heads = [Kept(self.head_24), Kept(self.head_12)]
+        self.tails = [Kept(self.tail_24), Kept(self.tail_12)]
+        self.wholes = Kept(self.steady)
 
     def instants_of(self, texts):
         """The instants of texts, or the DateFault of one."""
-        self.doubled, self.texts = 0, texts
-        if self.is_cut:
-            days, clocks, cut = self.days, self.clocks, self.cut or cut_of(texts[0])
-            try:
-                return [days[day] + clocks[clock] for day, _, clock in [text.partition(cut) for text in texts]]
-            except DateFault:
-                # One of them is wrong, or needs its day and its clock together.
-                pass
-        return [self.read(text) for text in texts]
+        self.texts, self.doubled = texts, 0
+        try:
+            if self.sample_head is None or ":" not in texts[0]:
+                wholes = self.wholes
+                return [wholes[text] for text in texts]
+            half = is_half(texts[0])
+            heads, tails = self.heads[half], self.tails[half]
+            return [heads[head] + tails[tail] for head, _, tail in [text.partition(":") for text in texts]]
+        except DateFault:
+            # One is wrong, or another kind of text than the first, or at an hour in which the clocks change.
+            return [self.read(text) for text in texts]
 
     def instant_of(self, text):
         """The instant of a text."""
         return self.instants_of([text])[0]
 
     def read(self, text):
-        """The instant of one text, whose day may have a change of offset."""
-        text = text.strip()
-        if self.form in COUNTED:
-            return counted(text, COUNTED[self.form])
-        if not self.is_cut:
-            parts = match(self.whole, text)
-            return self.placed(day_of(parts, self.century), *clock_of(parts))
-        day, _, clock = text.partition(self.cut or cut_of(text))
+        """The instant of one text."""
+        head, _, tail = text.partition(":")
+        half = is_half(text)
         try:
-            return self.days[day] + self.clocks[clock]
+            if self.sample_head is not None and tail:
+                return self.heads[half][head] + self.tails[half][tail]
         except DateFault:
-            return self.placed(self.ordinals[day], *clock_of(match(self.clock, clock.strip())))
+            pass
+        ordinal, seconds, offset = self.parts_of(text)
+        if offset is None:
+            offset = 0 if self.is_utc else self.shift_at(ordinal, seconds)
+        return ordinal * DAY + seconds - offset
 
-    def begin_of(self, day):
-        """The instant at which the clocks of the zone begin a day, where they do not change on it."""
-        ordinal = self.ordinals[day]
-        shift = self.shifts[ordinal]
-        if shift is None:
-            raise DateFault(SKIPPED)
-        return ordinal * DAY - shift
-
-    def seconds_of(self, clock):
-        """The seconds from a day's begin to a time of day without an offset; in UTC it may have one."""
-        seconds, offset = clock_of(match(self.clock, clock.strip()))
-        if offset is not None and not self.is_utc:
-            raise DateFault(OTHER_FORM)
-        return seconds - (offset or 0)
-
-    def ordinal_of(self, day):
-        """The number of a day from 1970."""
-        parts = match(self.day, day)
+    def parts_of(self, text):
+        """The day of a text, counted from 1970, the seconds of its clock, and its offset or None."""
+        if self.form in COUNTED:
+            instant = counted(text.strip(), COUNTED[self.form])
+            return instant // DAY, instant % DAY, 0
+        parts = match(self.whole, text.strip())
         if parts.get("month"):
             parts.update(Y=parts["year"], m=parts["month"], d=parts["day"])
-            self.note_order(int(parts["m"]), int(parts["d"]), day)
-        return day_of(parts, self.century)
+            self.note_order(int(parts["m"]), int(parts["d"]), text.partition(":")[0])
+        return day_of(parts, self.century), *clock_of(parts)
 
-    def note_order(self, first, second, day):
+    def head_24(self, head):
+        """The instant at which the hour of a head begins, where the clocks do not change in it."""
+        ordinal, seconds, _ = self.parts_of(f"{head}:{self.sample_tails[0]}")
+        return ordinal * DAY + seconds - self.steady_shift(ordinal, [seconds])
+
+    def head_12(self, head):
+        """The same of a clock of 12 hours: the instant in the morning, where the clocks change neither then nor 12 hours later."""
+        ordinal, seconds, _ = self.parts_of(f"{head}:{self.sample_tails[1]}")
+        return ordinal * DAY + seconds - self.steady_shift(ordinal, [seconds, seconds + DAY // 2])
+
+    def tail_24(self, tail, half=False):
+        """The seconds from the begin of the hour, or of the same hour in the morning."""
+        text = f"{self.sample_head}:{tail}"
+        _, seconds, offset = self.parts_of(text)
+        if is_half(text) != half or offset is not None and not self.is_utc:
+            raise DateFault(OTHER_FORM)
+        return seconds - 3600 - (offset or 0)
+
+    def tail_12(self, tail):
+        return self.tail_24(tail, True)
+
+    def steady(self, text):
+        """The instant of a whole text, where the clocks do not change in its hour."""
+        ordinal, seconds, offset = self.parts_of(text)
+        if offset is None:
+            offset = self.steady_shift(ordinal, [seconds - seconds % 3600])
+        return ordinal * DAY + seconds - offset
+
+    def steady_shift(self, ordinal, hours):
+        """The zone's offset in hours of a day that begin at so many seconds, where it is one and the same."""
+        if self.is_utc:
+            return 0
+        shifts = {self.offset(ordinal, hour + more, fold) for hour in hours for more in (0, 3600) for fold in (0, 1)}
+        if len(shifts) > 1:
+            raise DateFault(SKIPPED)
+        return shifts.pop()
+
+    def note_order(self, first, second, head):
         """Keeps the first text of each kind. The day 3/3/2024 is the same in both orders."""
         kind = "month_first" if second > 12 else "day_first" if first > 12 else "both_fit"
         if first != second and min(first, second) <= 12 and getattr(self, kind) is None:
-            setattr(self, kind, next(text for text in self.texts if text.strip().startswith(day)))
-
-    def placed(self, ordinal, seconds, offset):
-        """The instant of a day and the seconds of its clock, at an offset or in the zone."""
-        if offset is not None:
-            return ordinal * DAY + seconds - offset
-        shift = self.shifts[ordinal]
-        if shift is None:
-            shift = self.shift_at(ordinal, seconds)
-        return ordinal * DAY + seconds - shift
-
-    def shift_of(self, ordinal):
-        """The zone's offset on a day, or None where it changes on that day."""
-        if self.is_utc:
-            return 0
-        shifts = {self.offset(ordinal, 3600 * hour, fold) for hour in range(25) for fold in (0, 1)}
-        return shifts.pop() if len(shifts) == 1 else None
+            setattr(self, kind, next(text for text in self.texts if text.startswith(head)))
 
     def shift_at(self, ordinal, seconds):
         """The zone's offset at a local time: of one that comes twice that of the first."""
@@ -249,23 +260,9 @@ def offset_of(text):
     return (3600 * hours + 60 * minutes) * (-1 if text[0] == "-" else 1)
 
 
-def cut_of(text):
-    """What stands between day and clock in a text without a form."""
-    return "T" if text[10:11] == "T" else " "
-
-
-def patterns_of(form, century):
-    """The patterns of a form's day and of its clock with what stands between them, or one of the whole."""
-    if form in COUNTED:
-        return [""], None
-    for short, long in SAME.items():
-        form = form.replace(short, long)
-    check_words(words_of(form), form, century)
-    cut = "T" if "T" in form and " " not in form else " "
-    day, _, clock = form.partition(cut)
-    if set(words_of(day)) <= DAY_WORDS and set(words_of(clock)) <= CLOCK_WORDS:
-        return [pattern_of(day), pattern_of(clock)], cut
-    return [pattern_of(form)], None
+def is_half(text):
+    """Whether a text ends in AM or PM."""
+    return text[-3:].rstrip(" .").endswith(("M", "m"))
 
 
 def words_of(form):
@@ -273,9 +270,32 @@ def words_of(form):
     return re.findall(r"%(.?)", form)
 
 
-def pattern_of(form):
+def in_full(form):
+    """A form whose shorter words are put out in full."""
+    for short, full in SAME.items():
+        form = form.replace(short, full)
+    return form
+
+
+def pattern_of(form, century):
+    """The pattern of a form."""
+    if form in COUNTED:
+        return ""
+    form = in_full(form)
+    check_words(words_of(form), form, century)
     pieces = re.findall(r"%(.)|(\s+)|([^%\s]+)", form)
     return "".join(DIRECTIVES[word] if word else r"\s+" if space else re.escape(other) for word, space, other in pieces)
+
+
+def samples_of(form):
+    """A text of the form at one o'clock up to the colon, and at a full hour behind it; none where it cannot be cut there."""
+    if form is None:
+        return "2000-01-01 01", ["00", "00 AM"]
+    head, _, tail = in_full(form).partition(":")
+    if form in COUNTED or not set(words_of(head)) <= HEAD_WORDS or not tail or not set(words_of(tail)) <= TAIL_WORDS:
+        return None, None
+    one = datetime.datetime(2000, 1, 1, 1, tzinfo=datetime.timezone.utc)
+    return one.strftime(head), [one.strftime(tail)] * 2
 
 
 def check_words(words, form, century):
