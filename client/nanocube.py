@@ -6,32 +6,32 @@
     cube.ask("hist type")                                # the reply as the program gives it, in bytes
     cube.reply("series month with type=THEFT")           # the same of a line with dates
 
-docs/CLIENT.md has ten lines to copy, docs/FORMATS.md the questions, and in "Several clients of one ask" what Ask does. What is wrong
-with a question is a Fault. Any other trouble, such as a run that has ended, is a CubeError. Both are one line for a person."""
+docs/CLIENT.md has ten lines to copy, and client/questions.py says what a line with dates may be. What is wrong with a question is a
+Fault. Any other trouble, such as a run that has ended, is a CubeError. Both are one line for a person."""
 import collections
 import datetime
-import errno
-import fcntl
 import json
 import os
-import random
-import re
-import select
 import stat
 import subprocess
-import time
+import sys
 
+from asks import SECONDS
+from asks import TOP
+from asks import Ask
+from asks import CubeError
+from asks import Loaded
+from asks import environment
+from asks import plan_in
+from asks import program_of
 from folder import Calendar
 from folder import FolderFault
 from folder import is_stale
 from folder import out_of
 from folder import read_origin
-from folder import read_plan
-
-TOP = os.path.dirname(os.path.dirname(os.path.realpath(__file__)))
-# How many seconds a reply may take, and how many bytes a line may have.
-SECONDS, MOST_BYTES = 60, 4096
-MOST_BIN, MOST_ROWS, ROWS_AT_ONCE = 2**32, 100000, 10000
+from questions import MOST_BIN
+from questions import Fault
+from questions import Line
 
 Value = collections.namedtuple("Value", "value total")
 Pair = collections.namedtuple("Pair", "first second total")
@@ -39,170 +39,217 @@ Tile = collections.namedtuple("Tile", "z x y total")
 Interval = collections.namedtuple("Interval", "bin date total")
 
 
-class CubeError(Exception):
-    """Why there is no reply, in one line."""
+class Cube:
+    """A cube that is asked. Bins may be dates: texts as 2024-02-01, dates, or datetimes, which are of the plan's zone where they have
+    none. `seen` says over how many records the last reply was."""
 
-
-class Fault(CubeError):
-    """What is wrong with a question: the fault's name, the number of the word from 1, the word, and where it begins in the line."""
-
-    def __init__(self, name, at, word="", place=None, why=""):
-        super().__init__(f"{name} at word {at}" + (f", `{word}`" if word else "") + (f": {why}" if why else ""))
-        self.name, self.at, self.word, self.place, self.why = name, at, word, place, why
-
-
-# Lines to a program, and from it
-
-
-def question_of(line):
-    """The bytes of a line that the program answers by one line. Any other line is not put."""
-    try:
-        question = line.encode() if isinstance(line, str) else bytes(line)
-        question.decode()
-    except UnicodeError:
-        raise CubeError("the line is not UTF-8") from None
-    if len(question) > MOST_BYTES or b"\n" in question or b"\r" in question:
-        raise CubeError(f"a question is one line of at most {MOST_BYTES} bytes")
-    if not question.strip(b" ") or question.startswith((b"#", b"\xef\xbb\xbf")):
-        raise CubeError("the line asks nothing")
-    if question.split(b" ")[0] == b"quit" or question.strip(b" ") == b"quit":
-        raise CubeError("`quit` is not put: it would end the ask for all")
-    return question
-
-
-class Pipes:
-    """The two ends by which a program is asked, neither of which waits by itself."""
-
-    def __init__(self, name, to, source):
-        self.name, self.to, self.source = name, to, source
-        self.readable, self.writable = select.poll(), select.poll()
-        self.readable.register(source, select.POLLIN)
-        self.writable.register(to, select.POLLOUT)
-
-    def write(self, data, end):
+    def __init__(self, plan, asker, is_live):
+        """Over the plan of that path. `asker` has a method `ask`, as Ask and Loaded."""
+        self.plan, self.asker, self.is_live, self.seen, self.known = plan_in(plan), asker, is_live, None, {}
         try:
-            written = os.write(self.to, data)
-        except BlockingIOError:
-            written = 0
-        except BrokenPipeError:
-            raise CubeError(f"{self.name} has ended") from None
-        if written < len(data):
-            self.wait(self.writable, end)
-            self.write(data[written:], end)
+            self.calendar = Calendar(self.plan, read_origin(plan))
+        except FolderFault as fault:
+            raise CubeError(f"{plan}: {fault}") from None
 
-    def read(self, end):
-        """What comes up to the next pause, with a line feed as its last byte."""
-        parts = []
-        while not parts or parts[-1][-1] != 10:
-            self.wait(self.readable, end)
-            part = os.read(self.source, 65536)
-            if not part:
-                raise CubeError(f"{self.name} has ended")
-            parts.append(part)
-        return parts[0] if len(parts) == 1 else b"".join(parts)
+    @classmethod
+    def of_image(cls, plan, image, seconds=SECONDS):
+        """Over an image that the program saved under a plan, by a child that loads it."""
+        return cls(plan, Loaded(plan, image, seconds), False)
 
-    def wait(self, poll, end):
-        if not poll.poll(max(0, 1000 * (end - time.monotonic()))):
-            raise CubeError(f"{self.name} gave no reply within its time")
+    @classmethod
+    def of_run(cls, folder, seconds=SECONDS):
+        """Over the live run in a folder, beside other clients of its asks."""
+        return cls(os.path.join(folder, "plan.json"), Ask(folder, seconds), True)
 
-    def close(self):
-        for number in (self.to, self.source):
-            os.close(number)
-
-
-class SharedAsk(Pipes):
-    """An ask of a live run, which its clients take in turn under the lock of a file."""
-
-    def __init__(self, path, end):
+    @classmethod
+    def of_folder(cls, folder, seconds=SECONDS):
+        """Over a live run; or over a folder of records, or one that has a plan and its feeds, whose image is saved where it is old."""
         try:
-            source = os.open(path + ".out", os.O_RDONLY | os.O_NONBLOCK | os.O_CLOEXEC)
-            super().__init__(path, opened(path, end), source)
-            self.lock = os.open(path + ".lock", os.O_RDWR | os.O_CREAT | os.O_CLOEXEC, 0o666)
-        except OSError as fault:
-            raise CubeError(f"{fault.filename}: {fault.strerror}") from None
-
-    def take(self):
-        """Whether the lock was free; it is this client's then."""
-        try:
-            fcntl.flock(self.lock, fcntl.LOCK_EX | fcntl.LOCK_NB)
-        except BlockingIOError:
-            return False
-        return True
-
-    def let_go(self):
-        fcntl.flock(self.lock, fcntl.LOCK_UN)
-
-    def exchange(self, question, end):
-        if os.pread(self.lock, 1, 0):
-            self.settle(end)
-        os.pwrite(self.lock, b"?", 0)
-        self.write(question + b"\n", end)
-        reply = self.read(end)
-        os.ftruncate(self.lock, 0)
-        return reply[:-1]
-
-    def settle(self, end):
-        """Drops what a client has left that was killed while its reply was due: all that comes before the reply to a mark."""
-        mark = random.randrange(1000, 2**31)
-        self.write(b"\nseries %d 1 1\n" % mark, end)
-        begin = b'{"rows":[[%d,' % mark
-        while not self.read(end).splitlines()[-1].startswith(begin):
-            pass
-
-    def close(self):
-        super().close()
-        os.close(self.lock)
-
-
-def opened(path, end):
-    """A pipe opened for writing once a run has it open for reading."""
-    while True:
-        try:
-            return os.open(path, os.O_WRONLY | os.O_NONBLOCK | os.O_CLOEXEC)
-        except OSError as fault:
-            if fault.errno != errno.ENXIO:
-                raise
-        if time.monotonic() > end:
-            raise CubeError(f"{path}: no run has it open")
-        time.sleep(0.01)
-
-
-class Ask:
-    """One client of all asks of the live run in a folder. It is for one thread of one process: each other takes one of its own."""
-
-    def __init__(self, folder, seconds=SECONDS, starting=2):
-        """A reply may take so many seconds, and the run may have its asks open only so many seconds from now."""
-        self.seconds, end = seconds, time.monotonic() + starting
-        try:
-            names = read_plan(os.path.join(folder, "plan.json"))["asks"]
-        except (FolderFault, KeyError) as fault:
-            raise CubeError(f"{folder}/plan.json: {fault}") from None
-        if not names:
-            raise CubeError(f"{folder}/plan.json has no asks")
-        self.asks = [SharedAsk(os.path.join(folder, name), end) for name in names]
-        self.own = os.getpid() % len(self.asks)
+            if os.path.exists(os.path.join(folder, "columns")):
+                if is_stale(folder):
+                    subprocess.run([f"{TOP}/prepare", folder], check=True)
+                folder = out_of(folder)
+        except FolderFault as fault:
+            raise CubeError(f"{fault}") from None
+        except subprocess.CalledProcessError as fault:
+            raise CubeError(f"./prepare {folder} ended with status {fault.returncode}") from None
+        plan = os.path.join(folder, "plan.json")
+        if is_live(folder, plan_in(plan)):
+            return cls.of_run(folder, seconds)
+        return cls.of_image(plan, image_of(folder, plan), seconds)
 
     def ask(self, line):
-        """The reply to a line, in bytes and without its line feed."""
-        question, end = question_of(line), time.monotonic() + self.seconds
-        ask = self.free(end)
-        try:
-            return ask.exchange(question, end)
-        finally:
-            ask.let_go()
-
-    def free(self, end):
-        """An ask that was free and is this client's now: its own, if that is free."""
-        order, pause = self.asks[self.own :] + self.asks[: self.own], 0.0001
-        while True:
-            for ask in order:
-                if ask.take():
-                    return ask
-            if time.monotonic() > end:
-                raise CubeError("no ask of the run was free in time")
-            time.sleep(pause)
-            pause = min(2 * pause, 0.002)
+        """The program's reply to a line as it stands, in bytes."""
+        return self.asker.ask(line)
 
     def close(self):
-        for ask in self.asks:
-            ask.close()
+        self.asker.close()
+
+    def __enter__(self):
+        return self
+
+    def __exit__(self, *fault):
+        self.close()
+
+    def answer(self, line):
+        """The reply to a line with dates, as the object that it is. What several questions answer is put together: its `seen` is that
+        of the last."""
+        asked = Line(line, self.calendar, self.plan["depth"], self.tile, self.span)
+        whole = None
+        for question in asked.questions:
+            reply = json.loads(self.ask(" ".join(text for text, _ in question)))
+            if "fault" in reply:
+                raise asked.from_reply(reply, question)
+            if whole and "rows" in reply:
+                reply["rows"] = whole["rows"] + reply["rows"]
+            whole = reply
+        self.seen = whole.get("seen", whole.get("told"))
+        return whole
+
+    def reply(self, line):
+        """The reply to a line with dates, as the program would print it, faults too."""
+        try:
+            return json.dumps(self.answer(line), ensure_ascii=False, separators=(",", ":"))
+        except Fault as fault:
+            return json.dumps({"at": fault.at, "fault": fault.name}, separators=(",", ":"))
+
+    def rows(self, line):
+        """The rows of the reply to a line with dates, as named tuples."""
+        verb, rows = line.split()[0], self.answer(line)["rows"]
+        if verb == "series":
+            return [Interval(number, self.date_of(number), total) for number, total in rows]
+        return [KINDS[verb](*row) for row in rows]
+
+    def date_of(self, number):
+        """When a bin begins, in the plan's zone; nothing after the year 9999."""
+        try:
+            return self.calendar.date_of(number)
+        except (OverflowError, ValueError):
+            return None
+
+    def count(self, **filters):
+        return self.rows(line_of("count", filters))[0].total
+
+    def hist(self, category, **filters):
+        return self.rows(line_of(f"hist {category}", filters))
+
+    def map(self, depth, **filters):
+        return self.rows(line_of(f"map {depth}", filters))
+
+    def best(self, depth, number, **filters):
+        return self.rows(line_of(f"best {depth} {number}", filters))
+
+    def series(self, *words, **filters):
+        """series("day"), series("day", first, end), series(start, "1d", 31) or series(start, bins, rows)."""
+        return self.rows(line_of(" ".join(["series", *map(time_of, words)]), filters))
+
+    def window(self, x0, y0, x1, y1, **filters):
+        return self.rows(line_of(f"window {x0} {y0} {x1} {y1}", filters))[0].total
+
+    def cross(self, first, second, **filters):
+        return self.rows(line_of(f"cross {first} {second}", filters))
+
+    def stat(self):
+        """The size of the cube, by name."""
+        return self.answer("stat")
+
+    def told(self):
+        return self.answer("told")["told"]
+
+    def tile(self):
+        """The smallest tile that has all records, as (z, x, y)."""
+        return self.kept("tile", self.find_tile)
+
+    def span(self):
+        """The first and the last bin that have records, or nothing."""
+        return self.kept("span", self.find_span)
+
+    def kept(self, name, find):
+        """What was found once, which holds as long as no records come."""
+        if self.is_live or name not in self.known:
+            self.known[name] = find()
+        return self.known[name]
+
+    def find_tile(self):
+        tile, rows = (0, 0, 0), [[0, 0, 0, 0]]
+        while len(rows) == 1 and tile[0] < self.plan["depth"]:
+            tile = tuple(rows[0][:3])
+            rows = json.loads(self.ask("map 1 in %d/%d/%d" % tile))["rows"]
+        return tuple(rows[0][:3]) if len(rows) == 1 else tile
+
+    def find_span(self):
+        if not self.total(0, MOST_BIN):
+            return None
+        first = halved(lambda it: self.total(0, it + 1) > 0)
+        return first, halved(lambda it: self.total(it + 1, MOST_BIN) == 0)
+
+    def total(self, begin, end):
+        return json.loads(self.ask(f"count time {begin} {end}"))["rows"][0][0]
+
+    def schema(self):
+        """What is in the cube: records and their total, the smallest tile and the bins that have all, and each value's total."""
+        total, seen = self.count(), self.seen
+        values = {it["name"]: self.hist(it["name"]) for it in self.plan["categories"]}
+        return {"records": seen, "total": total, "tile": self.tile(), "span": self.span(), "categories": values}
+
+
+KINDS = {"count": collections.namedtuple("Total", "total"), "window": collections.namedtuple("Total", "total"), "hist": Value,
+         "map": Tile, "best": Tile, "cross": Pair}
+
+
+def halved(holds):
+    """The least bin that `holds`, of which all later ones hold."""
+    least, most = 0, MOST_BIN - 1
+    while least < most:
+        half = (least + most) // 2
+        least, most = (least, half) if holds(half) else (half + 1, most)
+    return least
+
+
+def line_of(begin, filters):
+    """A question's line, of its first words and its filters by name: in_, with_ and time."""
+    words, left = [begin], dict(filters)
+    tile, values, time = left.pop("in_", None), left.pop("with_", None) or {}, left.pop("time", None)
+    if left:
+        raise TypeError(f"filters are in_, with_ and time, and not {', '.join(left)}")
+    if tile is not None:
+        words += ["in", tile if isinstance(tile, str) else "/".join(map(str, tile[:3]))]
+    for name, wanted in values.items():
+        wanted = [wanted] if isinstance(wanted, str) else wanted
+        words += ["with", f"{name}=" + "|".join(f'"{value}"' for value in wanted)]
+    if time is not None:
+        begin, end = time
+        words += ["time", time_of(0 if begin is None else begin), time_of(MOST_BIN if end is None else end)]
+    return " ".join(words)
+
+
+def time_of(value):
+    """A bin, a date or a text as a word of a line."""
+    text = value.isoformat() if isinstance(value, datetime.date) else str(value)
+    return f'"{text}"' if " " in text else text
+
+
+def is_live(folder, plan):
+    """Whether a folder's asks are pipes."""
+    paths = [os.path.join(folder, name + end) for name in plan.get("asks", ()) for end in ("", ".out")]
+    return bool(paths) and all(os.path.exists(path) and stat.S_ISFIFO(os.stat(path).st_mode) for path in paths)
+
+
+def image_of(folder, plan):
+    """The path of the image beside a plan, which is saved where it is missing, or older than the plan or a feed."""
+    image, sources = os.path.join(folder, "cube.img"), [plan, *(os.path.join(folder, name) for name in plan_in(plan).get("feeds", ()))]
+    try:
+        if os.path.exists(image) and os.stat(image).st_mtime_ns >= max(os.stat(path).st_mtime_ns for path in sources):
+            return image
+        words = [os.path.realpath(program_of()), "save", "plan.json", f".cube.img.{os.getpid()}"]
+        made = subprocess.run(words, cwd=folder, env=environment(), stdin=subprocess.DEVNULL, stdout=-1, text=True)
+        if made.returncode:
+            said = made.stdout.strip().splitlines()
+            raise CubeError(f"{folder}: no image was saved, " + (said[-1] if said else f"status {made.returncode}"))
+        os.replace(os.path.join(folder, words[-1]), image)
+    except OSError as fault:
+        raise CubeError(f"{fault.filename}: {fault.strerror}") from None
+    for line in made.stdout.splitlines():
+        if " refused" in line and not line.endswith(" 0 refused"):
+            print(line, file=sys.stderr)
+    return image
