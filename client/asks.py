@@ -4,8 +4,8 @@
     ask.ask("hist kind")                                 # b'{"rows":[["theft",51],["battery",29]],"seen":80}'
     ask.close()
 
-docs/FORMATS.md, "Several clients of one ask", has the protocol. Nothing waits without a limit of time. A line that would have no
-reply, a program that has ended and a reply that does not come are a CubeError, which is one line for a person."""
+docs/FORMATS.md, "Several clients of one ask", has the protocol. Nothing waits without a limit of time. A line that
+would have no reply, a program that has ended and a reply that does not come are a CubeError, one line for a person."""
 import errno
 import fcntl
 import os
@@ -26,6 +26,15 @@ class CubeError(Exception):
     """Why there is no reply, in one line."""
 
 
+class Fault(CubeError):
+    """What is wrong with a line: the fault's name, the word's number from 1, the word, and its place in the line, from
+    0."""
+
+    def __init__(self, name, at, word="", place=None, why=""):
+        super().__init__(f"{name} at word {at}" + (f", `{word}`" if word else "") + (f": {why}" if why else ""))
+        self.name, self.at, self.word, self.place, self.why = name, at, word, place, why
+
+
 def plan_in(path):
     try:
         return read_plan(path)
@@ -34,14 +43,17 @@ def plan_in(path):
 
 
 def question_of(line):
-    """The bytes of a line that the program answers by one line. Any other line is not put."""
+    """The bytes of a line that the program answers by one line. Any other line is not put; one that is at fault for
+    its bytes is answered here as the program would."""
     try:
         question = line.encode() if isinstance(line, str) else bytes(line)
         question.decode()
     except UnicodeError:
-        raise CubeError("the line is not UTF-8") from None
-    if len(question) > MOST_BYTES or b"\n" in question or b"\r" in question:
-        raise CubeError(f"a question is one line of at most {MOST_BYTES} bytes")
+        raise Fault("NotText", 1) from None
+    if len(question) > MOST_BYTES:
+        raise Fault("LongLine", 1)
+    if b"\n" in question or b"\r" in question:
+        raise CubeError("a question is one line")
     if not question.strip(b" ") or question.startswith((b"#", b"\xef\xbb\xbf")):
         raise CubeError("the line asks nothing")
     if question.split(b" ")[0] == b"quit" or question.strip(b" ") == b"quit":
@@ -50,7 +62,7 @@ def question_of(line):
 
 
 class Pipes:
-    """The two ends by which a program is asked. Neither waits by itself; what waits here has a time at which it gives up."""
+    """The two ends by which a program is asked. Neither waits by itself; what waits here gives up at a time."""
 
     def __init__(self, name, to, source):
         self.name, self.to, self.source = name, to, source
@@ -59,7 +71,8 @@ class Pipes:
         self.writable.register(to, select.POLLOUT)
 
     def exchange(self, question, end):
-        """The reply to a question. Where this is broken off, the next question is told by `is_due` that a reply may still come."""
+        """The reply to a question. Where this is broken off, `is_due` tells the next one that a reply may still
+        come."""
         if self.is_due():
             self.settle(end)
         self.note_due(True)
@@ -69,7 +82,8 @@ class Pipes:
         return reply[:-1]
 
     def settle(self, end):
-        """Drops what has been left in the pipes: all that comes before the reply to a mark. The first line feed ends a part of a line."""
+        """Drops what has been left in the pipes: all that comes before the reply to a mark. The line feed before the
+        mark ends a part of a line; alone it is an empty line, which has no reply."""
         mark = random.randrange(2**20, 2**31)
         self.write(b"\nseries %d 1 1\n" % mark, end)
         begin = b'{"rows":[[%d,' % mark
@@ -148,7 +162,7 @@ class Loaded(Pipes):
             status = self.child.wait(2)
         except subprocess.TimeoutExpired:
             return CubeError("the program has closed its pipe")
-        return CubeError(f"the program ended with status {status}" if status >= 0 else f"the program was ended by signal {-status}")
+        return CubeError("the program ended " + (f"with status {status}" if status >= 0 else f"by signal {-status}"))
 
     def close(self):
         """Ends the child: it finds the end of its script."""
@@ -224,7 +238,8 @@ def opened(path, end):
 
 
 class Ask:
-    """One client of all asks of the live run in a folder. It is for one thread of one process: each other takes one of its own."""
+    """One client of all asks of the live run in a folder. It is for one thread of one process; each other takes its
+    own."""
 
     def __init__(self, folder, seconds=SECONDS, starting=2):
         """A reply may take so many seconds, and so many seconds from now on the run may still be opening its asks."""

@@ -1,4 +1,5 @@
-"""A client of the nanocube program, in Python's standard library: a cube over an image, a live run or a folder of records.
+"""A client of the nanocube program: a cube over an image, a live run or a folder of records. Python's standard
+library.
 
     cube = Cube.of_folder("examples/city")               # or Cube.of_image(plan, image), or Cube.of_run(folder)
     cube.count(in_="9/131/190", with_={"type": "THEFT"}, time=("2024-01-01", "2024-02-01"))
@@ -6,8 +7,9 @@
     cube.ask("hist type")                                # the reply as the program gives it, in bytes
     cube.reply("series month with type=THEFT")           # the same of a line with dates
 
-docs/CLIENT.md has ten lines to copy, and client/questions.py says what a line with dates may be. What is wrong with a question is a
-Fault. Any other trouble, such as a run that has ended, is a CubeError. Both are one line for a person."""
+docs/CLIENT.md has ten lines to copy, and client/questions.py says what a line with dates may be. What is wrong with a
+question is a Fault. Any other trouble, such as a run that has ended, is a CubeError. Both are one line for a
+person."""
 import collections
 import datetime
 import json
@@ -20,6 +22,7 @@ from asks import SECONDS
 from asks import TOP
 from asks import Ask
 from asks import CubeError
+from asks import Fault
 from asks import Loaded
 from asks import environment
 from asks import plan_in
@@ -30,9 +33,10 @@ from folder import is_stale
 from folder import out_of
 from folder import read_origin
 from questions import MOST_BIN
-from questions import Fault
 from questions import Line
+from questions import cut
 
+Total = collections.namedtuple("Total", "total")
 Value = collections.namedtuple("Value", "value total")
 Pair = collections.namedtuple("Pair", "first second total")
 Tile = collections.namedtuple("Tile", "z x y total")
@@ -40,12 +44,13 @@ Interval = collections.namedtuple("Interval", "bin date total")
 
 
 class Cube:
-    """A cube that is asked. Bins may be dates: texts as 2024-02-01, dates, or datetimes, which are of the plan's zone where they have
-    none. `seen` says over how many records the last reply was."""
+    """A cube that is asked. Bins may be dates: texts as 2024-02-01, dates, or datetimes, which are of the plan's zone
+    where they have none. `seen` says over how many records the last reply was."""
 
     def __init__(self, plan, asker, is_live):
         """Over the plan of that path. `asker` has a method `ask`, as Ask and Loaded."""
-        self.plan, self.asker, self.is_live, self.seen, self.known = plan_in(plan), asker, is_live, None, {}
+        self.plan, self.asker, self.is_live, self.known = plan_in(plan), asker, is_live, {}
+        self.seen = self.said = None
         try:
             self.calendar = Calendar(self.plan, read_origin(plan))
         except FolderFault as fault:
@@ -63,7 +68,8 @@ class Cube:
 
     @classmethod
     def of_folder(cls, folder, seconds=SECONDS):
-        """Over a live run; or over a folder of records, or one that has a plan and its feeds, whose image is saved where it is old."""
+        """Over a live run; or over a folder of records, or one with a plan and its feeds, whose image is saved where
+        it is missing or older than they are."""
         try:
             if os.path.exists(os.path.join(folder, "columns")):
                 if is_stale(folder):
@@ -92,26 +98,29 @@ class Cube:
         self.close()
 
     def answer(self, line):
-        """The reply to a line with dates, as the object that it is. What several questions answer is put together: its `seen` is that
-        of the last."""
+        """The reply to a line with dates, as the object that it is. The rows of several questions are put together;
+        `seen` is that of the last."""
         asked = Line(line, self.calendar, self.plan["depth"], self.tile, self.span)
-        whole = None
+        rows = []
         for question in asked.questions:
-            reply = json.loads(self.ask(" ".join(text for text, _ in question)))
+            self.said = self.ask(" ".join(text for text, _ in question))
+            reply = json.loads(self.said)
             if "fault" in reply:
                 raise asked.from_reply(reply, question)
-            if whole and "rows" in reply:
-                reply["rows"] = whole["rows"] + reply["rows"]
-            whole = reply
-        self.seen = whole.get("seen", whole.get("told"))
-        return whole
+            rows += reply.get("rows", ())
+        self.seen = reply.get("seen", reply.get("told"))
+        if len(asked.questions) > 1:
+            reply["rows"] = rows
+            self.said = json.dumps(reply, separators=(",", ":")).encode()
+        return reply
 
     def reply(self, line):
-        """The reply to a line with dates, as the program would print it, faults too."""
+        """The reply to a line with dates, in bytes as the program would print it, faults too."""
         try:
-            return json.dumps(self.answer(line), ensure_ascii=False, separators=(",", ":"))
+            self.answer(line)
         except Fault as fault:
-            return json.dumps({"at": fault.at, "fault": fault.name}, separators=(",", ":"))
+            return json.dumps({"at": fault.at, "fault": fault.name}, separators=(",", ":")).encode()
+        return self.said
 
     def rows(self, line):
         """The rows of the reply to a line with dates, as named tuples."""
@@ -187,14 +196,14 @@ class Cube:
         return json.loads(self.ask(f"count time {begin} {end}"))["rows"][0][0]
 
     def schema(self):
-        """What is in the cube: records and their total, the smallest tile and the bins that have all, and each value's total."""
+        """What is in the cube: records, their total, the smallest tile and the bins that have all, each value's
+        total."""
         total, seen = self.count(), self.seen
         values = {it["name"]: self.hist(it["name"]) for it in self.plan["categories"]}
         return {"records": seen, "total": total, "tile": self.tile(), "span": self.span(), "categories": values}
 
 
-KINDS = {"count": collections.namedtuple("Total", "total"), "window": collections.namedtuple("Total", "total"), "hist": Value,
-         "map": Tile, "best": Tile, "cross": Pair}
+KINDS = {"count": Total, "window": Total, "hist": Value, "map": Tile, "best": Tile, "cross": Pair}
 
 
 def halved(holds):
@@ -237,9 +246,10 @@ def is_live(folder, plan):
 
 def image_of(folder, plan):
     """The path of the image beside a plan, which is saved where it is missing, or older than the plan or a feed."""
-    image, sources = os.path.join(folder, "cube.img"), [plan, *(os.path.join(folder, name) for name in plan_in(plan).get("feeds", ()))]
+    image = os.path.join(folder, "cube.img")
+    sources = [plan, *(os.path.join(folder, name) for name in plan_in(plan).get("feeds", ()))]
     try:
-        if os.path.exists(image) and os.stat(image).st_mtime_ns >= max(os.stat(path).st_mtime_ns for path in sources):
+        if os.path.exists(image) and all(os.stat(image).st_mtime_ns > os.stat(path).st_mtime_ns for path in sources):
             return image
         words = [os.path.realpath(program_of()), "save", "plan.json", f".cube.img.{os.getpid()}"]
         made = subprocess.run(words, cwd=folder, env=environment(), stdin=subprocess.DEVNULL, stdout=-1, text=True)

@@ -1,23 +1,28 @@
 """Lines with dates, and the questions of the query language by which they are asked.
 
     line = Line("series month with type=THEFT", calendar, depth, tile, span)
-    line.questions                                       # lists of pairs: a word of a question, the number of the word it came of
+    line.questions                 # lists of pairs: a word of a question, and the number of the word that it came of
 
-A line is a question of docs/FORMATS.md, "Queries", in which a bin may be a date, `2024-02-01`, `2024-02` or `"2024-02-01 10:30"`, and
+A line is a question of docs/FORMATS.md, "Queries", in which a bin may be a date, `2024-02-01`, `2024-02` or
+`"2024-02-01 10:30"`, and
 
     series day                        asks for each day from the first record to the last
     series day 2024-01-01 2024-02-01  asks for each day from the one date to before the other
     series 2024-01-01 1d 31           asks for 31 days
     map 7, best 7 10                  without `in` go down from the smallest tile that has all records
 
-A step is a number with s, m, h, d, w, month, quarter or y, or a word such as day. The calendar is that of client/folder.py, `tile`
-and `span` are called where that tile, or the first and the last bin that have records, are needed. What is wrong is a Fault."""
+A step is a number with s, m, h, d, w, month, quarter or y, or a word such as day. The calendar is that of
+client/folder.py; `tile` and `span` are called where that tile, or the first and the last bin that have records, are
+needed. What is wrong is a Fault: one of the program's, or `BadDate`, `BadStep` or, where no bin begins at a date,
+`NoBin`."""
 import calendar as months
 import datetime
+import difflib
 import itertools
 import re
 
 from asks import CubeError
+from asks import Fault
 from dates import DateFault
 from dates import Dates
 
@@ -28,19 +33,29 @@ SECONDS, DAYS, MONTHS = {"s": 1, "m": 60, "h": 3600}, {"d": 1, "w": 7}, {"month"
 # How many words of its own each verb has, before its filters.
 OWN_WORDS = {"count": 0, "hist": 1, "map": 1, "series": 3, "window": 4, "best": 2, "cross": 2}
 FILTER_WORDS = {"in": 1, "with": 1, "time": 2}
-
-
-class Fault(CubeError):
-    """What is wrong with a line: the fault's name, the word's number from 1, the word, and where it begins in the line, from 0."""
-
-    def __init__(self, name, at, word="", place=None, why=""):
-        super().__init__(f"{name} at word {at}" + (f", `{word}`" if word else "") + (f": {why}" if why else ""))
-        self.name, self.at, self.word, self.place, self.why = name, at, word, place, why
+VERBS = [*OWN_WORDS, "stat", "told"]
 
 
 def cut(line):
     """The words of a line, each with its place: a space between two quotes belongs to the word."""
     return [(found[0], found.start()) for found in re.finditer(r'(?:"[^"]*"|[^ ])+', line)]
+
+
+def quoted(value):
+    """A category's value as a line has it."""
+    return f'"{value}"' if " " in value or "|" in value else value
+
+
+def meant(fault, values):
+    """The word that is like the one at fault, or nothing. `values` are those of each category, by its name."""
+    name, _, value = fault.word.partition("=")
+    words = {"UnknownVerb": VERBS, "UnknownFilter": FILTER_WORDS, "UnknownCategory": values}
+    words["UnknownValue"] = its = values.get(name, ())
+    pieces = [it.strip('"') for it in re.findall(r'(?:"[^"]*"|[^"|])+', value)]
+    wanted = (next((it for it in pieces if it not in its), "") if fault.name == "UnknownValue" else name).lower()
+    known = {it.lower(): it for it in words.get(fault.name, ())}
+    found = [it for it in known if wanted and it.startswith(wanted)] + difflib.get_close_matches(wanted, known, 1, 0.5)
+    return quoted(known[found[0]]) if found else None
 
 
 def is_number(text):
@@ -121,7 +136,7 @@ class Line:
         return self.bin_of(instant, at, least)
 
     def bin_of(self, instant, at, least=None):
-        """The bin that begins at an instant. Before bin 0 it is the least one that is wanted, and a fault where there is none."""
+        """The bin that begins at an instant. Before bin 0 it is `least`, and a fault where that is None."""
         number = self.calendar.bin_of(instant)
         if number < 0 and least is None:
             raise self.fault("NoBin", at, f"bin 0 begins {self.calendar.text_of(0)}")
@@ -139,7 +154,8 @@ class Line:
         elif self.is_time(2) and self.is_step(3):
             bounds, came = self.bounds(self.bin_of_word(2), 3, rows=self.rows(4)), (2, 3, 4)
         else:
-            own = [(str(self.bin_of_word(at)) if at == 2 and self.is_date(2) else self.text(at), at) for at in (2, 3, 4)]
+            own = [(self.text(at), at) for at in (2, 3, 4)]
+            own[0] = (str(self.bin_of_word(2)), 2) if self.is_date(2) else own[0]
             return [[("series", 1), *own[: len(self.words) - 1], *self.filters]]
         return [[("series", 1), *zip(map(str, piece), came), *self.filters] for piece in pieces_of(bounds)]
 
@@ -162,7 +178,7 @@ class Line:
         return [min(bound, end) for bound in self.bounds(self.bin_of_word(3), 2, end=end)]
 
     def bounds(self, first, at, rows=None, end=None, is_floored=False):
-        """The bins at which intervals begin, and where the last ends: so many rows, or as many as reach the bin `end`."""
+        """The bins at which intervals begin, and where the last ends: so many rows, or as many as reach `end`."""
         most, found = rows or MOST_ROWS, []
         try:
             for moment in itertools.islice(self.moments(first, at, is_floored), most + 1):
@@ -176,8 +192,8 @@ class Line:
         return found
 
     def moments(self, first, at, is_floored):
-        """The instants at which intervals begin, without end, from a bin on, or from where a whole step begins that has it. Days and
-        longer steps go by the dates of the zone. Hours and shorter ones have so many seconds."""
+        """The instants at which intervals begin, without end: from a bin on, or from where the step begins that has
+        it. Days and longer steps go by the dates of the zone. Hours and shorter ones have so many seconds."""
         number, unit = STEP.fullmatch(self.text(at)).groups()
         number, unit = int(number or 1), "month" if unit.startswith("month") else unit[0]
         width = number * SECONDS.get(unit, self.calendar.width)
