@@ -141,12 +141,18 @@ class Loaded(Pipes):
         try:
             said = self.ask("told")
         except CubeError as fault:
-            self.close()
-            why = f"{plan} or {image} cannot be read" if self.child.returncode == 5 else fault
-            raise CubeError(f"{why}") from None
+            said = self.last_words() or f"{fault}".encode()
         if not said.startswith(b"{"):
             self.close()
-            raise CubeError(f"{plan if said.startswith(b'plan') else image}: refused, {said.decode()}")
+            unread = f"{plan} or {image} cannot be read"
+            raise CubeError(unread if self.child.returncode == 5 else f"{plan}, {image}: {said.decode()}")
+
+    def last_words(self):
+        """What the child said though it did not take a question."""
+        try:
+            return os.read(self.source, MOST_BYTES).strip()
+        except BlockingIOError:
+            return b""
 
     def ask(self, line):
         return self.exchange(question_of(line), time.monotonic() + self.seconds)
