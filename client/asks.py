@@ -56,7 +56,7 @@ def question_of(line):
         raise CubeError("a question is one line")
     if not question.strip(b" ") or question.startswith((b"#", b"\xef\xbb\xbf")):
         raise CubeError("the line asks nothing")
-    if question.split(b" ")[0] == b"quit" or question.strip(b" ") == b"quit":
+    if question.strip(b" ").split(b" ")[0] == b"quit":
         raise CubeError("`quit` is not put: it would end the ask for all")
     return question
 
