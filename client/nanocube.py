@@ -79,6 +79,8 @@ class Cube:
             raise CubeError(f"{fault}") from None
         except subprocess.CalledProcessError as fault:
             raise CubeError(f"./prepare {folder} ended with status {fault.returncode}") from None
+        except OSError as fault:
+            raise CubeError(f"{fault.filename}: {fault.strerror}") from None
         plan = os.path.join(folder, "plan.json")
         if is_live(folder, plan_in(plan)):
             return cls.of_run(folder, seconds)
@@ -124,7 +126,9 @@ class Cube:
 
     def rows(self, line):
         """The rows of the reply to a line with dates, as named tuples."""
-        verb, rows = line.split()[0], self.answer(line)["rows"]
+        verb, rows = line.split()[0], self.answer(line).get("rows")
+        if rows is None:
+            raise CubeError(f"the reply to `{verb}` has no rows")
         if verb == "series":
             return [Interval(number, self.date_of(number), total) for number, total in rows]
         return [KINDS[verb](*row) for row in rows]

@@ -21,7 +21,8 @@ class Terminal:
         self.pid, self.end = pty.fork()
         if self.pid == 0:
             os.chdir(folder)
-            os.execve(words[0], words, {**os.environ, "TERM": "dumb", "HOME": "", "COLUMNS": "80", "LINES": "18", **others})
+            os.execve(words[0], words, {**os.environ, "TERM": "dumb", "HOME": "", "COLUMNS": "80", "LINES": "18",
+                                        **others})
         self.said = self.until_prompt()
 
     def until_prompt(self):
