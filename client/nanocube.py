@@ -184,11 +184,13 @@ class Cube:
         return self.known[name]
 
     def find_tile(self):
-        tile, rows = (0, 0, 0), [[0, 0, 0, 0]]
-        while len(rows) == 1 and tile[0] < self.plan["depth"]:
-            tile = tuple(rows[0][:3])
+        tile = (0, 0, 0)
+        while tile[0] < self.plan["depth"]:
             rows = json.loads(self.ask("map 1 in %d/%d/%d" % tile))["rows"]
-        return tuple(rows[0][:3]) if len(rows) == 1 else tile
+            if len(rows) != 1:
+                break
+            tile = tuple(rows[0][:3])
+        return tile
 
     def find_span(self):
         if not self.total(0, MOST_BIN):
