@@ -34,6 +34,10 @@ class Fault(CubeError):
         super().__init__(f"{name} at word {at}" + (f", `{word}`" if word else "") + (f": {why}" if why else ""))
         self.name, self.at, self.word, self.place, self.why = name, at, word, place, why
 
+    def reply(self):
+        """What the program would reply."""
+        return b'{"at":%d,"fault":"%s"}' % (self.at, self.name.encode())
+
 
 def plan_in(path):
     try:

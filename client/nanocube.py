@@ -121,7 +121,7 @@ class Cube:
         try:
             self.answer(line)
         except Fault as fault:
-            return json.dumps({"at": fault.at, "fault": fault.name}, separators=(",", ":")).encode()
+            return fault.reply()
         return self.said
 
     def rows(self, line):
