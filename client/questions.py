@@ -119,7 +119,7 @@ class Line:
         words = [(self.text(number), number) for number in range(1, min(own, len(self.words)) + 1)]
         if self.verb in ("map", "best") and is_number(self.text(2)) and all(text != "in" for text, _ in self.filters):
             z, x, y = self.tile()
-            up = max(0, z + int(self.text(2)[:4]) - self.depth)
+            up = max(0, z + int(self.text(2)) - self.depth)
             if up < z:
                 words += [("in", None), (f"{z - up}/{x >> up}/{y >> up}", None)]
         return words + self.filters
@@ -127,7 +127,7 @@ class Line:
     def bin_of_word(self, at, least=None):
         """The bin that a word says: a number, or the date at which it begins."""
         if not self.is_date(at):
-            return int(self.text(at)[:12])
+            return int(self.text(at))
         month, day = DATE.fullmatch(self.text(at)).groups()
         try:
             instant = Dates(self.calendar.zone.key).instant_of(month + (day or "-01"))
@@ -163,7 +163,7 @@ class Line:
         """How many rows a word says."""
         if not is_number(self.text(at)):
             raise self.fault("BadNumber" if self.text(at) else "MissingWord", at)
-        if not 1 <= int(self.text(at)[:9]) <= MOST_ROWS:
+        if not 1 <= int(self.text(at)) <= MOST_ROWS:
             raise self.fault("OutOfRange", at, f"a series has 1 to {MOST_ROWS} rows")
         return int(self.text(at))
 
