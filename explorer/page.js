@@ -8,8 +8,8 @@ import * as series from './series.js'
 const byId = (id) => document.getElementById(id)
 const STATES = {lost: 'There is no connection to the run. Trying again.', ended: 'The run has ended. These are its last numbers.'}
 const measured = []               // what the last redraws took, for who measures the page
-let since = null, running = null  // when the first change came that is not drawn yet, and the promise of its drawing
-let shown = {seen: -1}            // what was drawn last
+// When the first change came that is not drawn yet, the promise of its drawing, and what was drawn last.
+let since = null, running = null, shown = {seen: -1}
 
 // The questions of all views at this moment.
 function questions() {
@@ -120,10 +120,7 @@ async function tick() {
 }
 
 // Once it has been lost, a run that answers may be another one.
-function changed(state) {
-  lost = true
-  byId('state').textContent = STATES[state]
-}
+const changed = (state) => { lost = true; byId('state').textContent = STATES[state] }
 window.explorer = {measured, get shown() { return shown }, get busy() { return running !== null }, get map() { return heat.map }}
 window.addEventListener('resize', () => { series.refit(); refresh() })
 window.addEventListener('hashchange', () => { read(); heat.place(); refresh() })

@@ -25,16 +25,21 @@ for (const canvas of document.querySelectorAll('canvas.leaflet-tile')) {
   for (let i = 3; i < data.length; i += 4) drawn += data[i] > 0
 }
 const bounds = explorer.map.getBounds(), {shown} = explorer
-return {total: text('total'), seen: text('seen'), range: text('range'), state: text('state'), chips: document.querySelectorAll('#chips button').length,
-  bars, pressed, drawn, hash: location.hash, box: shown.box, tiles: shown.tiles, time: shown.choice?.time ?? null, values: shown.choice?.values,
-  cells: shown.cells, parts: shown.parts?.map(({name, cells}) => [name, cells]), totals: shown.totals, all: shown.all, older: shown.older,
-  number: shown.seen, zoom: explorer.map.getZoom(), sides: [bounds.getWest(), bounds.getNorth(), bounds.getEast(), bounds.getSouth()]}"""
+return {
+  total: text('total'), seen: text('seen'), range: text('range'), state: text('state'),
+  chips: document.querySelectorAll('#chips button').length, bars, pressed, drawn, box: shown.box, tiles: shown.tiles,
+  time: shown.choice?.time ?? null, values: shown.choice?.values, cells: shown.cells,
+  parts: shown.parts?.map(({name, cells}) => [name, cells]), totals: shown.totals, all: shown.all, older: shown.older,
+  number: shown.seen, zoom: explorer.map.getZoom(),
+  sides: [bounds.getWest(), bounds.getNorth(), bounds.getEast(), bounds.getSouth()]
+}"""
 
 
 class Page:
     def __init__(self, width, height, more=()):
         options = Options()
-        for word in ("--headless=new", "--no-sandbox", f"--window-size={width},{height + 140}", "--force-device-scale-factor=1", "--lang=en-US", *more):
+        size = f"--window-size={width},{height + 140}"
+        for word in ("--headless=new", "--no-sandbox", size, "--force-device-scale-factor=1", "--lang=en-US", *more):
             options.add_argument(word)
         options.set_capability("goog:loggingPrefs", {"browser": "ALL"})
         self.driver = webdriver.Chrome(service=Service("/usr/bin/chromedriver"), options=options)
@@ -57,7 +62,7 @@ class Page:
     def value(self, text):
         return self.run(f"return {text}")
 
-    def until(self, text, seconds=20):
+    def until(self, text, seconds=60):
         end = time.monotonic() + seconds
         while not self.value(text):
             if time.monotonic() > end:
@@ -67,7 +72,7 @@ class Page:
     def settle(self):
         """Until what was changed is drawn, and no picture moves."""
         self.run("window.marked = false; requestAnimationFrame(() => setTimeout(() => { window.marked = true }, 60))")
-        self.until("window.marked && !explorer.busy && !explorer.map._animatingZoom && !explorer.map._panAnim?._inProgress")
+        self.until("window.marked && !explorer.map._animatingZoom && !explorer.map._panAnim?._inProgress")
         self.until("!explorer.busy")
 
     def state(self):
@@ -87,25 +92,33 @@ class Page:
 
     def place(self, selector):
         """Left, top, width and height of an element in the window."""
-        return self.run("const r = document.querySelector(arguments[0]).getBoundingClientRect(); return [r.left, r.top, r.width, r.height]", selector)
+        return self.run("""const side = document.querySelector(arguments[0]).getBoundingClientRect()
+            return [side.left, side.top, side.width, side.height]""", selector)
 
-    def drag(self, selector, begin, end, steps=12):
+    def drag(self, selector, begin, end, steps=12, pause=0):
         """The mouse goes down, over and up, between two places of an element, as parts of its sides."""
+        points = list(self.points(selector, begin, end, steps))
+        self.mouse("mouseMoved", points[0], 0)
+        self.mouse("mousePressed", points[0], 1)
+        for point in points[1:]:
+            self.mouse("mouseMoved", point, 1)
+            time.sleep(pause)
+        self.mouse("mouseReleased", points[-1], 0)
+
+    def mouse(self, kind, point, buttons):
+        more = {"buttons": buttons, "clickCount": int(kind != "mouseMoved"), "button": "left", "pointerType": "mouse"}
+        self.tell("Input.dispatchMouseEvent", type=kind, **point, **more)
+
+    def points(self, selector, begin, end, steps):
+        """The places of the window from one part of an element to another."""
         left, top, width, height = self.place(selector)
-        at = lambda part: {"x": left + width * (begin[0] + part * (end[0] - begin[0])), "y": top + height * (begin[1] + part * (end[1] - begin[1]))}
-        mouse = lambda kind, part, **more: self.tell("Input.dispatchMouseEvent", type=kind, button="left", pointerType="mouse", **at(part), **more)
-        mouse("mouseMoved", 0, buttons=0)
-        mouse("mousePressed", 0, buttons=1, clickCount=1)
-        for step in range(1, steps + 1):
-            mouse("mouseMoved", step / steps, buttons=1)
-        mouse("mouseReleased", 1, buttons=0, clickCount=1)
+        for step in range(steps + 1):
+            x, y = (one + step / steps * (other - one) for one, other in zip(begin, end))
+            yield {"x": left + width * x, "y": top + height * y}
 
     def touch(self, selector, begin, end, steps=10):
         """A finger goes down, over and up."""
-        left, top, width, height = self.place(selector)
-        for step in range(steps + 1):
-            part = step / steps
-            point = {"x": left + width * (begin[0] + part * (end[0] - begin[0])), "y": top + height * (begin[1] + part * (end[1] - begin[1]))}
+        for step, point in enumerate(self.points(selector, begin, end, steps)):
             self.tell("Input.dispatchTouchEvent", type="touchMove" if step else "touchStart", touchPoints=[point])
         self.tell("Input.dispatchTouchEvent", type="touchEnd", touchPoints=[])
 

@@ -16,7 +16,7 @@ import time
 DEPTH, WIDTH = 16, 3600
 PLACES = [(19000, 26000, 3000), (20500, 27500, 900), (25000, 29500, 5000), (16800, 24350, 40)]
 CATEGORIES = {
-    "strength": [f"{number} {name}" for number, name in enumerate(["depression", "tropical storm", "hurricane 1", "hurricane 2", "hurricane 3"])],
+    "strength": ["0 depression", "1 tropical storm", "2 hurricane 1", "3 hurricane 2", "4 hurricane 3"],
     "month": ["Aug", "Sep", "Oct"],
     "place": [f"district {number:02d}" for number in range(17)] + ["a|b", "Málaga, ñ & co"],
 }
@@ -26,8 +26,9 @@ def make_folder(folder, number, seed=1):
     """So many records of some ten years, in the order of time, at four places of the northern Atlantic."""
     drawn = random.Random(seed)
     names = list(CATEGORIES)
-    plan = {"asks": [], "batch": 100, "categories": [{"name": name, "values": CATEGORIES[name]} for name in names], "depth": DEPTH,
-            "feeds": ["feed.csv"], "finals": [], "journal": "journal.txt", "start": 0, "version": 1, "width": WIDTH}
+    categories = [{"name": name, "values": CATEGORIES[name]} for name in names]
+    plan = {"asks": [], "batch": 100, "categories": categories, "depth": DEPTH, "feeds": ["feed.csv"], "finals": [],
+            "journal": "journal.txt", "start": 0, "version": 1, "width": WIDTH}
     os.makedirs(folder, exist_ok=True)
     with open(f"{folder}/plan.json", "w", encoding="utf-8") as it:
         json.dump(plan, it, ensure_ascii=False)
@@ -38,7 +39,17 @@ def make_folder(folder, number, seed=1):
         for moment in sorted(drawn.randrange(10 * 365 * 86400) for _ in range(number)):
             x, y, spread = drawn.choice(PLACES)
             values = [drawn.choice(CATEGORIES[name][: drawn.randint(1, len(CATEGORIES[name]))]) for name in names]
-            it.write(f"{int(drawn.gauss(x, spread)) % 65536},{int(drawn.gauss(y, spread)) % 65536},{moment}," + ",".join(f'"{value}"' for value in values) + "\n")
+            place = ",".join(str(int(drawn.gauss(middle, spread)) % 65536) for middle in (x, y))
+            it.write(f"{place},{moment}," + ",".join(f'"{value}"' for value in values) + "\n")
+
+
+started = []                      # each explore, so that none is left over where a check breaks off
+
+
+def end_all():
+    for run in started:
+        if run.process.poll() is None:
+            run.end()
 
 
 class Running:
@@ -46,8 +57,10 @@ class Running:
 
     def __init__(self, top, words, seconds=60, **more):
         more = {"stdout": subprocess.PIPE, "stderr": subprocess.STDOUT, "text": True, **more}
-        self.process = subprocess.Popen([f"{top}/explore", "--port", "0", *words] if words[:1] != ["--keep"] else
-                                        [f"{top}/explore", "--keep", "--port", "0", *words[1:]], stdin=subprocess.DEVNULL, **more)
+        keeps = words[:1] == ["--keep"]
+        words = [f"{top}/explore", *words[:keeps], "--port", "0", *words[keeps:]]
+        self.process = subprocess.Popen(words, stdin=subprocess.DEVNULL, **more)
+        started.append(self)
         if not select.select([self.process.stdout], [], [], seconds)[0]:
             self.process.kill()
             raise RuntimeError("explore printed no address")
@@ -68,14 +81,15 @@ class Running:
         """The processes that it has started, and those that they have started, by id: their command lines."""
         found, left = {}, [self.process.pid]
         while left:
-            children = subprocess.run(["ps", "-o", "pid=,args=", "--ppid", ",".join(map(str, left))], stdout=-1, text=True).stdout.splitlines()
+            words = ["ps", "-o", "pid=,args=", "--ppid", ",".join(map(str, left))]
+            children = subprocess.run(words, stdout=-1, text=True).stdout.splitlines()
             left = [int(line.split()[0]) for line in children if " ps -o " not in line]
             found |= {int(line.split()[0]): line.split(maxsplit=1)[1] for line in children}
         return {pid: words for pid, words in found.items() if not words.startswith("ps ")}
 
     def run_of(self):
         """The process id of the program."""
-        return next(pid for pid, words in self.below().items() if " run plan.json" in words or " load plan.json" in words)
+        return next(pid for pid, words in self.below().items() if " run plan.json" in words)
 
 
 def alive(pids, seconds=3):

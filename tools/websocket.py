@@ -1,6 +1,6 @@
 """A client of a WebSocket on this machine, as a browser would be one, in Python's standard library.
 
-    socket = WebSocket(8080)                 # a page of another site: WebSocket(8080, "http://example.org"), which is Refused
+    socket = WebSocket(8080)      # a page of another site, WebSocket(8080, "http://example.org"), is Refused
     socket.put("count")
     socket.take()                            # one message, as text"""
 import base64
@@ -17,8 +17,10 @@ class WebSocket:
     def __init__(self, port, origin=None, seconds=20):
         self.socket, self.left = socket.create_connection(("127.0.0.1", port), seconds), bytearray()
         self.socket.setsockopt(socket.IPPROTO_TCP, socket.TCP_NODELAY, 1)
-        words = ["GET / HTTP/1.1", f"Host: 127.0.0.1:{port}", "Upgrade: websocket", "Connection: Upgrade", "Sec-WebSocket-Version: 13",
-                 f"Sec-WebSocket-Key: {base64.b64encode(os.urandom(16)).decode()}", f"Origin: {origin or f'http://127.0.0.1:{port}'}", "", ""]
+        key, host = base64.b64encode(os.urandom(16)).decode(), f"127.0.0.1:{port}"
+        words = ["GET / HTTP/1.1", f"Host: {host}", "Upgrade: websocket", "Connection: Upgrade"]
+        words += ["Sec-WebSocket-Version: 13", f"Sec-WebSocket-Key: {key}"]
+        words += [f"Origin: {origin or f'http://{host}'}", "", ""]
         self.socket.sendall("\r\n".join(words).encode())
         while b"\r\n\r\n" not in self.left:
             self.receive()
@@ -38,7 +40,8 @@ class WebSocket:
         """Sends one message."""
         data, mask = text.encode() if isinstance(text, str) else text, os.urandom(4)
         size = len(data)
-        head = bytes([0x81]) + (bytes([0x80 | size]) if size < 126 else struct.pack(">BH", 0xFE, size) if size < 65536 else struct.pack(">BQ", 0xFF, size))
+        long = struct.pack(">BH", 0xFE, size) if size < 65536 else struct.pack(">BQ", 0xFF, size)
+        head = bytes([0x81]) + (bytes([0x80 | size]) if size < 126 else long)
         whole = int.from_bytes(data, "big") ^ int.from_bytes((mask * (size // 4 + 1))[:size], "big")
         self.socket.sendall(head + mask + whole.to_bytes(size, "big"))
 
@@ -48,14 +51,22 @@ class WebSocket:
         return bytes(self.left[begin:end])
 
     def take(self):
-        """Takes one message."""
-        size, at = self.bytes_of(1, 2)[0] & 127, 2
+        """Takes one message, which may come in several frames."""
+        parts, last = [], False
+        while not last:
+            last, part = self.take_frame()
+            parts.append(part)
+        return b"".join(parts).decode()
+
+    def take_frame(self):
+        first, second = self.bytes_of(0, 2)
+        size, at = second & 127, 2
         if size > 125:
             at = 4 if size == 126 else 10
             size = int.from_bytes(self.bytes_of(2, at), "big")
-        text = self.bytes_of(at, at + size)
+        part = self.bytes_of(at, at + size)
         del self.left[: at + size]
-        return text.decode()
+        return bool(first & 128), part
 
     def break_off(self, rudely=False):
         """Closes the connection; rudely, with a reset and whatever was not read."""
