@@ -1,13 +1,16 @@
 #!/usr/bin/python3
-"""explore_times.py FOLDER [SECONDS]
+"""explore_times.py [--scatter RECORDS] FOLDER [SECONDS]
 
 Measures the page of ./explore over FOLDER, a folder of records or one with plan.json and feed.csv, in a headless
 browser of 1280 x 800: from a move of the mouse over the time series to all views redrawn, and what of it is the run,
 the bridge and the browser; the same over the map; and how many questions 1, 8 and 20 clients of a WebSocket put in
-SECONDS (5). The load of the machine is printed beside each line. Needs what tools/check_explore needs."""
+SECONDS (5). The load of the machine is printed beside each line. With --scatter it is so many records, each made of
+one of FOLDER's by moving it in place and time. Needs what tools/check_explore needs."""
+import csv
 import json
 import os
 import random
+import shutil
 import statistics
 import subprocess
 import sys
@@ -97,25 +100,61 @@ def run_alone(folder, plan, lines):
         tell(f"the run alone: {micros:.1f} us for each of {len(lines)} such questions, as a script over an image")
 
 
+def out_of(folder):
+    return os.path.join(folder, "out") if os.path.exists(os.path.join(folder, "columns")) else folder
+
+
+def scattered(folder, number, work):
+    """A folder with so many records, in the order of time: those of another, each moved by some tiles and days."""
+    with open(f"{folder}/plan.json", encoding="utf-8") as it:
+        plan = json.load(it)
+    with open(f"{folder}/feed.csv", encoding="utf-8", newline="") as it:
+        header, *rows = csv.reader(it)
+    drawn, size = random.Random(1), 2 ** plan["depth"]
+    x, y, moment = (header.index(name) for name in ("x", "y", "time"))
+    made = []
+    for at in range(number):
+        row = list(rows[at % len(rows)])
+        for place in (x, y):
+            row[place] = max(0, min(size - 1, int(row[place]) + round(drawn.gauss(0, size / 200))))
+        row[moment] = max(plan["start"], int(row[moment]) + round(drawn.gauss(0, 10 * 86400)))
+        made.append(row)
+    made.sort(key=lambda row: row[moment])
+    shutil.copy(f"{folder}/plan.json", work)
+    with open(f"{work}/feed.csv", "w", encoding="utf-8", newline="") as it:
+        csv.writer(it, lineterminator="\n").writerows([header, *made])
+    return work
+
+
 def main(words):
+    number = int(words[1]) if words[:1] == ["--scatter"] and len(words) > 1 and words[1].isdecimal() else 0
+    words = words[2:] if number else words
     if len(words) not in (1, 2) or not os.path.isdir(words[0]):
         print(__doc__, file=sys.stderr)
         return 2
-    explore, page = Running(TOP, [words[0]], 900), Page(1280, 800)
+    with tempfile.TemporaryDirectory() as work:
+        folder = scattered(out_of(words[0]), number, work) if number else words[0]
+        return measure(folder, float(words[1]) if len(words) == 2 else 5)
+
+
+def measure(folder, seconds):
+    explore = Running(TOP, [folder], 900)
+    page = Page(1280, 800)
     try:
         page.open(explore.url)
         page.until("document.getElementById('seen').textContent.includes('none arrive')", 900)
         page.settle()
+        with open(f"/proc/{explore.run_of()}/status", encoding="utf-8") as it:
+            memory = next(int(line.split()[1]) // 1024 for line in it if line.startswith("VmHWM"))
+        tell(f"{page.value('explorer.shown.seen'):,} records; the run has taken {memory:,} MB")
         plan = page.value("fetch('plan.json').then((answer) => answer.json())")
-        print(f"{page.value('explorer.shown.seen'):,} records")
         redraws(page, "a brush", "#series", (0.2, 0.5), (0.6, 0.5))
         redraws(page, "a brush that is moved", "#series", (0.4, 0.5), (0.7, 0.5))
         redraws(page, "the map", "#map", (0.6, 0.5), (0.4, 0.55))
         lines = questions_of(page, plan)
         for clients in (1, 8, 20):
-            crowd(explore.port, clients, float(words[1]) if len(words) == 2 else 5, lines)
-        out = os.path.join(words[0], "out") if os.path.exists(os.path.join(words[0], "columns")) else words[0]
-        run_alone(out, plan, lines)
+            crowd(explore.port, clients, seconds, lines)
+        run_alone(out_of(folder), plan, lines)
     finally:
         page.close()
         explore.end()
