@@ -34,9 +34,13 @@ fn take_feed<S: Source>(
     ensures too_much { IsErrOf result CutFault.TooMuch → IsTooLarge S.left feed.old.cutter }
     ensures cause { HasCause (S.faults feed.old.cutter.source) (S.faults feed.new.cutter.source) result CutFault.Read }
 {
-    let mut tally = Tally::new(alloc)?;
+    let Ok(mut tally) = Tally::new(alloc) else {
+        return Err(CutFault::NoMemory);
+    };
     while let Some((row, line)) = next_row(alloc, schema, &feed.header, &mut feed.cutter)? {
-        take_row(grouped, &mut tally, row, line)?;
+        let Ok(()) = take_row(grouped, &mut tally, row, line) else {
+            return Err(CutFault::NoMemory);
+        };
     }
     Ok(tally.into_counts())
 }
@@ -52,12 +56,18 @@ pub(crate) fn cube_of_feeds<S: Source>(
     requires unread { All (IsUnread S.left S.faults schema.now) feeds.old }
     ensures { TakesFeeds S.left S.faults schema.now feeds.old feeds.new result }
 {
-    let mut grouped = GroupedCube::new(alloc, schema)?;
+    let Ok(mut grouped) = GroupedCube::new(alloc, schema) else {
+        return Err(CutFault::NoMemory);
+    };
     let mut counts = List::new(alloc);
     for feed in feeds.iter_mut() {
         let of_feed = take_feed(alloc, schema, feed, &mut grouped)?;
-        counts.add(of_feed)?;
+        let Ok(()) = counts.add(of_feed) else {
+            return Err(CutFault::NoMemory);
+        };
     }
-    let cube = grouped.into_cube()?;
+    let Ok(cube) = grouped.into_cube() else {
+        return Err(CutFault::NoMemory);
+    };
     Ok((cube, counts))
 }

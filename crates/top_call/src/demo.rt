@@ -35,7 +35,9 @@ pub(crate) fn run_demo<P: Place, O: Sink>(
 ) -> Result<(), Stop>
     ensures { DemoEnds (of_place P.Place) (of_sink O.Sink) place.old place.new out.old out.new (demo_of feed.now script.now) result }
 {
-    let mut cube = empty_cube(alloc)?;
+    let Ok(mut cube) = empty_cube(alloc) else {
+        return Err(Stop::NoMemory);
+    };
     match load(alloc, feed, place, &mut cube) {
         Ok(()) => answer_file(alloc, &cube, script, place, out),
         Err(stop) => Err(stop),

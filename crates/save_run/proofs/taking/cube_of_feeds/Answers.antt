@@ -8,7 +8,7 @@ use Rattle.save_run.proofs.FeedLists.{all_taken, begins, ends_by, next_unread, o
 use Rattle.save_run.proofs.taking.cube_of_feeds.Goals as goal
 
 pub loop-feed-init : goal.loop-feed-init
-loop-feed-init g c = begins g.S.Source.left g.S.Source.faults c.args.schema.now c.args.feeds.now c.in_ok-grouped.grouped c.new-counts.result c.in_ok-grouped.ensures.schema c.in_ok-grouped.ensures.empty c.new-counts.ensures c.requires.unread
+loop-feed-init g c = begins g.S.Source.left g.S.Source.faults c.args.schema.now c.args.feeds.now c.in-Ok.grouped c.new-counts.result c.in-Ok.ensures.schema c.in-Ok.ensures.empty c.new-counts.ensures c.requires.unread
 
 pub take_feed-requires-clause-unread : goal.take_feed-requires-clause-unread
 take_feed-requires-clause-unread g c =
@@ -21,8 +21,8 @@ returns-in_err-of_feed g c =
     (ends_by g.S.Source.left g.S.Source.faults c.args.schema.now c.args.feeds.now c.loop-feed.feed-index c.loop-feed.feeds c.loop-feed.grouped c.loop-feed.counts c.loop-feed.invariant c.feed-item.result c.loop-feed-test.true
     c.take_feed.new.feed c.take_feed.result c.requires.unread c.take_feed.ensures.too_much c.take_feed.ensures.cause c.in_err-of_feed.field-0.0 c.in_err-of_feed.was)
 
-pub returns-in_err-add : goal.returns-in_err-add
-returns-in_err-add g c =
+pub returns-in_default-add : goal.returns-in_default-add
+returns-in_default-add g c =
     let read = c.in_ok-of_feed.was in
     let quiet = stays_quiet g.S.Source.left g.S.Source.faults c.args.schema.now c.args.feeds.now c.loop-feed.feed-index c.loop-feed.feeds c.loop-feed.grouped c.loop-feed.counts c.loop-feed.invariant c.feed-item.result c.loop-feed-test.true
     c.take_feed.new.feed c.take_feed.result c.requires.unread c.take_feed.ensures.too_much c.take_feed.ensures.cause (λ failed. cc (read)) in
@@ -34,10 +34,10 @@ loop-feed-preserved g c =
     let quiet = stays_quiet g.S.Source.left g.S.Source.faults c.args.schema.now c.args.feeds.now c.loop-feed.feed-index c.loop-feed.feeds c.loop-feed.grouped c.loop-feed.counts c.loop-feed.invariant c.feed-item.result c.loop-feed-test.true
     c.take_feed.new.feed c.take_feed.result c.requires.unread c.take_feed.ensures.too_much c.take_feed.ensures.cause (λ failed. cc (read)) in
     one_more g.S.Source.left g.S.Source.faults c.args.schema.now c.args.feeds.now c.loop-feed.feed-index c.loop-feed.feeds c.loop-feed.grouped c.loop-feed.counts c.loop-feed.invariant c.feed-item.result c.loop-feed-test.true
-    c.take_feed.new.feed c.take_feed.new.grouped c.in_ok-of_feed.of_feed c.add.new.self c.in_ok-of_feed.ensures.taken c.in_ok-of_feed.ensures.schema c.in_ok-of_feed.ensures.size quiet c.in_ok-add.ensures.added
+    c.take_feed.new.feed c.take_feed.new.grouped c.in_ok-of_feed.of_feed c.add.new.self c.in_ok-of_feed.ensures.taken c.in_ok-of_feed.ensures.schema c.in_ok-of_feed.ensures.size quiet c.in-Ok-add.ensures.added
 
 pub returns : goal.returns
 returns g c =
     let all : c.loop-feed.feed-index ≡ length c.args.feeds.now = omega (arith, c.loop-feed-test.false, c.loop-feed.invariant.whole, c.loop-feed.auto.feed-index-end) in
-    all_taken g.S.Source.left g.S.Source.faults c.args.schema.now c.args.feeds.now c.loop-feed.feeds c.loop-feed.feed-index c.loop-feed.grouped c.loop-feed.counts c.in_ok-cube.cube
-    all c.loop-feed.invariant c.in_ok-cube.ensures.schema c.in_ok-cube.ensures.counted
+    all_taken g.S.Source.left g.S.Source.faults c.args.schema.now c.args.feeds.now c.loop-feed.feeds c.loop-feed.feed-index c.loop-feed.grouped c.loop-feed.counts c.in-Ok-into_cube.cube
+    all c.loop-feed.invariant c.in-Ok-into_cube.ensures.schema c.in-Ok-into_cube.ensures.counted

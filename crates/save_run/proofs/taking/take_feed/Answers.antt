@@ -4,7 +4,7 @@ use Rattle.save_run.proofs.FeedReads.{at_end, begins, has_room, no_cause, same_c
 use Rattle.save_run.proofs.taking.take_feed.Goals as goal
 
 pub loop-tally-init : goal.loop-tally-init
-loop-tally-init g c = begins g.S.Source.left g.S.Source.faults c.args.feed.now c.args.grouped.now c.in_ok-tally.tally c.requires.unread.going c.requires.unread.given c.in_ok-tally.ensures
+loop-tally-init g c = begins g.S.Source.left g.S.Source.faults c.args.feed.now c.args.grouped.now c.in-Ok.tally c.requires.unread.going c.requires.unread.given c.in-Ok.ensures
 
 pub returns-in_err-row-clause-cause : goal.returns-in_err-row-clause-cause
 returns-in_err-row-clause-cause g c =
@@ -20,10 +20,10 @@ pub loop-tally-preserved : goal.loop-tally-preserved
 loop-tally-preserved g c =
     takes_row g.S.Source.left g.S.Source.faults c.args.feed.now c.args.grouped.now c.loop-tally.feed c.loop-tally.grouped c.loop-tally.tally c.loop-tally.invariant
     (record { cutter = c.next_row.new.cutter; header = c.loop-tally.feed.header }) c.take_row.new.grouped c.take_row.new.tally (c.in-Some.row, c.in-Some.line) c.args.schema.now
-    (sym c.requires.unread.header) (rw c.in-Some.is at c.in_ok-row.ensures.row) refl c.in_ok-take_row.ensures.counted c.in_ok-take_row.ensures.points c.in_ok-take_row.ensures.schema c.in_ok-take_row.ensures.size
+    (sym c.requires.unread.header) (rw c.in-Some.is at c.in_ok-row.ensures.row) refl c.in-Ok-take_row.ensures.counted c.in-Ok-take_row.ensures.points c.in-Ok-take_row.ensures.schema c.in-Ok-take_row.ensures.size
 
-pub returns-in_err-take_row-clause-cause : goal.returns-in_err-take_row-clause-cause
-returns-in_err-take_row-clause-cause g c = no_cause _ _ _ _ _ c.loop-tally.invariant.passed.quiet (λ read. cc) (λ read. cc) c.in_ok-row.ensures.cause
+pub returns-in_default-take_row-clause-cause : goal.returns-in_default-take_row-clause-cause
+returns-in_default-take_row-clause-cause g c = no_cause _ _ _ _ _ c.loop-tally.invariant.passed.quiet (λ read. cc) (λ read. cc) c.in_ok-row.ensures.cause
 
 pub returns-clause-taken : goal.returns-clause-taken
 returns-clause-taken g c =
