@@ -11,7 +11,7 @@ import time
 
 PROMPT = "nanocube> "
 # The seconds in which the prompt has to come back.
-SECONDS = 30
+SECONDS = 60
 
 
 class Terminal:
@@ -26,9 +26,9 @@ class Terminal:
         self.said = self.until_prompt()
 
     def until_prompt(self):
-        """What comes up to the next prompt, which has to come in time."""
+        """What comes up to the next prompt, which has to come in time. It begins a line, where a line drawn anew does not."""
         found, end = b"", time.monotonic() + SECONDS
-        while not found.endswith(PROMPT.encode()):
+        while not (b"\n" + found).endswith(b"\n" + PROMPT.encode()):
             if not select.select([self.end], [], [], max(0, end - time.monotonic()))[0]:
                 raise AssertionError(f"no prompt came after {found[-200:]!r}")
             try:
