@@ -142,7 +142,10 @@ def measure(folder, seconds):
     page = Page(1280, 800)
     try:
         page.open(explore.url)
-        page.until("document.getElementById('seen').textContent.includes('none arrive')", 900)
+        with open(f"{out_of(folder)}/feed.csv", "rb") as it:
+            records = sum(1 for _ in it) - 1
+        page.until(f"explorer.shown.seen === {records}", 900)
+        page.until("document.getElementById('seen').textContent.includes('none arrive')")
         page.settle()
         with open(f"/proc/{explore.run_of()}/status", encoding="utf-8") as it:
             memory = next(int(line.split()[1]) // 1024 for line in it if line.startswith("VmHWM"))
@@ -154,7 +157,7 @@ def measure(folder, seconds):
         lines = questions_of(page, plan)
         for clients in (1, 8, 20):
             crowd(explore.port, clients, seconds, lines)
-        run_alone(out_of(folder), plan, lines)
+        run_alone(os.path.abspath(out_of(folder)), plan, lines)
     finally:
         page.close()
         explore.end()
