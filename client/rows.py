@@ -29,7 +29,7 @@ MOST_LATITUDE = 85.0511
 MOST_WEIGHT = 2**28 - 1
 # A column with more values is no category, and memory is to stay small.
 MOST_VALUES = 100000
-ROWS_AT_ONCE = 2000
+ROWS_AT_ONCE = 500
 # What an empty field of a category is called.
 NO_VALUE = "none"
 
@@ -135,35 +135,38 @@ class Source:
 
     def write(self, sink):
         """Writes a line of each record."""
-        number, rows = 2, []
+        number, rows, numbers = 1, [], []
         try:
             for cells in self.reader:
+                number += 1
+                # What is most often lacking is looked for here, so that few batches fail.
+                if len(cells) < self.needed or not cells[self.latitude] or not cells[self.longitude]:
+                    self.refuse(cells, number)
+                    continue
                 rows.append(cells)
+                numbers.append(number)
                 if len(rows) == ROWS_AT_ONCE:
-                    sink.writelines(self.lines_of(rows, number))
-                    number += len(rows)
-                    rows = []
+                    sink.writelines(self.lines_of(rows, numbers))
+                    rows, numbers = [], []
         except csv.Error as fault:
-            raise FolderFault(f"row {number + len(rows)} of the CSV, which ends in line {self.reader.line_num}: {fault}") from None
+            raise FolderFault(f"row {number + 1} of the CSV, which ends in line {self.reader.line_num}: {fault}") from None
         if rows:
-            sink.writelines(self.lines_of(rows, number))
+            sink.writelines(self.lines_of(rows, numbers))
 
-    def lines_of(self, rows, number):
-        """The lines of some rows, of which the first has that number."""
+    def lines_of(self, rows, numbers):
+        """The lines of some rows, which have these numbers."""
         try:
             yield self.batch(rows)
-        except (ValueError, IndexError):
+        except ValueError:
             if len(rows) == 1:
-                self.refuse(rows[0], number)
+                self.refuse(rows[0], numbers[0])
                 return
             half = len(rows) // 2
-            yield from self.lines_of(rows[:half], number)
-            yield from self.lines_of(rows[half:], number + half)
+            yield from self.lines_of(rows[:half], numbers[:half])
+            yield from self.lines_of(rows[half:], numbers[half:])
 
     def batch(self, rows):
         """The lines of rows that are all right; else it fails, and changes nothing."""
-        if min(map(len, rows)) < self.needed:
-            raise IndexError
         fields = list(zip(*rows))
         instants = self.instants_of(fields, len(rows))
         xs, ys = tiles_of(fields[self.latitude], fields[self.longitude], self.size)
