@@ -87,7 +87,10 @@ def run_alone(folder, plan, lines):
     """What the run itself takes for a question: a script of these lines over an image."""
     program = subprocess.run([f"{TOP}/tools/program_of"], stdout=-1, text=True, check=True).stdout.strip()
     with tempfile.TemporaryDirectory() as work:
-        subprocess.run([program, "save", f"{folder}/plan.json", f"{work}/cube.img"], cwd=folder, stdout=-1, check=True)
+        words = [program, "save", f"{folder}/plan.json", f"{work}/cube.img"]
+        if subprocess.run(words, cwd=folder, stdout=subprocess.DEVNULL).returncode:
+            tell("the run alone: not taken, since no image was saved")
+            return
         times = []
         for many in (1, 200):
             with open(f"{work}/script", "w", encoding="utf-8") as it:
