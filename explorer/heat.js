@@ -29,7 +29,7 @@ export async function makeMap(changed) {
 // Where the address bar says, or else the world.
 export function place() {
   const [zoom, ...centre] = view.at || [2, 20, 0]
-  map.setView(centre, zoom, {animate: false})
+  map?.setView(centre, zoom, {animate: false})
   document.getElementById('cells').value = view.cells
 }
 

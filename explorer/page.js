@@ -92,7 +92,7 @@ function refresh(cause) {
   since ??= typeof cause === 'number' ? cause : performance.now()
   running ??= (async () => {
     while (since !== null && heat.map) await redraw()
-    write(heat.map)
+    if (heat.map) write(heat.map)
   })().finally(() => { running = null })
   return running
 }
