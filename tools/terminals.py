@@ -27,15 +27,19 @@ class Terminal:
 
     def until_prompt(self):
         """What comes up to the next prompt, which has to come in time. It begins a line, where a line drawn anew does not."""
+        return self.until("\n" + PROMPT)[: -len(PROMPT)]
+
+    def until(self, ending):
+        """What comes up to this text, which has to come in time. What comes first begins a line."""
         found, end = b"", time.monotonic() + SECONDS
-        while not (b"\n" + found).endswith(b"\n" + PROMPT.encode()):
+        while not (b"\n" + found).endswith(ending.encode()):
             if not select.select([self.end], [], [], max(0, end - time.monotonic()))[0]:
-                raise AssertionError(f"no prompt came after {found[-200:]!r}")
+                raise AssertionError(f"no {ending!r} came after {found[-200:]!r}")
             try:
                 found += os.read(self.end, 65536)
             except OSError:
                 raise AssertionError(f"it ended after {found[-200:]!r}") from None
-        return found.decode()[: -len(PROMPT)].replace("\r", "")
+        return found.decode().replace("\r", "")
 
     def type(self, keys):
         os.write(self.end, keys.encode())
