@@ -34,6 +34,11 @@ return {
   sides: [bounds.getWest(), bounds.getNorth(), bounds.getEast(), bounds.getSouth()]
 }"""
 
+# Whether anything moves or is asked for, and where the map and the elements stand.
+RESTS = """const {map} = explorer, {lat, lng} = map.getCenter()
+return [Boolean(explorer.busy || map._animatingZoom || map._panAnim?._inProgress), map.getZoom(), lat, lng,
+  window.scrollY, document.documentElement.scrollHeight, document.getElementById('bars').getBoundingClientRect().top]"""
+
 
 class Page:
     def __init__(self, width, height, more=()):
@@ -70,10 +75,17 @@ class Page:
             time.sleep(0.03)
 
     def settle(self):
-        """Until what was changed is drawn, and no picture moves."""
+        """Until what was changed is drawn, and neither the map nor what lies round it has moved for four looks."""
         self.run("window.marked = false; requestAnimationFrame(() => setTimeout(() => { window.marked = true }, 60))")
-        self.until("window.marked && !explorer.map._animatingZoom && !explorer.map._panAnim?._inProgress")
-        self.until("!explorer.busy")
+        self.until("window.marked")
+        before, still, end = None, 0, time.monotonic() + 60
+        while still < 4:
+            now = self.run(RESTS)
+            still = still + 1 if now == before and not now[0] else 0
+            if time.monotonic() > end:
+                raise RuntimeError(f"it did not come to rest: {now}")
+            before = now
+            time.sleep(0.04)
 
     def state(self):
         return self.run(STATE)
