@@ -85,7 +85,7 @@ class Page:
             if time.monotonic() > end:
                 raise RuntimeError(f"it did not come to rest: {now}")
             before = now
-            time.sleep(0.04)
+            time.sleep(0.03)
 
     def state(self):
         return self.run(STATE)
