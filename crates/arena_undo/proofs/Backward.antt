@@ -1,6 +1,6 @@
 -- Each change is there to be taken back, and the slots are then as before it.
-use Rattle.std.proofs.Common.{◌≡◌, ℕ, ◌+◌, ◌-◌, ◌<◌, ◌≤◌, Bool, true, false, cond, eqb, ltb, List, [], ◌∷◌, ◌++◌, Option, Some, None, set, length, refl, sym, ap, ◌∙◌, subst, arith, ap₂, eqb-true, eq-eqb, true≢false, IsSome, is_some}
-use Rattle.std.proofs.lemmas.List.{length_push, length-set, take_at, set-set, set-get_or, get_or-set_same}
+use Rattle.std.proofs.Common.{◌≡◌, ℕ, ◌+◌, ◌<◌, ◌≤◌, Bool, true, false, cond, eqb, ltb, List, [], ◌∷◌, Option, Some, None, set, length, refl, sym, ap, ◌∙◌, subst, arith, ap₂, eqb-true, eq-eqb, true≢false, IsSome, is_some}
+use Rattle.std.proofs.lemmas.List.{length-set, set-set, set-get_or, get_or-set_same}
 use Rattle.time_table.specs.Counts.{AllCounted, count_of, add_many}
 use Rattle.time_table.proofs.AddLaws.{count_of-add_many}
 use Rattle.time_table.proofs.CountLaws.{take_many-add_many}
@@ -8,15 +8,9 @@ use Rattle.node_arena.specs.declared.link.SlotId.{SlotId}
 use Rattle.node_arena.specs.declared.link.Link.{Link}
 use Rattle.cube_view.specs.Walks.{down, across}
 use Rattle.node_arena.specs.Slots.{Children, Slot, node, table, empty_node, is_table, IsNode, IsTable, count, counts_of, child, link, link_of, slot_of}
-use Rattle.node_arena.specs.Calls.{with_child, with_link, without_child, put, relink, unlink, with_content, with_many, without_many, with_slot, put_child, set_child, set_content, table_add_many}
-use Rattle.arena_undo.specs.declared.change.Change.TheVariants.{Added, Put, Relinked, Filled, Counted}
+use Rattle.node_arena.specs.Calls.{with_child, with_link, without_child, put, relink, unlink, with_content, with_many, without_many, put_child, set_child, set_content, table_add_many}
+use Rattle.arena_undo.specs.declared.change.Change.TheVariants.{Put, Relinked, Filled, Counted}
 use Rattle.arena_undo.specs.Undone.{take_back, CanTake, IsNodeAt}
-
-pub added_back : (slots : List Slot) (s : Slot) → take_back Added (with_slot slots s) ≡ slots
-added_back slots s = take_at slots (s ∷ []) (length (slots ++ s ∷ []) - 1) (omega (arith, length_push slots s))
-
-pub added_there : (slots : List Slot) (s : Slot) → CanTake Added (with_slot slots s)
-added_there slots s = omega (arith, length_push slots s)
 
 pub slot-set : (slots : List Slot) (i : ℕ) (s : Slot) → i < length slots → slot_of (set slots i s) i ≡ s
 slot-set slots i s less = get_or-set_same slots i s empty_node less
@@ -140,3 +134,11 @@ counted_there slots id bin n less is some =
       some,
       subst (λ (z : Slot). n ≤ count z bin) (sym e) r.1,
     )
+
+content_same : (s : Slot) → with_content s (link s across) ≡ s
+content_same (node children content) = refl
+content_same (table counts) = refl
+
+-- the content that stands there is set again
+pub content_stays : (slots : List Slot) (i : ℕ) (c : Option Link) → c ≡ link_of slots i across → set_content slots i c ≡ slots
+content_stays slots i c e = ap (λ z. set slots i z) (ap (with_content (slot_of slots i)) e ∙ content_same (slot_of slots i)) ∙ set-get_or slots i empty_node

@@ -1,6 +1,7 @@
 -- A trail of changes that grows by those of a run.
-use Rattle.std.proofs.Common.{◌≡◌, ℕ, ◌+◌, ◌<◌, ◌≤◌, List, [], ◌∷◌, ◌++◌, All, set, length, refl, sym, ap, ◌∙◌, subst, arith, ap₂, append_assoc}
-use Rattle.std.proofs.lemmas.List.{length-append, length-map, length-set, set-set, set-get_or, append-nil}
+use Rattle.std.proofs.Common.{◌≡◌, ℕ, ◌+◌, ◌<◌, ◌≤◌, Bool, true, false, ltb, List, [], ◌∷◌, ◌++◌, All, set, take, length, refl, sym, ap, ◌∙◌, subst, arith, append_assoc}
+use Rattle.std.proofs.lemmas.Bool.{ltb-true, ltb-false}
+use Rattle.std.proofs.lemmas.List.{length-take-le, length-append, length-map, length-set, set-set, set-get_or, append-nil}
 use Rattle.std.proofs.lemmas.List.Elements.{All-head, All-tail}
 use Rattle.time_table.specs.Counts.{AllCounted}
 use Rattle.time_table.proofs.AddLaws.{AllCounted-add_many}
@@ -9,11 +10,11 @@ use Rattle.node_arena.specs.Slots.{Slot, node, table, empty_node, IsTable, is_ta
 use Rattle.node_arena.specs.Calls.{with_many, with_run, table_add_many, table_add_run}
 use Rattle.arena_undo.specs.declared.change.Change.{Change}
 use Rattle.arena_undo.specs.declared.change.Change.TheVariants.{Counted}
-use Rattle.arena_undo.specs.Undone.{counted_each, take_back, undone, CanUndo}
+use Rattle.arena_undo.specs.Undone.{counted_each, take_back, undone, CanUndo, with_notes}
 use Rattle.arena_undo.specs.Trail.{IsChangeTrail}
 use Rattle.arena_undo.specs.Worked.{Worked, changed_by}
 use Rattle.arena_undo.proofs.Backward.{slot-set, is_counted, counted_back, counted_there}
-use Rattle.arena_undo.proofs.Trails.{undone-push, can_push, worked}
+use Rattle.arena_undo.proofs.Trails.{undone-push, can_push, worked, slot-old, old_at, new_at, noted_made, IsNoted}
 
 -- a time table of the arena whose counts are all above 0
 pub record IsCountedTable (slots : List Slot) (i : ℕ) : Type 0 where
@@ -73,22 +74,45 @@ run_noted (a ∷ run) slots id changes some T can =
     subst (λ z. IsRunNoted slots z changes (changes ++ c ∷ counted_each id run)) (sym (table_add_run-cons slots id.0 a run T.within))
     (subst (λ z. IsRunNoted slots (table_add_run mid id.0 run) changes z) (append_assoc changes (c ∷ []) (counted_each id run)) whole)
 
--- a run that was counted and noted
-pub run_made : (slots next : List Slot) (changes noted : List Change) (id : SlotId) (run : List (ℕ × ℕ)) (room capacity more : ℕ) (w : Worked) → IsChangeTrail slots changes room capacity → worked slots (undone changes slots) (length changes) room ≡ w → w.made + length run ≤ w.room → noted ≡ changes ++ counted_each id run → capacity ≤ more → next ≡ table_add_run slots id.0 run → All (λ (a : ℕ × ℕ). 0 < a.1) run → IsCountedTable w.slots id.0 → IsChangeTrail next noted room more × (worked next (undone noted next) (length noted) room ≡ changed_by (length run) w (table_add_run w.slots id.0 run))
-run_made slots next changes noted id run room capacity more w T v left is grown called some K =
-    (record { within = room_left; taken = omega (arith, T.taken); undoable = N.undoable }, view)
+-- a run that was counted, and noted where the table stood at the beginning
+pub run_made : (slots next : List Slot) (changes noted : List Change) (id : SlotId) (run : List (ℕ × ℕ)) (wanted : Bool) (first made made' room capacity more : ℕ) (w : Worked) → IsChangeTrail slots changes first made room capacity → worked slots (undone changes (take first slots)) made room ≡ w → w.made + length run ≤ w.room → made' ≡ made + length run → wanted ≡ ltb id.0 first → noted ≡ with_notes wanted (counted_each id run) changes → capacity ≤ more → next ≡ table_add_run slots id.0 run → All (λ (a : ℕ × ℕ). 0 < a.1) run → IsCountedTable w.slots id.0 → IsChangeTrail next noted first made' room more × (worked next (undone noted (take first next)) made' room ≡ changed_by (length run) w (table_add_run w.slots id.0 run))
+run_made slots next changes noted id run wanted first made made' room capacity more w T v left counted old is grown called some K =
+    noted_made slots next (table_add_run w.slots id.0 run) changes noted (length run) first made made' room capacity more w T v left counted grown (called ∙ ap (λ (z : List Slot). table_add_run z id.0 run) same)
+    (subst (λ (z : List Slot). IsNoted slots z changes noted first (length run)) (sym called)
+    (subst (λ (z : List Change). IsNoted slots (table_add_run slots id.0 run) changes z first (length run)) (sym is) (each wanted old)))
   where
-    N : IsRunNoted slots next changes noted
-    N = subst (λ z. IsRunNoted slots z changes noted) (sym called) (subst (λ z. IsRunNoted slots (table_add_run slots id.0 run) changes z) (sym is) (run_noted run slots id changes some (subst (λ z. IsCountedTable z id.0) (sym (ap (λ (z : Worked). z.slots) v)) K) T.undoable))
+    same : slots ≡ w.slots
+    same = ap (λ (z : Worked). z.slots) v
 
-    size : length noted ≡ length changes + length run
-    size = ap length is ∙ length-append changes (counted_each id run) ∙ ap (λ k. length changes + k) (length-map run (λ (a : ℕ × ℕ). Counted id a.0 a.1))
+    table_here : IsCountedTable slots id.0
+    table_here = subst (λ (z : List Slot). IsCountedTable z id.0) (sym same) K
 
-    room_left : length noted ≤ room
-    room_left = let a = ap (λ (z : Worked). z.made) v in let b = ap (λ (z : Worked). z.room) v in omega (arith, a, b, size, left)
+    g : Slot → Slot
+    g s = with_run s run
 
-    view : worked next (undone noted next) (length noted) room ≡ changed_by (length run) w (table_add_run w.slots id.0 run)
-    view =
-        ap₂ (λ (a b : List Slot). worked a b (length noted) room) called N.start
-        ∙ ap (λ (k : ℕ). worked (table_add_run slots id.0 run) (undone changes slots) k room) size
-        ∙ ap (λ (z : Worked). changed_by (length run) z (table_add_run z.slots id.0 run)) v
+    still : first ≤ length (table_add_run slots id.0 run)
+    still = omega (arith, T.beginning, length-set slots id.0 (g (slot_of slots id.0)))
+
+    size : length (changes ++ counted_each id run) ≡ length changes + length run
+    size = length-append changes (counted_each id run) ∙ ap (λ k. length changes + k) (length-map run (λ (a : ℕ × ℕ). Counted id a.0 a.1))
+
+    each : (b : Bool) → b ≡ ltb id.0 first → IsNoted slots (table_add_run slots id.0 run) changes (with_notes b (counted_each id run) changes) first (length run)
+    each true e =
+        let less : id.0 < first = ltb-true id.0 first (sym e) in
+        let kept = slot-old first id.0 slots less in
+        let there : IsCountedTable (take first slots) id.0 = record {
+          within = omega (arith, less, length-take-le first slots T.beginning);
+          kind = ap is_table kept ∙ table_here.kind;
+          counted = subst (λ (s : Slot). AllCounted (counts_of s)) (sym kept) table_here.counted;
+        } in
+        let noted = run_noted run (take first slots) id changes some there T.undoable in
+        let moved = old_at first id.0 g slots less in
+        record {
+          beginning = still;
+          fewer = omega (arith, size);
+          undoable = subst (CanUndo (changes ++ counted_each id run)) (sym moved) noted.undoable;
+          start = ap (undone (changes ++ counted_each id run)) moved ∙ noted.start;
+        }
+    each false e =
+        let stays = new_at first id.0 g slots (ltb-false id.0 first (sym e)) in
+        record { beginning = still; fewer = omega arith; undoable = subst (CanUndo changes) (sym stays) T.undoable; start = ap (undone changes) stays }

@@ -1,11 +1,19 @@
 -- A trail of changes that grows by one, or loses its last one.
-use Rattle.std.proofs.Common.{◌≡◌, ℕ, ◌+◌, ◌<◌, ◌≤◌, List, [], ◌∷◌, ◌++◌, length, refl, sym, ap, ◌∙◌, subst, arith, ap₂}
-use Rattle.std.proofs.lemmas.List.{length_push}
-use Rattle.node_arena.specs.Slots.{Slot}
+use Rattle.std.proofs.Common.{◌≡◌, ℕ, ◌+◌, ◌<◌, ◌≤◌, Bool, true, false, ltb, List, [], ◌∷◌, ◌++◌, Option, set, take, length, inl, inr, refl, sym, ap, ◌∙◌, subst, arith, ap₂, true≢false}
+use Rattle.std.proofs.Math.Seq.{take-set-lt}
+use Rattle.std.proofs.lemmas.Bool.{ltb-true, ltb-false}
+use Rattle.std.proofs.lemmas.List.{length_push, length-set, length-take-le, get_or-take, take-append-le, take-set-le}
+use Rattle.cube_view.specs.Walks.{across}
+use Rattle.node_arena.specs.declared.link.Link.{Link}
+use Rattle.node_arena.specs.declared.link.SlotId.{SlotId}
+use Rattle.node_arena.specs.Calls.{with_slot, with_content, set_content}
+use Rattle.node_arena.specs.Slots.{Slot, IsNode, empty_node, link, link_of, slot_of}
 use Rattle.arena_undo.specs.declared.change.Change.{Change}
-use Rattle.arena_undo.specs.Undone.{take_back, CanTake, undone, CanUndo}
+use Rattle.arena_undo.specs.declared.change.Change.TheVariants.{Filled}
+use Rattle.arena_undo.specs.Undone.{take_back, CanTake, undone, CanUndo, with_notes, TellsNewContent}
 use Rattle.arena_undo.specs.Trail.{IsChangeTrail}
-use Rattle.arena_undo.specs.Worked.{Worked, changed}
+use Rattle.arena_undo.specs.Worked.{Worked, changed, changed_by}
+use Rattle.arena_undo.proofs.Backward.{filled_back, filled_there, content_stays}
 
 -- the last change is taken back first
 pub undone-push : (changes : List Change) (c : Change) (slots : List Slot) → undone (changes ++ c ∷ []) slots ≡ undone changes (take_back c slots)
@@ -22,55 +30,147 @@ can_pop (d ∷ changes) c slots can =
     let r = can_pop changes c slots can.1 in
     (r.0, (subst (CanTake d) (undone-push changes c slots) can.0, r.1))
 
--- a change that was made and noted
-pub record IsNoted (slots next : List Slot) (changes noted : List Change) (c : Change) : Type 0 where
-  pub is : noted ≡ changes ++ c ∷ []
-  pub there : CanTake c next
-  pub back : take_back c next ≡ slots
+-- the slots with what g makes of the one at a place
+abbrev pub at_slot : ℕ → (Slot → Slot) → List Slot → List Slot
+at_slot i g slots = set slots i (g (slot_of slots i))
 
-pub noted_trail : (slots next : List Slot) (changes noted : List Change) (c : Change) (room capacity more : ℕ) → IsChangeTrail slots changes room capacity → IsNoted slots next changes noted c → length changes < room → capacity ≤ more → IsChangeTrail next noted room more
-noted_trail slots next changes noted c room capacity more T N left grown =
-    let size : length noted ≡ length changes + 1 = ap length N.is ∙ length_push changes c in
-    record {
-      within = omega arith;
-      taken = omega (arith, T.taken);
-      undoable = subst (λ z. CanUndo z next) (sym N.is) (can_push changes c next N.there (subst (CanUndo changes) (sym N.back) T.undoable));
-    }
+pub slot-old : (first i : ℕ) (slots : List Slot) → i < first → slot_of (take first slots) i ≡ slot_of slots i
+slot-old first i slots old = get_or-take first slots i empty_node old
 
-pub kept_trail : (slots next : List Slot) (changes : List Change) (room capacity : ℕ) → IsChangeTrail slots changes room capacity → next ≡ slots → IsChangeTrail next changes room capacity
-kept_trail slots next changes room capacity T e = subst (λ z. IsChangeTrail z changes room capacity) (sym e) T
+-- a change of a slot that stood at the beginning is one of those alone
+pub old_at : (first i : ℕ) (g : Slot → Slot) (slots : List Slot) → i < first → take first (at_slot i g slots) ≡ at_slot i g (take first slots)
+old_at first i g slots old =
+    take-set-lt first slots i (g (slot_of slots i)) old
+    ∙ ap (λ (s : Slot). set (take first slots) i (g s)) (sym (slot-old first i slots old))
+
+-- and one of a slot that was added changes none of them
+pub new_at : (first i : ℕ) (g : Slot → Slot) (slots : List Slot) → first ≤ i → take first (at_slot i g slots) ≡ take first slots
+new_at first i g slots new = take-set-le first slots i (g (slot_of slots i)) new
 
 abbrev pub worked : List Slot → List Slot → ℕ → ℕ → Worked
 worked slots start made room = record { slots = slots; start = start; made = made; room = room }
 
--- what contracts see of it
-pub noted_view : (slots next called : List Slot) (changes noted : List Change) (c : Change) (room : ℕ) (w : Worked) → record { slots = slots; start = undone changes slots; made = length changes; room = room } ≡ w → IsNoted slots next changes noted c → next ≡ called → record { slots = next; start = undone noted next; made = length noted; room = room } ≡ changed w called
-noted_view slots next called changes noted c room w v N e =
-    let size : length noted ≡ length changes + 1 = ap length N.is ∙ length_push changes c in
-    let start : undone noted next ≡ undone changes slots = ap (λ z. undone z next) N.is ∙ (undone-push changes c next ∙ ap (undone changes) N.back) in
-    step start size ∙ ap (λ (z : Worked). changed z called) v
-  where
-    step : undone noted next ≡ undone changes slots → length noted ≡ length changes + 1 → record { slots = next; start = undone noted next; made = length noted; room = room } ≡ changed (record { slots = slots; start = undone changes slots; made = length changes; room = room }) called
-    step s n =
-        ap₂ (λ (a b : List Slot). worked a b (length noted) room) e s
-        ∙ ap (λ (k : ℕ). worked called (undone changes slots) k room) n
+-- n changes that were made, of which some were noted
+pub record IsNoted (slots next : List Slot) (changes noted : List Change) (first n : ℕ) : Type 0 where
+  pub beginning : first ≤ length next
+  pub fewer : length noted ≤ length changes + n
+  pub undoable : CanUndo noted (take first next)
+  pub start : undone noted (take first next) ≡ undone changes (take first slots)
 
--- a call that changes the slots by f, and is noted
-pub step_made : (f : List Slot → List Slot) (slots next : List Slot) (changes noted : List Change) (c : Change) (room capacity more : ℕ) (w : Worked) → IsChangeTrail slots changes room capacity → worked slots (undone changes slots) (length changes) room ≡ w → w.made < w.room → noted ≡ changes ++ c ∷ [] → capacity ≤ more → next ≡ f slots → CanTake c (f w.slots) → take_back c (f w.slots) ≡ w.slots → IsChangeTrail next noted room more × (worked next (undone noted next) (length noted) room ≡ changed w (f w.slots))
-step_made f slots next changes noted c room capacity more w T v left is grown called there back =
-    (noted_trail slots next changes noted c room capacity more T made less grown, noted_view slots next (f w.slots) changes noted c room w v made now)
+pub noted_made : (slots next called : List Slot) (changes noted : List Change) (n first made made' room capacity more : ℕ) (w : Worked) → IsChangeTrail slots changes first made room capacity → worked slots (undone changes (take first slots)) made room ≡ w → w.made + n ≤ w.room → made' ≡ made + n → capacity ≤ more → next ≡ called → IsNoted slots next changes noted first n → IsChangeTrail next noted first made' room more × (worked next (undone noted (take first next)) made' room ≡ changed_by n w called)
+noted_made slots next called changes noted n first made made' room capacity more w T v left counted grown e N =
+    (record { within = room_left; beginning = N.beginning; taken = taken; undoable = N.undoable }, view)
+  where
+    room_left : made' ≤ room
+    room_left = let a = ap (λ (z : Worked). z.made) v in let b = ap (λ (z : Worked). z.room) v in omega (arith, a, b, left, counted)
+
+    taken : room + length noted ≤ made' + more
+    taken = omega (arith, T.taken, N.fewer, counted, grown)
+
+    view : worked next (undone noted (take first next)) made' room ≡ changed_by n w called
+    view =
+        ap₂ (λ (a b : List Slot). worked a b made' room) e N.start
+        ∙ ap (λ (k : ℕ). worked called (undone changes (take first slots)) k room) counted
+        ∙ ap (λ (z : Worked). changed_by n z called) v
+
+-- a slot that was added at the end
+pub added_made : (h : List Slot → Slot) (slots next : List Slot) (changes : List Change) (first made made' room capacity : ℕ) (w : Worked) → IsChangeTrail slots changes first made room capacity → worked slots (undone changes (take first slots)) made room ≡ w → w.made < w.room → made' ≡ made + 1 → next ≡ with_slot slots (h slots) → IsChangeTrail next changes first made' room capacity × (worked next (undone changes (take first next)) made' room ≡ changed w (with_slot w.slots (h w.slots)))
+added_made h slots next changes first made made' room capacity w T v left counted is =
+    noted_made slots next (with_slot w.slots (h w.slots)) changes changes 1 first made made' room capacity capacity w T v (omega (arith, left)) counted (omega arith) (is ∙ ap (λ (z : Worked). with_slot z.slots (h z.slots)) v) (subst (λ (z : List Slot). IsNoted slots z changes changes first 1) (sym is) noted)
+  where
+    s : Slot
+    s = h slots
+
+    same : take first (with_slot slots s) ≡ take first slots
+    same = take-append-le first slots (s ∷ []) T.beginning
+
+    noted : IsNoted slots (with_slot slots s) changes changes first 1
+    noted = record {
+      beginning = let b = T.beginning in omega (arith, b, length_push slots s);
+      fewer = omega arith;
+      undoable = subst (CanUndo changes) (sym same) T.undoable;
+      start = ap (undone changes) same;
+    }
+
+-- the change can be taken back, which gives the slots before it
+abbrev pub IsTakenBack : Change → ℕ → (Slot → Slot) → List Slot → Type 0
+IsTakenBack c i g base = CanTake c (at_slot i g base) × (take_back c (at_slot i g base) ≡ base)
+
+-- what has to be known of a change at a place: where it is noted it can be taken back, and where it is not the slots of
+-- the beginning stay
+pub record IsChange (c : Change) (i : ℕ) (g : Slot → Slot) (wanted : Bool) (first : ℕ) (slots : List Slot) : Type 0 where
+  pub in_range : i < length slots
+  pub back : wanted ≡ true → (i < first) × IsTakenBack c i g (take first slots)
+  pub stays : wanted ≡ false → take first (at_slot i g slots) ≡ take first slots
+
+-- of a slot that stood at the beginning, or else not noted
+pub change_at : (c : Change) (i first : ℕ) (g : Slot → Slot) (slots : List Slot) → i < length slots → first ≤ length slots → ((base : List Slot) → i < length base → slot_of base i ≡ slot_of slots i → IsTakenBack c i g base) → IsChange c i g (ltb i first) first slots
+change_at c i first g slots less within each = record {
+  in_range = less;
+  back = λ e.
+      let old = ltb-true i first e in
+      (old, each (take first slots) (omega (arith, old, length-take-le first slots within)) (slot-old first i slots old));
+  stays = λ e. new_at first i g slots (ltb-false i first e);
+}
+
+is_noted : (c : Change) (i first : ℕ) (g : Slot → Slot) (slots : List Slot) (changes : List Change) (wanted : Bool) → first ≤ length slots → CanUndo changes (take first slots) → IsChange c i g wanted first slots → IsNoted slots (at_slot i g slots) changes (with_notes wanted (c ∷ []) changes) first 1
+is_noted c i first g slots changes true within can C =
+    let b = C.back refl in
+    let same = old_at first i g slots b.0 in
+    record {
+      beginning = omega (arith, within, length-set slots i (g (slot_of slots i)));
+      fewer = omega (arith, length_push changes c);
+      undoable = can_push changes c (take first (at_slot i g slots)) (subst (CanTake c) (sym same) b.1.0) (subst (CanUndo changes) (sym (ap (take_back c) same ∙ b.1.1)) can);
+      start = undone-push changes c (take first (at_slot i g slots)) ∙ ap (undone changes) (ap (take_back c) same ∙ b.1.1);
+    }
+is_noted c i first g slots changes false within can C = record {
+  beginning = omega (arith, within, length-set slots i (g (slot_of slots i)));
+  fewer = omega arith;
+  undoable = subst (CanUndo changes) (sym (C.stays refl)) can;
+  start = ap (undone changes) (C.stays refl);
+}
+
+-- a call that changes a slot, and is noted if that is wanted
+pub step_made : (g : Slot → Slot) (i : ℕ) (slots next : List Slot) (changes noted : List Change) (c : Change) (wanted : Bool) (first made made' room capacity more : ℕ) (w : Worked) → IsChangeTrail slots changes first made room capacity → worked slots (undone changes (take first slots)) made room ≡ w → w.made < w.room → made' ≡ made + 1 → noted ≡ with_notes wanted (c ∷ []) changes → capacity ≤ more → next ≡ at_slot i g slots → (first ≤ length w.slots → IsChange c i g wanted first w.slots) → IsChangeTrail next noted first made' room more × (worked next (undone noted (take first next)) made' room ≡ changed w (at_slot i g w.slots))
+step_made g i slots next changes noted c wanted first made made' room capacity more w T v left counted is grown called known =
+    noted_made slots next (at_slot i g w.slots) changes noted 1 first made made' room capacity more w T v (omega (arith, left)) counted grown (called ∙ ap (at_slot i g) same)
+    (subst (λ (z : List Slot). IsNoted slots z changes noted first 1) (sym called)
+    (subst (λ (z : List Change). IsNoted slots (at_slot i g slots) changes z first 1) (sym is) (is_noted c i first g slots changes wanted T.beginning T.undoable C)))
   where
     same : slots ≡ w.slots
     same = ap (λ (z : Worked). z.slots) v
 
-    now : next ≡ f w.slots
-    now = called ∙ ap f same
+    C : IsChange c i g wanted first slots
+    C = subst (λ (z : List Slot). IsChange c i g wanted first z) (sym same) (known (subst (λ (z : List Slot). first ≤ length z) same T.beginning))
 
-    made : IsNoted slots next changes noted c
-    made = record { is = is; there = subst (CanTake c) (sym now) there; back = ap (take_back c) now ∙ (back ∙ sym same) }
+-- and that is wanted where the slot stood at the beginning
+pub old_made : (g : Slot → Slot) (i : ℕ) (slots next : List Slot) (changes noted : List Change) (c : Change) (wanted : Bool) (first made made' room capacity more : ℕ) (w : Worked) → IsChangeTrail slots changes first made room capacity → worked slots (undone changes (take first slots)) made room ≡ w → w.made < w.room → made' ≡ made + 1 → wanted ≡ ltb i first → noted ≡ with_notes wanted (c ∷ []) changes → capacity ≤ more → next ≡ at_slot i g slots → i < length w.slots → ((base : List Slot) → i < length base → slot_of base i ≡ slot_of w.slots i → IsTakenBack c i g base) → IsChangeTrail next noted first made' room more × (worked next (undone noted (take first next)) made' room ≡ changed w (at_slot i g w.slots))
+old_made g i slots next changes noted c wanted first made made' room capacity more w T v left counted old is grown called less each =
+    step_made g i slots next changes noted c wanted first made made' room capacity more w T v left counted is grown called
+    (λ within. subst (λ (z : Bool). IsChange c i g z first w.slots) (sym old) (change_at c i first g w.slots less within each))
 
-    less : length changes < room
-    less = let a = ap (λ (z : Worked). z.made) v in let b = ap (λ (z : Worked). z.room) v in omega arith
+-- a content that was set
+pub content_made : (wish old : Option Link) (id : SlotId) (slots next : List Slot) (changes noted : List Change) (wanted : Bool) (first made made' room capacity more : ℕ) (w : Worked) → IsChangeTrail slots changes first made room capacity → worked slots (undone changes (take first slots)) made room ≡ w → w.made < w.room → made' ≡ made + 1 → TellsNewContent id.0 first old wish wanted → noted ≡ with_notes wanted (Filled id old ∷ []) changes → capacity ≤ more → next ≡ set_content slots id.0 wish → id.0 < length w.slots → IsNode (slot_of w.slots id.0) → old ≡ link_of w.slots id.0 across → IsChangeTrail next noted first made' room more × (worked next (undone noted (take first next)) made' room ≡ changed w (set_content w.slots id.0 wish))
+content_made wish old id slots next changes noted wanted first made made' room capacity more w T v left counted tells is grown called less node given =
+    step_made g id.0 slots next changes noted (Filled id old) wanted first made made' room capacity more w T v left counted is grown called (λ within. known wanted tells within)
+  where
+    g : Slot → Slot
+    g s = with_content s wish
+
+    each : (base : List Slot) → id.0 < length base → slot_of base id.0 ≡ slot_of w.slots id.0 → IsTakenBack (Filled id old) id.0 g base
+    each base inside same = (
+      filled_there base id wish old inside (subst IsNode (sym same) node),
+      filled_back base id wish old inside (given ∙ ap (λ (s : Slot). link s across) (sym same)),
+    )
+
+    known : (b : Bool) → TellsNewContent id.0 first old wish b → first ≤ length w.slots → IsChange (Filled id old) id.0 g b first w.slots
+    known true t within = record {
+      in_range = less;
+      back = λ e. (t, each (take first w.slots) (omega (arith, t, length-take-le first w.slots within)) (slot-old first id.0 w.slots t));
+      stays = λ e. absurd (true≢false e);
+    }
+    known false (inl new) within = record { in_range = less; back = λ e. absurd (true≢false (sym e)); stays = λ e. new_at first id.0 g w.slots new }
+    known false (inr stood) within = record { in_range = less; back = λ e. absurd (true≢false (sym e)); stays = λ e. ap (take first) (content_stays w.slots id.0 wish (sym stood ∙ given)) }
 
 -- the trail while it is taken back
 pub record IsUndoing (start slots : List Slot) (changes : List Change) : Type 0 where

@@ -1,14 +1,13 @@
 //! A change of an arena, with what it takes to undo it.
-ghost use Rattle.std.specs.Prelude.{◌≡◌, ◌+◌, ◌<◌, ◌≤◌, [], ◌∷◌, ◌++◌, length, vec_len, vec_capacity};
-ghost use Rattle.arena_undo.specs.Undone.{CanTake, counted_each, take_back};
+ghost use Rattle.std.specs.Prelude.{◌≡◌, ◌+◌, ◌<◌, ◌≤◌, nat_lt, [], ◌∷◌, length, vec_len, vec_capacity};
+ghost use Rattle.arena_undo.specs.Undone.{CanTake, counted_each, take_back, with_notes, TellsNewContent};
 
 use node_arena::{Arena, Link, SlotId};
 
-/// A change that was made.
+/// A change of a slot that stood at the beginning. One of a slot that was added since then is not noted: undoing cuts
+/// the slot off.
 #[derive(Clone, Copy)]
 pub enum Change {
-    /// A slot was added at the end.
-    Added,
     /// A child of a new label was put.
     Put(SlotId, u8),
     /// A child's link was replaced. The old link is kept.
@@ -25,10 +24,6 @@ pub fn take_change_back(arena: &mut Arena, change: Change)
     ensures { arena.new ≡ take_back change arena.old }
 {
     match change {
-        Change::Added => {
-            let len = arena.len();
-            arena.cut(len - 1);
-        }
         Change::Put(id, label) => {
             arena.drop_child(id, label);
         }
@@ -42,26 +37,53 @@ pub fn take_change_back(arena: &mut Arena, change: Change)
     }
 }
 
-/// Notes a change in the room that was taken for it.
-pub fn note(changes: &mut Vec<Change>, change: Change)
+/// Whether a slot stood at the beginning, when there were so many.
+pub fn is_old(id: SlotId, first: usize) -> bool
+    ensures { result ≡ nat_lt id.0 first }
+{
+    (id.0 as usize) < first
+}
+
+/// Whether a content that was set has to be noted: the slot stood at the beginning, and had another content.
+pub fn is_new_content(id: SlotId, first: usize, old: Option<Link>, link: Option<Link>) -> bool
+    ensures { TellsNewContent id.0 first old link result }
+{
+    if !is_old(id, first) {
+        return false;
+    }
+    match (old, link) {
+        (Some(old), Some(link)) => old != link,
+        (None, None) => false,
+        _ => true,
+    }
+}
+
+/// Notes a change, if one is wanted, in the room that was taken for it.
+pub fn note(changes: &mut Vec<Change>, wanted: bool, change: Change)
     requires { vec_len changes.old < vec_capacity changes.old }
-    ensures noted { changes.new.items ≡ changes.old.items ++ change ∷ [] }
+    ensures noted { changes.new.items ≡ with_notes wanted (change ∷ []) changes.old.items }
     ensures room { vec_capacity changes.old ≤ vec_capacity changes.new }
 {
+    if !wanted {
+        return;
+    }
     match changes.push(change) {
         Ok(()) => {}
         Err(_) => unreachable!(),
     }
 }
 
-/// Notes a change for each amount of a run in the room that was taken for them.
-pub fn note_run(changes: &mut Vec<Change>, id: SlotId, run: &[(u32, u64)])
+/// Notes a change for each amount of a run, if they are wanted, in the room that was taken for them.
+pub fn note_run(changes: &mut Vec<Change>, wanted: bool, id: SlotId, run: &[(u32, u64)])
     requires { vec_len changes.old + length run.now ≤ vec_capacity changes.old }
-    ensures noted { changes.new.items ≡ changes.old.items ++ counted_each id run.now }
+    ensures noted { changes.new.items ≡ with_notes wanted (counted_each id run.now) changes.old.items }
     ensures room { vec_capacity changes.old ≤ vec_capacity changes.new }
 {
+    if !wanted {
+        return;
+    }
     for i in 0..run.len() {
         let (bin, amount) = run[i];
-        note(changes, Change::Counted(id, bin, amount));
+        note(changes, true, Change::Counted(id, bin, amount));
     }
 }

@@ -8,7 +8,7 @@ ghost use Rattle.node_arena.specs.Calls.{add_node, add_table, copy_slot, put_chi
 ghost use Rattle.node_arena.specs.Stats.{stat_of, AllRising, TellsStat};
 ghost use Rattle.arena_undo.specs.Worked.{begun, changed, changed_by};
 
-use crate::change::{Change, note, note_run, take_change_back};
+use crate::change::{Change, is_new_content, is_old, note, note_run, take_change_back};
 use cube_view::Stat;
 use node_arena::{Arena, Link, SlotId};
 use probe_core::Steps;
@@ -18,16 +18,19 @@ use std::sync::ledger::Ledger;
 use texts::NoMemory;
 use time_table::TimeTable;
 
-/// An arena, and a trail of the changes that were made on it, with room for a number of them.
+/// An arena, and a trail of the changes that were made on it, with room for a number of them. The trail has those of
+/// the slots that stood at the beginning, the `first` ones. All others are `made` too, and take no room of the trail.
 #[derive(Drop)]
 pub struct Work {
     arena: Arena,
     changes: Vec<Change>,
+    first: usize,
+    made: usize,
     room: usize,
 }
 
 impl Model for Work {
-    ghost use Rattle.std.specs.Prelude.{length};
+    ghost use Rattle.std.specs.Prelude.{take};
     ghost use Rattle.std.specs.Vec.{vec_capacity};
     ghost use Rattle.std.specs.Coded.{codes};
     ghost use Rattle.node_arena.specs.Slots.{counts_code};
@@ -40,9 +43,9 @@ impl Model for Work {
     ghost use Rattle.arena_undo.specs.Undone.{undone};
     ghost use Rattle.arena_undo.specs.Trail.{IsChangeTrail};
 
-    ghost view = { λ w. record { slots = w.arena; start = undone w.changes.items w.arena; made = length w.changes.items; room = w.room } };
+    ghost view = { λ w. record { slots = w.arena; start = undone w.changes.items (take w.first w.arena); made = w.made; room = w.room } };
 
-    ghost invariant = { λ w. IsChangeTrail w.arena w.changes.items w.room (vec_capacity w.changes) };
+    ghost invariant = { λ w. IsChangeTrail w.arena w.changes.items w.first w.made w.room (vec_capacity w.changes) };
 }
 
 impl Work {
@@ -51,10 +54,13 @@ impl Work {
         ensures begun { IfOk result (λ work. work ≡ begun arena room) }
         ensures back { IfErr result (λ again. again ≡ arena) }
     {
+        let first = arena.len();
         match Vec::with_capacity(alloc, room) {
             Ok(changes) => Ok(Work {
                 arena,
                 changes,
+                first,
+                made: 0,
                 room,
             }),
             Err(_) => Err(arena),
@@ -70,8 +76,15 @@ impl Work {
         if self.changes.try_reserve(more).is_err() {
             return Err(NoMemory);
         }
-        self.room = self.changes.capacity();
-        Ok(())
+        // No memory holds so many changes that the sum has no number.
+        let free = self.changes.capacity() - self.changes.len();
+        match self.made.checked_add(free) {
+            Some(room) => {
+                self.room = room;
+                Ok(())
+            }
+            None => Err(NoMemory),
+        }
     }
 
     /// The arena as it is.
@@ -81,6 +94,8 @@ impl Work {
         let Work {
             arena,
             changes: _,
+            first: _,
+            made: _,
             room: _,
         } = self;
         arena
@@ -93,8 +108,11 @@ impl Work {
         let Work {
             mut arena,
             mut changes,
+            first,
+            made: _,
             room: _,
         } = self;
+        arena.cut(first);
         while let Some(change) = changes.pop() {
             take_change_back(&mut arena, change);
         }
@@ -109,7 +127,7 @@ impl Work {
         ensures unchanged { OnErr result (self.new ≡ self.old) }
     {
         let id = self.arena.add_node()?;
-        note(&mut self.changes, Change::Added);
+        self.made += 1;
         Ok(id)
     }
 
@@ -121,7 +139,7 @@ impl Work {
         ensures unchanged { OnErr result (self.new ≡ self.old) }
     {
         let id = self.arena.add_table()?;
-        note(&mut self.changes, Change::Added);
+        self.made += 1;
         Ok(id)
     }
 
@@ -134,7 +152,7 @@ impl Work {
         ensures unchanged { OnErr result (self.new ≡ self.old) }
     {
         let copy = self.arena.copy_slot(id)?;
-        note(&mut self.changes, Change::Added);
+        self.made += 1;
         Ok(copy)
     }
 
@@ -148,7 +166,9 @@ impl Work {
         ensures unchanged { OnErr result (self.new ≡ self.old) }
     {
         self.arena.put_child(id, label, link)?;
-        note(&mut self.changes, Change::Put(id, label));
+        self.made += 1;
+        let wanted = is_old(id, self.first);
+        note(&mut self.changes, wanted, Change::Put(id, label));
         Ok(())
     }
 
@@ -162,7 +182,9 @@ impl Work {
         ensures set { self.new ≡ changed self.old (set_child self.old.slots id.0 label link) }
     {
         let old = self.arena.set_child(id, label, link);
-        note(&mut self.changes, Change::Relinked(id, label, old));
+        self.made += 1;
+        let wanted = is_old(id, self.first);
+        note(&mut self.changes, wanted, Change::Relinked(id, label, old));
         old
     }
 
@@ -175,7 +197,9 @@ impl Work {
         ensures set { self.new ≡ changed self.old (set_content self.old.slots id.0 link) }
     {
         let old = self.arena.set_content(id, link);
-        note(&mut self.changes, Change::Filled(id, old));
+        self.made += 1;
+        let wanted = is_new_content(id, self.first, old, link);
+        note(&mut self.changes, wanted, Change::Filled(id, old));
         old
     }
 
@@ -205,7 +229,9 @@ impl Work {
         ensures was_counted { AllCounted (counts_of (slot_of self.old.slots id.0)) }
     {
         self.arena.table_add_many(id, bin, amount)?;
-        note(&mut self.changes, Change::Counted(id, bin, amount));
+        self.made += 1;
+        let wanted = is_old(id, self.first);
+        note(&mut self.changes, wanted, Change::Counted(id, bin, amount));
         Ok(())
     }
 
@@ -221,7 +247,9 @@ impl Work {
         ensures unchanged { OnErr result (self.new ≡ self.old) }
     {
         self.arena.table_add_run(id, run)?;
-        note_run(&mut self.changes, id, run);
+        self.made += run.len();
+        let wanted = is_old(id, self.first);
+        note_run(&mut self.changes, wanted, id, run);
         Ok(())
     }
 

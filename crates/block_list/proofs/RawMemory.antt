@@ -1,4 +1,5 @@
--- What a block's memory owns and what a `&` to it reaches, taken apart and put together, for the walks of `raw`. Assumes `Logic`.
+-- What a block's memory owns and what a `&` to it reaches, taken apart and put together, for the walks of `raw`.
+-- Assumes `Logic`.
 use Rattle.std.proofs.Common.{◌≡◌, refl, sym, ap, ◌∙◌, ℕ, zero, suc, ◌+◌, ◌-◌, ◌*◌, ◌^◌, ◌<◌, List, [], ◌∷◌, ◌++◌, length, get_or, arith}
 use seplogic.Ra.Ura.{Ura}
 use base.Fraction.{full_share}

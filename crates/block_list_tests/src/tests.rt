@@ -61,6 +61,36 @@ fn drops_each_item_once_wherever_it_is_cut(rt: HostRuntime) {
     }
 }
 
+/// How many of 130 items are dropped by a cut to 64, where a push puts one more, and how many are dropped with the
+/// list.
+fn counts_with_a_push_behind_a_cut(alloc: Global) -> Option<(u64, usize, u64)> {
+    let drops = AtomicU64::new(0);
+    let mut list = BlockList::new(alloc);
+    for _ in 0..130 {
+        if list.push(Counted { drops: &drops }).is_err() {
+            return None;
+        }
+    }
+    if list.len() != 130 {
+        return None;
+    }
+    list.cut(64);
+    let cut = drops.load(Ordering::SeqCst);
+    let Ok(place) = list.push(Counted { drops: &drops }) else {
+        return None;
+    };
+    drop(list);
+    Some((cut, place, drops.load(Ordering::SeqCst)))
+}
+
+#[test]
+fn drops_what_is_pushed_behind_a_cut(rt: HostRuntime) {
+    assert_eq!(rt;
+        counts_with_a_push_behind_a_cut(rt.alloc()),
+        Some((66, 64, 131))
+    );
+}
+
 /// Pushes a number, and again where that is refused, with the list as before.
 fn push_again(list: &mut BlockList<u64>, number: u64) -> bool {
     let len = list.len();

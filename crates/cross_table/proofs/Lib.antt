@@ -1,7 +1,7 @@
-mod Pairs
+pub mod Pairs
 mod RowCosts
 mod RowsByTotal
 mod RowSums
 mod Tables
 mod Topmost
-mod Tops
+pub mod Tops

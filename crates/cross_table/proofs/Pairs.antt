@@ -112,7 +112,8 @@ module _ (z : Schema) (q : Query) (h : List Point) (k l v w : ℕ) (has : HasBox
       let other = second.0 in
       total_value z (with_value (box q) k v) l w h (omega (arith, four, few, other))
 
-  -- a first value that the query asks for, where its choice was looked up: the query with it alone, and the second value
+  -- a first value that the query asks for, where its choice was looked up: the query with it alone, and the second
+  -- value
   pub pair_asked : (d : Choice) → chosen (get_or q.sets k d) v ≡ true → total z (with_value (box (with_one_value q k v)) l w) h ≡ pair_total z q h k l v w
   pair_asked d found =
       let alone = with_one_value q k v in

@@ -60,7 +60,8 @@ number_of_values schema k = length (values_at schema.categories k)
 pub texts_counted : (y z : Schema) (k : ℕ) (texts : List (List ℕ)) → y ≡ z → texts ≡ values_at y.categories k → length texts ≡ number_of_values z k
 texts_counted y z k texts same found = ap length found ∙ ap (λ (x : Schema). number_of_values x k) same
 
--- where a loop through a category's values, whose texts were looked up, ends at value n, what it took is within what all take
+-- where a loop through a category's values, whose texts were looked up, ends at value n, what it took is within what
+-- all take
 pub paid_to_value : (y z : Schema) (k : ℕ) (texts : List (List ℕ)) (cost : ℕ → ℕ) (n start old new : ℕ) → y ≡ z → texts ≡ values_at y.categories k → n < length texts
     → old ≤ start + sum_by cost (values_under n) → new ≤ old + cost n → new ≤ start + sum_by cost (values_under (number_of_values z k))
 paid_to_value y z k texts cost n start old new same found lt so_far step =

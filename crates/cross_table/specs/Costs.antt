@@ -1,5 +1,5 @@
--- How many steps a cross table and the best tiles take at most, by the costs that a view gives its addresses and the list
--- that it counts.
+-- How many steps a cross table and the best tiles take at most, by the costs that a view gives its addresses and the
+-- list that it counts.
 use Rattle.std.specs.Prelude.{ℕ, ◌+◌, List}
 use Rattle.std.specs.List.{sum_by}
 use Rattle.cube_view.specs.Costs.{ViewCosts}

@@ -29,8 +29,9 @@ fn row_weight(row: &RowOut) -> u64
     }
 }
 
-/// The first so many rows in the order of their totals, the greatest first and equal ones as they stood.
-fn first_by_total(rows: List<RowOut>, count: usize) -> Result<List<RowOut>, NoMemory>
+/// The first so many rows in the order of their totals, the greatest first and equal ones as they stood. `NoMemory`
+/// where the sort finds no room.
+pub fn first_by_total(rows: List<RowOut>, count: usize) -> Result<List<RowOut>, NoMemory>
     ensures { IfOk result (λ first. IsFirstByTotal rows count first) }
 {
     let mut rows = rows.into_vec();
@@ -43,8 +44,8 @@ fn first_by_total(rows: List<RowOut>, count: usize) -> Result<List<RowOut>, NoMe
     }
 }
 
-/// The table of the tiles so many levels below the query's region that have the greatest totals, over any list of points
-/// that the view counts: at most as many rows as the query says. `NoMemory` where the map's rows find no room.
+/// The table of the tiles so many levels below the query's region that have the greatest totals, over any list of
+/// points that the view counts: at most as many rows as the query says. `NoMemory` where the map's rows find no room.
 pub fn best_answer<V: CubeView, L: Ledger>(
     alloc: Global,
     view: &V,

@@ -49,8 +49,9 @@ fn text_of(alloc: Global, schema: &Schema, of: CategoryValue) -> Result<Text, No
     texts[usize::from(of.value)].copy(alloc)
 }
 
-/// How much the bag has in the query's box that has both values, where the walk to the region has ended with that cursor,
-/// or with none. `alone` is the query with the first value alone in its set, which all rows within that value share.
+/// How much the bag has in the query's box that has both values, where the walk to the region has ended with that
+/// cursor, or with none. `alone` is the query with the first value alone in its set, which all rows within that value
+/// share.
 fn total_of_pair<V: CubeView, L: Ledger>(
     view: &V,
     query: &Query,
@@ -170,8 +171,8 @@ fn cross_rows<V: CubeView, L: Ledger>(
     Ok(rows)
 }
 
-/// The query's cross table, over any list of points that the view counts: a row for each value of the first category and,
-/// within it, each value of the second. `NoMemory` where the rows find no room.
+/// The query's cross table, over any list of points that the view counts: a row for each value of the first category
+/// and, within it, each value of the second. `NoMemory` where the rows find no room.
 pub fn cross_answer<V: CubeView, L: Ledger>(
     alloc: Global,
     view: &V,

@@ -28,8 +28,8 @@ fn tile_of(number: u32) -> Tile
     }
 }
 
-// What a view answers on a way: the next labels at the tile from three labels on, if it has quadrants and the view a spot
-// in it, and the totals before four ends, if the view has a table on the way.
+// What a view answers on a way: the next labels at the tile from three labels on, if it has quadrants and the view a
+// spot in it, and the totals before four ends, if the view has a table on the way.
 #[derive(Clone, Copy, PartialEq, Eq, Debug)]
 struct Answers {
     labels: [Option<u8>; 3],

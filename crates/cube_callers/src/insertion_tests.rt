@@ -52,6 +52,25 @@ fn shares_contents_until_two_points_part(rt: HostRuntime) -> Result<(), Fail> {
     Ok(())
 }
 
+/// The point with that weight.
+fn weighing(point: Point, weight: u32) -> Point {
+    Point {
+        spot: point.spot,
+        weight,
+    }
+}
+
+#[test]
+fn weights_change_no_number_of_the_structure(rt: HostRuntime) -> Result<(), Fail> {
+    let schema = schema_of_kinds(rt.alloc())?;
+    let steps = [
+        after(weighing(point(0, 0, 0, 0), 5), [6, 6, 4, 1]),
+        after(weighing(point(7, 7, 1, 1), 2), [13, 16, 7, 4]),
+    ];
+    check(&rt, rt.alloc(), schema, &steps)?;
+    Ok(())
+}
+
 // The third point lies at a slot that it shares, and which is copied before it is counted there.
 #[test]
 fn copies_a_shared_slot_that_holds_the_point(rt: HostRuntime) -> Result<(), Fail> {
@@ -145,8 +164,8 @@ fn counts_the_corners_of_the_deepest_schema(rt: HostRuntime) -> Result<(), Fail>
     Ok(())
 }
 
-// Each allocation of the last insertion is made to fail in turn by hand. Then the cube is as before, and takes the point
-// when it is asked again.
+// Each allocation of the last insertion is made to fail in turn by hand. Then the cube is as before, and takes the
+// point when it is asked again.
 #[test]
 fn a_refused_insertion_changes_nothing(rt: HostRuntime) -> Result<(), Fail> {
     let mut cube = Cube::new(rt.alloc(), schema_of_kinds(rt.alloc())?)?;
@@ -167,10 +186,10 @@ fn a_refused_insertion_changes_nothing(rt: HostRuntime) -> Result<(), Fail> {
     Ok(())
 }
 
-// Space has the root and a chain of three nodes for each corner, 7 nodes. Each of the three contents has a node of kinds,
-// and the two of the corners have a value's node: 5 nodes. A table counts each content, 3. All slots but the root have a
-// proper link, 14. Shared are the contents of the upper two nodes of each chain and those of the corners' kinds, 6, and at
-// the root the two values, each of which is in one corner alone. One by one these points leave others.
+// Space has the root and a chain of three nodes for each corner, 7 nodes. Each of the three contents has a node of
+// kinds, and the two of the corners have a value's node: 5 nodes. A table counts each content, 3. All slots but the
+// root have a proper link, 14. Shared are the contents of the upper two nodes of each chain and those of the corners'
+// kinds, 6, and at the root the two values, each of which is in one corner alone. One by one these points leave others.
 #[test]
 fn takes_a_batch_as_one_group(rt: HostRuntime) -> Result<(), Fail> {
     let mut cube = Cube::new(rt.alloc(), schema_of_kinds(rt.alloc())?)?;

@@ -1,5 +1,5 @@
-//! Tests. Counts over a cube of many records, and how many steps they take; cubes beside plain cubes of the same points, at
-//! every address; and how many nodes, tables and links a cube of a few points has.
+//! Tests. Counts over a cube of many records, and how many steps they take; cubes beside plain cubes of the same
+//! points, at every address; and how many nodes, tables and links a cube of a few points has.
 //!
 //! Each clause is proved from those of `cube_store` and `query_walk` alone, so the crate shows that they suffice for a
 //! number that speaks of values and bins, and of no records. All of it is tests. What other queries cost is left to the

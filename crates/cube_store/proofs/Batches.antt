@@ -1,11 +1,8 @@
 -- Points that slots count, one behind the other, and in any order.
-use Rattle.std.proofs.Common.{◌≡◌, ℕ, ◌+◌, ◌<◌, IsTrue, List, [], ◌∷◌, ◌++◌, length, take, get_or, sym, subst, subst₂, arith, append-nil, append_assoc, add-zero}
+use Rattle.std.proofs.Common.{◌≡◌, ℕ, ◌+◌, IsTrue, List, [], ◌++◌, length, refl, sym, subst, subst₂, arith, append-nil, add-zero}
 use Rattle.std.proofs.Math.Logic.{∥∥₁_map}
-use Rattle.std.proofs.lemmas.Grind.{take_at_read}
-use Rattle.std.proofs.lemmas.List.{length-take-le, length_push}
 use Rattle.std.proofs.lemmas.List.Sorted.{All-permutation, Contains-permutation, IsPermutation-append_right, IsPermutation-map, IsPermutation-sym, length_permutation, sum_by-IsPermutation}
 use Rattle.std.specs.List.Sorted.{IsPermutation}
-use Rattle.cube_view.specs.Bag.{most_points}
 use Rattle.cube_view.specs.Places.{time_dim}
 use Rattle.cube_view.specs.Points.{Point, spot_of}
 use Rattle.cube_view.specs.Validity.{sound}
@@ -14,8 +11,7 @@ use Rattle.node_arena.specs.Amounts.{Weighted, spots_in}
 use Rattle.node_arena.specs.Slots.{Slot}
 use Rattle.proper_path.specs.Paths.{point_path, paths_of}
 use Rattle.cube_store.specs.Counted.{AddsPoints, CountsPoints, HasPoints}
-use Rattle.cube_store.specs.Inserting.{Inserts}
-use Rattle.cube_store.proofs.PointLists.{adds_under, counts_joined, shape_same}
+use Rattle.cube_store.proofs.PointLists.{adds_under, shape_same}
 
 -- slots that count a list count it in each order
 pub counts_permuted : (z : Schema) (slots : List Slot) (root size : ℕ) (h k : List Point) → IsPermutation h k → CountsPoints z slots root size h → CountsPoints z slots root size k
@@ -34,6 +30,11 @@ counts_permuted z slots root size h k P C =
       all_four = All-permutation (λ p. length (spot_of p).values ≡ 4) h k P C.all_four;
       number = let n = C.number in let l = length_permutation h k P in omega (arith, n, l);
     }
+
+-- by the same homes
+pub counts_permuted-homes : (z : Schema) (slots : List Slot) (root size : ℕ) (h k : List Point) (P : IsPermutation h k) (C : CountsPoints z slots root size h) → (counts_permuted z slots root size h k P C).homes ≡ C.homes
+unfolding counts_permuted
+counts_permuted-homes z slots root size h k P C = refl
 
 -- no points more
 pub adds_none : (z : Schema) (slots : List Slot) (root size : ℕ) → AddsPoints z root size [] slots slots

@@ -1,4 +1,5 @@
--- How many different numbers lists have that have the same numbers, and which numbers stand in lists of points and of entries.
+-- How many different numbers lists have that have the same numbers, and which numbers stand in lists of points and of
+-- entries.
 use Rattle.std.proofs.Common.{◌≡◌, ℕ, suc, ◌+◌, ◌<◌, ◌≤◌, Bool, true, false, cond, ◌&&◌, ◌||◌, eqb, ltb, List, [], ◌∷◌, All, map, filter, Option, Some, is_some, unwrap_or, refl, sym, ◌∙◌, ap, ap₂, arith}
 use Rattle.std.specs.FinMap.Entries.{find}
 use Rattle.std.specs.FinMap.{entries, get-entries, entries_sorted}

@@ -8,10 +8,10 @@ use Rattle.cube_view.specs.Walks.{Step, down, SpotPath, dimension}
 use Rattle.cube_view.specs.declared.schema.Schema.{Schema}
 use Rattle.node_arena.specs.declared.link.Link.{Link}
 use Rattle.node_arena.specs.Shape.{home_of, HasShape}
-use Rattle.node_arena.specs.Slots.{Slot, empty_node, link_of, slot_of, is_table}
+use Rattle.node_arena.specs.Slots.{Slot, proper, empty_node, link_of, slot_of, is_table}
 use Rattle.node_arena.proofs.Links.{linked-lt}
 use Rattle.proper_path.proofs.Grow.{node_empty}
-use Rattle.cube_store.specs.Counted.{CountsPoints}
+use Rattle.cube_store.specs.Counted.{CountsLeast, CountsPoints}
 
 root_alone : List Slot
 root_alone = empty_node ∷ []
@@ -73,4 +73,11 @@ counts_none z slots root e top = record {
   all_sound = All-nil (λ p. IsTrue (sound z p));
   all_four = All-nil (λ p. length (spot_of p).values ≡ 4);
   number = refl;
+}
+
+-- and it is the least cube of none, since it has no link
+pub least_none_counted : (z : Schema) (slots : List Slot) (root : ℕ) → slots ≡ empty_node ∷ [] → root ≡ 0 → CountsLeast z slots root 0 []
+least_none_counted z slots root e top = record {
+  counts = counts_none z slots root e top;
+  least = λ i j step is F. no_link i step (proper j) (subst (λ (s : List Slot). link_of s i step ≡ Some (proper j)) e is);
 }

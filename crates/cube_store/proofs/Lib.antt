@@ -18,3 +18,4 @@ pub mod TableTotals
 pub mod WalkCosts
 pub mod Whole
 pub mod Groups
+pub mod LeastCubes

@@ -1,5 +1,5 @@
 -- Lists of pairs whose numbers rise: the test of it, and how many different numbers they have.
-use Rattle.std.proofs.Common.{◌≡◌, ℕ, suc, ◌<◌, Bool, true, false, eqb, T, List, [], ◌∷◌, All, length, get_or, map, refl, ◌∙◌, arith}
+use Rattle.std.proofs.Common.{◌≡◌, ℕ, suc, ◌<◌, Bool, true, eqb, List, [], ◌∷◌, All, length, get_or, map, refl, ◌∙◌, arith}
 use Rattle.std.specs.FinMap.Entries.{is_sorted, below_all}
 use Rattle.std.specs.List.{AllPairs, list_all}
 use Rattle.std.specs.Ordering.{nat_cmp, is_lt}

@@ -1,14 +1,13 @@
 -- An insertion at the root takes a cube's shape over h to one over p ∷ h.
 use Rattle.std.proofs.Common.{◌≡◌, ℕ, Bool, true, false, cond, eqb, ◌⊎◌, inl, inr, List, [], ◌∷◌, Some, refl, sym, ap, ◌∙◌, subst, true≢false, eq-eqb, ne_eqb, eqb-true}
 use Rattle.std.proofs.lemmas.Bool.{cases_eq}
-use Rattle.cube_view.specs.Walks.{down, across, Walk, under, Under, HasSpot}
+use Rattle.cube_view.specs.Walks.{down, across, Walk, under, Under}
 use Rattle.proper_path.specs.Order.{IsAbove, itself, further}
 use Rattle.node_arena.specs.declared.link.Link.{Link}
 use Rattle.node_arena.specs.Slots.{target, shared, proper, Slot, node, table, child, link, link_of, slot_of}
-use Rattle.node_arena.specs.Shape.{home_of, IsLinked, SharesContent, SharesOnlyContent, IsShaped, AreAlike, HasShape}
+use Rattle.node_arena.specs.Shape.{SharesContent, SharesOnlyContent, IsShaped, AreAlike, HasShape}
 use Rattle.proper_path.specs.Midway.{SharesBetween, HasTwoChildren, HaveTwoChildren, DoneBefore, DoneAfter, IsMidway}
 use Rattle.proper_path.specs.Making.{State, home, AllOfShape}
-use Rattle.cube_view.proofs.FinerWalks.{under_before}
 use Rattle.node_arena.proofs.Links.{linked-lt}
 use Rattle.point_insert.proofs.Cases.{HasAnyChild, starts, shape_ends, old_child}
 use Rattle.proper_path.proofs.Steps.{Between}

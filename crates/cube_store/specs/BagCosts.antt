@@ -22,7 +22,8 @@ labels_below schema a h = distinct_count eqb (map (λ p. label_of schema (spot_o
 abbrev pub bins_under : Schema → Address → List Point → ℕ
 bins_under schema a h = distinct_count eqb (map (λ p. (spot_of p).bin) (weighing_under schema a h))
 
--- the costs that a list's bag gives: a node and a search of the labels, and a table and a search of the bins, or a look at each
+-- the costs that a list's bag gives: a node and a search of the labels, and a table and a search of the bins, or a look
+-- at each
 abbrev pub bag_costs : Schema → List Point → ViewCosts
 bag_costs schema h = record {
   down_cost = λ a. 1 + bits (labels_below schema a h);

@@ -7,13 +7,17 @@ use Rattle.cube_view.specs.Points.{Point, spot_of}
 use Rattle.cube_view.specs.declared.address.Address.{Address}
 use Rattle.cube_view.specs.declared.schema.Schema.{Schema}
 use Rattle.cube_store.specs.BagCosts.{AreBagCosts, bag_costs, bins_under, labels_below}
-use Rattle.cube_store.specs.Counted.{CountsPoints}
+use Rattle.cube_store.specs.Counted.{CountsLeast, CountsPoints}
 use Rattle.cube_store.specs.Reading.{IsWalkAddress, spot_weight, cube_costs}
 use Rattle.cube_store.specs.declared.cube.Cube.{Cube}
 
 -- the cube counts the points of the list
 abbrev pub CubeCounts : Cube → List Point → Type 0
 CubeCounts cube h = CountsPoints cube.schema cube.arena cube.root.0 cube.size h
+
+-- the cube is the least one that counts the points of the list
+abbrev pub IsLeastCubeOf : Cube → List Point → Type 0
+IsLeastCubeOf cube h = CountsLeast cube.schema cube.arena cube.root.0 cube.size h
 
 -- the costs of a cube are numbers of each list that its bag counts
 abbrev pub TellsCosts : Type 0

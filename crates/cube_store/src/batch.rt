@@ -1,11 +1,11 @@
 //! How a cube takes the points of a batch: as one group, all or none.
 ghost use Rattle.std.specs.Prelude.{◌≡◌, ◌+◌, ◌≤◌, length, All, IsTrue, IfOk, IfErr, OnOk};
-ghost use Rattle.std.specs.List.Sorted.{IsPermutation};
+ghost use Rattle.std.specs.List.Sorted.{IsNonDecreasingBy, IsPermutation};
 ghost use Rattle.cube_view.specs.Bag.{most_points};
 ghost use Rattle.cube_view.specs.Points.{spot_of};
 ghost use Rattle.cube_view.specs.Validity.{sound};
 ghost use Rattle.arena_undo.specs.Worked.{Worked};
-ghost use Rattle.cube_store.specs.Counted.{AddsPoints, HasPoints};
+ghost use Rattle.cube_store.specs.Counted.{AddsLeast, AddsPoints, HasPoints};
 
 use crate::cube::tell_length;
 use arena_undo::Work;
@@ -15,10 +15,11 @@ use node_arena::{Arena, SlotId};
 use std::alloc::Global;
 use texts::NoMemory;
 
-/// The points in rising order of bin: a part of a group has its points in the order of the group, and a time table takes
-/// bins that rise at its end.
+/// The points in rising order of bin: a part of a group has its points in the order of the group, and a time table
+/// takes bins that rise at its end.
 pub fn in_order(alloc: Global, points: &[Point]) -> Result<Vec<Point>, NoMemory>
-    ensures { IfOk result (λ sorted. IsPermutation points.now sorted.items) }
+    ensures points { IfOk result (λ sorted. IsPermutation points.now sorted.items) }
+    ensures order { IfOk result (λ sorted. IsNonDecreasingBy (λ p. (spot_of p).bin) sorted.items) }
 {
     let mut sorted = Vec::from_slice(alloc, points)?;
     sorted.sort_by_key(|point| point.spot.bin)?;
@@ -48,6 +49,7 @@ fn add_all(
     requires few { size + length points.now ≤ most_points }
     requires counted { HasPoints schema.now work.old.slots root.0 size }
     ensures added { OnOk result (AddsPoints schema.now root.0 size points.now work.old.slots work.new.slots) }
+    ensures least { OnOk result (AddsLeast schema.now root.0 size points.now work.old.slots work.new.slots) }
     ensures start { work.new.start ≡ work.old.start }
 {
     if points.is_empty() {
@@ -70,6 +72,7 @@ pub fn insert_group(
     requires few { size + length points.now ≤ most_points }
     requires counted { HasPoints schema.now arena root.0 size }
     ensures added { IfOk result (λ again. AddsPoints schema.now root.0 size points.now arena again) }
+    ensures least { IfOk result (λ again. AddsLeast schema.now root.0 size points.now arena again) }
     ensures back { IfErr result (λ again. again ≡ arena) }
 {
     // Room for changes is taken visit by visit: a bound for a whole group is far more than is changed.

@@ -37,12 +37,14 @@ pub struct Cube {
 
 impl Cube {
     ghost use Rattle.cube_view.specs.Bag.{Counts};
-    ghost use Rattle.cube_store.specs.Holding.{CubeCounts};
+    ghost use Rattle.cube_store.specs.Counted.{GoAsGroup};
+    ghost use Rattle.cube_store.specs.Holding.{CubeCounts, IsLeastCubeOf};
 
     /// A cube of no points: one root.
     pub fn new(alloc: Global, schema: Schema) -> Result<Cube, NoMemory>
         ensures schema { IfOk result (λ cube. cube.schema ≡ schema) }
         ensures empty { IfOk result (λ cube. CubeCounts cube []) }
+        ensures least { IfOk result (λ cube. IsLeastCubeOf cube []) }
         ensures counted { IfOk result (λ cube. Counts (⟦<Cube as CubeView>⟧.weight_at cube) (⟦<Cube as CubeView>⟧.seen cube) []) }
     {
         let mut arena = Arena::new(alloc);
@@ -97,17 +99,23 @@ impl Cube {
         }
     }
 
-    /// Adds sound points, all or none. After want of memory the arena, the root and the size are as before.
+    /// Adds sound points, all or none. After want of memory the arena, the root and the size are as before. A single
+    /// point goes by the five cases where a batch of the schema has one. Else the points are a group, and keep a least
+    /// cube least.
     pub fn insert_all(&mut self, points: &[Point]) -> Result<(), NoMemory>
         requires sound { All (λ p. IsTrue (sound self.old.schema p)) points.now }
         requires room { self.old.size + length points.now ≤ most_points }
         ensures counted { OnOk result (CountsMore (CubeCounts self.old) (CubeCounts self.new) points.now) }
+        ensures least { OnOk result (GoAsGroup self.old.schema points.now → CountsMore (IsLeastCubeOf self.old) (IsLeastCubeOf self.new) points.now) }
         ensures unchanged { OnErr result ((self.new.arena ≡ self.old.arena) × (self.new.root ≡ self.old.root) × (self.new.size ≡ self.old.size)) }
         ensures schema { self.new.schema ≡ self.old.schema }
     {
-        // One point is inserted by the five cases: the numbers of a cube of single points are those of docs/CUBE.md.
+        // One point is inserted by the five cases where each batch has one: these cubes have the numbers of
+        // docs/CUBE.md.
         if let [point] = points {
-            return self.insert(*point);
+            if self.schema.batch == 1 {
+                return self.insert(*point);
+            }
         }
         let sorted = in_order(self.alloc, points)?;
         let arena = replace(&mut self.arena, Arena::new(self.alloc));

@@ -1,5 +1,5 @@
 -- The visit of a node for a group: its content, its labels one after the other, and its end.
-use Rattle.std.proofs.Common.{◌≡◌, ℕ, ◌+◌, ◌<◌, ◌≤◌, false, ◌⊎◌, inl, inr, List, [], ◌∷◌, ◌++◌, Option, Some, None, Contains, length, refl, sym, ap, ◌∙◌, subst, arith}
+use Rattle.std.proofs.Common.{◌≡◌, ℕ, ◌+◌, ◌<◌, ◌≤◌, false, true≢false, ◌⊎◌, inl, inr, List, [], ◌∷◌, ◌++◌, Option, Some, None, Contains, length, refl, sym, ap, ◌∙◌, subst, arith}
 use Rattle.std.proofs.lemmas.Bool.{cases_eq, cases_lt}
 use Rattle.std.proofs.lemmas.List.{get_or_push, length_push}
 use Rattle.std.proofs.lemmas.List.Elements.{All-contains}
@@ -18,6 +18,7 @@ use Rattle.proper_path.proofs.Order.{above-length}
 use Rattle.proper_path.proofs.Steps.{keeps-refl, keeps-trans, keeps_less, IsPlaced, makes_placed}
 use Rattle.group_insert.specs.Halfway.{LeadsRight, WillHaveTwo, IsHalfwayBefore, IsHalfwayAfter}
 use Rattle.group_insert.specs.Later.{PutOff, link_address, IsPutOff, IsPut}
+use Rattle.group_insert.specs.LeastSoFar.{BegunBefore, BegunAt, BegunAfter, IsLeastSoFar, NeedsOwn}
 use Rattle.group_insert.specs.Turns.{EndedBefore, EndedAfter, IsOpenAbove}
 use Rattle.group_insert.specs.Visits.{ArePoints, HasVisitedAll, IsLabelOf, HasTwoLabels, HasOneLabel, HasNoLabel, TellsLabels, HasContentFor, PutsBelow, IsGone, IsAmong}
 use Rattle.group_insert.proofs.Earlier.{earlier-irreflexive}
@@ -27,6 +28,9 @@ use Rattle.group_insert.proofs.Growth.{halfway_made}
 use Rattle.group_insert.proofs.SameState.{halfway_same}
 use Rattle.group_insert.proofs.OneChild.{one_child_free}
 use Rattle.group_insert.proofs.PutBelow.{no_more, one_more, puts_less, puts_on, put_stays, none_at}
+use Rattle.least_cube.specs.Least.{HasFiner}
+use Rattle.group_insert.proofs.LeastKept.{least_begun, least_made, home_least, begun_content, begun_labels, begun_past_content, begun_over, begun_label, begun_past, begun_ends}
+use Rattle.group_insert.proofs.LeastNode.{needs_content}
 use Rattle.group_insert.proofs.NextVisit.{begins_content, begins_labels, content_to_labels, over_labels, past_label}
 
 before_step : (g : List Weighted) (e : Step) (a : Walk) → HasSpot (spots_in g) (e ∷ a) → HasSpot (spots_in g) a
@@ -47,6 +51,7 @@ among_one dims h g slots homes put i l P lt w O M = record {
   kids = λ n x. x;
   labels = λ n x. inl x;
   content = free;
+  least = λ L N. least_begun slots homes h g (BegunAt (home_of homes i)) (BegunBefore (down 0 ∷ home_of homes i)) (begun_labels 0) L;
 }
   where
     free : IsFree slots i across
@@ -71,8 +76,15 @@ among_content dims h g old mid new homes homes' before after i j lt M mk V = rec
   kids = λ n x. record { link = x.link; is = same n ∙ x.is };
   labels = λ n x. inl (record { link = x.link; is = sym (same n) ∙ x.is });
   content = (j, V.keeps.links i across lt_mid outside ∙ m.link);
+  least = λ L N. least_begun new V.homes' h g (BegunAfter (across ∷ home_of homes i)) (BegunBefore (down 0 ∷ home_of homes i)) (begun_past_content 0)
+      (subst (λ z. IsLeastSoFar new V.homes' h g (BegunAfter z)) m.at_home (V.least (subst (λ z. IsLeastSoFar mid homes' h g (BegunAt z)) (sym m.at_home) (made L N))));
 }
   where
+    made : IsLeastSoFar old homes h g (BegunAt (home_of homes i)) → NeedsOwn homes h g i None → IsLeastSoFar mid homes' h g (BegunAt (across ∷ home_of homes i))
+    made L N = least_made dims h g before (BegunAt (across ∷ home_of homes i)) (state old homes []) (state mid homes' []) i j across
+        (halfway_same dims old homes h g (EndedBefore g (home_of homes i)) (IsOpenAbove (home_of homes i)) (EndedBefore g (across ∷ home_of homes i)) (IsOpenAbove (across ∷ home_of homes i)) before (begins_content old homes g (home_of homes i)) M)
+        lt (inr itself) (λ n F. N.content refl F) mk (least_begun old homes h g (BegunAt (home_of homes i)) (BegunAt (across ∷ home_of homes i)) begun_content L)
+
     m : IsPlaced dims (state old homes []) i across j (state mid homes' [])
     m = makes_placed dims (state old homes []) (state mid homes' []) i j across M.has_homes M.has_tables mk
 
@@ -101,8 +113,8 @@ label_at_child dims h g old mid next homes homes' before put i j m only from lt 
     p = makes_placed dims (state mid A.homes' []) (state next homes' []) i j (down m) A.halfway.has_homes A.halfway.has_tables mk
 
 -- .. and afterwards
-pub among_next : (dims : ℕ) (h g : List Weighted) (old mid next new : List Slot) (homes homes' : List Walk) (before put after : List PutOff) (i j m : ℕ) (only : Option ℕ) (from : ℕ) → i < length old → (A : IsAmong dims h g old homes i only from mid before put) → from ≤ m → ((n : ℕ) (q : SpotPath) → from ≤ n → n < m → Contains (spots_in g) q → Under q (down n ∷ home_of homes i) → ⊥) → HasSpot (spots_in g) (down m ∷ home_of homes i) → Makes dims (state mid A.homes' []) i (down m) j (state next homes' []) → HasVisitedAll dims h g next homes' j new put after → IsAmong dims h g old homes i only (m + 1) new before after
-among_next dims h g old mid next new homes homes' before put after i j m only from lt A le none w mk V = record {
+pub among_next : (dims : ℕ) (h g : List Weighted) (old mid next new : List Slot) (homes homes' : List Walk) (before put after : List PutOff) (i j m : ℕ) (only : Option ℕ) (from : ℕ) → i < length old → (A : IsAmong dims h g old homes i only from mid before put) → from ≤ m → ((n : ℕ) (q : SpotPath) → from ≤ n → n < m → Contains (spots_in g) q → Under q (down n ∷ home_of homes i) → ⊥) → HasSpot (spots_in g) (down m ∷ home_of homes i) → Makes dims (state mid A.homes' []) i (down m) j (state next homes' []) → (NeedsOwn homes h g i only → IsLeastSoFar mid A.homes' h g (BegunBefore (down m ∷ home_of homes i)) → ((k : ℕ) → link_of mid i (down m) ≡ Some (proper k) → ⊥) → HasFiner (spots_in (g ++ h)) (down m ∷ home_of homes i) → ⊥) → HasVisitedAll dims h g next homes' j new put after → IsAmong dims h g old homes i only (m + 1) new before after
+among_next dims h g old mid next new homes homes' before put after i j m only from lt A le none w mk needs V = record {
   homes' = V.homes';
   halfway = halfway_same dims new V.homes' h g (EndedAfter g (down m ∷ home_of homes i)) (IsOpenAbove (down m ∷ home_of homes i)) (EndedBefore g (down (m + 1) ∷ home_of homes i)) (IsOpenAbove (down (m + 1) ∷ home_of homes i)) after (past_label new V.homes' g (home_of homes i) m)
       (subst (λ z. IsHalfwayAfter dims new V.homes' h g after z) at_child V.halfway);
@@ -113,6 +125,8 @@ among_next dims h g old mid next new homes homes' before put after i j m only fr
   kids = λ n x. kids n (A.kids n x) (cases_eq n m);
   labels = λ n x. labels n x (cases_eq n m);
   content = content only A.content;
+  least = λ L N. least_begun new V.homes' h g (BegunAfter (down m ∷ home_of homes i)) (BegunBefore (down (m + 1) ∷ home_of homes i)) (begun_past m)
+      (subst (λ z. IsLeastSoFar new V.homes' h g (BegunAfter z)) at_child (V.least (subst (λ z. IsLeastSoFar next homes' h g (BegunAt z)) (sym p.at_home) (made N (by_then L N)))));
 }
   where
     at : home_of A.homes' i ≡ home_of homes i
@@ -126,6 +140,15 @@ among_next dims h g old mid next new homes homes' before put after i j m only fr
 
     at_child : home_of homes' j ≡ down m ∷ home_of homes i
     at_child = p.at_home ∙ ap (λ z. down m ∷ z) at
+
+    by_then : IsLeastSoFar old homes h g (BegunAt (home_of homes i)) → NeedsOwn homes h g i only → IsLeastSoFar mid A.homes' h g (BegunBefore (down m ∷ home_of homes i))
+    by_then L N = least_begun mid A.homes' h g (BegunBefore (down from ∷ home_of homes i)) (BegunBefore (down m ∷ home_of homes i)) (begun_over from m le) (A.least L N)
+
+    made : NeedsOwn homes h g i only → IsLeastSoFar mid A.homes' h g (BegunBefore (down m ∷ home_of homes i)) → IsLeastSoFar next homes' h g (BegunAt (down m ∷ home_of A.homes' i))
+    made N B = least_made dims h g put (BegunAt (down m ∷ home_of A.homes' i)) (state mid A.homes' []) (state next homes' []) i j (down m)
+        (subst (λ z. IsHalfwayBefore dims mid A.homes' h g put (down m ∷ z)) (sym at) (halfway_same dims mid A.homes' h g (EndedBefore g (down from ∷ home_of homes i)) (IsOpenAbove (down from ∷ home_of homes i)) (EndedBefore g (down m ∷ home_of homes i)) (IsOpenAbove (down m ∷ home_of homes i)) put (over_labels mid A.homes' g (home_of homes i) from m le none) A.halfway))
+        lt_mid (inr itself) (λ n F. needs N B n (subst (λ z. HasFiner (spots_in (g ++ h)) (down m ∷ z)) at F)) mk
+        (least_begun mid A.homes' h g (BegunBefore (down m ∷ home_of A.homes' i)) (BegunAt (down m ∷ home_of A.homes' i)) begun_label (subst (λ z. IsLeastSoFar mid A.homes' h g (BegunBefore (down m ∷ z))) (sym at) B))
 
     lt_next : i < length next
     lt_next = omega (arith, lt_mid, p.keeps.size)
@@ -188,6 +211,7 @@ among_put dims h g old mid homes before put k from lt A le none may = record {
   kids = A.kids;
   labels = A.labels;
   content = A.content;
+  least = λ L N. least_begun mid A.homes' h g (BegunBefore (down from ∷ home_of homes k.node)) (BegunBefore (down (k.label + 1) ∷ home_of homes k.node)) (begun_over from (k.label + 1) (omega (arith, le))) (A.least L N);
 }
   where
     at : home_of A.homes' k.node ≡ home_of homes k.node
@@ -215,14 +239,16 @@ among_put dims h g old mid homes before put k from lt A le none may = record {
         go (inr y) = absurd (none n u.spot y (split n x d) u.is_in u.lies)
 
 -- the visit of a node that does not have one label ends after its last label
-pub among_ends : (dims : ℕ) (h g : List Weighted) (old new : List Slot) (homes : List Walk) (before put : List PutOff) (i from : ℕ) → ArePoints dims h g → i < length old → is_table (slot_of old i) ≡ false → HasSpot (spots_in g) (home_of homes i) → TellsLabels old homes g i None → IsAmong dims h g old homes i None from new before put → ((n : ℕ) (q : SpotPath) → from ≤ n → Contains (spots_in g) q → Under q (down n ∷ home_of homes i) → ⊥) → HasVisitedAll dims h g old homes i new before put
-among_ends dims h g old new homes before put i from P lt nd w T A none = record {
+pub among_ends : (dims : ℕ) (h g : List Weighted) (old new : List Slot) (homes : List Walk) (before put : List PutOff) (i from : ℕ) → ArePoints dims h g → i < length old → is_table (slot_of old i) ≡ false → HasSpot (spots_in g) (home_of homes i) → TellsLabels old homes g i None → IsAmong dims h g old homes i None from new before put → ((n : ℕ) (q : SpotPath) → from ≤ n → Contains (spots_in g) q → Under q (down n ∷ home_of homes i) → ⊥) → IsHalfwayBefore dims old homes h g before (home_of homes i) → HasVisitedAll dims h g old homes i new before put
+among_ends dims h g old new homes before put i from P lt nd w T A none M0 = record {
   homes' = A.homes';
   halfway = subst (λ z. IsHalfwayAfter dims new A.homes' h g put z) at
       (node_ends dims new A.homes' h g (EndedBefore g (down from ∷ x)) (IsOpenAbove (down from ∷ x)) (EndedAfter g x) (IsOpenAbove x) put i lt_new
       (last_label new A.homes' g i from M.has_homes lt_new (subst (HasSpot (spots_in g)) (sym at) w) (λ n q l c u. none n q l c (subst (λ z. Under q (down n ∷ z)) at u))) F M);
   keeps = A.keeps;
   puts = A.puts;
+  least = λ L. least_begun new A.homes' h g (BegunBefore (down from ∷ home_of homes i)) (BegunAfter (home_of homes i)) (begun_ends from)
+      (A.least L (needs_content dims h g old homes i P M0.holds w (home_least old homes (spots_in (g ++ h)) M0.has_homes L.least i lt) (λ d. true≢false (sym ((M0.has_tables.tables i lt).1 d) ∙ nd)) T));
 }
   where
     at : home_of A.homes' i ≡ home_of homes i

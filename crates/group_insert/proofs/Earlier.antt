@@ -70,7 +70,8 @@ earlier_across {a} {b} (lesser p k l lt x y) = lesser p k l lt x (pick (above_la
     pick (inl e) = absurd cc
     pick (inr f) = f
 
--- what is earlier than a child of a node is earlier than the node, or lies in its content, or at or below a lesser child
+-- what is earlier than a child of a node is earlier than the node, or lies in its content, or at or below a lesser
+-- child
 pub data EarlierDown (l : ℕ) (a b : Walk) : Type 0 where
   outside : IsEarlier b a → EarlierDown l a b
   in_content : IsAbove (across ∷ a) b → EarlierDown l a b

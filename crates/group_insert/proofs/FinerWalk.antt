@@ -85,7 +85,8 @@ module _ (slots : List Slot) (homes : List Walk) (H : HasHomes slots homes) (bas
       let s = last_step slots (walk_end slots base w) e j h in
       subst (λ z. IsCoarser (e ∷ (w ++ home_of homes base)) (home_of homes z)) s.4 (finer-trans (finer-step (walk_from_coarser w s.0 s.2) e) (link_coarser slots homes H s.0 e s.1 s.3))
 
--- what was counted before and lies under the link lies under the turn, where the link leads as the finer walk does or is none
+-- what was counted before and lies under the link lies under the turn, where the link leads as the finer walk does or
+-- is none
 pub turns_before : (slots : List Slot) (homes : List Walk) (sure all : List SpotPath) (k : PutOff) → HasHomes slots homes → HoldsSpots slots homes sure all → k.node < length slots → k.base < length slots → home_of homes k.node ≡ k.way ++ across ∷ home_of homes k.base → LeadsFiner slots k → (q : SpotPath) → Contains sure q → Under q (link_address homes k) → Under q (down k.turn ∷ home_of homes k.base)
 turns_before slots homes sure all k H S lt base leads (no_link is) q c u = let r = S.needed k.node (down k.label) lt (record { spot = q; is_in = c; lies = u }) in let n = r.is in absurd cc
 turns_before slots homes sure all k H S lt base leads (same_end s is at) q c u =

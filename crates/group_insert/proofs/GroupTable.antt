@@ -3,7 +3,7 @@ use Rattle.std.proofs.Common.{◌≡◌, ℕ, ◌<◌, true, ◌⊎◌, inl, inr
 use Rattle.std.proofs.lemmas.Bool.{cases_eq}
 use Rattle.cube_view.specs.Walks.{Step, down, across, Walk, SpotPath, Under, HasSpot, dimension}
 use Rattle.node_arena.specs.Amounts.{Weighted, spots_in, amount_under}
-use Rattle.node_arena.specs.Shape.{home_of, IsLinked, HasOneChild, SharesContent}
+use Rattle.node_arena.specs.Shape.{home_of, HasOneChild, SharesContent}
 use Rattle.node_arena.specs.Slots.{proper, target, Slot, link_of, slot_of, count, is_table}
 use Rattle.node_arena.specs.declared.link.Link.{Link}
 use Rattle.node_arena.proofs.Links.{linked-lt}
@@ -13,9 +13,11 @@ use Rattle.proper_path.proofs.Links.{table_link}
 use Rattle.proper_path.specs.Changes.{IsAdded}
 use Rattle.group_insert.specs.Halfway.{LeadsRight, WillHaveTwo, IsHalfwayBefore}
 use Rattle.group_insert.specs.Later.{PutOff, link_address, IsPutOff, IsPut}
+use Rattle.group_insert.specs.LeastSoFar.{BegunAt, BegunAfter}
 use Rattle.group_insert.specs.Turns.{EndedBefore, EndedAfter, IsOpenAbove}
 use Rattle.group_insert.specs.Visits.{ArePoints, HasVisitedAll}
 use Rattle.group_insert.proofs.Earlier.{earlier-irreflexive}
+use Rattle.group_insert.proofs.LeastKept.{least_begun, least_same}
 use Rattle.group_insert.proofs.VisitEnd.{IsLast, last_table}
 use Rattle.group_insert.proofs.PutBelow.{no_more}
 use Rattle.group_insert.proofs.StartEnd.{amount_under-both}
@@ -48,6 +50,7 @@ table_visited dims h g old new homes i put P w M C = record {
   };
   keeps = record { size = omega (arith, C.size); homes = λ j l. refl; links = λ j f l n. C.links j f; kinds = λ j l. C.old_kind j };
   puts = no_more homes (home_of homes i) put;
+  least = λ L. least_begun new homes h g (BegunAt (home_of homes i)) (BegunAfter (home_of homes i)) (λ b x. inl x) (least_same old new homes h g (BegunAt (home_of homes i)) C.links L);
 }
   where
     none : (e : Step) (q : SpotPath) → Contains (spots_in g) q → Under q (e ∷ home_of homes i) → ⊥

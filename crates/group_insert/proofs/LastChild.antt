@@ -2,7 +2,7 @@
 use Rattle.std.proofs.Common.{◌≡◌, ℕ, ◌<◌, ◌≤◌, Bool, true, false, ◌⊎◌, inl, inr, List, ◌∷◌, ◌++◌, Some, Contains, length, refl, sym, ap, ◌∙◌, subst, subst₂, arith, true≢false}
 use Rattle.std.proofs.lemmas.Bool.{cases_lt}
 use Rattle.std.proofs.lemmas.List.Elements.{All-contains}
-use Rattle.cube_view.specs.Walks.{Step, down, across, Walk, SpotPath, Under, HasSpot, dimension}
+use Rattle.cube_view.specs.Walks.{down, across, Walk, SpotPath, Under, HasSpot, dimension}
 use Rattle.cube_view.proofs.FinerWalks.{under_before}
 use Rattle.node_arena.specs.Amounts.{Weighted, spots_in}
 use Rattle.node_arena.specs.Shape.{home_of, HasOneChild, SharesContent}
@@ -10,17 +10,20 @@ use Rattle.node_arena.specs.Slots.{proper, shared, target, Slot, link_of, slot_o
 use Rattle.node_arena.specs.declared.link.Link.{Link}
 use Rattle.node_arena.proofs.Labels.{same_down}
 use Rattle.proper_path.specs.Changes.{IsRelinked}
-use Rattle.proper_path.specs.Order.{IsAbove, itself}
+use Rattle.proper_path.specs.Order.{IsAbove, itself, further}
 use Rattle.point_insert.proofs.Cases.{one_child_leads}
 use Rattle.proper_path.proofs.Dims.{goes_across}
 use Rattle.proper_path.proofs.Shares.{MayLead}
 use Rattle.proper_path.proofs.Steps.{keeps-trans}
 use Rattle.group_insert.specs.Halfway.{LeadsRight, WillHaveTwo, IsHalfwayBefore, IsHalfwayAfter}
 use Rattle.group_insert.specs.Later.{PutOff, IsPutOff, IsPut}
+use Rattle.group_insert.specs.LeastSoFar.{BegunBefore, BegunAfter}
 use Rattle.group_insert.specs.Turns.{EndedBefore, EndedAfter, IsOpenAbove}
 use Rattle.group_insert.specs.Visits.{ArePoints, HasVisitedAll, IsLabelOf, HasOneLabel, HasOwn, IsGone, IsAmong}
 use Rattle.group_insert.proofs.Earlier.{lesser_earlier}
 use Rattle.group_insert.proofs.VisitEnd.{LeadsAll, IsFinished, node_ends, last_label}
+use Rattle.group_insert.proofs.LeastKept.{least_begun, least_relinked, home_least, begun_ends}
+use Rattle.group_insert.proofs.LeastNode.{needs_child}
 use Rattle.group_insert.proofs.OneChild.{one_child_right}
 use Rattle.group_insert.proofs.SharedLink.{halfway_relinked}
 use Rattle.group_insert.proofs.StartEnd.{old_spot}
@@ -166,8 +169,8 @@ module _ (dims : ℕ) (h g : List Weighted) (old mid : List Slot) (homes : List 
       wide = λ k d e. absurd (none_off k (All-contains (IsPutOff mid A.homes' h g) put k M.later.put_off d) e);
     }
 
-    pub among_shares : HasVisitedAll dims h g old homes i new before put
-    among_shares = record {
+    pub among_shares : IsHalfwayBefore dims old homes h g before (home_of homes i) → HasVisitedAll dims h g old homes i new before put
+    among_shares M0 = record {
       homes' = A.homes';
       halfway = subst (λ z. IsHalfwayAfter dims new A.homes' h g put z) at
           (node_ends dims new A.homes' h g (EndedBefore g (down from ∷ home_of A.homes' i)) (IsOpenAbove (down from ∷ home_of A.homes' i)) (EndedAfter g (home_of A.homes' i)) (IsOpenAbove (home_of A.homes' i)) put i (omega (arith, lt_mid, R.size))
@@ -179,4 +182,7 @@ module _ (dims : ℕ) (h g : List Weighted) (old mid : List Slot) (homes : List 
         kinds = λ j y. R.old_kind j;
       });
       puts = A.puts;
+      least = λ L. least_relinked mid new A.homes' h g (BegunAfter (home_of homes i)) i (target c) across R (subst (λ z. BegunAfter (home_of homes i) (across ∷ z)) (sym at) (inr (further itself)))
+          (least_begun mid A.homes' h g (BegunBefore (down from ∷ home_of homes i)) (BegunAfter (home_of homes i)) (begun_ends from)
+          (A.least L (needs_child dims h g old homes i P M0.holds w (home_least old homes (spots_in (g ++ h)) M0.has_homes L.least i lt) l lt T)));
     }

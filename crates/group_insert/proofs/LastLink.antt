@@ -102,7 +102,8 @@ space_within w b s itself e = absurd (way_not_space w b (ap dimension (sym e) �
 space_within [] b s (further f) e = above_tail (tail_of e) f
 space_within (d ∷ w) b s (further f) e = space_within w b s f (tail_of e)
 
--- After the visit of a node of space, x, the walk of the last entry leads to a slot, and the entry goes with its link set to it.
+-- After the visit of a node of space, x, the walk of the last entry leads to a slot, and the entry goes with its link
+-- set to it.
 module _ (dims : ℕ) (old : List Slot) (homes : List Walk) (h g : List Weighted) (rest : List PutOff) (k : PutOff) (x : Walk) (M : IsHalfwayAfter dims old homes h g (rest ++ k ∷ []) x) (space : dimension x ≡ 1) (below : IsAbove x (home_of homes k.node)) where
   entry_may : IsPutOff old homes h g k
   entry_may = last_of (IsPutOff old homes h g) rest k M.later.put_off

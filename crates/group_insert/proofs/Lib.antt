@@ -3,6 +3,10 @@ pub mod Among
 pub mod VisitCalls
 pub mod GroupTable
 pub mod Earlier
+pub mod FinerTurns
+pub mod LeastKept
+pub mod LeastNode
+pub mod LeastLabel
 pub mod VisitEnd
 pub mod Entries
 pub mod FinerEnd
@@ -11,10 +15,15 @@ pub mod Growth
 pub mod SameState
 pub mod Kids
 pub mod PartLoops
+pub mod KeyCounts
+pub mod Placed
+pub mod Rest
 pub mod LastChild
 pub mod OneChild
 pub mod GroupParts
 pub mod VisitSteps
+pub mod Parted
+pub mod PartRuns
 pub mod Pile
 pub mod PutBelow
 pub mod LinksPutOff
@@ -26,6 +35,7 @@ pub mod Settlement
 pub mod LastLink
 pub mod SharedContent
 pub mod NewSlots
+pub mod NoTurns
 pub mod StartEnd
 pub mod NextVisit
 pub mod Turns

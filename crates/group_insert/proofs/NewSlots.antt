@@ -1,4 +1,5 @@
--- The slots that may be added while a group is inserted: an empty one, and the copy of a target that is not visited yet.
+-- The slots that may be added while a group is inserted: an empty one, and the copy of a target that is not visited
+-- yet.
 use Rattle.std.proofs.Common.{◌≡◌, ℕ, ◌<◌, true, inr, ◌↔◌, List, ◌∷◌, ◌++◌, Some, None, length, sym, ◌∙◌}
 use Rattle.cube_view.specs.Walks.{Step, Walk, HasSpot, dimension}
 use Rattle.cube_view.proofs.FinerWalks.{step_across_finer, under_before}

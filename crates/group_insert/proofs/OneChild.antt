@@ -1,9 +1,9 @@
--- A node that has one child, old and new together: it has no content of its own, and that of the child is right for the group.
+-- A node that has one child, old and new together: it has no content of its own, and that of the child is right for the
+-- group.
 use Rattle.std.proofs.Common.{◌≡◌, ℕ, ◌<◌, Bool, false, ◌⊎◌, inl, inr, List, [], ◌∷◌, ◌++◌, Some, Contains, refl, sym, ap, ◌∙◌, subst, arith, true≢false}
-use Rattle.cube_view.specs.Walks.{down, across, Walk, SpotPath, Under, Finer, top, by_down, by_across, longer, HasSpot, dimension}
-use Rattle.cube_view.proofs.FinerWalks.{under_before}
+use Rattle.cube_view.specs.Walks.{down, across, Walk, SpotPath, Under, Finer, top, by_down, by_across, longer, dimension}
 use Rattle.node_arena.specs.Amounts.{Weighted, spots_in}
-use Rattle.node_arena.specs.Shape.{home_of, HasHomes, IsLinked, SharesContent}
+use Rattle.node_arena.specs.Shape.{home_of, HasHomes, SharesContent}
 use Rattle.node_arena.specs.Slots.{proper, shared, target, Slot, link_of}
 use Rattle.node_arena.specs.declared.link.Link.{Link}
 use Rattle.node_arena.proofs.Links.{linked-lt, link_cases}

@@ -77,9 +77,9 @@ none_between z group a from m lt N n q le less c u = go (All-contains (λ p. (la
     go (inl x) = let l = r.label in omega (arith, x, l, le)
     go (inr x) = let l = r.label in omega (arith, x, l, less)
 
--- at the deepest level nothing goes down
-pub none_at_leaf : (z : Schema) (group : List Point) (a : Walk) → level_of a ≡ deepest z (dimension a) → (n : ℕ) (q : SpotPath) → Contains (spots_in (paths_of z group)) q → Under q (down n ∷ a) → ⊥
-none_at_leaf z group a deep n q c u =
+-- a spot of the group that goes down from an address has a level there
+pub goes_deep : (z : Schema) (group : List Point) (q : SpotPath) (a : Walk) (n : ℕ) → Contains (spots_in (paths_of z group)) q → Under q (down n ∷ a) → level_of a < deepest z (dimension a)
+goes_deep z group q a n c u =
     let r = spot_is_of z group q c in
     let s = spot_of r.0 in
     let k = under-some (spot_path z s) (down n ∷ a) (subst (λ y. Under y (down n ∷ a)) (sym r.2) u) in
@@ -89,7 +89,11 @@ none_at_leaf z group a deep n q c u =
     let e : length (n ∷ k.0.rest) ≡ length (drop (level_of a) (path_of z s (dimension a))) = ap length (sym w.0 ∙ L.rest) in
     let d = length-drop (level_of a) (path_of z s (dimension a)) in
     let l = length-path_of z s (dimension a) in
-    omega (arith, e, d, l, deep)
+    omega (arith, e, d, l)
+
+-- at the deepest level nothing goes down
+pub none_at_leaf : (z : Schema) (group : List Point) (a : Walk) → level_of a ≡ deepest z (dimension a) → (n : ℕ) (q : SpotPath) → Contains (spots_in (paths_of z group)) q → Under q (down n ∷ a) → ⊥
+none_at_leaf z group a deep n q c u = let l = goes_deep z group q a n c u in omega (arith, l, deep)
 
 -- whether a node has one label
 pub two_in_part : (z : Schema) (group : List Point) (slots : List Slot) (homes : List Walk) (i : ℕ) → level_of (home_of homes i) < deepest z (dimension (home_of homes i)) → TellsOneLabel z (dimension (home_of homes i)) (level_of (home_of homes i) + 1) (part_of z group (home_of homes i)) None → HasTwoLabels slots homes (paths_of z group) i

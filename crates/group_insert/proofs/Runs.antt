@@ -57,7 +57,8 @@ one_bin_fits part from i bin n d less light B =
     let all = sum_by-take-le (λ (p : Point). weight_of_point p) part (i + 1) in
     omega (arith, before, next, all, light)
 
--- the first len amounts of a list are those of the points from one place to another, and the next bin is `least` or later
+-- the first len amounts of a list are those of the points from one place to another, and the next bin is `least` or
+-- later
 pub record IsGathering (part : List Point) (from place least len : ℕ) (run : List (ℕ × ℕ)) : Type 0 where
   pub within : place ≤ length part
   pub none : len ≡ 0 → (place ≡ from) × (least ≡ 0)

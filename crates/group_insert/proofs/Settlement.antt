@@ -1,5 +1,5 @@
 -- The links that were put off below a node of space are settled one after the other, the last one first.
-use Rattle.std.proofs.Common.{◌≡◌, ℕ, ◌+◌, ◌-◌, ◌<◌, Bool, true, false, List, [], ◌∷◌, ◌++◌, Some, is_some, length, get_or, take, refl, sym, ap, ◌∙◌, subst, arith, length-append}
+use Rattle.std.proofs.Common.{◌≡◌, ℕ, ◌+◌, ◌-◌, ◌<◌, Bool, true, false, inr, List, [], ◌∷◌, ◌++◌, Some, is_some, length, get_or, take, refl, sym, ap, ◌∙◌, subst, arith, length-append}
 use Rattle.std.specs.Prelude.{IsSome}
 use Rattle.std.proofs.lemmas.List.{get_or_push, get_or-append-add, length_push, length-map, map-append, take-append-le, take_all}
 use Rattle.std.proofs.lemmas.List.Elements.{All-take}
@@ -12,16 +12,18 @@ use Rattle.node_arena.specs.Shape.{home_of}
 use Rattle.node_arena.specs.Slots.{shared, Slot, slot_of, is_table, walk_end}
 use Rattle.node_arena.proofs.Walks.{target-lt}
 use Rattle.proper_path.specs.Changes.{IsRelinked}
-use Rattle.proper_path.specs.Order.{IsAbove}
+use Rattle.proper_path.specs.Order.{IsAbove, further}
 use Rattle.proper_path.specs.Rooted.{state}
 use Rattle.proper_path.proofs.Dims.{stops_at_time}
 use Rattle.proper_path.proofs.Steps.{keeps-refl, keeps-trans}
 use Rattle.group_insert.specs.FinerWalk.{entry_of, finer_steps, LeadInside, IsSet}
 use Rattle.group_insert.specs.Later.{PutOff, IsPutOff}
+use Rattle.group_insert.specs.LeastSoFar.{BegunAfter}
 use Rattle.group_insert.specs.Settling.{entries, CanSettle, SettlesTo}
 use Rattle.group_insert.specs.Visits.{PutsBelow}
 use Rattle.group_insert.specs.declared.put_off.PutOffLink.{PutOffLink}
 use Rattle.group_insert.proofs.Entries.{last_of}
+use Rattle.group_insert.proofs.LeastKept.{least_relinked}
 use Rattle.group_insert.proofs.LastLink.{last_settles, last_is_set}
 
 -- the last entry is one of those that were put behind
@@ -97,6 +99,7 @@ settles_last kept old new rest k some S dims homes h g x before size K = (
     links = λ j f y n. S.relinked.old_link j f (λ a b. n (subst (λ z. IsAbove x (home_of homes z)) (sym a) below));
     kinds = λ j y. S.relinked.old_kind j;
   },
+  λ L. least_relinked old new homes h g (BegunAfter x) k.node S.to (down k.label) S.relinked (inr (further below)) L,
 )
   where
     below : IsAbove x (home_of homes k.node)
@@ -108,13 +111,13 @@ settles_last kept old new rest k some S dims homes h g x before size K = (
         cc
 
 pub settles_none : (kept : ℕ) (slots : List Slot) (put : List PutOff) → SettlesTo kept slots slots put put
-settles_none kept slots put dims homes h g x before size K = (K, keeps-refl (state slots homes []) x)
+settles_none kept slots put dims homes h g x before size K = (K, keeps-refl (state slots homes []) x, λ L. L)
 
 pub settles_more : (kept : ℕ) (a b c : List Slot) (put mid left : List PutOff) → SettlesTo kept a b put mid → SettlesTo kept b c mid left → SettlesTo kept a c put left
 settles_more kept a b c put mid left P Q dims homes h g x before size K =
     let p = P dims homes h g x before size K in
     let q = Q dims homes h g x before size p.0 in
-    (q.0, keeps-trans p.1 q.1)
+    (q.0, keeps-trans p.1 q.1, λ L. q.2 (p.2 L))
 
 pub can_settle_on : (kept : ℕ) (a b : List Slot) (put left : List PutOff) → SettlesTo kept a b put left → ∥ CanSettle a put kept ∥₁ → ∥ CanSettle b left kept ∥₁
 can_settle_on kept a b put left P R = ∥∥₁_map R (λ C. record {

@@ -1,7 +1,7 @@
 -- The invariant before the first visit of a group, and after the last.
 use Rattle.std.proofs.Common.{◌≡◌, ℕ, ◌+◌, ◌<◌, Bool, true, false, ◌⊎◌, inl, inr, List, [], ◌∷◌, ◌++◌, Some, Contains, length, map, refl, sym, ap, ◌∙◌, subst, arith, true≢false}
 use Rattle.std.proofs.lemmas.List.{map-append, length-map}
-use Rattle.std.proofs.lemmas.List.Elements.{Contains-append_right, Contains-append_cases}
+use Rattle.std.proofs.lemmas.List.Elements.{Contains-append_right}
 use Rattle.std.proofs.lemmas.List.Sums.{sum_by-append}
 use Rattle.cube_view.specs.Walks.{Step, Walk, SpotPath, under, Under, HasSpot}
 use Rattle.cube_view.proofs.FinerWalks.{under_before, Contains-head, Contains-cons, Contains-cases}
@@ -15,8 +15,10 @@ use Rattle.proper_path.specs.Order.{IsAbove, itself, further}
 use Rattle.proper_path.specs.Making.{IsSpotOf, AllOfShape}
 use Rattle.proper_path.proofs.Order.{above-length}
 use Rattle.group_insert.specs.Halfway.{LeadsRight, WillHaveTwo, IsHalfwayBefore, IsHalfwayAfter}
-use Rattle.group_insert.specs.InsertingAll.{IsInsertableAll, HasInserted}
+use Rattle.group_insert.specs.InsertingAll.{IsInsertableAll, HasInsertedAll}
 use Rattle.group_insert.specs.Later.{IsPut}
+use Rattle.group_insert.specs.LeastSoFar.{BegunAt, BegunAfter, IsLeastSoFar}
+use Rattle.least_cube.specs.Least.{IsLeast}
 use Rattle.group_insert.specs.Turns.{IsEarlier, crosses, lesser, EndedBefore, EndedAfter, IsOpenAbove}
 use Rattle.group_insert.proofs.LinksPutOff.{none_put}
 use Rattle.group_insert.proofs.SharedContent.{one_not_two}
@@ -139,12 +141,21 @@ alike_all dims (w ∷ g) h some A P = record {
   same = A w (Contains-head g w);
 }
 
-pub shape_with : (dims : ℕ) (old new : List Slot) (homes homes' : List Walk) (h g : List Weighted) → 0 < length g → IsInsertableAll dims g old homes h → IsHalfwayAfter dims new homes' h g [] [] → HasInserted dims (g ++ h) new
-shape_with dims old new homes homes' h g some K M = record {
-  homes = homes';
+-- a least cube is so before the visit of the root
+least_starts : (dims : ℕ) (slots : List Slot) (homes : List Walk) (h g : List Weighted) → HasShape dims slots homes h → IsLeast slots homes (spots_in h) → IsLeastSoFar slots homes h g (BegunAt [])
+least_starts dims slots homes h g S L = record {
+  least = λ i j e is F. L i j e is (record { to = F.to; finer = F.finer; differs = F.differs; all = λ q c. F.all q (old_spot g h q c) });
+  needed = λ i j e is n. L i j e is;
+  wanted = λ i e l is n. S.holds.wanted i e l is;
+}
+
+pub shape_with : (dims : ℕ) (old new : List Slot) (homes homes' : List Walk) (h g : List Weighted) → 0 < length g → IsInsertableAll dims g old homes h → IsHalfwayAfter dims new homes' h g [] [] → (IsLeastSoFar old homes h g (BegunAt []) → IsLeastSoFar new homes' h g (BegunAfter [])) → HasInsertedAll dims g old homes h new
+shape_with dims old new homes homes' h g some K M stays = record {
+  homes' = homes';
   shape = record {
     shaped = shaped_with dims new homes' h g M;
     shares = shares_with dims new homes' h g M;
     alike = alike_all dims g h some K.alike K.spots;
   };
+  least = λ L. (stays (least_starts dims old homes h g K.shape L)).least;
 }

@@ -1,7 +1,6 @@
 -- The visits of a part, from what the calls leave.
-use Rattle.std.proofs.Common.{true≢false, ◌≡◌, ℕ, ◌+◌, ◌-◌, ◌*◌, ◌<◌, ◌≤◌, ◌^◌, Bool, true, false, inl, inr, List, [], ◌∷◌, ◌++◌, Option, Some, None, All, Contains, IsTrue, length, take, drop, refl, sym, ap, ap₂, ◌∙◌, subst, subst₂, arith, length-append}
+use Rattle.std.proofs.Common.{true≢false, ◌≡◌, ℕ, ◌+◌, ◌-◌, ◌*◌, ◌<◌, ◌≤◌, ◌^◌, Bool, true, false, inl, inr, List, [], ◌∷◌, ◌++◌, Option, Some, None, All, Contains, IsTrue, length, drop, refl, sym, ap, ◌∙◌, subst, subst₂, arith, length-append}
 use Rattle.std.specs.Prelude.{slice_range}
-use Rattle.std.proofs.lemmas.List.{take_all}
 use Rattle.std.proofs.lemmas.List.Elements.{All-take, All-drop}
 use Rattle.std.proofs.Math.Bool.{Bool-set}
 use Rattle.std.proofs.Math.Logic.{∥∥₁_elim, ∥∥₁_map}
@@ -23,12 +22,15 @@ use Rattle.group_insert.specs.Added.{amount_in, part_weight}
 use Rattle.group_insert.specs.Halfway.{LeadsRight}
 use Rattle.group_insert.specs.Labels.{IsLeastFrom, points_at, label_at, TellsOneLabel, TellsOnlyLabel}
 use Rattle.group_insert.specs.Parts.{part_of}
-use Rattle.group_insert.specs.Entry.{way_below, way_on, HasRoots, HasEntry, TellsPut}
+use Rattle.group_insert.specs.Entry.{way_below, way_on, HasRoots, HasEntry, IsNotPutOff, narrow, owned, no_turn, TellsPut}
 use Rattle.group_insert.specs.FinerWalk.{entry_of, LeadInside}
 use Rattle.group_insert.specs.Later.{PutOff}
+use Rattle.group_insert.specs.LeastSoFar.{BegunBefore, IsLeastSoFar, NeedsOwn}
+use Rattle.least_cube.specs.Least.{HasFiner}
+use Rattle.group_insert.proofs.LeastLabel.{label_needed}
 use Rattle.group_insert.specs.Settling.{entries, CanSettle, SettlesTo}
 use Rattle.group_insert.specs.Turns.{EndedBefore, IsOpenAbove}
-use Rattle.group_insert.specs.Visiting.{IsVisitableAt, CanVisitAt, VisitsAt, CanPassAt, PassesAt, PassesContentAt, PassesLabelsAt, CanShare, SharesOnly, HasPartAt}
+use Rattle.group_insert.specs.Visiting.{FitsWide, IsOnWay, IsVisitableAt, CanVisitAt, VisitsAt, CanPassAt, PassesAt, PassesContentAt, PassesLabelsAt, CanShare, SharesOnly, HasPartAt}
 use Rattle.group_insert.specs.declared.put_off.PutOffLink.{PutOffLink}
 use Rattle.group_insert.specs.declared.way.Way.{Way}
 use Rattle.node_arena.specs.declared.link.SlotId.{SlotId}
@@ -43,12 +45,16 @@ use Rattle.group_insert.proofs.Routes.{on_way_kept, has_roots, entry_is, entry_m
 use Rattle.group_insert.proofs.PartPoints.{none_from, none_at_leaf, two_in_part, one_and_other, one_alone, table_has_room, table_part}
 use Rattle.proper_path.specs.Paths.{level_of, paths_of}
 
+-- a visit of a node of one label is not wide
+fits_narrow : (l : ℕ) → FitsWide false (Some l)
+fits_narrow l = record { no_only = λ e. absurd (true≢false (sym e)); is_wide = λ e. absurd cc }
+
 module _ (z : Schema) (way : Way) (dim level i : ℕ) (part : List Point) (some : 1 ≤ dim) (early : dim < time_dim z) where
   -- the node at its deepest level ends with its content
   pub leaf_part : (old new : List Slot) (put after : List PutOff) → level ≡ deepest z dim → PassesContentAt z old new way put after dim level i part → VisitsAt z old new way put after dim level i part
   leaf_part old new put after deep C group homes h K =
       let none = none_at_leaf z group (home_of homes i) (K.at_level ∙ (deep ∙ ap (deepest z) (sym K.in_dim))) in
-      among_ends (time_dim z) h (paths_of z group) old new homes put after i 0 K.points K.in_range (part_node z group old way put dim level i part homes h early K) (part_spot z group old way put dim level i part homes h K) (inr (λ n q c u. none n q c u)) (C group homes h K) (λ n q l c u. none n q c u)
+      among_ends (time_dim z) h (paths_of z group) old new homes put after i 0 K.points K.in_range (part_node z group old way put dim level i part homes h early K) (part_spot z group old way put dim level i part homes h K) (inr (λ n q c u. none n q c u)) (C group homes h K) (λ n q l c u. none n q c u) K.halfway
 
   module _ (less : level < deepest z dim) where
     less_at : (group : List Point) (old : List Slot) (put : List PutOff) (homes : List Walk) (h : List Weighted) → IsVisitableAt z group old way put dim level i part homes h → level_of (home_of homes i) < deepest z (dimension (home_of homes i))
@@ -69,7 +75,7 @@ module _ (z : Schema) (way : Way) (dim level i : ℕ) (part : List Point) (some 
     pub wide_part : (old mid new : List Slot) (put by_then after : List PutOff) → TellsOnlyLabel z dim (level + 1) part old i None → PassesContentAt z old mid way put by_then dim level i part → PassesLabelsAt z mid new way by_then after dim level i part true → VisitsAt z old new way put after dim level i part
     wide_part old mid new put by_then after T C L group homes h K =
         among_ends (time_dim z) h (paths_of z group) old new homes put after i L.0 K.points K.in_range (part_node z group old way put dim level i part homes h early K) (part_spot z group old way put dim level i part homes h K) (inl (two_labels group old put homes h K T))
-        (L.1 old put group homes h None K (λ e. refl) (C group homes h K)) (none_left group old put homes h L.0 K L.2)
+        (L.1 old put group homes h None K (record { no_only = λ e. refl; is_wide = λ e. refl }) (C group homes h K)) (none_left group old put homes h L.0 K L.2) K.halfway
 
     has_one : (group : List Point) (old : List Slot) (put : List PutOff) (homes : List Walk) (h : List Weighted) (l : ℕ) → IsVisitableAt z group old way put dim level i part homes h → TellsOnlyLabel z dim (level + 1) part old i (Some l) → HasOneLabel old homes (paths_of z group) i l
     has_one group old put homes h l K T = one_alone z group old homes i l (less_at group old put homes h K) (one_at group old put homes h (Some l) K T.0) T.1
@@ -79,7 +85,7 @@ module _ (z : Schema) (way : Way) (dim level i : ℕ) (part : List Point) (some 
 
     -- a node of one label: its label, and then it shares its child's content
     pub narrow_part : (old mid new : List Slot) (put after : List PutOff) (l : ℕ) → TellsOnlyLabel z dim (level + 1) part old i (Some l) → PassesLabelsAt z old mid way put after dim level i part false → SharesOnly mid new i → VisitsAt z old new way put after dim level i part
-    narrow_part old mid new put after l T L S group homes h K = among_shares (time_dim z) h (paths_of z group) old mid homes put after i l L.0 K.points K.in_range nd w one A none new c.link c.is relinked
+    narrow_part old mid new put after l T L S group homes h K = among_shares (time_dim z) h (paths_of z group) old mid homes put after i l L.0 K.points K.in_range nd w one A none new c.link c.is relinked K.halfway
       where
         nd : is_table (slot_of old i) ≡ false
         nd = part_node z group old way put dim level i part homes h early K
@@ -91,7 +97,7 @@ module _ (z : Schema) (way : Way) (dim level i : ℕ) (part : List Point) (some 
         one = has_one group old put homes h l K T
 
         A : IsAmong (time_dim z) h (paths_of z group) old homes i (Some l) L.0 mid put after
-        A = L.1 old put group homes h (Some l) K (λ e. absurd (true≢false (sym e))) (begins group old put homes h l K T)
+        A = L.1 old put group homes h (Some l) K (fits_narrow l) (begins group old put homes h l K T)
 
         none : (n : ℕ) (q : SpotPath) → L.0 ≤ n → Contains (spots_in (paths_of z group)) q → Under q (down n ∷ home_of homes i) → ⊥
         none = none_left group old put homes h L.0 K L.2
@@ -126,7 +132,7 @@ module _ (z : Schema) (way : Way) (dim level i : ℕ) (part : List Point) (some 
       from = L.0;
       known = C.known;
       has_one = has_one C.group old put C.homes C.counted l C.known T;
-      among = L.1 old put C.group C.homes C.counted (Some l) C.known (λ e. absurd (true≢false (sym e))) (begins C.group old put C.homes C.counted l C.known T);
+      among = L.1 old put C.group C.homes C.counted (Some l) C.known (fits_narrow l) (begins C.group old put C.homes C.counted l C.known T);
       none = none_left C.group old put C.homes C.counted L.0 C.known L.2;
     })
 
@@ -139,7 +145,7 @@ module _ (z : Schema) (way : Way) (dim level i : ℕ) (part : List Point) (some 
       counted = C.counted;
       only = Some l;
       known = C.known;
-      may = λ e. absurd (true≢false (sym e));
+      may = fits_narrow l;
       among = begins C.group old put C.homes C.counted l C.known T;
     })
 
@@ -152,11 +158,37 @@ module _ (z : Schema) (way : Way) (dim level i : ℕ) (part : List Point) (some 
         let m = made C.group C.old mid next C.before put C.homes C.counted C.only from l s.0 C.known C.among S in
         record { group = C.group; homes = m.homes'; counted = C.counted; known = child_visitable z C.group C.old mid way C.before put dim level i from l part C.homes C.counted C.only less C.known C.among N next s some m })
 
+    -- .. which is needed where its link was not put off ..
+    child_needed : (mid : List Slot) (put : List PutOff) (wide : Bool) (from l : ℕ) (part' : List Point) (old : List Slot) (before : List PutOff) (group : List Point) (homes : List Walk) (h : List Weighted) (only : Option ℕ) → IsLeastFrom z dim (level + 1) from l part → part' ≡ points_at z dim (level + 1) l part → IsNotPutOff z mid part' way i l dim wide → IsVisitableAt z group old way before dim level i part homes h → FitsWide wide only → (A : IsAmong (time_dim z) h (paths_of z group) old homes i only from mid before put) → NeedsOwn homes h (paths_of z group) i only → IsLeastSoFar mid A.homes' h (paths_of z group) (BegunBefore (down l ∷ home_of homes i)) → ((k : ℕ) → link_of mid i (down l) ≡ Some (proper k) → ⊥) → HasFiner (spots_in (paths_of z group ++ h)) (down l ∷ home_of homes i) → ⊥
+    child_needed mid put wide from l part' old before group homes h only N e why K may A D B none F = go why
+      where
+        at : home_of A.homes' i ≡ home_of homes i
+        at = A.keeps.homes i K.in_range
+
+        w : HasSpot (spots_in (paths_of z group)) (down l ∷ home_of homes i)
+        w = label_goes z group old mid way before put dim level i from l part homes h only less K A N
+
+        W : IsOnWay mid A.homes' way dim level i
+        W = way_by_then z group old mid way before put dim level i from l part homes h only less K A N early
+
+        part_is : part' ≡ part_of z group (down l ∷ home_of A.homes' i)
+        part_is = e ∙ (label_part z group old mid way before put dim level i from l part homes h only less K A N ∙ ap (λ x. part_of z group (down l ∷ x)) (sym at))
+
+        at_narrow : wide ≡ false → (o : Option ℕ) → only ≡ o → ⊥
+        at_narrow x None y = true≢false (sym (may.is_wide y) ∙ x)
+        at_narrow x (Some m) y = D.child m l y w F
+
+        go : IsNotPutOff z mid part' way i l dim wide → ⊥
+        go (narrow x) = at_narrow x only refl
+        go (owned to is) = none to is
+        go (no_turn o held T) = label_needed z group mid A.homes' h way dim level i l part' A.halfway.has_homes A.halfway.holds (let a = A.keeps.size in let b = K.in_range in omega (arith, a, b)) (ap dimension at ∙ K.in_dim) (λ two. W.fresh two (first_level z dim level less two)) W
+            (subst (λ x. HasSpot (spots_in (paths_of z group)) (down l ∷ x)) (sym at) w) part_is (subst (λ x. IsLeastSoFar mid A.homes' h (paths_of z group) (BegunBefore (down l ∷ x))) (sym at) B) o held T (subst (λ x. HasFiner (spots_in (paths_of z group ++ h)) (down l ∷ x)) (sym at) F)
+
     -- .. and then the next label's turn comes
-    pub passes_label : (mid next new : List Slot) (put after : List PutOff) (wide : Bool) (from l : ℕ) (s : SlotId) → IsLeastFrom z dim (level + 1) from l part → IsStepped mid i (down l) s.0 next → VisitsAt z next new (way_below way dim (level + 1) l s) put after dim (level + 1) s.0 (points_at z dim (level + 1) l part) → PassesAt z mid new way put after dim level i part wide from (l + 1)
-    passes_label mid next new put after wide from l s N S V old before group homes h only K may A =
+    pub passes_label : (mid next new : List Slot) (put after : List PutOff) (wide : Bool) (from l : ℕ) (s : SlotId) (part' : List Point) → IsLeastFrom z dim (level + 1) from l part → part' ≡ points_at z dim (level + 1) l part → IsNotPutOff z mid part' way i l dim wide → IsStepped mid i (down l) s.0 next → VisitsAt z next new (way_below way dim (level + 1) l s) put after dim (level + 1) s.0 (points_at z dim (level + 1) l part) → PassesAt z mid new way put after dim level i part wide from (l + 1)
+    passes_label mid next new put after wide from l s part' N e why S V old before group homes h only K may A =
         let m = made group old mid next before put homes h only from l s.0 K A S in
-        among_next (time_dim z) h (paths_of z group) old mid next new homes m.homes' before put after i s.0 l only from K.in_range A N.reaches (none_before z group old mid way before put dim level i from l part homes h only less K A N) (label_goes z group old mid way before put dim level i from l part homes h only less K A N) m.makes
+        among_next (time_dim z) h (paths_of z group) old mid next new homes m.homes' before put after i s.0 l only from K.in_range A N.reaches (none_before z group old mid way before put dim level i from l part homes h only less K A N) (label_goes z group old mid way before put dim level i from l part homes h only less K A N) m.makes (child_needed mid put wide from l part' old before group homes h only N e why K may A)
         (V group m.homes' h (child_visitable z group old mid way before put dim level i from l part homes h only less K A N next s some m))
 
     -- what putting a link off wants
@@ -172,8 +204,8 @@ module _ (z : Schema) (way : Way) (dim level i : ℕ) (part : List Point) (some 
 
     -- a label whose link was put off is passed
     pub passes_put : (mid : List Slot) (before after : List PutOffLink) (from l : ℕ) (part' : List Point) (wide : Bool) → wide ≡ true → IsLeastFrom z dim (level + 1) from l part → part' ≡ points_at z dim (level + 1) l part → HasEntry z mid part' way i l dim before after → PassesAt z mid mid way (entries before) (entries after) dim level i part wide from (l + 1)
-    passes_put mid before after from l part' wide is_wide N e E old at_first group homes h only K may A = subst (λ o. IsAmong (time_dim z) h (paths_of z group) old homes i o (l + 1) mid at_first (entries after)) (sym (may is_wide))
-        (go (subst (λ o. IsAmong (time_dim z) h (paths_of z group) old homes i o from mid at_first (entries before)) (may is_wide) A))
+    passes_put mid before after from l part' wide is_wide N e E old at_first group homes h only K may A = subst (λ o. IsAmong (time_dim z) h (paths_of z group) old homes i o (l + 1) mid at_first (entries after)) (sym (may.no_only is_wide))
+        (go (subst (λ o. IsAmong (time_dim z) h (paths_of z group) old homes i o from mid at_first (entries before)) (may.no_only is_wide) A))
       where
         go : IsAmong (time_dim z) h (paths_of z group) old homes i None from mid at_first (entries before) → IsAmong (time_dim z) h (paths_of z group) old homes i None (l + 1) mid at_first (entries after)
         go B =
@@ -201,7 +233,7 @@ module _ (z : Schema) (way : Way) (dim level i : ℕ) (part : List Point) (some 
       record { group = C.group; homes = m.homes'; counted = C.counted; known = content_visitable z C.group old mid way put dim level i s part C.homes C.counted some early C.known m })
 
   pub content_can_pass : (old new : List Slot) (put after : List PutOff) → PassesContentAt z old new way put after dim level i part → ∥ CanVisitAt z old way put dim level i part ∥₁ → ∥ CanPassAt z new way after dim level i part true 0 ∥₁
-  content_can_pass old new put after C R = ∥∥₁_map R (λ D. record { old = old; before = put; group = D.group; homes = D.homes; counted = D.counted; only = None; known = D.known; may = λ e. refl; among = C D.group D.homes D.counted D.known })
+  content_can_pass old new put after C R = ∥∥₁_map R (λ D. record { old = old; before = put; group = D.group; homes = D.homes; counted = D.counted; only = None; known = D.known; may = record { no_only = λ e. refl; is_wide = λ e. refl }; among = C D.group D.homes D.counted D.known })
 
   -- what the calls at a node want
   pub visit_in_range : (old : List Slot) (put : List PutOff) → ∥ CanVisitAt z old way put dim level i part ∥₁ → i < length old
@@ -264,7 +296,7 @@ module _ (z : Schema) (way : Way) (dim level i : ℕ) (part : List Point) (some 
   visit_settled old mid new put by_then after kept d size V S group homes h K =
       let v = V group homes h K in
       let s = S (time_dim z) v.homes' h (paths_of z group) (home_of homes i) put size (record { halfway = v.halfway; space = K.in_dim ∙ d; puts = v.puts; points = K.points }) in
-      record { homes' = v.homes'; halfway = s.0.halfway; keeps = keeps-trans v.keeps s.1; puts = s.0.puts }
+      record { homes' = v.homes'; halfway = s.0.halfway; keeps = keeps-trans v.keeps s.1; puts = s.0.puts; least = λ L. s.2 (v.least L) }
 
 -- what was told of a label's link
 pub told_put : (z : Schema) (slots : List Slot) (part : List Point) (way : Way) (node label dim : ℕ) (wide : Bool) (before after : List PutOffLink) (put : Bool) → put ≡ true → TellsPut z slots part way node label dim wide before after put → (wide ≡ true) × HasEntry z slots part way node label dim before after
@@ -273,7 +305,11 @@ told_put z slots part way node label dim wide before after false e T = absurd (t
 
 pub told_kept : (z : Schema) (slots : List Slot) (part : List Point) (way : Way) (node label dim : ℕ) (wide : Bool) (before after : List PutOffLink) (put : Bool) → put ≡ false → TellsPut z slots part way node label dim wide before after put → after ≡ before
 told_kept z slots part way node label dim wide before after true e T = absurd (true≢false e)
-told_kept z slots part way node label dim wide before after false e T = T
+told_kept z slots part way node label dim wide before after false e T = T.0
+
+pub told_why : (z : Schema) (slots : List Slot) (part : List Point) (way : Way) (node label dim : ℕ) (wide : Bool) (before after : List PutOffLink) (put : Bool) → put ≡ false → TellsPut z slots part way node label dim wide before after put → IsNotPutOff z slots part way node label dim wide
+told_why z slots part way node label dim wide before after true e T = absurd (true≢false e)
+told_why z slots part way node label dim wide before after false e T = T.1
 
 -- how many levels are left, by which the recursion ends
 abbrev pub rank : Schema → ℕ → ℕ → ℕ
@@ -302,11 +338,3 @@ table_there z slots way put dim level i part e R = (
 
 pub content_counted : (z : Schema) (old mid new : List Slot) (way : Way) (put : List PutOff) (dim level i : ℕ) (s : SlotId) (part : List Point) → 1 ≤ dim → dim < time_dim z → IsFilled (time_dim z) (dim + 1) [] old i mid (Some s.0) → IsAdded mid new s.0 (λ bin. amount_in part bin) → PassesContentAt z old new way put put dim level i part
 content_counted z old mid new way put dim level i s part some early F A group homes h K = content_passed z old mid new way put put dim level i s part some early F (table_part z mid new (way_on way dim s) put (dim + 1) 0 s.0 part A) group homes h K
-
-drop-append-length : {X : Type 0} (old ys : List X) → drop (length old) (old ++ ys) ≡ ys
-drop-append-length [] ys = refl
-drop-append-length (x ∷ old) ys = drop-append-length old ys
-
--- what was put behind the pile is a part of it
-pub picked : {X : Type 0} (old ys : List X) → slice_range (old ++ ys) (length old) (length (old ++ ys)) ≡ ys
-picked old ys = ap₂ (λ n x. take n x) (omega (arith, length-append old ys)) (drop-append-length old ys) ∙ take_all (length ys) ys (omega arith)

@@ -28,6 +28,7 @@ use Rattle.group_insert.specs.Labels.{HasLabel, IsLeastFrom, points_at, label_at
 use Rattle.group_insert.specs.Parts.{part_of}
 use Rattle.group_insert.specs.Entry.{way_below, way_on}
 use Rattle.group_insert.specs.Later.{PutOff}
+use Rattle.group_insert.specs.LeastSoFar.{BegunAt, BegunAfter, IsLeastSoFar}
 use Rattle.group_insert.specs.Visiting.{root_of, IsOnWay, IsVisitableAt, VisitsAt}
 use Rattle.group_insert.specs.declared.way.Way.{Way}
 use Rattle.node_arena.specs.declared.link.SlotId.{SlotId}
@@ -235,3 +236,4 @@ inserts_all z group old new root end after zero none some V homes h K =
     let v = V group homes h (root_visitable z group old root end homes h zero some K) in
     shape_with (time_dim z) old new homes v.homes' h (paths_of z group) (subst (λ n. 0 < n) (sym (length-map group (λ p. point_path z p))) some) K
     (subst₂ (λ x k. IsHalfwayAfter (time_dim z) new v.homes' h (paths_of z group) k x) (ap (home_of homes) zero ∙ K.shape.has_homes.root) (no_entry after none) v.halfway)
+    (subst (λ x. IsLeastSoFar old homes h (paths_of z group) (BegunAt x) → IsLeastSoFar new v.homes' h (paths_of z group) (BegunAfter x)) (ap (home_of homes) zero ∙ K.shape.has_homes.root) v.least)

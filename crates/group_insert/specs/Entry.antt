@@ -4,11 +4,12 @@ use Rattle.cube_view.specs.Places.{deepest}
 use Rattle.cube_view.specs.Points.{Point}
 use Rattle.cube_view.specs.declared.schema.Schema.{Schema}
 use Rattle.cube_view.specs.Walks.{down}
-use Rattle.node_arena.specs.Slots.{shared, Slot, link_of, walk_end}
+use Rattle.node_arena.specs.Slots.{proper, shared, Slot, link_of, walk_end}
 use Rattle.node_arena.specs.declared.link.SlotId.{SlotId}
 use Rattle.point_insert.specs.Visited.{place_of}
 use Rattle.group_insert.specs.FinerWalk.{finer_steps, entry_of}
 use Rattle.group_insert.specs.Labels.{TellsOneLabel}
+use Rattle.group_insert.specs.Later.{PutOff}
 use Rattle.group_insert.specs.Ways.{way_from, IsOpenIn}
 use Rattle.group_insert.specs.declared.put_off.PutOffLink.{PutOffLink}
 use Rattle.group_insert.specs.declared.way.Way.{Way}
@@ -22,10 +23,14 @@ root_level way from = if from == 1 then way.level else 0
 abbrev pub root_at : Way → ℕ → ℕ
 root_at way from = slice_index_or (places_of way.roots) from 0
 
--- the walk of the entry turns off in the dimension `from`, where all points of the part have one label, and the old link
--- leads where that walk leads or is none
+-- the entry whose walk turns off by a label in the dimension `from`
+abbrev pub turn_of : Way → ℕ → ℕ → ℕ → ℕ → ℕ → PutOff
+turn_of way node label dim from turn = record { node = node; label = label; base = root_at way from; turn = turn; way = way_from way.values from (dim - from - 1) }
+
+-- the walk of the entry turns off in the dimension `from`, where all points of the part have one label, and the old
+-- link leads where that walk leads or is none
 pub record TurnsIn (schema : Schema) (slots : List Slot) (part : List Point) (way : Way) (node label dim from : ℕ) (old : Option SlotId) (p : PutOffLink) : Type 0 where
-  pub is : entry_of p ≡ record { node = node; label = label; base = root_at way from; turn = p.turn; way = way_from way.values from (dim - from - 1) }
+  pub is : entry_of p ≡ turn_of way node label dim from p.turn
   pub within : p.from + p.between < 6
   pub is_open : IsOpenIn way.values from
   pub less : root_level way from < deepest schema from
@@ -52,9 +57,26 @@ pub record HasEntry (schema : Schema) (slots : List Slot) (part : List Point) (w
   pub held : TellsShared slots node label old
   pub turn : MayTurn schema slots part way node label dim old entry
 
--- whether the link of a label has been put off, which is done at nodes alone that do not have one label
+-- why the walk turns off in no label of the dimension `from`: that is not open below its root, or two points of the
+-- part part there, or the walk does not lead where the old link does
+pub data HasNoTurn (schema : Schema) (slots : List Slot) (part : List Point) (way : Way) (node label dim from : ℕ) (old : Option SlotId) : Type 0 where
+  closed : (IsOpenIn way.values from → root_level way from < deepest schema from → ⊥) → HasNoTurn schema slots part way node label dim from old
+  parted : TellsOneLabel schema from (root_level way from + 1) part None → HasNoTurn schema slots part way node label dim from old
+  elsewhere : (t : ℕ) (to : SlotId) → TellsOneLabel schema from (root_level way from + 1) part (Some t) → old ≡ Some to → (walk_end slots (root_at way from) (finer_steps (turn_of way node label dim from t)) ≡ Some to.0 → ⊥) → HasNoTurn schema slots part way node label dim from old
+
+-- so in no dimension before the node's
+abbrev pub HaveNoTurn : Schema → List Slot → List Point → Way → ℕ → ℕ → ℕ → Option SlotId → Type 0
+HaveNoTurn schema slots part way node label dim old = (from : ℕ) → 1 ≤ from → from < dim → HasNoTurn schema slots part way node label dim from old
+
+-- why the link of a label is not put off: the node has one label, or the link is proper, or no walk turns off for it
+pub data IsNotPutOff (schema : Schema) (slots : List Slot) (part : List Point) (way : Way) (node label dim : ℕ) (wide : Bool) : Type 0 where
+  narrow : wide ≡ false → IsNotPutOff schema slots part way node label dim wide
+  owned : (to : ℕ) → link_of slots node (down label) ≡ Some (proper to) → IsNotPutOff schema slots part way node label dim wide
+  no_turn : (old : Option SlotId) → TellsShared slots node label old → HaveNoTurn schema slots part way node label dim old → IsNotPutOff schema slots part way node label dim wide
+
+-- whether the link of a label has been put off, and why it was not
 abbrev pub TellsPut : Schema → List Slot → List Point → Way → ℕ → ℕ → ℕ → Bool → List PutOffLink → List PutOffLink → Bool → Type 0
-TellsPut schema slots part way node label dim wide before after false = after ≡ before
+TellsPut schema slots part way node label dim wide before after false = (after ≡ before) × IsNotPutOff schema slots part way node label dim wide
 TellsPut schema slots part way node label dim wide before after true = (wide ≡ true) × HasEntry schema slots part way node label dim before after
 
 -- the roots of open dimensions are slots

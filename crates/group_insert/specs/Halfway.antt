@@ -1,5 +1,6 @@
--- The invariant of a group's insertion, between two visits. g is the group and h what was counted before; `done` says of an
--- address that its visit has ended, `open` that it has begun and not ended, and `put` has the links that are put off.
+-- The invariant of a group's insertion, between two visits. g is the group and h what was counted before; `done` says
+-- of an address that its visit has ended, `open` that it has begun and not ended, and `put` has the links that are put
+-- off.
 use Rattle.std.specs.Prelude.{◌≡◌, ℕ, ◌<◌, ◌⊎◌, List, ◌∷◌, ◌++◌, length, Some, All, Contains}
 use Rattle.cube_view.specs.Walks.{Step, down, Walk, SpotPath, Under, HasSpot}
 use Rattle.node_arena.specs.Amounts.{Weighted, spots_in}

@@ -8,6 +8,7 @@ use Rattle.cube_view.specs.declared.schema.Schema.{Schema}
 use Rattle.node_arena.specs.Amounts.{Weighted, spots_in}
 use Rattle.node_arena.specs.Shape.{HasShape}
 use Rattle.node_arena.specs.Slots.{Slot}
+use Rattle.least_cube.specs.Least.{IsLeast}
 use Rattle.point_insert.specs.Known.{total_weight}
 use Rattle.proper_path.specs.Making.{IsSpotOf, AllOfShape}
 use Rattle.proper_path.specs.Paths.{paths_of}
@@ -43,6 +44,12 @@ pub record HasInserted (dims : ℕ) (h : List Weighted) (slots : List Slot) : Ty
   pub homes : List Walk
   pub shape : HasShape dims slots homes h
 
--- the new slots have the shape with the group, for all homes and points that fitted
+-- homes are known with which the new slots have the shape with the group, and a cube that was the least one stays so
+pub record HasInsertedAll (dims : ℕ) (g : List Weighted) (old : List Slot) (homes : List Walk) (h : List Weighted) (new : List Slot) : Type 0 where
+  pub homes' : List Walk
+  pub shape : HasShape dims new homes' (g ++ h)
+  pub least : IsLeast old homes (spots_in h) → IsLeast new homes' (spots_in (g ++ h))
+
+-- that is so for all homes and points that fitted
 abbrev pub InsertsAll : ℕ → List Weighted → List Slot → List Slot → Type 0
-InsertsAll dims g old new = (homes : List Walk) (h : List Weighted) → IsInsertableAll dims g old homes h → HasInserted dims (g ++ h) new
+InsertsAll dims g old new = (homes : List Walk) (h : List Weighted) → IsInsertableAll dims g old homes h → HasInsertedAll dims g old homes h new

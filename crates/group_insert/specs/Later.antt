@@ -11,7 +11,8 @@ pub record PutOff : Type 0 where
   -- the slot whose link it is, and the label
   pub node : ℕ
   pub label : ℕ
-  -- the slot on the way to the node where the finer walk turns off, and by which label, where the node's way goes across
+  -- the slot on the way to the node where the finer walk turns off, and by which label, where the node's way goes
+  -- across
   pub base : ℕ
   pub turn : ℕ
   -- the steps from the base's content to the node, the last one first

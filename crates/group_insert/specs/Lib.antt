@@ -1,10 +1,12 @@
 pub mod Added
+pub mod Counting
 pub mod Entry
 pub mod FinerWalk
 pub mod Halfway
 pub mod InsertingAll
 pub mod Labels
 pub mod Later
+pub mod LeastSoFar
 pub mod Parts
 pub mod Settling
 pub mod Turns

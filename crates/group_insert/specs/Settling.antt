@@ -8,6 +8,7 @@ use Rattle.proper_path.specs.Rooted.{state}
 use Rattle.group_insert.specs.FinerWalk.{entry_of}
 use Rattle.group_insert.specs.Halfway.{IsHalfwayAfter}
 use Rattle.group_insert.specs.Later.{PutOff}
+use Rattle.group_insert.specs.LeastSoFar.{BegunAfter, IsLeastSoFar}
 use Rattle.group_insert.specs.Visits.{ArePoints, PutsBelow}
 use Rattle.group_insert.specs.declared.put_off.PutOffLink.{PutOffLink}
 
@@ -33,6 +34,7 @@ pub record CanSettle (slots : List Slot) (put : List PutOff) (kept : ℕ) : Type
   pub size : length before ≡ kept
   pub known : IsSettleable dims slots homes counted group address before put
 
--- it is still so with the fewer entries, for all of them that fitted, and links outside x are as they were
+-- it is still so with the fewer entries, for all of them that fitted; links outside x are as they were, and a cube that
+-- was the least one so far stays so
 abbrev pub SettlesTo : ℕ → List Slot → List Slot → List PutOff → List PutOff → Type 0
-SettlesTo kept old new put left = (dims : ℕ) (homes : List Walk) (h g : List Weighted) (x : Walk) (before : List PutOff) → length before ≡ kept → IsSettleable dims old homes h g x before put → IsSettleable dims new homes h g x before left × Keeps (state old homes []) (state new homes []) x
+SettlesTo kept old new put left = (dims : ℕ) (homes : List Walk) (h g : List Weighted) (x : Walk) (before : List PutOff) → length before ≡ kept → IsSettleable dims old homes h g x before put → IsSettleable dims new homes h g x before left × Keeps (state old homes []) (state new homes []) x × (IsLeastSoFar old homes h g (BegunAfter x) → IsLeastSoFar new homes h g (BegunAfter x))

@@ -1,5 +1,5 @@
 -- What holds where a group visits a slot with the points that its home holds, and afterwards.
-use Rattle.std.specs.Prelude.{◌≡◌, ℕ, ◌+◌, ◌<◌, ◌≤◌, ◌^◌, Bool, true, IsTrue, List, [], ◌∷◌, ◌++◌, Option, Some, None, All, Contains, length, slice_range}
+use Rattle.std.specs.Prelude.{◌≡◌, ℕ, ◌+◌, ◌<◌, ◌≤◌, ◌^◌, Bool, true, IsTrue, List, [], ◌∷◌, ◌++◌, Option, Some, None, All, Contains, drop, length, slice_range}
 use Rattle.cube_view.specs.Places.{deepest, time_dim}
 use Rattle.cube_view.specs.Points.{Point}
 use Rattle.cube_view.specs.Validity.{sound}
@@ -13,13 +13,14 @@ use Rattle.node_arena.specs.declared.link.SlotId.{SlotId}
 use Rattle.point_insert.specs.Known.{total_weight}
 use Rattle.point_insert.specs.Visited.{SharesOf}
 use Rattle.group_insert.specs.Halfway.{IsHalfwayBefore}
-use Rattle.group_insert.specs.Labels.{label_at}
+use Rattle.group_insert.specs.Labels.{label_at, points_at, HoldsRest}
 use Rattle.group_insert.specs.Later.{PutOff}
 use Rattle.group_insert.specs.Parts.{part_of}
 use Rattle.group_insert.specs.Settling.{entries}
 use Rattle.group_insert.specs.Visits.{ArePoints, HasVisitedAll, HasOneLabel, IsAmong}
 use Rattle.group_insert.specs.Ways.{value_gone, IsWayTo}
 use Rattle.group_insert.specs.declared.put_off.PutOffLink.{PutOffLink}
+use Rattle.group_insert.specs.declared.visits.Part.{Part}
 use Rattle.group_insert.specs.declared.visits.Place.{Place}
 use Rattle.group_insert.specs.declared.way.Way.{Way}
 use Rattle.proper_path.specs.Paths.{level_of, paths_of}
@@ -54,7 +55,12 @@ pub record CanVisitAt (schema : Schema) (slots : List Slot) (way : Way) (put : L
 abbrev pub VisitsAt : Schema → List Slot → List Slot → Way → List PutOff → List PutOff → ℕ → ℕ → ℕ → List Point → Type 0
 VisitsAt schema old new way before after dim level i part = (group : List Point) (homes : List Walk) (h : List Weighted) → IsVisitableAt schema group old way before dim level i part homes h → HasVisitedAll (time_dim schema) h (paths_of schema group) old homes i new before after
 
--- the visit has begun with these slots, and the labels below `from` have been visited; `wide` nodes do not have one label
+-- a visit is `wide` where the node does not have one label
+pub record FitsWide (wide : Bool) (only : Option ℕ) : Type 0 where
+  pub no_only : wide ≡ true → only ≡ None
+  pub is_wide : only ≡ None → wide ≡ true
+
+-- the visit has begun with these slots, and the labels below `from` have been visited
 pub record CanPassAt (schema : Schema) (slots : List Slot) (way : Way) (put : List PutOff) (dim level i : ℕ) (part : List Point) (wide : Bool) (from : ℕ) : Type 0 where
   pub old : List Slot
   pub before : List PutOff
@@ -63,12 +69,12 @@ pub record CanPassAt (schema : Schema) (slots : List Slot) (way : Way) (put : Li
   pub counted : List Weighted
   pub only : Option ℕ
   pub known : IsVisitableAt schema group old way before dim level i part homes counted
-  pub may : wide ≡ true → only ≡ None
+  pub may : FitsWide wide only
   pub among : IsAmong (time_dim schema) counted (paths_of schema group) old homes i only from slots before put
 
 -- then those below `to` have been, for all of them that fitted
 abbrev pub PassesAt : Schema → List Slot → List Slot → Way → List PutOff → List PutOff → ℕ → ℕ → ℕ → List Point → Bool → ℕ → ℕ → Type 0
-PassesAt schema mid new way put after dim level i part wide from to = (old : List Slot) (before : List PutOff) (group : List Point) (homes : List Walk) (h : List Weighted) (only : Option ℕ) → IsVisitableAt schema group old way before dim level i part homes h → (wide ≡ true → only ≡ None) →
+PassesAt schema mid new way put after dim level i part wide from to = (old : List Slot) (before : List PutOff) (group : List Point) (homes : List Walk) (h : List Weighted) (only : Option ℕ) → IsVisitableAt schema group old way before dim level i part homes h → FitsWide wide only →
     IsAmong (time_dim schema) h (paths_of schema group) old homes i only from mid before put → IsAmong (time_dim schema) h (paths_of schema group) old homes i only to new before after
 
 -- the content has been visited, for all of them that fitted
@@ -156,3 +162,13 @@ pub record CanVisitHere (schema : Schema) (place : Place) (pile : List Point) (p
   pub part : HasPartAt schema pile place.part.at place.part.end
   -- the dimensions that the links name are those of ways
   pub put_off : AreEntries put
+
+-- the part stands in the pile, and has the points of a label of a place's part
+pub record IsLabelPart (schema : Schema) (place : Place) (pile : List Point) (label : ℕ) (part : Part) : Type 0 where
+  pub there : HasPartAt schema pile part.at part.end
+  pub points : slice_range pile part.at part.end ≡ points_at schema place.dim (place.level + 1) label (part_at place pile)
+
+-- the part of a place stands from a place of the pile on once more, label after label
+pub record IsPartedFrom (schema : Schema) (place : Place) (pile : List Point) (top : ℕ) : Type 0 where
+  pub within : top ≤ length pile
+  pub rest : HoldsRest schema place.dim (place.level + 1) 0 (part_at place pile) (drop top pile)

@@ -10,6 +10,7 @@ use Rattle.proper_path.specs.Order.{IsAbove}
 use Rattle.proper_path.specs.Rooted.{state}
 use Rattle.group_insert.specs.Halfway.{IsHalfwayBefore, IsHalfwayAfter}
 use Rattle.group_insert.specs.Later.{PutOff, IsPut}
+use Rattle.group_insert.specs.LeastSoFar.{BegunBefore, BegunAt, BegunAfter, IsLeastSoFar, NeedsOwn}
 
 -- the points of the group fit the cube and those that it counts
 pub record ArePoints (dims : ℕ) (h g : List Weighted) : Type 0 where
@@ -28,6 +29,8 @@ pub record HasVisitedAll (dims : ℕ) (h g : List Weighted) (old : List Slot) (h
   pub halfway : IsHalfwayAfter dims new homes' h g after (home_of homes i)
   pub keeps : Keeps (state old homes []) (state new homes' []) (home_of homes i)
   pub puts : PutsBelow homes' (home_of homes i) before after
+  -- and a cube that was the least one so far stays so
+  pub least : IsLeastSoFar old homes h g (BegunAt (home_of homes i)) → IsLeastSoFar new homes' h g (BegunAfter (home_of homes i))
 
 -- a label of the node is that of a child, or a point of the group goes down it
 abbrev pub IsLabelOf : List Slot → List Walk → List Weighted → ℕ → ℕ → Type 0
@@ -80,3 +83,5 @@ pub record IsAmong (dims : ℕ) (h g : List Weighted) (old : List Slot) (homes :
   -- each child was there or a point goes down to it
   pub labels : (n : ℕ) → IsLinked new i (down n) → IsLabelOf old homes g i n
   pub content : HasContentFor new i only
+  -- and a cube that was the least one so far stays so, where what the node needs of its own is needed
+  pub least : IsLeastSoFar old homes h g (BegunAt (home_of homes i)) → NeedsOwn homes h g i only → IsLeastSoFar new homes' h g (BegunBefore (down from ∷ home_of homes i))

@@ -63,8 +63,8 @@ fn one_bin(schema: &Schema, part: &[Point], from: usize) -> (usize, u64)
     (part.len(), amount)
 }
 
-/// Gathers the points from a place on as a run, as far as their bins rise and there is room. Gives where the points end,
-/// and how long the run is.
+/// Gathers the points from a place on as a run, as far as their bins rise and there is room. Gives where the points
+/// end, and how long the run is.
 fn gather_run(
     schema: &Schema,
     part: &[Point],
@@ -94,8 +94,33 @@ fn gather_run(
     (place, run.len())
 }
 
-/// Counts the points of a part in a time table, run after run. For want of memory the runs before are counted. The runs
-/// stand on the stack.
+/// Counts the points of a part in a time table, run after run, in runs as long as there is room. For want of memory the
+/// runs before are counted.
+fn count_runs(
+    work: &mut Work,
+    schema: &Schema,
+    table: SlotId,
+    part: &[Point],
+    run: &mut [(u32, u64)],
+) -> Result<(), NoMemory>
+    requires sound { All (λ p. IsTrue (sound schema.now p)) part.now }
+    requires in_range { table.0 < length work.old.slots }
+    requires is_table { IsTable (slot_of work.old.slots table.0) }
+    requires room { 0 < length run.old }
+    requires fits { total_count (counts_of (slot_of work.old.slots table.0)) + part_weight part.now ≤ 2 ^ 63 }
+    ensures added { OnOk result (IsAdded work.old.slots work.new.slots table.0 (λ bin. amount_in part.now bin)) }
+    ensures start { work.new.start ≡ work.old.start }
+{
+    let mut from = 0;
+    while from < part.len() {
+        let (to, len) = gather_run(schema, part, from, run);
+        count_run(work, table, &run[..len])?;
+        from = to;
+    }
+    Ok(())
+}
+
+/// Counts the points of a part in a time table. The runs stand on the stack, so that gathering takes no memory.
 pub fn count_part(
     work: &mut Work,
     schema: &Schema,
@@ -113,13 +138,9 @@ pub fn count_part(
     if part.len() == 1 {
         return count_point(work, schema, table, &part[0]);
     }
-    // On the stack, so that gathering takes no memory: 32 amounts are 512 bytes.
-    let mut run = [(0u32, 0u64); 32];
-    let mut from = 0;
-    while from < part.len() {
-        let (to, len) = gather_run(schema, part, from, &mut run);
-        count_run(work, table, &run[..len])?;
-        from = to;
+    // 32 amounts are 512 bytes, and soon cleared.
+    if part.len() <= 64 {
+        return count_runs(work, schema, table, part, &mut [(0, 0); 32]);
     }
-    Ok(())
+    count_runs(work, schema, table, part, &mut [(0, 0); 512])
 }

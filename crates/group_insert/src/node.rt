@@ -1,4 +1,5 @@
-//! What the visit of a node calls: its only label, its own content and children, and the share of an only child's content.
+//! What the visit of a node calls: its only label, its own content and children, and the share of an only child's
+//! content.
 ghost use Rattle.std.specs.Prelude.{◌≡◌, ◌+◌, ◌<◌, ◌≤◌, [], Some, length, All, IsTrue, IfOk};
 ghost use Rattle.cube_view.specs.Places.{deepest, time_dim};
 ghost use Rattle.cube_view.specs.Validity.{sound};

@@ -15,8 +15,8 @@ use probe_core::Steps;
 use std::sync::ledger::Ledger;
 use texts::NoMemory;
 
-/// The link of a label at a node that is put off. Its target is found from the base, a slot of dimension `from`: down the
-/// turn, and then across so many dimensions, down the value of each if there is one, and at last down the label.
+/// The link of a label at a node that is put off. Its target is found from the base, a slot of dimension `from`: down
+/// the turn, and then across so many dimensions, down the value of each if there is one, and at last down the label.
 #[derive(Clone, Copy)]
 pub struct PutOffLink {
     pub node: SlotId,

@@ -3,11 +3,11 @@ ghost use Rattle.std.specs.Prelude.{◌≡◌, ◌+◌, ◌<◌, ◌≤◌, Some
 ghost use Rattle.cube_view.specs.Places.{deepest, time_dim};
 ghost use Rattle.group_insert.specs.Labels.{TellsNextLabel};
 ghost use Rattle.group_insert.specs.Visiting.{part_at, CanVisitPart, VisitsPart, CanPass, PassesTo, PassesContent, PassesLabels};
-ghost use Rattle.group_insert.specs.Visiting.{CanShare, SharesOnly, CanVisitHere, AreEntries};
+ghost use Rattle.group_insert.specs.Visiting.{CanShare, SharesOnly, CanVisitHere, AreEntries, IsLabelPart, IsPartedFrom};
 
 use crate::count::count_part;
 use crate::node::{only_label, own_child, own_content};
-use crate::parts::{gather, next_label};
+use crate::parts::{first_run, one_label, part_by_label};
 use crate::put_off::{PutOffLink, settle_all};
 use crate::way::{Way, below, on, put_later};
 use arena_undo::Work;
@@ -182,17 +182,56 @@ fn visit_labels<L: Ledger>(
     ensures start { work.new.start ≡ work.old.start }
 {
     let below = one_below(schema, place.dim, place.level);
+    let part = place.part;
+    // A part of one label is passed on as it stands.
+    if let Some(label) = one_label(schema, &pile[part.at..part.end], place.dim, below) {
+        return visit_label(
+            work, schema, pile, put_off, place, wide, 0, label, &part, steps,
+        );
+    }
+    // Another one stands behind the pile once more, label after label, while its labels are visited.
+    let top = pile.len();
+    part_by_label(schema, pile, part.at, part.end, place.dim, below)?;
+    visit_runs(work, schema, pile, put_off, place, wide, top, steps)?;
+    pile.truncate(top);
+    Ok(())
+}
+
+/// Visits the children of all labels of a part whose points stand from a place on behind the pile, label after label.
+#[cycle(visiting)]
+fn visit_runs<L: Ledger>(
+    work: &mut Work,
+    schema: &Schema,
+    pile: &mut Vec<Point>,
+    put_off: &mut Vec<PutOffLink>,
+    place: &Place,
+    wide: bool,
+    top: usize,
+    steps: &mut Steps<L>,
+) -> Result<(), NoMemory>
+    requires here { CanVisitHere schema.now place.now pile.old.items put_off.old.items }
+    requires level { place.now.level < deepest schema.now place.now.dim }
+    requires parted { IsPartedFrom schema.now place.now pile.old.items top }
+    requires known { ∥ CanPass schema.now work.old.slots place.now pile.old.items put_off.old.items wide 0 ∥₁ }
+    ensures passed { OnOk result (PassesLabels schema.now work.old.slots work.new.slots place.now pile.old.items put_off.old.items put_off.new.items wide) }
+    ensures pile { OnOk result ((pile.new.items ≡ pile.old.items) × AreEntries put_off.new.items) }
+    ensures start { work.new.start ≡ work.old.start }
+{
+    let mut from = top;
     // One more than the last of 256 labels is no byte.
-    let mut from: u16 = 0;
-    while let Some(label) = next_label(
-        schema,
-        &pile[place.part.at..place.part.end],
-        place.dim,
-        below,
-        from,
-    ) {
-        visit_label(work, schema, pile, put_off, place, wide, from, label, steps)?;
-        from = u16::from(label) + 1;
+    let mut next: u16 = 0;
+    let below = one_below(schema, place.dim, place.level);
+    while from < pile.len() {
+        let (label, len) = first_run(schema, &pile[from..], place.dim, below);
+        let part = Part {
+            at: from,
+            end: from + len,
+        };
+        visit_label(
+            work, schema, pile, put_off, place, wide, next, label, &part, steps,
+        )?;
+        next = u16::from(label) + 1;
+        from = part.end;
     }
     Ok(())
 }
@@ -208,39 +247,25 @@ fn visit_label<L: Ledger>(
     wide: bool,
     from: u16,
     label: u8,
+    part: &Part,
     steps: &mut Steps<L>,
 ) -> Result<(), NoMemory>
     requires here { CanVisitHere schema.now place.now pile.old.items put_off.old.items }
     requires level { place.now.level < deepest schema.now place.now.dim }
     requires next { TellsNextLabel schema.now place.now.dim (place.now.level + 1) from (part_at place.now pile.old.items) (Some label) }
+    requires part { IsLabelPart schema.now place.now pile.old.items label part.now }
     requires known { ∥ CanPass schema.now work.old.slots place.now pile.old.items put_off.old.items wide from ∥₁ }
     ensures passed { OnOk result (PassesTo schema.now work.old.slots work.new.slots place.now pile.old.items put_off.old.items put_off.new.items wide from label) }
     ensures pile { OnOk result ((pile.new.items ≡ pile.old.items) × AreEntries put_off.new.items) }
     ensures start { work.new.start ≡ work.old.start }
 {
     let level = one_below(schema, place.dim, place.level);
-    // The points of the label stand behind the pile while its child is visited.
-    let top = pile.len();
-    gather(
-        schema,
-        pile,
-        place.part.at,
-        place.part.end,
-        place.dim,
-        level,
-        label,
-    )?;
-    let part = Part {
-        at: top,
-        end: pile.len(),
-    };
     let points = &pile[part.at..part.end];
     let later = put_later(
         work, schema, points, put_off, &place.way, place.at, label, place.dim, wide, steps,
     )?;
     // A finer address has the same points. What lies there is made when its turn comes, and is then shared.
     if later {
-        pile.truncate(top);
         return Ok(());
     }
     // From here on no other node sees what is written below the child.
@@ -249,10 +274,8 @@ fn visit_label<L: Ledger>(
         dim: place.dim,
         level,
         at: child,
-        part,
+        part: *part,
         way: below(&place.way, place.dim, level, label, child),
     };
-    visit(work, schema, pile, put_off, &next, steps)?;
-    pile.truncate(top);
-    Ok(())
+    visit(work, schema, pile, put_off, &next, steps)
 }

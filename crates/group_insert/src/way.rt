@@ -1,10 +1,11 @@
 //! The way of a visit: the values that were gone down, and the slot at level 0 of each dimension.
-ghost use Rattle.std.specs.Prelude.{◌≡◌, ◌+◌, ◌<◌, ◌≤◌, length, All, IfSome, IfOk, IsTrue, OnOk};
+ghost use Rattle.std.specs.Prelude.{◌≡◌, ℕ, Some, ◌+◌, ◌<◌, ◌≤◌, length, All, IfNone, IfSome, IfOk, IsTrue, OnOk};
 ghost use Rattle.cube_view.specs.Places.{deepest, time_dim};
 ghost use Rattle.cube_view.specs.Validity.{sound};
-ghost use Rattle.node_arena.specs.Slots.{slot_of, IsNode};
-ghost use Rattle.group_insert.specs.Entry.{root_at, root_level, way_below, way_on, HasRoots, TurnsIn, MayTurn, TellsShared, TellsPut};
-ghost use Rattle.group_insert.specs.FinerWalk.{LeadInside};
+ghost use Rattle.node_arena.specs.Slots.{proper, link_of, slot_of, IsNode};
+ghost use Rattle.cube_view.specs.Walks.{down};
+ghost use Rattle.group_insert.specs.Entry.{root_at, root_level, turn_of, way_below, way_on, HasRoots, TurnsIn, MayTurn, HasNoTurn, HaveNoTurn, TellsShared, TellsPut};
+ghost use Rattle.group_insert.specs.FinerWalk.{entry_of, LeadInside};
 ghost use Rattle.group_insert.specs.Visiting.{AreEntries};
 ghost use Rattle.group_insert.specs.Ways.{IsOpenIn};
 
@@ -17,7 +18,8 @@ use probe_core::Steps;
 use std::sync::ledger::Ledger;
 use texts::NoMemory;
 
-/// By the number of a dimension, the value that was gone down there, and the slot at its level 0 or, of space, the node.
+/// By the number of a dimension, the value that was gone down there, and the slot at its level 0 or, of space, the
+/// node.
 /// `level` is that node's.
 #[derive(Clone, Copy)]
 pub struct Way {
@@ -29,7 +31,8 @@ pub struct Way {
 // The level of the root of a dimension, where it is open below the root.
 fn open_level(schema: &Schema, way: &Way, from: u8) -> Option<u8>
     requires { (1 ≤ from) × (from < time_dim schema.now) }
-    ensures { IfSome result (λ level. (level ≡ root_level way.now from) × (level < deepest schema.now from) × IsOpenIn way.now.values from) }
+    ensures open_level { IfSome result (λ level. (level ≡ root_level way.now from) × (level < deepest schema.now from) × IsOpenIn way.now.values from) }
+    ensures closed { IfNone result (IsOpenIn way.now.values from → root_level way.now from < deepest schema.now from → ⊥) }
 {
     if from == 1 {
         if way.level < schema.depth {
@@ -45,7 +48,25 @@ fn open_level(schema: &Schema, way: &Way, from: u8) -> Option<u8>
     }
 }
 
-/// The entry for a link whose walk turns off in a dimension, where that may be.
+// The entry for a link whose walk turns off in a dimension by a label.
+fn turning(way: &Way, node: SlotId, label: u8, dim: u8, from: u8, turn: u8) -> PutOffLink
+    requires { (from < dim) × (dim < 6) }
+    ensures is { entry_of result ≡ turn_of way.now node.0 label dim from turn }
+    ensures parts { (result.turn ≡ turn) × (result.from + result.between < 6) }
+{
+    PutOffLink {
+        node,
+        base: way.roots[from as usize],
+        label,
+        turn,
+        from,
+        between: dim - from - 1,
+        values: way.values,
+    }
+}
+
+/// The entry for a link whose walk turns off in a dimension, where that may be: the dimension is open below its root,
+/// all points of the part have one label there, and the old link leads where the walk does, or is none.
 pub fn turn_in<L: Ledger>(
     work: &Work,
     schema: &Schema,
@@ -63,19 +84,12 @@ pub fn turn_in<L: Ledger>(
     requires dims { (1 ≤ from) × (from < dim) × (dim < time_dim schema.now) }
     requires base { IsOpenIn way.now.values from → root_at way.now from < length work.now.slots }
     requires inside { LeadInside work.now.slots }
-    ensures { IfSome result (λ p. TurnsIn schema.now work.now.slots part.now way.now node.0 label dim from old p) }
+    ensures turns { IfSome result (λ p. TurnsIn schema.now work.now.slots part.now way.now node.0 label dim from old p) }
+    ensures none { IfNone result (HasNoTurn schema.now work.now.slots part.now way.now node.0 label dim from old) }
 {
     let level = open_level(schema, way, from)?;
     let turn = one_label(schema, part, from, level + 1)?;
-    let entry = PutOffLink {
-        node,
-        base: way.roots[from as usize],
-        label,
-        turn,
-        from,
-        between: dim - from - 1,
-        values: way.values,
-    };
+    let entry = turning(way, node, label, dim, from, turn);
     let Some(to) = old else {
         return Some(entry);
     };
@@ -103,7 +117,8 @@ pub fn first_turn<L: Ledger>(
     requires dim { dim < time_dim schema.now }
     requires roots { HasRoots work.now.slots way.now dim }
     requires inside { LeadInside work.now.slots }
-    ensures { IfSome result (λ p. MayTurn schema.now work.now.slots part.now way.now node.0 label dim old p) }
+    ensures turns { IfSome result (λ p. MayTurn schema.now work.now.slots part.now way.now node.0 label dim old p) }
+    ensures none { IfNone result (HaveNoTurn schema.now work.now.slots part.now way.now node.0 label dim old) }
 {
     for from in 1..dim {
         let entry = turn_in(work, schema, part, way, node, label, dim, from, old, steps);
@@ -114,7 +129,7 @@ pub fn first_turn<L: Ledger>(
     None
 }
 
-// Where the link of a label leads that is shared or none. A proper link gives none at all.
+// Where the link of a label leads that is shared or none. For a proper link there is no answer.
 fn not_own<L: Ledger>(
     work: &Work,
     node: SlotId,
@@ -123,7 +138,8 @@ fn not_own<L: Ledger>(
 ) -> Option<Option<SlotId>>
     requires in_range { node.0 < length work.now.slots }
     requires is_node { IsNode (slot_of work.now.slots node.0) }
-    ensures { IfSome result (λ old. TellsShared work.now.slots node.0 label old) }
+    ensures shared { IfSome result (λ old. TellsShared work.now.slots node.0 label old) }
+    ensures owned { IfNone result ((to : ℕ) × (link_of work.now.slots node.0 (down label) ≡ Some (proper to))) }
 {
     match work.child(node, label, steps) {
         Some(link) => {

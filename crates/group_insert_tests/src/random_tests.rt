@@ -10,7 +10,8 @@ use std::process::Abort;
 use std::test::Fail;
 use texts::{List, NoMemory};
 
-/// How many points are inserted together, by turns: one, groups of one size, all, and single points and groups by turns.
+/// How many points are inserted together, by turns: one, groups of one size, all, and single points and groups by
+/// turns.
 const BATCHINGS: [&[usize]; 8] = [
     &[1],
     &[2],

@@ -14,7 +14,8 @@ fn push_category(text: &mut String, k: usize, values: u16) -> Result<(), AllocEr
     write!(text, "]}}")
 }
 
-/// The text of a plan of so many levels, a category for each number that is not 0, which has so many values, and bins of 1.
+/// The text of a plan of so many levels, a category for each number that is not 0, which has so many values, and bins
+/// of 1.
 fn plan_text(alloc: Global, depth: u8, values: &[u16; 4]) -> Result<String, AllocError> {
     let mut text = String::new(alloc);
     write!(text, "{{\"asks\":[],\"batch\":1,\"categories\":[")?;

@@ -100,8 +100,8 @@ fn the_largest_space_counts_plainly(rt: HostRuntime) -> Result<(), Fail> {
     Ok(())
 }
 
-// Each allocation of the last group is made to fail in turn by hand. Then the cube is as before, and takes the group when
-// it is asked again.
+// Each allocation of the last group is made to fail in turn by hand. Then the cube is as before, and takes the group
+// when it is asked again.
 #[test]
 fn a_refused_group_changes_nothing(rt: HostRuntime) -> Result<(), Fail> {
     let points = drawn(rt.alloc(), &SMALL, 264, 30)?;

@@ -15,8 +15,8 @@ use std::marker::Model;
 use std::sync::ledger::Ledger;
 use texts::NoMemory;
 
-/// Children in the order in which they stand. Up to three lie in the list's own bytes, more on the heap. A child is taken
-/// off only where an insertion is undone, so a list that was longer stays on the heap.
+/// Children in the order in which they stand. Up to three lie in the list's own bytes, more on the heap. A child is
+/// taken off only where an insertion is undone, so a list that was longer stays on the heap.
 #[derive(Drop)]
 pub struct ChildList {
     alloc: Global,

@@ -13,6 +13,7 @@ pub fn insert_room(schema: &Schema) -> usize
     for _ in 0..schema.categories.len() {
         below = 2 * (1 + below);
     }
-    // Two changes for a node of the trail and three for its visit: a content that is made or copied, its link, its amount.
+    // Two changes for a node of the trail and three for its visit: a content that is made or copied, its link, its
+    // amount.
     5 * ((schema.depth as usize + 1) * (1 + below))
 }

@@ -82,7 +82,8 @@ between_same dims h p done next a to back B = record {
     turn i (inl d) = inl (back (home a i) d)
     turn i (inr n) = inr n
 
--- a link of a node leads properly to slot j, whose home is the link's address; what is outside the node, and its other links, are as before
+-- a link of a node leads properly to slot j, whose home is the link's address; what is outside the node, and its other
+-- links, are as before
 pub record LeadsProperly (a : State) (i : ℕ) (e : Step) (j : ℕ) (b : State) : Type 0 where
   pub keeps : Keeps a b (home a i)
   pub others : (f : Step) → (f ≡ e → ⊥) → link_of b.slots i f ≡ link_of a.slots i f

@@ -33,7 +33,8 @@ pub record AddsSlot (a : State) (i : ℕ) (e : Step) (s : Slot) (j : ℕ) (b : S
   pub homes : b.homes ≡ a.homes ++ (e ∷ home a i) ∷ []
   pub updated : b.updated ≡ a.updated
 
--- the link at i and e is made to lead properly to a slot j: it does, or its shared target is copied, or an empty slot is added
+-- the link at i and e is made to lead properly to a slot j: it does, or its shared target is copied, or an empty slot
+-- is added
 pub data Makes (dims : ℕ) (a : State) (i : ℕ) (e : Step) (j : ℕ) (b : State) : Type 0 where
   has : link_of a.slots i e ≡ Some (proper j) → b ≡ a → Makes dims a i e j b
   copies : (t : ℕ) → link_of a.slots i e ≡ Some (shared t) → (e ≡ across → Contains a.updated t → ⊥) → AddsSlot a i e (copied (slot_of a.slots t)) j b → Makes dims a i e j b

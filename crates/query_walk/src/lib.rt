@@ -5,10 +5,12 @@
 //! cost, one by one, and a walk that finds nothing ends there: `specs/Costs.antt`. [`total_in_box`] does so for each
 //! query whose box can be walked.
 //!
-//! Its parts stand by themselves, so that no row of a table walks through space again. [`region_cursor`] walks to a tile.
+//! Its parts stand by themselves, so that no row of a table walks through space again. [`region_cursor`] walks to a
+//! tile.
 //! From a cursor there [`total_in_tile`] goes on, [`total_in_region`] where the walk has come to the query's region or
 //! has found nothing, and [`value_total`] with one value of a category alone. [`total_from`] goes on from a category.
-//! [`area_rows`] gives a map's rows: it comes from the region down to the tiles that have a spot, and goes on from each.
+//! [`area_rows`] gives a map's rows: it comes from the region down to the tiles that have a spot, and goes on from
+//! each.
 //! The crate stands on `cube_view` and `query_syntax`; the other tables are left to `tile_drill`, `window_cover` and
 //! `cross_table`.
 //!

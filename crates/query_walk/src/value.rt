@@ -13,8 +13,8 @@ use probe_core::Steps;
 use query_syntax::Query;
 use std::sync::ledger::Ledger;
 
-/// How much the bag has in the query's box, of its set of the category this value alone, where the walk to the region has
-/// ended with that cursor, or with none. It takes no memory.
+/// How much the bag has in the query's box, of its set of the category this value alone, where the walk to the region
+/// has ended with that cursor, or with none. It takes no memory.
 pub fn value_total<V: CubeView, L: Ledger>(
     view: &V,
     query: &Query,

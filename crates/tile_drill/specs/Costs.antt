@@ -10,7 +10,7 @@ use Rattle.query_syntax.specs.Items.{values_at}
 use Rattle.query_syntax.specs.Parts.{with_one_value}
 use Rattle.query_syntax.specs.declared.query.Query.{Query}
 use Rattle.query_syntax.specs.declared.query.Verb.{Verb}
-use Rattle.query_syntax.specs.declared.query.Verb.TheVariants.{Count, Hist, Map, Series, Window, Cross, Best, Stat, Told, Quit}
+use Rattle.query_syntax.specs.declared.query.Verb.TheVariants.{Count, Hist, Map, Series}
 use Rattle.query_walk.specs.Costs.{choices_from, from_region_cost, map_cost, region_cost, search_cost, sum_upto, walk_cost}
 
 -- the running totals at so many ends, at an address of time
@@ -18,12 +18,13 @@ abbrev pub ends_cost : ViewCosts → ℕ → Address → ℕ
 ends_cost costs n a = costs.before_each_cost a n
 
 module _ (costs : ViewCosts) (schema : Schema) (h : List Point) (q : Query) where
-  -- a histogram: one walk to the region, and for each value of the category the walk from there on with this value alone
+  -- a histogram: one walk to the region, and for each value of the category the walk from there on with this value
+  -- alone
   abbrev pub values_cost : ℕ → ℕ
   values_cost k = region_cost costs schema h q + sum_upto (λ v. from_region_cost costs schema h (with_one_value q k v)) (length (values_at schema.categories k))
 
-  -- a series of so many rows: one walk to the region, and if that is found one walk from there on, with the running totals
-  -- at the rows' ends at each address of time
+  -- a series of so many rows: one walk to the region, and if that is found one walk from there on, with the running
+  -- totals at the rows' ends at each address of time
   abbrev pub bins_cost : ℕ → ℕ
   bins_cost rows = region_cost costs schema h q + cost_if (is_found schema h q.region) (1 + cost_if (nat_lt 0 (amount anywhere h)) (walk_cost costs schema h (ends_cost costs (rows + 1)) (choices_from schema q 0) (next_dim (region_address q.region))))
 
@@ -33,9 +34,4 @@ module _ (costs : ViewCosts) (schema : Schema) (h : List Point) (q : Query) wher
   table_cost (Hist k) = values_cost k
   table_cost (Map levels) = map_cost costs schema h q levels
   table_cost (Series from wide rows) = bins_cost rows
-  table_cost (Window rect) = 0
-  table_cost (Cross k l) = 0
-  table_cost (Best levels rows) = 0
-  table_cost Stat = 0
-  table_cost Told = 0
-  table_cost Quit = 0
+  table_cost other = 0

@@ -12,8 +12,8 @@ use probe_core::Steps;
 use query_syntax::{Choice, Query, ValueSet};
 use std::sync::ledger::Ledger;
 
-/// A query, and the rows that are counted of it: the first one's first bin, how many bins each has, and how many rows there
-/// are.
+/// A query, and the rows that are counted of it: the first one's first bin, how many bins each has, and how many rows
+/// there are.
 #[derive(Clone, Copy)]
 pub(crate) struct Series {
     pub(crate) query: Query,
@@ -45,8 +45,8 @@ fn add_rows<V: CubeView, L: Ledger>(
     }
 }
 
-/// Adds to each row's sum what the bag has of it under the cursor, as far as the query says from category `k` on, counted
-/// from 0. It takes no memory.
+/// Adds to each row's sum what the bag has of it under the cursor, as far as the query says from category `k` on,
+/// counted from 0. It takes no memory.
 #[cycle(walk)]
 pub(crate) fn add_from<V: CubeView, L: Ledger>(
     view: &V,

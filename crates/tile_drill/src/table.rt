@@ -66,11 +66,9 @@ pub fn answer<V: CubeView, L: Ledger>(
     ensures table { EachListOf V.CubeView view.now (λ h. IfOk result (λ t. t ≡ table (V.schema view.now) query.now h)) }
     ensures cost { TakesUpTo V.CubeView view.now steps.old steps.new (λ costs schema h. table_cost costs schema h query.now query.now.verb) }
 {
-    match table_rows(alloc, view, query, steps) {
-        Ok(rows) => Ok(Table {
-            rows,
-            seen: view.seen(),
-        }),
-        Err(NoMemory) => Err(NoMemory),
-    }
+    let rows = table_rows(alloc, view, query, steps)?;
+    Ok(Table {
+        rows,
+        seen: view.seen(),
+    })
 }

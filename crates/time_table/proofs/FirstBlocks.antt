@@ -6,10 +6,9 @@ use Rattle.std.proofs.lemmas.List.Edits.{insert_end}
 use Rattle.std.proofs.lemmas.List.Elements.{All-weaker}
 use Rattle.std.proofs.lemmas.List.Sums.{sum_by-cons, sum_by-append}
 use Rattle.time_table.specs.declared.row.Row.{Row}
-use Rattle.time_table.specs.declared.form.Split.{Split}
-use Rattle.time_table.specs.Totals.{Rise, counts_from, totals_from, last_total, bin_after}
+use Rattle.time_table.specs.Totals.{IsTotal, Rise, counts_from, totals_from, last_total, bin_after}
 use Rattle.time_table.specs.Rows.{AreRows, row_total}
-use Rattle.time_table.specs.Blocks.{Block, parts, IsHead, Held, AreLast, IsSized, AllSized, IsSplit, AddsBlock}
+use Rattle.time_table.specs.Blocks.{Headed, Block, parts, IsHead, Held, AreLast, IsSized, AllSized, IsSplit, AddsBlock}
 use Rattle.time_table.proofs.TwoRowLists.{bin_after-lt, All-bin_after, length-le-total, last_total-append}
 use Rattle.time_table.proofs.RowLists.{counts_from-totals, Rise-totals, bins-totals, length-totals}
 
@@ -108,77 +107,77 @@ begun-end least before (x ∷ hs) (y ∷ bs) h b begun head end sized =
 -- ---- rows that are put block by block
 
 -- a block that was put at the end, and its head
-pub put_last : (rows : List (ℕ × ℕ)) (old new : Split) (block : Block) (head : Row) (i j : ℕ) → i ≡ length old.heads.items → j ≡ length old.blocks.items → new.heads.items ≡ insert old.heads.items i head → new.blocks.items ≡ insert old.blocks.items j block → block.items ≡ totals_from 0 rows → 64 ≤ length block.items + block.spare → 32 ≤ length rows → length rows ≤ 63 → AddsBlock rows head.bin head.total old new
+pub put_last : (rows : List (ℕ × ℕ)) (old new : Headed) (block : Block) (head : Row) (i j : ℕ) → i ≡ length old.heads → j ≡ length old.blocks → new.heads ≡ insert old.heads i head → new.blocks ≡ insert old.blocks j block → block.items ≡ totals_from 0 rows → 64 ≤ length block.items + block.spare → 32 ≤ length rows → length rows ≤ 63 → AddsBlock rows head.bin head.total old new
 put_last rows old new block head i j at at' heads blocks items room least most =
     let long : length block.items ≡ length rows = ap length items ∙ length-totals 0 rows in
     record {
       block = block;
       sized = record { least = omega arith; most = omega arith; room = room };
       items = items;
-      heads = heads ∙ put_behind old.heads.items head i at;
-      blocks = blocks ∙ put_behind old.blocks.items block j at';
+      heads = heads ∙ put_behind old.heads head i at;
+      blocks = blocks ∙ put_behind old.blocks block j at';
     }
 
 -- the rows are those of the blocks and the rest, which go on after the last head
-pub record IsBegun (rows rest : List (ℕ × ℕ)) (below : ℕ) (split : Split) : Type 0 where
-  pub begun : AreBegun 0 0 split.heads.items split.blocks.items
-  pub whole : parts split.blocks.items ++ rest ≡ rows
-  pub fit : AreRows (bin_after 0 split.heads.items) rest
-  pub total : below ≡ last_total 0 split.heads.items
-  pub light : below + row_total rest ≤ 2 ^ 63
+pub record IsBegun (m : ℕ) (rows rest : List (ℕ × ℕ)) (below : ℕ) (split : Headed) : Type 0 where
+  pub begun : AreBegun 0 0 split.heads split.blocks
+  pub whole : parts split.blocks ++ rest ≡ rows
+  pub fit : AreRows (bin_after 0 split.heads) rest
+  pub total : below ≡ last_total 0 split.heads
+  pub light : IsTotal m (below + row_total rest)
   pub many : 32 ≤ length rest
 
-pub begun_none : (listed : List (ℕ × ℕ)) (split : Split) → AreRows 0 listed → row_total listed ≤ 2 ^ 63 → 32 ≤ length listed → split.heads.items ≡ [] → split.blocks.items ≡ [] → IsBegun listed listed 0 split
-begun_none listed split fit light many heads blocks =
+pub begun_none : (m : ℕ) (listed : List (ℕ × ℕ)) (split : Headed) → AreRows 0 listed → IsTotal m (row_total listed) → 32 ≤ length listed → split.heads ≡ [] → split.blocks ≡ [] → IsBegun m listed listed 0 split
+begun_none m listed split fit light many heads blocks =
     record {
-      begun = subst (λ (hs : List Row). AreBegun 0 0 hs split.blocks.items) (sym heads) (subst (λ (bs : List Block). AreBegun 0 0 [] bs) (sym blocks) tt);
+      begun = subst (λ (hs : List Row). AreBegun 0 0 hs split.blocks) (sym heads) (subst (λ (bs : List Block). AreBegun 0 0 [] bs) (sym blocks) tt);
       whole = ap (λ bs. parts bs ++ listed) blocks;
       fit = subst (λ (hs : List Row). AreRows (bin_after 0 hs) listed) (sym heads) fit;
       total = sym (ap (last_total 0) heads);
-      light = omega arith;
+      light = record { half = omega (arith, light.half); small = omega (arith, light.small) };
       many = many;
     }
 
-pub begun_more : (rows rest front back : List (ℕ × ℕ)) (total total' k : ℕ) (e : ℕ × ℕ) (split split' : Split) → IsBegun rows rest total split → rest ≡ front ++ back → k + 1 ≡ length front → e ≡ get_or front k e → 32 ≤ length back → total' ≡ total + row_total front → AddsBlock front e.0 total' split split' → IsBegun rows back total' split'
-begun_more rows rest front back total total' k e split split' is around long read many sum part =
-    let least : ℕ = bin_after 0 split.heads.items in
+pub begun_more : (m : ℕ) (rows rest front back : List (ℕ × ℕ)) (total total' k : ℕ) (e : ℕ × ℕ) (split split' : Headed) → IsBegun m rows rest total split → rest ≡ front ++ back → k + 1 ≡ length front → e ≡ get_or front k e → 32 ≤ length back → total' ≡ total + row_total front → AddsBlock front e.0 total' split split' → IsBegun m rows back total' split'
+begun_more m rows rest front back total total' k e split split' is around long read many sum part =
+    let least : ℕ = bin_after 0 split.heads in
     let fits = rows_parted least 0 front back (subst (AreRows least) around is.fit) in
     let h : Row = record { bin = e.0; total = total' } in
-    let head : IsHead least (last_total 0 split.heads.items) h (totals_from 0 front) =
-    subst (λ n. IsHead least (last_total 0 split.heads.items) (record { bin = e.0; total = n }) (totals_from 0 front)) (sym (sum ∙ ap (λ n. n + row_total front) is.total)) (head_between least (last_total 0 split.heads.items) k front e fits.0 long read) in
+    let head : IsHead least (last_total 0 split.heads) h (totals_from 0 front) =
+    subst (λ n. IsHead least (last_total 0 split.heads) (record { bin = e.0; total = n }) (totals_from 0 front)) (sym (sum ∙ ap (λ n. n + row_total front) is.total)) (head_between least (last_total 0 split.heads) k front e fits.0 long read) in
     let end : bin_after 0 (totals_from 0 front) ≡ e.0 + 1 = bin_after-totals 0 0 k front e long read in
-    let begun : AreBegun 0 0 (split.heads.items ++ h ∷ []) (split.blocks.items ++ part.block ∷ []) =
-    begun-push 0 0 split.heads.items split.blocks.items h part.block is.begun (subst (IsHead least (last_total 0 split.heads.items) h) (sym part.items) head) (ap (bin_after 0) part.items ∙ end) part.sized in
-    let next : bin_after 0 split'.heads.items ≡ bin_after least (totals_from 0 front) = ap (bin_after 0) part.heads ∙ bin_after-push 0 split.heads.items h ∙ sym (bin_after-totals least 0 k front e long read) in
+    let begun : AreBegun 0 0 (split.heads ++ h ∷ []) (split.blocks ++ part.block ∷ []) =
+    begun-push 0 0 split.heads split.blocks h part.block is.begun (subst (IsHead least (last_total 0 split.heads) h) (sym part.items) head) (ap (bin_after 0) part.items ∙ end) part.sized in
+    let next : bin_after 0 split'.heads ≡ bin_after least (totals_from 0 front) = ap (bin_after 0) part.heads ∙ bin_after-push 0 split.heads h ∙ sym (bin_after-totals least 0 k front e long read) in
     let weigh = ap row_total around ∙ sum_by-append (λ (e : ℕ × ℕ). e.1) front back in
     record {
-      begun = subst (λ (hs : List Row). AreBegun 0 0 hs split'.blocks.items) (sym part.heads) (subst (λ (bs : List Block). AreBegun 0 0 (split.heads.items ++ h ∷ []) bs) (sym part.blocks) begun);
+      begun = subst (λ (hs : List Row). AreBegun 0 0 hs split'.blocks) (sym part.heads) (subst (λ (bs : List Block). AreBegun 0 0 (split.heads ++ h ∷ []) bs) (sym part.blocks) begun);
       whole = ap (λ bs. parts bs ++ back) part.blocks
-          ∙ ap (λ zs. zs ++ back) (parts-push split.blocks.items part.block ∙ ap (λ zs. parts split.blocks.items ++ zs) (ap (counts_from 0) part.items ∙ counts_from-totals 0 front))
-          ∙ append_assoc (parts split.blocks.items) front back
-          ∙ ap (λ zs. parts split.blocks.items ++ zs) (sym around)
+          ∙ ap (λ zs. zs ++ back) (parts-push split.blocks part.block ∙ ap (λ zs. parts split.blocks ++ zs) (ap (counts_from 0) part.items ∙ counts_from-totals 0 front))
+          ∙ append_assoc (parts split.blocks) front back
+          ∙ ap (λ zs. parts split.blocks ++ zs) (sym around)
           ∙ is.whole;
       fit = subst (λ n. AreRows n back) (sym next) fits.1;
-      total = sym (ap (last_total 0) part.heads ∙ last_total-append 0 split.heads.items (h ∷ []));
-      light = omega (arith, is.light, weigh);
+      total = sym (ap (last_total 0) part.heads ∙ last_total-append 0 split.heads (h ∷ []));
+      light = record { half = omega (arith, is.light.half, weigh, sum); small = omega (arith, is.light.small, weigh, sum) };
       many = many;
     }
 
-pub begun_whole : (rows rest : List (ℕ × ℕ)) (total total' : ℕ) (split split' : Split) → IsBegun rows rest total split → total' ≡ total + row_total rest → AddsBlock rest 4294967295 total' split split' → IsSplit split'.heads.items split'.blocks.items × (parts split'.blocks.items ≡ rows)
-begun_whole rows rest total total' split split' is sum part =
-    let least : ℕ = bin_after 0 split.heads.items in
+pub begun_whole : (m : ℕ) (rows rest : List (ℕ × ℕ)) (total total' : ℕ) (split split' : Headed) → IsBegun m rows rest total split → total' ≡ total + row_total rest → AddsBlock rest 4294967295 total' split split' → IsSplit m split'.heads split'.blocks × (parts split'.blocks ≡ rows)
+begun_whole m rows rest total total' split split' is sum part =
+    let least : ℕ = bin_after 0 split.heads in
     let h : Row = record { bin = 4294967295; total = total' } in
-    let head : IsHead least (last_total 0 split.heads.items) h (totals_from 0 rest) =
-    subst (λ n. IsHead least (last_total 0 split.heads.items) (record { bin = 4294967295; total = n }) (totals_from 0 rest)) (sym (sum ∙ ap (λ n. n + row_total rest) is.total)) (head_at_end least (last_total 0 split.heads.items) rest is.fit (omega (arith, is.many))) in
-    let whole = begun-end 0 0 split.heads.items split.blocks.items h part.block is.begun (subst (IsHead least (last_total 0 split.heads.items) h) (sym part.items) head) refl part.sized in
-    let made : IsSplit (split.heads.items ++ h ∷ []) (split.blocks.items ++ part.block ∷ []) = record {
+    let head : IsHead least (last_total 0 split.heads) h (totals_from 0 rest) =
+    subst (λ n. IsHead least (last_total 0 split.heads) (record { bin = 4294967295; total = n }) (totals_from 0 rest)) (sym (sum ∙ ap (λ n. n + row_total rest) is.total)) (head_at_end least (last_total 0 split.heads) rest is.fit (omega (arith, is.many))) in
+    let whole = begun-end 0 0 split.heads split.blocks h part.block is.begun (subst (IsHead least (last_total 0 split.heads) h) (sym part.items) head) refl part.sized in
+    let made : IsSplit m (split.heads ++ h ∷ []) (split.blocks ++ part.block ∷ []) = record {
       heads_held = record { held = whole.0; last = whole.1 };
       sized = whole.2;
-      fits = omega (arith, is.light, last_total-append 0 split.heads.items (h ∷ []));
+      fits = let end = last_total-append 0 split.heads (h ∷ []) in record { half = omega (arith, is.light.half, end, sum); small = omega (arith, is.light.small, end, sum) };
     } in (
-      subst (λ (hs : List Row). IsSplit hs split'.blocks.items) (sym part.heads) (subst (λ (bs : List Block). IsSplit (split.heads.items ++ h ∷ []) bs) (sym part.blocks) made),
+      subst (λ (hs : List Row). IsSplit m hs split'.blocks) (sym part.heads) (subst (λ (bs : List Block). IsSplit m (split.heads ++ h ∷ []) bs) (sym part.blocks) made),
       ap parts part.blocks
-          ∙ parts-push split.blocks.items part.block
-          ∙ ap (λ zs. parts split.blocks.items ++ zs) (ap (counts_from 0) part.items ∙ counts_from-totals 0 rest)
+          ∙ parts-push split.blocks part.block
+          ∙ ap (λ zs. parts split.blocks ++ zs) (ap (counts_from 0) part.items ∙ counts_from-totals 0 rest)
           ∙ is.whole,
     )

@@ -12,6 +12,7 @@ pub mod TableForms
 pub mod TwoRowLists
 pub mod KeyTests
 pub mod LastBins
+pub mod LateHeads
 pub mod EntryChanges
 pub mod ItemChanges
 pub mod BlockSizes
@@ -25,3 +26,4 @@ pub mod Runs
 pub mod AmountTables
 pub mod FewerRecords
 pub mod SeriesTotals
+pub mod StoredRows

@@ -1,5 +1,5 @@
 -- Some records more in a bin, in rows that rise.
-use Rattle.std.proofs.Common.{◌≡◌, ℕ, zero, suc, ◌+◌, ◌-◌, ◌<◌, ◌≤◌, ◌^◌, true, false, cond, eqb, List, [], ◌∷◌, ◌++◌, length, get_or, take, drop, map, None, All, nat_cmp, refl, sym, ap, subst, inl, inr, ◌∙◌, arith}
+use Rattle.std.proofs.Common.{◌≡◌, ℕ, zero, suc, ◌+◌, ◌-◌, ◌<◌, ◌≤◌, true, false, cond, eqb, List, [], ◌∷◌, ◌++◌, length, get_or, take, drop, map, None, All, nat_cmp, refl, sym, ap, subst, inl, inr, ◌∙◌, arith}
 use Rattle.std.specs.Option.{unwrap_or}
 use Rattle.std.specs.FinMap.{find, put}
 use Rattle.std.proofs.lemmas.Bool.{cases_order, eq-eqb, ne_eqb, lt-ltb, le-ltb}
@@ -186,23 +186,23 @@ last_total-take-le least before zero rows rise = last_total-le least before rows
 last_total-take-le least before (suc i) [] rise = omega arith
 last_total-take-le least before (suc i) (r ∷ rs) rise = last_total-take-le (r.bin + 1) r.total i rs rise.2
 
-fits_with_first : (below bin n : ℕ) (rows : List Row) → below + n < 2 ^ 64 → All (λ r. r.total + n < 2 ^ 64) rows → All (λ r. r.total + n < 2 ^ 64) (with_first below bin rows)
-fits_with_first below bin n [] fits all = All-cons (λ (r : Row). r.total + n < 2 ^ 64) (record { bin = bin; total = below }) [] fits all
-fits_with_first below bin n (r ∷ rs) fits all =
-    let new : All (λ r. r.total + n < 2 ^ 64) (record { bin = bin; total = below } ∷ r ∷ rs) = All-cons (λ (r : Row). r.total + n < 2 ^ 64) (record { bin = bin; total = below }) (r ∷ rs) fits all in
-    elim (eqb r.bin bin) as (λ b. All (λ r. r.total + n < 2 ^ 64) (cond b (r ∷ rs) (record { bin = bin; total = below } ∷ r ∷ rs))) [ true ↦ all | false ↦ new ]
+fits_with_first : (m below bin n : ℕ) (rows : List Row) → below + n < m → All (λ r. r.total + n < m) rows → All (λ r. r.total + n < m) (with_first below bin rows)
+fits_with_first m below bin n [] fits all = All-cons (λ (r : Row). r.total + n < m) (record { bin = bin; total = below }) [] fits all
+fits_with_first m below bin n (r ∷ rs) fits all =
+    let new : All (λ r. r.total + n < m) (record { bin = bin; total = below } ∷ r ∷ rs) = All-cons (λ (r : Row). r.total + n < m) (record { bin = bin; total = below }) (r ∷ rs) fits all in
+    elim (eqb r.bin bin) as (λ b. All (λ r. r.total + n < m) (cond b (r ∷ rs) (record { bin = bin; total = below } ∷ r ∷ rs))) [ true ↦ all | false ↦ new ]
 
-pub fits_all : (n : ℕ) (rows : List Row) → Rise 0 0 rows → last_total 0 rows + n ≤ 2 ^ 63 → All (λ r. r.total + n < 2 ^ 64) rows
-fits_all n rows rise fits = All-weaker (λ r. r.total ≤ last_total 0 rows) (λ r. r.total + n < 2 ^ 64) (λ (r : Row) (le : r.total ≤ last_total 0 rows). omega arith) rows (totals_within 0 0 rows rise)
+pub fits_all : (m n : ℕ) (rows : List Row) → Rise 0 0 rows → last_total 0 rows + n < m → All (λ r. r.total + n < m) rows
+fits_all m n rows rise fits = All-weaker (λ r. r.total ≤ last_total 0 rows) (λ r. r.total + n < m) (λ (r : Row) (le : r.total ≤ last_total 0 rows). omega arith) rows (totals_within 0 0 rows rise)
 
 -- each total of the rows with a row at a place has room for the amount
-pub fits_with_row : (bin n i below : ℕ) (rows : List Row) → Rise 0 0 rows → last_total 0 rows + n ≤ 2 ^ 63 → below ≡ last_total 0 (take i rows) → All (λ r. r.total + n < 2 ^ 64) (with_row i below bin rows)
-fits_with_row bin n i below rows rise fits is =
-    let all : All (λ r. r.total + n < 2 ^ 64) rows = fits_all n rows rise fits in
-    let room : below + n < 2 ^ 64 = omega (arith, last_total-take-le 0 0 i rows rise) in
-    All-append (λ r. r.total + n < 2 ^ 64) (take i rows) (with_first below bin (drop i rows))
-    (All-take (λ r. r.total + n < 2 ^ 64) i rows all)
-    (fits_with_first below bin n (drop i rows) room (All-drop (λ r. r.total + n < 2 ^ 64) i rows all))
+pub fits_with_row : (m bin n i below : ℕ) (rows : List Row) → Rise 0 0 rows → last_total 0 rows + n < m → below ≡ last_total 0 (take i rows) → All (λ r. r.total + n < m) (with_row i below bin rows)
+fits_with_row m bin n i below rows rise fits is =
+    let all : All (λ r. r.total + n < m) rows = fits_all m n rows rise fits in
+    let room : below + n < m = omega (arith, last_total-take-le 0 0 i rows rise) in
+    All-append (λ r. r.total + n < m) (take i rows) (with_first below bin (drop i rows))
+    (All-take (λ r. r.total + n < m) i rows all)
+    (fits_with_first m below bin n (drop i rows) room (All-drop (λ r. r.total + n < m) i rows all))
 
 -- the rows with a row at a place, raised from there on
 pub added_by : (bin n i below : ℕ) (rows made new : List Row) → i ≤ length rows → All (λ r. r.bin < bin) (take i rows) → All (λ r. bin ≤ r.bin) (drop i rows) → below ≡ last_total 0 (take i rows) → made ≡ with_row i below bin rows → new ≡ take i made ++ map (raised n) (drop i made) → new ≡ added 0 bin n rows

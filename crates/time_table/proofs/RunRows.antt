@@ -8,7 +8,7 @@ use Rattle.std.proofs.Math.ListN.{drop_of_length-le}
 use Rattle.std.proofs.Math.Seq.{take-append_seam, drop-append_seam, take-length}
 use Rattle.time_table.specs.declared.row.Row.{Row}
 use Rattle.time_table.specs.Counts.{IsBinRun, run_total}
-use Rattle.time_table.specs.Totals.{Rise, last_total, raised}
+use Rattle.time_table.specs.Totals.{IsTotal, Rise, last_total, raised}
 use Rattle.time_table.specs.Places.{with_first, added, added_run, new_row, PutsLesser}
 use Rattle.time_table.specs.Forms.{IsSingle}
 use Rattle.time_table.proofs.MoreRecords.{added_at, all_past, last_total-take-le, fits_all}
@@ -76,14 +76,14 @@ pub merging_none : (rows : List Row) (run : List (ℕ × ℕ)) → IsMerging row
 merging_none rows run = record { within = omega arith; whole = raised_none rows; total = refl; bins = All-nil (λ (r : Row). r.bin < 2 ^ 32); past = λ j d le less. All-nil (λ (r : Row). r.bin < (get_or run j d).0) }
 
 -- the amounts so far leave room
-pub still_room : (rows : List Row) (run : List (ℕ × ℕ)) (k place more : ℕ) (d : ℕ × ℕ) (new : List Row) → k < length run → last_total 0 rows + run_total run ≤ 2 ^ 63 → IsMerging rows run k place more new → last_total 0 rows + (more + (get_or run k d).1) ≤ 2 ^ 63
-still_room rows run k place more d new less fits M =
+pub still_room : (m : ℕ) (rows : List Row) (run : List (ℕ × ℕ)) (k place more : ℕ) (d : ℕ × ℕ) (new : List Row) → k < length run → IsTotal m (last_total 0 rows + run_total run) → IsMerging rows run k place more new → IsTotal m (last_total 0 rows + (more + (get_or run k d).1))
+still_room m rows run k place more d new less fits M =
     let one = sum_by_more (λ (a : ℕ × ℕ). a.1) run k d less in
     let all = sum_by-take-le (λ (a : ℕ × ℕ). a.1) run (k + 1) in
-    omega (arith, M.total, one, all, fits)
+    record { half = omega (arith, M.total, one, all, fits.half); small = omega (arith, M.total, one, all, fits.small) }
 
-pub fits_lesser : (rows : List Row) (run : List (ℕ × ℕ)) (k place more : ℕ) (new : List Row) → IsSingle rows → last_total 0 rows + run_total run ≤ 2 ^ 63 → IsMerging rows run k place more new → All (λ r. r.total + more < 2 ^ 64) rows
-fits_lesser rows run k place more new single fits M = fits_all more rows single.rise (let all = sum_by-take-le (λ (a : ℕ × ℕ). a.1) run k in omega (arith, M.total, all, fits))
+pub fits_lesser : (m : ℕ) (rows : List Row) (run : List (ℕ × ℕ)) (k place more : ℕ) (new : List Row) → IsSingle rows → IsTotal m (last_total 0 rows + run_total run) → IsMerging rows run k place more new → All (λ r. r.total + more < m) rows
+fits_lesser m rows run k place more new single fits M = fits_all m more rows single.rise (let all = sum_by-take-le (λ (a : ℕ × ℕ). a.1) run k in omega (arith, M.total, all, fits.small))
 
 -- one amount more
 pub merge_step : (rows : List Row) (run : List (ℕ × ℕ)) (k place more to : ℕ) (a d : ℕ × ℕ) (new new' new'' : List Row) → IsSingle rows → IsBinRun run → k < length run → a ≡ get_or run k d → a.0 < 2 ^ 32 → IsMerging rows run k place more new → PutsLesser a.0 more place to rows new new' → new'' ≡ new' ++ new_row (last_total 0 new') a.0 a.1 (drop to rows) → IsMerging rows run (k + 1) to (more + a.1) new''
@@ -118,15 +118,15 @@ merge_step rows run k place more to a d new new' new'' single is less item top M
     all Q below here = subst (All Q) (sym put) (All-append Q new' (new_row (last_total 0 new') a.0 a.1 (drop to rows)) (All-weaker (λ (r : Row). r.bin < a.0) Q below new' lesser) (All-new_row Q (last_total 0 new') a.0 a.1 (drop to rows) here))
 
 -- the total of the rows that are merged leaves room for the next amount
-pub fits_new : (rows : List Row) (run : List (ℕ × ℕ)) (k place more to bin_end : ℕ) (d : ℕ × ℕ) (new new' : List Row) → IsSingle rows → IsBinRun run → k < length run → last_total 0 rows + run_total run ≤ 2 ^ 63 → IsMerging rows run k place more new → PutsLesser bin_end more place to rows new new' → last_total 0 new' + (get_or run k d).1 < 2 ^ 64
-fits_new rows run k place more to bin_end d new new' single is less fits M P =
-    let room = still_room rows run k place more d new less fits M in
+pub fits_new : (m : ℕ) (rows : List Row) (run : List (ℕ × ℕ)) (k place more to bin_end : ℕ) (d : ℕ × ℕ) (new new' : List Row) → IsSingle rows → IsBinRun run → k < length run → IsTotal m (last_total 0 rows + run_total run) → IsMerging rows run k place more new → PutsLesser bin_end more place to rows new new' → IsTotal m (last_total 0 new' + (get_or run k d).1)
+fits_new m rows run k place more to bin_end d new new' single is less fits M P =
+    let room = still_room m rows run k place more d new less fits M in
     let back : List Row = map (raised more) (drop to rows) in
     let whole : new' ++ back ≡ added_run (take k run) rows = P.same ∙ M.whole in
     let rise : Rise 0 0 (new' ++ back) = subst (Rise 0 0) (sym whole) (Rise-added_run (take k run) rows (All-take (λ (a : ℕ × ℕ). 0 < a.1) k run is.some) single.rise) in
     let front : last_total 0 new' ≤ last_total 0 (new' ++ back) = subst (λ (xs : List Row). last_total 0 xs ≤ last_total 0 (new' ++ back)) (take-append_seam new' back) (last_total-take-le 0 0 (length new') (new' ++ back) rise) in
     let total : last_total 0 (new' ++ back) ≡ last_total 0 rows + run_total (take k run) = ap (last_total 0) whole ∙ last_total-added_run (take k run) rows in
-    omega (arith, room, front, total, M.total)
+    record { half = omega (arith, room.half, front, total, M.total); small = omega (arith, room.small, front, total, M.total) }
 
 -- all amounts are merged, and the rows after them stand behind
 pub merge_end : (rows : List Row) (run : List (ℕ × ℕ)) (k place more to : ℕ) (new new' : List Row) → IsSingle rows → IsBinRun run → length rows + length run ≤ 63 → k ≡ length run → IsMerging rows run k place more new → PutsLesser (2 ^ 32) more place to rows new new' → (new' ≡ added_run run rows) × IsSingle new'

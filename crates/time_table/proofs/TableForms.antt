@@ -14,13 +14,13 @@ use Rattle.time_table.proofs.RowCounts.{entries-counts, total_count-counts, AllC
 use Rattle.time_table.proofs.EntryChanges.{find-del}
 use Rattle.time_table.specs.declared.row.Row.{Row}
 use Rattle.time_table.specs.declared.form.Form.{Form}
-use Rattle.time_table.specs.declared.form.Form.TheVariants.{Few, Single, Split}
+use Rattle.time_table.specs.declared.form.Form.TheVariants.{Few, Single, Split, WideSingle, WideSplit}
 use Rattle.time_table.specs.declared.few.Few.{Few as Kept}
 use Rattle.time_table.specs.declared.few.Few.TheVariants.{No, One, Two, Three}
-use Rattle.time_table.specs.Totals.{Rise, counts, counts_from, last_total}
+use Rattle.time_table.specs.Totals.{IsTotal, Rise, counts, counts_from, last_total}
 use Rattle.time_table.specs.Places.{added, taken, count_at, more, more_run, less, del}
 use Rattle.time_table.specs.Blocks.{Block, flat, parts, Held, IsHead}
-use Rattle.time_table.specs.Forms.{IsSingle, IsForm, rows_of, form_entries, find_cost, total_of}
+use Rattle.time_table.specs.Forms.{IsSingle, IsForm, MayRise, rows_of, form_entries, find_cost, total_of}
 use Rattle.time_table.specs.Blocks.{IsSplit}
 use Rattle.time_table.specs.Fews.{few_rows}
 use Rattle.time_table.proofs.MoreRecords.{Rise-added, All-added}
@@ -31,8 +31,8 @@ use Rattle.time_table.proofs.BlockCounts.{length-flat, search_in_blocks}
 use Rattle.time_table.proofs.Runs.{entries-add_run}
 use Rattle.time_table.proofs.SeriesTotals.{rows_few}
 
-pub one_block : (rows heads : List Row) (blocks : List Block) (b : Block) (h : Row) → IsSingle rows → 63 ≤ length rows → last_total 0 rows ≤ 2 ^ 63 → heads ≡ h ∷ [] → blocks ≡ b ∷ [] → b.items ≡ rows → 64 ≤ length b.items + b.spare → h.bin ≡ 4294967295 → h.total ≡ last_total 0 rows → IsSplit heads blocks
-one_block rows heads blocks b h single many fits is is' items room bin total =
+pub one_block : (m : ℕ) (rows heads : List Row) (blocks : List Block) (b : Block) (h : Row) → IsSingle rows → 63 ≤ length rows → IsTotal m (last_total 0 rows) → heads ≡ h ∷ [] → blocks ≡ b ∷ [] → b.items ≡ rows → 64 ≤ length b.items + b.spare → h.bin ≡ 4294967295 → h.total ≡ last_total 0 rows → IsSplit m heads blocks
+one_block m rows heads blocks b h single many fits is is' items room bin total =
     let long : length b.items ≡ length rows = ap length items in
     let same : last_total 0 b.items ≡ last_total 0 rows = ap (last_total 0) items in
     let head : IsHead 0 0 h b.items = record {
@@ -43,8 +43,8 @@ one_block rows heads blocks b h single many fits is is' items room bin total =
       total = omega arith;
     } in
     let last : h.bin + 1 ≡ 2 ^ 32 = omega arith in
-    let split : IsSplit (h ∷ []) (b ∷ []) = record { heads_held = record { held = (head, last); last = (λ some. absurd (omega (arith, some)), tt) }; sized = (record { least = omega arith; most = omega (arith, single.few); room = room }, tt); fits = omega arith } in
-    subst (λ (hs : List Row). IsSplit hs blocks) (sym is) (subst (λ (bs : List Block). IsSplit (h ∷ []) bs) (sym is') split)
+    let split : IsSplit m (h ∷ []) (b ∷ []) = record { heads_held = record { held = (head, last); last = (λ some. absurd (omega (arith, some)), tt) }; sized = (record { least = omega arith; most = omega (arith, single.few); room = room }, tt); fits = subst (IsTotal m) (sym total) fits } in
+    subst (λ (hs : List Row). IsSplit m hs blocks) (sym is) (subst (λ (bs : List Block). IsSplit m (h ∷ []) bs) (sym is') split)
 
 pub single_added : (bin n : ℕ) (rows new : List Row) → IsSingle rows → length (added 0 bin n rows) ≤ 63 → 0 < n → bin ≤ 4294967295 → new ≡ added 0 bin n rows → IsSingle new
 single_added bin n rows new single room some fits is =
@@ -89,16 +89,22 @@ pub Rise-rows : (f : Form) → IsForm f → Rise 0 0 (rows_of f)
 Rise-rows (Few few) is = is.rise
 Rise-rows (Single rows) is = is.rise
 Rise-rows (Split split) is = Rise-flat 0 0 split.value.heads.items split.value.blocks.items is.held
+Rise-rows (WideSingle rows) is = is.rise
+Rise-rows (WideSplit split) is = Rise-flat 0 0 split.value.heads.items split.value.blocks.items is.held
 
 pub entries-form : (f : Form) → IsForm f → entries (counts (rows_of f)) ≡ form_entries f
 entries-form (Few few) is = entries-counts (few_rows few) is.rise
 entries-form (Single rows) is = entries-counts rows.items is.rise
 entries-form (Split split) is = entries-counts (flat 0 split.value.blocks.items) (Rise-flat 0 0 split.value.heads.items split.value.blocks.items is.held) ∙ counts_from-flat 0 split.value.blocks.items
+entries-form (WideSingle rows) is = entries-counts rows.items is.rise
+entries-form (WideSplit split) is = entries-counts (flat 0 split.value.blocks.items) (Rise-flat 0 0 split.value.heads.items split.value.blocks.items is.held) ∙ counts_from-flat 0 split.value.blocks.items
 
 pub total-form : (f : Form) → IsForm f → total_count (counts (rows_of f)) ≡ total_of f
 total-form (Few few) is = total_count-counts (few_rows few) is.rise
 total-form (Single rows) is = total_count-counts rows.items is.rise
 total-form (Split split) is = total_count-counts (flat 0 split.value.blocks.items) (Rise-flat 0 0 split.value.heads.items split.value.blocks.items is.held) ∙ last_total-flat 0 0 split.value.heads.items split.value.blocks.items is.held
+total-form (WideSingle rows) is = total_count-counts rows.items is.rise
+total-form (WideSplit split) is = total_count-counts (flat 0 split.value.blocks.items) (Rise-flat 0 0 split.value.heads.items split.value.blocks.items is.held) ∙ last_total-flat 0 0 split.value.heads.items split.value.blocks.items is.held
 
 pub AllCounted-form : (f : Form) → IsForm f → AllCounted (counts (rows_of f))
 AllCounted-form f is = AllCounted-counts (rows_of f) (Rise-rows f is)
@@ -156,6 +162,22 @@ some_heads [] [] held = absurd (omega arith)
 some_heads [] (b ∷ bs) held = absurd held
 some_heads (h ∷ hs) bs held = omega arith
 
+-- a table of blocks has a row
+pub not_bare : (m : ℕ) (hs : List Row) (bs : List Block) → IsSplit m hs bs → flat 0 bs ≡ [] → ⊥
+not_bare m hs bs split bare =
+    let same = held_len 0 0 hs bs split.held in
+    let some = some_heads hs bs split.held in
+    let many = length-flat 0 bs split.sized in
+    omega (arith, same, some, many, ap length bare)
+
+-- totals that have 32 bits with n records more
+pub rises_by : (n : ℕ) (f : Form) → total_of f + n < 2 ^ 32 → MayRise n f
+rises_by n (Few few) less = less
+rises_by n (Single rows) less = less
+rises_by n (Split split) less = less
+rises_by n (WideSingle rows) less = tt
+rises_by n (WideSplit split) less = tt
+
 -- a look at each of a few rows is no more than the number of rows has binary digits, and one
 pub few-le : (few : Kept) → (length (few_rows few) ≤ 3) × (length (few_rows few) ≤ 1 + bits (length (few_rows few)))
 unfolding bits
@@ -172,9 +194,16 @@ find_cost-le (Split split) form =
     let same = held_len 0 0 split.value.heads.items split.value.blocks.items form.held in
     let many = length-flat 0 split.value.blocks.items form.sized in
     search_in_blocks (length split.value.heads.items) (length (flat 0 split.value.blocks.items)) (some_heads split.value.heads.items split.value.blocks.items form.held) (omega (arith, same, many))
+find_cost-le (WideSingle rows) form = omega arith
+find_cost-le (WideSplit split) form =
+    let same = held_len 0 0 split.value.heads.items split.value.blocks.items form.held in
+    let many = length-flat 0 split.value.blocks.items form.sized in
+    search_in_blocks (length split.value.heads.items) (length (flat 0 split.value.blocks.items)) (some_heads split.value.heads.items split.value.blocks.items form.held) (omega (arith, same, many))
 
 -- no table has more rows than there are bins
 pub rows-few : (f : Form) → IsForm f → length (rows_of f) ≤ 2 ^ 32
 rows-few (Few few) form = let short = (few-le few).0 in omega (arith, short)
 rows-few (Single rows) form = let few = form.few in omega (arith, few)
 rows-few (Split split) form = rows_few split.value.heads.items split.value.blocks.items form.held
+rows-few (WideSingle rows) form = let few = form.few in omega (arith, few)
+rows-few (WideSplit split) form = rows_few split.value.heads.items split.value.blocks.items form.held

@@ -1,5 +1,5 @@
 -- Rows that are two lists, one behind the other.
-use Rattle.std.proofs.Common.{◌≡◌, ℕ, zero, suc, ◌+◌, ◌-◌, ◌<◌, ◌≤◌, ◌^◌, List, [], ◌∷◌, ◌++◌, length, take, drop, map, get_or, All, refl, sym, ap, subst, ◌∙◌, arith, append_assoc, add-one}
+use Rattle.std.proofs.Common.{◌≡◌, ℕ, zero, suc, ◌+◌, ◌-◌, ◌<◌, ◌≤◌, List, [], ◌∷◌, ◌++◌, length, take, drop, map, get_or, All, refl, sym, ap, subst, ◌∙◌, arith, append_assoc, add-one}
 use Rattle.std.specs.List.{insert, remove}
 use Rattle.std.proofs.lemmas.List.{append-nil, take_all, drop_all, map-append, get_or-take, length-take-le, length_push}
 use Rattle.std.proofs.lemmas.List.Elements.{All-nil, All-cons, All-head, All-tail}
@@ -162,20 +162,20 @@ without_last zero (y ∷ z ∷ xs) x is read = absurd (omega arith)
 without_last (suc k) (y ∷ z ∷ xs) x is read = ap (λ zs. y ∷ zs) (without_last k (z ∷ xs) x (omega arith) read)
 
 -- what is known of the last row of the left list
-pub record IsLast (l l1 r : List Row) (row last : Row) : Type 0 where
+pub record IsLast (m : ℕ) (l l1 r : List Row) (row last : Row) : Type 0 where
   pub rows : l ≡ l1 ++ row ∷ []
   pub total : last.total ≡ last_total 0 l1
   pub above : last.total < row.total
-  pub fits : All (λ x. x.total + (row.total - last.total) < 2 ^ 64) r
+  pub fits : All (λ x. x.total + (row.total - last.total) < m) r
 
-all_unraised : (n top c : ℕ) (r : List Row) → All (λ x. x.total ≤ top) (map (raised n) r) → top ≤ 2 ^ 63 → c ≤ n → All (λ x. x.total + c < 2 ^ 64) r
-all_unraised n top c [] all le less = All-nil (λ (x : Row). x.total + c < 2 ^ 64)
-all_unraised n top c (x ∷ r) all le less =
+all_unraised : (m n top c : ℕ) (r : List Row) → All (λ x. x.total ≤ top) (map (raised n) r) → top < m → c ≤ n → All (λ x. x.total + c < m) r
+all_unraised m n top c [] all le less = All-nil (λ (x : Row). x.total + c < m)
+all_unraised m n top c (x ∷ r) all le less =
     let here : x.total + n ≤ top = All-head (λ (x : Row). x.total ≤ top) (raised n x) (map (raised n) r) all in
-    All-cons (λ (x : Row). x.total + c < 2 ^ 64) x r (omega arith) (all_unraised n top c r (All-tail (λ (x : Row). x.total ≤ top) (raised n x) (map (raised n) r) all) le less)
+    All-cons (λ (x : Row). x.total + c < m) x r (omega arith) (all_unraised m n top c r (All-tail (λ (x : Row). x.total ≤ top) (raised n x) (map (raised n) r) all) le less)
 
-pub is_last : (l l1 r : List Row) (row last : Row) (k k1 : ℕ) → k + 1 ≡ length l → k1 + 1 ≡ length l1 → Rise 0 0 (one_list l r) → last_total 0 (one_list l r) ≤ 2 ^ 63 → row ≡ get_or l k row → l1 ≡ remove l k → last ≡ get_or l1 k1 last → IsLast l l1 r row last
-is_last l l1 r row last k k1 long long1 rise fits read is read' =
+pub is_last : (m : ℕ) (l l1 r : List Row) (row last : Row) (k k1 : ℕ) → k + 1 ≡ length l → k1 + 1 ≡ length l1 → Rise 0 0 (one_list l r) → last_total 0 (one_list l r) < m → row ≡ get_or l k row → l1 ≡ remove l k → last ≡ get_or l1 k1 last → IsLast m l l1 r row last
+is_last m l l1 r row last k k1 long long1 rise fits read is read' =
     let rows : l ≡ l1 ++ row ∷ [] = without_last k l row long read ∙ ap (λ zs. zs ++ row ∷ []) (sym is) in
     let total : last.total ≡ last_total 0 l1 = last_total_at 0 k1 l1 last long1 read' in
     let whole : row.total ≡ last_total 0 l = last_total_at 0 k l row long read in
@@ -184,16 +184,16 @@ is_last l l1 r row last k k1 long long1 rise fits read is read' =
     let above : last_total 0 l1 < row.total = end.1 in
     let back = (Rise-split 0 0 l (map (raised (last_total 0 l)) r) rise).1 in
     let tops = totals_within (bin_after 0 l) (last_total 0 l) (map (raised (last_total 0 l)) r) back in
-    let top : last_total (last_total 0 l) (map (raised (last_total 0 l)) r) ≤ 2 ^ 63 = subst (λ k. k ≤ 2 ^ 63) (last_total-append 0 l (map (raised (last_total 0 l)) r)) fits in
+    let top : last_total (last_total 0 l) (map (raised (last_total 0 l)) r) < m = subst (λ k. k < m) (last_total-append 0 l (map (raised (last_total 0 l)) r)) fits in
     record {
       rows = rows;
       total = total;
       above = omega arith;
-      fits = all_unraised (last_total 0 l) _ (row.total - last.total) r tops top (omega arith);
+      fits = all_unraised m (last_total 0 l) _ (row.total - last.total) r tops top (omega arith);
     }
 
-pub moved_right : (l l1 r r1 r' : List Row) (row last moved : Row) → IsLast l l1 r row last → r1 ≡ take 0 r ++ map (raised (row.total - last.total)) (drop 0 r) → moved ≡ record { bin = row.bin; total = row.total - last.total } → r' ≡ insert r1 0 moved → one_list l1 r' ≡ one_list l r
-moved_right l l1 r r1 r' row last moved is up made put =
+pub moved_right : (m : ℕ) (l l1 r r1 r' : List Row) (row last moved : Row) → IsLast m l l1 r row last → r1 ≡ take 0 r ++ map (raised (row.total - last.total)) (drop 0 r) → moved ≡ record { bin = row.bin; total = row.total - last.total } → r' ≡ insert r1 0 moved → one_list l1 r' ≡ one_list l r
+moved_right m l l1 r r1 r' row last moved is up made put =
     let total : last.total ≡ last_total 0 l1 = is.total in
     let above : last.total < row.total = is.above in
     let r_is : r' ≡ record { bin = row.bin; total = row.total - last.total } ∷ map (raised (row.total - last.total)) r = put ∙ ap (λ x. x ∷ r1) made ∙ ap (λ zs. record { bin = row.bin; total = row.total - last.total } ∷ zs) up in
@@ -205,9 +205,9 @@ moved_right l l1 r r1 r' row last moved is up made put =
     ∙ ap (λ k. (l1 ++ row ∷ []) ++ map (raised k) r) (sym (last_total-append 0 l1 (row ∷ [])))
     ∙ ap (λ zs. one_list zs r) (sym is.rows)
 
-pub sum_fits : (l r : List Row) (first last : Row) (k : ℕ) → k + 1 ≡ length l → Rise 0 0 (one_list l r) → last_total 0 (one_list l r) ≤ 2 ^ 63 → 0 < length r → first ≡ get_or r 0 first → last ≡ get_or l k last → last.total + first.total ≤ 2 ^ 63
-sum_fits l [] first last k long rise fits some read read' = absurd (omega arith)
-sum_fits l (f ∷ r) first last k long rise fits some read read' =
+pub sum_fits : (m : ℕ) (l r : List Row) (first last : Row) (k : ℕ) → k + 1 ≡ length l → Rise 0 0 (one_list l r) → last_total 0 (one_list l r) < m → 0 < length r → first ≡ get_or r 0 first → last ≡ get_or l k last → last.total + first.total < m
+sum_fits m l [] first last k long rise fits some read read' = absurd (omega arith)
+sum_fits m l (f ∷ r) first last k long rise fits some read read' =
     let right : Rise (bin_after 0 l) 0 (f ∷ r) = one_list-right 0 l (f ∷ r) rise in
     let within : f.total ≤ last_total 0 (f ∷ r) = All-head (λ (x : Row). x.total ≤ last_total 0 (f ∷ r)) f r (totals_within (bin_after 0 l) 0 (f ∷ r) right) in
     let total : last.total ≡ last_total 0 l = last_total_at 0 k l last long read' in
@@ -219,10 +219,10 @@ shorter l l1 k k1 long some is removed =
     let less : length l1 + 1 ≡ length l = ap (λ zs. length zs + 1) removed ∙ length-remove l k (omega arith) in
     omega arith
 
-pub right_fits : (l r : List Row) → Rise 0 0 (one_list l r) → last_total 0 (one_list l r) ≤ 2 ^ 63 → All (λ x. x.total + last_total 0 l < 2 ^ 64) r
-right_fits l r rise fits =
+pub right_fits : (m : ℕ) (l r : List Row) → Rise 0 0 (one_list l r) → last_total 0 (one_list l r) < m → All (λ x. x.total + last_total 0 l < m) r
+right_fits m l r rise fits =
     let right : Rise 0 0 r = Rise-least (bin_after 0 l) 0 0 r (omega arith) (one_list-right 0 l r rise) in
-    fits_all (last_total 0 l) r right (omega (arith, last_total-one_list l r))
+    fits_all m (last_total 0 l) r right (omega (arith, last_total-one_list l r))
 
 raised-more : (n i : ℕ) (r : List Row) (x : Row) → i < length r → x ≡ get_or r i x → map (raised n) (take i r) ++ raised n x ∷ [] ≡ map (raised n) (take (suc i) r)
 raised-more n i [] x within read = absurd (omega arith)

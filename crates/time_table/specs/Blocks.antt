@@ -1,9 +1,11 @@
--- Rows in blocks, under a list of heads. A head has the last bin that its block may hold, and the total of the blocks up to it.
+-- Rows in blocks, under a list of heads. A head has the last bin that its block may hold, and the total of the blocks
+-- up to it.
 use Rattle.std.specs.Prelude.{◌≡◌, ℕ, zero, suc, ◌+◌, ◌<◌, ◌≤◌, ◌^◌, ◌⊎◌, slice_index_or, List, [], ◌∷◌, ◌++◌, length, map, All}
+use Rattle.std.specs.declared.vec.Vec.{Vec}
+use Rattle.std.specs.declared.alloc.Global.{Global}
 use Rattle.probe_core.specs.Roomy.{Roomy}
 use Rattle.time_table.specs.declared.row.Row.{Row}
-use Rattle.time_table.specs.declared.form.Split.{Split}
-use Rattle.time_table.specs.Totals.{Rise, counts_from, totals_from, last_total, bin_after, raised}
+use Rattle.time_table.specs.Totals.{Rise, IsTotal, counts_from, totals_from, last_total, bin_after, raised}
 use Rattle.time_table.specs.Places.{more}
 
 -- rows, and room for some more
@@ -68,12 +70,12 @@ abbrev pub AllSized : List Block → Type 0
 AllSized [] = Unit {0}
 AllSized (b ∷ bs) = IsSized b × AllSized bs
 
--- rows in blocks under their heads
-pub record IsSplit (heads : List Row) (blocks : List Block) : Type 0 where
+-- rows in blocks under their heads, whose totals are less than a limit
+pub record IsSplit (limit : ℕ) (heads : List Row) (blocks : List Block) : Type 0 where
   pub heads_held : IsHeld heads blocks
   pub open heads_held use *
   pub sized : AllSized blocks
-  pub fits : last_total 0 heads ≤ 2 ^ 63
+  pub fits : IsTotal limit (last_total 0 heads)
 
 -- a block that is short or full, with which a block of n rows makes one or two that are sized
 pub record IsLoose (n : ℕ) (b : Block) : Type 0 where
@@ -142,10 +144,19 @@ pub record GivesRow (giver taker giver' taker' : Block) : Type 0 where
   pub giver_room : length giver.items + giver.spare ≤ length giver'.items + giver'.spare
   pub taker_room : length taker.items + taker.spare ≤ length taker'.items + taker'.spare
 
+-- heads, and the blocks under them
+pub record Headed : Type 0 where
+  pub heads : List Row
+  pub blocks : List Block
+
+-- blocks under heads
+abbrev pub blocks_under : Block → Vec Block Global → Headed
+blocks_under heads blocks = record { heads = heads.items; blocks = blocks.items }
+
 -- heads and blocks with a block more at the end, of some rows, and its head
-pub record AddsBlock (rows : List (ℕ × ℕ)) (bin total : ℕ) (old new : Split) : Type 0 where
+pub record AddsBlock (rows : List (ℕ × ℕ)) (bin total : ℕ) (old new : Headed) : Type 0 where
   pub block : Block
   pub sized : IsSized block
   pub items : block.items ≡ totals_from 0 rows
-  pub heads : new.heads.items ≡ old.heads.items ++ record { bin = bin; total = total } ∷ []
-  pub blocks : new.blocks.items ≡ old.blocks.items ++ block ∷ []
+  pub heads : new.heads ≡ old.heads ++ record { bin = bin; total = total } ∷ []
+  pub blocks : new.blocks ≡ old.blocks ++ block ∷ []

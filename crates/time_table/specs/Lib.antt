@@ -2,6 +2,7 @@ pub mod Blocks
 pub mod Counts
 pub mod Fews
 pub mod Forms
+pub mod Late
 pub mod Places
 pub mod Rows
 pub mod Series

@@ -12,7 +12,8 @@ use Rattle.time_table.specs.Totals.{last_total, row_bin}
 abbrev pub each_before : BinCounts → ℕ → ℕ → ℕ → List ℕ
 each_before m from wide n = map (λ k. count_before m (from + k * wide)) (range_with_len 0 n)
 
--- at most how many steps that takes where there are so many bins: the less of n searches, and of a search and a look at each bin
+-- at most how many steps that takes where there are so many bins: the less of n searches, and of a search and a look at
+-- each bin
 abbrev pub each_cost : ℕ → ℕ → ℕ
 each_cost n bins = min (n * (1 + bits bins)) (1 + bits bins + bins)
 

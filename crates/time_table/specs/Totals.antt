@@ -1,5 +1,5 @@
 -- Rows of running totals, and the counts that they stand for.
-use Rattle.std.specs.Prelude.{ℕ, ◌+◌, ◌-◌, ◌<◌, ◌≤◌, List, [], ◌∷◌, Option, None, Some}
+use Rattle.std.specs.Prelude.{ℕ, ◌+◌, ◌-◌, ◌<◌, ◌≤◌, ◌^◌, List, [], ◌∷◌, Option, None, Some}
 use Rattle.std.specs.FinMap.{from_sorted}
 use Rattle.time_table.specs.declared.row.Row.{Row}
 use Rattle.time_table.specs.Counts.{BinCounts}
@@ -36,6 +36,11 @@ last_total before (row ∷ rows) = last_total row.total rows
 abbrev pub bin_after : ℕ → List Row → ℕ
 bin_after least [] = least
 bin_after least (row ∷ rows) = bin_after (row.bin + 1) rows
+
+-- a total that rows may have: at most 2^63, and less than the limit of their kind
+pub record IsTotal (limit n : ℕ) : Type 0 where
+  pub half : n ≤ 2 ^ 63
+  pub small : n < limit
 
 -- the total of a row, 0 where there is none
 abbrev pub total_in : Option Row → ℕ

@@ -3,22 +3,26 @@ ghost use Rattle.std.specs.Prelude.{◌≡◌, ◌+◌, ◌≤◌, length, IfOk}
 
 use crate::pair::put_row;
 use crate::row::Row;
-use probe_core::{Rows, Steps};
+use crate::row_list::RowList;
+use crate::stored::StoredRow;
+use probe_core::Steps;
 use std::alloc::Global;
 use std::sync::ledger::Ledger;
 use texts::NoMemory;
 
-/// The rows once more, as a block: it takes its room before it has the first row.
-pub fn block_of<L: Ledger>(
+/// The rows once more, as a block of such rows as have the same totals or larger ones: it takes its room before it has
+/// the first row.
+pub fn block_of<S: StoredRow, T: StoredRow, L: Ledger>(
     alloc: Global,
-    rows: &Rows<Row>,
+    rows: &RowList<S>,
     steps: &mut Steps<L>,
-) -> Result<Rows<Row>, NoMemory>
+) -> Result<RowList<T>, NoMemory>
+    requires kinds { S.limit ≤ T.limit }
     requires few { length rows.now.items ≤ 63 }
     ensures same { IfOk result (λ block. block.items ≡ rows.now.items) }
     ensures room { IfOk result (λ block. 64 ≤ length block.items + block.spare) }
 {
-    let mut block = Rows::new(alloc);
+    let mut block = RowList::new(alloc);
     block.reserve(64)?;
     for i in 0..rows.len() {
         let row = rows.at(i, steps);

@@ -1,23 +1,25 @@
 //! Some records more or less, in rows that stand in rising order of bin.
-ghost use Rattle.std.specs.Prelude.{◌≡◌, ◌+◌, ◌-◌, ◌<◌, ◌≤◌, ◌^◌, ◌++◌, length, take, drop, map, All, IsOk, OnOk, OnErr};
-ghost use Rattle.time_table.specs.Totals.{Rise, counts_from, last_total, raised, lowered};
+ghost use Rattle.std.specs.Prelude.{◌≡◌, ◌+◌, ◌-◌, ◌<◌, ◌≤◌, ◌++◌, length, take, drop, map, All, IsOk, OnOk, OnErr};
+ghost use Rattle.time_table.specs.Totals.{Rise, IsTotal, counts_from, last_total, raised, lowered};
 ghost use Rattle.time_table.specs.Places.{with_row, without_spent, added, taken, count_at};
 
 use crate::place::{BinPlace, place_of};
 use crate::row::Row;
-use probe_core::{Rows, Steps};
+use crate::row_list::RowList;
+use crate::stored::StoredRow;
+use probe_core::Steps;
 use std::sync::ledger::Ledger;
 use texts::NoMemory;
 
 /// Some records more in a bin. With room for a row it takes no memory.
-pub fn add_record<L: Ledger>(
-    rows: &mut Rows<Row>,
+pub fn add_record<T: StoredRow, L: Ledger>(
+    rows: &mut RowList<T>,
     bin: u32,
     amount: u64,
     steps: &mut Steps<L>,
 ) -> Result<(), NoMemory>
     requires rise { Rise 0 0 rows.old.items }
-    requires fits { last_total 0 rows.old.items + amount ≤ 2 ^ 63 }
+    requires fits { IsTotal T.limit (last_total 0 rows.old.items + amount) }
     ensures added { OnOk result (rows.new.items ≡ added 0 bin amount rows.old.items) }
     ensures unchanged { OnErr result (rows.new.items ≡ rows.old.items) }
     ensures not_refused { 0 < rows.old.spare → IsOk result }
@@ -30,7 +32,12 @@ pub fn add_record<L: Ledger>(
 }
 
 /// Some records less in a bin that has as many.
-pub fn take_record<L: Ledger>(rows: &mut Rows<Row>, bin: u32, amount: u64, steps: &mut Steps<L>)
+pub fn take_record<T: StoredRow, L: Ledger>(
+    rows: &mut RowList<T>,
+    bin: u32,
+    amount: u64,
+    steps: &mut Steps<L>,
+)
     requires rise { Rise 0 0 rows.old.items }
     requires some { 0 < amount }
     requires there { amount ≤ count_at bin (counts_from 0 rows.old.items) }
@@ -43,13 +50,14 @@ pub fn take_record<L: Ledger>(rows: &mut Rows<Row>, bin: u32, amount: u64, steps
 }
 
 /// Makes a row of no records for the bin at its place, unless it has one there.
-fn make_row<L: Ledger>(
-    rows: &mut Rows<Row>,
+fn make_row<T: StoredRow, L: Ledger>(
+    rows: &mut RowList<T>,
     place: BinPlace,
     bin: u32,
     steps: &mut Steps<L>,
 ) -> Result<(), NoMemory>
-    requires { place.index ≤ length rows.old.items }
+    requires within { place.index ≤ length rows.old.items }
+    requires small { place.below < T.limit }
     ensures made { OnOk result (rows.new.items ≡ with_row place.index place.below bin rows.old.items) }
     ensures unchanged { OnErr result (rows.new.items ≡ rows.old.items) }
     ensures not_refused { 0 < rows.old.spare → IsOk result }
@@ -66,7 +74,12 @@ fn make_row<L: Ledger>(
 }
 
 /// Takes the row at the place off, if it has as many records as are taken.
-fn drop_spent<L: Ledger>(rows: &mut Rows<Row>, place: BinPlace, amount: u64, steps: &mut Steps<L>)
+fn drop_spent<T: StoredRow, L: Ledger>(
+    rows: &mut RowList<T>,
+    place: BinPlace,
+    amount: u64,
+    steps: &mut Steps<L>,
+)
     requires within { place.index < length rows.old.items }
     requires more { All (λ row. place.below < row.total) (drop place.index rows.old.items) }
     ensures dropped { rows.new.items ≡ without_spent place.index place.below amount rows.old.items }
@@ -78,9 +91,14 @@ fn drop_spent<L: Ledger>(rows: &mut Rows<Row>, place: BinPlace, amount: u64, ste
 }
 
 /// An amount more in each total from a place on.
-pub fn raise<L: Ledger>(rows: &mut Rows<Row>, from: usize, amount: u64, steps: &mut Steps<L>)
+pub fn raise<T: StoredRow, L: Ledger>(
+    rows: &mut RowList<T>,
+    from: usize,
+    amount: u64,
+    steps: &mut Steps<L>,
+)
     requires within { from ≤ length rows.old.items }
-    requires fits { All (λ row. row.total + amount < 2 ^ 64) rows.old.items }
+    requires fits { All (λ row. row.total + amount < T.limit) rows.old.items }
     ensures raised { rows.new.items ≡ take from rows.old.items ++ map (raised amount) (drop from rows.old.items) }
     ensures room { rows.new.spare ≡ rows.old.spare }
 {
@@ -95,7 +113,12 @@ pub fn raise<L: Ledger>(rows: &mut Rows<Row>, from: usize, amount: u64, steps: &
 }
 
 /// An amount less in each total from a place on.
-pub fn lower<L: Ledger>(rows: &mut Rows<Row>, from: usize, amount: u64, steps: &mut Steps<L>)
+pub fn lower<T: StoredRow, L: Ledger>(
+    rows: &mut RowList<T>,
+    from: usize,
+    amount: u64,
+    steps: &mut Steps<L>,
+)
     requires within { from ≤ length rows.old.items }
     requires some { All (λ row. amount ≤ row.total) (drop from rows.old.items) }
     ensures lowered { rows.new.items ≡ take from rows.old.items ++ map (lowered amount) (drop from rows.old.items) }

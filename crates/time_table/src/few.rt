@@ -1,13 +1,14 @@
 //! A few rows that lie in a table's own bytes.
 ghost use Rattle.std.specs.Prelude.{◌≡◌, ◌+◌, ◌*◌, ◌<◌, ◌≤◌, ◌^◌, [], ◌∷◌, length, IfOk, IfSome};
 ghost use Rattle.time_table.specs.Counts.{count_before, first_from};
-ghost use Rattle.time_table.specs.Totals.{Rise, counts, counts_from, raised, lowered};
+ghost use Rattle.time_table.specs.Totals.{Rise, counts, counts_from, last_total, raised, lowered};
 ghost use Rattle.time_table.specs.Places.{added, taken};
 ghost use Rattle.time_table.specs.Fews.{few_rows, below_from};
 ghost use Rattle.time_table.specs.Series.{each_before};
 
-use crate::row::{Row, ThinRow};
-use probe_core::{Rows, Steps};
+use crate::row::ThinRow;
+use crate::row_list::RowList;
+use probe_core::Steps;
 use std::alloc::Global;
 use std::sync::ledger::Ledger;
 use texts::NoMemory;
@@ -32,6 +33,18 @@ impl Few {
             Few::One(_) => 1,
             Few::Two(_, _) => 2,
             Few::Three(_, _, _) => 3,
+        }
+    }
+
+    /// The total of the last row.
+    pub fn total(&self) -> u64
+        ensures { result ≡ last_total 0 (few_rows self.now) }
+    {
+        match self {
+            Few::No => 0,
+            Few::One(a) => u64::from(a.total()),
+            Few::Two(_, b) => u64::from(b.total()),
+            Few::Three(_, _, c) => u64::from(c.total()),
         }
     }
 
@@ -64,7 +77,8 @@ impl Few {
         self.below(bin_end)
     }
 
-    /// How many records fell into bins less than each of the ends `from`, `from + wide` and so on, by one look at each row.
+    /// How many records fell into bins less than each of the ends `from`, `from + wide` and so on, by one look at each
+    /// row.
     pub fn pass<L: Ledger>(&self, from: u64, wide: u64, totals: &mut [u64], steps: &mut Steps<L>)
         requires rise { Rise 0 0 (few_rows self.now) }
         requires small { from + wide * length totals.old < 2 ^ 64 }
@@ -155,10 +169,10 @@ impl Few {
     }
 
     /// The rows on the heap, with room for a fourth.
-    pub fn widened(&self, alloc: Global) -> Result<Rows<Row>, NoMemory>
+    pub fn widened(&self, alloc: Global) -> Result<RowList<ThinRow>, NoMemory>
         ensures { IfOk result (λ rows. rows.items ≡ few_rows self.now) }
     {
-        let mut rows = Rows::new(alloc);
+        let mut rows = RowList::new(alloc);
         rows.reserve(4)?;
         match self {
             Few::No => {}

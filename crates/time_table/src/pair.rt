@@ -1,17 +1,20 @@
 //! Two neighbouring blocks, between which rows are moved.
-ghost use Rattle.std.specs.Prelude.{◌≡◌, ◌+◌, ◌-◌, ◌<◌, ◌≤◌, ◌^◌, ◌⊎◌, [], ◌∷◌, ◌++◌, length, take, drop, insert, All};
+ghost use Rattle.std.specs.Prelude.{◌≡◌, ◌+◌, ◌-◌, ◌<◌, ◌≤◌, ◌⊎◌, [], ◌∷◌, ◌++◌, length, take, drop, insert, All};
 ghost use Rattle.time_table.specs.Totals.{Rise, last_total};
 ghost use Rattle.time_table.specs.Blocks.{one_list, GivesRow, CanLevel, AreLevel};
 
 use crate::change::{lower, raise};
 use crate::row::Row;
-use probe_core::{Rows, Steps};
+use crate::row_list::RowList;
+use crate::stored::StoredRow;
+use probe_core::Steps;
 use std::sync::ledger::Ledger;
 
 /// Puts a row in where there is room for it.
-pub fn put_row(rows: &mut Rows<Row>, i: usize, row: Row)
+pub fn put_row<T: StoredRow>(rows: &mut RowList<T>, i: usize, row: Row)
     requires within { i ≤ length rows.old.items }
     requires room { 0 < rows.old.spare }
+    requires small { row.total < T.limit }
     ensures put { rows.new.items ≡ insert rows.old.items i row }
     ensures room { rows.old.spare ≤ rows.new.spare + 1 }
 {
@@ -19,9 +22,13 @@ pub fn put_row(rows: &mut Rows<Row>, i: usize, row: Row)
 }
 
 /// Moves the first row of the right block to the end of the left one.
-fn move_left<L: Ledger>(left: &mut Rows<Row>, right: &mut Rows<Row>, steps: &mut Steps<L>)
+fn move_left<T: StoredRow, L: Ledger>(
+    left: &mut RowList<T>,
+    right: &mut RowList<T>,
+    steps: &mut Steps<L>,
+)
     requires rise { Rise 0 0 (one_list left.old.items right.old.items) }
-    requires fits { last_total 0 (one_list left.old.items right.old.items) ≤ 2 ^ 63 }
+    requires fits { last_total 0 (one_list left.old.items right.old.items) < T.limit }
     requires some_left { 0 < length left.old.items }
     requires some_right { 0 < length right.old.items }
     requires room { 0 < left.old.spare }
@@ -39,9 +46,13 @@ fn move_left<L: Ledger>(left: &mut Rows<Row>, right: &mut Rows<Row>, steps: &mut
 }
 
 /// Moves the last row of the left block to the front of the right one.
-fn move_right<L: Ledger>(left: &mut Rows<Row>, right: &mut Rows<Row>, steps: &mut Steps<L>)
+fn move_right<T: StoredRow, L: Ledger>(
+    left: &mut RowList<T>,
+    right: &mut RowList<T>,
+    steps: &mut Steps<L>,
+)
     requires rise { Rise 0 0 (one_list left.old.items right.old.items) }
-    requires fits { last_total 0 (one_list left.old.items right.old.items) ≤ 2 ^ 63 }
+    requires fits { last_total 0 (one_list left.old.items right.old.items) < T.limit }
     requires some_left { 1 < length left.old.items }
     requires room { 0 < right.old.spare }
     ensures same { one_list left.new.items right.new.items ≡ one_list left.old.items right.old.items }
@@ -59,11 +70,16 @@ fn move_right<L: Ledger>(left: &mut Rows<Row>, right: &mut Rows<Row>, steps: &mu
 }
 
 /// Puts the first rows of the right block behind those of the left one.
-fn append<L: Ledger>(left: &mut Rows<Row>, right: &Rows<Row>, count: usize, steps: &mut Steps<L>)
+fn append<T: StoredRow, L: Ledger>(
+    left: &mut RowList<T>,
+    right: &RowList<T>,
+    count: usize,
+    steps: &mut Steps<L>,
+)
     requires some { 0 < length left.old.items }
     requires within { count ≤ length right.now.items }
     requires room { count ≤ left.old.spare }
-    requires fits { All (λ row. row.total + last_total 0 left.old.items < 2 ^ 64) right.now.items }
+    requires fits { All (λ row. row.total + last_total 0 left.old.items < T.limit) right.now.items }
     ensures put { left.new.items ≡ one_list left.old.items (take count right.now.items) }
     ensures room { length left.old.items + left.old.spare ≤ length left.new.items + left.new.spare }
 {
@@ -79,7 +95,7 @@ fn append<L: Ledger>(left: &mut Rows<Row>, right: &Rows<Row>, count: usize, step
 }
 
 /// Takes the first rows off.
-fn drop_first(rows: &mut Rows<Row>, count: usize)
+fn drop_first<T: StoredRow>(rows: &mut RowList<T>, count: usize)
     requires { count ≤ length rows.old.items }
     ensures dropped { rows.new.items ≡ drop count rows.old.items }
     ensures room { length rows.old.items + rows.old.spare ≤ length rows.new.items + rows.new.spare }
@@ -90,9 +106,13 @@ fn drop_first(rows: &mut Rows<Row>, count: usize)
 }
 
 /// Moves the first rows of a full block to the one before it, until that has 63.
-pub fn fill<L: Ledger>(left: &mut Rows<Row>, right: &mut Rows<Row>, steps: &mut Steps<L>)
+pub fn fill<T: StoredRow, L: Ledger>(
+    left: &mut RowList<T>,
+    right: &mut RowList<T>,
+    steps: &mut Steps<L>,
+)
     requires rise { Rise 0 0 (one_list left.old.items right.old.items) }
-    requires fits { last_total 0 (one_list left.old.items right.old.items) ≤ 2 ^ 63 }
+    requires fits { last_total 0 (one_list left.old.items right.old.items) < T.limit }
     requires sizes { CanLevel left.old right.old }
     requires full { length right.old.items ≡ 64 }
     ensures same { one_list left.new.items right.new.items ≡ one_list left.old.items right.old.items }
@@ -107,9 +127,13 @@ pub fn fill<L: Ledger>(left: &mut Rows<Row>, right: &mut Rows<Row>, steps: &mut 
 }
 
 /// Moves all rows to the left block where that has the room, and else half of them to each.
-pub fn level<L: Ledger>(left: &mut Rows<Row>, right: &mut Rows<Row>, steps: &mut Steps<L>)
+pub fn level<T: StoredRow, L: Ledger>(
+    left: &mut RowList<T>,
+    right: &mut RowList<T>,
+    steps: &mut Steps<L>,
+)
     requires rise { Rise 0 0 (one_list left.old.items right.old.items) }
-    requires fits { last_total 0 (one_list left.old.items right.old.items) ≤ 2 ^ 63 }
+    requires fits { last_total 0 (one_list left.old.items right.old.items) < T.limit }
     requires sizes { CanLevel left.old right.old }
     ensures same { one_list left.new.items right.new.items ≡ one_list left.old.items right.old.items }
     ensures sizes { AreLevel left.new right.new }

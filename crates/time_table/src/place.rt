@@ -7,7 +7,9 @@ ghost use Rattle.time_table.specs.Totals.{Rise, counts_from, last_total, total_i
 ghost use Rattle.time_table.specs.Places.{added};
 
 use crate::row::Row;
-use probe_core::{Rows, Steps};
+use crate::row_list::RowList;
+use crate::stored::StoredRow;
+use probe_core::Steps;
 use std::sync::ledger::Ledger;
 
 /// Where the rows of a bin and of later bins begin, the total before them, and the first of them.
@@ -19,7 +21,11 @@ pub struct BinPlace {
 }
 
 /// The place of the first row whose bin is `bin_end` or later, by one binary search.
-pub fn place_of<L: Ledger>(rows: &Rows<Row>, bin_end: u64, steps: &mut Steps<L>) -> BinPlace
+pub fn place_of<T: StoredRow, L: Ledger>(
+    rows: &RowList<T>,
+    bin_end: u64,
+    steps: &mut Steps<L>,
+) -> BinPlace
     requires { Rise 0 0 rows.now.items }
     ensures place { IsPlace row_bin bin_end rows.now.items result.index }
     ensures total { result.below ≡ last_total 0 (take result.index rows.now.items) }
@@ -35,7 +41,7 @@ pub fn place_of<L: Ledger>(rows: &Rows<Row>, bin_end: u64, steps: &mut Steps<L>)
 }
 
 /// The total of a row, 0 where there is none.
-fn total_of(row: Option<Row>) -> u64
+pub fn total_of(row: Option<Row>) -> u64
     ensures { result ≡ total_in row }
 {
     match row {
@@ -45,7 +51,7 @@ fn total_of(row: Option<Row>) -> u64
 }
 
 /// Whether rows that may be 63 have one of the bin, or room for it.
-pub fn has_place<L: Ledger>(rows: &Rows<Row>, bin: u32, steps: &mut Steps<L>) -> bool
+pub fn has_place<T: StoredRow, L: Ledger>(rows: &RowList<T>, bin: u32, steps: &mut Steps<L>) -> bool
     requires rise { Rise 0 0 rows.now.items }
     requires few { length rows.now.items ≤ 63 }
     ensures room { IsTrue result → (n : ℕ) → length (added 0 bin n rows.now.items) ≤ 63 }
@@ -59,7 +65,11 @@ pub fn has_place<L: Ledger>(rows: &Rows<Row>, bin: u32, steps: &mut Steps<L>) ->
 }
 
 /// The first row whose bin is `from` or later, as the bin and its count.
-pub fn next_in<L: Ledger>(rows: &Rows<Row>, from: u64, steps: &mut Steps<L>) -> Option<(u32, u64)>
+pub fn next_in<T: StoredRow, L: Ledger>(
+    rows: &RowList<T>,
+    from: u64,
+    steps: &mut Steps<L>,
+) -> Option<(u32, u64)>
     requires { Rise 0 0 rows.now.items }
     ensures next { result ≡ first_from from (counts_from 0 rows.now.items) }
     ensures cost { steps.new ≤ steps.old + bits (length rows.now.items) }

@@ -5,9 +5,11 @@ ghost use Rattle.time_table.specs.Totals.{Rise, counts, last_total};
 ghost use Rattle.time_table.specs.Blocks.{IsSplit, flat};
 ghost use Rattle.time_table.specs.Series.{each_before, HaveRoom, GoOn, Tells, KnowsBin, KnowsRows};
 
-use crate::place::place_of;
+use crate::heads::Heads;
 use crate::row::Row;
-use probe_core::{Rows, Steps};
+use crate::row_list::RowList;
+use crate::stored::StoredRow;
+use probe_core::Steps;
 use std::sync::ledger::Ledger;
 
 /// How many ends are done, and which one is next.
@@ -32,9 +34,10 @@ fn tell(ends: &mut Ends, totals: &mut [u64], bin: u64, total: u64)
     }
 }
 
-/// Tells the totals of the ends up to the last row, and gives the total of all rows. `before` fell into bins before them.
-fn pass_rows<L: Ledger>(
-    rows: &Rows<Row>,
+/// Tells the totals of the ends up to the last row, and gives the total of all rows. `before` fell into bins before
+/// them.
+fn pass_rows<T: StoredRow, L: Ledger>(
+    rows: &RowList<T>,
     before: u64,
     ends: &mut Ends,
     totals: &mut [u64],
@@ -59,8 +62,8 @@ fn pass_rows<L: Ledger>(
 }
 
 /// The totals before the ends, by one pass over a list of rows.
-pub fn pass_single<L: Ledger>(
-    rows: &Rows<Row>,
+pub fn pass_single<T: StoredRow, L: Ledger>(
+    rows: &RowList<T>,
     from: u64,
     wide: u64,
     totals: &mut [u64],
@@ -81,20 +84,20 @@ pub fn pass_single<L: Ledger>(
 }
 
 /// The totals before the ends, by a search of the heads and one pass over the blocks from there on.
-pub fn pass_blocks<L: Ledger>(
-    heads: &Rows<Row>,
-    blocks: &Vec<Rows<Row>>,
+pub fn pass_blocks<T: StoredRow, L: Ledger>(
+    heads: &Heads,
+    blocks: &Vec<RowList<T>>,
     from: u64,
     wide: u64,
     totals: &mut [u64],
     steps: &mut Steps<L>,
 )
-    requires split { IsSplit heads.now.items blocks.now.items }
+    requires split { IsSplit T.limit heads.now.items blocks.now.items }
     requires small { from + wide * length totals.old < 2 ^ 64 }
     ensures sums { totals.new ≡ each_before (counts (flat 0 blocks.now.items)) from wide (length totals.old) }
     ensures cost { steps.new ≤ steps.old + (bits (length heads.now.items) + length (flat 0 blocks.now.items)) }
 {
-    let place = place_of(heads, from, steps);
+    let place = heads.place_of(from, steps);
     let mut ends = Ends {
         done: 0,
         end: from,
@@ -111,7 +114,7 @@ pub fn pass_blocks<L: Ledger>(
 }
 
 /// Whether blocks have at most so many rows. It looks at no more blocks than have that many.
-pub fn are_few(blocks: &Vec<Rows<Row>>, most: usize) -> bool
+pub fn are_few<T: StoredRow>(blocks: &Vec<RowList<T>>, most: usize) -> bool
     ensures { MatchBool result (length (flat 0 blocks.now.items) ≤ most) (most < length (flat 0 blocks.now.items)) }
 {
     let mut left = most;

@@ -96,8 +96,8 @@ impl TimeTable {
         self.take_many(bin, 1);
     }
 
-    /// Amounts more, each in its bin. Where the rows and the amounts are few, one pass merges them. For want of memory the
-    /// table is as before.
+    /// Amounts more, each in its bin. Where the rows and the amounts are few, one pass merges them. For want of memory
+    /// the table is as before.
     pub fn add_run(&mut self, run: &[(u32, u64)]) -> Result<(), NoMemory>
         requires run { IsBinRun run.now }
         requires fits { total_count self.old + run_total run.now ≤ 2 ^ 63 }
@@ -106,7 +106,7 @@ impl TimeTable {
         ensures was_counted { AllCounted self.old }
         ensures counted { AllCounted self.new }
     {
-        if self.form.is_mergeable(run.len()) {
+        if self.form.is_mergeable::<Brand>(run, Blank::new(1)) {
             return self.form.merge::<Brand>(self.alloc, run, Blank::new(1));
         }
         self.add_each(run)
@@ -189,8 +189,8 @@ impl TimeTable {
         Ok(TimeTable { alloc, form })
     }
 
-    /// A table of bins with their counts, which stand in rising order of bin. Rows are put behind each other, and none is
-    /// searched for.
+    /// A table of bins with their counts, which stand in rising order of bin. Rows are put behind each other, and none
+    /// is searched for.
     pub fn of_rows(alloc: Global, rows: &[(u32, u64)]) -> Result<TimeTable, NoMemory>
         requires fit { AreRows 0 rows.now }
         requires light { row_total rows.now ≤ 2 ^ 63 }
@@ -200,13 +200,14 @@ impl TimeTable {
         Ok(TimeTable { alloc, form })
     }
 
-    /// Puts all bins with their counts at the end of others, in rising order of bin. It looks at each row once.
+    /// Puts all bins with their counts at the end of others, in rising order of bin. It looks at each row at most once.
     pub fn put_rows<L: Ledger>(
         &self,
         out: &mut Vec<(u32, u64)>,
         steps: &mut Steps<L>,
     ) -> Result<(), NoMemory>
         ensures put { OnOk result (out.new.items ≡ out.old.items ++ entries self.now) }
+        ensures cost { steps.new ≤ steps.old + len self.now }
         ensures counted { AllCounted self.now }
     {
         put_form(&self.form, out, steps)

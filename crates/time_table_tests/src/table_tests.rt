@@ -27,7 +27,7 @@ enum Case {
 }
 
 /// A table without records.
-fn empty(alloc: Global) -> TimeTable
+pub(crate) fn empty(alloc: Global) -> TimeTable
     ensures { total_count result ≡ 0 }
 {
     TimeTable::new(alloc)
@@ -317,6 +317,84 @@ fn takes_runs_into_blocks(rt: HostRuntime) -> Result<(), Fail> {
     Ok(())
 }
 
+/// A list whose total is the largest of 32 bits, then one more, and then as little as before.
+#[test]
+fn counts_totals_that_pass_32_bits_and_back(rt: HostRuntime) {
+    let large = 1 << 32;
+    let cases = [
+        Case::Add(1, 1),
+        Case::Add(2, 1),
+        Case::Add(3, 1),
+        Case::Add(4, large - 4),
+        Case::Before(2, 1),
+        Case::Before(5, large - 1),
+        Case::Add(9, 1),
+        Case::Before(1, 0),
+        Case::Before(2, 1),
+        Case::Before(5, large - 1),
+        Case::Before(10, large),
+        Case::Next(0, Some((1, 1))),
+        Case::Next(4, Some((4, large - 4))),
+        Case::Take(4, large - 4),
+        Case::Before(10, 4),
+        Case::Next(4, Some((9, 1))),
+        Case::Add(1, large),
+        Case::Next(0, Some((1, large + 1))),
+        Case::Before(10, large + 4),
+    ];
+    let mut table = empty(rt.alloc());
+    expect::<Brand>(&rt, Blank::new(1), &mut table, 1 << 63, &cases);
+}
+
+/// Runs whose totals are the largest of 32 bits and one more.
+#[test]
+fn counts_runs_that_pass_32_bits(rt: HostRuntime) {
+    let half = 1 << 31;
+    let cases = [
+        Case::Add(1, 1),
+        Case::Add(8, 1),
+        Case::Pair((5, half), (9, half - 3)),
+        Case::Before(10, 2 * half - 1),
+        Case::Pair((2, 1), (7, 1)),
+        Case::Next(0, Some((1, 1))),
+        Case::Before(5, 2),
+        Case::Before(8, half + 3),
+        Case::Before(10, 2 * half + 1),
+        Case::Pair((0, 1), (9, half)),
+        Case::Next(0, Some((0, 1))),
+        Case::Before(10, 3 * half + 2),
+    ];
+    let mut table = empty(rt.alloc());
+    expect::<Brand>(&rt, Blank::new(1), &mut table, 1 << 63, &cases);
+}
+
+/// Blocks with an amount of 2^32 in one of their bins, which is taken again.
+fn push_large(cases: &mut Vec<Case>) -> Result<(), AllocError> {
+    let large = 1 << 32;
+    cases.push(Case::Add(500, large))?;
+    for bin in 0..1000u32 {
+        let count = if bin == 500 { large + 1 } else { 1 };
+        let before = if bin > 500 { large } else { 0 };
+        cases.push(Case::Before(u64::from(bin), u64::from(bin) + before))?;
+        cases.push(Case::Next(bin, Some((bin, count))))?;
+    }
+    cases.push(Case::Take(500, large))?;
+    Ok(())
+}
+
+#[test]
+fn counts_blocks_that_pass_32_bits_and_back(rt: HostRuntime) -> Result<(), Fail> {
+    let mut table = empty(rt.alloc());
+    let mut cases = Vec::new(rt.alloc());
+    push_added(&mut cases)?;
+    push_large(&mut cases)?;
+    push_told(&mut cases)?;
+    expect::<Brand>(&rt, Blank::new(1), &mut table, 1 << 63, cases.as_slice());
+    let shrinking = shrinking(rt.alloc())?;
+    expect::<Brand>(&rt, Blank::new(1), &mut table, 0, shrinking.as_slice());
+    Ok(())
+}
+
 /// The next of a series of numbers that look drawn by chance.
 fn next_number(number: u64) -> u64 {
     number
@@ -379,28 +457,30 @@ fn agrees<L: Ledger>(table: &TimeTable, counts: &[u64; 300], steps: &mut Steps<L
     table.next_row(bin, steps).is_none()
 }
 
-/// A record more in a bin. Where that is refused, the table is as before, and the next try isn't refused.
+/// An amount more in a bin. Where that is refused, the table is as before, and the next try isn't refused.
 fn add_again<L: Ledger>(
     rt: &impl Abort,
     table: &mut TimeTable,
     counts: &[u64; 300],
     bin: u32,
+    amount: u64,
     steps: &mut Steps<L>,
 )
-    requires { total_count table.old < 2 ^ 63 }
-    ensures { total_count table.new ≡ total_count table.old + 1 }
+    requires some { 0 < amount }
+    requires fits { total_count table.old + amount ≤ 2 ^ 63 }
+    ensures { total_count table.new ≡ total_count table.old + amount }
 {
-    match table.add_many(bin, 1) {
+    match table.add_many(bin, amount) {
         Ok(()) => {}
         Err(_) => {
             assert!(rt; agrees(table, counts, steps), "{bin} was refused");
-            add(rt, table, bin, 1);
+            add(rt, table, bin, amount);
         }
     }
 }
 
-/// 1,000 records in 300 bins, one after another.
-fn add_thousand<L: Ledger>(rt: &impl Abort, blank: Blank, table: &mut TimeTable)
+/// 1,000 records in 300 bins, one after another, with 2^32 records in place of one of them.
+fn add_thousand<L: Ledger>(rt: &impl Abort, blank: Blank, table: &mut TimeTable, large: u32)
     requires blank { IsBlankOf L.name L.parts blank }
     requires none { total_count table.old ≡ 0 }
 {
@@ -410,8 +490,9 @@ fn add_thousand<L: Ledger>(rt: &impl Abort, blank: Blank, table: &mut TimeTable)
     for i in 0..1_000u32 {
         number = next_number(number);
         let bin = (number >> 33) % 300;
-        add_again(rt, table, &counts, bin as u32, &mut steps);
-        counts[bin as usize] = counts[bin as usize].wrapping_add(1);
+        let amount = if i == large { 1 << 32 } else { 1 };
+        add_again(rt, table, &counts, bin as u32, amount, &mut steps);
+        counts[bin as usize] = counts[bin as usize].wrapping_add(amount);
     }
     assert!(rt; agrees(table, &counts, &mut steps));
 }
@@ -420,10 +501,18 @@ fn add_thousand<L: Ledger>(rt: &impl Abort, blank: Blank, table: &mut TimeTable)
 #[test]
 fn keeps_its_counts_where_an_addition_is_refused(rt: HostRuntime) {
     let mut table = empty(rt.alloc());
-    add_thousand::<Brand>(&rt, Blank::new(1), &mut table);
+    add_thousand::<Brand>(&rt, Blank::new(1), &mut table, 700);
 }
 
-/// A record in each of 300 bins, the even ones first, in rising order, so that full blocks give rows to the ones before.
+/// The same where a list of some twenty rows gets the large amount.
+#[test]
+fn keeps_its_counts_where_a_large_amount_is_refused(rt: HostRuntime) {
+    let mut table = empty(rt.alloc());
+    add_thousand::<Brand>(&rt, Blank::new(1), &mut table, 20);
+}
+
+/// A record in each of 300 bins, the even ones first, in rising order, so that full blocks give rows to the ones
+/// before.
 fn add_risen<L: Ledger>(rt: &impl Abort, blank: Blank, table: &mut TimeTable)
     requires blank { IsBlankOf L.name L.parts blank }
     requires none { total_count table.old ≡ 0 }
@@ -432,7 +521,7 @@ fn add_risen<L: Ledger>(rt: &impl Abort, blank: Blank, table: &mut TimeTable)
     let mut counts = [0u64; 300];
     for i in 0..300u32 {
         let bin = if i < 150 { 2 * i } else { 2 * i - 299 };
-        add_again(rt, table, &counts, bin, &mut steps);
+        add_again(rt, table, &counts, bin, 1, &mut steps);
         counts[bin as usize] = 1;
     }
     assert!(rt; agrees(table, &counts, &mut steps));

@@ -11,7 +11,8 @@ use std::thread::Threads;
 use texts::List;
 use top_call::Status;
 
-/// The files of the case at hand, the file that is being written, the puts of the next output that fail, and the report so far.
+/// The files of the case at hand, the file that is being written, the puts of the next output that fail, and the report
+/// so far.
 #[derive(Drop)]
 pub(crate) struct Case {
     alloc: Global,

@@ -25,8 +25,8 @@ pub(crate) fn stored<T: Drop>(outcome: Result<T, NoMemory>) -> Result<T> {
     }
 }
 
-/// The status of the words over files and an output of which calls may fail. It promises nothing, so that what calls it is
-/// not proved with the whole claim in view.
+/// The status of the words over files and an output of which calls may fail. It promises nothing, so that what calls it
+/// is not proved with the whole claim in view.
 fn failing_status<R: AllocGlobal + Threads + Wait + Sync>(
     rt: &R,
     words: &[String],

@@ -9,7 +9,8 @@ pub(crate) enum Line<'a> {
     Case(&'a str),
     /// `still NAME`: a new case begins, over files of which no call fails.
     Still(&'a str),
-    /// `file NAME [in PIECE] [fails K,L]`: a file begins. It is read in pieces of so many bytes, and the reads of these numbers fail, from 1.
+    /// `file NAME [in PIECE] [fails K,L]`: a file begins. It is read in pieces of so many bytes, and the reads of these
+    /// numbers fail, from 1.
     File(&'a str),
     /// `|TEXT`: a line of the file.
     Text(&'a str),

@@ -1,8 +1,8 @@
 //! Program. Runs the cases of files, one after another: the top call over files in memory, and what it leaves.
 //!
-//! The words of the command line name the files. A case puts files into a place, says which calls on them fail, runs the
-//! top call on words, and names the files to show. What is printed is compared with a stored text, so a case costs no
-//! proof. `line` has the language of the files, `case` does what its lines say.
+//! The words of the command line name the files. A case puts files into a place, says which calls on them fail, runs
+//! the top call on words, and names the files to show. What is printed is compared with a stored text, so a case costs
+//! no proof. `line` has the language of the files, `case` does what its lines say.
 //!
 //! ```text
 //! case A feed of three records is counted

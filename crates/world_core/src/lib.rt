@@ -1,4 +1,5 @@
-//! Threads. The loading machine: what feeders, their queue, the builder and the sessions do together, as one small program.
+//! Threads. The loading machine: what feeders, their queue, the builder and the sessions do together, as one small
+//! program.
 //!
 //! Five kinds of event happen to a [`World`], one at a time: a push, a pop, a publication, a tell and a look.
 //! `specs/Machine.antt` defines what each does and when it is possible. [`run`] gives the world that a list of events

@@ -15,8 +15,8 @@ use texts::NoMemory;
 use time_table::TimeTable;
 
 impl Arena {
-    /// Adds a node with its children, which are listed in rising order of label, and its content. For want of memory the
-    /// slots are as before.
+    /// Adds a node with its children, which are listed in rising order of label, and its content. For want of memory
+    /// the slots are as before.
     pub fn put_node(
         &mut self,
         children: &[(u8, Link)],
@@ -31,8 +31,8 @@ impl Arena {
         Ok(())
     }
 
-    /// Adds a time table of bins with their counts, which are listed in rising order of bin. For want of memory the slots
-    /// are as before.
+    /// Adds a time table of bins with their counts, which are listed in rising order of bin. For want of memory the
+    /// slots are as before.
     pub fn put_table(&mut self, rows: &[(u32, u64)]) -> Result<(), NoMemory>
         requires fit { AreRows 0 rows.now }
         requires light { row_total rows.now ≤ 2 ^ 63 }
@@ -65,8 +65,8 @@ impl Arena {
         }
     }
 
-    /// Contracts learn that the labels of each node rise. What it asks of each slot is not used, so nothing of it is left at
-    /// run time.
+    /// Contracts learn that the labels of each node rise. What it asks of each slot is not used, so nothing of it is
+    /// left at run time.
     pub fn tell_order(&self)
         ensures { AllRising self.now }
     {

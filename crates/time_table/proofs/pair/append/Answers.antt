@@ -1,4 +1,4 @@
-use Rattle.std.proofs.Common.{◌≡◌, ◌+◌, ◌-◌, ◌<◌, ◌^◌, get_or, length, arith, ap}
+use Rattle.std.proofs.Common.{◌≡◌, ◌+◌, ◌-◌, ◌<◌, get_or, length, arith, ap}
 use Rattle.time_table.specs.declared.row.Row.{Row}
 use Rattle.time_table.specs.Totals.{last_total}
 use Rattle.time_table.proofs.TwoRowLists.{last_total_at, length-end, appended_more}
@@ -7,9 +7,16 @@ use Rattle.time_table.proofs.pair.append.Goals as goal
 pub overflow_add-row : goal.overflow_add-row
 overflow_add-row g c =
     let below : c.at-below.result.total ≡ last_total 0 c.args.left.now.items = last_total_at 0 (c.len.result - 1) c.args.left.now.items c.at-below.result (omega arith) c.at-below.ensures.item in
-    let fits : (get_or c.args.right.now.items c.loop-i.i c.at-bin.result).total + last_total 0 c.args.left.now.items < 2 ^ 64 = c.requires.fits c.loop-i.i c.at-bin.result (omega arith) in
+    let fits : (get_or c.args.right.now.items c.loop-i.i c.at-bin.result).total + last_total 0 c.args.left.now.items < g.T.StoredRow.limit = c.requires.fits c.loop-i.i c.at-bin.result (omega arith) in
     let read : c.at-bin.result.total ≡ (get_or c.args.right.now.items c.loop-i.i c.at-bin.result).total = ap (λ (x : Row). x.total) c.at-bin.ensures.item in
-    omega arith
+    omega (arith, below, fits, read, c.at-bin.ensures.limit)
+
+pub put_row-requires-clause-small : goal.put_row-requires-clause-small
+put_row-requires-clause-small g c =
+    let below : c.at-below.result.total ≡ last_total 0 c.args.left.now.items = last_total_at 0 (c.len.result - 1) c.args.left.now.items c.at-below.result (omega arith) c.at-below.ensures.item in
+    let fits : (get_or c.args.right.now.items c.loop-i.i c.at-bin.result).total + last_total 0 c.args.left.now.items < g.T.StoredRow.limit = c.requires.fits c.loop-i.i c.at-bin.result (omega arith) in
+    let read : c.at-bin.result.total ≡ (get_or c.args.right.now.items c.loop-i.i c.at-bin.result).total = ap (λ (x : Row). x.total) c.at-bin.ensures.item in
+    omega (arith, below, fits, read)
 
 pub loop-i-preserved : goal.loop-i-preserved
 loop-i-preserved g c =

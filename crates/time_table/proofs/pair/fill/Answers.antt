@@ -3,7 +3,7 @@ use Rattle.time_table.proofs.TwoRowLists.{right_fits, given, above_given, filled
 use Rattle.time_table.proofs.pair.fill.Goals as goal
 
 pub append-requires-clause-fits : goal.append-requires-clause-fits
-append-requires-clause-fits g c = right_fits c.args.left.now.items c.args.right.now.items c.requires.rise c.requires.fits
+append-requires-clause-fits g c = right_fits _ c.args.left.now.items c.args.right.now.items c.requires.rise c.requires.fits
 
 pub lower-requires-clause-some : goal.lower-requires-clause-some
 lower-requires-clause-some g c =

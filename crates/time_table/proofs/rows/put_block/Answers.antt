@@ -19,4 +19,5 @@ loop-i-preserved g c =
           ∙ ap (λ k. c.args.out.now.items ++ (counts_from 0 (take c.loop-i.i rows) ++ (row.bin, row.total - k) ∷ [])) c.loop-i.invariant.below
           ∙ ap (λ zs. c.args.out.now.items ++ zs) (sym (counts_from-more 0 c.loop-i.i rows row (omega arith) c.at-row.ensures.item));
       below = total_upto 0 c.loop-i.i rows row (omega arith) c.at-row.ensures.item;
+      cost = omega (arith, c.loop-i.invariant.cost, c.at-row.ensures.one_step);
     }

@@ -9,22 +9,22 @@ loop-i-init g c =
     subst (IsMerging c.args.rows.now.items c.args.run.now 0 0 0) (sym none) (merging_none c.args.rows.now.items c.args.run.now)
 
 pub put_lesser-requires-clause-fits : goal.put_lesser-requires-clause-fits
-put_lesser-requires-clause-fits g c = fits_lesser c.args.rows.now.items c.args.run.now c.loop-i.i c.loop-i.place c.loop-i.more _ c.requires.single c.requires.fits c.loop-i.invariant
+put_lesser-requires-clause-fits g c = fits_lesser _ c.args.rows.now.items c.args.run.now c.loop-i.i c.loop-i.place c.loop-i.more _ c.requires.single c.requires.fits c.loop-i.invariant
 
 pub put_new-requires : goal.put_new-requires
-put_new-requires g c = record { fits = fits_new c.args.rows.now.items c.args.run.now c.loop-i.i c.loop-i.place c.loop-i.more c.in_ok-place.place _ (0, 0) _ _ c.requires.single c.requires.run c.loop-i-test.true c.requires.fits c.loop-i.invariant c.in_ok-place.ensures }
+put_new-requires g c = record { fits = fits_new _ c.args.rows.now.items c.args.run.now c.loop-i.i c.loop-i.place c.loop-i.more c.in_ok-place.place _ (0, 0) _ _ c.requires.single c.requires.run c.loop-i-test.true c.requires.fits c.loop-i.invariant c.in_ok-place.ensures }
 
 pub overflow_add-more : goal.overflow_add-more
 overflow_add-more g c =
-    let room = still_room c.args.rows.now.items c.args.run.now c.loop-i.i c.loop-i.place c.loop-i.more (0, 0) _ c.loop-i-test.true c.requires.fits c.loop-i.invariant in
-    omega (arith, room)
+    let room = still_room _ c.args.rows.now.items c.args.run.now c.loop-i.i c.loop-i.place c.loop-i.more (0, 0) _ c.loop-i-test.true c.requires.fits c.loop-i.invariant in
+    omega (arith, room.half)
 
 pub loop-i-preserved : goal.loop-i-preserved
 loop-i-preserved g c =
     merge_step c.args.rows.now.items c.args.run.now c.loop-i.i c.loop-i.place c.loop-i.more c.in_ok-place.place (get_or c.args.run.now c.loop-i.i (0, 0)) (0, 0) _ _ _ c.requires.single c.requires.run c.loop-i-test.true refl (omega (arith, c.loop-i-test.element_fits)) c.loop-i.invariant (subst (λ e. PutsLesser e c.loop-i.more c.loop-i.place c.in_ok-place.place c.args.rows.now.items c.loop-i.merged.items c.put_lesser.new.merged.items) c.from.ensures c.in_ok-place.ensures) c.in_ok-put_new.ensures
 
 pub put_lesser-requires-2-clause-fits : goal.put_lesser-requires-2-clause-fits
-put_lesser-requires-2-clause-fits g c = fits_lesser c.args.rows.now.items c.args.run.now c.loop-i.i c.loop-i.place c.loop-i.more _ c.requires.single c.requires.fits c.loop-i.invariant
+put_lesser-requires-2-clause-fits g c = fits_lesser _ c.args.rows.now.items c.args.run.now c.loop-i.i c.loop-i.place c.loop-i.more _ c.requires.single c.requires.fits c.loop-i.invariant
 
 pub returns-clause-merged : goal.returns-clause-merged
 returns-clause-merged g c = (merge_end c.args.rows.now.items c.args.run.now c.loop-i.i c.loop-i.place c.loop-i.more c.in_ok-put_lesser.field-0 _ _ c.requires.single c.requires.run c.requires.few (omega arith) c.loop-i.invariant c.in_ok-put_lesser.ensures).0

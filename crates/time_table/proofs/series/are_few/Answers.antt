@@ -1,9 +1,9 @@
-use Rattle.std.proofs.Common.{◌≡◌, ◌≤◌, arith}
+use Rattle.std.proofs.Common.{arith}
 use Rattle.time_table.proofs.SeriesTotals.{rows_within, rows_whole}
 use Rattle.time_table.proofs.series.are_few.Goals as goal
 
 pub returns-then-left-len : goal.returns-then-left-len
-returns-then-left-len c = omega (arith, rows_within c.args.blocks.now.items c.deref-block-items.result.now c.loop-block.block-index c.block-item.result c.deref-block-items.ensures.value c.block-item.is (omega arith), c.loop-block.invariant, c.len.ensures)
+returns-then-left-len g c = omega (arith, rows_within c.args.blocks.now.items c.deref-block-items.result.now c.loop-block.block-index c.block-item.result c.deref-block-items.ensures.value c.block-item.is (omega arith), c.loop-block.invariant, c.len.ensures)
 
 pub returns : goal.returns
-returns c = omega (arith, rows_whole c.args.blocks.now.items c.deref-block-items.result.now c.loop-block.block-index c.deref-block-items.ensures.value (omega arith), c.loop-block.invariant)
+returns g c = omega (arith, rows_whole c.args.blocks.now.items c.deref-block-items.result.now c.loop-block.block-index c.deref-block-items.ensures.value (omega arith), c.loop-block.invariant)

@@ -1,4 +1,4 @@
-use Rattle.std.proofs.Common.{◌≡◌, ◌+◌, ◌<◌, ◌≤◌, ◌^◌, List, length, set, length-set, arith, sym, ap, subst, ◌∙◌}
+use Rattle.std.proofs.Common.{◌≡◌, ◌<◌, List, length, set, length-set, arith, sym, ap, subst, ◌∙◌}
 use Rattle.time_table.specs.declared.row.Row.{Row}
 use Rattle.time_table.specs.Totals.{last_total}
 use Rattle.time_table.specs.Places.{added}
@@ -21,11 +21,10 @@ add_record-requires-clause-rise g c =
 pub add_record-requires-clause-fits : goal.add_record-requires-clause-fits
 add_record-requires-clause-fits g c =
     let part = total_at 0 0 c.args.place c.args.heads.now.items c.args.blocks.now.items c.index_mut-block.result.now c.requires.split.held c.requires.within c.index_mut-block.ensures.value in
-    let fits : last_total 0 c.args.heads.now.items + c.args.amount ≤ 2 ^ 63 = c.requires.fits in
-    omega (arith, part)
+    record { half = omega (arith, part, c.requires.fits.half); small = omega (arith, part, c.requires.fits.small) }
 
 pub raise-requires-clause-fits : goal.raise-requires-clause-fits
-raise-requires-clause-fits g c = fits_all c.args.amount c.args.heads.now.items (Rise-heads 0 0 c.args.heads.now.items c.args.blocks.now.items c.requires.split.held) c.requires.fits
+raise-requires-clause-fits g c = fits_all _ c.args.amount c.args.heads.now.items (Rise-heads 0 0 c.args.heads.now.items c.args.blocks.now.items c.requires.split.held) (omega (arith, c.requires.fits.half))
 
 pub returns-clause-adds : goal.returns-clause-adds
 returns-clause-adds g c =

@@ -1,7 +1,7 @@
-use Rattle.std.proofs.Common.{◌≡◌, ◌+◌, ◌-◌, ◌<◌, ◌≤◌, ◌^◌, List, [], length, get_or, arith, sym, ap, subst, ◌∙◌}
+use Rattle.std.proofs.Common.{◌≡◌, ◌+◌, ◌-◌, ◌<◌, List, [], length, get_or, arith, sym, ap, subst, ◌∙◌}
 use Rattle.time_table.specs.declared.row.Row.{Row}
 use Rattle.time_table.specs.Places.{more}
-use Rattle.time_table.specs.Totals.{last_total}
+use Rattle.time_table.specs.Totals.{IsTotal, last_total}
 use Rattle.time_table.specs.Blocks.{Block, SizedBut, parts}
 use Rattle.time_table.proofs.BlockRows.{Rise-heads, placed}
 use Rattle.time_table.proofs.LastBins.{AreLast-in_hand}
@@ -58,8 +58,7 @@ returns-then-len-lt63-clause-split g c = record {
       omega (arith, less, c.add_at.ensures.adds.longer d));
   fits =
       let total : last_total 0 c.add_at.new.heads.items ≡ last_total 0 c.args.heads.now.items + c.args.amount = c.add_at.ensures.adds.total in
-      let fits : last_total 0 c.args.heads.now.items + c.args.amount ≤ 2 ^ 63 = c.requires.fits in
-      omega arith;
+      subst (IsTotal _) (sym total) c.requires.fits;
 }
 
 pub returns-then-len-lt64-clause-split : goal.returns-then-len-lt64-clause-split
@@ -74,8 +73,7 @@ returns-then-len-lt64-clause-split g c = record {
   fits =
       let total : last_total 0 c.add_at-2.new.heads.items ≡ last_total 0 c.args.heads.now.items + c.args.amount =
       c.add_at-2.ensures.adds.total ∙ ap (λ (hs : List Row). last_total 0 hs + c.args.amount) c.reserve-2.ensures.unchanged in
-      let fits : last_total 0 c.args.heads.now.items + c.args.amount ≤ 2 ^ 63 = c.requires.fits in
-      omega arith;
+      subst (IsTotal _) (sym total) c.requires.fits;
 }
 
 pub settle-requires-clause-hand : goal.settle-requires-clause-hand
@@ -144,6 +142,5 @@ returns-else-len-eq64-clause-split g c = record {
       omega (arith, less, is.most));
   fits =
       let total : last_total 0 c.add_at-then-has_gap_before.new.heads.items ≡ last_total 0 c.args.heads.now.items + c.args.amount = c.add_at-then-has_gap_before.ensures.adds.total in
-      let fits : last_total 0 c.args.heads.now.items + c.args.amount ≤ 2 ^ 63 = c.requires.fits in
-      omega arith;
+      subst (IsTotal _) (sym total) c.requires.fits;
 }

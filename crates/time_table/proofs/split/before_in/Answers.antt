@@ -35,7 +35,7 @@ overflow_add-result g c =
     last_total-take-le 0 0 c.place_of-further.result.index c.index-block.result.now.items (Rise-at 0 0 c.place_of-place.result.index c.args.heads.now.items c.args.blocks.now.items c.index-block.result.now c.requires.held inside c.index-block.ensures) in
     let one : c.place_of-place.result.below ≡ last_total 0 (take c.place_of-place.result.index c.args.heads.now.items) = c.place_of-place.ensures.total in
     let two : c.place_of-further.result.below ≡ last_total 0 (take c.place_of-further.result.index c.index-block.result.now.items) = c.place_of-further.ensures.total in
-    let fits : last_total 0 c.args.heads.now.items ≤ 2 ^ 63 = c.requires.fits in
+    let fits : last_total 0 c.args.heads.now.items ≤ 2 ^ 63 = c.requires.fits.half in
     omega arith
 
 pub returns-clause-sum : goal.returns-clause-sum

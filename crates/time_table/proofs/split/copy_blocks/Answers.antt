@@ -5,8 +5,8 @@ use Rattle.time_table.proofs.BlockSizes.{sized_at}
 use Rattle.time_table.proofs.BlockCopies.{copied_more, take-lists}
 use Rattle.time_table.proofs.split.copy_blocks.Goals as goal
 
-pub block_of-requires : goal.block_of-requires
-block_of-requires g c = record { few = (sized_at c.loop-i.i c.args.blocks.now.items _ c.requires.sized (omega arith) c.index.ensures).most }
+pub block_of-requires-clause-few : goal.block_of-requires-clause-few
+block_of-requires-clause-few g c = (sized_at c.loop-i.i c.args.blocks.now.items _ c.requires.sized (omega arith) c.index.ensures).most
 
 pub loop-i-preserved : goal.loop-i-preserved
 loop-i-preserved g c =

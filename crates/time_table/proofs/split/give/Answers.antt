@@ -14,30 +14,30 @@ use Rattle.time_table.proofs.split.give.Goals as goal
 right_at : (g : Over) (c : After-index_mut-left g) → c.replace-right.result ≡ get_or c.args.blocks.now.items (c.args.q + 1) c.replace-right.result
 right_at g c = subst (λ (b : Block). b ≡ get_or c.args.blocks.now.items (c.args.q + 1) b) (sym c.replace-right.ensures.value) c.index_mut-full.ensures.value
 
-is_paired : (g : Over) (c : After-index_mut-left g) → IsPaired c.args.q (remove c.args.heads.now.items c.args.q) (remove c.args.blocks.now.items (suc c.args.q)) c.index_mut-left.result.now c.replace-right.result
+is_paired : (g : Over) (c : After-index_mut-left g) → IsPaired g.T.StoredRow.limit c.args.q (remove c.args.heads.now.items c.args.q) (remove c.args.blocks.now.items (suc c.args.q)) c.index_mut-left.result.now c.replace-right.result
 is_paired g c =
     let right = right_at g c in
-    paired c.args.q c.args.heads.now.items c.args.blocks.now.items c.replace-right.new.dest c.index_mut-left.result.now c.replace-right.result c.requires.held c.requires.fits c.requires.within right
+    paired _ c.args.q c.args.heads.now.items c.args.blocks.now.items c.replace-right.new.dest c.index_mut-left.result.now c.replace-right.result c.requires.held c.requires.fits c.requires.within right
     (c.requires.pair c.replace-right.result right) (omega (arith, c.requires.full c.replace-right.result right)) c.index_mut-left.ensures.value
 
 -- there are as many heads as blocks
 headed : (g : Over) (c : After-index_mut-left g) → suc c.args.q < length c.args.heads.now.items
 headed g c = omega (arith, held_len 0 0 c.args.heads.now.items c.args.blocks.now.items c.requires.held.held, c.requires.within)
 
-halves : (g : Over) (c : After-at-head g) → IsPaired c.args.q (remove c.args.heads.now.items c.args.q) (remove c.args.blocks.now.items (suc c.args.q)) c.index_mut-left.result.now c.replace-right.result → suc c.args.q < length c.args.heads.now.items → last_total 0 c.fill.new.left.items + last_total 0 c.fill.new.right.items ≤ c.at-head.result.total
-halves g c is within = total_given c.args.q c.args.heads.now.items c.args.blocks.now.items c.index_mut-left.result.now c.replace-right.result c.fill.new.left c.fill.new.right c.at-head.result is within c.at-head.ensures.item c.fill.ensures.same
+halves : (g : Over) (c : After-at-head g) → IsPaired g.T.StoredRow.limit c.args.q (remove c.args.heads.now.items c.args.q) (remove c.args.blocks.now.items (suc c.args.q)) c.index_mut-left.result.now c.replace-right.result → suc c.args.q < length c.args.heads.now.items → last_total 0 c.fill.new.left.items + last_total 0 c.fill.new.right.items ≤ c.at-head.result.total
+halves g c is within = total_given _ c.args.q c.args.heads.now.items c.args.blocks.now.items c.index_mut-left.result.now c.replace-right.result c.fill.new.left c.fill.new.right c.at-head.result is within c.at-head.ensures.item c.fill.ensures.same
 
 end_total : (g : Over) (c : After-at-head g) → c.at-end.result.total ≡ last_total 0 c.fill.new.right.items
 end_total g c = last_total_at 0 (c.len-2.result - 1) c.fill.new.right.items c.at-end.result (omega (arith, c.fill.ensures.some)) c.at-end.ensures.item
 
 pub fill-requires-clause-rise : goal.fill-requires-clause-rise
-fill-requires-clause-rise g c = pair_rise _ _ _ _ _ (is_paired g (goal.at.fill-requires-clause-rise g c).After-index_mut-left)
+fill-requires-clause-rise g c = pair_rise _ _ _ _ _ _ (is_paired g (goal.at.fill-requires-clause-rise g c).After-index_mut-left)
 
 pub fill-requires-clause-fits : goal.fill-requires-clause-fits
-fill-requires-clause-fits g c = pair_fits _ _ _ _ _ (is_paired g (goal.at.fill-requires-clause-fits g c).After-index_mut-left)
+fill-requires-clause-fits g c = pair_fits _ _ _ _ _ _ (is_paired g (goal.at.fill-requires-clause-fits g c).After-index_mut-left)
 
 pub fill-requires-clause-sizes : goal.fill-requires-clause-sizes
-fill-requires-clause-sizes g c = pair_sizes _ _ _ _ _ (is_paired g (goal.at.fill-requires-clause-sizes g c).After-index_mut-left)
+fill-requires-clause-sizes g c = pair_sizes _ _ _ _ _ _ (is_paired g (goal.at.fill-requires-clause-sizes g c).After-index_mut-left)
 
 pub at-head-requires : goal.at-head-requires
 at-head-requires g c = omega (arith, headed g (goal.at.at-head-requires g c).After-index_mut-left)
@@ -65,11 +65,11 @@ returns-clause-split g c =
       bin = λ least. bin_after_at least (c.len.result - 1) c.fill.new.left.items c.at-last.result last c.at-last.ensures.item;
       total = omega (arith, halves g on (is_paired g at) (headed g at), end_total g on);
     } in
-    split_given c.args.q c.args.heads.now.items c.set.new.self.items c.args.blocks.now.items c.replace-right.new.dest c.index_mut-left.result.now c.replace-right.result c.fill.new.left c.fill.new.right c.at-head.result row
+    split_given _ c.args.q c.args.heads.now.items c.set.new.self.items c.args.blocks.now.items c.replace-right.new.dest c.index_mut-left.result.now c.replace-right.result c.fill.new.left c.fill.new.right c.at-head.result row
     (is_paired g at) (omega (arith, c.requires.within)) (headed g at) c.at-head.ensures.item parted c.fill.ensures.sizes c.set.ensures.written
 
 pub returns-clause-parts : goal.returns-clause-parts
 returns-clause-parts g c =
     let at = (goal.at.returns-clause-parts g c).After-index_mut-left in
-    parts_given c.args.q _ c.args.blocks.now.items c.replace-right.new.dest c.index_mut-left.result.now c.replace-right.result c.fill.new.left c.fill.new.right
+    parts_given _ c.args.q _ c.args.blocks.now.items c.replace-right.new.dest c.index_mut-left.result.now c.replace-right.result c.fill.new.left c.fill.new.right
     (is_paired g at) (omega (arith, c.requires.within)) (right_at g at) c.fill.ensures.same

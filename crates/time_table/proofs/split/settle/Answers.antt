@@ -1,8 +1,8 @@
-use Rattle.std.proofs.Common.{◌≡◌, ◌+◌, ◌-◌, ◌<◌, ◌≤◌, ◌^◌, List, get_or, length, take, set, arith, sym, ap, subst, ◌∙◌, add-one}
+use Rattle.std.proofs.Common.{◌≡◌, ◌+◌, ◌-◌, ◌<◌, ◌≤◌, List, get_or, length, take, set, arith, sym, ap, subst, ◌∙◌, add-one}
 use Rattle.std.specs.List.{insert}
 use Rattle.std.proofs.lemmas.List.{nil_from_length}
 use Rattle.time_table.specs.declared.row.Row.{Row}
-use Rattle.time_table.specs.Totals.{last_total}
+use Rattle.time_table.specs.Totals.{IsTotal, last_total}
 use Rattle.time_table.specs.Blocks.{Block, Held, AreLast, AllSized, one_list, in_hand, parts}
 use Rattle.time_table.proofs.BlockRows.{held_len, Rise-at, total_at, Held-all_left, parts-all_left, AllSized-set, Held-parted, parts-parted, AllSized-parted, IsParted, last_total-insert, head_total_at}
 use Rattle.time_table.proofs.TwoRowLists.{one_list-nil, last_total_at, last_total-one_list, bin_after_at}
@@ -51,8 +51,7 @@ level-requires-clause-fits g c =
     let at = (goal.at.level-requires-clause-fits g c).After-index_mut-left in
     let sum : last_total 0 (take c.args.q c.args.heads.now.items) + last_total 0 (one_list c.index_mut-left.result.now.items c.args.right.items) ≤ last_total 0 c.args.heads.now.items =
     total_at 0 0 c.args.q c.args.heads.now.items (in_hand c.args.q c.args.right c.args.blocks.now.items) (both c.index_mut-left.result.now c.args.right) c.requires.held.held (headed g at) (both_at g at) in
-    let fits : last_total 0 c.args.heads.now.items ≤ 2 ^ 63 = c.requires.fits in
-    omega arith
+    omega (arith, sum, c.requires.fits.small)
 
 pub level-requires-clause-sizes : goal.level-requires-clause-sizes
 level-requires-clause-sizes g c =
@@ -139,7 +138,6 @@ returns-clause-split g c =
           subst AllSized blocks
           (AllSized-parted _ c.args.q c.args.blocks.now.items c.level.new.left c.level.new.right c.requires.hand.sized c.level.ensures.sizes.sized (record { least = least; most = most; room = c.level.ensures.sizes.right_room }));
       fits =
-          let total : last_total 0 c.put_row.new.rows.items ≡ last_total 0 c.args.heads.now.items = ap (last_total 0) c.put_row.ensures.put ∙ last_total-insert 0 c.args.q c.args.heads.now.items _ (omega (arith, within)) in
-          let fits : last_total 0 c.args.heads.now.items ≤ 2 ^ 63 = c.requires.fits in
-          omega arith;
+          let total : last_total 0 c.put_row.new.self.items ≡ last_total 0 c.args.heads.now.items = ap (last_total 0) c.put_row.ensures.put ∙ last_total-insert 0 c.args.q c.args.heads.now.items _ (omega (arith, within)) in
+          subst (IsTotal _) (sym total) c.requires.fits;
     }

@@ -1,4 +1,4 @@
-use Rattle.std.proofs.Common.{suc, ◌≡◌, ◌+◌, ◌<◌, ◌≤◌, ◌^◌, List, length, get_or, arith, sym, ap, subst, ◌∙◌, add-one}
+use Rattle.std.proofs.Common.{suc, ◌≡◌, ◌+◌, ◌<◌, ◌≤◌, List, length, get_or, arith, sym, ap, subst, ◌∙◌, add-one}
 use Rattle.std.specs.List.{remove}
 use Rattle.time_table.specs.declared.row.Row.{Row}
 use Rattle.time_table.specs.Totals.{last_total}
@@ -41,8 +41,7 @@ settle-requires-clause-fits g c =
     let within : c.neighbour-q.result + 1 < c.len-count.result = c.neighbour-q.ensures.within in
     let kept : last_total 0 c.remove.new.self.items ≡ last_total 0 c.take_at-place.new.heads.items = ap (last_total 0) c.remove.ensures.removed ∙ last_total-remove 0 c.neighbour-q.result c.take_at-place.new.heads.items (omega arith) in
     let less : last_total 0 c.take_at-place.new.heads.items ≤ last_total 0 c.args.heads.now.items = c.take_at-place.ensures.total in
-    let fits : last_total 0 c.args.heads.now.items ≤ 2 ^ 63 = c.requires.split.fits in
-    omega arith
+    record { half = omega (arith, kept, less, c.requires.split.fits.half); small = omega (arith, kept, less, c.requires.split.fits.small) }
 
 pub returns-clause-parts : goal.returns-clause-parts
 returns-clause-parts g c =

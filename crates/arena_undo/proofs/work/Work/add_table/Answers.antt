@@ -1,13 +1,11 @@
-use Rattle.std.proofs.Common.{List}
+use Rattle.std.proofs.Common.{List, refl}
 use Rattle.std.specs.FinMap.{empty}
 use Rattle.node_arena.specs.Slots.{Slot, table}
-use Rattle.node_arena.specs.Calls.{add_table}
-use Rattle.arena_undo.proofs.Backward.{added_back, added_there}
-use Rattle.arena_undo.proofs.Trails.{step_made}
+use Rattle.arena_undo.proofs.Trails.{added_made}
 use Rattle.arena_undo.proofs.work.Work.add_table.Goals as goal
 
 pub invariant_of-self-2 : goal.invariant_of-self-2
-invariant_of-self-2 c = (step_made (λ (s : List Slot). add_table s) _ _ _ _ _ _ _ _ c.args.self.now c.self.invariant c.self.view_is c.requires c.note.ensures.noted c.note.ensures.room c.in_ok-id.ensures.added (added_there c.args.self.now.slots (table empty)) (added_back c.args.self.now.slots (table empty))).0
+invariant_of-self-2 c = (added_made (λ (s : List Slot). table empty) c.self.inside.arena _ _ _ _ _ _ _ c.args.self.now c.self.invariant c.self.view_is c.requires refl c.in_ok-id.ensures.added).0
 
 pub returns-clause-added : goal.returns-clause-added
-returns-clause-added c = (step_made (λ (s : List Slot). add_table s) _ _ _ _ _ _ _ _ c.args.self.now c.self.invariant c.self.view_is c.requires c.note.ensures.noted c.note.ensures.room c.in_ok-id.ensures.added (added_there c.args.self.now.slots (table empty)) (added_back c.args.self.now.slots (table empty))).1
+returns-clause-added c = (added_made (λ (s : List Slot). table empty) c.self.inside.arena _ _ _ _ _ _ _ c.args.self.now c.self.invariant c.self.view_is c.requires refl c.in_ok-id.ensures.added).1

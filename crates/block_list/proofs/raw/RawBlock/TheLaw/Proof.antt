@@ -1,4 +1,5 @@
--- A `&` to a block's memory reaches its items, and neither the room after them nor the right to free it. Assumes `Logic`.
+-- A `&` to a block's memory reaches its items, and neither the room after them nor the right to free it. Assumes
+-- `Logic`.
 use Rattle.std.proofs.Common.{sym, subst, ◌*◌, ◌-◌, ◌^◌, List, [], ◌++◌, length}
 use seplogic.Ra.Ura.{Ura}
 use base.Fraction.{full_share}

@@ -67,7 +67,8 @@ read_spec 𝓤 𝓛 𝓜 𝓡 wired X Z LX LZ g d dd met md =
     rewrite ! 0 (λ (zs : List (el_x E)). ‵ (part_at (Array (R E) (length xs)) full_share zs b o)) parts refl $
     use1 𝓛 (‵ (part_at (Array (R E) k) full_share ys b o) ⊛ ‵ (part_at (R E) full_share x b at)) (unsnoc E 𝓛 b o (length xs) k ys x short) $ split ! $ move ! (1 ∷ []) $
     use1 𝓛 (some (λ (v : Val). given (Good E v) (‵ (fat full_share (elτ E) b at v) ⊛ ‵ (el_own E x (v ∷ []))))) (el_out E 𝓛 full_share x b at) $ pick ! (λ v. learn ! (λ tv. split ! $
-    -- [the cell; what the item owns; the other items; the room; the right; the words; the open borrow; obs; auth; the other tokens]
+    -- [the cell; what the item owns; the other items; the room; the right; the words; the open borrow; obs; auth; the
+    -- other tokens]
     first ! $ blocks ! $
     sets ! (of_opd ! (load ! (through ! refl (fld ! refl (stop !))) (look_in ! 5 (sub ! 0 refl (whole !))))) refl (tt, tt) $
     sets ! (bin ! (get ! refl) (size_lit ! (record { fits = tiny })) (record { fits = fm })) refl (tt, record { fits = fm }) $

@@ -69,7 +69,8 @@ write_spec 𝓤 𝓛 𝓜 𝓡 wired X Z LX LZ g d dd met md =
     let at : ℕ = n * s + o in
     rewrite ! 0 (λ (j : ℕ). ‵ (part_at (Array (R E) j) full_share xs b o)) (sym ok.0) refl $ rewrite ! 1 (λ (j : ℕ). ‵ (Spare E b o j)) (sym ok.0) refl $ move ! (1 ∷ []) $
     use1 𝓛 (‵ (froom (elτ E) b at) ⊛ ‵ (Spare E b o (n + 1))) (spare E 𝓛 b o n 64 ok.1) $ split ! $
-    -- [the place; the room after it; the items; the right; the words; the open borrow; obs; auth; the other tokens; what the item owns]
+    -- [the place; the room after it; the items; the right; the words; the open borrow; obs; auth; the other tokens;
+    -- what the item owns]
     first ! $ blocks ! $
     sets ! (of_opd ! (load ! (through ! refl (fld ! refl (stop !))) (look_in ! 4 (sub ! 0 refl (whole !))))) refl (tt, tt) $
     sets ! (bin ! (get ! refl) (size_lit ! (record { fits = tiny })) (record { fits = fm })) refl (tt, record { fits = fm }) $

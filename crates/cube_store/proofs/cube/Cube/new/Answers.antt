@@ -5,7 +5,7 @@ use Rattle.cube_view.specs.declared.schema.Schema.{Schema}
 use Rattle.node_arena.specs.declared.link.SlotId.{SlotId}
 use Rattle.cube_store.specs.Counted.{CountsPoints, HasPoints}
 use Rattle.cube_store.proofs.CubeBags.{Counts-points, IsBag-cube}
-use Rattle.cube_store.proofs.Empty.{counts_none}
+use Rattle.cube_store.proofs.Empty.{counts_none, least_none_counted}
 use Rattle.cube_store.proofs.Numbers.{OwnsAllButRoot-cube}
 use Rattle.cube_store.proofs.cube.Cube.new.Goals as goal
 
@@ -27,3 +27,6 @@ returns-clause-empty c = empty c.args.schema c.add_node.new.self c.in_ok-root.ro
 
 pub returns-clause-counted : goal.returns-clause-counted
 returns-clause-counted c = Counts-points _ _ _ _ [] (empty c.args.schema c.add_node.new.self c.in_ok-root.root (c.in_ok-root.ensures.added ∙ ap add_node c.new-arena.ensures) (c.in_ok-root.ensures.id ∙ ap (λ (s : List Slot). id_of (length s)) c.new-arena.ensures))
+
+pub returns-clause-least : goal.returns-clause-least
+returns-clause-least c = least_none_counted c.args.schema c.add_node.new.self c.in_ok-root.root.0 (c.in_ok-root.ensures.added ∙ ap add_node c.new-arena.ensures) (ap (λ (id : SlotId). id.0) (c.in_ok-root.ensures.id ∙ ap (λ (s : List Slot). id_of (length s)) c.new-arena.ensures))

@@ -13,3 +13,11 @@ returns-in-Single-clause-sum g c =
     c.place_of.ensures.total
     ∙ count_before-counts c.in-Single.rows.items c.place_of.result.index c.args.bin_end single.rise place.lesser place.others
     ∙ ap (λ (f : Form). count_before (counts (rows_of f)) c.args.bin_end) (sym c.in-Single.is)
+
+pub returns-in-WideSingle-clause-sum : goal.returns-in-WideSingle-clause-sum
+returns-in-WideSingle-clause-sum g c =
+    let single : IsSingle c.in-WideSingle.rows.items = subst IsForm c.in-WideSingle.is c.requires in
+    let place = c.place_of-in-WideSingle.ensures.place in
+    c.place_of-in-WideSingle.ensures.total
+    ∙ count_before-counts c.in-WideSingle.rows.items c.place_of-in-WideSingle.result.index c.args.bin_end single.rise place.lesser place.others
+    ∙ ap (λ (f : Form). count_before (counts (rows_of f)) c.args.bin_end) (sym c.in-WideSingle.is)

@@ -21,7 +21,26 @@ returns-in-Single-clause-taken g c =
     ∙ counts_from-taken 0 0 c.args.bin c.args.amount c.in-Single.rows.items single.rise c.requires.some there
     ∙ ap (less c.args.bin c.args.amount) (ap form_entries (sym c.in-Single.is))
 
-pub returns-clause-form : goal.returns-clause-form
-returns-clause-form g c =
+pub returns-in-Split-clause-form : goal.returns-in-Split-clause-form
+returns-in-Split-clause-form g c =
     let one : length c.take_in.new.blocks.items ≡ 1 = c.if-not-take_in.ensures.sized in
     (sole c.take_in.new.heads.items c.take_in.new.blocks.items c.remove-short.result c.take_in.ensures.held.held one c.remove-short.ensures.value (subst (λ (b : Block). length b.items ≤ 63) (sym c.remove-short.ensures.value) (c.take_in.ensures.short c.remove-short.result c.if-not-take_in.false))).0
+
+pub returns-clause-form : goal.returns-clause-form
+returns-clause-form g c =
+    let one : length c.take_in-in-WideSplit.new.blocks.items ≡ 1 = c.if-not-take_in-2.ensures.sized in
+    (sole c.take_in-in-WideSplit.new.heads.items c.take_in-in-WideSplit.new.blocks.items c.remove-short-in-WideSplit.result c.take_in-in-WideSplit.ensures.held.held one c.remove-short-in-WideSplit.ensures.value (subst (λ (b : Block). length b.items ≤ 63) (sym c.remove-short-in-WideSplit.ensures.value) (c.take_in-in-WideSplit.ensures.short c.remove-short-in-WideSplit.result c.if-not-take_in-2.false))).0
+
+pub returns-in-WideSingle-clause-form : goal.returns-in-WideSingle-clause-form
+returns-in-WideSingle-clause-form g c =
+    let single : IsSingle c.in-WideSingle.rows.items = subst IsForm c.in-WideSingle.is c.requires.form in
+    let there : c.args.amount ≤ count_at c.args.bin (counts_from 0 c.in-WideSingle.rows.items) = subst (λ es. c.args.amount ≤ count_at c.args.bin es) (ap form_entries c.in-WideSingle.is) c.requires.there in
+    single_taken c.args.bin c.args.amount c.in-WideSingle.rows.items c.take_record-in-WideSingle.new.rows.items single c.requires.some there c.take_record-in-WideSingle.ensures.taken
+
+pub returns-in-WideSingle-clause-taken : goal.returns-in-WideSingle-clause-taken
+returns-in-WideSingle-clause-taken g c =
+    let single : IsSingle c.in-WideSingle.rows.items = subst IsForm c.in-WideSingle.is c.requires.form in
+    let there : c.args.amount ≤ count_at c.args.bin (counts_from 0 c.in-WideSingle.rows.items) = subst (λ es. c.args.amount ≤ count_at c.args.bin es) (ap form_entries c.in-WideSingle.is) c.requires.there in
+    ap (counts_from 0) c.take_record-in-WideSingle.ensures.taken
+    ∙ counts_from-taken 0 0 c.args.bin c.args.amount c.in-WideSingle.rows.items single.rise c.requires.some there
+    ∙ ap (less c.args.bin c.args.amount) (ap form_entries (sym c.in-WideSingle.is))

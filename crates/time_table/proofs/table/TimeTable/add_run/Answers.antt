@@ -7,8 +7,8 @@ use Rattle.time_table.proofs.TableForms.{total-form, run-form, same-form, AllCou
 use Rattle.time_table.proofs.Runs.{AllCounted-either}
 use Rattle.time_table.proofs.table.TimeTable.add_run.Goals as goal
 
-pub merge-requires-clause-fits : goal.merge-requires-clause-fits
-merge-requires-clause-fits c =
+pub is_mergeable-requires-clause-fits : goal.is_mergeable-requires-clause-fits
+is_mergeable-requires-clause-fits c =
     subst (λ n. n + run_total c.args.run.now ≤ 2 ^ 63) (sym (ap (λ (m : BinCounts). total_count m) c.self.view_is) ∙ total-form c.self.inside.form c.self.invariant) c.requires.fits
 
 pub returns-then-is_mergeable-clause-added : goal.returns-then-is_mergeable-clause-added

@@ -1,0 +1,6 @@
+mod Levels
+mod Joins
+pub mod Needed
+mod Places
+pub mod Fewest
+pub mod Finest
