@@ -28,7 +28,8 @@ owned_by (table counts) = []
 abbrev pub IsOrder : List Slot → List ℕ → Type 0
 IsOrder slots places = places ≡ 0 ∷ flat_map (λ i. owned_by (slot_of slots i)) places
 
--- the slots stand in an image's order: the root and the targets of proper links, as they appear, are the numbers from 0 on
+-- the slots stand in an image's order: the root and the targets of proper links, as they appear, are the numbers from 0
+-- on
 abbrev pub IsNumbered : List Slot → Type 0
 IsNumbered slots = 0 ∷ flat_map owned_by slots ≡ range_with_len 0 (length slots)
 

@@ -1,6 +1,6 @@
-//! Slots that are looked at before they are needed. Slots that follow each other in an image's order lie far apart in the
-//! arena, so each is waited for: a loop that asks each of the next 32 two things, and does nothing else by the answer,
-//! waits for many of them at once, and they are at hand when their turn comes.
+//! Slots that are looked at before they are needed. Slots that follow each other in an image's order lie far apart in
+//! the arena, so each is waited for: a loop that asks each of the next 32 two things, and does nothing else by the
+//! answer, waits for many of them at once, and they are at hand when their turn comes.
 ghost use Rattle.std.specs.Prelude.{◌≡◌, ◌<◌, ◌≤◌, length, All};
 
 use node_arena::{Arena, SlotId};
@@ -16,8 +16,8 @@ struct Ahead {
     contents: usize,
 }
 
-/// Looks before each 32nd slot of an order at the next 32, and makes room for about as many bytes as they take: 14 for a node
-/// with one child, and 8 more for a content, and for a table 9 and then 12 a row.
+/// Looks before each 32nd slot of an order at the next 32, and makes room for about as many bytes as they take: 14 for
+/// a node with one child, and 8 more for a content, and for a table 9 and then 12 a row.
 pub fn make_room(
     out: &mut Vec<u8>,
     arena: &Arena,
@@ -35,8 +35,8 @@ pub fn make_room(
     Ok(())
 }
 
-/// Looks before each 32nd slot of an order that is being made at the next 32, as far as they are known, and makes room for
-/// about as many slots as they own: a node one child and perhaps a content, and a table none.
+/// Looks before each 32nd slot of an order that is being made at the next 32, as far as they are known, and makes room
+/// for about as many slots as they own: a node one child and perhaps a content, and a table none.
 pub fn make_place(places: &mut List<u32>, arena: &Arena, at: usize) -> Result<(), NoMemory>
     requires { All (λ i. i < length arena.now) places.old }
     ensures { places.new ≡ places.old }
@@ -48,8 +48,8 @@ pub fn make_place(places: &mut List<u32>, arena: &Arena, at: usize) -> Result<()
     places.reserve(AHEAD - ahead.tables + ahead.contents)
 }
 
-/// How many of the next slots of an order are tables, and how many have a content. A slot often lies over two lines of the
-/// cache, and its content in the second one.
+/// How many of the next slots of an order are tables, and how many have a content. A slot often lies over two lines of
+/// the cache, and its content in the second one.
 // Not part of its callers, whose loops it would make longer for each slot.
 #[inline(never)]
 fn look_ahead(arena: &Arena, places: &[u32], at: usize) -> Ahead

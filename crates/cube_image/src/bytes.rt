@@ -1,4 +1,5 @@
-//! Numbers that are put at the end of bytes. What stands together is put by one write, since each asks whether there is room.
+//! Numbers that are put at the end of bytes. What stands together is put by one write, since each asks whether there is
+//! room.
 ghost use Rattle.std.specs.Prelude.{◌≡◌, ◌∷◌, ◌++◌, OnOk};
 ghost use Rattle.std.specs.Int.{to_be_bytes, w16, w32, w64};
 

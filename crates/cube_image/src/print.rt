@@ -24,8 +24,8 @@ use time_table::TimeTable;
 /// The most bytes that an image has.
 pub const MOST_BYTES: u64 = 1 << 30;
 
-/// Puts all slots in their order. `TooLong` comes exactly where there are more than 2^30 bytes then, unless memory was wanted
-/// before.
+/// Puts all slots in their order. `TooLong` comes exactly where there are more than 2^30 bytes then, unless memory was
+/// wanted before.
 pub fn put_slots<L: Ledger>(
     alloc: Global,
     out: &mut Vec<u8>,

@@ -151,7 +151,7 @@ module _ (schema : Schema) (slots : List Slot) (root size : ℕ) (few : size ≤
   at-top : (h : List Point) → CountsPoints schema slots root size h → CountsPoints schema slots 0 size h
   at-top h C = subst (λ (r : ℕ). CountsPoints schema slots r size h) C.at_top C
 
-  counted-tables : (bytes : List ℕ) → IsWritten slots size bytes → (h : List Point) → CountsPoints schema slots root size h → AllTablesCounted slots
+  pub counted-tables : (bytes : List ℕ) → IsWritten slots size bytes → (h : List Point) → CountsPoints schema slots root size h → AllTablesCounted slots
   counted-tables bytes W h C = A (let f = written-few schema slots size h (at-top h C) R bytes W in omega (arith, f))
 
   pub each-saved : (r : Result (List ℕ) SaveFault) → IfOk r (IsWritten slots size) → IfOk r (λ bytes. (h : List Point) → CountsPoints schema slots root size h → AreRecords schema h → IsCubeImage schema bytes h × KeepsNumbers bytes schema slots)

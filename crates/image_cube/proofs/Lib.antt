@@ -4,6 +4,7 @@ mod FitRecords
 mod ImageOfCube
 mod ImageSlots
 mod ItemPlaces
+mod LeastOfCube
 mod ListShares
 mod NumbersInOrder
 mod PointPaths

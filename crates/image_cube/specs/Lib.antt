@@ -1,2 +1,3 @@
 pub mod CubeImages
+pub mod LeastImages
 pub mod Read

@@ -5,12 +5,14 @@ ghost use Rattle.time_table.specs.Counts.{AllCounted};
 ghost use Rattle.node_arena.specs.Slots.{counts_of, slot_of};
 ghost use Rattle.probe_core.specs.Blanks.{IsBlankOf};
 ghost use Rattle.cube_image.specs.Image.{IsWritten};
-ghost use Rattle.cube_store.specs.Holding.{CubeCounts};
+ghost use Rattle.cube_store.specs.Holding.{CubeCounts, IsLeastCubeOf};
 ghost use Rattle.shape_test.specs.Laws.{AllTablesCounted};
 ghost use Rattle.image_cube.specs.CubeImages.{HasLongCubeImage, IsSavedCube};
+ghost use Rattle.image_cube.specs.LeastImages.{IsLeastImage};
 
 use cube_image::{SaveFault, image_laws, write_image};
 use cube_store::Cube;
+use least_image::least_image_law;
 use node_arena::{Arena, SlotId};
 use probe_core::Steps;
 use std::alloc::Global;
@@ -19,14 +21,17 @@ use std::sync::ledger::{Blank, Ledger};
 use texts::List;
 
 /// The image of a cube. Where the points that the cube counts are records of its schema, it is the image of a cube of
-/// them, and what is read of it has the numbers of the cube's slots and links. `TooLong` comes exactly where it has more
-/// than 2^30 bytes, unless memory was wanted before.
+/// them, and what is read of it has the numbers of the cube's slots and links. Where the cube is the least one of its
+/// points, it is the image of every least cube of them, in whatever order they came. `TooLong` comes exactly where it
+/// has more than 2^30 bytes, unless memory was wanted before.
 pub fn save_cube(alloc: Global, cube: &Cube) -> Result<List<u8>, SaveFault>
     ensures written { IfOk result (IsWritten cube.now.arena cube.now.size) }
     ensures image { IfOk result (IsSavedCube cube.now) }
+    ensures least { IfOk result (λ bytes. (h : List Point) → IsLeastCubeOf cube.now h → IsLeastImage cube.now.schema bytes h) }
     ensures too_long { result ≡ Err SaveFault.TooLong → (h : List Point) → CubeCounts cube.now h → HasLongCubeImage cube.now.schema h }
 {
     image_laws();
+    least_image_law();
     tell_tables::<Brand>(&cube.arena, Blank::new(1));
     write_image(alloc, &cube.arena, cube.root, cube.size)
 }

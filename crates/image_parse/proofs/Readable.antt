@@ -1,4 +1,5 @@
--- What the slots of an image are like: they can be read one by one, their tables count records, and the image is theirs.
+-- What the slots of an image are like: they can be read one by one, their tables count records, and the image is
+-- theirs.
 use Rattle.std.proofs.Common.{◌≡◌, ℕ, zero, suc, ◌+◌, ◌<◌, ◌≤◌, ◌⊎◌, true, false, eqb, List, [], ◌∷◌, length, get_or, map, Option, Some, IfSome, sym, subst, ◌∙◌, arith, inl, inr}
 use Rattle.std.specs.FinMap.{empty, entries, values, len-entries, len-empty}
 use Rattle.std.specs.Ordering.{nat_cmp}

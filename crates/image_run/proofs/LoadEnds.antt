@@ -1,6 +1,8 @@
 -- How a load ends, by how its stages ended.
-use Rattle.std.proofs.Common.{◌≡◌, ◌≢◌, ◌⊎◌, ℕ, suc, ◌+◌, ◌<◌, ◌≤◌, ◌^◌, true, false, List, [], ◌∷◌, ◌++◌, length, take, Option, Some, None, Result, Ok, Err, inl, inr, refl, sym, ◌∙◌, ap, subst, arith, append_assoc, length-append}
+use Rattle.std.proofs.Common.{◌≡◌, ◌≢◌, ◌⊎◌, ℕ, zero, suc, ◌+◌, ◌<◌, ◌≤◌, ◌^◌, true, false, List, [], ◌∷◌, ◌++◌, length, take, Option, Some, None, Result, Ok, Err, inl, inr, refl, sym, ◌∙◌, ap, subst, arith, append_assoc, length-append}
 use Rattle.std.proofs.Math.Logic.{∥∥₁_elim, ∥∥₁_map}
+use Rattle.std.proofs.Math.Seq.{take-append_seam}
+use Rattle.std.proofs.lemmas.List.{append-nil, append_cancel_left}
 use Rattle.cube_schema.specs.declared.plan.Plan.{Plan}
 use Rattle.cube_store.proofs.CubeBags.{Counts-points}
 use Rattle.cube_store.specs.Holding.{CubeCounts}
@@ -24,10 +26,10 @@ use Rattle.run_files.proofs.Apart.{err_is, ok_not_err, same_stop, stopped as end
 use Rattle.run_files.proofs.Fronts.{front_long, front_whole}
 use Rattle.run_files.proofs.PlanReads.{plan_end, says_plan}
 use Rattle.run_files.proofs.SinkPuts.{fails_after, puts_after, silent_after}
-use Rattle.run_files.proofs.Stages.{all_opened, leaves_ended, leaves_more, leaves_then, nothing_made, opened_front, same_created, same_files}
+use Rattle.run_files.proofs.Stages.{all_opened, fails_at, fails_on, leaves_ended, leaves_more, leaves_then, nothing_made, same_created, same_files}
 use Rattle.run_files.specs.Answering.{AnswersFile}
 use Rattle.run_files.specs.FaultCounts.{KeepsFaults}
-use Rattle.run_files.specs.Leaving.{LeavesPlace}
+use Rattle.run_files.specs.Leaving.{FailsAtLast, LeavesPlace}
 use Rattle.run_files.specs.Outside.{at, FailsToPut, file_of, PlaceSeen, Puts, PutsOrFails, Silent, SinkSeen}
 use Rattle.run_files.specs.Planned.{ReadsPlan}
 use Rattle.run_files.specs.Stops.{is_lacking, IsOrLacks}
@@ -71,6 +73,11 @@ accepted_not_refused schema bytes fault A R = ∥∥₁_elim A (λ x y. absurd x
 
 -- ---- ends
 
+-- of no names none are first
+take_none : (n : ℕ) → ◌≡◌ {A = List (List ℕ)} (take n []) []
+take_none zero = refl
+take_none (suc n) = refl
+
 -- names that were opened are not more than these
 not_more : (before after few more : List (List ℕ)) → after ≡ before ++ few → after ≡ before ++ more → length few < length more → ⊥
 not_more before after few more one other less =
@@ -88,6 +95,15 @@ not_err : (e : ImageEnd) (k : Stop) → ◌≡◌ {A = End} (Err k) (Ok e) → �
 not_err e k is = cc
 
 module _ {P O : Type 0} (p : PlaceSeen P) (s : SinkSeen O) where
+  -- names of which those that were opened are a front
+  front_is : (a b : P) (inputs : List (List ℕ)) (k : Option Stop) (leaves : LeavesPlace p a b inputs [] k) → leaves.opens ≡ take (length leaves.opens) inputs
+  front_is a b inputs k leaves = sym (ap (take (length leaves.opens)) leaves.inputs_are ∙ take-append_seam leaves.opens leaves.unopened)
+
+  -- after names that were opened, and no read failed, the one more that was opened is the first at which one did
+  fails_there : (a b c : P) (first : List (List ℕ)) (name : List ℕ) (k : Option Stop) (leaves : LeavesPlace p b c (name ∷ []) [] k) → p.opened b ≡ p.opened a ++ first → p.read_faults b ≡ p.read_faults a → p.opened c ≡ p.opened b ++ name ∷ [] → FailsAtLast p a (first ++ leaves.opens)
+  fails_there a b c first name k leaves before quiet opened =
+      fails_on p a b first leaves.opens before quiet (subst (FailsAtLast p b) (append_cancel_left (p.opened b) (name ∷ []) leaves.opens (sym opened ∙ leaves.opened)) (fails_at p b name))
+
   -- the faults of a stage that ended the run
   faults_ended : (a b : P) (out out' : O) (inputs : List (List ℕ)) (k : Stop) → LeavesPlace p a b inputs [] (Some k) → (k ≡ stop.WriteFault → Rose (s.faults out) (s.faults out')) → (k ≢ stop.WriteFault → k ≢ stop.NoMemory → k ≢ stop.PlanRefused → s.faults out' ≡ s.faults out) → s.name out' ≡ s.name out → KeepsFaults {T = ImageEnd} p s (at a out) (at b out') (Err k)
   faults_ended a b out out' inputs k stage rose quiet name = record {
@@ -112,8 +128,8 @@ module _ {P O : Type 0} (p : PlaceSeen P) (s : SinkSeen O) where
     Ends a b out out' result = LoadEnds p s (at a out) (at b out') Named result
 
     -- the plan was refused, or was not read
-    pub ended_by_plan : (a b : P) (out out' : O) (k : Stop) → LeavesPlace p a b (name ∷ []) [] (Some k) → ReadsPlan s out out' (file_of (p.files a) name) (Err k) → Ends a b out out' (Err k)
-    ended_by_plan a b out out' k leaves reads =
+    pub ended_by_plan : (a b : P) (out out' : O) (k : Stop) → LeavesPlace p a b (name ∷ []) [] (Some k) → (k ≡ stop.ReadFault → p.opened b ≡ p.opened a ++ name ∷ []) → ReadsPlan s out out' (file_of (p.files a) name) (Err k) → Ends a b out out' (Err k)
+    ended_by_plan a b out out' k leaves opened reads =
         let all : LeavesPlace p a b (name ∷ image ∷ script ∷ []) [] (Some k) = leaves_more p a b (name ∷ []) (image ∷ script ∷ []) [] k leaves in
         record {
           planned = record { plan = None; plan_is = tt; unplanned = λ e. plan_end k reads.ends; refused_plan = λ e. (refl, reads.refused (ap (λ l. Err l) (err_is k stop.PlanRefused e))) };
@@ -121,7 +137,8 @@ module _ {P O : Type 0} (p : PlaceSeen P) (s : SinkSeen O) where
           refused_image = λ e. absurd (not_err Refused k e);
           refused = λ e. absurd (reads.ends.1 (err_is k stop.FeedRefused e));
           said = says_plan s out out' (file_of (p.files a) name) k reads;
-          opened = opened_front p a b (name ∷ image ∷ script ∷ []) (Some k) all;
+          opened = (length leaves.opens, leaves.opened ∙ ap (λ ns. p.opened a ++ ns) (front_is a b (name ∷ []) (Some k) leaves));
+          first = λ e. subst (FailsAtLast p a) (front_is a b (name ∷ []) (Some k) leaves) (fails_there a a b [] name (Some k) leaves (sym (append-nil _)) refl (opened (err_is k stop.ReadFault e)));
           opened_all = λ e. absurd (not_err Done k e);
           opened_last = λ e. let few = opened_few (name ∷ []) leaves.opens leaves.unopened leaves.inputs_are in absurd (not_more (p.opened a) (p.opened b) leaves.opens (name ∷ image ∷ script ∷ []) leaves.opened e (omega (arith, few)));
           faults = faults_ended a b out out' (name ∷ image ∷ script ∷ []) k all (λ e. absurd (reads.ends.0 e)) (λ w m l. (reads.silent (λ e. l (plan_is e))).faults) (named k reads);
@@ -161,15 +178,16 @@ module _ {P O : Type 0} (p : PlaceSeen P) (s : SinkSeen O) where
       read_end stop.FeedRefused ends read e = absurd (ends.2 refl)
 
       -- it ends by a stop before the script is answered
-      stopped : (out' : O) (k : Stop) → (k ≢ stop.PlanRefused) × (k ≢ stop.FeedRefused) → (opens : List (List ℕ)) × (p.opened c ≡ p.opened a ++ opens) × (length opens ≤ 2) → (n : ℕ) × (p.opened c ≡ p.opened a ++ take n (name ∷ image ∷ script ∷ [])) → SaysOfLoad p s (at a out) (at c out') Named (Some pl) (Err k)
+      stopped : (out' : O) (k : Stop) → (k ≢ stop.PlanRefused) × (k ≢ stop.FeedRefused) → (opens : List (List ℕ)) × (p.opened c ≡ p.opened a ++ opens) × (length opens ≤ 2) → (opened : (n : ℕ) × (p.opened c ≡ p.opened a ++ take n (name ∷ image ∷ script ∷ []))) → (k ≡ stop.ReadFault → FailsAtLast p a (take opened.0 (name ∷ image ∷ script ∷ []))) → SaysOfLoad p s (at a out) (at c out') Named (Some pl) (Err k)
           → KeepsFaults {T = ImageEnd} p s (at a out) (at c out') (Err k) → (¬ Rose (p.read_faults a) (p.read_faults c) → ¬ Rose (s.faults out) (s.faults out') → (e : ImageEnd) → IsOrLacks e (Err k)) → Ends a c out out' (Err k)
-      stopped out' k other few opened said faults complete = record {
+      stopped out' k other few opened first said faults complete = record {
         planned = record { plan = Some pl; plan_is = reads.plan; unplanned = λ e. cc; refused_plan = λ e. absurd (other.0 (err_is k stop.PlanRefused e)) };
         done = λ e. absurd (not_err Done k e);
         refused_image = λ e. absurd (not_err Refused k e);
         refused = λ e. absurd (other.1 (err_is k stop.FeedRefused e));
         said = said;
         opened = opened;
+        first = λ e. first (err_is k stop.ReadFault e);
         opened_all = λ e. absurd (not_err Done k e);
         opened_last = λ e. let least = few.2 in absurd (not_more (p.opened a) (p.opened c) few.0 (name ∷ image ∷ script ∷ []) few.1 e (omega (arith, least)));
         faults = faults;
@@ -177,11 +195,14 @@ module _ {P O : Type 0} (p : PlaceSeen P) (s : SinkSeen O) where
       }
 
       -- the image was not read
-      pub ended_by_image : (k : Stop) → LeavesPlace p b c (image ∷ []) [] (Some k) → (k ≢ stop.PlanRefused) × (k ≢ stop.WriteFault) × (k ≢ stop.FeedRefused) → Ends a c out mid (Err k)
-      ended_by_image k more ends =
-          let all : LeavesPlace p a c (name ∷ image ∷ script ∷ []) [] (Some k) = leaves_more p a c Two (script ∷ []) [] k (whole (Some k) more) in
-          let first : LeavesPlace p a c Two [] (Some k) = whole (Some k) more in
-          stopped mid k (ends.0, ends.2) (first.opens, first.opened, opened_few Two first.opens first.unopened first.inputs_are) (opened_front p a c (name ∷ image ∷ script ∷ []) (Some k) all) (inl quiet)
+      pub ended_by_image : (k : Stop) → LeavesPlace p b c (image ∷ []) [] (Some k) → (k ≡ stop.ReadFault → p.opened c ≡ p.opened b ++ image ∷ []) → (k ≢ stop.PlanRefused) × (k ≢ stop.WriteFault) × (k ≢ stop.FeedRefused) → Ends a c out mid (Err k)
+      unfolding leaves_more leaves_then
+      ended_by_image k more opened ends =
+          let two : LeavesPlace p a c Two [] (Some k) = leaves_then p a b c (name ∷ []) (image ∷ []) [] (Some k) leaves more in
+          let all : LeavesPlace p a c (name ∷ image ∷ script ∷ []) [] (Some k) = leaves_more p a c Two (script ∷ []) [] k two in
+          let front = front_is a c (name ∷ image ∷ script ∷ []) (Some k) all in
+          stopped mid k (ends.0, ends.2) (two.opens, two.opened, opened_few Two two.opens two.unopened two.inputs_are) (length all.opens, all.opened ∙ ap (λ ns. p.opened a ++ ns) front)
+          (λ e. subst (FailsAtLast p a) front (fails_there a b c leaves.opens image (Some k) more leaves.opened (leaves.read_quiet (λ e. cc)) (opened e))) (inl quiet)
           (faults_ended a c out mid (name ∷ image ∷ script ∷ []) k all (λ e. absurd (ends.1 e)) (λ w m l. quiet.faults) quiet.name) (λ r w. read_end k ends (λ e. r (all.read (ap (λ l. Some l) e))))
 
       -- the image was read
@@ -191,6 +212,9 @@ module _ {P O : Type 0} (p : PlaceSeen P) (s : SinkSeen O) where
 
         both : LeavesPlace p a c Two [] None
         both = whole None more
+
+        opened_plan : p.opened b ≡ p.opened a ++ name ∷ []
+        opened_plan = leaves.opened ∙ ap (λ ns. p.opened a ++ ns) (sym (all_opened p a b (name ∷ []) [] leaves))
 
         opened_two : p.opened c ≡ p.opened a ++ Two
         opened_two = both.opened ∙ ap (λ ns. p.opened a ++ ns) (sym (all_opened p a c Two [] both))
@@ -213,6 +237,7 @@ module _ {P O : Type 0} (p : PlaceSeen P) (s : SinkSeen O) where
               refused = λ e. absurd (ok_not_err Refused stop.FeedRefused e);
               said = inr (inl (record { fault = F.fault; refuses = F.refuses; says = inl F.says }));
               opened = (2, opened_two);
+              first = λ e. absurd (ok_not_err Refused stop.ReadFault e);
               opened_all = λ e. cc;
               opened_last = λ e. absurd (not_more (p.opened a) (p.opened c) Two (name ∷ image ∷ script ∷ []) opened_two e (omega arith));
               faults = record {
@@ -236,14 +261,14 @@ module _ {P O : Type 0} (p : PlaceSeen P) (s : SinkSeen O) where
         ended_unsaid out' R =
             let F = refused_for out' (FailsToPut s mid out') (FailsToPut s out out') (fails_after s out mid out' quiet) R in
             let all : LeavesPlace p a c (name ∷ image ∷ script ∷ []) [] (Some stop.WriteFault) = leaves_more p a c Two (script ∷ []) [] stop.WriteFault (leaves_ended p a c Two (Some stop.WriteFault) (λ e. cc) both) in
-            stopped out' stop.WriteFault ((λ e. cc), (λ e. cc)) (Two, opened_two, omega arith) (2, opened_two) (inr (inl (record { fault = F.fault; refuses = F.refuses; says = inr F.says })))
+            stopped out' stop.WriteFault ((λ e. cc), (λ e. cc)) (Two, opened_two, omega arith) (2, opened_two) (λ e. cc) (inr (inl (record { fault = F.fault; refuses = F.refuses; says = inr F.says })))
             (faults_ended a c out out' (name ∷ image ∷ script ∷ []) stop.WriteFault all (λ e. F.says.faults) (λ x m l. absurd (x refl)) F.says.name) (λ r w e. absurd (w F.says.faults))
 
         pub ended_lacking : (out' : O) → Silent s mid out' → Ends a c out out' (Err stop.NoMemory)
         ended_lacking out' silent =
             let all : LeavesPlace p a c (name ∷ image ∷ script ∷ []) [] (Some stop.NoMemory) = leaves_more p a c Two (script ∷ []) [] stop.NoMemory (leaves_ended p a c Two (Some stop.NoMemory) (λ e. cc) both) in
             let still = silent_after s out mid out' quiet silent in
-            stopped out' stop.NoMemory ((λ e. cc), (λ e. cc)) (Two, opened_two, omega arith) (2, opened_two) (inl still)
+            stopped out' stop.NoMemory ((λ e. cc), (λ e. cc)) (Two, opened_two, omega arith) (2, opened_two) (λ e. cc) (inl still)
             (faults_ended a c out out' (name ∷ image ∷ script ∷ []) stop.NoMemory all (λ e. cc) (λ x m l. absurd (m refl)) still.name) (λ r w e. inr refl)
 
         -- by how taking it ended
@@ -287,8 +312,17 @@ module _ {P O : Type 0} (p : PlaceSeen P) (s : SinkSeen O) where
               gains = λ h I. subst (λ (o : Option (List ℕ)). GainsFront pl.schema OwnsAllButRoot h (length h) (is_lacking result) o (s.held out') (asked pl.schema (lines (file_or_empty files script)))) still.held (answers.part files (told files is) h (counts_it files is h I));
             }
 
-            opened_three : (k : ℕ) × (p.opened d ≡ p.opened a ++ take k (name ∷ image ∷ script ∷ []))
+            abbrev opened_three : (k : ℕ) × (p.opened d ≡ p.opened a ++ take k (name ∷ image ∷ script ∷ []))
             opened_three = let o = answers.opened_once in (suc (suc o.0), o.1 ∙ (ap (λ ns. ns ++ take o.0 (script ∷ [])) opened_two ∙ append_assoc (p.opened a) Two (take o.0 (script ∷ []))))
+
+            -- after the image the script is the first at which a read may have failed; where it was not opened it is
+            -- the image
+            first_three : FailsAtLast p a (take (opened_three.0) (name ∷ image ∷ script ∷ []))
+            first_three = at_name answers.opened_once.0
+              where
+                at_name : (n : ℕ) → FailsAtLast p a (name ∷ image ∷ take n (script ∷ []))
+                at_name zero = fails_on p a b (name ∷ []) (image ∷ []) opened_plan (leaves.read_quiet (λ e. cc)) (fails_at p b image)
+                at_name (suc n) = subst (λ (ns : List (List ℕ)). FailsAtLast p a (name ∷ image ∷ script ∷ ns)) (sym (take_none n)) (fails_on p a c Two (script ∷ []) opened_two (both.read_quiet (λ e. cc)) (fails_at p c script))
 
             no_refusal : (fault : ImageFault) (files : Files) (is : p.files a ≡ Some files) (e : ImageEnd) (r : End) → IsRefusedFor pl.schema (file_or_empty files image) fault → IsOrLacks e r
             no_refusal fault files is e r x = absurd (accepted_not_refused pl.schema (file_or_empty files image) fault (accepted files is) x)
@@ -319,6 +353,7 @@ module _ {P O : Type 0} (p : PlaceSeen P) (s : SinkSeen O) where
             refused = λ e. absurd (ok_not_err Done stop.FeedRefused e);
             said = inr (inr (some_replies (Ok x) answers faults));
             opened = opened_three (Ok x) answers faults;
+            first = λ e. absurd (ok_not_err Done stop.ReadFault e);
             opened_all = λ e. answers.opened_it refl ∙ (ap (λ ns. ns ++ script ∷ []) opened_two ∙ append_assoc (p.opened a) Two (script ∷ []));
             opened_last = λ e. (pl, refl, accepted);
             faults = faults_of (Ok x) answers faults (Ok Done) (λ k e. absurd (ok_not_err Done k e)) (λ k e. cc);
@@ -347,6 +382,7 @@ module _ {P O : Type 0} (p : PlaceSeen P) (s : SinkSeen O) where
             refused = λ e. (pl, refl, λ files is. let w = answers.refused files (told files is) (ap (λ l. Err l) (err_is k stop.FeedRefused e)) in (all_replies (Err k) answers faults files is w.0, w.1));
             said = inr (inr (λ files is. subst (GainsSomeImageAnswers s out out' pl.schema (file_or_empty files image) (file_or_empty files script)) (same_lack k) (some_replies (Err k) answers faults files is)));
             opened = opened_three (Err k) answers faults;
+            first = λ e. first_three (Err k) answers faults;
             opened_all = λ e. absurd (not_err Done k e);
             opened_last = λ e. (pl, refl, accepted);
             faults = faults_of (Err k) answers faults (Err k) (λ l e. ap (λ m. Err m) (err_is k l e)) (λ l e. ap (λ m. Err m) (err_is k l e));

@@ -12,11 +12,12 @@ use Rattle.outer_io.specs.Faults.{Rose}
 use Rattle.outer_io.specs.Files.{Files, file_or_empty}
 use Rattle.outer_io.specs.Lines.{lines}
 use Rattle.run_files.specs.FaultCounts.{KeepsFaults}
+use Rattle.run_files.specs.Leaving.{FailsAtLast}
 use Rattle.run_files.specs.Outside.{file_of, Outside, PlaceSeen, Puts, PutsOrFails, Silent, SinkSeen}
 use Rattle.run_files.specs.Planned.{MayHavePlan, RefusesPlan}
 use Rattle.run_files.specs.Stops.{is_lacking, IsOrLacks}
 use Rattle.run_files.specs.declared.stop.Stop.{Stop}
-use Rattle.run_files.specs.declared.stop.Stop.TheVariants.{FeedRefused}
+use Rattle.run_files.specs.declared.stop.Stop.TheVariants.{ReadFault, FeedRefused}
 use Rattle.session_core.specs.Answered.{GainsReplies, GainsFront}
 use Rattle.session_core.specs.Asked.{asked}
 use Rattle.session_core.specs.Scripts.{is_script_refused}
@@ -35,8 +36,8 @@ IsRefusedFor schema bytes fault = (fault ≢ image_fault.NoMemory) × Refuses sc
 
 -- what a sink gains of an image and a script under a schema
 module _ {O : Type 0} (s : SinkSeen O) (out out' : O) (schema : Schema) (image script : List ℕ) where
-  -- the replies to all that the script asks, over each list of points of whose cubes the bytes are the image, each of which
-  -- was told; the numbers of `stat` are those of a cube
+  -- the replies to all that the script asks, over each list of points of whose cubes the bytes are the image, each of
+  -- which was told; the numbers of `stat` are those of a cube
   pub record GainsImageAnswers : Type 0 where
     pub accepted : IsAcceptedImage schema image
     pub gains : (h : List Point) → IsCubeImage schema image h → GainsReplies schema OwnsAllButRoot h (length h) false (s.held out) (s.held out') (asked schema (lines script))
@@ -45,6 +46,11 @@ module _ {O : Type 0} (s : SinkSeen O) (out out' : O) (schema : Schema) (image s
   pub record GainsSomeImageAnswers (lacking : Bool) : Type 0 where
     pub accepted : IsAcceptedImage schema image
     pub gains : (h : List Point) → IsCubeImage schema image h → GainsFront schema OwnsAllButRoot h (length h) lacking (s.held out) (s.held out') (asked schema (lines script))
+
+-- the names of the files that a load opens after the plan, where there is one
+abbrev pub later_names : ImageNames → Option Plan → List (List ℕ)
+later_names names None = []
+later_names names (Some plan) = names.image ∷ names.script ∷ []
 
 -- what answering the named script over the named image leaves of a place and a sink
 module _ {P O : Type 0} (p : PlaceSeen P) (s : SinkSeen O) (before after : Outside P O) (names : ImageNames) where
@@ -75,13 +81,16 @@ module _ {P O : Type 0} (p : PlaceSeen P) (s : SinkSeen O) (before after : Outsi
     pub refused : result ≡ Err FeedRefused → (which : Plan) × (planned.plan ≡ Some which) × OfLoadFiles (λ i q. GainsImageAnswers s before.out after.out which.schema i q × (is_script_refused which.schema q ≡ true))
     -- of what is put nothing else comes
     pub said : SaysOfLoad planned.plan result
-    -- the plan was opened, then the image, and then the script, each once at most, and all with Done
-    pub opened : (k : ℕ) × (p.opened after.place ≡ p.opened before.place ++ take k (names.plan ∷ names.image ∷ names.script ∷ []))
+    -- the plan was opened, and under a plan the image and then the script, each once at most, and all with Done
+    pub opened : (k : ℕ) × (p.opened after.place ≡ p.opened before.place ++ take k (names.plan ∷ later_names names planned.plan))
+    -- one that could not be read is the last that was opened
+    pub first : result ≡ Err ReadFault → FailsAtLast p before.place (take opened.0 (names.plan ∷ later_names names planned.plan))
     pub opened_all : result ≡ Ok Done → p.opened after.place ≡ p.opened before.place ++ names.plan ∷ names.image ∷ names.script ∷ []
     -- the script only where the image was accepted
     pub opened_last : p.opened after.place ≡ p.opened before.place ++ names.plan ∷ names.image ∷ names.script ∷ [] → (which : Plan) × (planned.plan ≡ Some which) × OfLoadFiles (λ i q. IsAcceptedImage which.schema i)
     -- each fault has its cause, and no file is written
     pub faults : KeepsFaults p s before after result
-    -- where there is a plan and no count rose, the run is done with an image that is accepted and a script that is not refused, and a refused image is refused, unless memory was wanted
+    -- where there is a plan and no count rose, the run is done with an image that is accepted and a script that is not
+    -- refused, and a refused image is refused, unless memory was wanted
     pub complete : ¬ Rose (p.read_faults before.place) (p.read_faults after.place) → ¬ Rose (s.faults before.out) (s.faults after.out)
         → IfSome planned.plan (λ which. OfLoadFiles (λ i q. (IsAcceptedImage which.schema i → is_script_refused which.schema q ≡ false → IsOrLacks Done result) × ((fault : ImageFault) → IsRefusedFor which.schema i fault → IsOrLacks Refused result)))

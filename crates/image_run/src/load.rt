@@ -18,9 +18,10 @@ pub struct LoadNames<'a> {
     pub script: &'a str,
 }
 
-/// Answers the script over the cube of the image. The plan is read first, and then the image, of which at most 2^30 bytes
-/// are an image; nothing is created. An image that is refused has its line, and the script is not opened. The first trouble
-/// ends the run: a plan that is refused has its line, and a script of more than 2^30 bytes counts as a feed that is refused.
+/// Answers the script over the cube of the image. The plan is read first, and then the image, of which at most 2^30
+/// bytes are an image; nothing is created. An image that is refused has its line, and the script is not opened. The
+/// first trouble ends the run: a plan that is refused has its line, and a script of more than 2^30 bytes counts as a
+/// feed that is refused.
 pub fn load_files<P: Place, O: Sink>(
     alloc: Global,
     names: &LoadNames<'_>,

@@ -30,7 +30,7 @@ pub(crate) fn take_image<O: Sink>(
 ) -> Result<Option<Cube>, Stop>
     ensures { TakesImage (of_sink O.Sink) out.old out.new schema bytes result }
 {
-    match load_cube(alloc, schema, bytes.as_slice()) {
+    match load_cube(alloc, schema, bytes) {
         Ok(cube) => Ok(Some(cube)),
         Err(ImageFault::NoMemory) => Err(Stop::NoMemory),
         Err(fault) => {

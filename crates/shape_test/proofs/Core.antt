@@ -20,7 +20,8 @@ IsApart (k ∷ kids) = (child kids k.0 ≡ None) × IsApart kids
 abbrev pub Tells : List Slot → List Weighted → ℕ → Walk → ℕ → List ℕ → Type 0
 Tells slots h i a n later = (way : Way) → IsFinest n later way → (bin : ℕ) → count_below slots i way bin ≡ amount_under h (along a way) bin
 
--- what the slots have: how many levels each has left, and that children have one less; their labels are apart; and contents merge
+-- what the slots have: how many levels each has left, and that children have one less; their labels are apart; and
+-- contents merge
 pub record IsMerged (slots : List Slot) (Left : ℕ → ℕ → List ℕ → Type 0) : Type 0 where
   pub goes_down : (i n l : ℕ) (later : List ℕ) (k : Link) → Left i (suc n) later → link_of slots i (down l) ≡ Some k → Left (target k) n later
   pub apart : (i : ℕ) → IsApart (children_of (slot_of slots i))

@@ -9,12 +9,11 @@ pub mod ChildPlaces
 pub mod ChildSums
 pub mod Childwise
 pub mod Coarser
-pub mod CoarserHomes
 pub mod Core
 pub mod CubePoints
+pub mod Descent
 pub mod FitSlots
 pub mod HomesOfOwners
-pub mod LastTwo
 pub mod Light
 pub mod LinkOwners
 pub mod Local
@@ -22,9 +21,12 @@ pub mod LocalOfShape
 pub mod LocalOfSlots
 pub mod MoveHomes
 pub mod NodeLinks
+pub mod NodeParts
 pub mod OneHome
 pub mod OnlyChild
 pub mod OwnerLists
+pub mod PartLists
+pub mod PartSums
 pub mod PathSpots
 pub mod Pieces
 pub mod Root

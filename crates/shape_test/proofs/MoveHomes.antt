@@ -1,25 +1,22 @@
 -- Slots whose homes are kept as steps.
-use Rattle.std.proofs.Common.{◌≡◌, ◌↔◌, ◌⊎◌, inl, inr, ℕ, zero, suc, ◌<◌, ◌≤◌, Bool, true, false, List, [], ◌∷◌, ◌++◌, length, get_or, Option, Some, None, length-append, refl, sym, ap, ◌∙◌, subst, arith}
+use Rattle.std.proofs.Common.{◌≡◌, ◌↔◌, ◌⊎◌, inl, inr, ℕ, zero, suc, ◌<◌, ◌≤◌, Bool, true, List, [], ◌∷◌, ◌++◌, length, get_or, Option, Some, None, length-append, refl, sym, ap, ◌∙◌, subst, arith}
 use Rattle.std.proofs.lemmas.Bool.{cases_lt}
-use Rattle.std.proofs.lemmas.List.{get_or_append_left, get_or_push, length-map}
+use Rattle.std.proofs.lemmas.List.{get_or_append_left, get_or_push}
 use Rattle.std.proofs.lemmas.Option.{MatchOption-at_some}
-use Rattle.cube_view.proofs.FinerWalks.{finer-refl}
-use Rattle.cube_view.specs.Walks.{down, Walk, IsCoarser}
+use Rattle.cube_view.specs.Walks.{down, Walk}
 use Rattle.cube_view.specs.declared.schema.Schema.{Schema}
 use Rattle.node_arena.specs.Shape.{home_of, HasProperLinks, SharesContent}
-use Rattle.node_arena.specs.declared.link.Link.{Link}
-use Rattle.node_arena.specs.Slots.{target, Slot, slot_of}
+use Rattle.node_arena.specs.Slots.{Slot, slot_of}
 use Rattle.shape_test.specs.Sharing.{SharesAt}
 use Rattle.shape_test.proofs.OnlyChild.{table_link}
 use Rattle.shape_test.specs.Homes.{step_of, walk_of, walks_of}
-use Rattle.shape_test.specs.Links.{LinkFits, LinksFit}
+use Rattle.shape_test.specs.Links.{LinksFit}
 use Rattle.shape_test.specs.Owners.{Owners, owner_at, HasOwners}
 use Rattle.shape_test.specs.Places.{place_at, next_place, then_place, IsSchemaPlace, AreFirstPlaces, ArePlaces}
 use Rattle.shape_test.specs.Standing.{SuitsPlace, SlotStands}
 use Rattle.shape_test.specs.declared.home.Move.{Move}
 use Rattle.shape_test.specs.declared.owner.Owner.{Owner}
 use Rattle.shape_test.specs.declared.place.Place.{Place}
-use Rattle.shape_test.proofs.HomesOfOwners.{home_at}
 use Rattle.shape_test.proofs.AddressPlaces.{place_told}
 
 -- the home of a slot, read from the list
@@ -27,16 +24,6 @@ pub kept_home : (homes : List (List Move)) (i : ℕ) (h : List Move) → i < len
 kept_home [] i h l e = absurd (omega (arith, l))
 kept_home (m ∷ homes) zero h l e = ap walk_of e
 kept_home (m ∷ homes) (suc i) h l e = kept_home homes i h (omega (arith, l)) e
-
--- a link fits whose target's home is the slot's with the link's step before it
-pub own_fits : (homes : List (List Move)) (i : ℕ) (m : Move) (l : Link) → target l < length homes → get_or homes (target l) [] ≡ m ∷ get_or homes i [] → LinkFits (walks_of homes) i (step_of m) l
-own_fits homes i m l lt e =
-    let n = length-map homes walk_of in
-    let own : home_of (walks_of homes) (target l) ≡ step_of m ∷ home_of (walks_of homes) i = home_at homes (target l) ∙ (ap walk_of e ∙ ap (λ (a : Walk). step_of m ∷ a) (sym (home_at homes i))) in
-    record {
-      within = omega (arith, n, lt);
-      coarser = subst (λ (a : Walk). IsCoarser (step_of m ∷ home_of (walks_of homes) i) a) (sym own) (finer-refl false (step_of m ∷ home_of (walks_of homes) i));
-    }
 
 module _ (schema : Schema) (slots : List Slot) (homes : List Walk) (i : ℕ) where
   -- what stands at a place stands well if its links fit

@@ -1,5 +1,5 @@
 -- What is left of rows once those of others are taken off.
-use Rattle.std.proofs.Common.{◌≡◌, ◌↔◌, inl, inr, ℕ, suc, ◌+◌, ◌-◌, ◌<◌, ◌≤◌, Bool, cond, eqb, eq-eqb, ne_eqb, nat_cmp, T, List, [], ◌∷◌, ◌++◌, length, map, take, drop, get_or, set, All, Option, Some, None, refl, sym, ap, ◌∙◌, subst, arith}
+use Rattle.std.proofs.Common.{◌≡◌, ◌↔◌, inl, inr, ℕ, suc, ◌+◌, ◌-◌, ◌<◌, ◌≤◌, Bool, cond, eqb, eq-eqb, ne_eqb, nat_cmp, T, List, [], ◌∷◌, ◌++◌, length, map, take, drop, get_or, set, All, refl, sym, ap, ◌∙◌, subst, arith}
 use Rattle.std.specs.FinMap.{empty, empty_of_len, entries, entries_sorted, len-entries}
 use Rattle.std.specs.Prelude.{IfOk, IsTrue, Result, Ok, Err}
 use Rattle.std.specs.FinMap.Entries.{is_sorted, below_all}
@@ -14,13 +14,14 @@ use Rattle.time_table.specs.Counts.{BinCounts, AllCounted, amount_at, count_of}
 use Rattle.time_table.proofs.RowCounts.{counts-nil, entries-counts}
 use Rattle.time_table.proofs.KeySums.{first_part, second_part, below}
 use Rattle.node_arena.specs.Amounts.{amount_under}
-use Rattle.node_arena.specs.declared.link.SlotId.{SlotId}
 use Rattle.node_arena.specs.Slots.{Slot, node, table, IsNode, slot_of, count, counts_of}
 use Rattle.shape_test.specs.Wholes.{spot_at}
 use Rattle.shape_test.proofs.Core.{one_under, amount-cons}
 use Rattle.shape_test.proofs.BinRows.{table_rows}
-use Rattle.shape_test.specs.Ends.{end_count, ends_count}
-use Rattle.shape_test.specs.Remainder.{AreOrderly, FitIn, IsRemainder, row_key, slot_rows, end_rows}
+use Rattle.shape_test.specs.Ends.{ends_count}
+use Rattle.shape_test.specs.Parts.{part_slot}
+use Rattle.shape_test.specs.declared.parts.Part.{Part}
+use Rattle.shape_test.specs.Remainder.{AreOrderly, FitIn, IsRemainder, row_key, slot_rows, first_rows}
 use Rattle.shape_test.proofs.WayCounts.{ends_part}
 
 -- ---- what rows count in a bin
@@ -267,23 +268,27 @@ node_orderly slots i is = subst AreOrderly (sym (node_rows (slot_of slots i) is)
 pub slot_amount : (slots : List Slot) (i : ℕ) (rows : List (ℕ × ℕ)) (bin : ℕ) → rows ≡ slot_rows slots i → amount_at bin rows ≡ count (slot_of slots i) bin
 slot_amount slots i rows bin is = ap (amount_at bin) is ∙ amount-entries (counts_of (slot_of slots i)) bin
 
-pub end_amount : (slots : List Slot) (o : Option SlotId) (rows : List (ℕ × ℕ)) (bin : ℕ) → rows ≡ end_rows slots o → amount_at bin rows ≡ end_count slots o bin
-end_amount slots None rows bin is = ap (amount_at bin) is
-end_amount slots (Some e) rows bin is = slot_amount slots e.0 rows bin is
+pub whole_amount : (slots : List Slot) (whole : List Part) (rows : List (ℕ × ℕ)) (bin : ℕ) → length whole ≤ 1 → rows ≡ first_rows slots whole → amount_at bin rows ≡ ends_count slots whole bin
+whole_amount slots [] rows bin one is = ap (amount_at bin) is
+whole_amount slots (p ∷ []) rows bin one is =
+    let s = sum_by-cons (λ (q : Part). count (slot_of slots (part_slot q)) bin) p [] in
+    let a = slot_amount slots (part_slot p) rows bin is in
+    omega (arith, s, a)
+whole_amount slots (p ∷ q ∷ parts) rows bin one is = absurd (omega (arith, one))
 
-module _ (slots : List Slot) (ends : List SlotId) (i : ℕ) (d : SlotId) (old left rows : List (ℕ × ℕ)) where
-  -- the rows of the next slot fit in what is left, where those of all do
-  pub next_fits : i < length ends → ((bin : ℕ) → amount_at bin old ≡ amount_at bin left + ends_count slots (take i ends) bin) → rows ≡ slot_rows slots (get_or ends i d).0 → ((bin : ℕ) → ends_count slots ends bin ≤ amount_at bin old) → FitIn rows left
+module _ (slots : List Slot) (ends : List Part) (i : ℕ) (d : Part) (old left rows : List (ℕ × ℕ)) where
+  -- the rows of the next part fit in what is left, where those of all do
+  pub next_fits : i < length ends → ((bin : ℕ) → amount_at bin old ≡ amount_at bin left + ends_count slots (take i ends) bin) → rows ≡ slot_rows slots (part_slot (get_or ends i d)) → ((bin : ℕ) → ends_count slots ends bin ≤ amount_at bin old) → FitIn rows left
   next_fits within sofar is fit bin =
-      let part = slot_amount slots (get_or ends i d).0 rows bin is in
-      let most = ends_part slots ends i d bin (ends_count slots (take i ends) bin) (count (slot_of slots (get_or ends i d).0) bin) within refl refl in
+      let part = slot_amount slots (part_slot (get_or ends i d)) rows bin is in
+      let most = ends_part slots ends i d bin (ends_count slots (take i ends) bin) (count (slot_of slots (part_slot (get_or ends i d))) bin) within refl refl in
       omega (arith, part, most, sofar bin, fit bin)
 
-  -- once they are taken off, that was left and the slots up to it
-  pub next_left : (new : List (ℕ × ℕ)) → i < length ends → ((bin : ℕ) → amount_at bin old ≡ amount_at bin left + ends_count slots (take i ends) bin) → rows ≡ slot_rows slots (get_or ends i d).0 → IsRemainder left rows new → (bin : ℕ) → amount_at bin old ≡ amount_at bin new + ends_count slots (take (i + 1) ends) bin
+  -- once they are taken off, that was left and the parts up to it
+  pub next_left : (new : List (ℕ × ℕ)) → i < length ends → ((bin : ℕ) → amount_at bin old ≡ amount_at bin left + ends_count slots (take i ends) bin) → rows ≡ slot_rows slots (part_slot (get_or ends i d)) → IsRemainder left rows new → (bin : ℕ) → amount_at bin old ≡ amount_at bin new + ends_count slots (take (i + 1) ends) bin
   next_left new within sofar is taken bin =
-      let part = slot_amount slots (get_or ends i d).0 rows bin is in
-      let more = sum_by_more (λ (s : SlotId). count (slot_of slots s.0) bin) ends i d within in
+      let part = slot_amount slots (part_slot (get_or ends i d)) rows bin is in
+      let more = sum_by_more (λ (p : Part). count (slot_of slots (part_slot p)) bin) ends i d within in
       omega (arith, part, more, sofar bin, taken bin)
 
 -- a row that counts something

@@ -1,14 +1,10 @@
 -- What tables and slots count.
-use Rattle.std.proofs.Common.{◌≡◌, ◌↔◌, ℕ, ◌<◌, Bool, true, false, not, List, ◌∷◌, None, refl, sym, ap, ◌∙◌, subst, arith}
+use Rattle.std.proofs.Common.{◌≡◌, ◌↔◌, ℕ, ◌<◌, Bool, true, false, not, List, refl, sym, ◌∙◌, subst, arith}
 use Rattle.std.specs.FinMap.{empty}
 use Rattle.time_table.specs.Counts.{BinCounts, AllCounted, count_of}
 use Rattle.time_table.proofs.AddLaws.{count_of-empty}
-use Rattle.node_arena.specs.Slots.{Slot, node, table, IsNode, slot_of, link_of, count, counts_of}
-use Rattle.shape_test.specs.Ways.{count_below}
-use Rattle.shape_test.proofs.Core.{no_step}
+use Rattle.node_arena.specs.Slots.{Slot, node, table, IsNode, slot_of, count, counts_of}
 use Rattle.shape_test.specs.Filled.{HasRow}
-use Rattle.shape_test.specs.Homes.{step_of, way_of}
-use Rattle.shape_test.specs.declared.home.Move.{Move}
 use Rattle.shape_test.proofs.RowRemainders.{some_row}
 
 -- a table that isn't empty has a row, and an empty one has none
@@ -32,7 +28,3 @@ row_test slots i m false is counted E = (
 pub node_count : (s : Slot) (bin : ℕ) → IsNode s → 0 ≡ count s bin
 node_count (node children content) bin e = sym (count_of-empty bin)
 node_count (table counts) bin e = absurd cc
-
--- without its first step a way leads nowhere
-pub nothing_along : (slots : List Slot) (i bin : ℕ) (way rest : List Move) (e : Move) → way ≡ e ∷ rest → link_of slots i (step_of e) ≡ None → 0 ≡ count_below slots i (way_of way) bin
-nothing_along slots i bin way rest e begins none = sym (ap (λ (w : List Move). count_below slots i (way_of w) bin) begins ∙ no_step slots i (step_of e) (way_of rest) bin none)

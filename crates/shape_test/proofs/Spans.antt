@@ -1,10 +1,9 @@
 -- Homes that lie in one list of steps.
-use Rattle.std.proofs.Common.{◌≡◌, ◌⊎◌, inl, inr, ℕ, suc, ◌-◌, ◌<◌, ◌≤◌, List, [], ◌∷◌, ◌++◌, length, get_or, take, drop, All, refl, sym, ap, ap₂, subst, ◌∙◌, length-append, length-drop, arith}
+use Rattle.std.proofs.Common.{◌≡◌, ℕ, suc, ◌-◌, ◌<◌, ◌≤◌, List, [], ◌∷◌, ◌++◌, length, get_or, take, drop, All, refl, sym, ap, ap₂, subst, ◌∙◌, length-append, length-drop, arith}
 use Rattle.std.proofs.Math.Seq.{drop-append_seam}
-use Rattle.std.proofs.lemmas.Bool.{cases_lt}
-use Rattle.std.proofs.lemmas.List.{drop-append-le, take-append-le, take_at, append-nil, append_assoc, map-append, length-map, get_or-map, get_or_append_left, get_or_push}
+use Rattle.std.proofs.lemmas.List.{drop-append-le, take-append-le, take_at, append-nil, append_assoc, map-append, get_or-map}
 use Rattle.std.proofs.lemmas.List.Elements.{All-push}
-use Rattle.shape_test.specs.Spans.{span_moves, spanned, IsSpan, HasAbove, AreSpans}
+use Rattle.shape_test.specs.Spans.{span_moves, spanned, IsSpan, AreSpans}
 use Rattle.shape_test.specs.declared.home.Move.{Move}
 use Rattle.shape_test.specs.declared.home_list.Span.{Span}
 
@@ -22,15 +21,9 @@ spanned_more moves more [] A = refl
 spanned_more moves more (s ∷ spans) A =
     ap₂ (λ (h : List Move) (hs : List (List Move)). h ∷ hs) (span_more moves more s (A 0 s (omega arith))) (spanned_more moves more spans (λ k d l. A (suc k) d (omega (arith, l))))
 
-within_more : (moves more : List Move) (spans : List Span) → All (IsSpan (length moves)) spans → All (IsSpan (length (moves ++ more))) spans
-within_more moves more spans A = λ k d l. let a = A k d l in let n = length-append moves more in (a.0, let b = a.1 in omega (arith, b, n))
-
 -- more steps behind all change nothing
 pub spans_more : (moves more : List Move) (spans : List Span) → AreSpans moves spans → AreSpans (moves ++ more) spans
-spans_more moves more spans A = record {
-  within = within_more moves more spans A.within;
-  above = λ i d l. subst (λ (homes : List (List Move)). HasAbove homes i (get_or spans i d)) (sym (spanned_more moves more spans A.within)) (A.above i d l);
-}
+spans_more moves more spans A = λ k d l. let a = A k d l in let n = length-append moves more in (a.0, let b = a.1 in omega (arith, b, n))
 
 -- the home that was put at the end
 last_span : (moves home : List Move) (s : Span) → s.start ≡ length moves → s.end ≡ length (moves ++ home) → span_moves (moves ++ home) s ≡ home
@@ -40,35 +33,13 @@ last_span moves home s a b =
     let k : length home ≡ s.end - s.start = omega (arith, n, a, b) in
     ap (take (s.end - s.start)) d ∙ (ap (take (s.end - s.start)) (sym (append-nil home)) ∙ take_at home [] (s.end - s.start) k)
 
--- homes that are named for others, with one more
-above_push : (homes : List (List Move)) (spans : List Span) (h : List Move) (s : Span) → length homes ≡ length spans → ((i : ℕ) (d : Span) → i < length spans → HasAbove homes i (get_or spans i d))
-    → (s.above < length spans → h ≡ s.step ∷ get_or homes s.above []) → (i : ℕ) (d : Span) → i < length (spans ++ s ∷ []) → HasAbove (homes ++ h ∷ []) i (get_or (spans ++ s ∷ []) i d)
-above_push homes spans h s same A new i d l = go (cases_lt i (length spans))
-  where
-    old : (k : ℕ) → k < length spans → get_or (homes ++ h ∷ []) k [] ≡ get_or homes k []
-    old k lt = get_or_append_left homes (h ∷ []) [] k (omega (arith, lt, same))
-
-    go : (i < length spans) ⊎ (length spans ≤ i) → HasAbove (homes ++ h ∷ []) i (get_or (spans ++ s ∷ []) i d)
-    go (inl x) =
-        subst (λ (z : Span). HasAbove (homes ++ h ∷ []) i z) (sym (get_or_append_left spans (s ∷ []) d i x))
-        (λ lt. old i x ∙ (A i d x lt ∙ ap (λ (t : List Move). (get_or spans i d).step ∷ t) (sym (old (get_or spans i d).above (omega (arith, lt, x))))))
-    go (inr x) =
-        let n = length-append spans (s ∷ []) in
-        let e : i ≡ length spans = omega (arith, n, l, x) in
-        let f : i ≡ length homes = omega (arith, e, same) in
-        subst (λ (z : Span). HasAbove (homes ++ h ∷ []) i z) (sym (get_or_push spans s d i (sym e)))
-        (λ lt. get_or_push homes h [] i (sym f) ∙ (new (omega (arith, lt, e)) ∙ ap (λ (t : List Move). s.step ∷ t) (sym (old s.above (omega (arith, lt, e))))))
-
 module _ (moves home : List Move) (spans : List Span) (s : Span) (A : AreSpans moves spans) (start : s.start ≡ length moves) (end : s.end ≡ length (moves ++ home)) where
   -- a home more
   spanned_push : spanned (moves ++ home) (spans ++ s ∷ []) ≡ spanned moves spans ++ home ∷ []
-  spanned_push = map-append (span_moves (moves ++ home)) spans (s ∷ []) ∙ ap₂ (λ (hs : List (List Move)) (h : List Move). hs ++ h ∷ []) (spanned_more moves home spans A.within) (last_span moves home s start end)
+  spanned_push = map-append (span_moves (moves ++ home)) spans (s ∷ []) ∙ ap₂ (λ (hs : List (List Move)) (h : List Move). hs ++ h ∷ []) (spanned_more moves home spans A) (last_span moves home s start end)
 
-  spans_push : (s.above < length spans → home ≡ s.step ∷ get_or (spanned moves spans) s.above []) → AreSpans (moves ++ home) (spans ++ s ∷ [])
-  spans_push named = record {
-    within = All-push (IsSpan (length (moves ++ home))) spans s (within_more moves home spans A.within) (let n = length-append moves home in omega (arith, n, start, end), let e = end in omega (arith, e));
-    above = subst (λ (homes : List (List Move)). (i : ℕ) (d : Span) → i < length (spans ++ s ∷ []) → HasAbove homes i (get_or (spans ++ s ∷ []) i d)) (sym spanned_push) (above_push (spanned moves spans) spans home s (length-map spans (span_moves moves)) A.above named);
-  }
+  spans_push : AreSpans (moves ++ home) (spans ++ s ∷ [])
+  spans_push = All-push (IsSpan (length (moves ++ home))) spans s (spans_more moves home spans A) (let n = length-append moves home in omega (arith, n, start, end), let e = end in omega (arith, e))
 
 -- Homes lie in steps as they did in fewer, with one more behind them.
 pub record HasHomeMore (moves : List Move) (spans : List Span) (home now : List Move) (all : List Span) : Type 0 where
@@ -76,10 +47,10 @@ pub record HasHomeMore (moves : List Move) (spans : List Span) (home now : List 
   pub put : spanned now all ≡ spanned moves spans ++ home ∷ []
 
 -- a home whose steps and place were put behind all others
-pub home_put : (moves home now : List Move) (spans all : List Span) (s : Span) → AreSpans moves spans → now ≡ moves ++ home → all ≡ spans ++ s ∷ [] → s.start ≡ length moves → s.end ≡ length now → (s.above < length spans → home ≡ s.step ∷ get_or (spanned moves spans) s.above []) → HasHomeMore moves spans home now all
-home_put moves home now spans all s A steps places start end named =
+pub home_put : (moves home now : List Move) (spans all : List Span) (s : Span) → AreSpans moves spans → now ≡ moves ++ home → all ≡ spans ++ s ∷ [] → s.start ≡ length moves → s.end ≡ length now → HasHomeMore moves spans home now all
+home_put moves home now spans all s A steps places start end =
     let past : s.end ≡ length (moves ++ home) = end ∙ ap length steps in
-    rw (steps, places) (record { fit = spans_push moves home spans s A start past named; put = spanned_push moves home spans s A start past })
+    rw (steps, places) (record { fit = spans_push moves home spans s A start past; put = spanned_push moves home spans s A start past })
 
 -- a home that is there, by its place
 span_there : (moves : List Move) (spans : List Span) (i : ℕ) (s : Span) → i < length spans → s ≡ get_or spans i s → span_moves moves s ≡ get_or (spanned moves spans) i []
@@ -88,7 +59,7 @@ span_there moves spans i s lt e = ap (span_moves moves) e ∙ sym (get_or-map (s
 -- a step and then the steps of a home that is there, behind all
 module _ (moves : List Move) (spans : List Span) (i : ℕ) (s : Span) (A : AreSpans moves spans) (lt : i < length spans) (e : s ≡ get_or spans i s) where
   pub lies_there : IsSpan (length moves) s
-  lies_there = subst (IsSpan (length moves)) (sym e) (A.within i s lt)
+  lies_there = subst (IsSpan (length moves)) (sym e) (A i s lt)
 
   pub step_put : (m : Move) → (moves ++ m ∷ []) ++ span_moves (moves ++ m ∷ []) s ≡ moves ++ m ∷ get_or (spanned moves spans) i []
   step_put m = ap (λ (h : List Move). (moves ++ m ∷ []) ++ h) (span_more moves (m ∷ []) s lies_there ∙ span_there moves spans i s lt e) ∙ append_assoc moves (m ∷ []) (get_or (spanned moves spans) i [])

@@ -1,26 +1,14 @@
--- What slots count to which a way leads.
-use Rattle.std.proofs.Common.{◌≡◌, ℕ, ◌+◌, ◌<◌, ◌≤◌, List, ◌++◌, length, take, get_or, Option, Some, None, sym, ap, subst, arith}
-use Rattle.std.specs.Option.{option_to_list}
-use Rattle.std.proofs.lemmas.List.{append-nil}
-use Rattle.std.proofs.lemmas.List.Elements.{All-push}
-use Rattle.std.proofs.lemmas.List.Sums.{sum_by_push, sum_by_more, sum_by-take-le}
-use Rattle.node_arena.specs.declared.link.SlotId.{SlotId}
+-- What parts count in a bin.
+use Rattle.std.proofs.Common.{◌≡◌, ℕ, ◌+◌, ◌<◌, ◌≤◌, List, length, take, get_or, arith}
+use Rattle.std.proofs.lemmas.List.Sums.{sum_by_more, sum_by-take-le}
 use Rattle.node_arena.specs.Slots.{Slot, slot_of, count}
-use Rattle.shape_test.specs.Ends.{end_count, ends_count, IsEndIn, AreEnds}
+use Rattle.shape_test.specs.Ends.{ends_count}
+use Rattle.shape_test.specs.Parts.{part_slot}
+use Rattle.shape_test.specs.declared.parts.Part.{Part}
 
-module _ (slots : List Slot) (ends : List SlotId) where
-  -- one slot more, if there is one
-  pub ends_more : (o : Option SlotId) (bin : ℕ) → ends_count slots (ends ++ option_to_list o) bin ≡ ends_count slots ends bin + end_count slots o bin
-  ends_more None bin = let e = ap (λ (es : List SlotId). ends_count slots es bin) (append-nil ends) in omega (arith, e)
-  ends_more (Some e) bin = sum_by_push (λ (s : SlotId). count (slot_of slots s.0) bin) ends e
-
-  pub ends_within : (o : Option SlotId) → AreEnds slots ends → IsEndIn slots o → AreEnds slots (ends ++ option_to_list o)
-  ends_within None A x = subst (AreEnds slots) (sym (append-nil ends)) A
-  ends_within (Some e) A x = All-push (λ (s : SlotId). s.0 < length slots) ends e A x
-
-  -- the slots before one, and it, are not more than all
-  pub ends_part : (i : ℕ) (d : SlotId) (bin total part : ℕ) → i < length ends → total ≡ ends_count slots (take i ends) bin → part ≡ count (slot_of slots (get_or ends i d).0) bin → total + part ≤ ends_count slots ends bin
-  ends_part i d bin total part l T P =
-      let m = sum_by_more (λ (s : SlotId). count (slot_of slots s.0) bin) ends i d l in
-      let t = sum_by-take-le (λ (s : SlotId). count (slot_of slots s.0) bin) ends (i + 1) in
-      omega (arith, m, t, T, P)
+-- the parts before one, and it, are not more than all
+pub ends_part : (slots : List Slot) (parts : List Part) (i : ℕ) (d : Part) (bin total part : ℕ) → i < length parts → total ≡ ends_count slots (take i parts) bin → part ≡ count (slot_of slots (part_slot (get_or parts i d))) bin → total + part ≤ ends_count slots parts bin
+ends_part slots parts i d bin total part l T P =
+    let m = sum_by_more (λ (p : Part). count (slot_of slots (part_slot p)) bin) parts i d l in
+    let t = sum_by-take-le (λ (p : Part). count (slot_of slots (part_slot p)) bin) parts (i + 1) in
+    omega (arith, m, t, T, P)

@@ -1,7 +1,6 @@
 -- Homes as they are kept: the steps to a slot, the last one first.
 use Rattle.std.specs.Prelude.{Bool, true, false, List, map}
 use Rattle.cube_view.specs.Walks.{Step, down, across, Walk}
-use Rattle.shape_test.specs.Ways.{Way}
 use Rattle.shape_test.specs.declared.home.Move.{Move}
 use Rattle.shape_test.specs.declared.home.Move.TheVariants.{Down, Across}
 
@@ -22,7 +21,3 @@ walks_of homes = map walk_of homes
 abbrev pub is_across : Move → Bool
 is_across (Down l) = false
 is_across Across = true
-
--- the same steps as a way, the first one first
-abbrev pub way_of : List Move → Way
-way_of moves = map step_of moves

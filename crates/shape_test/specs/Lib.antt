@@ -10,6 +10,7 @@ pub mod Links
 pub mod Local
 pub mod Merging
 pub mod Owners
+pub mod Parts
 pub mod Places
 pub mod Remainder
 pub mod Sharing

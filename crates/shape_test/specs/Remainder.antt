@@ -1,10 +1,11 @@
 -- What is left of rows once those of others are taken off.
-use Rattle.std.specs.Prelude.{◌≡◌, ℕ, ◌+◌, ◌<◌, ◌≤◌, List, [], All, Option, Some, None}
+use Rattle.std.specs.Prelude.{◌≡◌, ℕ, ◌+◌, ◌<◌, ◌≤◌, List, [], ◌∷◌, All}
 use Rattle.std.specs.FinMap.{entries}
 use Rattle.probe_core.specs.Places.{RisesBy}
 use Rattle.time_table.specs.Counts.{amount_at}
-use Rattle.node_arena.specs.declared.link.SlotId.{SlotId}
 use Rattle.node_arena.specs.Slots.{Slot, slot_of, counts_of}
+use Rattle.shape_test.specs.Parts.{part_slot}
+use Rattle.shape_test.specs.declared.parts.Part.{Part}
 
 -- the bin of a row
 abbrev pub row_key : ℕ × ℕ → ℕ
@@ -14,10 +15,10 @@ row_key row = row.0
 abbrev pub slot_rows : List Slot → ℕ → List (ℕ × ℕ)
 slot_rows slots i = entries (counts_of (slot_of slots i))
 
--- the rows of a slot, if there is one
-abbrev pub end_rows : List Slot → Option SlotId → List (ℕ × ℕ)
-end_rows slots None = []
-end_rows slots (Some e) = slot_rows slots e.0
+-- the rows of the first part, if there is one
+abbrev pub first_rows : List Slot → List Part → List (ℕ × ℕ)
+first_rows slots [] = []
+first_rows slots (p ∷ parts) = slot_rows slots (part_slot p)
 
 -- rows that can be taken off: they rise, and none is without a record
 pub record AreOrderly (rows : List (ℕ × ℕ)) : Type 0 where

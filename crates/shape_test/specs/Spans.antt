@@ -1,5 +1,5 @@
 -- Homes that lie behind one another in one list of steps.
-use Rattle.std.specs.Prelude.{◌≡◌, ℕ, ◌<◌, ◌≤◌, List, [], ◌∷◌, ◌++◌, map, length, slice_index_or, slice_range, All}
+use Rattle.std.specs.Prelude.{ℕ, ◌≤◌, List, [], ◌∷◌, ◌++◌, map, length, slice_index_or, slice_range, All}
 use Rattle.shape_test.specs.declared.home.Move.{Move}
 use Rattle.shape_test.specs.declared.home_list.Span.{Span}
 
@@ -15,16 +15,9 @@ spanned moves spans = map (span_moves moves) spans
 abbrev pub IsSpan : ℕ → Span → Type 0
 IsSpan n s = (s.start ≤ s.end) × (s.end ≤ n)
 
--- the home of a place is that of an earlier one with a step before it, where an earlier one is named
-abbrev pub HasAbove : List (List Move) → ℕ → Span → Type 0
-HasAbove homes i s = s.above < i → slice_index_or homes i [] ≡ s.step ∷ slice_index_or homes s.above []
-
--- Places have homes among the steps.
-pub record AreSpans (moves : List Move) (spans : List Span) : Type 0 where
-  -- each home lies among the steps
-  pub within : All (IsSpan (length moves)) spans
-  -- and is one step longer than the one that is named for it
-  pub above : (i : ℕ) (d : Span) → i < length spans → HasAbove (spanned moves spans) i (slice_index_or spans i d)
+-- each home lies among the steps
+abbrev pub AreSpans : List Move → List Span → Type 0
+AreSpans moves spans = All (IsSpan (length moves)) spans
 
 -- homes, and behind them an earlier one with a step before it
 abbrev pub with_step : List (List Move) → Move → ℕ → List (List Move)

@@ -41,30 +41,32 @@ fn fits_at<L: Ledger>(
     Ok(size_fits(schema, arena, homes, places, size, steps))
 }
 
-/// Whether slots with a size fit the schema, their homes being given.
+/// Whether slots with a size fit the schema, their homes being given. Their owners are let go before what takes
+/// longest.
 fn homes_fit<L: Ledger>(
     alloc: Global,
     schema: &Schema,
     arena: &Arena,
-    found: &Homed,
+    found: Homed,
     size: u64,
     steps: &mut Steps<L>,
 ) -> Result<bool, NoMemory>
     requires few { length arena.now < 2 ^ 32 }
-    requires homes { AreHomesIn schema.now arena.now found.now.homes }
-    requires owners { HasOwners arena.now found.now.owners.items }
+    requires homes { AreHomesIn schema.now arena.now found.homes }
+    requires owners { HasOwners arena.now found.owners.items }
     requires testable { AreTestable arena.now }
     ensures { IfOk result (λ r. IsTrue r ↔ Fits schema.now arena.now size) }
 {
-    match places_of(alloc, schema, arena, found.owners.as_slice(), &found.homes)? {
-        Some(places) => fits_at(alloc, schema, arena, &found.homes, &places, size, steps),
+    let Homed { homes, owners } = found;
+    match places_of(alloc, schema, arena, owners, &homes)? {
+        Some(places) => fits_at(alloc, schema, arena, &homes, &places, size, steps),
         None => Ok(false),
     }
 }
 
-/// Whether slots with a size fit the schema: they are a cube of the spots that their time tables count, all labels are the
-/// schema's, and some list of so many points has these spots with their weights. The homes of the slots are looked for
-/// first; slots that have none fit no schema.
+/// Whether slots with a size fit the schema: they are a cube of the spots that their time tables count, all labels are
+/// the schema's, and some list of so many points has these spots with their weights. The homes of the slots are looked
+/// for first; slots that have none fit no schema.
 pub fn fits<L: Ledger>(
     alloc: Global,
     schema: &Schema,
@@ -76,7 +78,7 @@ pub fn fits<L: Ledger>(
     ensures { IfOk result (λ r. IsTrue r ↔ Fits schema.now arena.now size) }
 {
     match homes_of(alloc, schema, arena, steps)? {
-        Some(found) => homes_fit(alloc, schema, arena, &found, size, steps),
+        Some(found) => homes_fit(alloc, schema, arena, found, size, steps),
         None => Ok(false),
     }
 }

@@ -1,5 +1,5 @@
 //! The homes of slots in one list of steps.
-ghost use Rattle.std.specs.Prelude.{◌≡◌, ◌<◌, ◌++◌, ◌∷◌, [], length, slice_index_or, IfSome, OnErr, OnOk};
+ghost use Rattle.std.specs.Prelude.{◌≡◌, ◌<◌, ◌++◌, ◌∷◌, [], length, slice_index_or, OnErr, OnOk};
 ghost use Rattle.shape_test.specs.Spans.{spanned, with_step, AreSpans};
 
 use crate::home::Move;
@@ -7,14 +7,11 @@ use std::alloc::Global;
 use std::marker::Model;
 use texts::NoMemory;
 
-/// Where the steps of a home lie: from one place up to another. Behind the first step stands the home of an earlier slot,
-/// if `above` names one.
+/// Where the steps of a home lie: from one place up to another.
 #[derive(Clone, Copy)]
 pub struct Span {
     pub start: usize,
     pub end: usize,
-    pub step: Move,
-    pub above: usize,
 }
 
 /// Homes, each the steps from a slot back to the root, the last one first. All steps lie in one list, so that no home
@@ -62,20 +59,6 @@ impl HomeList {
     {
         let span = self.spans[i];
         &self.moves[span.start..span.end]
-    }
-
-    /// The last step of a home, and the place of the earlier home behind it, where that is known.
-    pub fn last(&self, i: usize) -> Option<(Move, usize)>
-        requires { i < length self.now }
-        ensures home { IfSome result (λ x. slice_index_or self.now i [] ≡ x.0 ∷ slice_index_or self.now x.1 []) }
-        ensures earlier { IfSome result (λ x. x.1 < i) }
-    {
-        let span = self.spans[i];
-        if span.above < i {
-            Some((span.step, span.above))
-        } else {
-            None
-        }
     }
 
     /// Adds a home at the end.
@@ -130,14 +113,12 @@ fn put_step(
     let span = Span {
         start,
         end: moves.len(),
-        step,
-        above,
     };
     add_span(spans, span)?;
     Ok(())
 }
 
-/// Puts a home behind others, of which none is named behind its first step.
+/// Puts a home behind others.
 fn put_home(moves: &mut Vec<Move>, spans: &mut Vec<Span>, home: &[Move]) -> Result<(), NoMemory>
     requires spans { AreSpans moves.old.items spans.old.items }
     ensures spans { AreSpans moves.new.items spans.new.items }
@@ -148,8 +129,6 @@ fn put_home(moves: &mut Vec<Move>, spans: &mut Vec<Span>, home: &[Move]) -> Resu
     let span = Span {
         start,
         end: moves.len(),
-        step: Move::Across,
-        above: spans.len(),
     };
     add_span(spans, span)?;
     Ok(())

@@ -58,8 +58,8 @@ fn near_owner(owners: &[Option<Owner>], homes: &HomeList, slot: usize, most: usi
     Some(owner)
 }
 
-/// Adds the home of a slot behind those of the slots before it, by its owner's where that is known. It says no where the
-/// slot has none.
+/// Adds the home of a slot behind those of the slots before it, by its owner's where that is known. It says no where
+/// the slot has none.
 fn add_home(
     alloc: Global,
     homes: &mut HomeList,
@@ -142,8 +142,8 @@ pub fn homes_of<L: Ledger>(
     }
 }
 
-/// What the homes of a schema's cubes are, as a law of the definitions: no longer than those that are looked for. It does
-/// nothing when run.
+/// What the homes of a schema's cubes are, as a law of the definitions: no longer than those that are looked for. It
+/// does nothing when run.
 pub fn home_laws()
     ensures { TellsShort }
 {}

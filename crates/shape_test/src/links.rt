@@ -5,8 +5,7 @@ ghost use Rattle.shape_test.specs.Homes.{step_of, walk_of, walks_of};
 ghost use Rattle.shape_test.specs.Links.{HasSmallLabels, LinkFits, LinksFit, ChildrenFit};
 
 use crate::children::first_child;
-use crate::climb::is_coarser_home;
-use crate::home::{Move, is_coarser_after, is_same, leads_across};
+use crate::home::{Move, is_coarser_after};
 use crate::home_list::HomeList;
 use node_arena::{Arena, Link, SlotId};
 use probe_core::Steps;
@@ -66,16 +65,5 @@ fn link_fits(homes: &HomeList, id: SlotId, step: Move, link: Link) -> bool
     if to >= homes.len() {
         return false;
     }
-    let by = id.0 as usize;
-    let Some((last, above)) = homes.last(to) else {
-        return is_coarser_after(step, homes.get(by), homes.get(to));
-    };
-    if !is_same(step, last) {
-        return false;
-    }
-    // The home of a proper link's target was made of the slot's, so it is seldom compared.
-    if above == by {
-        return true;
-    }
-    is_coarser_home(homes, leads_across(step), by, above)
+    is_coarser_after(step, homes.get(id.0 as usize), homes.get(to))
 }

@@ -38,9 +38,8 @@ fn place_after(
     next_place(schema, *places.get(by), owner.step)
 }
 
-/// Where the homes of all slots stand. None comes where one goes past the schema's levels, or by a label that the schema
-/// doesn't have.
-pub fn places_of(
+/// Where the homes of all slots stand, by the owners that are known.
+fn places_by(
     alloc: Global,
     schema: &Schema,
     arena: &Arena,
@@ -60,4 +59,20 @@ pub fn places_of(
         places.add(place)?;
     }
     Ok(Some(places))
+}
+
+/// Where the homes of all slots stand. None comes where one goes past the schema's levels, or by a label that the
+/// schema doesn't have. The owners are let go.
+pub fn places_of(
+    alloc: Global,
+    schema: &Schema,
+    arena: &Arena,
+    owners: Vec<Option<Owner>>,
+    homes: &HomeList,
+) -> Result<Option<List<Place>>, NoMemory>
+    requires owners { HasOwners arena.now owners.items }
+    requires homes { HasProperLinks arena.now (walks_of homes.now) }
+    ensures { IfOk result (λ o. MatchOption o (HasOutside schema.now (walks_of homes.now)) (ArePlaces schema.now (walks_of homes.now))) }
+{
+    places_by(alloc, schema, arena, owners.as_slice(), homes)
 }

@@ -2,9 +2,11 @@
 ghost use Rattle.std.specs.Prelude.{◌≡◌, ℕ, ◌↔◌, ◌+◌, ◌<◌, ◌≤◌, ◌^◌, length, IsTrue, IfOk, OnOk};
 ghost use Rattle.probe_core.specs.Places.{RisesBy};
 ghost use Rattle.time_table.specs.Counts.{amount_at};
-ghost use Rattle.shape_test.specs.Ends.{end_count, ends_count, IsEndIn, AreEnds};
-ghost use Rattle.shape_test.specs.Remainder.{AreOrderly, FitIn, IsRemainder, row_key, end_rows, slot_rows};
+ghost use Rattle.shape_test.specs.Ends.{ends_count};
+ghost use Rattle.shape_test.specs.Parts.{ArePartsIn};
+ghost use Rattle.shape_test.specs.Remainder.{AreOrderly, FitIn, IsRemainder, row_key, slot_rows, first_rows};
 
+use crate::parts::Part;
 use node_arena::{Arena, SlotId};
 use probe_core::Steps;
 use std::sync::ledger::Ledger;
@@ -65,40 +67,41 @@ fn read_rows<L: Ledger>(
     Ok(())
 }
 
-/// The rows of a slot, if there is one, in place of what a list had.
-fn read_end<L: Ledger>(
+/// The rows of a part, if there is one, in place of what a list had.
+fn read_whole<L: Ledger>(
     rows: &mut Vec<(u32, u64)>,
     arena: &Arena,
-    end: Option<SlotId>,
+    whole: &[Part],
     steps: &mut Steps<L>,
 ) -> Result<(), NoMemory>
-    requires { IsEndIn arena.now end }
-    ensures rows { OnOk result (rows.new.items ≡ end_rows arena.now end) }
-    ensures orderly { AreOrderly (end_rows arena.now end) }
+    requires one { length whole.now ≤ 1 }
+    requires within { ArePartsIn arena.now whole.now }
+    ensures rows { OnOk result (rows.new.items ≡ first_rows arena.now whole.now) }
+    ensures orderly { AreOrderly (first_rows arena.now whole.now) }
 {
-    let Some(id) = end else {
+    let [one, ..] = whole else {
         rows.clear();
         return Ok(());
     };
-    read_rows(rows, arena, id, steps)
+    read_rows(rows, arena, one.content, steps)
 }
 
-/// Takes the rows of slots off others. It says no only where they count more than these in some bin. Rows are read into a
-/// list that is there.
+/// Takes the rows of parts off others. It says no only where they count more than these in some bin. Rows are read into
+/// a list that is there.
 fn take_ends<L: Ledger>(
     left: &mut [(u32, u64)],
     rows: &mut Vec<(u32, u64)>,
     arena: &Arena,
-    ends: &[SlotId],
+    parts: &[Part],
     steps: &mut Steps<L>,
 ) -> Result<bool, NoMemory>
     requires rises { RisesBy row_key left.old }
-    requires ends { AreEnds arena.now ends.now }
-    ensures left { IfOk result (λ r. IsTrue r → (bin : ℕ) → amount_at bin left.old ≡ amount_at bin left.new + ends_count arena.now ends.now bin) }
-    ensures all { ((bin : ℕ) → ends_count arena.now ends.now bin ≤ amount_at bin left.old) → IfOk result (λ r. IsTrue r) }
+    requires parts { ArePartsIn arena.now parts.now }
+    ensures left { IfOk result (λ r. IsTrue r → (bin : ℕ) → amount_at bin left.old ≡ amount_at bin left.new + ends_count arena.now parts.now bin) }
+    ensures all { ((bin : ℕ) → ends_count arena.now parts.now bin ≤ amount_at bin left.old) → IfOk result (λ r. IsTrue r) }
 {
-    for end in ends {
-        read_rows(rows, arena, *end, steps)?;
+    for part in parts {
+        read_rows(rows, arena, part.content, steps)?;
         if !take_off(left, rows.as_slice()) {
             return Ok(false);
         }
@@ -106,21 +109,22 @@ fn take_ends<L: Ledger>(
     Ok(true)
 }
 
-/// Whether a slot, if there is one, has in each bin as many records as others have together. Rows are read into lists
+/// Whether a part, if there is one, has in each bin as many records as others have together. Rows are read into lists
 /// that are there.
 pub fn ends_merge<L: Ledger>(
     left: &mut Vec<(u32, u64)>,
     rows: &mut Vec<(u32, u64)>,
     arena: &Arena,
-    whole: Option<SlotId>,
-    parts: &[SlotId],
+    whole: &[Part],
+    parts: &[Part],
     steps: &mut Steps<L>,
 ) -> Result<bool, NoMemory>
-    requires whole { IsEndIn arena.now whole }
-    requires parts { AreEnds arena.now parts.now }
-    ensures { IfOk result (λ r. IsTrue r ↔ ((bin : ℕ) → end_count arena.now whole bin ≡ ends_count arena.now parts.now bin)) }
+    requires one { length whole.now ≤ 1 }
+    requires whole { ArePartsIn arena.now whole.now }
+    requires parts { ArePartsIn arena.now parts.now }
+    ensures { IfOk result (λ r. IsTrue r ↔ ((bin : ℕ) → ends_count arena.now whole.now bin ≡ ends_count arena.now parts.now bin)) }
 {
-    read_end(left, arena, whole, steps)?;
+    read_whole(left, arena, whole, steps)?;
     let left = left.as_mut_slice();
     if !take_ends(left, rows, arena, parts, steps)? {
         return Ok(false);

@@ -1,20 +1,11 @@
-//! The rows of a time table, one after another, and whether a node's content and its children's agree in their bins.
-ghost use Rattle.std.specs.Prelude.{◌≡◌, ◌↔◌, ℕ, ◌<◌, ◌^◌, length, IsTrue, IfOk, MatchOption};
+//! The rows of a time table, one after another, and lists that tests read rows into.
+ghost use Rattle.std.specs.Prelude.{ℕ, ◌<◌, ◌^◌, MatchOption};
 ghost use Rattle.time_table.specs.Counts.{count_of};
-ghost use Rattle.node_arena.specs.Slots.{IsNode, slot_of};
-ghost use Rattle.shape_test.specs.Ways.{Merges};
-ghost use Rattle.shape_test.specs.Homes.{way_of};
 ghost use Rattle.shape_test.specs.Merging.{NoRowFrom, IsFirstRow};
-ghost use Rattle.shape_test.specs.Testable.{AreReadable};
 
-use crate::ends::{content_end, part_ends};
-use crate::home::Move;
-use crate::remainder::ends_merge;
-use node_arena::{Arena, SlotId};
 use probe_core::Steps;
 use std::alloc::Global;
 use std::sync::ledger::Ledger;
-use texts::NoMemory;
 use time_table::TimeTable;
 
 /// The first row from a bin on. From 2^32 on there is none.
@@ -33,13 +24,12 @@ pub fn first_row<L: Ledger>(
     }
 }
 
-/// Lists for the rows of tables and for the ends of ways, kept from test to test so that no test takes memory of its own.
+/// Lists for the rows of tables, kept from test to test so that no test takes memory of its own for them.
 #[derive(Drop)]
 pub struct Room {
     pub alloc: Global,
-    left: Vec<(u32, u64)>,
-    rows: Vec<(u32, u64)>,
-    ends: Vec<SlotId>,
+    pub left: Vec<(u32, u64)>,
+    pub rows: Vec<(u32, u64)>,
 }
 
 impl Room {
@@ -49,32 +39,6 @@ impl Room {
             alloc,
             left: Vec::new(alloc),
             rows: Vec::new(alloc),
-            ends: Vec::new(alloc),
         }
     }
-}
-
-/// Whether a node's content counts along a way what its children's contents count together, in each bin. The way is
-/// gone once for all bins, and the rows of each table are read once.
-pub fn rows_merge<L: Ledger>(
-    room: &mut Room,
-    arena: &Arena,
-    id: SlotId,
-    way: &[Move],
-    steps: &mut Steps<L>,
-) -> Result<bool, NoMemory>
-    requires in_range { id.0 < length arena.now }
-    requires is_node { IsNode (slot_of arena.now id.0) }
-    requires readable { AreReadable arena.now }
-    ensures { IfOk result (λ r. IsTrue r ↔ ((bin : ℕ) → Merges arena.now id.0 (way_of way.now) bin)) }
-{
-    let Room {
-        alloc: _,
-        left,
-        rows,
-        ends,
-    } = room;
-    let whole = content_end(arena, id, way, steps);
-    part_ends(ends, arena, id, way, steps)?;
-    ends_merge(left, rows, arena, whole, ends.as_slice(), steps)
 }

@@ -200,8 +200,8 @@ pub fn size_fits<L: Ledger>(
     is_size(schema, bag_size(schema, arena, homes, places, steps), size)
 }
 
-/// What a size tells, as laws of the definitions: slots that fit with it are a cube of so many points, and no table of them
-/// counts more records than one can hold. It does nothing when run.
+/// What a size tells, as laws of the definitions: slots that fit with it are a cube of so many points, and no table of
+/// them counts more records than one can hold. It does nothing when run.
 pub fn size_laws()
     ensures points { TellsPoints }
     ensures light { TellsLight }

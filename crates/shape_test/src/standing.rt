@@ -155,8 +155,8 @@ fn all_merge<L: Ledger>(
     Ok(true)
 }
 
-/// Whether all slots meet the conditions on single slots, their homes and the places of these being given. What slots count is looked at only
-/// once all of them stand where they may, since few ways then lead to each.
+/// Whether all slots meet the conditions on single slots, their homes and the places of these being given. What slots
+/// count is looked at only once all of them stand where they may, since few ways then lead to each.
 pub fn slots_fit<L: Ledger>(
     alloc: Global,
     schema: &Schema,

@@ -11,4 +11,4 @@ of_slots-requires-clause-counted c =
 
 pub returns-in-Ok : goal.returns-in-Ok
 returns-in-Ok c =
-    cube-of-image c.image_parse_laws.ensures.one c.args.schema c.args.bytes.now c.in-Ok.arena c.in-Ok.root c.in-Ok.size c.in-Ok.ensures.1 c.in-Ok.ensures.0 c.of_slots.result c.of_slots.ensures.schema c.of_slots.ensures.slots
+    cube-of-image c.image_parse_laws.ensures.one c.args.schema c.args.bytes c.in-Ok.arena c.in-Ok.root c.in-Ok.size c.in-Ok.ensures.1 c.in-Ok.ensures.0 c.of_slots.result c.of_slots.ensures.schema c.of_slots.ensures.slots

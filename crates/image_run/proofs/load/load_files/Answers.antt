@@ -1,4 +1,4 @@
-use Rattle.std.proofs.Common.{Option, Ok, Result, subst, sym}
+use Rattle.std.proofs.Common.{Option, Ok, Err, Result, ap, subst, sym}
 use Rattle.cube_store.specs.declared.cube.Cube.{Cube}
 use Rattle.run_files.specs.Outside.{at, of_place, of_sink, PlaceSeen, SinkSeen}
 use Rattle.run_files.specs.declared.stop.Stop.{Stop}
@@ -22,12 +22,12 @@ sink_of g = of_sink g.O.Sink
 pub returns-in_err-plan : goal.returns-in_err-plan
 returns-in_err-plan g c =
     subst (λ (r : Result ImageEnd Stop). LoadEnds (place_of g) (sink_of g) (at c.args.place.now c.args.out.now) (at c.load_plan.new.place c.load_plan.new.out) (image_names c.args.names.now) r) (sym (residual_is c.from_residual.result c.in_err-plan.field-0.0 c.from_residual.ensures.1))
-    (ended_by_plan (place_of g) (sink_of g) c.args.names.now.plan.now c.args.names.now.image.now c.args.names.now.script.now c.args.place.now c.load_plan.new.place c.args.out.now c.load_plan.new.out c.in_err-plan.field-0.0 c.in_err-plan.ensures.leaves c.in_err-plan.ensures.plan)
+    (ended_by_plan (place_of g) (sink_of g) c.args.names.now.plan.now c.args.names.now.image.now c.args.names.now.script.now c.args.place.now c.load_plan.new.place c.args.out.now c.load_plan.new.out c.in_err-plan.field-0.0 c.in_err-plan.ensures.leaves (λ e. c.in_err-plan.ensures.read (ap (λ k. Err k) e)) c.in_err-plan.ensures.plan)
 
 pub returns-in_err-bytes : goal.returns-in_err-bytes
 returns-in_err-bytes g c =
     subst (λ (r : Result ImageEnd Stop). LoadEnds (place_of g) (sink_of g) (at c.args.place.now c.args.out.now) (at c.read_file.new.place c.load_plan.new.out) (image_names c.args.names.now) r) (sym (residual_is c.from_residual-in_err-bytes.result c.in_err-bytes.field-0.0 c.from_residual-in_err-bytes.ensures.1))
-    (ended_by_image (place_of g) (sink_of g) c.args.names.now.plan.now c.args.names.now.image.now c.args.names.now.script.now c.args.place.now c.load_plan.new.place c.read_file.new.place c.args.out.now c.load_plan.new.out c.in_ok-plan.plan c.in_ok-plan.ensures.leaves c.in_ok-plan.ensures.plan c.in_err-bytes.field-0.0 c.in_err-bytes.ensures.leaves c.in_err-bytes.ensures.ends)
+    (ended_by_image (place_of g) (sink_of g) c.args.names.now.plan.now c.args.names.now.image.now c.args.names.now.script.now c.args.place.now c.load_plan.new.place c.read_file.new.place c.args.out.now c.load_plan.new.out c.in_ok-plan.plan c.in_ok-plan.ensures.leaves c.in_ok-plan.ensures.plan c.in_err-bytes.field-0.0 c.in_err-bytes.ensures.leaves (λ e. c.in_err-bytes.ensures.read (ap (λ k. Err k) e)) c.in_err-bytes.ensures.ends)
 
 pub returns-in_err-cube : goal.returns-in_err-cube
 returns-in_err-cube g c =

@@ -1,5 +1,4 @@
-use Rattle.std.proofs.Common.{◌≡◌, length, ◌∙◌, arith}
-use Rattle.shape_test.specs.declared.home.Move.TheVariants.{Across}
+use Rattle.std.proofs.Common.{◌∙◌}
 use Rattle.shape_test.specs.declared.home_list.Span.{Span}
 use Rattle.shape_test.proofs.Spans.{home_put, spans_more}
 use Rattle.shape_test.proofs.home_list.put_home.Goals as goal
@@ -10,7 +9,6 @@ returns-in_err-add_span-clause-spans c = rw (c.in_ok-extend_from_slice.ensures.i
 pub returns : goal.returns
 returns c =
     let moves = c.args.moves.now in
-    let s : Span = record { start = c.len-start.result; end = c.len.result; step = Across; above = c.len-2.result } in
-    let last : s.above ≡ length c.args.spans.now.items = c.len-2.ensures ∙ c.args.spans.now.ok.0 in
-    let more = home_put moves.items c.args.home.now c.extend_from_slice.new.self.items c.args.spans.now.items c.add_span.new.spans.items s c.requires.spans c.in_ok-extend_from_slice.ensures.items c.in_ok-add_span.ensures.added (c.len-start.ensures ∙ moves.ok.0) (c.len.ensures ∙ c.extend_from_slice.new.self.ok.0) (λ l. absurd (omega (arith, l, last))) in
+    let s : Span = record { start = c.len-start.result; end = c.len.result } in
+    let more = home_put moves.items c.args.home.now c.extend_from_slice.new.self.items c.args.spans.now.items c.add_span.new.spans.items s c.requires.spans c.in_ok-extend_from_slice.ensures.items c.in_ok-add_span.ensures.added (c.len-start.ensures ∙ moves.ok.0) (c.len.ensures ∙ c.extend_from_slice.new.self.ok.0) in
     record { spans = more.fit; put = more.put }

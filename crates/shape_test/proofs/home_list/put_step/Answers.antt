@@ -1,4 +1,4 @@
-use Rattle.std.proofs.Common.{◌≡◌, [], ◌∷◌, ◌++◌, get_or, refl, ◌∙◌}
+use Rattle.std.proofs.Common.{◌≡◌, [], ◌∷◌, ◌++◌, get_or, ◌∙◌}
 use Rattle.shape_test.specs.Spans.{spanned}
 use Rattle.shape_test.specs.declared.home_list.Span.{Span}
 use Rattle.shape_test.proofs.Spans.{home_put, spans_more, step_put}
@@ -19,6 +19,6 @@ returns c =
     let after = c.extend_from_within.new.self in
     let home = c.args.step ∷ get_or (spanned moves.items c.args.spans.now.items) c.args.above [] in
     let steps : after.items ≡ moves.items ++ home = rw (c.in_ok-extend_from_within.ensures.items, c.in_ok-push.ensures.items) (step_put moves.items c.args.spans.now.items c.args.above c.index-behind.result.now c.requires.spans c.requires.earlier c.index-behind.ensures c.args.step) in
-    let s : Span = record { start = c.len-start.result; end = c.len.result; step = c.args.step; above = c.args.above } in
-    let more = home_put moves.items home after.items c.args.spans.now.items c.add_span.new.spans.items s c.requires.spans steps c.in_ok-add_span.ensures.added (c.len-start.ensures ∙ moves.ok.0) (c.len.ensures ∙ after.ok.0) (λ l. refl) in
+    let s : Span = record { start = c.len-start.result; end = c.len.result } in
+    let more = home_put moves.items home after.items c.args.spans.now.items c.add_span.new.spans.items s c.requires.spans steps c.in_ok-add_span.ensures.added (c.len-start.ensures ∙ moves.ok.0) (c.len.ensures ∙ after.ok.0) in
     record { spans = more.fit; put = more.put }

@@ -1,0 +1,5 @@
+mod Moves
+mod Children
+mod Orders
+mod Slots
+mod Image
