@@ -3,6 +3,7 @@ mod EntryCounts
 mod FeederEnds
 mod JournalEnds
 mod Lengths
+mod RunParts
 mod States
 mod TakenItems
 mod ToldMailboxes

@@ -15,7 +15,7 @@ use Rattle.feed_queue.specs.declared.item.Item.TheVariants.{One, End}
 use Rattle.mailbox.specs.Ends.{InEnd}
 use Rattle.texts.specs.declared.no_memory.NoMemory.{NoMemory}
 use Rattle.world_core.specs.declared.entry.Entry.{Entry}
-use Rattle.builder_core.specs.Telling.{multiples_up_to, told_lengths, having_put, having_answered}
+use Rattle.builder_core.specs.Telling.{HasMultiples, multiples_up_to, told_lengths, having_put, having_answered}
 use Rattle.builder_core.specs.Work.{BuilderWorkState, work_state}
 use Rattle.builder_core.proofs.Lengths.{multiples-rest, multiples-more, batch_more, All-having_put}
 
@@ -48,15 +48,6 @@ took_open b i (Ok t) after is open_ = record {
   left = is.took.1;
 }
 took_open b i (Err e) after is open_ = absurd (true≢false (sym (spent_refused b i after is.refused) ∙ open_))
-
--- The multiples of the batch up to the journal's length were put into each mailbox
-pub record HasMultiples (b : BuilderState) (mails : List InEnd) : Type 0 where
-  -- so many batches are published
-  pub batches : ℕ
-  -- and no more
-  pub whole : length b.journal ≡ batches * b.batch
-  -- what was put
-  pub put : All (λ (m : InEnd). m.lengths ≡ multiples_up_to b.batch (length b.journal)) mails
 
 -- the lengths that are told of the journal were put into each mailbox
 abbrev pub HasTold : BuilderState → List InEnd → Type 0

@@ -17,26 +17,12 @@ use Rattle.texts.specs.declared.no_memory.NoMemory.{NoMemory}
 use Rattle.world_core.specs.PairFact.{IsPrefix}
 use Rattle.world_core.specs.declared.entry.Entry.{Entry}
 use Rattle.world_core.proofs.Prefixes.{IsPrefix-then}
-use Rattle.builder_core.specs.Built.{IsNewWork, IsBuilt, IsSameEnd, IsSameMails}
-use Rattle.builder_core.specs.Steps.{TakesNext, IsStep}
-use Rattle.builder_core.specs.Telling.{multiples_up_to, having_put, having_answered}
+use Rattle.builder_core.specs.Built.{IsNewWork, IsBuilding, IsBuilt, IsSameEnd, IsSameMails, KeepsWork}
+use Rattle.builder_core.specs.Steps.{TakesNext, IsStep, AreSteps, ComesBySteps}
+use Rattle.builder_core.specs.Telling.{HasMultiples, multiples_up_to, having_put, having_answered}
 use Rattle.builder_core.specs.Work.{BuilderWorkState, work_state, DrawsFor}
 use Rattle.builder_core.proofs.Lengths.{multiples-none}
-use Rattle.builder_core.proofs.TakenItems.{Took, took_open, HasMultiples, HasTold, goes_on, ends}
-
--- What stays the same, and what only grows
-pub record Goes (before after : BuilderWorkState) : Type 0 where
-  pub grown : IsPrefix before.draws.drawn after.draws.drawn
-  pub draws : DrawsFor after.draws after.builder
-  pub end : IsSameEnd before.draws after.draws
-  pub run : IsSameRun before.builder after.builder
-  pub keeps : KeepsJournal after.builder
-  pub mails : IsSameMails before.mails after.mails
-
--- What the steps so far have left, while Ends are missing
-pub record HasRun (before after : BuilderWorkState) : Type 0 where
-  pub goes : Goes before after
-  pub put : after.builder.spent ≡ false → HasMultiples after.builder after.mails
+use Rattle.builder_core.proofs.TakenItems.{Took, took_open, HasTold, goes_on, ends}
 
 -- what a mailbox has beside what was put into it, is as it was
 put_same : {A : Type 0} (part : InEnd → A) → ((n : ℕ) (m : InEnd) → part (having_put n m) ≡ part m) → (n : ℕ) (mails : List InEnd) → map part (map (having_put n) mails) ≡ map part mails
@@ -65,12 +51,12 @@ then_same a b c ab bc = record {
   viewers = bc.viewers ∙ ab.viewers;
 }
 
-module _ (first before next : BuilderWorkState) (r : Result Taken NoMemory) (goes : Goes first before) (takes : TakesNext before r next) where
+module _ (first before next : BuilderWorkState) (r : Result Taken NoMemory) (goes : KeepsWork first before) (takes : TakesNext before r next) where
   drawn_is : next.draws.drawn ≡ before.draws.drawn ++ takes.item ∷ []
   drawn_is = ap (λ (d : DrawState). d.drawn) takes.drawn
 
   -- taking an item goes on
-  goes_taken : Goes first next
+  goes_taken : KeepsWork first next
   goes_taken = record {
     grown = IsPrefix-then first.draws.drawn before.draws.drawn next.draws.drawn goes.grown (takes.item ∷ [], drawn_is);
     draws = record {
@@ -82,6 +68,7 @@ module _ (first before next : BuilderWorkState) (r : Result Taken NoMemory) (goe
       lane = ap (λ (d : DrawState). d.lane) takes.drawn ∙ goes.end.lane;
       feeders = ap (λ (d : DrawState). d.feeders) takes.drawn ∙ goes.end.feeders;
       schema = ap (λ (d : DrawState). d.schema) takes.drawn ∙ goes.end.schema;
+      room = ap (λ (d : DrawState). d.room) takes.drawn ∙ goes.end.room;
     };
     run = then_same first.builder before.builder next.builder goes.run takes.taken.same;
     keeps = takes.keeps;
@@ -89,7 +76,7 @@ module _ (first before next : BuilderWorkState) (r : Result Taken NoMemory) (goe
   }
 
   -- and so does telling
-  goes_told : Goes first (having_answered r next)
+  goes_told : KeepsWork first (having_answered r next)
   goes_told = let same = same_parts r next in record {
     grown = subst (λ (d : DrawState). IsPrefix first.draws.drawn d.drawn) (sym same.0) goes_taken.grown;
     draws = subst (λ (d : DrawState). DrawsFor d (having_answered r next).builder) (sym same.0) (subst (DrawsFor next.draws) (sym same.1) goes_taken.draws);
@@ -161,33 +148,45 @@ put_nothing w new =
       put = All-weaker (λ (m : InEnd). m.lengths ≡ []) (λ (m : InEnd). m.lengths ≡ multiples_up_to w.builder.batch (length w.builder.journal)) (λ m is. is ∙ sym (multiples-none w.builder.batch (length w.builder.journal) some empty)) w.mails new.empty;
     }
 
+-- a step more
+
+steps-push : (before : BuilderWorkState) (works : List BuilderWorkState) (mid after : BuilderWorkState) → AreSteps before works mid → IsStep mid after → AreSteps before (works ++ after ∷ []) after
+steps-push before [] mid after is step = (subst (λ (w : BuilderWorkState). IsStep w after) is step, refl)
+steps-push before (next ∷ works) mid after is step = (is.0, steps-push next works mid after is.1 step)
+
+come-step : (first before after : BuilderWorkState) → ComesBySteps first before → IsStep before after → ComesBySteps first after
+come-step first before after come step = record { works = come.works ++ after ∷ []; each = steps-push first come.works before after come.each step }
+
 -- what a work begins with is what no step has left
-pub has_run-none : (w : BuilderWorkState) → IsNewWork w → HasRun w w
+pub has_run-none : (w : BuilderWorkState) → IsNewWork w → IsBuilding w w
 has_run-none w new = record {
   goes = record {
     grown = ([], sym (append-nil w.draws.drawn));
     draws = new.draws;
-    end = record { lane = refl; feeders = refl; schema = refl };
+    end = record { lane = refl; feeders = refl; schema = refl; room = refl };
     run = record { feeders = refl; batch = refl; book = refl; schema = refl; viewers = refl };
     keeps = new.keeps;
     mails = record { names = refl; pairs = refl };
   };
+  steps = record { works = []; each = refl };
   put = λ open_. put_nothing w new;
 }
 
 -- one step more, after which Ends are missing
-pub has_run-step : (first before after : BuilderWorkState) → HasRun first before → IsStep before after → all_ended after.builder.feeders after.builder.taken ≡ false → HasRun first after
+pub has_run-step : (first before after : BuilderWorkState) → IsBuilding first before → IsStep before after → all_ended after.builder.feeders after.builder.taken ≡ false → IsBuilding first after
 has_run-step first before after run step missing =
     let told : after ≡ having_answered step.answer step.next = step.tells in
-    subst (HasRun first) (sym told) (record {
+    subst (IsBuilding first) (sym told) (record {
       goes = goes_told first before step.next step.answer run.goes step.takes;
+      steps = subst (ComesBySteps first) told (come-step first before after run.steps step);
       put = put_more first before step.next step.answer run.goes step.takes run.put (subst (λ (w : BuilderWorkState). all_ended w.builder.feeders w.builder.taken ≡ false) told missing);
     })
 
 -- what is left by steps after which every End is there
-module _ (first after : BuilderWorkState) (goes : Goes first after) (put : after.builder.spent ≡ false → HasTold after.builder after.mails) (each : EachEnded after.builder.feeders after.builder.taken) (all : all_ended after.builder.feeders after.builder.taken ≡ true) where
+module _ (first after : BuilderWorkState) (goes : KeepsWork first after) (steps : ComesBySteps first after) (put : after.builder.spent ≡ false → HasTold after.builder after.mails) (each : EachEnded after.builder.feeders after.builder.taken) (all : all_ended after.builder.feeders after.builder.taken ≡ true) where
   built_of : IsBuilt first after
   built_of = record {
+    steps = steps;
     grown = goes.grown;
     ended = subst (λ (n : ℕ). EachEnded n after.draws.drawn) goes.draws.feeders (subst (EachEnded after.builder.feeders) goes.draws.taken each);
     draws = goes.draws;
@@ -201,12 +200,13 @@ module _ (first after : BuilderWorkState) (goes : Goes first after) (put : after
   }
 
 -- the last step
-pub is_built : (first before after : BuilderWorkState) → HasRun first before → IsStep before after → all_ended after.builder.feeders after.builder.taken ≡ true → EachEnded after.builder.feeders after.builder.taken → IsBuilt first after
+pub is_built : (first before after : BuilderWorkState) → IsBuilding first before → IsStep before after → all_ended after.builder.feeders after.builder.taken ≡ true → EachEnded after.builder.feeders after.builder.taken → IsBuilt first after
 is_built first before after run step all each =
     let told : after ≡ having_answered step.answer step.next = step.tells in
     let all_ : all_ended (having_answered step.answer step.next).builder.feeders (having_answered step.answer step.next).builder.taken ≡ true = subst (λ (w : BuilderWorkState). all_ended w.builder.feeders w.builder.taken ≡ true) told all in
     let each_ : EachEnded (having_answered step.answer step.next).builder.feeders (having_answered step.answer step.next).builder.taken = subst (λ (w : BuilderWorkState). EachEnded w.builder.feeders w.builder.taken) told each in
     subst (IsBuilt first) (sym told) (built_of first (having_answered step.answer step.next)
     (goes_told first before step.next step.answer run.goes step.takes)
+    (subst (ComesBySteps first) told (come-step first before after run.steps step))
     (put_all first before step.next step.answer run.goes step.takes run.put all_ each_)
     each_ all_)

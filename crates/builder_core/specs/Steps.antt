@@ -1,5 +1,5 @@
--- What one step of a work leaves.
-use Rattle.std.specs.Prelude.{◌≡◌, Result}
+-- What one step of a work leaves, and what its whole run is.
+use Rattle.std.specs.Prelude.{◌≡◌, List, [], ◌∷◌, Result}
 use Rattle.builder_core.specs.Builder.{KeepsJournal}
 use Rattle.builder_core.specs.Taking.{IsTaking}
 use Rattle.builder_core.specs.declared.taken.Taken.{Taken}
@@ -34,3 +34,15 @@ pub record IsStep (before after : BuilderWorkState) : Type 0 where
   pub takes : TakesNext before answer next
   -- and what was told then
   pub tells : after ≡ having_answered answer next
+
+-- steps that leave these works, one after another
+abbrev pub AreSteps : BuilderWorkState → List BuilderWorkState → BuilderWorkState → Type 0
+AreSteps before [] after = after ≡ before
+AreSteps before (next ∷ works) after = IsStep before next × AreSteps next works after
+
+-- A work has come there by steps alone
+pub record ComesBySteps (before after : BuilderWorkState) : Type 0 where
+  -- what each of them left, in order
+  pub works : List BuilderWorkState
+  -- they are steps
+  pub each : AreSteps before works after

@@ -26,8 +26,8 @@ abbrev pub is_last_end : BuilderState → Item → Bool
 is_last_end b (One e) = false
 is_last_end b (End f n) = all_ended b.feeders (b.taken ++ End f n ∷ [])
 
--- the lists once the item was taken: an entry is pending, or published with all that were pending where it fills the batch;
--- the last End publishes what is pending, unless the builder is spent
+-- the lists once the item was taken: an entry is pending, or published with all that were pending where it fills the
+-- batch; the last End publishes what is pending, unless the builder is spent
 abbrev pub having_lists : BuilderState → Item → BuilderState
 having_lists b (One e) = if fills_batch b then having_published (having_appended b e) else having_appended b e
 having_lists b (End f n) = if not b.spent && is_last_end b (End f n) then having_published b else b
@@ -41,7 +41,8 @@ abbrev pub answer_of : BuilderState → Item → Taken
 answer_of b (One e) = if fills_batch b then Published (length (having_taken b (One e)).journal) else Kept
 answer_of b (End f n) = if is_last_end b (End f n) then LastEnd (length (having_taken b (End f n)).journal) else Kept
 
--- memory may be wanted for the item: for any entry, and for the last End where a builder that isn't spent has something pending
+-- memory may be wanted for the item: for any entry, and for the last End where a builder that isn't spent has something
+-- pending
 abbrev pub wants_memory : BuilderState → Item → Bool
 wants_memory b (One e) = true
 wants_memory b (End f n) = not b.spent && is_last_end b (End f n) && nat_lt 0 (length b.pending)

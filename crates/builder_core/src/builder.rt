@@ -20,8 +20,8 @@ use std::sync::Wait;
 use texts::{List, NoMemory};
 use world_core::Entry;
 
-/// The builder of a pairing. Contracts see the items that it has taken, its journal, what is pending, whether it is spent,
-/// and the pair's lists.
+/// The builder of a pairing. Contracts see the items that it has taken, its journal, what is pending, whether it is
+/// spent, and the pair's lists.
 pub struct BuilderOf<K: Pairing> {
     out: EntryPublisherOf<K>,
     feeders: u8,
@@ -145,6 +145,13 @@ impl<V: Grow> BuilderOf<Of<V>> {
         self.ends == self.feeders
     }
 
+    /// That there is a feeder. It does nothing when run.
+    pub(crate) fn has_feeders(&self)
+        ensures { 1 ≤ self.now.feeders }
+    {
+        let _feeders = self.feeders;
+    }
+
     /// The entries that are published.
     pub fn journal(&self) -> &[Entry]
         ensures journal { result.now ≡ self.now.journal }
@@ -160,9 +167,9 @@ impl<V: Grow> BuilderOf<Of<V>> {
         self.out.publisher.tell()
     }
 
-    /// Ends the pair, once every End was taken: the journal, and the pair's end. Where that succeeds the journal has what a
-    /// spent builder had pending, since the pair's end publishes it. Where memory is wanted the pair is given up, and all that
-    /// was published in it is a prefix of what was taken.
+    /// Ends the pair, once every End was taken: the journal, and the pair's end. Where that succeeds the journal has
+    /// what a spent builder had pending, since the pair's end publishes it. Where memory is wanted the pair is given
+    /// up: viewers see no more than the journal, and all that was published in it is a prefix of what was taken.
     pub fn into_journal<R: Wait>(
         self,
         rt: &R,
@@ -175,6 +182,7 @@ impl<V: Grow> BuilderOf<Of<V>> {
         ensures rested { IfOk result.1 (λ t. (t.0.ended.points ≡ entry_points result.0) × (t.0.ended.book ≡ self.published.book) × (t.0.schema ≡ self.schema)) }
         ensures lasts { IfOk result.1 (λ t. (length t.1 ≡ self.viewers) × All (λ l. l.whole ≡ t.0.ended) t.1) }
         ensures given_up { IfErr result.1 (λ g. (g.whole.book ≡ self.published.book) × IsPrefix g.whole.points (entry_points (entries_in self.taken))) }
+        ensures still_shown { IfErr result.1 (λ g. g.shown ≡ self.published) }
     {
         let BuilderOf {
             out,

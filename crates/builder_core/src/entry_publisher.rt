@@ -60,8 +60,9 @@ impl<V: Grow> EntryPublisherOf<Of<V>> {
         self.entries.len() - self.published
     }
 
-    /// Ends the pair, which publishes all that was appended, and gives the entries that are published then. Where memory is
-    /// wanted these are those that were published before, and the pair is given up.
+    /// Ends the pair, which publishes all that was appended, and gives the entries that are published then. Where
+    /// memory is wanted these are those that were published before, and the pair is given up, whose viewers see what
+    /// they saw.
     pub(crate) fn end<R: Wait>(
         self,
         rt: &R,
@@ -72,6 +73,7 @@ impl<V: Grow> EntryPublisherOf<Of<V>> {
         ensures rested { IfOk result.1 (λ t. (t.0.ended.book ≡ self.publisher.published.book) × (t.0.schema ≡ self.publisher.schema)) }
         ensures lasts { IfOk result.1 (λ t. (length t.1 ≡ self.publisher.viewers) × All (λ l. l.whole ≡ t.0.ended) t.1) }
         ensures given_up { IfErr result.1 (λ g. (g.whole.book ≡ self.publisher.published.book) × IsPrefix g.whole.points self.publisher.appended.items) }
+        ensures still_shown { IfErr result.1 (λ g. g.shown ≡ self.publisher.published) }
     {
         let EntryPublisherOf {
             publisher,

@@ -4,7 +4,7 @@ ghost use Rattle.builder_core.specs.Numbering.{EntriesAreFew};
 use crate::builder::Builder;
 use crate::work::BuilderWork;
 use cube_view::Grow;
-use published_pair::{MayGo, may_go};
+use side_by_side::{MayGo, may_go};
 
 /// At most eight feeders, each of whose entries has a number of 32 bits that counts the earlier ones, send no more
 /// entries than a bag may have points. It does nothing when run.

@@ -1,6 +1,6 @@
 //! The builder's work.
-ghost use Rattle.std.specs.Prelude.{◌≡◌, ◌↔◌, IsTrue};
-ghost use Rattle.builder_core.specs.Built.{IsNewWork, IsBuilt};
+ghost use Rattle.std.specs.Prelude.{◌≡◌, ◌↔◌, IsTrue, MatchBool, MatchOption};
+ghost use Rattle.builder_core.specs.Built.{IsNewWork, IsBuilding, IsBuilt, HasBuilt};
 ghost use Rattle.builder_core.specs.Endings.{EachEnded, all_ended};
 ghost use Rattle.builder_core.specs.Steps.{TakesNext, IsStep};
 ghost use Rattle.builder_core.specs.Telling.{having_answered, having_told};
@@ -11,6 +11,7 @@ use crate::taken::Taken;
 use crate::telling::tell_all;
 use cube_view::Grow;
 use feed_queue::DrawEnd;
+use ghost_values::GhostValue;
 use mailbox::MailIn;
 use published_pair::{Of, Pairing};
 use std::marker::Model;
@@ -51,11 +52,59 @@ impl<V: Grow> BuilderWorkOf<Of<V>> {
         }
     }
 
-    /// Draws what the feeders send and takes it, until the End of each was taken. Each publication, and the last End, is
-    /// told to every ask. A spent builder goes on drawing.
+    /// Draws what the feeders send and takes it, until the End of each was taken. Each publication, and the last End,
+    /// is told to every ask. A spent builder goes on drawing.
     pub fn run<R: Wait>(&mut self, rt: &R)
         requires { IsNewWork self.old }
         ensures { IsBuilt self.old self.new }
+    {
+        let start = self.begun();
+        self.run_on(rt, &start);
+    }
+
+    /// The work as it is before its run, which contracts of the parts of a run read.
+    pub fn begun(&self) -> GhostValue<BuilderWork<V>>
+        requires { IsNewWork self.now }
+        ensures value { result.value ≡ self.now }
+        ensures building { IsBuilding result.value self.now }
+        ensures built { HasBuilt result.value self.now }
+    {
+        self.builder.has_feeders();
+        GhostValue::of(self)
+    }
+
+    /// Does a part of a run that began with a work as the carried one: it draws what is queued and takes it, until
+    /// nothing is queued or the End of each feeder was taken.
+    pub fn run_some<R: Wait>(&mut self, rt: &R, start: &GhostValue<BuilderWork<V>>)
+        requires { HasBuilt start.now.value self.old }
+        ensures { HasBuilt start.now.value self.new }
+    {
+        for _ in rt.forever() {
+            if self.has_ended() {
+                return;
+            }
+            if !self.step_if_queued(rt) {
+                return;
+            }
+        }
+        unreachable!()
+    }
+
+    /// Does what is left of such a run, as [`BuilderWork::run`] does.
+    pub fn run_rest<R: Wait>(&mut self, rt: &R, start: &GhostValue<BuilderWork<V>>)
+        requires { HasBuilt start.now.value self.old }
+        ensures { IsBuilt start.now.value self.new }
+    {
+        if self.has_ended() {
+            return;
+        }
+        self.run_on(rt, start);
+    }
+
+    /// Does what is left of such a run in which an End is missing.
+    fn run_on<R: Wait>(&mut self, rt: &R, start: &GhostValue<BuilderWork<V>>)
+        requires { IsBuilding start.now.value self.old }
+        ensures { IsBuilt start.now.value self.new }
     {
         for _ in rt.forever() {
             self.step(rt);
@@ -84,6 +133,29 @@ impl<V: Grow> BuilderWorkOf<Of<V>> {
     {
         let answer = self.take_next(rt);
         self.tell_of(rt, answer);
+    }
+
+    /// Does a step where an item is queued, and says whether one was.
+    fn step_if_queued<R: Wait>(&mut self, rt: &R) -> bool
+        ensures { MatchBool result (IsStep self.old self.new) (self.new ≡ self.old) }
+    {
+        match self.take_if_queued(rt) {
+            Some(answer) => {
+                self.tell_of(rt, answer);
+                true
+            }
+            None => false,
+        }
+    }
+
+    /// Draws an item, if one is queued, and takes it.
+    fn take_if_queued<R: Wait>(&mut self, rt: &R) -> Option<Result<Taken, NoMemory>>
+        ensures { MatchOption result (self.new ≡ self.old) (λ answer. TakesNext self.old answer self.new) }
+    {
+        match self.draws.try_draw(rt) {
+            Some(item) => Some(self.builder.take(rt, item)),
+            None => None,
+        }
     }
 
     /// Draws an item, and takes it.

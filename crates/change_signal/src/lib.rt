@@ -1,9 +1,10 @@
 //! Threads. How a thread waits until another one has changed what both share: it tries a few times, and then it sleeps.
 //!
 //! What is shared, as a queue, is the caller's. A thread that cannot go on calls [`Signal::pause`] after each try that
-//! failed, and one that has changed what others may wait for calls [`Signal::notify`], which reads one word where nobody
-//! sleeps. A sleep ends by a notice, and no sleep is longer than ten milliseconds, so a notice that is missed costs a
-//! moment and never the run. The crate stands on `crossbeam_utils` for the first tries. It promises nothing of waiting.
+//! failed, and one that has changed what others may wait for calls [`Signal::notify`], which reads one word where
+//! nobody sleeps. A sleep ends by a notice, and no sleep is longer than ten milliseconds, so a notice that is missed
+//! costs a moment and never the run. The crate stands on `crossbeam_utils` for the first tries. It promises nothing of
+//! waiting.
 //!
 //! ```
 //! let mut waiting = Waiting::new();
@@ -31,7 +32,8 @@ use std::time::Duration;
 /// No sleep is longer, in milliseconds.
 const LONGEST_SLEEP: u64 = 10;
 
-/// Where waits sleep one after the other in spite of their yields, one of so many yields all the same. It is a power of two.
+/// Where waits sleep one after the other in spite of their yields, one of so many yields all the same. It is a power of
+/// two.
 const VAIN_WAITS: u64 = 16;
 
 /// By what threads are told of a change that they may sleep for.
@@ -39,8 +41,8 @@ const VAIN_WAITS: u64 = 16;
 pub struct Signal {
     /// It is odd from the moment at which a thread is about to sleep until the next notice, which makes it even.
     word: AtomicU64,
-    /// How many waits have slept, one after the other, since the yields of one were enough. From twice `VAIN_WAITS` it goes
-    /// back to once.
+    /// How many waits have slept, one after the other, since the yields of one were enough. From twice `VAIN_WAITS` it
+    /// goes back to once.
     vain: AtomicU64,
 }
 
@@ -61,8 +63,8 @@ impl Waiting {
         Waiting::yielding(0)
     }
 
-    /// The same, which yields so many times more before it sleeps, where waits before it did not sleep in spite of that. It is
-    /// for what is mostly over soon, where the wake of a sleeper would be felt.
+    /// The same, which yields so many times more before it sleeps, where waits before it did not sleep in spite of
+    /// that. It is for what is mostly over soon, where the wake of a sleeper would be felt.
     pub fn yielding(yields: u32) -> Waiting {
         Waiting {
             backoff: Backoff::new(),
@@ -82,9 +84,9 @@ impl Signal {
         }
     }
 
-    /// Waits a moment, after a try that failed. The first eleven times it spins or yields, and then it yields as often as the
-    /// wait was told, if that is worth it. Then it takes turns: at one call it says that it is about to sleep, and at the next,
-    /// if there was no notice since, it sleeps.
+    /// Waits a moment, after a try that failed. The first eleven times it spins or yields, and then it yields as often
+    /// as the wait was told, if that is worth it. Then it takes turns: at one call it says that it is about to sleep,
+    /// and at the next, if there was no notice since, it sleeps.
     pub fn pause<R: Wait>(&self, rt: &R, waiting: &mut Waiting) {
         if !waiting.backoff.is_completed() {
             waiting.backoff.snooze();
@@ -101,9 +103,9 @@ impl Signal {
         self.sleep(rt, waiting);
     }
 
-    /// Takes a wait its yields, where those before it have slept in spite of theirs. Of waits that sleep one after the other the
-    /// first three, the 5th, the 9th and the 17th yield, and then each 16th. So a thread for which there is seldom something
-    /// to do yields seldom, and soon finds out where that has changed.
+    /// Takes a wait its yields, where those before it have slept in spite of theirs. Of waits that sleep one after the
+    /// other the first three, the 5th, the 9th and the 17th yield, and then each 16th. So a thread for which there is
+    /// seldom something to do yields seldom, and soon finds out where that has changed.
     fn weigh(&self, waiting: &mut Waiting) {
         let vain = self.vain.load(Ordering::SeqCst);
         if vain & vain.wrapping_sub(1) != 0 {
@@ -118,8 +120,8 @@ impl Signal {
     fn sleep<R: Wait>(&self, rt: &R, waiting: &mut Waiting) {
         let said = self.word.fetch_or(1, Ordering::SeqCst) | 1;
         if waiting.said == said {
-            // The caller has tried since it said so, in vain. Whoever changed what it tries after that has made the word
-            // another one, and then this returns at once.
+            // The caller has tried since it said so, in vain. Whoever changed what it tries after that has made the
+            // word another one, and then this returns at once.
             let longest = Duration::from_millis(LONGEST_SLEEP);
             self.word
                 .park_timeout(rt, (said & 0xffff_ffff) as u32, longest);
@@ -136,7 +138,8 @@ impl Signal {
         }
     }
 
-    /// Wakes all threads that sleep, after a change. Until one is about to sleep again, further calls only read the word.
+    /// Wakes all threads that sleep, after a change. Until one is about to sleep again, further calls only read the
+    /// word.
     pub fn notify(&self) {
         let word = self.word.load(Ordering::SeqCst);
         if word & 1 == 0 {

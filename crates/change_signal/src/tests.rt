@@ -61,7 +61,8 @@ fn a_wait_without_a_notice_goes_on(rt: HostRuntime) {
     signal.notify();
 }
 
-/// How often a wait that was told to yield five times pauses until it says that it is about to sleep. It is told at once.
+/// How often a wait that was told to yield five times pauses until it says that it is about to sleep. It is told at
+/// once.
 fn pauses_before_sleep<R: Wait>(rt: &R, signal: &Signal) -> u64 {
     let mut pauses = 0u64;
     let mut waiting = Waiting::yielding(5);

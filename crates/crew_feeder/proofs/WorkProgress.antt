@@ -21,7 +21,7 @@ use Rattle.outer_io.specs.Progress.{IsGoing, IsTooLarge, Passes, PassesAll}
 use Rattle.outer_io.specs.Told.{Told}
 use Rattle.outer_io.specs.declared.cutter.CutFault.{CutFault}
 use Rattle.outer_io.specs.declared.cutter.CutFault.TheVariants as fault
-use Rattle.crew_feeder.specs.Leaving.{GivesUntil, HasFed, HasFirst, HasTaken}
+use Rattle.crew_feeder.specs.Leaving.{GivesUntil, HasFed, HasFirst, HasTaken, IsFeeding}
 use Rattle.crew_feeder.specs.Taking.{IsReady, having_ended, having_taken_row}
 use Rattle.crew_feeder.specs.declared.work.FeedWork.{FeedWork}
 use Rattle.crew_feeder.proofs.WorkRows.{taken_alike, taken_more}
@@ -41,19 +41,8 @@ module _ {I : Type 0} (left : I → Option (List ℕ)) (faults : I → ℕ) (sta
   abbrev pub row_at : Line → Row
   row_at line = row_of_line start.header.schema start.header.places line
 
-  -- a work that was as at first has taken the rows of some lines and goes on
-  pub record GoesOn (now : FeedWork I) : Type 0 where
-    pub lines : List Line
-    pub passed : Passes left faults start.cutter now.cutter lines
-    pub going : IsGoing now.cutter
-    pub given : now.cutter.given ≡ start.cutter.given + length lines
-    pub few : length lines ≤ input_limit
-    pub taken : HasTaken start now (map row_at lines)
-    pub open_end : now.end.ended ≡ false
-    pub fault : now.fault ≡ None
-
   -- before its run
-  pub begins : (schema : Schema) → IsReady schema start → GoesOn start
+  pub begins : (schema : Schema) → IsReady schema start → IsFeeding left faults start start
   begins schema ready = record {
     lines = [];
     passed = passes_none left faults start.cutter;
@@ -72,7 +61,7 @@ module _ {I : Type 0} (left : I → Option (List ℕ)) (faults : I → ℕ) (sta
     fault = ready.unrun.3;
   }
 
-  module _ (now : FeedWork I) (on : GoesOn now) where
+  module _ (now : FeedWork I) (on : IsFeeding left faults start now) where
     -- the lines and one more
     rows_on : (line : Line) → map row_at (on.lines ++ line ∷ []) ≡ map row_at on.lines ++ row_at line ∷ []
     rows_on line = map_push row_at on.lines line
@@ -92,7 +81,7 @@ module _ {I : Type 0} (left : I → Option (List ℕ)) (faults : I → ℕ) (sta
         )
 
     -- a row more is read and taken
-    pub takes_row : (cutter : Cutter I) (found : Row × ℕ) (schema : Schema) (after : FeedWork I) → schema ≡ start.header.schema → ReadsRow left faults schema now.header.places now.cutter cutter found → after ≡ having_taken_row (record now { cutter = cutter }) found.1 found.0 → GoesOn after
+    pub takes_row : (cutter : Cutter I) (found : Row × ℕ) (schema : Schema) (after : FeedWork I) → schema ≡ start.header.schema → ReadsRow left faults schema now.header.places now.cutter cutter found → after ≡ having_taken_row (record now { cutter = cutter }) found.1 found.0 → IsFeeding left faults start after
     takes_row cutter found schema after same reads is =
         let line = reads.0 in
         let gives = reads.1 in
@@ -100,7 +89,7 @@ module _ {I : Type 0} (left : I → Option (List ℕ)) (faults : I → ℕ) (sta
         let took : HasTaken start (having_taken_row (record now { cutter = cutter }) found.1 found.0) (map row_at on.lines ++ found.0 ∷ []) =
         taken_more start (record now { cutter = cutter }) (map row_at on.lines) found.1 found.0 (number_on found.1 gives.counts) (taken_alike start now (record now { cutter = cutter }) (map row_at on.lines) refl refl refl refl refl on.taken) in
         let at = kept (record now { cutter = cutter }) found.1 found.0 in
-        subst (λ (w : FeedWork I). GoesOn w) (sym is) (record {
+        subst (λ (w : FeedWork I). IsFeeding left faults start w) (sym is) (record {
           lines = on.lines ++ line ∷ [];
           passed = subst (λ (c : Cutter I). Passes left faults start.cutter c (on.lines ++ line ∷ [])) (sym at.0) (passes_on left faults start.cutter now.cutter cutter on.lines (line ∷ []) on.passed gives.passed);
           going = subst (λ (c : Cutter I). IsGoing c) (sym at.0) gives.goes_on;
@@ -110,6 +99,14 @@ module _ {I : Type 0} (left : I → Option (List ℕ)) (faults : I → ℕ) (sta
           open_end = at.1 ∙ on.open_end;
           fault = at.2 ∙ on.fault;
         })
+
+    -- and its cutter has come a line on
+    pub comes_on : (cutter : Cutter I) (found : Row × ℕ) (schema : Schema) (after : FeedWork I) → ReadsRow left faults schema now.header.places now.cutter cutter found → after ≡ having_taken_row (record now { cutter = cutter }) found.1 found.0 → (now.cutter.given < after.cutter.given) × (after.cutter.given ≤ input_limit)
+    comes_on cutter found schema after reads is =
+        let gives = reads.1 in
+        let at = kept (record now { cutter = cutter }) found.1 found.0 in
+        let same : after.cutter.given ≡ cutter.given = ap (λ (w : FeedWork I). w.cutter.given) is ∙ ap (λ (c : Cutter I). c.given) at.0 in
+        (omega (arith, same, gives.given, gives.counts), omega (arith, same, gives.given, gives.small))
 
     -- it comes to the end of its cutter
     pub at_end : (cutter : Cutter I) → IsEnd left faults now.cutter cutter → HasFed left faults false start (record now { cutter = cutter })

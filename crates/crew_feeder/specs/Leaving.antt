@@ -1,5 +1,5 @@
 -- What the run of a feeder's work leaves.
-use Rattle.std.specs.Prelude.{◌≡◌, ℕ, ◌+◌, ◌≤◌, Bool, List, ◌++◌, map, length, Option, Some, None}
+use Rattle.std.specs.Prelude.{◌≡◌, ℕ, ◌+◌, ◌≤◌, Bool, false, List, ◌++◌, map, length, Option, Some, None}
 use Rattle.feed_reader.specs.Feeds.{points_in}
 use Rattle.feed_reader.specs.RowCounts.{count_blank, count_refused, first_refusals}
 use Rattle.feed_reader.specs.Rows.{row_of_line}
@@ -7,7 +7,7 @@ use Rattle.feed_reader.specs.declared.row.Row.{Row}
 use Rattle.outer_io.specs.Cutting.{Cutter, lines_left}
 use Rattle.outer_io.specs.Faults.{Rose}
 use Rattle.outer_io.specs.Lines.{Line, input_limit}
-use Rattle.outer_io.specs.Progress.{IsTooLarge, PassesAll}
+use Rattle.outer_io.specs.Progress.{IsGoing, IsTooLarge, Passes, PassesAll}
 use Rattle.outer_io.specs.Told.{Told}
 use Rattle.outer_io.specs.declared.cutter.CutFault.{CutFault}
 use Rattle.outer_io.specs.declared.cutter.CutFault.TheVariants as fault
@@ -53,3 +53,22 @@ module _ {I : Type 0} (left : I → Option (List ℕ)) (faults : I → ℕ) wher
     pub taken : HasTaken start now (map (row_of_line start.header.schema start.header.places) lines)
     -- this says whether its end has sent the End
     pub has_ended : now.end.ended ≡ ended
+
+  -- What a work that was ready has done while its cutter has more to give
+  pub record IsFeeding (start now : FeedWork I) : Type 0 where
+    -- the lines that it was given
+    pub lines : List Line
+    -- the cutter passed over them
+    pub passed : Passes left faults start.cutter now.cutter lines
+    -- and goes on
+    pub going : IsGoing now.cutter
+    -- it has counted them
+    pub given : now.cutter.given ≡ start.cutter.given + length lines
+    -- they are no more than lines of a cutter can be
+    pub few : length lines ≤ input_limit
+    -- it took their rows
+    pub taken : HasTaken start now (map (row_of_line start.header.schema start.header.places) lines)
+    -- its end has not sent the End
+    pub open_end : now.end.ended ≡ false
+    -- and it met no fault
+    pub fault : now.fault ≡ None

@@ -3,14 +3,9 @@
 use crate::{FeedDone, FeedWork};
 use feed_reader::FeedJob;
 use outer_io::Source;
+use side_by_side::{MayGo, may_go};
 
-/// Only a type whose values may go to another thread can be named here.
-fn may_go<T: Send>() {}
-
-/// What a feeder is given, its work and what it leaves may go to another thread where its source may. It does nothing
-/// when run.
-pub fn feeders_may_go<I: Source + Send>() {
-    may_go::<FeedJob<I>>();
-    may_go::<FeedWork<I>>();
-    may_go::<FeedDone<I>>();
+/// What a feeder is given, its work and what it leaves may go to another thread where its source may.
+pub fn feeders_may_go<I: Source + Send>() -> MayGo<(FeedJob<I>, FeedWork<I>, FeedDone<I>)> {
+    may_go()
 }

@@ -1,14 +1,16 @@
 //! A feeder's work, run in place.
-ghost use Rattle.std.specs.Prelude.{◌≡◌, ◌+◌, ◌-◌, ◌^◌, ◌<◌, [], true, false, length, IsTrue};
+ghost use Rattle.std.specs.Prelude.{◌≡◌, ◌+◌, ◌-◌, ◌^◌, ◌<◌, ◌≤◌, [], true, false, length, IsTrue, MatchBool};
 ghost use Rattle.cube_view.specs.Validity.{valid};
 ghost use Rattle.feed_reader.specs.Rows.{IsValidRow};
-ghost use Rattle.crew_feeder.specs.Leaving.{HasFed};
+ghost use Rattle.outer_io.specs.Lines.{input_limit};
+ghost use Rattle.crew_feeder.specs.Leaving.{HasFed, IsFeeding};
 ghost use Rattle.crew_feeder.specs.Taking.{IsReady, having_ended, having_fed, having_taken_row, new_work};
 
 use crate::FeedDone;
 use cube_view::{Point, Schema};
 use feed_queue::{Ended, FeedEnd, Item};
 use feed_reader::{FeedCounts, FeedJob, FirstRefusals, Header, Refusal, Row, next_row};
+use ghost_values::GhostValue;
 use outer_io::{CutFault, LineCutter, Source};
 use std::alloc::Global;
 use std::sync::Wait;
@@ -85,21 +87,64 @@ impl<I: Source> FeedWork<I> {
         }
     }
 
-    /// Takes the rows of all lines that are left, up to the first fault, which it notes.
+    /// Takes the row of the next line, and says whether there was one. A fault is noted.
+    fn take_next<R: Wait>(
+        &mut self,
+        rt: &R,
+        alloc: Global,
+        schema: &Schema,
+        start: &GhostValue<FeedWork<I>>,
+    ) -> bool
+        requires ready { IsReady schema.now start.now.value }
+        requires feeding { IsFeeding I.left I.faults start.now.value self.old }
+        ensures fed { MatchBool result (IsFeeding I.left I.faults start.now.value self.new) (HasFed I.left I.faults false start.now.value self.new) }
+        ensures given { IsTrue result → (self.old.cutter.given < self.new.cutter.given) × (self.new.cutter.given ≤ input_limit) }
+    {
+        match next_row(alloc, schema, &self.header, &mut self.cutter) {
+            Ok(Some((row, line))) => {
+                self.take_row(rt, row, line);
+                true
+            }
+            Ok(None) => false,
+            Err(fault) => {
+                self.fault = Some(fault);
+                false
+            }
+        }
+    }
+
+    /// Takes the rows of all lines that are left, up to the first fault.
     fn take_rows<R: Wait>(&mut self, rt: &R, alloc: Global, schema: &Schema)
         requires { IsReady schema.now self.old }
         ensures { HasFed I.left I.faults false self.old self.new }
     {
+        let start = self.begun(schema);
         'rows: loop {
-            match next_row(alloc, schema, &self.header, &mut self.cutter) {
-                Ok(Some((row, line))) => self.take_row(rt, row, line),
-                Ok(None) => return,
-                Err(fault) => {
-                    self.fault = Some(fault);
-                    return;
-                }
+            if !self.take_next(rt, alloc, schema, &start) {
+                return;
             }
         }
+    }
+
+    /// Takes the rows of at most so many lines, and says whether they were all that are left, up to the first fault.
+    fn take_some<R: Wait>(
+        &mut self,
+        rt: &R,
+        alloc: Global,
+        schema: &Schema,
+        lines: usize,
+        start: &GhostValue<FeedWork<I>>,
+    ) -> bool
+        requires ready { IsReady schema.now start.now.value }
+        requires feeding { IsFeeding I.left I.faults start.now.value self.old }
+        ensures { MatchBool result (HasFed I.left I.faults false start.now.value self.new) (IsFeeding I.left I.faults start.now.value self.new) }
+    {
+        for _ in 0..lines {
+            if !self.take_next(rt, alloc, schema, start) {
+                return true;
+            }
+        }
+        false
     }
 
     /// Sends an entry for each point among the rows that are left, and at last the End, also where the feed ends by a
@@ -110,6 +155,37 @@ impl<I: Source> FeedWork<I> {
     {
         self.take_rows(rt, alloc, schema);
         send_end(rt, &mut self.end);
+    }
+
+    /// The work as it is before its run, which contracts of the parts of a run read.
+    pub fn begun(&self, schema: &Schema) -> GhostValue<FeedWork<I>>
+        requires { IsReady schema.now self.now }
+        ensures value { result.value ≡ self.now }
+        ensures feeding { IsFeeding I.left I.faults result.value self.now }
+    {
+        GhostValue::of(self)
+    }
+
+    /// Does a part of a run that began with a work as the carried one: it takes at most so many lines, sends the End
+    /// where they are the last, and says whether they are. It waits while the lane's queue is full, as
+    /// [`FeedWork::run`] does.
+    pub fn run_some<R: Wait>(
+        &mut self,
+        rt: &R,
+        alloc: Global,
+        schema: &Schema,
+        lines: usize,
+        start: &GhostValue<FeedWork<I>>,
+    ) -> bool
+        requires ready { IsReady schema.now start.now.value }
+        requires feeding { IsFeeding I.left I.faults start.now.value self.old }
+        ensures { MatchBool result (HasFed I.left I.faults true start.now.value self.new) (IsFeeding I.left I.faults start.now.value self.new) }
+    {
+        if !self.take_some(rt, alloc, schema, lines, start) {
+            return false;
+        }
+        send_end(rt, &mut self.end);
+        true
     }
 
     /// The source with what was counted, and what is left of the end. It takes no memory.

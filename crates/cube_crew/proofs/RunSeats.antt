@@ -12,7 +12,7 @@ use Rattle.live_session.specs.Leaves.{LeavesSession}
 use Rattle.live_session.specs.Work.{HadNoTurn, WorkState}
 use Rattle.cube_crew.specs.Begins.{MayRun}
 use Rattle.cube_crew.specs.Ending.{IsRun}
-use Rattle.cube_crew.specs.Opened.{AreMails, IsMail}
+use Rattle.cube_crew.specs.Opened.{AreMails, IsMail, lane_room}
 use Rattle.cube_crew.specs.Works.{end_of, session_works_of, works_of}
 use Rattle.cube_crew.specs.declared.jobs.Jobs.{Jobs}
 use Rattle.cube_view.specs.Limits.{categories_in_range, is_between, numbers_in_range, parts_in_range, texts_distinct, weight_in_range}
@@ -53,7 +53,7 @@ pub record Seats {I O : Type 0} (schema : Schema) (jobs : Jobs I O) (draws : Dra
   pub new : IsNewWork before
 
 pub seats_of : {I O : Type 0} (schema : Schema) (jobs : Jobs I O) (draws : DrawState) (front : Known) (ends : List FeedState) (puts : List InEnd) (takes final_takes : List OutEnd) (builder : BuilderState) (feeders viewers : ℕ) (pair_schema : Schema)
-    → MayRun schema jobs → ends ≡ new_feeds draws.lane schema (length jobs.feeds) → draws ≡ draw_state draws.lane schema (length jobs.feeds) []
+    → MayRun schema jobs → ends ≡ new_feeds draws.lane schema (length jobs.feeds) → draws ≡ draw_state draws.lane schema (length jobs.feeds) lane_room []
     → AreMails front.book puts takes → length takes ≡ length jobs.asks → All (λ (out : OutEnd). (out.pair ≡ front.book) × (out.takes ≡ 0)) final_takes → length final_takes ≡ length jobs.finals
     → feeders ≡ length jobs.feeds → viewers ≡ length jobs.asks + length jobs.finals → pair_schema ≡ schema
     → builder ≡ builder_state feeders schema.batch [] [] 0 false (pair_state front [] pair_schema viewers) → KeepsJournal builder

@@ -87,8 +87,8 @@ module _ {I O : Type 0} (these : SessionEnds I O) (is_stat : Stat → Type 0) (s
   abbrev news_over : List Point → OutEnd → News
   news_over points mail = record { shown = points; told = points; takes = mail.takes }
 
-  -- What an ask's work has become, whose viewer was shown and told no more than these points, which are all of the list where
-  -- it was closed
+  -- What an ask's work has become, whose viewer was shown and told no more than these points, which are all of the list
+  -- where it was closed
   pub record GivesAsk (closed starved : Bool) (list : List Point) (work : WorkState I O) (done : SessionDone I O) : Type 0 where
     pub gives : done ≡ done_of work
     pub points : List Point

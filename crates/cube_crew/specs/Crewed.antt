@@ -59,7 +59,8 @@ module _ {I : Type 0} (left : I → Option (List ℕ)) (faults : I → ℕ) wher
   FeedsLeave (job ∷ jobs) (sent ∷ sents) (done ∷ dones) = LeavesFeed left faults job sent done × FeedsLeave jobs sents dones
   FeedsLeave jobs sents dones = ⊥
 
--- the points over which sessions answer: the journal's where the viewers were closed, and else the first of what was drawn
+-- the points over which sessions answer: the journal's where the viewers were closed, and else the first of what was
+-- drawn
 abbrev pub answered_over : Bool → List Entry → List Entry → List Point
 answered_over closed journal drawn = entry_points (if closed then journal else drawn)
 
@@ -109,8 +110,8 @@ module _ {I O : Type 0} (ends : SessionEnds I O) (is_stat : Stat → Type 0) (sc
     pub within : IsPrefix points run.points
     -- where they were not closed a final had no turn
     pub unrun : run.closed ≡ false → final ≡ true → after ≡ before
-    -- its replies, which the numbers count, are a transcript over them of the first of what its script asks; after `Write`
-    -- with one reply more, of which the sink gained a part
+    -- its replies, which the numbers count, are a transcript over them of the first of what its script asks; after
+    -- `Write` with one reply more, of which the sink gained a part
     pub replied : HasDone ends schema is_stat final 0 before (moment (record { shown = points; told = points; takes = done.mail.takes }) after) end
     -- where the viewers were closed all is answered, unless a fault ended it
     pub all : run.closed ≡ true → OnOk end (AnswersAll ends.left schema before after)

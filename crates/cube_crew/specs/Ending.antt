@@ -1,5 +1,5 @@
 -- How the sessions of a run end.
-use Rattle.std.specs.Prelude.{◌≡◌, ◌≢◌, ℕ, ◌+◌, Bool, true, false, List, All, length, map, Option, Some}
+use Rattle.std.specs.Prelude.{◌≡◌, ◌≢◌, ◌+◌, Bool, true, false, List, All, length, map, Some}
 use Rattle.std.specs.List.{AllZip}
 use Rattle.builder_core.specs.Endings.{EachEnded}
 use Rattle.builder_core.specs.Work.{DrawsFor, BuilderWorkState as Building}

@@ -1,5 +1,5 @@
 -- The builder and the asks of a run.
-use Rattle.std.specs.Prelude.{ℕ, List, All, Option}
+use Rattle.std.specs.Prelude.{List, All}
 use Rattle.std.specs.List.{AllZip}
 use Rattle.builder_core.specs.Built.{IsBuilt, IsNewWork}
 use Rattle.builder_core.specs.Work.{BuilderWorkState as Building}

@@ -1,5 +1,5 @@
 -- What a run opens.
-use Rattle.std.specs.Prelude.{◌≡◌, ◌≤◌, ℕ, List, [], All, length, vec_len, vec_capacity}
+use Rattle.std.specs.Prelude.{◌≡◌, ◌≤◌, ℕ, List, [], All, vec_len, vec_capacity}
 use Rattle.std.specs.List.{AllZip}
 use Rattle.cube_crew.specs.declared.opening.Mails.{Mails}
 use Rattle.cube_crew.specs.declared.rooms.Rooms.{Rooms}
@@ -13,9 +13,13 @@ use Rattle.published_pair.specs.Pair.{IsNewViewer}
 use Rattle.published_pair.specs.Rules.{Known}
 use Rattle.published_pair.specs.declared.viewer.Viewer.{Viewer}
 
+-- how many items the lane has room for: a run of no more ends also where one thread does all of it
+abbrev pub lane_room : ℕ
+lane_room = 1024
+
 -- the ends are those of a new lane for so many feeds under the schema
 abbrev pub IsNewLane : Schema → ℕ → List FeedState → DrawState → Type 0
-IsNewLane schema feeds ends draws = (ends ≡ new_feeds draws.lane schema feeds) × (draws ≡ draw_state draws.lane schema feeds [])
+IsNewLane schema feeds ends draws = (ends ≡ new_feeds draws.lane schema feeds) × (draws ≡ draw_state draws.lane schema feeds lane_room [])
 
 -- the two ends are those of one new mailbox of the pair
 abbrev pub IsMail : Book → InEnd → OutEnd → Type 0

@@ -16,8 +16,9 @@ pub struct Jobs<I: Source, O: Sink> {
     pub finals: List<Session<I, O>>,
 }
 
-/// What a run gives back: its feeds and sessions in order, the published entries, all entries that were drawn, the putting
-/// end of each ask's mailbox, whether memory was wanted anywhere, and whether every viewer was closed over the journal.
+/// What a run gives back: its feeds and sessions in order, the published entries, all entries that were drawn, the
+/// putting end of each ask's mailbox, whether memory was wanted anywhere, and whether every viewer was closed over the
+/// journal.
 pub struct Crewed<I: Source, O> {
     pub feeds: List<FeedDone<I>>,
     pub asks: List<SessionDone<I, O>>,

@@ -14,7 +14,7 @@ use std::sync::Wait;
 use texts::{List, NoMemory};
 
 /// How many items the lane has room for.
-const ROOM: usize = 1024;
+pub(crate) const ROOM: usize = 1024;
 
 /// The mailboxes of the asks and of the finals.
 #[derive(Drop)]
@@ -74,8 +74,8 @@ fn open_all_mails<V: Grow>(
     })
 }
 
-/// Opens the lane, the pair and the mailboxes of so many feeds, asks and finals. What can't be let go, the publisher, is
-/// opened after all but the mailboxes, and finished where one of them finds no memory.
+/// Opens the lane, the pair and the mailboxes of so many feeds, asks and finals. What can't be let go, the publisher,
+/// is opened after all but the mailboxes, and finished where one of them finds no memory.
 pub(crate) fn open_run<V: Grow, R: Wait>(
     rt: &R,
     alloc: Global,

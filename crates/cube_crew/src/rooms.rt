@@ -6,8 +6,8 @@ use feed_reader::FirstRefusals;
 use std::alloc::{AllocError, Global};
 use texts::NoMemory;
 
-/// Empty lists: of feeders' works, of what feeds give back, of sessions' works and of what sessions give back. They name no
-/// view, source or sink, so that their proofs are short.
+/// Empty lists: of feeders' works, of what feeds give back, of sessions' works and of what sessions give back. They
+/// name no view, source or sink, so that their proofs are short.
 pub(crate) struct Rooms<W, F, S, D> {
     pub works: Vec<W>,
     pub dones: Vec<F>,

@@ -26,8 +26,8 @@ use std::sync::Wait;
 use std::thread::Threads;
 use texts::{List, NoMemory};
 
-/// Runs the feeders, the builder and the asks side by side, and then the finals. Where what a run opens or gives back finds
-/// no memory, the jobs come back as they were, and nothing was read or written.
+/// Runs the feeders, the builder and the asks side by side, and then the finals. Where what a run opens or gives back
+/// finds no memory, the jobs come back as they were, and nothing was read or written.
 pub fn run_crew<R: Threads + Wait + Sync, V: Grow + Send + Sync, I: Source + Send, O: Sink + Send>(
     rt: &R,
     alloc: Global,

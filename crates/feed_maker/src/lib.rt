@@ -1,5 +1,5 @@
-//! Text. A feed that is made from two numbers, so that a run over it can be repeated by anybody. [`GenSource`] is a source
-//! of its bytes, which are the definition `generated_feed` of `specs/GeneratedFeed.antt`.
+//! Text. A feed that is made from two numbers, so that a run over it can be repeated by anybody. [`GenSource`] is a
+//! source of its bytes, which are the definition `generated_feed` of `specs/GeneratedFeed.antt`.
 //!
 //! It stands on `outer_io`, which says what a source is. What its rows mean under a plan is left to whoever reads them.
 //!

@@ -30,6 +30,8 @@ pub record DrawState : Type 0 where
   pub schema : Schema
   -- how many feeders there are
   pub feeders : ℕ
+  -- how many items its queue has room for
+  pub room : ℕ
   -- the items that it has drawn, in order
   pub drawn : List Item
 
@@ -38,15 +40,16 @@ abbrev pub feed_state : TableId → Schema → ℕ → List Point → Bool → F
 feed_state lane schema feeder points ended = record { lane = lane; schema = schema; feeder = feeder; points = points; ended = ended }
 
 -- the drawing end of these parts
-abbrev pub draw_state : TableId → Schema → ℕ → List Item → DrawState
-draw_state lane schema feeders drawn = record { lane = lane; schema = schema; feeders = feeders; drawn = drawn }
+abbrev pub draw_state : TableId → Schema → ℕ → ℕ → List Item → DrawState
+draw_state lane schema feeders room drawn = record { lane = lane; schema = schema; feeders = feeders; room = room; drawn = drawn }
 
 -- the ends of the feeders 1 to n, which have sent nothing
 abbrev pub new_feeds : TableId → Schema → ℕ → List FeedState
 new_feeds lane schema zero = []
 new_feeds lane schema (suc n) = new_feeds lane schema n ++ feed_state lane schema (n + 1) [] false ∷ []
 
--- the end may send the item: an entry of its own with the next number, below the last one, and a valid point, or its End with its count
+-- the end may send the item: an entry of its own with the next number, below the last one, and a valid point, or its
+-- End with its count
 abbrev pub MaySend : FeedState → Item → Type 0
 MaySend end (One e) = (e.feeder ≡ end.feeder) × (e.number ≡ length end.points) × (e.number < 2 ^ 32 - 1) × IsTrue (valid end.schema e.point)
 MaySend end (End f n) = (f ≡ end.feeder) × (n ≡ length end.points)
@@ -62,7 +65,7 @@ having_sent_all end points = feed_state end.lane end.schema end.feeder (end.poin
 
 -- the drawing end once it has drawn the item
 abbrev pub having_drawn : DrawState → Item → DrawState
-having_drawn end i = draw_state end.lane end.schema end.feeders (end.drawn ++ i ∷ [])
+having_drawn end i = draw_state end.lane end.schema end.feeders end.room (end.drawn ++ i ∷ [])
 
 -- What a draw tells of its item
 pub record MayBeDrawn (end : DrawState) (i : Item) : Type 0 where

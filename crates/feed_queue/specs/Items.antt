@@ -60,7 +60,8 @@ abbrev pub ComesNext : List Item → Item → Type 0
 ComesNext items (One e) = (e.number ≡ count_entries e.feeder items) × (has_end e.feeder items ≡ false)
 ComesNext items (End f n) = (n ≡ count_entries f items) × (has_end f items ≡ false)
 
--- the items of one feeder are in order: its entries have the numbers from n on, an End tells their count, and nothing follows it
+-- the items of one feeder are in order: its entries have the numbers from n on, an End tells their count, and nothing
+-- follows it
 abbrev pub IsInOrder : ℕ → List Item → Type 0
 IsInOrder n [] = ⊤
 IsInOrder n (One e ∷ items) = (e.number ≡ n) × IsInOrder (n + 1) items

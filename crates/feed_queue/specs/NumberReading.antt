@@ -6,7 +6,8 @@ use Rattle.cube_view.specs.declared.schema.Schema.{Schema}
 use Rattle.cube_view.specs.declared.spot.Spot.{Spot}
 use Rattle.world_core.specs.declared.entry.Entry.{Entry}
 
--- the number that a further digit makes of the one before it, if there is one: no zero is before a digit, and it has 32 bits
+-- the number that a further digit makes of the one before it, if there is one: no zero is before a digit, and it has 32
+-- bits
 abbrev pub longer_number : Option ℕ → ℕ → Option ℕ
 longer_number None digit = Some digit
 longer_number (Some zero) digit = None
@@ -16,7 +17,8 @@ longer_number (Some (suc n)) digit = if nat_lt (10 * suc n + digit) (2 ^ 32) the
 abbrev pub after_digit : Option ℕ → ℕ → Option ℕ
 after_digit number byte = if is_ascii_digit byte then longer_number number (byte - 48) else None
 
--- how far a line was read: the numbers that a space ended, and the one that follows; or none, where it is no line of numbers
+-- how far a line was read: the numbers that a space ended, and the one that follows; or none, where it is no line of
+-- numbers
 abbrev pub ReadSoFar : Type 0
 ReadSoFar = Option (List ℕ × Option ℕ)
 

@@ -56,9 +56,9 @@ feed_end_of pass f = feed_state pass.table_id (known_schema (view pass)) f (sent
 abbrev pub KnowsFeed : Pass Slot View → FeedState → Type 0
 KnowsFeed pass end = view pass ≡ Feeds (feeding_of end)
 
--- the drawing end that has this pass
-abbrev pub draw_end_of : Pass Slot View → DrawState
-draw_end_of pass = draw_state pass.table_id (known_schema (view pass)) (made_feeders (view pass)) (drawn_items (view pass))
+-- the drawing end that has this pass, of a queue with so much room
+abbrev pub draw_end_of : Pass Slot View → ℕ → DrawState
+draw_end_of pass room = draw_state pass.table_id (known_schema (view pass)) (made_feeders (view pass)) room (drawn_items (view pass))
 
 -- the pass is that drawing end's, to which no feeder's pass came back
 abbrev pub KnowsDraw : Pass Slot View → DrawState → Type 0

@@ -47,7 +47,8 @@ pub record IsRunning (slots : List Slot) (views : List View) : Type 0 where
   pub known : (pass : ℕ) (v : View) → get_elem? views pass ≡ some v → IsKnown drawer drawing now seat pass v
   -- each feeder has its number, and all views carry one schema
   pub named : (f : ℕ) → ((now f).feeder ≡ f) × ((now f).schema ≡ drawing.schema)
-  -- of each feeder, what was drawn and then what is queued is what it has sent; so nothing follows its End, which tells its count
+  -- of each feeder, what was drawn and then what is queued is what it has sent; so nothing follows its End, which tells
+  -- its count
   pub flow : (f : ℕ) → items_of f (drawing.drawn ++ queue) ≡ stream (now f)
   -- the entries sent are those drawn and then those queued, as in the loading machine
   pub fact : lane_fact drawing.made (λ f. (now f).points) (entries_in drawing.drawn) (entries_in queue)

@@ -16,7 +16,7 @@ use std::sync::{Arc, Wait};
 use texts::List;
 
 /// The end that draws what the feeders send. Contracts see its lane and the lane's schema, how many feeders there are,
-/// and what was drawn.
+/// how many items the queue has room for, and what was drawn.
 #[derive(Drop)]
 pub struct DrawEnd {
     pub(crate) lane: Arc<Lane>,
@@ -27,16 +27,16 @@ pub struct DrawEnd {
 
 impl Model for DrawEnd {
     ghost use Rattle.std.specs.Arc.{arc_value};
-    ghost use Rattle.crossbeam_queue.specs.Passes.{IsPassOf};
+    ghost use Rattle.crossbeam_queue.specs.Passes.{IsPassOf, ruled_capacity};
     ghost use Rattle.feed_queue.specs.Ends.{DrawState};
     ghost use Rattle.feed_queue.specs.Passes.{draw_end_of, KnowsDraw};
 
     ghost Value = { DrawState };
 
-    ghost view = { λ e. draw_end_of e.pass };
+    ghost view = { λ e. draw_end_of e.pass (ruled_capacity (arc_value e.lane).line) };
 
     /// The pass is of this lane, and draws.
-    ghost invariant = { λ e. IsPassOf (arc_value e.lane).line e.pass × KnowsDraw e.pass (draw_end_of e.pass) };
+    ghost invariant = { λ e. IsPassOf (arc_value e.lane).line e.pass × KnowsDraw e.pass (draw_end_of e.pass (ruled_capacity (arc_value e.lane).line)) };
 }
 
 impl DrawEnd {

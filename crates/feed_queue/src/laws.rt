@@ -4,6 +4,7 @@ ghost use Rattle.feed_queue.specs.Journal.{LinesArePrefixFree, JournalsAreOfOne}
 ghost use Rattle.feed_queue.specs.MachineSteps.{SendIsPush, DrawIsPop, SentEndIsNone, DrawnEndIsNone, SplitIsNone, JoinIsNone};
 
 use crate::{DrawEnd, Drawn, Ended, FeedEnd};
+use side_by_side::{MayGo, may_go};
 
 /// Each step of a lane is an event of the loading machine on its part: an entry that is sent is a push and one that is
 /// drawn a pop, and Ends and passes that part or come back are none. Where as many Ends were drawn as there are
@@ -27,13 +28,7 @@ pub fn journal_laws()
     ensures one { JournalsAreOfOne }
 {}
 
-/// Only a type whose values may go to another thread can be named here.
-fn may_go<T: Send>() {}
-
-/// The ends of a lane, and what becomes of them, may go to other threads. It does nothing when run.
-pub fn lane_ends_may_go() {
-    may_go::<FeedEnd>();
-    may_go::<Ended>();
-    may_go::<DrawEnd>();
-    may_go::<Drawn>();
+/// The ends of a lane, and what becomes of them, may go to other threads.
+pub fn lane_ends_may_go() -> MayGo<(FeedEnd, Ended, DrawEnd, Drawn)> {
+    may_go()
 }

@@ -4,9 +4,10 @@
 //! Contracts see each end as a small record (`specs/Ends.antt`), so that one clause says what a call does. Of each item
 //! that is drawn they tell that its feeder is one of the lane's, that its number goes on what was drawn of that feeder,
 //! and that its point is valid. [`DrawEnd::settle`] tells that all that was drawn is an interleaving of what was sent.
-//! The queue keeps the rule of `specs/Rule.antt`, and each of its steps is an event of the loading machine or none: that
-//! is a clause of [`lane_laws`]. The crate stands on `crossbeam_queue` for the queue and on `world_core` for entries and
-//! their interleavings. Who runs the ends in threads, and what becomes of the entries, is left to the crates above.
+//! The queue keeps the rule of `specs/Rule.antt`, and each of its steps is an event of the loading machine or none:
+//! that is a clause of [`lane_laws`]. The crate stands on `crossbeam_queue` for the queue and on `world_core` for
+//! entries and their interleavings. Who runs the ends in threads, and what becomes of the entries, is left to the
+//! crates above.
 //!
 //! ```
 //! let (mut feeds, mut draws) = open_lane(alloc, &schema, 1024, 1)?;

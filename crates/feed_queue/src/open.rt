@@ -27,7 +27,7 @@ pub fn open_lane(
     requires room { (1 ≤ room) × (room ≤ 65536) }
     requires few { (1 ≤ feeders) × (feeders ≤ 8) }
     ensures feeds { IfOk result (λ t. t.0 ≡ new_feeds t.1.lane schema.now feeders) }
-    ensures draws { IfOk result (λ t. t.1 ≡ draw_state t.1.lane schema.now feeders []) }
+    ensures draws { IfOk result (λ t. t.1 ≡ draw_state t.1.lane schema.now feeders room []) }
 {
     let (line, mut pass) = open_line(alloc, schema, room)?;
     let lane = Lane {

@@ -1,6 +1,6 @@
 //! The steps of a lane, on a pass alone.
 ghost use Rattle.std.specs.Prelude.{◌≡◌, ◌<◌, [], MatchOption, IfOk};
-ghost use Rattle.crossbeam_queue.specs.Passes.{view, IsPassOf, IsSamePass};
+ghost use Rattle.crossbeam_queue.specs.Passes.{view, IsPassOf, IsSamePass, ruled_capacity};
 ghost use Rattle.feed_queue.specs.Steps.{ViewSends, ViewDraws, after_item, IsDraw, drawing};
 ghost use Rattle.feed_queue.specs.declared.item.Slot.TheVariants.{Carries};
 ghost use Rattle.feed_queue.specs.declared.line.View.TheVariants.{Draws};
@@ -13,8 +13,9 @@ use std::alloc::Global;
 use std::sync::Wait;
 use texts::NoMemory;
 
-/// How often the drawing end yields before it sleeps, which takes some 0.2 milliseconds. To wake it takes 20 microseconds or
-/// more, which whoever asks for the record would feel. So where items come evenly, 5,000 a second or more, it is awake for them.
+/// How often the drawing end yields before it sleeps, which takes some 0.2 milliseconds. To wake it takes 20
+/// microseconds or more, which whoever asks for the record would feel. So where items come evenly, 5,000 a second or
+/// more, it is awake for them.
 /// Where they come more seldom, most of its waits sleep at once (`Signal::pause`).
 const YIELDS_FOR_ITEMS: u32 = 400;
 
@@ -90,7 +91,8 @@ pub(crate) fn open_line(
     room: usize,
 ) -> Result<(Line, LanePass), NoMemory>
     requires { 0 < room }
-    ensures { IfOk result (λ t. IsPassOf t.0 t.1 × (view t.1 ≡ Draws (drawing schema.now [] 0 []))) }
+    ensures pass { IfOk result (λ t. IsPassOf t.0 t.1 × (view t.1 ≡ Draws (drawing schema.now [] 0 []))) }
+    ensures room { IfOk result (λ t. ruled_capacity t.0 ≡ room) }
 {
     let (line, mut pass) = Line::ruled(alloc, room)?;
     let copy = Box::new(alloc, schema.copy(alloc)?)?;

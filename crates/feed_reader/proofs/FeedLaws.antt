@@ -94,7 +94,8 @@ module _ {S : Type 0} (left : S → Option (List ℕ)) (faults : S → ℕ) (sch
   too_large_refused a b passed start over large =
       Told-each (rest_of left a) _ _ (refused_by_size schema) (size_at_start (λ n. input_limit < n) (rest_of left a) a.taken (input_size left b) start.0 over.size large)
 
-  -- where the header is read and all lines after it, the feed is not refused, and its accepted records are the points of these lines
+  -- where the header is read and all lines after it, the feed is not refused, and its accepted records are the points
+  -- of these lines
   pub feed_read : (a b c : Cutter S) (line : Line) (places : List ℕ) (more : List Line) → IsAtStart a → Passes left faults a b (line ∷ []) → LeavesAccepted left schema places a b → PassesAll left faults b c more
       → Told (rest_of left a) (λ feed. (is_feed_refused schema feed ≡ false) × (accepted schema feed ≡ points_in (map (row_of_line schema places) more)))
   feed_read a b c line places more start passed leaves all =

@@ -1,5 +1,5 @@
 -- How `csv` reads a field of a regular line.
-use Rattle.std.proofs.Common.{◌≡◌, ◌∙◌, refl, sym, ap, subst, ℕ, ◌+◌, ◌-◌, ◌<◌, ◌≢◌, false, true, ◌==◌, List, [], ◌∷◌, ◌++◌, length, get_or, take, drop, Some, None, arith}
+use Rattle.std.proofs.Common.{◌≡◌, ◌∙◌, refl, sym, ap, subst, ℕ, ◌+◌, ◌-◌, ◌<◌, ◌≤◌, false, ◌==◌, List, [], ◌∷◌, ◌++◌, length, get_or, take, drop, Some, None, arith}
 use Rattle.std.specs.List.{position}
 use Rattle.std.proofs.lemmas.List.{append-nil, append_assoc, length-drop, take_rest}
 use Rattle.std.proofs.lemmas.Bool.Decides.{nat_tests}
@@ -79,21 +79,21 @@ opened : (bytes : List ℕ) (fields : List (List ℕ)) → next_record default_c
 unfolding next_record
 opened bytes fields = refl
 
--- and the next one closes it
-to_quote : (xs : List ℕ) (k : ℕ) (fields : List (List ℕ)) → Some k ≡ position (λ b. b == 34) xs
-    → next_record default_config st.InQuoted fields [] xs ≡ next_record default_config st.AfterQuote fields (take k xs) (drop (k + 1) xs)
+-- and the next one closes it, behind what was copied of the field
+to_quote : (xs : List ℕ) (k : ℕ) (fields : List (List ℕ)) (field : List ℕ) → Some k ≡ position (λ b. b == 34) xs
+    → next_record default_config st.InQuoted fields field xs ≡ next_record default_config st.AfterQuote fields (field ++ take k xs) (drop (k + 1) xs)
 unfolding next_record
-to_quote xs k fields e =
+to_quote xs k fields field e =
     let parts = first_some (λ b. b == 34) xs k e in
     let quote : get_or xs k 0 ≡ 34 = grind (arith, nat_tests, parts.2) in
     let split : xs ≡ take k xs ++ 34 ∷ drop (k + 1) xs = subst (λ b. xs ≡ take k xs ++ b ∷ drop (k + 1) xs) quote parts.3 in
-    ap (next_record default_config st.InQuoted fields []) split ∙ quoted_run (take k xs) (34 ∷ drop (k + 1) xs) fields [] parts.1
+    ap (next_record default_config st.InQuoted fields field) split ∙ quoted_run (take k xs) (34 ∷ drop (k + 1) xs) fields field parts.1
 
 closed : (xs rest : List ℕ) (k : ℕ) (fields : List (List ℕ)) → Some k ≡ position (λ b. b == 34) xs → take (length xs - (k + 1)) (drop (k + 1) xs) ≡ rest
     → next_record default_config st.StartField fields [] (34 ∷ xs) ≡ next_record default_config st.AfterQuote fields (take k xs) rest
 closed xs rest k fields e left =
     let after : drop (k + 1) xs ≡ rest = sym (take_rest xs (k + 1)) ∙ left in
-    opened xs fields ∙ to_quote xs k fields e ∙ ap (next_record default_config st.AfterQuote fields (take k xs)) after
+    opened xs fields ∙ to_quote xs k fields [] e ∙ ap (next_record default_config st.AfterQuote fields (take k xs)) after
 
 -- after it a comma ends the field, and so does the end of the bytes
 comma_after_quote : (rest : List ℕ) (fields : List (List ℕ)) (field : List ℕ) → next_record default_config st.AfterQuote fields field (44 ∷ rest) ≡ next_record default_config st.StartField (fields ++ field ∷ []) [] rest
@@ -118,3 +118,41 @@ no_bytes (b ∷ xs) h = absurd (omega arith)
 -- and one up to the end of the bytes
 pub quoted_to_last : (xs : List ℕ) (k : ℕ) → Some k ≡ position (λ b. b == 34) xs → length (take (length xs - (k + 1)) (drop (k + 1) xs)) < 1 → ReadsToLast (34 ∷ xs) (take k xs)
 quoted_to_last xs k e left = λ fields. closed xs [] k fields e (no_bytes (take (length xs - (k + 1)) (drop (k + 1) xs)) left) ∙ last_after_quote fields (take k xs)
+
+-- a doubled quote is copied as one
+doubled_quote : (rest : List ℕ) (fields : List (List ℕ)) (field : List ℕ) → next_record default_config st.AfterQuote fields field (34 ∷ rest) ≡ next_record default_config st.InQuoted fields (field ++ 34 ∷ []) rest
+unfolding next_record
+doubled_quote rest fields field = refl
+
+-- over the front of these bytes, which stand behind an opening quote, this text was copied, and these bytes are left
+abbrev pub Copies : List ℕ → List ℕ → List ℕ → Type 0
+Copies bytes text left = (length left ≤ length bytes) × ((fields : List (List ℕ)) → next_record default_config st.StartField fields [] (34 ∷ bytes) ≡ next_record default_config st.InQuoted fields text left)
+
+pub copies_none : (bytes : List ℕ) → Copies bytes [] bytes
+copies_none bytes = (omega arith, opened bytes)
+
+-- then the next quote is followed by these bytes
+to_next : (bytes text left rest : List ℕ) (k : ℕ) → Copies bytes text left → Some k ≡ position (λ b. b == 34) left → take (length left - (k + 1)) (drop (k + 1) left) ≡ rest
+    → (length rest < length left) × ((fields : List (List ℕ)) → next_record default_config st.StartField fields [] (34 ∷ bytes) ≡ next_record default_config st.AfterQuote fields (text ++ take k left) rest)
+to_next bytes text left rest k so_far e is =
+    let parts = first_some (λ b. b == 34) left k e in
+    let after : drop (k + 1) left ≡ rest = sym (take_rest left (k + 1)) ∙ is in
+    let size : length (drop (k + 1) left) ≡ length rest = ap length after in
+    (omega (arith, parts.0, size, length-drop (k + 1) left), λ fields. so_far.1 fields ∙ to_quote left k fields text e ∙ ap (next_record default_config st.AfterQuote fields (text ++ take k left)) after)
+
+pub copies_on : (bytes text left rest : List ℕ) (k : ℕ) → Copies bytes text left → Some k ≡ position (λ b. b == 34) left → take (length left - (k + 1)) (drop (k + 1) left) ≡ 34 ∷ rest
+    → (length rest < length left) × Copies bytes ((text ++ take k left) ++ 34 ∷ []) rest
+copies_on bytes text left rest k so_far e is =
+    let next = to_next bytes text left (34 ∷ rest) k so_far e is in
+    let less : length rest < length left = omega (arith, next.0) in
+    (less, (omega (arith, less, so_far.0), λ fields. next.1 fields ∙ doubled_quote rest fields (text ++ take k left)))
+
+pub copied_to_comma : (bytes text left rest : List ℕ) (k : ℕ) → Copies bytes text left → Some k ≡ position (λ b. b == 34) left → take (length left - (k + 1)) (drop (k + 1) left) ≡ 44 ∷ rest → ReadsToComma (34 ∷ bytes) (text ++ take k left) rest
+copied_to_comma bytes text left rest k so_far e is =
+    let next = to_next bytes text left (44 ∷ rest) k so_far e is in
+    (omega (arith, next.0, so_far.0), λ fields. next.1 fields ∙ comma_after_quote rest fields (text ++ take k left))
+
+pub copied_to_last : (bytes text left : List ℕ) (k : ℕ) → Copies bytes text left → Some k ≡ position (λ b. b == 34) left → length (take (length left - (k + 1)) (drop (k + 1) left)) < 1 → ReadsToLast (34 ∷ bytes) (text ++ take k left)
+copied_to_last bytes text left k so_far e is =
+    let next = to_next bytes text left [] k so_far e (no_bytes (take (length left - (k + 1)) (drop (k + 1) left)) is) in
+    λ fields. next.1 fields ∙ last_after_quote fields (text ++ take k left)

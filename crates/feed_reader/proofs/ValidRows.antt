@@ -5,7 +5,7 @@ use Rattle.std.specs.List.{list_any, position_or_len, zip}
 use Rattle.std.proofs.lemmas.Bool.{not-false, or_parts}
 use Rattle.std.proofs.lemmas.Bool.Decides.{nat_tests}
 use Rattle.cube_view.specs.Limits.{has_text, same_text}
-use Rattle.cube_view.specs.Validity.{is_weight, valid, values_fit, weight_is_told}
+use Rattle.cube_view.specs.Validity.{is_weight, values_fit, weight_is_told}
 use Rattle.cube_view.specs.declared.category.Category.{Category}
 use Rattle.cube_view.specs.declared.schema.Schema.{Schema}
 use Rattle.feed_reader.specs.Columns.{category_items, needed_count, weight_item}

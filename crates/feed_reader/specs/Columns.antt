@@ -1,4 +1,5 @@
--- The columns that a feed must have: x, y, time, the weight's where the schema has one, and then the categories in the schema's order.
+-- The columns that a feed must have: x, y, time, the weight's where the schema has one, and then the categories in the
+-- schema's order.
 use Rattle.std.specs.Prelude.{ℕ, zero, suc, List, [], ◌∷◌, map, length, Option, Some, None}
 use Rattle.cube_view.specs.Limits.{column_names, with_weight}
 use Rattle.cube_view.specs.declared.category.Category.{Category}

@@ -32,7 +32,8 @@ PassesOneAtMost left faults before after = IsGoing after × (lines : List Line) 
 abbrev pub IsHeadRefused : {S : Type 0} → (S → Option (List ℕ)) → Schema → Cutter S → HeadFault → Type 0
 IsHeadRefused left schema before fault = Told (lines_left left before) (λ all. head_of_lines schema all ≡ Err fault)
 
--- the header of a feed has these places, and its accepted records are the points among the rows of the lines that are left
+-- the header of a feed has these places, and its accepted records are the points among the rows of the lines that are
+-- left
 abbrev pub AcceptsRows : Schema → List ℕ → List ℕ → List Line → Type 0
 AcceptsRows schema places feed rest = (feed_head schema feed ≡ Ok places) × (accepted schema feed ≡ points_in (map (row_of_line schema places) rest))
 

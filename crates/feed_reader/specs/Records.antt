@@ -22,7 +22,8 @@ only (x ∷ y ∷ xs) = None
 abbrev pub record_of : List ℕ → Option (List (List ℕ))
 record_of line = if begins_with_mark line then None else only (records default_config line)
 
--- a reader that has the whole line to read, as `csv` reads by default, without trimming or a header row, records of any lengths
+-- a reader that has the whole line to read, as `csv` reads by default, without trimming or a header row, records of any
+-- lengths
 pub record IsReaderOf {R : Type 0} (remaining : R → Option (List ℕ)) (reader : Reader R) (line : List ℕ) : Type 0 where
   pub config : reader_config reader ≡ default_config
   pub state : reader_state reader ≡ st.StartRecord

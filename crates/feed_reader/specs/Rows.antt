@@ -70,7 +70,8 @@ abbrev pub weight_in : Option (List ℕ) → ℕ
 weight_in None = 1
 weight_in (Some field) = number field
 
--- The faults that a record can have, in the order in which they are answered. Its fields are x, y, time, the weight's where there is such a column, and the categories'.
+-- The faults that a record can have, in the order in which they are answered. Its fields are x, y, time, the weight's
+-- where there is such a column, and the categories'.
 abbrev pub faults_of : Schema → List ℕ → List ℕ → List ℕ → Option (List ℕ) → List (List ℕ) → List (Option RowFault)
 faults_of schema x y time weight fields =
     fault_if (not (is_decimal x)) (fault.BadNumber column.X)

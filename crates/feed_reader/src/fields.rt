@@ -1,9 +1,10 @@
 //! The fields of a line, where it is one record.
-ghost use Rattle.std.specs.Prelude.{◌≡◌, ◌<◌, [], IfOk, get_or, length};
+ghost use Rattle.std.specs.Prelude.{◌≡◌, ◌<◌, [], IfOk, false, get_or, length};
 ghost use Rattle.feed_reader.specs.Headers.{count_named, place_in};
 ghost use Rattle.feed_reader.specs.Records.{begins_with_mark, record_of};
 ghost use Rattle.feed_reader.specs.Rows.{is_short};
 
+use crate::folded::folded_record;
 use crate::held::Held;
 use crate::line_parts::LineParts;
 use crate::record::{field_of, one_record};
@@ -57,6 +58,19 @@ impl<'a> Fields<'a> {
         }
         match regular_fields(alloc, line)? {
             Some(parts) => Ok(Some(Fields::of_parts(parts))),
+            None => Fields::read_irregular(alloc, line),
+        }
+    }
+
+    // The same of a line that is not regular, whose fields are copied.
+    fn read_irregular(alloc: Global, line: &[u8]) -> Result<Option<Fields<'a>>, NoMemory>
+        requires { begins_with_mark line.now ≡ false }
+        ensures { IfOk result (λ found. found ≡ record_of line.now) }
+    {
+        match folded_record(alloc, line)? {
+            Some(row) => Ok(Some(Fields {
+                held: Held::Record(row),
+            })),
             None => Fields::read_record(alloc, line),
         }
     }

@@ -2,7 +2,7 @@
 use crate::line_parts::LineParts;
 use csv::ByteRecord;
 
-/// The fields of a line: parts of it, where it is regular, or a record that a reader of `csv` read.
+/// The fields of a line: parts of it, where it is regular, or a record of copies.
 #[derive(Drop)]
 pub(crate) enum Held<'a> {
     Parts(LineParts<'a>),

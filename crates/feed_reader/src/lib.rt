@@ -1,14 +1,16 @@
-//! Text. The lines of a feed: a header, which says in which column each part of a record stands, and rows, which are points.
+//! Text. The lines of a feed: a header, which says in which column each part of a record stands, and rows, which are
+//! points.
 //!
 //! A line is read by itself. What a field and a record are is `csv`'s own definition, which `record_of` of
-//! `specs/Records.antt` cites; a regular line is split in place, and every other line is read by `csv`. What the bytes mean is the definition `head_of` of
-//! `specs/Headers.antt` for a header and `row_of` of `specs/Rows.antt` for a row; [`Header::read`] and [`Header::row`]
-//! answer exactly that. [`read_header`] and [`next_row`] take the lines from a cutter: a [`FeedJob`] is a cutter that has
-//! given the header's line, and the header. `accepted` of `specs/Feeds.antt` says which points a whole feed has, and
-//! [`accepted_laws`] what is known of them. How many of some rows are accepted, blank and refused, and which refusals come
-//! first, are the definitions of `specs/RowCounts.antt`; [`FeedCounts`] has such counts, and [`FirstRefusals`] keeps the
-//! refusals. The crate stands on `cube_view` for schemas and points and on `outer_io` for lines; where the points go, and
-//! what is said of refused rows, is left to the crates above.
+//! `specs/Records.antt` cites; a regular line is split in place, one with doubled quotes is copied, and a stranger one
+//! is read by `csv`. What the bytes mean is the definition `head_of` of `specs/Headers.antt` for a header and `row_of`
+//! of `specs/Rows.antt` for a row; [`Header::read`] and [`Header::row`] answer exactly that. [`read_header`] and
+//! [`next_row`] take the lines from a cutter: a [`FeedJob`] is a cutter that has given the header's line, and the
+//! header. `accepted` of `specs/Feeds.antt` says which points a whole feed has, and [`accepted_laws`] what is known of
+//! them. How many of some rows are accepted, blank and refused, and which refusals come first, are the definitions of
+//! `specs/RowCounts.antt`; [`FeedCounts`] has such counts, and [`FirstRefusals`] keeps the refusals. The crate stands
+//! on `cube_view` for schemas and points and on `outer_io` for lines; where the points go, and what is said of refused
+//! rows, is left to the crates above.
 //!
 //! ```text
 //! let header = Header::read(alloc, &schema, b"id,x,y,kind,time")?;
@@ -21,6 +23,7 @@ mod column;
 mod counts;
 mod feed;
 mod fields;
+mod folded;
 mod header;
 mod held;
 mod job;

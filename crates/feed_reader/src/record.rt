@@ -1,5 +1,5 @@
-//! The one record of a line, by a reader of `csv`. It builds its tables anew for each line, so lines that are regular are
-//! not read by it.
+//! The one record of a line, by a reader of `csv`. It builds its tables anew for each line, so a line whose fields are
+//! bare or stand whole in quotes is not read by it.
 ghost use Rattle.std.specs.Prelude.{◌≡◌, ◌<◌, [], IfOk, Some, false, get_or, length, option_map};
 ghost use Rattle.csv.specs.Records.{fields_of};
 ghost use Rattle.feed_reader.specs.Records.{IsReaderOf, begins_with_mark, record_of};

@@ -1,6 +1,6 @@
-//! The fields of a regular line: each is bare, without a quote, a carriage return or a line feed in it, or stands whole in
-//! quotes without a quote inside. Such a line is one record, whose fields are parts of it. All other lines are left to
-//! `record`, which has `csv` read them.
+//! The fields of a regular line: each is bare, without a quote, a carriage return or a line feed in it, or stands whole
+//! in quotes without a quote inside. Such a line is one record, whose fields are parts of it. All other lines are left
+//! to `folded` and `record`.
 ghost use Rattle.std.specs.Prelude.{◌≡◌, ◌∷◌, ◌==◌, IfOk, IfSome, Some, position};
 ghost use Rattle.csv.specs.Reading.{default_config, records};
 ghost use Rattle.feed_reader.specs.Records.{only};
@@ -10,18 +10,18 @@ use crate::line_parts::LineParts;
 use std::alloc::Global;
 use texts::NoMemory;
 
-// What comes after a field: a comma and the bytes of further fields, or the end of the line.
+/// What comes after a field: a comma and the bytes of further fields, or the end of the line.
 #[derive(Clone, Copy)]
-enum After<'a> {
+pub(crate) enum After<'a> {
     Field(&'a [u8]),
     End,
 }
 
-// A field at the front of bytes, and what comes after it.
+/// A field at the front of bytes, and what comes after it.
 #[derive(Clone, Copy)]
-struct Front<'a> {
-    text: &'a [u8],
-    after: After<'a>,
+pub(crate) struct Front<'a> {
+    pub(crate) text: &'a [u8],
+    pub(crate) after: After<'a>,
 }
 
 // Where the first byte is that no bare field holds, if there is one.
@@ -33,15 +33,15 @@ fn field_end(bytes: &[u8]) -> Option<usize>
         .position(|byte| matches!(*byte, b',' | b'"' | b'\r' | b'\n'))
 }
 
-// Where the first quote is.
-fn first_quote(bytes: &[u8]) -> Option<usize>
+/// Where the first quote is.
+pub(crate) fn first_quote(bytes: &[u8]) -> Option<usize>
     ensures { result ≡ position (λ b. b == 34) bytes.now }
 {
     bytes.iter().position(|byte| *byte == b'"')
 }
 
-// A bare field at the front, up to a comma or to the end of the bytes.
-fn bare_field(bytes: &[u8]) -> Option<Front<'_>>
+/// A bare field at the front, up to a comma or to the end of the bytes.
+pub(crate) fn bare_field(bytes: &[u8]) -> Option<Front<'_>>
     ensures { IfSome result (IsFront bytes.now) }
 {
     match field_end(bytes) {
@@ -57,8 +57,8 @@ fn bare_field(bytes: &[u8]) -> Option<Front<'_>>
     }
 }
 
-// What comes after a comma at the front, if there is one.
-fn after_comma(bytes: &[u8]) -> Option<&[u8]>
+/// What comes after a comma at the front, if there is one.
+pub(crate) fn after_comma(bytes: &[u8]) -> Option<&[u8]>
     ensures { IfSome result (λ rest. bytes.now ≡ 44 ∷ rest.now) }
 {
     match bytes {
@@ -67,8 +67,8 @@ fn after_comma(bytes: &[u8]) -> Option<&[u8]>
     }
 }
 
-// What comes after a quote at the front, if there is one.
-fn after_quote(bytes: &[u8]) -> Option<&[u8]>
+/// What comes after a quote at the front, if there is one.
+pub(crate) fn after_quote(bytes: &[u8]) -> Option<&[u8]>
     ensures { IfSome result (λ rest. bytes.now ≡ 34 ∷ rest.now) }
 {
     match bytes {
@@ -106,8 +106,8 @@ fn first_field(bytes: &[u8]) -> Option<Front<'_>>
     }
 }
 
-// Whether the bytes begin with one that begins a record.
-fn begins_record(bytes: &[u8]) -> bool
+/// Whether the bytes begin with one that begins a record.
+pub(crate) fn begins_record(bytes: &[u8]) -> bool
     ensures { result ≡ begins_record bytes.now }
 {
     match bytes {

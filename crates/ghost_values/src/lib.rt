@@ -1,5 +1,5 @@
-//! Threads. Values that exist for contracts alone. They take no bytes, their methods do nothing when the program runs, and
-//! since they own nothing they may go to any thread and be shared, as what holds a `Snapshot` of std may not.
+//! Threads. Values that exist for contracts alone. They take no bytes, their methods do nothing when the program runs,
+//! and since they own nothing they may go to any thread and be shared, as what holds a `Snapshot` of std may not.
 //!
 //! A [`GhostValue`] carries one value, a [`GhostList`] a list that grows. A struct that holds one says by its own
 //! clauses what the carried value is. The crate stands on std alone.

@@ -8,60 +8,33 @@ use Rattle.live_session.specs.Answered.{Answered, IsAnswer, IsBroken, PutsLine}
 use Rattle.live_session.specs.News.{News, seen_asked}
 use Rattle.live_session.specs.Saying.{Says}
 use Rattle.live_session.specs.State.{SessionState}
-use Rattle.live_session.specs.Turned.{AreNext, HasPut, is_lack, listed, seens_of}
+use Rattle.live_session.specs.Turned.{AreNext, HasPut, listed, seens_of}
 use Rattle.live_session.specs.declared.turn.Turn.{Turn}
 use Rattle.live_session.specs.declared.turn.Turn.TheVariants as turn
 use Rattle.outer_io.specs.Bytes.{Gains, GainsPart}
 use Rattle.outer_io.proofs.GainedLaws.{gains_none}
 use Rattle.query_syntax.specs.declared.query.Parsed.{Parsed}
 use Rattle.query_syntax.specs.declared.query.Parsed.TheVariants as parsed
-use Rattle.query_syntax.specs.declared.query.Query.{Query}
-use Rattle.query_syntax.specs.declared.query.Verb.{Verb}
-use Rattle.query_syntax.specs.declared.query.Verb.TheVariants as verb
 use Rattle.reply_json.specs.Printed.{reply_text, seen_of}
 use Rattle.reply_json.specs.declared.reply.Reply.{Reply}
-use Rattle.session_core.specs.Asked.{asked_reply, asked_then, asks_look, asks_reply, asks_to_end, query_reply, reply_line}
-use Rattle.session_core.specs.Transcript.{MayCome, MayPrint, IsReply, Answers, AllAnswered, replies_text}
+use Rattle.session_core.specs.Asked.{asked_then, asks_look, asks_reply, asks_to_end, reply_line}
+use Rattle.session_core.specs.Transcript.{is_lack, MayCome, MayPrint, IsReply, Answers, AllAnswered, replies_text}
 use Rattle.session_core.specs.declared.serving.Served.{Served}
 use Rattle.session_core.specs.declared.serving.Served.TheVariants as served
 use Rattle.session_core.proofs.AskedLaws.{asked_then-end, asked_then-reply, reply-goes_on}
+use Rattle.session_core.proofs.Lacks.{no_lack}
 use Rattle.session_core.proofs.Transcripts.{may_come_less, transcript_none}
 use Rattle.world_core.specs.PairFact.{IsPrefix}
 use Rattle.world_core.proofs.Prefixes.{IsPrefix-length}
 
--- a reply whose numbers are all there is may come after all that was seen and told, where one that prints how many it has seen
--- has seen no less than was told
+-- a reply whose numbers are all there is may come after all that was seen and told, where one that prints how many it
+-- has seen has seen no less than was told
 may_come_final : (schema : Schema) (is_stat : Stat → Type 0) (l h : List Point) (u v : ℕ) (reply : Reply) → length l ≤ length h → u ≤ v → ((n : ℕ) → seen_of reply ≡ Some n → u ≤ length h) → MayPrint schema is_stat true h v reply → MayCome (length l) u reply
 may_come_final schema is_stat l h u v (Reply.Table table) p q f m = (omega (arith, p, m), omega (arith, f table.seen refl, m))
 may_come_final schema is_stat l h u v (Reply.Stat stat seen) p q f m = (omega (arith, p, m.0), omega (arith, f seen refl, m.0))
 may_come_final schema is_stat l h u v (Reply.Told told) p q f m = omega (arith, q, m)
 may_come_final schema is_stat l h u v (Reply.Fault fault word) p q f m = tt
 may_come_final schema is_stat l h u v Reply.NoMemory p q f m = tt
-
--- no line means the reply for want of memory
-verb_no_lack : (stat : Stat) (schema : Schema) (h : List Point) (v : ℕ) (q : Query) (verb : Verb) → query_reply stat schema h v q verb ≡ Some Reply.NoMemory → ⊥
-verb_no_lack stat schema h v q verb.Count e = cc
-verb_no_lack stat schema h v q (verb.Hist k) e = cc
-verb_no_lack stat schema h v q (verb.Map down) e = cc
-verb_no_lack stat schema h v q (verb.Series from wide rows) e = cc
-verb_no_lack stat schema h v q (verb.Window rect) e = cc
-verb_no_lack stat schema h v q (verb.Cross k l) e = cc
-verb_no_lack stat schema h v q (verb.Best down rows) e = cc
-verb_no_lack stat schema h v q verb.Stat e = cc
-verb_no_lack stat schema h v q verb.Told e = cc
-verb_no_lack stat schema h v q verb.Quit e = cc
-
-not_meant : (stat : Stat) (schema : Schema) (h : List Point) (v : ℕ) (p : Parsed) → asked_reply stat schema h v p ≡ Some Reply.NoMemory → ⊥
-not_meant stat schema h v parsed.Skip e = cc
-not_meant stat schema h v (parsed.Ask q) e = verb_no_lack stat schema h v q q.verb e
-not_meant stat schema h v (parsed.Fault fault word) e = cc
-
-no_lack : (stat : Stat) (schema : Schema) (h : List Point) (v : ℕ) (p : Parsed) (reply : Reply) → asked_reply stat schema h v p ≡ Some reply → is_lack reply ≡ false
-no_lack stat schema h v p (Reply.Table table) e = refl
-no_lack stat schema h v p (Reply.Stat stat' seen) e = refl
-no_lack stat schema h v p (Reply.Told told) e = refl
-no_lack stat schema h v p (Reply.Fault fault word) e = refl
-no_lack stat schema h v p Reply.NoMemory e = absurd (not_meant stat schema h v p e)
 
 one_text : (reply : Reply) → replies_text (reply ∷ []) ≡ reply_line reply
 one_text reply = append-nil (reply_line reply)

@@ -9,7 +9,7 @@ use Rattle.cube_view.specs.declared.stat.Stat.{Stat}
 use Rattle.live_session.specs.News.{News, NewsFor, asks_news, news_of, takes_after, takes_for}
 use Rattle.live_session.specs.SoFar.{AnswersAll, AsksFirst, HasAnswered, HasBroken, HasDone, moment}
 use Rattle.live_session.specs.State.{SessionEnds, SessionState}
-use Rattle.live_session.specs.Turned.{BreaksOff, ComesToEnd, HasFaults, IsTurn, Turned, has_lack, is_lack, listed, seens_of, is_no_memory}
+use Rattle.live_session.specs.Turned.{BreaksOff, ComesToEnd, HasFaults, IsTurn, Turned, listed, seens_of, is_no_memory}
 use Rattle.live_session.specs.declared.turn.Turn.{Turn}
 use Rattle.live_session.specs.declared.turn.Turn.TheVariants as turn
 use Rattle.mailbox.specs.Ends.{OutEnd}
@@ -29,7 +29,7 @@ use Rattle.reply_json.specs.Printed.{seen_of}
 use Rattle.reply_json.specs.declared.reply.Reply.{Reply}
 use Rattle.session_core.specs.Asked.{asked, asked_then, asks_to_end, line_meaning, reply_line}
 use Rattle.session_core.specs.Scripts.{has_quit, is_quit}
-use Rattle.session_core.specs.Transcript.{AllAnswered, IsTranscript, NeverFalls, replies_text}
+use Rattle.session_core.specs.Transcript.{AllAnswered, has_lack, IsTranscript, is_lack, NeverFalls, replies_text}
 use Rattle.session_core.specs.declared.fault.SessionFault.{SessionFault}
 use Rattle.session_core.specs.declared.fault.SessionFault.TheVariants as fault
 use Rattle.session_core.proofs.AskedLaws.{asked_then-end, asked-append}
@@ -126,8 +126,8 @@ module _ (schema : Schema) (is_stat : Stat → Type 0) where
 seens_on : (rs ss : List Reply) → seens_of (rs ++ ss) ≡ seens_of rs ++ seens_of ss
 seens_on rs ss = flat_map-append (λ (reply : Reply). listed (seen_of reply)) rs ss
 
--- How a transcript within the one news goes on within the other: where memory lacks since, and with more final replies to
--- more that is asked
+-- How a transcript within the one news goes on within the other: where memory lacks since, and with more final replies
+-- to more that is asked
 pub record GoesOn (schema : Schema) (is_stat : Stat → Type 0) (final : Bool) (a b : News) : Type 0 where
   pub keeps : (lacks lacks' : Bool) (ps : List Parsed) (replies : List Reply) → (lacks ≡ true → lacks' ≡ true) → IsTranscript schema is_stat final a.shown (length a.told) lacks ps replies → IsTranscript schema is_stat final b.shown (length b.told) lacks' ps replies
   pub joins : (lacks lacks' : Bool) (ps qs : List Parsed) (replies others : List Reply) → (lacks ≡ true → lacks' ≡ true) → IsTranscript schema is_stat final a.shown (length a.told) lacks ps replies → IsTranscript schema is_stat true b.shown (length b.told) lacks' qs others → NeverFalls (length a.shown) (length a.told) others → IsTranscript schema is_stat final b.shown (length b.told) lacks' (ps ++ qs) (replies ++ others)

@@ -6,7 +6,7 @@ use Rattle.cube_view.specs.declared.stat.Stat.{Stat}
 use Rattle.live_session.specs.Answered.{Answered, IsAnswer, IsBroken}
 use Rattle.live_session.specs.News.{HasNews, News}
 use Rattle.live_session.specs.State.{SessionEnds, SessionState}
-use Rattle.live_session.specs.Turned.{BreaksOff, AreNext, IsTurn, Turned, has_lack, is_lack, seens_of}
+use Rattle.live_session.specs.Turned.{BreaksOff, AreNext, IsTurn, Turned, seens_of}
 use Rattle.live_session.specs.declared.turn.Turn.{Turn}
 use Rattle.live_session.specs.declared.turn.Turn.TheVariants as turn
 use Rattle.outer_io.specs.Bytes.{Gains, GainsPart}
@@ -17,7 +17,7 @@ use Rattle.outer_io.specs.Told.{Told}
 use Rattle.query_syntax.specs.declared.query.Parsed.{Parsed}
 use Rattle.reply_json.specs.declared.reply.Reply.{Reply}
 use Rattle.session_core.specs.Asked.{asked_then, asks_to_end, line_meaning, reply_line}
-use Rattle.session_core.specs.Transcript.{replies_text}
+use Rattle.session_core.specs.Transcript.{has_lack, is_lack, replies_text}
 use Rattle.session_core.specs.Turns.{PassesLine}
 use Rattle.session_core.proofs.Transcripts.{transcript_none}
 use Rattle.std.specs.Prelude.{IsSomeAnd}

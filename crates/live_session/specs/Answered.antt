@@ -6,7 +6,7 @@ use Rattle.cube_view.specs.declared.view.CubeView as CubeView
 use Rattle.live_session.specs.News.{HasNews, News}
 use Rattle.live_session.specs.Saying.{IsNewsOf, IsShownTo}
 use Rattle.live_session.specs.State.{SessionState}
-use Rattle.live_session.specs.Turned.{AreNext, HasPut, is_lack, listed}
+use Rattle.live_session.specs.Turned.{AreNext, HasPut, listed}
 use Rattle.live_session.specs.declared.turn.Turn.{Turn}
 use Rattle.live_session.specs.declared.turn.Turn.TheVariants as turn
 use Rattle.outer_io.specs.Bytes.{Gains, GainsPart}
@@ -15,6 +15,7 @@ use Rattle.query_syntax.specs.declared.query.Parsed.{Parsed}
 use Rattle.query_syntax.specs.declared.query.Parsed.TheVariants.{Skip}
 use Rattle.reply_json.specs.declared.reply.Reply.{Reply}
 use Rattle.session_core.specs.Asked.{asked_then, asks_to_end, reply_line}
+use Rattle.session_core.specs.Transcript.{is_lack}
 use Rattle.session_core.specs.declared.fault.SessionFault.{SessionFault}
 use Rattle.session_core.specs.declared.fault.SessionFault.TheVariants as fault
 

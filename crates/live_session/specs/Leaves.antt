@@ -12,9 +12,9 @@ use Rattle.session_core.specs.declared.fault.SessionFault.TheVariants as fault
 
 -- The run of a session over a source and a sink, with the numbers of a structure that meet the test, leaves
 pub record LeavesSession {I O : Type 0} (ends : SessionEnds I O) (is_stat : Stat → Type 0) (before after : WorkState I O) : Type 0 where
-  -- a transcript of the first of what its script asks, within what its viewer was shown last and told; after `Write` of one
-  -- reply more, of which the sink gained a part. The line for want of memory stands in it only where that is noted, the
-  -- numbers of points seen are noted, and the mailbox was asked as often as the lines ask
+  -- a transcript of the first of what its script asks, within what its viewer was shown last and told; after `Write` of
+  -- one reply more, of which the sink gained a part. The line for want of memory stands in it only where that is noted,
+  -- the numbers of points seen are noted, and the mailbox was asked as often as the lines ask
   pub replied : HasDone ends before.schema is_stat false before.mail.takes before.session (moment (news_of after.shown after.learned after.mail) after.session) after.end
   -- a final one over the ended list, where its viewer had learned that
   pub final : IfSome before.last (λ w. HasDone ends before.schema is_stat true before.mail.takes before.session (moment (news_of w w after.mail) after.session) after.end)
@@ -22,7 +22,8 @@ pub record LeavesSession {I O : Type 0} (ends : SessionEnds I O) (is_stat : Stat
   pub all : OnOk after.end (AnswersAll ends.left before.schema before.session after.session)
   -- and where there was too much: then the script is over its limit
   pub too_much : IsErrOf after.end fault.TooMuch → AnswersAll ends.left before.schema before.session after.session × IsTooLarge ends.left before.session.source
-  -- a script that is refused exactly then, and not where it ended without a fault, of a session whose cutter had given nothing
+  -- a script that is refused exactly then, and not where it ended without a fault, of a session whose cutter had given
+  -- nothing
   pub refused : RefusesExactly ends.left before.schema before.session.source after.end
   -- `Read` only where the source's count of faults rose, which else stands
   pub read : HasCause (ends.faults before.session.source.source) (ends.faults after.session.source.source) after.end fault.Read

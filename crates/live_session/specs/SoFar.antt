@@ -83,8 +83,8 @@ module _ {I O : Type 0} (ends : SessionEnds I O) (schema : Schema) (is_stat : St
   HasDone (Err fault.TooMuch) = HasAnswered
   HasDone (Err fault.Write) = HasBroken
 
--- what a session has answered by the one moment, since any state of it and any number of asks of the mailbox, goes on over a
--- turn with this answer to the other
+-- what a session has answered by the one moment, since any state of it and any number of asks of the mailbox, goes on
+-- over a turn with this answer to the other
 abbrev pub KeepsAnswers : {I O T : Type 0} → SessionEnds I O → Schema → (Stat → Type 0) → Bool → Moment I O → Moment I O → Result T SessionFault → Type 0
 KeepsAnswers {I} {O} ends schema is_stat final a b result =
     (start : SessionState I O) (taken : ℕ) → HasAnswered ends schema is_stat final taken start a

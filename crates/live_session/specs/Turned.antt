@@ -23,7 +23,7 @@ use Rattle.reply_json.specs.Printed.{seen_of}
 use Rattle.reply_json.specs.declared.reply.Reply.{Reply}
 use Rattle.session_core.specs.Asked.{asked, line_meaning, reply_line}
 use Rattle.session_core.specs.Scripts.{is_quit}
-use Rattle.session_core.specs.Transcript.{IsTranscript, NeverFalls, replies_text}
+use Rattle.session_core.specs.Transcript.{has_lack, is_lack, IsTranscript, NeverFalls, replies_text}
 use Rattle.session_core.specs.declared.fault.SessionFault.{SessionFault}
 use Rattle.session_core.specs.declared.fault.SessionFault.TheVariants as fault
 
@@ -35,16 +35,6 @@ listed (Some n) = n ∷ []
 -- the numbers of points seen that replies print, in order
 abbrev pub seens_of : List Reply → List ℕ
 seens_of replies = flat_map (λ reply. listed (seen_of reply)) replies
-
--- the reply is the line for want of memory
-abbrev pub is_lack : Reply → Bool
-is_lack Reply.NoMemory = true
-is_lack reply = false
-
--- that line is among the replies
-abbrev pub has_lack : List Reply → Bool
-has_lack [] = false
-has_lack (reply ∷ replies) = is_lack reply || has_lack replies
 
 -- the fault is want of memory
 abbrev pub is_no_memory : SessionFault → Bool
@@ -130,7 +120,8 @@ module _ {I O : Type 0} (ends : SessionEnds I O) (schema : Schema) (is_stat : St
     -- whether it is the line for want of memory is noted
     pub lacks : after.lacked ≡ before.lacked || is_lack reply
 
--- What a turn of a session under the schema does, which had been shown and told `a`, and is `b` after it, with this viewer
+-- What a turn of a session under the schema does, which had been shown and told `a`, and is `b` after it, with this
+-- viewer
 pub record HasTurned {I O V C : Type 0} {members : CubeView.Ghosts V C} (ends : SessionEnds I O) (viewer : Viewer V C members) (schema : Schema) (a b : News) (before after : SessionState I O) (result : Result Turn SessionFault) : Type 0 where
   -- without a fault
   pub turned : IfOk result (Turned ends schema (IsShownTo viewer) a b before after)

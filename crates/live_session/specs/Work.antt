@@ -38,8 +38,8 @@ abbrev pub ending_fault : Result (Unit {0}) SessionFault → Option SessionFault
 ending_fault (Ok x) = None
 ending_fault (Err fault) = Some fault
 
--- what is given back of it: its parts, how many replies it put, the last number of points seen that they print, or 0, and
--- the fault that ended it
+-- what is given back of it: its parts, how many replies it put, the last number of points seen that they print, or 0,
+-- and the fault that ended it
 abbrev pub done_of : {I O : Type 0} → WorkState I O → SessionDone I O
 done_of work = record {
   source = work.session.source.source;

@@ -67,8 +67,8 @@ fn look_once<V: Grow, R: Wait, L: Ledger>(
     (shown.leave(), served)
 }
 
-/// The answer to a line. Where it asks for a look or the told length, what the mailbox holds is learned first, and where
-/// it asks for a look the viewer looks once, then.
+/// The answer to a line. Where it asks for a look or the told length, what the mailbox holds is learned first, and
+/// where it asks for a look the viewer looks once, then.
 pub(crate) fn answer_line<V: Grow, R: Wait, L: Ledger>(
     rt: &R,
     alloc: Global,

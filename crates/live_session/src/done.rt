@@ -3,8 +3,8 @@
 use mailbox::MailOut;
 use session_core::SessionFault;
 
-/// A session's source and sink, how many replies it put, the last number of points seen that they print, or 0, its end of
-/// the mailbox, and the fault that ended it.
+/// A session's source and sink, how many replies it put, the last number of points seen that they print, or 0, its end
+/// of the mailbox, and the fault that ended it.
 pub struct SessionDone<I, O> {
     pub source: I,
     pub sink: O,

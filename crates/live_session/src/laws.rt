@@ -1,5 +1,5 @@
-//! What holds of transcripts and of how often the mailbox is asked, as laws of the definitions, and that sessions and their
-//! works may go to other threads.
+//! What holds of transcripts and of how often the mailbox is asked, as laws of the definitions, and that sessions and
+//! their works may go to other threads.
 ghost use Rattle.live_session.specs.Takes.{AsksForNumbers};
 ghost use Rattle.live_session.specs.TranscriptLaws.{StaysTranscript, TextTellsReplies};
 
@@ -7,10 +7,10 @@ use crate::session::Session;
 use crate::work::SessionWork;
 use cube_view::{CubeView, Grow};
 use outer_io::{Sink, Source};
-use published_pair::{MayGo, may_go};
+use side_by_side::{MayGo, may_go};
 
-/// For any view's test of the structure's numbers: a transcript stays one as the list grows, and its text determines its
-/// replies. It does nothing when run.
+/// For any view's test of the structure's numbers: a transcript stays one as the list grows, and its text determines
+/// its replies. It does nothing when run.
 pub fn transcript_laws<V: CubeView>()
     ensures stays { StaysTranscript V.is_stat }
     ensures tells { TextTellsReplies V.is_stat }

@@ -230,11 +230,11 @@ impl<I: Source, O: Sink> Session<I, O> {
         }
     }
 
-    /// Reads one line of the script, learns what the mailbox holds and looks once where the line asks for it, and puts its
-    /// reply, if it asks for one. The viewer comes back with every answer. `Ended` comes at `quit`, at the script's end and
-    /// on an ended session; a fault is answered once, and from then on the session has ended. `NoMemory` comes where the
-    /// line, its meaning, the list of seen numbers or the sink found none. The memory of `room` is used from reply to
-    /// reply.
+    /// Reads one line of the script, learns what the mailbox holds and looks once where the line asks for it, and puts
+    /// its reply, if it asks for one. The viewer comes back with every answer. `Ended` comes at `quit`, at the script's
+    /// end and on an ended session; a fault is answered once, and from then on the session has ended. `NoMemory` comes
+    /// where the line, its meaning, the list of seen numbers or the sink found none. The memory of `room` is used from
+    /// reply to reply.
     pub fn turn<V: Grow, R: Wait, L: Ledger>(
         &mut self,
         rt: &R,
@@ -249,7 +249,7 @@ impl<I: Source, O: Sink> Session<I, O> {
         ensures ended { self.old.ended ≡ true → (result.1 ≡ Ok Turn.Ended) × (self.new ≡ self.old) × (mail.new ≡ mail.old) × ShowsSame viewer result.0 }
         ensures faults { HasFaults I.left I.faults O.held O.faults self.old self.new result.1 × (O.name self.new.sink ≡ O.name self.old.sink) }
         ensures viewer { IsSameViewer viewer result.0 × AsksViewer I.Source viewer mail.old self.old result.0 mail.new self.new }
-        ensures costs { TurnCosts I.Source result.0 mail.old mail.new self.old self.new steps.old steps.new }
+        ensures costs { TurnCosts I.Source result.0 mail.old mail.new self.old self.new steps.old steps.new result.1 }
         ensures so_far { KeepsSoFar (ends_of I.Source O.Sink) V.is_stat viewer (news viewer mail.old) (news result.0 mail.new) self.old self.new result.1 }
         ensures finals { KeepsFinals (ends_of I.Source O.Sink) V.is_stat viewer mail.old mail.new self.old self.new result.1 }
     {
@@ -267,11 +267,11 @@ impl<I: Source, O: Sink> Session<I, O> {
         }
     }
 
-    /// Takes turns to the script's end or a fault. Where it ends without a fault, or with too much, all that the script asks
-    /// is answered. A script that it goes over from its front is refused where there was too much, and is not where it ends
-    /// without a fault. Of a viewer that has learned the ended list, the replies are a final transcript over it: each number
-    /// of points that they print is its length. It takes at most the steps that its lines may take, each over the list that
-    /// is shown for it.
+    /// Takes turns to the script's end or a fault. Where it ends without a fault, or with too much, all that the script
+    /// asks is answered. A script that it goes over from its front is refused where there was too much, and is not
+    /// where it ends without a fault. Of a viewer that has learned the ended list, the replies are a final transcript
+    /// over it: each number of points that they print is its length. It takes at most the steps of the lines that it
+    /// read, each over the view that was looked at for it.
     pub fn run<V: Grow, R: Wait, L: Ledger>(
         &mut self,
         rt: &R,
@@ -285,7 +285,7 @@ impl<I: Source, O: Sink> Session<I, O> {
         ensures finals { DoneFinally (ends_of I.Source O.Sink) V.is_stat viewer mail.old mail.new self.old self.new result.1 }
         ensures script { EndsScript I.left viewer.schema self.old self.new result.1 }
         ensures causes { CountsFaults I.faults O.faults self.old.source self.new.source self.old.sink self.new.sink result.1 }
-        ensures costs { RunCosts I.Source result.0 self.old.source steps.old steps.new }
+        ensures costs { RunCosts I.Source viewer result.0 self.old.source self.new.source steps.old steps.new result.1 }
         ensures viewer { IsSameViewer viewer result.0 }
         ensures names { (O.name self.new.sink ≡ O.name self.old.sink) × KeepsOut result.0.learned mail.old mail.new }
     {

@@ -1,1 +1,2 @@
+pub mod HeldLetters
 mod MailboxRule

@@ -44,8 +44,8 @@ impl MailIn {
     }
 }
 
-/// The end that takes what was put last. Contracts see the mailbox's name, the pair's, how often it was asked, and what was
-/// taken.
+/// The end that takes what was put last. Contracts see the mailbox's name, the pair's, how often it was asked, and what
+/// was taken.
 #[derive(Drop)]
 pub struct MailOut {
     place: Arc<Place>,
@@ -67,8 +67,8 @@ impl Model for MailOut {
 }
 
 impl MailOut {
-    /// Takes what the mailbox holds, which is the last that was put. `None` only where it was empty at one moment of the
-    /// call.
+    /// Takes what the mailbox holds, which is the last that was put: by its rule, as `mail_laws` tells, since no clause
+    /// of one end can name what the other did. `None` only where it was empty at one moment of the call.
     pub fn take<R: Wait>(&mut self, rt: &R) -> Option<Told>
         ensures last { IfSome result (WasPutLast self.old.pair self.old.taken) }
         ensures end { self.new ≡ mail_out self.old.mailbox self.old.pair (next_count self.old.takes) (and_taken self.old.taken result) }

@@ -34,8 +34,8 @@ module _ (h points slice : List Point) (f : Known) (z : Schema) (op : Sent) (n :
       ap₂ (λ (l : List Point) (x : Schema). standing l f x) (more ∙ ap (λ (l : List Point). h ++ l) same) schema
       ∙ sym (ap (absorbed (standing h f z)) is ∙ taken (standing h f z) points (test ∙ passes))
 
--- a publication that is sent behind others: once all are taken in, its points stand behind what was noted before, and the
--- copy stands at the list that is sent behind them
+-- a publication that is sent behind others: once all are taken in, its points stand behind what was noted before, and
+-- the copy stands at the list that is sent behind them
 pub takes_publication : (s : Standing) (sent : List Sent) (points h : List Point) (f : Known) (z : Schema) → (fold absorbed s sent).points ≡ h → (fold absorbed s sent).schema ≡ z → All (λ p. IsTrue (sound z p)) points → length h + length points ≤ most_points
     → (fold absorbed s (sent ++ Added points ∷ []) ≡ standing (h ++ points) (fold absorbed s sent).front z) × (fold absorbed s ((sent ++ Added points ∷ []) ++ Noted f ∷ []) ≡ standing (h ++ points) f z)
 takes_publication s sent points h f z counts schema all few = (one, two)
@@ -60,7 +60,8 @@ pub noted_keeps : {A : Type 0} (r : Result A Sent) (s : Standing) (sent more : L
 noted_keeps (Ok a) s sent more f is = let e = ap (fold absorbed s) is ∙ fold-append absorbed s sent (Noted f ∷ []) in (ap (λ (w : Standing). w.points) e, ap (λ (w : Standing). w.schema) e)
 noted_keeps (Err x) s sent more f is = (ap (λ (l : List Sent). (fold absorbed s l).points) is.1, ap (λ (l : List Sent). (fold absorbed s l).schema) is.1)
 
--- a publication that was sent to copies of which the shown one stands at s: the points since the last one, and then a list
+-- a publication that was sent to copies of which the shown one stands at s: the points since the last one, and then a
+-- list
 module _ {A : Type 0} (r : Result A Sent) (s now : Standing) (sent mid last : List Sent) (points since h appended : List Point) (f : Known) (z : Schema) (stays : now ≡ s) (same : points ≡ since) (joined : appended ≡ h ++ since) (few : length appended ≤ most_points) (all : All (λ p. IsTrue (sound z p)) since) (counts : (fold absorbed s sent).points ≡ h) (schema : (fold absorbed s sent).schema ≡ z) (first : mid ≡ sent ++ Added points ∷ []) where
   both : (fold absorbed s (sent ++ Added since ∷ []) ≡ standing (h ++ since) (fold absorbed s sent).front z) × (fold absorbed s ((sent ++ Added since ∷ []) ++ Noted f ∷ []) ≡ standing (h ++ since) f z)
   both = takes_publication s sent since h f z counts schema all (let j = ap (λ (l : List Point). length l) joined in let a = length-append h since in omega (arith, j, a, few))

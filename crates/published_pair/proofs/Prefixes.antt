@@ -1,10 +1,9 @@
 -- Prefixes of one list.
 use Rattle.std.proofs.Common.{◌≡◌, ◌≤◌, List, [], ◌∷◌, ◌++◌, take, drop, length, refl, ap, sym, ◌∙◌, arith, append-nil, length-append}
 use Rattle.std.proofs.lemmas.List.{take-append-drop}
-use Rattle.std.proofs.lemmas.List.Elements.{All-nil, All-push}
 use mathlib.Core.List.{IsPrefix as IsFront}
 use Rattle.world_core.proofs.Prefixes.{IsPrefix-take}
-use Rattle.world_core.specs.PairFact.{IsPrefix, pair_fact}
+use Rattle.world_core.specs.PairFact.{IsPrefix}
 
 -- the book's prefixes and the machine's are the same
 pub prefix_of : {A : Type 0} (xs ys : List A) → IsFront xs ys → IsPrefix xs ys
@@ -35,10 +34,6 @@ prefix_both xs ys p q = prefix_whole xs ys p (let e = ap length q.1 in let l = l
 -- a list that another begins with is a prefix of it
 pub taken_prefix : {A : Type 0} (xs ys : List A) → take (length xs) ys ≡ xs → IsPrefix xs ys
 taken_prefix xs ys e = (drop (length xs) ys, sym (ap (λ l. l ++ drop (length xs) ys) (sym e) ∙ take-append-drop (length xs) ys))
-
--- two prefixes of a list
-pub two_prefixes : {A : Type 0} (list xs ys : List A) → IsPrefix xs list → IsPrefix ys list → pair_fact list (xs ∷ ys ∷ [])
-two_prefixes list xs ys p q = All-push (λ (other : List _). IsPrefix other list) (xs ∷ []) ys (All-push (λ (other : List _). IsPrefix other list) [] xs (All-nil _) p) q
 
 -- all of a list is taken
 pub take_same : {A : Type 0} (xs ys : List A) → xs ≡ ys → take (length xs) ys ≡ xs

@@ -10,10 +10,9 @@ use Rattle.query_syntax.specs.Tables.{table}
 use Rattle.world_core.specs.PairFact.{IsPrefix, pair_fact}
 use Rattle.world_core.proofs.Entries.{length-entry_points}
 use Rattle.published_pair.specs.Pair.{Knows}
-use Rattle.published_pair.specs.PairLaws.{lists_seen, FreshIsPairFact, RuleIsPairFact, LookingIsLook}
+use Rattle.published_pair.specs.PairLaws.{lists_seen, RuleIsPairFact, LookingIsLook}
 use Rattle.published_pair.specs.Rules.{Known}
 use Rattle.published_pair.specs.declared.names.Names.{Names}
-use Rattle.published_pair.proofs.Prefixes.{two_prefixes}
 
 seen_fact : (h : List Point) (f : Known) (z : Schema) (views : List (Option Names)) → ((seat : ℕ) (v : Option Names) → get_elem? views seat ≡ some v → IfSome v (Knows h f.book z)) → pair_fact h (lists_seen views)
 seen_fact h f z [] each = All-nil _
@@ -35,6 +34,3 @@ looking_is_look schema w s q before (Some n) h f z sees is below =
       seen = get_or-set_same w.seen s (length w.journal) 0 below ∙ sym (ap length list ∙ length-entry_points w.journal);
       shot = ap (λ (l : List Point). w.shots ++ record { session = s; table = table schema q l } ∷ []) (sym list);
     }
-
-pub fresh_is_pair_fact : FreshIsPairFact
-fresh_is_pair_fact shown learned list fresh = two_prefixes list shown learned fresh.0 fresh.1

@@ -36,7 +36,8 @@ absorbed s (Noted f) = standing s.points f s.schema
 abbrev pub names : Book → Schema → List Point → Names
 names b z h = record { head = first_word_of b; schema = z; seen = h }
 
--- what an end knows is so where the copy that is shown counts h: it knows the pair and its schema, and saw a prefix of h
+-- what an end knows is so where the copy that is shown counts h: it knows the pair and its schema, and saw a prefix of
+-- h
 abbrev pub Knows : List Point → Book → Schema → Names → Type 0
 Knows h b z n = (n.head ≡ first_word_of b) × (n.schema ≡ z) × IsPrefix n.seen h
 
@@ -57,12 +58,13 @@ pub record Sees (v : Option Names) (h : List Point) (f : Known) (z : Schema) (w 
   -- from now on it has seen the copy's list
   pub after : w ≡ Some (names f.book z h)
 
--- once a copy that stands at the published list has taken in the log from behind on, it counts the noted list, and stands at it
+-- once a copy that stands at the published list has taken in the log from behind on, it counts the noted list, and
+-- stands at it
 abbrev pub Pends : ℕ → List Sent → Schema → Known → Known → Type 0
 Pends behind log z published noted = fold absorbed (standing published.points published z) (drop behind log) ≡ standing noted.points noted z
 
--- What a publisher has sent to its copies before it shows it: s is what the copy that is shown stands at, and viewers are to
--- be shown the noted list in place of the published one
+-- What a publisher has sent to its copies before it shows it: s is what the copy that is shown stands at, and viewers
+-- are to be shown the noted list in place of the published one
 pub record HasSent (s : Standing) (behind : ℕ) (log : List Sent) (z : Schema) (published noted : Known) : Type 0 where
   -- the copy that is shown counts the published list, and stands at it
   pub shown : s ≡ standing published.points published z

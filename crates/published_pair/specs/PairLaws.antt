@@ -9,7 +9,7 @@ use Rattle.world_core.specs.Machine.{happens}
 use Rattle.world_core.specs.PairFact.{pair_fact}
 use Rattle.world_core.specs.declared.event.Event.TheVariants.{Look}
 use Rattle.world_core.specs.declared.world.World.{World}
-use Rattle.published_pair.specs.Pair.{Fresh, KeepsPair, Sees}
+use Rattle.published_pair.specs.Pair.{KeepsPair, Sees}
 use Rattle.published_pair.specs.Rules.{Known}
 use Rattle.published_pair.specs.declared.names.Names.{Names}
 
@@ -23,7 +23,8 @@ lists_seen (Some n ∷ views) = n.seen ∷ lists_seen views
 abbrev pub RuleIsPairFact : Type 0
 RuleIsPairFact = (h : List Point) (f : Known) (z : Schema) (views : List (Option Names)) → KeepsPair h f z views → pair_fact h (lists_seen views)
 
--- What a viewer knows after a look at the copy that is shown is what the machine says of session s after its look with query q
+-- What a viewer knows after a look at the copy that is shown is what the machine says of session s after its look with
+-- query q
 pub record IsMachineLook (schema : Schema) (w : World) (s : ℕ) (q : Query) (n : Names) : Type 0 where
   -- it saw what is published, which stays
   pub list : n.seen ≡ entry_points (happens schema w (Look s q)).journal
@@ -36,7 +37,3 @@ pub record IsMachineLook (schema : Schema) (w : World) (s : ℕ) (q : Query) (n 
 abbrev pub LookingIsLook : Type 0
 LookingIsLook = (schema : Schema) (w : World) (s : ℕ) (q : Query) (before after : Option Names) (h : List Point) (f : Known) (z : Schema) → Sees before h f z after → h ≡ entry_points w.journal → s < length w.seen
     → IfSome after (IsMachineLook schema w s q)
-
--- a list is fresh for a viewer where what it was shown and told of are prefixes of the list
-abbrev pub FreshIsPairFact : Type 0
-FreshIsPairFact = (shown learned list : List Point) → Fresh shown learned list → pair_fact list (shown ∷ learned ∷ [])

@@ -1,4 +1,5 @@
-//! What was published, as a history that only proofs read and that only grows, until it ends. What runs keeps two lengths alone.
+//! What was published, as a history that only proofs read and that only grows, until it ends. What runs keeps two
+//! lengths alone.
 ghost use Rattle.std.specs.Prelude.{◌≡◌, ◌+◌, ◌<◌, ◌≤◌, ◌^◌, ◌++◌, ◌∷◌, [], length, max, drop, MatchBool, IfSome, Some, None};
 ghost use Rattle.left_right.specs.Sides.{view};
 ghost use Rattle.cube_view.specs.Bag.{most_points};

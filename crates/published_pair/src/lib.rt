@@ -3,9 +3,11 @@
 //!
 //! [`open`] gives a [`Publisher`] and its viewers. What is appended is seen by nobody until it is published. Each
 //! [`Viewer::look`] shows a view that counts a published list, of which every list that this viewer was shown or told
-//! of is a prefix. [`Publisher::end`] ends the list: after a viewer learned its [`Last`] each look shows the ended list.
-//! Where memory is wanted the pair is given up: the end is marked in the book all the same, and `end` answers a
-//! [`GivenUp`]. Whatever a viewer of the pair was shown or told of is a prefix of its list ([`GivenUp::covers`]).
+//! of is a prefix. [`Publisher::end`] ends the list: after a viewer learned its [`Last`] each look shows the ended
+//! list.
+//! Where memory is wanted the pair is given up, and viewers see what they saw: the end is marked in the book all the
+//! same, and `end` answers a [`GivenUp`]. Whatever a viewer of the pair was shown or told of is a prefix of its list
+//! ([`GivenUp::covers`]).
 //! Any view that takes points is published (`cube_view::Grow`). The two copies are those of `left_right`, the lists
 //! are kept for contracts alone in a `logbook`, and `specs/` says what holds at each atomic step. Batches, feeds and
 //! queries are left to the crates above.
@@ -26,7 +28,6 @@
 #![tactic(auto)]
 
 mod book;
-mod crossing;
 mod laws;
 mod looks;
 mod names;
@@ -40,7 +41,6 @@ mod told;
 mod viewer;
 
 pub use book::{Front, Whole};
-pub use crossing::{MayGo, may_go};
 pub use laws::{pair_ends_may_go, pair_laws};
 pub use opening::open;
 pub use publisher::{Of, Pairing, Publisher, PublisherOf};

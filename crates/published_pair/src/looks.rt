@@ -1,5 +1,5 @@
-//! How a publisher sleeps while looks are open, and a viewer until a publication. No promise rests on what is counted here:
-//! the copies wait for each look in their own way, by yielding, and find none where this has waited for it.
+//! How a publisher sleeps while looks are open, and a viewer until a publication. No promise rests on what is counted
+//! here: the copies wait for each look in their own way, by yielding, and find none where this has waited for it.
 use change_signal::{Signal, Waiting};
 use crossbeam_utils::CachePadded;
 use std::alloc::Global;
@@ -7,11 +7,12 @@ use std::sync::atomic::{AtomicU64, Ordering};
 use std::sync::{Arc, Wait};
 use texts::NoMemory;
 
-/// How often the publisher yields while looks are open, before it sleeps. A look takes some microseconds, and to wake a sleeper
-/// takes longer: with eight sessions that never pause, most publications find one open.
+/// How often the publisher yields while looks are open, before it sleeps. A look takes some microseconds, and to wake a
+/// sleeper takes longer: with eight sessions that never pause, most publications find one open.
 const YIELDS_FOR_LOOKS: u32 = 200;
 
-/// The looks of a pair that are open, counted apart by whether so many publications as were made when they began are an even number.
+/// The looks of a pair that are open, counted apart by whether so many publications as were made when they began are an
+/// even number.
 #[derive(Drop)]
 pub struct Looks {
     publications: AtomicU64,
@@ -58,7 +59,8 @@ impl Looks {
         self.ended.notify();
     }
 
-    /// Waits until the looks that began before the last publication have ended: they may be at the copy that is written next.
+    /// Waits until the looks that began before the last publication have ended: they may be at the copy that is written
+    /// next.
     pub(crate) fn wait_for_earlier<R: Wait>(&self, rt: &R) {
         let next = self.publications.load(Ordering::SeqCst).wrapping_add(1);
         // The looks that began one publication ago are counted with those that will begin after the next one.

@@ -77,7 +77,8 @@ fn make_stand<V: Grow>(view: V, front: &Front) -> Stand<V>
     }
 }
 
-/// A pair of two copies that count nothing, with so many viewers. Nothing is published, and no viewer was shown or told of anything.
+/// A pair of two copies that count nothing, with so many viewers. Nothing is published, and no viewer was shown or told
+/// of anything.
 pub fn open<V: Grow, R: Wait>(
     rt: &R,
     alloc: Global,

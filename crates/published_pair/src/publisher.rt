@@ -74,7 +74,8 @@ pub struct PublisherOf<K: Pairing> {
     ghost within: { take (length published.points) noted.points ≡ published.points },
 }
 
-/// Contracts see its book, which names the pair, its schema, the published list, all that was appended, and how many viewers the pair has. It is not `Drop`: end it by `end` or `finish`.
+/// Contracts see its book, which names the pair, its schema, the published list, all that was appended, and how many
+/// viewers the pair has. It is not `Drop`: end it by `end` or `finish`.
 pub type Publisher<V> = PublisherOf<Of<V>>;
 
 /// Shows viewers what is pending, which ends in a list that is noted. After `Err` they see what they saw.
@@ -101,7 +102,8 @@ pub(crate) fn show<V: Grow, R: Wait>(
 }
 
 impl<V: Grow> PublisherOf<Of<V>> {
-    /// Adds a point behind those that were appended. Viewers see it once it is published. After a refusal all is as before.
+    /// Adds a point behind those that were appended. Viewers see it once it is published. After a refusal all is as
+    /// before.
     pub fn append(&mut self, point: Point) -> Result<(), NoMemory>
         requires sound { IsTrue (sound self.old.schema point) }
         requires room { length self.old.appended.items < most_points }
@@ -116,8 +118,8 @@ impl<V: Grow> PublisherOf<Of<V>> {
     }
 
     #[tactic(auto, using(crate::proofs::Prefixes::taken_prefix))]
-    // Sends the copies all that was appended since, as one operation, notes it as published, and sends them the list that
-    // they then stand at.
+    // Sends the copies all that was appended since, as one operation, notes it as published, and sends them the list
+    // that they then stand at.
     pub(crate) fn note<R: Wait>(&mut self, rt: &R) -> Result<(), NoMemory>
         ensures sent { OnOk result (let w = self.new.writer in Pends w.behind w.log.items self.new.schema self.new.published self.new.noted) }
         ensures noted { OnOk result (self.new.noted.points ≡ self.new.appended.items) }
@@ -144,7 +146,8 @@ impl<V: Grow> PublisherOf<Of<V>> {
         }
     }
 
-    /// Shows viewers each point that was appended, and answers how many there are. After a refusal they see what they saw.
+    /// Shows viewers each point that was appended, and answers how many there are. After a refusal they see what they
+    /// saw.
     pub fn publish<R: Wait>(&mut self, rt: &R) -> Result<u64, NoMemory>
         ensures published { IfOk result (λ n. (self.new.published.points ≡ self.old.appended.items) × (n ≡ length self.old.appended.items)) }
         ensures grows { IsPrefix self.old.published.points self.new.published.points }
@@ -185,16 +188,35 @@ impl<V: Grow> PublisherOf<Of<V>> {
         self.published.len()
     }
 
-    // Gives the pair up: nothing is published after what is noted.
+    // Gives the pair up: viewers were shown no more than what is published, and nothing is published after what is
+    // noted.
     pub(crate) fn give_up<R: Wait>(self, rt: &R) -> GivenUp
-        ensures { (result.whole.book ≡ self.published.book) × IsPrefix result.whole.points self.appended.items }
+        ensures shown { result.shown ≡ self.published }
+        ensures whole { (result.whole.book ≡ self.published.book) × IsPrefix result.whole.points self.appended.items }
     {
-        let whole = self.noted.end(rt, &self.head);
-        self.finish(rt);
-        GivenUp { whole }
+        let PublisherOf {
+            writer,
+            head,
+            schema: _schema,
+            published: _published,
+            noted,
+            since: _since,
+            alloc: _,
+            appended: _appended,
+            viewers: _,
+            looks,
+        } = self;
+        let whole = noted.end(rt, &head);
+        looks.wait_for_all(rt);
+        let copy = writer.take(rt);
+        GivenUp {
+            shown: copy.front.again(),
+            whole,
+        }
     }
 
-    /// Uses the pair up; nothing is published by it. To be called once no viewer looks any more: a later look waits for ever.
+    /// Uses the pair up; nothing is published by it. To be called once no viewer looks any more: a later look waits for
+    /// ever.
     pub fn finish<R: Wait>(self, rt: &R) {
         let PublisherOf {
             writer,

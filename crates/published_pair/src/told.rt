@@ -39,9 +39,11 @@ impl Last {
     }
 }
 
-/// What is left of a pair that was given up: a list in which all is that was published in it.
+/// What is left of a pair that was given up: the list that viewers were shown last, and a list in which all is that was
+/// published in it.
 #[derive(Drop)]
 pub struct GivenUp {
+    pub(crate) shown: Front,
     pub(crate) whole: Whole,
 }
 

@@ -18,8 +18,8 @@ use ghost_values::GhostValue;
 use left_right::reader::{Reader, Reading};
 use std::sync::{Arc, Wait};
 
-/// Contracts see its book, which names the pair, the schema, the list that it was shown last and the view that counted it, the
-/// longest list that it learned, and the ended list once it has learned that.
+/// Contracts see its book, which names the pair, the schema, the list that it was shown last and the view that counted
+/// it, the longest list that it learned, and the ended list once it has learned that.
 #[derive(Drop)]
 pub struct Viewer<V: Grow> {
     pub(crate) reader: Reader<Stand<V>, Option<Names>, PairRule<V>>,
@@ -125,7 +125,9 @@ impl<V: Grow> Viewer<V> {
         })
     }
 
-    /// Shows a published list that goes on from all that it was shown and told of, and exactly the ended list once it has learned that. It waits for no publication: it tries again only where a publisher told of a list before it was shown, which none does.
+    /// Shows a published list that goes on from all that it was shown and told of, and exactly the ended list once it
+    /// has learned that. It waits for no publication: it tries again only where a publisher told of a list before it
+    /// was shown, which none does.
     pub fn look<R: Wait>(self, rt: &R) -> Shown<V>
         ensures fresh { Fresh self.shown.points self.learned.points result.shown.points }
         ensures ended { IfSome self.last (λ w. result.shown.points ≡ w.points) }

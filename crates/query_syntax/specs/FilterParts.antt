@@ -1,4 +1,5 @@
--- What filters said, by parts of a query: where there was none of a kind, the part is the one with which everything counts.
+-- What filters said, by parts of a query: where there was none of a kind, the part is the one with which everything
+-- counts.
 use Rattle.std.specs.Prelude.{◌≡◌, Bool, true, false, List, [], ◌∷◌, length, map, unwrap_or, Option, Some, None}
 use Rattle.cube_view.specs.declared.address.Tile.{Tile}
 use Rattle.query_syntax.specs.Filters.{Filters}

@@ -43,16 +43,9 @@ is_span span = nat_le span.from span.to && nat_le span.to bins
 
 -- the tiles of a map, or the best ones, are too deep for the schema
 abbrev pub is_too_deep : ℕ → ℕ → Verb → Bool
-is_too_deep depth z Count = false
-is_too_deep depth z (Hist k) = false
 is_too_deep depth z (Map down) = nat_lt depth (z + down)
-is_too_deep depth z (Series from wide rows) = false
-is_too_deep depth z (Window rect) = false
-is_too_deep depth z (Cross k l) = false
 is_too_deep depth z (Best down rows) = nat_lt depth (z + down)
-is_too_deep depth z Stat = false
-is_too_deep depth z Told = false
-is_too_deep depth z Quit = false
+is_too_deep depth z other = false
 
 -- in order, and within the columns and rows of the finest tiles
 abbrev pub rect_in_range : ℕ → Rect → Bool

@@ -22,16 +22,10 @@ use Rattle.query_syntax.specs.declared.table.Table.{Table}
 
 -- the verb asks for a table
 abbrev pub has_table : Verb → Bool
-has_table Count = true
-has_table (Hist k) = true
-has_table (Map down) = true
-has_table (Series from wide rows) = true
-has_table (Window rect) = true
-has_table (Cross k l) = true
-has_table (Best down rows) = true
 has_table Stat = false
 has_table Told = false
 has_table Quit = false
+has_table other = true
 
 -- the verb's table has rows along one dimension at most, all that there are; the loading machine's looks ask for these
 abbrev pub is_drill : Verb → Bool
@@ -39,12 +33,7 @@ is_drill Count = true
 is_drill (Hist k) = true
 is_drill (Map down) = true
 is_drill (Series from wide rows) = true
-is_drill (Window rect) = false
-is_drill (Cross k l) = false
-is_drill (Best down rows) = false
-is_drill Stat = false
-is_drill Told = false
-is_drill Quit = false
+is_drill other = false
 
 module _ (schema : Schema) (q : Query) (h : List Point) where
   -- the row of value v of category k: its text, and the total with this value

@@ -109,39 +109,17 @@ verb_words Quit = 1
 
 -- the verb counts points, so that filters may follow
 abbrev pub takes_filters : Verb → Bool
-takes_filters Count = true
-takes_filters (Hist k) = true
-takes_filters (Map down) = true
-takes_filters (Series from wide rows) = true
-takes_filters (Window rect) = true
-takes_filters (Cross k l) = true
-takes_filters (Best down rows) = true
 takes_filters Stat = false
 takes_filters Told = false
 takes_filters Quit = false
+takes_filters other = true
 
 -- the verb has its bins by itself
 abbrev pub is_series : Verb → Bool
-is_series Count = false
-is_series (Hist k) = false
-is_series (Map down) = false
 is_series (Series from wide rows) = true
-is_series (Window rect) = false
-is_series (Cross k l) = false
-is_series (Best down rows) = false
-is_series Stat = false
-is_series Told = false
-is_series Quit = false
+is_series other = false
 
 -- the verb has its finest tiles by itself
 abbrev pub is_window : Verb → Bool
-is_window Count = false
-is_window (Hist k) = false
-is_window (Map down) = false
-is_window (Series from wide rows) = false
 is_window (Window rect) = true
-is_window (Cross k l) = false
-is_window (Best down rows) = false
-is_window Stat = false
-is_window Told = false
-is_window Quit = false
+is_window other = false

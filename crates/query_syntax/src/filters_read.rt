@@ -10,8 +10,8 @@ use crate::{Choice, Query, Span, Verb};
 use cube_view::Tile;
 use std::marker::Model;
 
-/// What the filters of a line said so far, seen as what each kind said, with `None` where there was none of the kind. There
-/// the part is the one with which everything counts, so that the parts are those of a query.
+/// What the filters of a line said so far, seen as what each kind said, with `None` where there was none of the kind.
+/// There the part is the one with which everything counts, so that the parts are those of a query.
 #[derive(Drop)]
 pub struct FiltersRead {
     region: Tile,

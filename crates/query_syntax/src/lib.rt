@@ -3,11 +3,11 @@
 //! [`parse`] answers the meaning of a line, which `specs/Meaning.antt` defines: a query, or the first fault from the
 //! left with the number of its word. [`print`] answers the line of a query, which `specs/Spelling.antt` defines; that
 //! line means the query. [`is_valid_query`] says which queries a schema takes. What a query counts, its box and the
-//! total of a list of points in it, is defined in `specs/Boxes.antt`, and its table in `specs/Tables.antt`, with those of
-//! windows, cross tables and best tiles in `specs/Windows.antt`, `CrossTables.antt` and `TopTiles.antt`. [`has_table`]
-//! says which verbs ask for a table, and [`is_drill`] for which of them [`table_of`] counts it row by row, for small lists
-//! and as the answer that tests compare with. Schemas and points come from `cube_view`; how a cube finds a total is left
-//! to the crates above.
+//! total of a list of points in it, is defined in `specs/Boxes.antt`, and its table in `specs/Tables.antt`, with those
+//! of windows, cross tables and best tiles in `specs/Windows.antt`, `CrossTables.antt` and `TopTiles.antt`.
+//! [`has_table`] says which verbs ask for a table, and [`is_drill`] for which of them [`table_of`] counts it row by
+//! row, for small lists and as the answer that tests compare with. Schemas and points come from `cube_view`; how a cube
+//! finds a total is left to the crates above.
 //!
 //! ```
 //! let parsed = parse(alloc, &schema, b"count  in 01/0/1")?;

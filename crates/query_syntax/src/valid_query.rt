@@ -156,9 +156,9 @@ fn fits_verb(query: &Query) -> bool
         && (!has_own_tiles(query.verb) || is_whole_space(&query.region))
 }
 
-/// Whether the schema takes the query: its verb's numbers are in range, its region is a tile and its map's or best tiles
-/// are not too deep, each set is one of its category's values, its span is in order, and it has no filters that its
-/// verb doesn't take.
+/// Whether the schema takes the query: its verb's numbers are in range, its region is a tile and its map's or best
+/// tiles are not too deep, each set is one of its category's values, its span is in order, and it has no filters that
+/// its verb doesn't take.
 pub fn is_valid_query(schema: &Schema, query: &Query) -> bool
     ensures { result ≡ is_valid_query schema.now query.now }
 {

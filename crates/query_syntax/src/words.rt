@@ -25,8 +25,8 @@ fn quoted_piece_len(bytes: &[u8], mark: u8) -> usize
     bytes.len()
 }
 
-/// Whether the byte may be the mark or a quote. Where the mark is a space one test says so, since most bytes of a line come
-/// behind the quote.
+/// Whether the byte may be the mark or a quote. Where the mark is a space one test says so, since most bytes of a line
+/// come behind the quote.
 fn may_end(byte: u8, mark: u8) -> bool
     ensures { result ≡ false → (byte ≢ mark) × (byte ≢ quote) }
 {

@@ -1,4 +1,5 @@
--- The text of a reply: the compact JSON of an object, members in byte order of their names. And which numbers of points it prints.
+-- The text of a reply: the compact JSON of an object, members in byte order of their names. And which numbers of points
+-- it prints.
 use Rattle.std.specs.Prelude.{ℕ, List, [], ◌∷◌, codes, map, Option, Some, None}
 use Rattle.serde_json.specs.Data.{Data, number, unsigned, string, array, object, Members, no_members, member}
 use Rattle.serde_json.specs.View.{items_of}

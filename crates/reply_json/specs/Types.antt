@@ -1,4 +1,5 @@
--- The numbers and texts that the types of a reply hold. Every reply of a program is such: what is said of all such replies is said of all replies.
+-- The numbers and texts that the types of a reply hold. Every reply of a program is such: what is said of all such
+-- replies is said of all replies.
 use Rattle.std.specs.Prelude.{ℕ, ◌<◌, ◌^◌, ⊤}
 use Rattle.std.specs.List.{All}
 use Rattle.std.specs.Str.{IsUtf8}

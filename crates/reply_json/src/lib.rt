@@ -1,8 +1,8 @@
 //! Text. Replies: what is answered to a query, as one line of compact JSON, printed and read.
 //!
 //! [`print_reply_in`] writes the text of a reply, which `specs/Printed.antt` defines, and [`read_reply`] reads exactly
-//! these texts. Tables and faults come from `query_syntax`, digits from the kit's `itoa`, the escapes of a text from its
-//! `json`, and what is read from its `serde_json`. Which reply a line gets is for `session_core`.
+//! these texts. Tables and faults come from `query_syntax`, digits from the kit's `itoa`, the escapes of a text from
+//! its `json`, and what is read from its `serde_json`. Which reply a line gets is for `session_core`.
 //!
 //! ```
 //! let reply = read_reply(alloc, br#"{"told":7}"#)?;

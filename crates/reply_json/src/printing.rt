@@ -149,8 +149,8 @@ fn put_row(out: &mut Vec<u8>, later: bool, row: &RowOut) -> Result<(), NoMemory>
     put_items(out, row)
 }
 
-// Puts all rows and the closing bracket. The buffer grows as they come, by doubling: it is kept from reply to reply, and
-// a bound of bytes a row would take far more of it than most rows need.
+// Puts all rows and the closing bracket. The buffer grows as they come, by doubling: it is kept from reply to reply,
+// and a bound of bytes a row would take far more of it than most rows need.
 fn put_rows(out: &mut Vec<u8>, rows: &[RowOut]) -> Result<(), NoMemory>
     ensures text { OnOk result (out.new.items ≡ out.old.items ++ items_text false (items_of (map row_value rows.now))) }
     ensures fits { OnOk result (All RowFits rows.now) }

@@ -5,6 +5,7 @@ use Rattle.std.proofs.lemmas.List.Elements.{All-get_or}
 use Rattle.std.specs.List.{AllZip}
 use Rattle.std.specs.Prelude.{IsErrAnd, IsOk, IsSomeAnd}
 use Rattle.std.specs.Result.{result_err}
+use Rattle.cube_schema.specs.declared.plan.Plan.{Plan}
 use Rattle.cube_view.specs.declared.schema.Schema.{Schema}
 use Rattle.feed_reader.proofs.FeedStart.{new_rest}
 use Rattle.feed_reader.specs.Feeds.{feed_head, head_of_lines}
@@ -22,12 +23,12 @@ use Rattle.outer_io.specs.Files.{Files, file_or_empty}
 use Rattle.outer_io.specs.Lines.{Line}
 use Rattle.outer_io.specs.Told.{Told}
 use Rattle.run_files.proofs.Lists.{AllZip-firsts, AllZip-more}
-use Rattle.run_files.proofs.SinkPuts.{fails_after, puts_after, silent_after, silent_itself}
+use Rattle.run_files.proofs.SinkPuts.{fails_after, puts_after, refuses_saying, silent_after, silent_itself}
 use Rattle.run_files.proofs.SourceReturns.{leaves_given_back}
 use Rattle.run_files.proofs.Stages.{fails_at, fails_on, leaves_reading, leaves_then, leaves_more, nothing_made, all_opened}
 use Rattle.run_files.specs.GivingBack.{TakesSources}
 use Rattle.run_files.specs.Leaving.{FailsAtLast, LeavesPlace}
-use Rattle.run_files.specs.Headed.{HasHeader, IsHeaded, MeetsHeadFault, OpensFeeds, RefusesHead, RefusesLast, SaysHeadFault}
+use Rattle.run_files.specs.Headed.{EndsAtFeeds, HasHeader, IsHeaded, MeetsHeadFault, OpensFeeds, RefusesHead, RefusesLast, SaysHeadFault}
 use Rattle.run_files.specs.Outside.{at, FailsToPut, file_of, PlaceSeen, Puts, Silent, SinkSeen}
 use Rattle.run_files.specs.declared.stop.Stop.{Stop}
 use Rattle.run_files.specs.declared.stop.Stop.TheVariants.{NoMemory, PlanRefused, ReadFault, WriteFault, FeedRefused}
@@ -198,3 +199,30 @@ module _ {P O : Type 0} (p : PlaceSeen P) (s : SinkSeen O) (schema : Schema) whe
       → OpensFeeds p s schema (at a o) (at c o') names stop
   unfolding leaves_given_back
   opens_given_back a b c o o' names stop counts one back none = opens_leaving a b c o o' names names stop one (leaves_given_back p a b c names [] stop counts one.leaves back none) refl
+
+module _ {P O : Type 0} (p : PlaceSeen P) (s : SinkSeen O) (plan : Plan) where
+  -- feeds at which the run ends
+  pub at_feeds : (a b : P) (o o' : O) (makes : List (List ℕ)) (stop : Stop) → makes ≡ [] → (one : OpensFeeds p s plan.schema (at a o) (at b o') plan.feeds (Some stop)) → EndsAtFeeds p s plan (at a o) (at b o') one.leaves.opens makes (Some stop)
+  at_feeds a b o o' makes stop none one = record {
+    unopened = one.leaves.unopened;
+    feeds_are = one.leaves.inputs_are;
+    ends = (λ e. cc, one.ends);
+    unmade = none;
+    headed = one.headed;
+    refused = one.refused;
+    unsaid = one.unsaid;
+    silent = one.silent;
+  }
+
+  -- so it does where nothing was put before them, and whatever is given back after them
+  pub at_feeds_on : (a b c d : P) (o o' o'' : O) (opens makes : List (List ℕ)) (stop : Option Stop) → p.files b ≡ p.files a → Silent s o o' → EndsAtFeeds p s plan (at b o') (at c o'') opens makes stop → EndsAtFeeds p s plan (at a o) (at d o'') opens makes stop
+  at_feeds_on a b c d o o' o'' opens makes stop same quiet one = record {
+    unopened = one.unopened;
+    feeds_are = one.feeds_are;
+    ends = one.ends;
+    unmade = one.unmade;
+    headed = λ i lt. subst (λ (files : Option Files). HasHeader plan.schema (file_of files (get_or opens i []))) same (one.headed i lt);
+    refused = λ e. subst (λ (files : Option Files). RefusesLast plan.schema (file_of files) opens (Puts s o o'')) same (refuses_saying plan.schema _ opens _ _ (puts_after s o o' o'' quiet) (one.refused e));
+    unsaid = λ e. subst (λ (files : Option Files). RefusesLast plan.schema (file_of files) opens (FailsToPut s o o'')) same (refuses_saying plan.schema _ opens _ _ (fails_after s o o' o'' quiet) (one.unsaid e));
+    silent = λ e f. silent_after s o o' o'' quiet (one.silent e f);
+  }

@@ -1,16 +1,18 @@
 -- What the front of a plan's file means, which is read up to a limit, and how a run ends that has no plan.
-use Rattle.std.proofs.Common.{◌≡◌, ◌≢◌, ◌⊎◌, ℕ, ◌+◌, ◌≤◌, ◌<◌, List, take, length, Option, Some, None, Result, Ok, Err, inl, inr, refl, sym, ◌∙◌, ap, arith}
+use Rattle.std.proofs.Common.{◌≡◌, ◌≢◌, ◌⊎◌, ℕ, ◌+◌, ◌≤◌, ◌<◌, List, [], ◌∷◌, ◌++◌, take, length, Option, Some, None, Result, Ok, Err, inl, inr, refl, sym, ◌∙◌, ap, subst, arith}
 use Rattle.std.proofs.lemmas.Bool.{cases_lt, lt-ltb}
-use Rattle.std.proofs.lemmas.List.{length-take-le, take_all}
+use Rattle.std.proofs.lemmas.List.{append_cancel_left, length-take-le, take_all}
 use Rattle.cube_schema.specs.Drafts.{draft_of}
 use Rattle.cube_schema.specs.Meaning.{plan_meaning, longest_plan}
 use Rattle.cube_schema.specs.declared.fault.PlanFault.{PlanFault}
 use Rattle.cube_schema.specs.declared.fault.PlanFault.TheVariants.{TooLong}
 use Rattle.cube_schema.specs.declared.plan.Plan.{Plan}
 use Rattle.outer_io.specs.Told.{Told}
-use Rattle.run_files.proofs.Apart.{stopped}
-use Rattle.run_files.specs.Outside.{Silent, SinkSeen}
-use Rattle.run_files.specs.Planned.{ReadsPlan, RefusesPlan}
+use Rattle.run_files.proofs.Apart.{err_is, stopped}
+use Rattle.run_files.proofs.Stages.{fails_at, names_of}
+use Rattle.run_files.specs.Leaving.{FailsAtLast, LeavesPlace}
+use Rattle.run_files.specs.Outside.{at, file_of, PlaceSeen, Silent, SinkSeen}
+use Rattle.run_files.specs.Planned.{LacksPlan, ReadsPlan, RefusesPlan}
 use Rattle.run_files.specs.declared.stop.Stop.{Stop}
 use Rattle.run_files.specs.declared.stop.Stop.TheVariants.{NoMemory, PlanRefused, ReadFault, WriteFault, FeedRefused}
 
@@ -68,3 +70,15 @@ says_plan s out out' file PlanRefused reads = inr (reads.refused refl)
 says_plan s out out' file ReadFault reads = inl (reads.silent (λ e. cc))
 says_plan s out out' file WriteFault reads = inl (reads.silent (λ e. cc))
 says_plan s out out' file FeedRefused reads = inl (reads.silent (λ e. cc))
+
+-- so a run ends whose plan was refused or was not read
+pub lacks_plan : {P O E : Type 0} (p : PlaceSeen P) (s : SinkSeen O) (a b : P) (o o' : O) (name : List ℕ) (stop : Stop) → LeavesPlace p a b (name ∷ []) [] (Some stop) → (stopped Plan stop ≡ stopped Plan ReadFault → p.opened b ≡ p.opened a ++ name ∷ [])
+    → ReadsPlan s o o' (file_of (p.files a) name) (Err stop) → LacksPlan p s (at a o) (at b o') name (stopped E stop)
+unfolding names_of
+lacks_plan {E = E} p s a b o o' name stop leaves opened reads = record {
+  names = names_of p a b (name ∷ []) [] (Some stop) leaves;
+  first = λ e. subst (FailsAtLast p a) (append_cancel_left (p.opened a) (name ∷ []) leaves.opens (sym (opened (ap (λ k. Err k) (err_is {T = E} stop ReadFault e))) ∙ leaves.opened)) (fails_at p a name);
+  ends = plan_end {T = E} stop reads.ends;
+  refused = λ e. reads.refused (ap (λ k. Err k) (err_is {T = E} stop PlanRefused e));
+  silent = λ other. reads.silent (λ e. other (ap (λ k. Err k) (err_is {T = Plan} stop PlanRefused e)));
+}

@@ -12,7 +12,7 @@ use Rattle.outer_io.specs.Lines.{lines}
 use Rattle.outer_io.specs.Told.{Told}
 use Rattle.query_syntax.specs.declared.query.Parsed.{Parsed}
 use Rattle.session_core.proofs.Transcripts.{transcript_lacking, transcript_weaker}
-use Rattle.session_core.specs.Answered.{GainsReplies, GainsFront}
+use Rattle.session_core.specs.Answered.{GainsFront, GainsFrontNoted, GainsNoted, GainsReplies}
 use Rattle.session_core.specs.Asked.{asked}
 use Rattle.session_core.specs.Scripts.{is_script_refused}
 use Rattle.session_core.specs.declared.answering.ScriptEnd.{ScriptEnd}
@@ -49,10 +49,16 @@ module _ {P O : Type 0} (p : PlaceSeen P) (s : SinkSeen O) (place place' : P) (o
     weaker x is = subst is_stat (sym is) met
 
     abbrev Answered : Bool → Bool → List ℕ → Type 0
-    Answered lacked refused q = EachCounted weight n (λ k. GainsReplies schema IsIts k told lacked (s.held out) (s.held out') (asked schema (lines q))) × (is_script_refused schema q ≡ refused)
+    Answered lacked refused q = EachCounted weight n (λ k. GainsNoted schema IsIts k told lacked (s.held out) (s.held out') (asked schema (lines q))) × (is_script_refused schema q ≡ refused)
 
     abbrev Begun : Bool → List ℕ → Type 0
     Begun lacked q = EachCounted weight n (λ k. GainsFront schema IsIts k told lacked (s.held out) (s.held out') (asked schema (lines q)))
+
+    abbrev BegunNoted : Bool → List ℕ → Type 0
+    BegunNoted lacked q = EachCounted weight n (λ k. GainsFrontNoted schema IsIts k told lacked (s.held out) (s.held out') (asked schema (lines q)))
+
+    begun : (lacked : Bool) → Told left (BegunNoted lacked) → Told left (Begun lacked)
+    begun lacked told_front = Told-each left (BegunNoted lacked) (Begun lacked) (λ q each h counts. let (front, later, is, (rs, are, gained, noted)) = each h counts in (front, later, is, (rs, are, gained))) told_front
 
     bytes_of : (P : List ℕ → Type 0) → Told left P → (fs : Files) → p.files place ≡ Some fs → P (file_or_empty fs name)
     bytes_of P told_P fs told_fs = Told-some left (file_or_empty fs name) P (Told-some (p.files place) fs (λ fs. left ≡ Some (file_or_empty fs name)) told_fs opens) told_P
@@ -61,7 +67,7 @@ module _ {P O : Type 0} (p : PlaceSeen P) (s : SinkSeen O) (place place' : P) (o
     replies_at refused answers fs told_fs =
         let it = bytes_of (Answered false refused) answers fs told_fs in (
           λ h counts.
-              let r = subst (λ (t : ℕ). GainsReplies schema IsIts h t false (s.held out) (s.held out') (asked schema (lines (file_or_empty fs name)))) (all ∙ counts.number) (it.0 h counts) in
+              let r = subst (λ (t : ℕ). GainsNoted schema IsIts h t false (s.held out) (s.held out') (asked schema (lines (file_or_empty fs name)))) (all ∙ counts.number) (it.0 h counts) in
               (r.0, transcript_weaker schema IsIts is_stat weaker false true h (length h) _ r.0 r.1, r.2),
           it.1,
         )
@@ -104,8 +110,8 @@ module _ {P O : Type 0} (p : PlaceSeen P) (s : SinkSeen O) (place place' : P) (o
           lacking_front : Told left (Begun false) → Told left (Begun true)
           lacking_front told_front = Told-each left (Begun false) (Begun true) (λ q each h counts. front_lacking schema IsIts h told (s.held out) (s.held out') (asked schema (lines q)) (each h counts)) told_front
 
-      pub answered_file : (e : ScriptEnd) → OnOk e.end (Told left (Answered e.lacked false)) → (IsErrOf e.end fault.TooMuch → Told left (Answered e.lacked true)) → Told left (Begun e.lacked) → AnswersFile p s (at place out) (at place' out') (seen_view schema is_stat (Counts weight n)) name (script_end e)
-      answered_file e done refused part = ended_file e.lacked e.end done refused part
+      pub answered_file : (e : ScriptEnd) → OnOk e.end (Told left (Answered e.lacked false)) → (IsErrOf e.end fault.TooMuch → Told left (Answered e.lacked true)) → Told left (BegunNoted e.lacked) → AnswersFile p s (at place out) (at place' out') (seen_view schema is_stat (Counts weight n)) name (script_end e)
+      answered_file e done refused part = ended_file e.lacked e.end done refused (begun e.lacked part)
 
 -- a script that was not answered, with what its opening noted
 pub unopened_file : {P O : Type 0} (p : PlaceSeen P) (s : SinkSeen O) (place place' : P) (out : O) (schema : Schema) (is_stat : Stat → Type 0) (counts : List Point → Type 0) (name : List ℕ) (result : Result (Unit {0}) Stop) → result ≢ Err stop.PlanRefused → result ≢ Ok tt → result ≢ Err stop.FeedRefused → (k : ℕ) × (p.opened place' ≡ p.opened place ++ take k (name ∷ [])) → AnswersFile p s (at place out) (at place' out) (seen_view schema is_stat counts) name result

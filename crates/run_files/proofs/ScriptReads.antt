@@ -1,5 +1,5 @@
 -- Scripts that are opened, and outputs that are created, one after another.
-use Rattle.std.proofs.Common.{All, Err, List, None, Ok, Option, Result, Some, [], ap, append_assoc, inr, map, refl, subst, sym, ℕ, ◌++◌, ◌∙◌, ◌∷◌, ◌≡◌, ◌≢◌}
+use Rattle.std.proofs.Common.{All, Err, List, None, Ok, Option, Result, Some, [], ap, append_assoc, inl, inr, map, refl, subst, sym, ℕ, ◌++◌, ◌∙◌, ◌∷◌, ◌≡◌, ◌≢◌}
 use Rattle.std.proofs.lemmas.Bool.{false≢true}
 use Rattle.std.proofs.lemmas.List.Elements.{All-cons, All-nil}
 use Rattle.std.proofs.lemmas.List.{append-nil, map-append}
@@ -13,7 +13,7 @@ use Rattle.outer_io.specs.Files.{ChangesOnly, Files, HasFile}
 use Rattle.run_files.proofs.EmptyFiles.{told_still}
 use Rattle.run_files.proofs.Lists.{AllZip-more}
 use Rattle.run_files.proofs.Apart.{lacked_not_read}
-use Rattle.run_files.proofs.Stages.{KeepsOthers-one, fails_at, fails_on, leaves_and_creates, leaves_as_before, leaves_more, leaves_not, leaves_reading, leaves_then, leaves_unmade, nothing_made}
+use Rattle.run_files.proofs.Stages.{KeepsOthers-one, fails_at, fails_made, fails_on, leaves_and_creates, leaves_as_before, leaves_more, leaves_not, leaves_reading, leaves_then, leaves_unmade, made_after, made_on, nothing_made, same_created}
 use Rattle.run_files.proofs.SourceReturns.{leaves_given_back}
 use Rattle.run_files.specs.GivingBack.{TakesSources}
 use Rattle.run_files.specs.Leaving.{LeavesPlace}
@@ -47,16 +47,19 @@ told_before (Some files) (Some x) A told h = h
 
 module _ {P : Type 0} (p : PlaceSeen P) where
   pub scripts_none : (a : P) → OpensScripts p a a [] [] None
+  unfolding leaves_reading
   scripts_none a = record {
     leaves = leaves_reading p a a [] [] [] None refl (sym (append-nil _)) (λ _. refl) refl refl refl (λ e. cc) (λ _. refl);
     first = λ e. cc;
+    made = inl refl;
     write = λ e. cc;
     ends = none_ends;
   }
 
   -- nothing is opened or created, for want of memory
   pub scripts_nothing : (a : P) (inputs outputs : List (List ℕ)) → OpensScripts p a a inputs outputs (Some NoMemory)
-  scripts_nothing a inputs outputs = record { leaves = leaves_as_before p a inputs outputs NoMemory (λ e. cc); first = λ e. absurd (lacked_not_read e); write = λ e. absurd (lacked_not_write e); ends = lacked_ends }
+  unfolding leaves_as_before
+  scripts_nothing a inputs outputs = record { leaves = leaves_as_before p a inputs outputs NoMemory (λ e. cc); first = λ e. absurd (lacked_not_read e); made = inl refl; write = λ e. absurd (lacked_not_write e); ends = lacked_ends }
 
   -- the scripts that were opened are given back
   pub scripts_given_back : (a b c : P) (inputs outputs : List (List ℕ)) (stop : Option Stop) (counts : List ℕ) → OpensScripts p a b inputs outputs stop → TakesSources p b c counts → All (λ n. n ≡ 0) counts → OpensScripts p a c inputs outputs stop
@@ -64,6 +67,7 @@ module _ {P : Type 0} (p : PlaceSeen P) where
   scripts_given_back a b c inputs outputs stop counts one back none = record {
     leaves = leaves_given_back p a b c inputs outputs stop counts one.leaves back none;
     first = one.first;
+    made = one.made;
     write = λ e. subst (λ n. Rose (p.write_faults a) n) (sym back.write_faults) (one.write e);
     ends = one.ends;
   }
@@ -75,13 +79,14 @@ module _ {P : Type 0} (p : PlaceSeen P) where
   script_one a b name stop other ends opened created write files read quiet = record {
     leaves = leaves_reading p a b (name ∷ []) (name ∷ []) [] stop refl opened (λ _. refl) created write files read quiet;
     first = λ _. fails_at p a name;
+    made = inl refl;
     write = λ e. absurd (other e);
     ends = ends;
   }
 
   -- or not, for want of memory
   pub script_not : (a b : P) (name : List ℕ) → p.opened b ≡ p.opened a → p.created b ≡ p.created a → p.write_faults b ≡ p.write_faults a → p.files b ≡ p.files a → p.read_faults b ≡ p.read_faults a → OpensScripts p a b (name ∷ []) [] (Some NoMemory)
-  script_not a b name opened created write files quiet = record { leaves = leaves_not p a b name opened created write files quiet; first = λ e. absurd (lacked_not_read e); write = λ e. absurd (lacked_not_write e); ends = lacked_ends }
+  script_not a b name opened created write files quiet = record { leaves = leaves_not p a b name opened created write files quiet; first = λ e. absurd (lacked_not_read e); made = inl (nothing_made p a b (name ∷ []) (Some NoMemory) (leaves_not p a b name opened created write files quiet)); write = λ e. absurd (lacked_not_write e); ends = lacked_ends }
 
   -- one stage that reads alone and another are one
   pub scripts_then : (a b c : P) (first inputs outputs : List (List ℕ)) (stop : Option Stop) → OpensScripts p a b first [] None → OpensScripts p b c inputs outputs stop → OpensScripts p a c (first ++ inputs) outputs stop
@@ -89,15 +94,18 @@ module _ {P : Type 0} (p : PlaceSeen P) where
   scripts_then a b c first inputs outputs stop one two = record {
     leaves = leaves_then p a b c first inputs outputs stop one.leaves two.leaves;
     first = λ e. fails_on p a b one.leaves.opens two.leaves.opens one.leaves.opened (one.leaves.read_quiet (λ e. cc)) (two.first e);
+    made = made_after p a b two.leaves.makes (same_created p a b first None one.leaves) (one.leaves.unwritten (nothing_made p a b first None one.leaves)) two.made;
     write = λ e. subst (λ n. Rose n (p.write_faults c)) (one.leaves.unwritten (nothing_made p a b first None one.leaves)) (two.write e);
     ends = two.ends;
   }
 
   -- and so are one and another that creates alone
   pub scripts_and_creates : (a b c : P) (inputs first outputs : List (List ℕ)) (stop : Option Stop) → stop ≢ Some ReadFault → OpensScripts p a b inputs first None → OpensScripts p b c [] outputs stop → OpensScripts p a c inputs (first ++ outputs) stop
+  unfolding leaves_and_creates
   scripts_and_creates a b c inputs first outputs stop no_read one two = record {
     leaves = leaves_and_creates p a b c inputs first outputs stop no_read one.leaves two.leaves;
     first = λ e. absurd (no_read e);
+    made = made_on p a b one.leaves.makes two.leaves.makes one.leaves.created (one.leaves.write_quiet (λ e. cc) (λ e. cc)) one.made two.made;
     write = λ e. subst (λ n. Rose n (p.write_faults c)) (one.leaves.write_quiet (λ e. cc) (λ e. cc)) (two.write e);
     ends = two.ends;
   }
@@ -105,12 +113,12 @@ module _ {P : Type 0} (p : PlaceSeen P) where
   -- the first trouble leaves the further scripts unopened
   pub scripts_more : (a b : P) (inputs more outputs : List (List ℕ)) (stop : Stop) → OpensScripts p a b inputs [] (Some stop) → OpensScripts p a b (inputs ++ more) outputs (Some stop)
   unfolding leaves_more
-  scripts_more a b inputs more outputs stop one = record { leaves = leaves_more p a b inputs more outputs stop one.leaves; first = one.first; write = one.write; ends = one.ends }
+  scripts_more a b inputs more outputs stop one = record { leaves = leaves_more p a b inputs more outputs stop one.leaves; first = one.first; made = inl refl; write = one.write; ends = one.ends }
 
   -- and the further outputs not created
   pub scripts_unmade : (a b : P) (inputs outputs more : List (List ℕ)) (stop : Stop) → OpensScripts p a b inputs outputs (Some stop) → OpensScripts p a b inputs (outputs ++ more) (Some stop)
   unfolding leaves_unmade
-  scripts_unmade a b inputs outputs more stop one = record { leaves = leaves_unmade p a b inputs outputs more stop one.leaves; first = one.first; write = one.write; ends = one.ends }
+  scripts_unmade a b inputs outputs more stop one = record { leaves = leaves_unmade p a b inputs outputs more stop one.leaves; first = one.first; made = one.made; write = one.write; ends = one.ends }
 
   -- the first trouble, where `?` hands it on
   pub scripts_residual : {T : Type 0} (a b : P) (names first more outputs : List (List ℕ)) (r : Result T Stop) (stop : Stop) → names ≡ first ++ more → IsErrAnd r (λ e. e ≡ stop) → OpensScripts p a b first [] (Some stop) → OpensScripts p a b names outputs (result_err r)
@@ -150,15 +158,17 @@ module _ {P : Type 0} (p : PlaceSeen P) where
       others = KeepsOthers-one _ _ name others;
     };
     first = λ e. absurd (no_read e);
+    made = inr (fails_made p a name);
     write = write;
     ends = ends;
   }
 
   -- one output is not created, for want of memory
   pub creates_not : (a b : P) (name : List ℕ) → p.created b ≡ p.created a → p.opened b ≡ p.opened a → p.read_faults b ≡ p.read_faults a → p.files b ≡ p.files a → p.write_faults b ≡ p.write_faults a → OpensScripts p a b [] (name ∷ []) (Some NoMemory)
+  unfolding leaves_reading
   creates_not a b name created opened read files write =
       scripts_unmade a b [] [] (name ∷ []) NoMemory
-      (record { leaves = leaves_reading p a b [] [] [] (Some NoMemory) refl (opened ∙ sym (append-nil _)) (λ _. refl) created write files (λ e. cc) (λ _. read); first = λ e. absurd (lacked_not_read e); write = λ e. absurd (lacked_not_write e); ends = lacked_ends })
+      (record { leaves = leaves_reading p a b [] [] [] (Some NoMemory) refl (opened ∙ sym (append-nil _)) (λ _. refl) created write files (λ e. cc) (λ _. read); first = λ e. absurd (lacked_not_read e); made = inl refl; write = λ e. absurd (lacked_not_write e); ends = lacked_ends })
 
 module _ {S : Type 0} (left : S → Option (List ℕ)) (faults : S → ℕ) (files : Option Files) where
   -- one script more is opened of the same files

@@ -297,6 +297,7 @@ module _ {P O : Type 0} (p : PlaceSeen P) (s : SinkSeen O) where
               (KeepsOthers-more (p.files a) (p.files b) (p.files c) one.leaves.makes (map s.name sinks) one.leaves.others back.others);
         };
         first = λ e. absurd (read' (same_stop _ _ e));
+        made = one.made;
         write = λ e.
             let end = same_stop _ _ e in
             elim (write_or_not stop) [

@@ -1,5 +1,5 @@
 -- What one stage of a run leaves, and two after each other.
-use Rattle.std.proofs.Common.{All, ◌≡◌, ◌≢◌, ℕ, List, [], ◌∷◌, ◌++◌, length, take, lit<, Option, Some, None, Result, Ok, Err, inl, inr, refl, sym, ◌∙◌, ap, subst, append_assoc}
+use Rattle.std.proofs.Common.{All, ◌≡◌, ◌≢◌, ℕ, List, [], ◌∷◌, ◌++◌, ◌⊎◌, length, take, lit<, Option, Some, None, Result, Ok, Err, inl, inr, refl, sym, ◌∙◌, ap, subst, append_assoc}
 use Rattle.std.proofs.Math.Seq.{take-append_seam}
 use Rattle.std.proofs.lemmas.List.{append-nil}
 use Rattle.std.proofs.lemmas.List.Elements.{All-nil, Contains-append_left, Contains-append_right}
@@ -8,7 +8,7 @@ use Rattle.std.specs.Result.{result_err}
 use Rattle.outer_io.specs.Faults.{Rose}
 use Rattle.outer_io.specs.Files.{ChangesOnly, Files, HasFile}
 use Rattle.run_files.proofs.EmptyFiles.{emptied_after, told_still}
-use Rattle.run_files.specs.Leaving.{FailsAtLast, KeepsOthers, LeavesPlace}
+use Rattle.run_files.specs.Leaving.{FailsAtLast, FailsAtLastMade, KeepsOthers, LeavesNames, LeavesPlace}
 use Rattle.run_files.specs.Outside.{PlaceSeen}
 use Rattle.run_files.specs.declared.stop.Stop.{Stop}
 use Rattle.run_files.specs.declared.stop.Stop.TheVariants.{NoMemory, ReadFault}
@@ -100,6 +100,42 @@ module _ {P : Type 0} (p : PlaceSeen P) where
     quiet = one.quiet ∙ quiet;
   }
 
+  -- a write fails first at a name that is created
+  pub fails_made : (a : P) (name : List ℕ) → FailsAtLastMade p a (name ∷ [])
+  fails_made a name = record { earlier = []; last = name; makes_are = refl; reached = a; created = sym (append-nil _); quiet = refl }
+
+  -- also where others were created before, and no write failed
+  pub made_on : (a b : P) (first makes : List (List ℕ)) → p.created b ≡ p.created a ++ first → p.write_faults b ≡ p.write_faults a → (first ≡ []) ⊎ FailsAtLastMade p a first → (makes ≡ []) ⊎ FailsAtLastMade p b makes
+      → (first ++ makes ≡ []) ⊎ FailsAtLastMade p a (first ++ makes)
+  made_on a b first makes created quiet before (inl none) = subst (λ ns. (ns ≡ []) ⊎ FailsAtLastMade p a ns) (sym (ap (λ m. first ++ m) none ∙ append-nil first)) before
+  made_on a b first makes created quiet before (inr one) = inr (record {
+    earlier = first ++ one.earlier;
+    last = one.last;
+    makes_are = ap (λ m. first ++ m) one.makes_are ∙ sym (append_assoc first one.earlier (one.last ∷ []));
+    reached = one.reached;
+    created = one.created ∙ (ap (λ m. m ++ one.earlier) created ∙ append_assoc (p.created a) first one.earlier);
+    quiet = one.quiet ∙ quiet;
+  })
+
+  -- and where nothing was
+  pub made_after : (a b : P) (makes : List (List ℕ)) → p.created b ≡ p.created a → p.write_faults b ≡ p.write_faults a → (makes ≡ []) ⊎ FailsAtLastMade p b makes → (makes ≡ []) ⊎ FailsAtLastMade p a makes
+  made_after a b makes created quiet = made_on a b [] makes (created ∙ sym (append-nil _)) quiet (inl refl)
+
+  -- the names that a stage leaves
+  unfoldable pub names_of : (a b : P) (inputs outputs : List (List ℕ)) (stop : Option Stop) → LeavesPlace p a b inputs outputs stop → LeavesNames p a b inputs outputs
+  names_of a b inputs outputs stop stage = record {
+    opens = stage.opens;
+    unopened = stage.unopened;
+    inputs_are = stage.inputs_are;
+    opened = stage.opened;
+    makes = stage.makes;
+    unmade = stage.unmade;
+    outputs_are = stage.outputs_are;
+    created = stage.created;
+    opens_first = stage.opens_first;
+    others = stage.others;
+  }
+
   -- a stage that reads alone, and opened these of its names
   unfoldable pub leaves_reading : (a b : P) (inputs opens unopened : List (List ℕ)) (stop : Option Stop) → inputs ≡ opens ++ unopened → p.opened b ≡ p.opened a ++ opens → (stop ≡ None → unopened ≡ [])
       → p.created b ≡ p.created a → p.write_faults b ≡ p.write_faults a → p.files b ≡ p.files a
@@ -144,7 +180,7 @@ module _ {P : Type 0} (p : PlaceSeen P) where
       (one.unwritten nothing) (one.untouched nothing) (λ e. absurd (other e)) (λ _. one.read_quiet (λ e. cc))
 
   -- a stage that opens nothing and creates nothing, where the place is as before
-  pub leaves_as_before : (a : P) (inputs outputs : List (List ℕ)) (stop : Stop) → stop ≢ ReadFault → LeavesPlace p a a inputs outputs (Some stop)
+  unfoldable pub leaves_as_before : (a : P) (inputs outputs : List (List ℕ)) (stop : Stop) → stop ≢ ReadFault → LeavesPlace p a a inputs outputs (Some stop)
   leaves_as_before a inputs outputs stop other = record {
     opens = [];
     unopened = inputs;
@@ -194,7 +230,8 @@ module _ {P : Type 0} (p : PlaceSeen P) where
         others = KeepsOthers-after _ _ _ _ (one.untouched nothing) two.others;
       }
 
-  -- a stage that ends the run has also opened those from the front of more names, and created those of more, where nothing was created before
+  -- a stage that ends the run has also opened those from the front of more names, and created those of more, where
+  -- nothing was created before
   unfoldable pub leaves_more : (a b : P) (inputs more outputs : List (List ℕ)) (stop : Stop) → LeavesPlace p a b inputs [] (Some stop) → LeavesPlace p a b (inputs ++ more) outputs (Some stop)
   leaves_more a b inputs more outputs stop one =
       let nothing = front_nil one.makes one.unmade one.outputs_are in

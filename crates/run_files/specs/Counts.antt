@@ -10,8 +10,8 @@ module _ {P O : Type 0} (p : PlaceSeen P) (s : SinkSeen O) (before after : Outsi
   abbrev pub StandStill : Type 0
   StandStill = (p.read_faults after.place ≡ p.read_faults before.place) × (p.write_faults after.place ≡ p.write_faults before.place) × (s.faults after.out ≡ s.faults before.out)
 
-  -- What an end says of the counts of faults, which is the order of causes. Of want of memory, which comes first of all, it
-  -- says nothing.
+  -- What an end says of the counts of faults, which is the order of causes. Of want of memory, which comes first of
+  -- all, it says nothing.
   pub record CountsAt {E : Type 0} (end : Result E Stop) : Type 0 where
     -- with Ok, and with a refused feed, all three are as before
     pub done : (x : E) → end ≡ Ok x → StandStill

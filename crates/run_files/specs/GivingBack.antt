@@ -28,8 +28,8 @@ pub record TakesSources {P : Type 0} (p : PlaceSeen P) (before after : P) (count
   pub created : p.created after ≡ p.created before
   pub write_faults : p.write_faults after ≡ p.write_faults before
 
--- What the file of that name has after a sink that held these bytes was given back with this answer: the bytes, a part of
--- them from the front, or what it had
+-- What the file of that name has after a sink that held these bytes was given back with this answer: the bytes, a part
+-- of them from the front, or what it had
 abbrev pub Lands : Option Files → Option Files → List ℕ → Option (List ℕ) → Result (Unit {0}) IoFault → Type 0
 Lands before after name held (Ok done) = Told held (HasFile after name)
 Lands before after name held (Err fault.Failed) = Told held (HasPart after name)
@@ -47,7 +47,8 @@ pub record TakesSinks {P O : Type 0} (p : PlaceSeen P) (s : SinkSeen O) (before 
   pub others : KeepsOthers (p.files before) (p.files after) (map s.name sinks)
   -- a file that was empty still is where the sinks hold nothing, also where giving them back failed
   pub still_empty : IsSome (p.files before) → All (λ sink. s.held sink ≡ Some []) sinks → (name : List ℕ) → HasFile (p.files before) name [] → HasFile (p.files after) name []
-  -- the count of writing rose where a giving back failed or a sink met faults, is as before where neither is so, and never fell
+  -- the count of writing rose where a giving back failed or a sink met faults, is as before where neither is so, and
+  -- never fell
   pub failed : Contains answers (Err fault.Failed) → Rose (p.write_faults before) (p.write_faults after)
   pub met : (sink : O) → Contains sinks sink → Rose 0 (s.faults sink) → Rose (p.write_faults before) (p.write_faults after)
   pub quiet : OnOk result (All (λ sink. s.faults sink ≡ 0) sinks → p.write_faults after ≡ p.write_faults before)

@@ -1,6 +1,7 @@
 -- Feeds whose headers were read, and what opening them answers and puts.
-use Rattle.std.specs.Prelude.{◌≡◌, ◌≢◌, ℕ, ◌+◌, ◌<◌, List, [], ◌∷◌, ◌++◌, get_or, length, Option, Some, Err, IsOk}
+use Rattle.std.specs.Prelude.{◌≡◌, ◌≢◌, ℕ, ◌+◌, ◌<◌, List, [], ◌∷◌, ◌++◌, get_or, length, Option, Some, None, Err, IsOk}
 use Rattle.std.specs.List.{AllZip}
+use Rattle.cube_schema.specs.declared.plan.Plan.{Plan}
 use Rattle.cube_view.specs.declared.schema.Schema.{Schema}
 use Rattle.feed_reader.specs.Feeds.{feed_head}
 use Rattle.feed_reader.specs.Reading.{LeavesAccepted, ReadsHeader}
@@ -77,3 +78,18 @@ pub record OpensFeeds {P O : Type 0} (p : PlaceSeen P) (s : SinkSeen O) (schema 
   -- else nothing is put
   pub silent : stop ≢ Some FeedRefused → stop ≢ Some WriteFault → Silent s before.out after.out
   pub ends : stop ≢ Some PlanRefused
+
+-- These feeds of the plan were opened, and the run ends at the last one of them, or before the next
+pub record EndsAtFeeds {P O : Type 0} (p : PlaceSeen P) (s : SinkSeen O) (plan : Plan) (before after : Outside P O) (opens makes : List (List ℕ)) (stop : Option Stop) : Type 0 where
+  pub unopened : List (List ℕ)
+  pub feeds_are : plan.feeds ≡ opens ++ unopened
+  pub ends : (stop ≢ None) × (stop ≢ Some PlanRefused)
+  -- nothing was created
+  pub unmade : makes ≡ []
+  -- each feed that was opened before another one has a header
+  pub headed : (i : ℕ) → i + 1 < length opens → HasHeader plan.schema (file_of (p.files before.place) (get_or opens i []))
+  -- the one that was opened last is refused, which is said, or a part of it where the put fails
+  pub refused : stop ≡ Some FeedRefused → RefusesLast plan.schema (file_of (p.files before.place)) opens (Puts s before.out after.out)
+  pub unsaid : stop ≡ Some WriteFault → RefusesLast plan.schema (file_of (p.files before.place)) opens (FailsToPut s before.out after.out)
+  -- else nothing was put
+  pub silent : stop ≢ Some FeedRefused → stop ≢ Some WriteFault → Silent s before.out after.out

@@ -22,6 +22,33 @@ pub record FailsAtLast {P : Type 0} (p : PlaceSeen P) (before : P) (opens : List
   pub opened : p.opened reached ≡ p.opened before ++ earlier
   pub quiet : p.read_faults reached ≡ p.read_faults before
 
+-- The last of these names, which were created one after another, is the first at which a write may have failed
+pub record FailsAtLastMade {P : Type 0} (p : PlaceSeen P) (before : P) (makes : List (List ℕ)) : Type 0 where
+  pub earlier : List (List ℕ)
+  pub last : List ℕ
+  pub makes_are : makes ≡ earlier ++ last ∷ []
+  -- the place was this when the earlier ones were created, and no write had failed
+  pub reached : P
+  pub created : p.created reached ≡ p.created before ++ earlier
+  pub quiet : p.write_faults reached ≡ p.write_faults before
+
+-- What a run leaves of the names and the files of a place, which is to open and then to create these names
+pub record LeavesNames {P : Type 0} (p : PlaceSeen P) (before after : P) (inputs outputs : List (List ℕ)) : Type 0 where
+  -- some of the inputs were opened, from the front, each once
+  pub opens : List (List ℕ)
+  pub unopened : List (List ℕ)
+  pub inputs_are : inputs ≡ opens ++ unopened
+  pub opened : p.opened after ≡ p.opened before ++ opens
+  -- some of the outputs were created, from the front, each once
+  pub makes : List (List ℕ)
+  pub unmade : List (List ℕ)
+  pub outputs_are : outputs ≡ makes ++ unmade
+  pub created : p.created after ≡ p.created before ++ makes
+  -- none before all inputs were opened
+  pub opens_first : (makes ≡ []) ⊎ (unopened ≡ [])
+  -- every file that was not created is as before
+  pub others : KeepsOthers (p.files before) (p.files after) makes
+
 -- What a stage leaves of a place, which is to open and then to create these names, by what ends the run with it, if it
 -- does. The stages of a run follow each other, so this is also what several of them leave, of all their names.
 pub record LeavesPlace {P : Type 0} (p : PlaceSeen P) (before after : P) (inputs outputs : List (List ℕ)) (stop : Option Stop) : Type 0 where
@@ -46,7 +73,8 @@ pub record LeavesPlace {P : Type 0} (p : PlaceSeen P) (before after : P) (inputs
   -- the count of reading rose where a read fault ends the run, and else is as before
   pub read : stop ≡ Some ReadFault → Rose (p.read_faults before) (p.read_faults after)
   pub read_quiet : stop ≢ Some ReadFault → p.read_faults after ≡ p.read_faults before
-  -- the count of writing is as before where nothing was created, and where neither a write fault nor want of memory ends the run
+  -- the count of writing is as before where nothing was created, and where neither a write fault nor want of memory
+  -- ends the run
   pub unwritten : makes ≡ [] → p.write_faults after ≡ p.write_faults before
   pub write_quiet : stop ≢ Some WriteFault → stop ≢ Some NoMemory → p.write_faults after ≡ p.write_faults before
   -- the files are as before where nothing was created, and every file that was not created is

@@ -16,7 +16,8 @@ feeds_text schema names feeds = flat_map (λ (f : List ℕ × FeedCounts). feed_
 abbrev pub scripts_text : List (List ℕ) → List ScriptCounts → List ℕ
 scripts_text names scripts = flat_map (λ (s : List ℕ × ScriptCounts). script_lines s.0 s.1) (zip names scripts)
 
--- the report of a run of the plan: its feeds, its asks, its finals, whether the sessions were closed, and how many entries the journal has
+-- the report of a run of the plan: its feeds, its asks, its finals, whether the sessions were closed, and how many
+-- entries the journal has
 abbrev pub counts_text : Plan → List FeedCounts → List ScriptCounts → List ScriptCounts → Bool → ℕ → List ℕ
 counts_text plan feeds asks finals closed count =
     feeds_text plan.schema plan.feeds feeds ++ scripts_text plan.asks asks ++ scripts_text plan.finals finals ++ closed_line closed ++ journal_line count

@@ -1,5 +1,5 @@
 -- Scripts that were opened, the outputs that were created for them, and what both leave.
-use Rattle.std.specs.Prelude.{List, Option, Some, [], ℕ, ◌≡◌, ◌≢◌}
+use Rattle.std.specs.Prelude.{List, Option, Some, [], ℕ, ◌≡◌, ◌≢◌, ◌⊎◌}
 use Rattle.std.specs.List.{AllZip}
 use Rattle.cube_schema.specs.Repeats.{outputs}
 use Rattle.cube_schema.specs.declared.plan.Plan.{Plan}
@@ -7,7 +7,7 @@ use Rattle.outer_io.specs.Cutting.{Cutter, IsNew}
 use Rattle.outer_io.specs.Faults.{Rose}
 use Rattle.outer_io.specs.Files.{Files}
 use Rattle.outer_io.specs.Told.{Told}
-use Rattle.run_files.specs.Leaving.{FailsAtLast, LeavesPlace}
+use Rattle.run_files.specs.Leaving.{FailsAtLast, FailsAtLastMade, LeavesPlace}
 use Rattle.run_files.specs.Outside.{file_of, PlaceSeen, SinkSeen}
 use Rattle.run_files.specs.declared.scripts.ScriptParts.{ScriptParts}
 use Rattle.run_files.specs.declared.stop.Stop.{Stop}
@@ -34,6 +34,8 @@ pub record OpensScripts {P : Type 0} (p : PlaceSeen P) (before after : P) (input
   pub leaves : LeavesPlace p before after inputs outputs stop
   -- a read fault ends the run at the script that was opened last
   pub first : stop ≡ Some ReadFault → FailsAtLast p before leaves.opens
+  -- no write failed before the output that was created last
+  pub made : (leaves.makes ≡ []) ⊎ FailsAtLastMade p before leaves.makes
   -- a write fault has its cause
   pub write : stop ≡ Some WriteFault → Rose (p.write_faults before) (p.write_faults after)
   -- no other end comes than those of the place and want of memory

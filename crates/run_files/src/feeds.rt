@@ -126,8 +126,9 @@ fn open_each<P: Place, O: Sink>(
     Ok(())
 }
 
-/// The feeds of those names, opened in order, the header of each one read before the next is opened; or how the run ends,
-/// by the first trouble, with all that was opened given back. Of a feed that is refused one line is put, `feed NAME: FAULT`.
+/// The feeds of those names, opened in order, the header of each one read before the next is opened; or how the run
+/// ends, by the first trouble, with all that was opened given back. Of a feed that is refused one line is put, `feed
+/// NAME: FAULT`.
 pub fn open_feeds<P: Place, O: Sink>(
     alloc: Global,
     schema: &Schema,

@@ -12,7 +12,8 @@
 //!
 //! [`report`] makes the text that a run prints of its plan, of what its feeds and scripts counted and of the journal,
 //! [`feeds_report`] the lines of its feeds alone, and [`plan_refused`] and [`header_refused`] the lines of a run that
-//! ends before. The lines are the definitions of `specs/Lines.antt`, and faults are printed as `specs/Faults.antt` says.
+//! ends before. The lines are the definitions of `specs/Lines.antt`, and faults are printed as `specs/Faults.antt`
+//! says.
 //!
 //! It stands on `outer_io` for places and their parts, `cube_schema` for plans, and `feed_reader` for headers and what
 //! is counted of feeds. What runs between opening and giving back, who counts, what is written to the sinks, and which

@@ -17,7 +17,8 @@ use texts::{List, NoMemory};
 /// The most bytes of a plan.
 const LONGEST_PLAN: usize = 1_048_576;
 
-/// Opens the named file, reads its bytes, or the first `most + 1` of them where there are more, and gives its source back.
+/// Opens the named file, reads its bytes, or the first `most + 1` of them where there are more, and gives its source
+/// back.
 pub fn read_file<P: Place>(
     alloc: Global,
     name: &str,

@@ -102,8 +102,8 @@ fn report_text(
     Ok(text)
 }
 
-/// The report of a run of the plan: what was counted of its feeds, its asks and its finals, in the plan's order, whether
-/// the sessions were closed, and how many entries the journal has.
+/// The report of a run of the plan: what was counted of its feeds, its asks and its finals, in the plan's order,
+/// whether the sessions were closed, and how many entries the journal has.
 pub fn report(
     alloc: Global,
     plan: &Plan,

@@ -122,8 +122,8 @@ fn create_each<P: Place>(
     Ok(())
 }
 
-// The scripts of those names, opened in order and cut into lines; or how the run ends, by the first trouble, with all that
-// was opened given back.
+// The scripts of those names, opened in order and cut into lines; or how the run ends, by the first trouble, with all
+// that was opened given back.
 fn open_list<P: Place>(
     alloc: Global,
     names: &[Text],
@@ -145,8 +145,8 @@ fn open_list<P: Place>(
     }
 }
 
-// The sinks for the replies to the scripts of those names, created in order; or how the run ends, by the first trouble or
-// by one of giving back what was created.
+// The sinks for the replies to the scripts of those names, created in order; or how the run ends, by the first trouble
+// or by one of giving back what was created.
 fn create_list<P: Place>(
     alloc: Global,
     scripts: &[Text],
@@ -190,7 +190,8 @@ fn open_all<P: Place>(
     }
 }
 
-// The sinks for the replies to asks and finals, created in order, or how the run ends, with all that was created given back.
+// The sinks for the replies to asks and finals, created in order, or how the run ends, with all that was created given
+// back.
 fn create_replies<P: Place>(
     alloc: Global,
     plan: &Plan,
@@ -235,8 +236,8 @@ fn create_all<P: Place>(
     }
 }
 
-/// The scripts of a plan, all asks and then all finals opened, and then the files for their replies created in that order,
-/// and last the journal; or how the run ends, by the first trouble, with all of these given back.
+/// The scripts of a plan, all asks and then all finals opened, and then the files for their replies created in that
+/// order, and last the journal; or how the run ends, by the first trouble, with all of these given back.
 pub fn open_scripts<P: Place>(
     alloc: Global,
     plan: &Plan,

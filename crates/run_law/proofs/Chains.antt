@@ -104,7 +104,8 @@ chain schema room lists a b (s ∷ steps) n w stands is go =
     subst (StandsWith lists b) (sym (after_events-append schema room n w (event_of s) (events_of steps))) later
 
 pub run_is_of_the_machine : RunIsOfTheMachine
-run_is_of_the_machine schema room feeders sessions a b steps lists opened is go =
+run_is_of_the_machine schema feeders sessions a b steps lists opened is go =
+    let room = a.draws.room in
     let on = run_sends schema room a b steps is in
     let size : length lists ≡ feeders = go.count ∙ on.count ∙ ap length opened.feeds ∙ length-new_feeds a.draws.lane schema feeders in
     chain schema room lists a b steps 0 (first_world lists sessions) (opening_stands schema feeders sessions a lists opened size) is go

@@ -2,6 +2,7 @@ mod Chains
 mod Feeders
 mod HeardLists
 mod Lanes
+mod OneCall
 mod Openings
 mod Places
 mod SessionSteps

@@ -1,6 +1,7 @@
 -- What the builder's work does is a run of steps.
-use Rattle.std.proofs.Common.{◌≡◌, ◌≢◌, ℕ, zero, suc, ◌+◌, ◌<◌, Bool, true, false, List, [], ◌∷◌, ◌++◌, length, map, Some, refl, sym, ap, ◌∙◌, subst, arith}
+use Rattle.std.proofs.Common.{◌≡◌, ◌≢◌, ℕ, zero, suc, ◌+◌, ◌<◌, eqb, ⊎_elim, Bool, true, false, List, [], ◌∷◌, ◌++◌, length, map, Some, refl, sym, ap, ◌∙◌, subst, arith}
 use Rattle.std.specs.Prelude.{slice_get, Result, Ok, Err}
+use Rattle.std.proofs.lemmas.Bool.Decides.{eqb_tells}
 use Rattle.std.proofs.lemmas.Option.{none-some, same_Some}
 use Rattle.builder_core.specs.Builder.{BuilderState}
 use Rattle.builder_core.specs.Taking.{IsTaking}
@@ -18,9 +19,39 @@ use Rattle.published_pair.specs.Rules.{Known}
 use Rattle.published_pair.specs.declared.told.Told.{Told}
 use Rattle.run_law.specs.Moves.{TakesItem, TellsSession, PutsMail, publishes, with_session, having_posted}
 use Rattle.run_law.specs.Steps.{IsRunStep, AreRunSteps}
+use Rattle.run_law.specs.Turns.{LeadTo}
 use Rattle.run_law.specs.Views.{RunView, SessionView}
+use Rattle.run_law.specs.WholeWorks.{with_told, put_first, TellsOf, MakesSteps, MakeSteps, WholeWorkIsSteps}
 use Rattle.run_law.specs.Works.{HasMail, ShowsWork, draw_step, take_step, tell_steps, answer_steps, work_steps, WorkIsSteps}
+use Rattle.run_law.specs.declared.step.Step.TheVariants as step
 use Rattle.run_law.proofs.Places.{set_at_own, set_at_other}
+
+-- the mailboxes of which the first k were put into
+
+first_next : (n k : ℕ) (mails : List InEnd) → slice_get (put_first n k mails) k ≡ slice_get mails k
+first_next n zero mails = refl
+first_next n (suc k) [] = refl
+first_next n (suc k) (m ∷ mails) = first_next n k mails
+
+first_own : (n k : ℕ) (mails : List InEnd) (mail : InEnd) → slice_get mails k ≡ Some mail → slice_get (put_first n (suc k) mails) k ≡ Some (having_put n mail)
+first_own n k [] mail at = absurd (none-some mail at)
+first_own n zero (m ∷ mails) mail at = ap (λ (x : InEnd). Some (having_put n x)) (same_Some m mail at)
+first_own n (suc k) (m ∷ mails) mail at = first_own n k mails mail at
+
+first_other : (n k i : ℕ) (mails : List InEnd) → i ≢ k → slice_get (put_first n (suc k) mails) i ≡ slice_get (put_first n k mails) i
+first_other n zero i [] apart = refl
+first_other n (suc k) i [] apart = refl
+first_other n zero zero (m ∷ mails) apart = absurd (apart refl)
+first_other n zero (suc i) (m ∷ mails) apart = refl
+first_other n (suc k) zero (m ∷ mails) apart = refl
+first_other n (suc k) (suc i) (m ∷ mails) apart = first_other n k i mails (λ e. apart (ap suc e))
+
+first_all : (n : ℕ) (mails : List InEnd) → map (having_put n) mails ≡ put_first n (length mails) mails
+first_all n [] = refl
+first_all n (m ∷ mails) = λ j. having_put n m ∷ first_all n mails j
+
+told_all : (w : BuilderWorkState) → having_told w ≡ with_told (length w.mails) w
+told_all w = ap (λ (mails : List InEnd). record w { mails = mails }) (first_all (length w.builder.published.points) w.mails)
 
 module _ (schema : Schema) (room : ℕ) (told : Told) where
   abbrev size : ℕ
@@ -106,6 +137,34 @@ module _ (schema : Schema) (room : ℕ) (told : Told) where
         },
       )
 
+  -- one session more is told, whatever became of the run since the last
+  tell_next : (w : BuilderWorkState) (k : ℕ) (mail : InEnd) (a : RunView) → slice_get w.mails k ≡ Some mail → told.front ≡ w.builder.published → ShowsWork a (with_told k w)
+      → LeadTo schema room a (step.Tell k ∷ step.PutMail k ∷ []) (λ b. ShowsWork b (with_told (suc k) w))
+  tell_next w k mail a found list shows =
+      let n : ℕ = length w.builder.published.points in
+      let here : HasMail a k mail = shows.mails k mail (first_next n k w.mails ∙ found) in
+      let session = here.0 in
+      let at = here.1 in
+      let list_a : told.front ≡ a.builder.published = list ∙ ap (λ (x : BuilderState). x.published) (sym shows.builder) in
+      let same : size ≡ n = ap (λ (p : Known). length p.points) list in
+      let b : RunView = end k a session at list_a in (
+        b,
+        (mid k a session at list_a, is_told k a session at list_a, (b, is_put k a session at list_a, refl)),
+        record {
+          draws = shows.draws;
+          builder = shows.builder;
+          mails = λ i m found_i. ⊎_elim
+              (λ (e : (eqb i k ≡ true) × (i ≡ k)).
+              let found_k : slice_get (put_first n (suc k) w.mails) k ≡ Some m = subst (λ (j : ℕ). slice_get (put_first n (suc k) w.mails) j ≡ Some m) e.1 found_i in
+              let is : having_put n mail ≡ m = same_Some (having_put n mail) m (sym (first_own n k w.mails mail found) ∙ found_k) in
+              subst (λ (j : ℕ). HasMail b j m) (sym e.1) (posted k a session at list_a, at_end k a session at list_a, ap (having_put size) here.2 ∙ (ap (λ (j : ℕ). having_put j mail) same ∙ is)))
+              (λ (e : (eqb i k ≡ false) × (i ≢ k)).
+              let there : HasMail a i m = shows.mails i m (sym (first_other n k i w.mails e.1) ∙ found_i) in
+              (there.0, others k a session at list_a i e.1 ∙ there.1, there.2))
+              (eqb_tells i k);
+        },
+      )
+
   answering : {E : Type 0} (a : RunView) (w : BuilderWorkState) (answer : Result Taken E) → ShowsWork a w → told.front ≡ w.builder.published
       → (b : RunView) × AreRunSteps schema room a (answer_steps answer w.mails) b × ShowsWork b (having_answered answer w)
   answering a w (Ok Kept) shows list = (a, refl, shows)
@@ -162,3 +221,62 @@ module _ (schema : Schema) (room : ℕ) where
 
 pub work_is_steps : WorkIsSteps
 work_is_steps schema room a before after shows draws s rest front told list = work_runs schema room a before after shows draws s rest front told list
+
+-- the end draws for the builder after a step too
+
+draws_answered : {E : Type 0} (answer : Result Taken E) (w : BuilderWorkState) → DrawsFor w.draws w.builder → DrawsFor (having_answered answer w).draws (having_answered answer w).builder
+draws_answered (Ok Kept) w draws = draws
+draws_answered (Ok (Published n)) w draws = draws
+draws_answered (Ok (LastEnd n)) w draws = draws
+draws_answered (Err e) w draws = draws
+
+draws_after : (before after : BuilderWorkState) → work.IsStep before after → DrawsFor before.draws before.builder → DrawsFor after.draws after.builder
+draws_after before after s draws =
+    let drawn : s.next.draws.drawn ≡ before.draws.drawn ++ s.takes.item ∷ [] = ap (λ (d : DrawState). d.drawn) s.takes.drawn in
+    subst (λ (w : BuilderWorkState). DrawsFor w.draws w.builder) (sym s.tells) (draws_answered s.answer s.next (record {
+      taken = s.takes.taken.counted ∙ (ap (λ (items : List Item). items ++ s.takes.item ∷ []) draws.taken ∙ sym drawn);
+      feeders = s.takes.taken.same.feeders ∙ (draws.feeders ∙ sym (ap (λ (d : DrawState). d.feeders) s.takes.drawn));
+      schema = s.takes.taken.same.schema ∙ (draws.schema ∙ sym (ap (λ (d : DrawState). d.schema) s.takes.drawn));
+    }))
+
+module _ (schema : Schema) (room : ℕ) where
+  tells_of : {E : Type 0} (answer : Result Taken E) (next after : BuilderWorkState) → after ≡ having_answered answer next → TellsOf schema room answer next after
+  tells_of (Ok Kept) next after is = is
+  tells_of (Ok (Published n)) next after is = (λ k mail told a found list shows. tell_next schema room told next k mail a found list shows, is ∙ told_all next)
+  tells_of (Ok (LastEnd n)) next after is = (λ k mail told a found list shows. tell_next schema room told next k mail a found list shows, is ∙ told_all next)
+  tells_of (Err e) next after is = is
+
+  makes_steps : (before after : BuilderWorkState) (s : work.IsStep before after) → DrawsFor before.draws before.builder → MakesSteps schema room before after s
+  makes_steps before after s draws = let i = s.takes.item in record {
+    draws = λ a rest shows front.
+        let b : RunView = record a { queue = rest; draws = having_drawn a.draws i } in
+        (b, (b, draw_is_step schema room a rest i front, refl), record { draws = ap (λ (d : DrawState). having_drawn d i) shows.draws; builder = shows.builder; mails = shows.mails });
+    takes = λ a shows.
+        let b : RunView = record a { builder = s.next.builder } in
+        let takes : TakesItem (publishes before.builder i s.answer) a b = record {
+          item = i;
+          drawn = ap (λ (d : DrawState). d.drawn) shows.draws ∙ ap (λ (l : List Item). l ++ i ∷ []) (sym draws.taken ∙ ap (λ (x : BuilderState). x.taken) (sym shows.builder));
+          answer = s.answer;
+          left = s.next.builder;
+          taking = subst (λ (x : BuilderState). IsTaking x i s.answer s.next.builder) (sym shows.builder) s.takes.taken;
+          keeps = s.takes.keeps;
+          is = ap (λ (x : BuilderState). publishes x i s.answer) shows.builder;
+          after = refl;
+        } in (
+          b,
+          (b, take_is_step schema room (publishes before.builder i s.answer) a b takes, refl),
+          record {
+            draws = shows.draws ∙ sym s.takes.drawn;
+            builder = refl;
+            mails = λ k mail found. shows.mails k mail (ap (λ (mails : List InEnd). slice_get mails k) (sym s.takes.mails) ∙ found);
+          },
+        );
+    tells = tells_of s.answer s.next after s.tells;
+  }
+
+  make_steps : (before : BuilderWorkState) (works : List BuilderWorkState) (after : BuilderWorkState) (are : work.AreSteps before works after) → DrawsFor before.draws before.builder → MakeSteps schema room before works after are
+  make_steps before [] after are draws = tt
+  make_steps before (next ∷ works) after are draws = (makes_steps before next are.0 draws, make_steps next works after are.1 (draws_after before next are.0 draws))
+
+pub whole_work_is_steps : WholeWorkIsSteps
+whole_work_is_steps schema room before after draws built = make_steps schema room before built.steps.works after built.steps.each draws

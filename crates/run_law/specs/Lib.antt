@@ -1,7 +1,9 @@
+pub mod Calls
 pub mod Moves
 pub mod RunLaws
 pub mod Standing
 pub mod Steps
 pub mod Turns
 pub mod Views
+pub mod WholeWorks
 pub mod Works

@@ -45,7 +45,8 @@ pub record Draws (item : Item) (a b : RunView) : Type 0 where
   -- the end has drawn it
   pub after : b ≡ record a { queue = rest; draws = having_drawn a.draws item }
 
--- taking the item publishes, where memory is found: an entry that fills the batch, and the last End where something is pending
+-- taking the item publishes, where memory is found: an entry that fills the batch, and the last End where something is
+-- pending
 abbrev pub may_publish : BuilderState → Item → Bool
 may_publish b (One e) = fills_batch b
 may_publish b (End f n) = wants_memory b (End f n)
@@ -135,7 +136,8 @@ pub record Learns (s : ℕ) (a b : RunView) : Type 0 where
 abbrev pub count_all : Query
 count_all = record { verb = Count; region = whole_space; sets = choice.All ∷ choice.All ∷ choice.All ∷ choice.All ∷ []; time = all_bins }
 
--- the query of the machine's look for a line's: its own, or where its verb has no table of the machine that of all, whose shot nobody reads
+-- the query of the machine's look for a line's: its own, or where its verb has no table of the machine that of all,
+-- whose shot nobody reads
 abbrev pub looked : Query → Query
 looked q = if is_drill q.verb then q else count_all
 
@@ -161,7 +163,8 @@ pub record Looks (schema : Schema) (s : ℕ) (q : Query) (a b : RunView) : Type 
   -- what it gives is the table over it
   pub after : b ≡ having_looked schema a s session (looked q) shown
 
--- what is left of the builder once its pair has ended: what was pending is published, and the ended list is what is shown
+-- what is left of the builder once its pair has ended: what was pending is published, and the ended list is what is
+-- shown
 abbrev pub having_ended_pair : BuilderState → Known → BuilderState
 having_ended_pair b ended = record b { journal = b.journal ++ b.pending; pending = []; published = ended }
 

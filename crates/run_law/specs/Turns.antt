@@ -46,14 +46,15 @@ look_steps s (Fault fault word) = []
 abbrev pub LeadTo : Schema → ℕ → RunView → List Step → (RunView → Type 0) → Type 0
 LeadTo schema room a steps Is = (b : RunView) × AreRunSteps schema room a steps b × Is b
 
--- the look leads to the ends after the turn from each run that shows them caught up, and whose pair shows then what the look is shown
+-- the look leads to the ends after the turn from each run that shows them caught up, and whose pair shows then what the
+-- look is shown
 abbrev pub LooksThen : ℕ → ℕ → Parsed → EndsView → EndsView → Type 0
 LooksThen room s p before after = (a : RunView) → ShowsSession a s (caught_up before after) → (asks_look p ≡ true → after.shown ≡ a.builder.published)
     → LeadTo before.schema room a (look_steps s p) (λ b. ShowsSession b s after)
 
--- one turn of a session is a run of these steps: it asks its mailbox and learns what was put last, and then, perhaps after steps
--- of other ends, looks. `AsksOfEnds` is what `Session::turn` ensures of its viewer and mailbox, whatever it answers; where it reads
--- no line it is so of one that asks nothing.
+-- one turn of a session is a run of these steps: it asks its mailbox and learns what was put last, and then, perhaps
+-- after steps of other ends, looks. `AsksOfEnds` is what `Session::turn` ensures of its viewer and mailbox, whatever it
+-- answers; where it reads no line it is so of one that asks nothing.
 abbrev pub TurnIsSteps : Type 0
 TurnIsSteps = (room s : ℕ) (a : RunView) (before after : EndsView) (shows : ShowsSession a s before) (p : Parsed) (turns : AsksOfEnds p before after)
     → IfSome turns.takes.told (IsLastIn shows.session)

@@ -64,7 +64,7 @@ pub record IsNewSession (list : Known) (session : SessionView) : Type 0 where
 pub record IsOpened (schema : Schema) (feeders sessions : ℕ) (run : RunView) : Type 0 where
   -- the ends of a new lane
   pub feeds : run.feeds ≡ new_feeds run.draws.lane schema feeders
-  pub draws : run.draws ≡ draw_state run.draws.lane schema feeders []
+  pub draws : run.draws ≡ draw_state run.draws.lane schema feeders run.draws.room []
   -- nothing is queued
   pub queue : run.queue ≡ []
   -- the builder has published nothing

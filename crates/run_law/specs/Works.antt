@@ -54,7 +54,8 @@ answer_steps (Err e) mails = []
 abbrev pub work_steps : {E : Type 0} → BuilderWorkState → Item → Result Taken E → List Step
 work_steps work item answer = draw_step item ∷ take_step (publishes work.builder item answer) ∷ answer_steps answer work.mails
 
--- one step of the builder's work, which takes the front of the queue and tells what its builder tells, is a run of these steps
+-- one step of the builder's work, which takes the front of the queue and tells what its builder tells, is a run of
+-- these steps
 abbrev pub WorkIsSteps : Type 0
 WorkIsSteps = (schema : Schema) (room : ℕ) (a : RunView) (before after : BuilderWorkState) → ShowsWork a before → DrawsFor before.draws before.builder
     → (s : work.IsStep before after) (rest : List Item) → a.queue ≡ s.takes.item ∷ rest → (told : Told) → told.front ≡ s.next.builder.published

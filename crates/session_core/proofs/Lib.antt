@@ -1,6 +1,7 @@
 pub mod AskedLaws
 mod FinalTranscripts
 mod GainedReplies
+pub mod Lacks
 mod LineServed
 pub mod OwnReplies
 pub mod SoFar

@@ -13,10 +13,10 @@ use Rattle.query_syntax.specs.declared.query.Parsed.{Parsed}
 use Rattle.reply_json.specs.declared.reply.Reply.{Reply}
 use Rattle.session_core.specs.Asked.{asked, asked_then, asks_to_end}
 use Rattle.session_core.specs.Scripts.{is_script_refused}
-use Rattle.session_core.specs.Transcript.{IsTranscript, replies_text}
+use Rattle.session_core.specs.Transcript.{has_lack, IsTranscript, replies_text}
 
--- where the structure's numbers meet this test, over a list of points of which so many were told, and replies may be the
--- line for want of memory or may not
+-- where the structure's numbers meet this test, over a list of points of which so many were told, and replies may be
+-- the line for want of memory or may not
 module _ (schema : Schema) (is_stat : Stat → Type 0) (h : List Point) (told : ℕ) (may_lack : Bool) where
   -- the replies are a transcript for what was asked, and each number is final
   abbrev pub AreReplies : List Parsed → List Reply → Type 0
@@ -34,6 +34,18 @@ module _ (schema : Schema) (is_stat : Stat → Type 0) (h : List Point) (told : 
   abbrev pub GainsFront : Option (List ℕ) → Option (List ℕ) → List Parsed → Type 0
   GainsFront before after asked = (front : List Parsed) × (later : List Parsed) × (asked ≡ front ++ later) × GainsSome before after front
 
+  -- the sink gained the lines of replies of which one is the line for want of memory where one may be
+  abbrev pub GainsNoted : Option (List ℕ) → Option (List ℕ) → List Parsed → Type 0
+  GainsNoted before after asked = (replies : List Reply) × AreReplies asked replies × Gains before after (replies_text replies) × (has_lack replies ≡ may_lack)
+
+  -- it gained a part of the lines of such replies, from the front
+  abbrev pub GainsSomeNoted : Option (List ℕ) → Option (List ℕ) → List Parsed → Type 0
+  GainsSomeNoted before after asked = (replies : List Reply) × AreReplies asked replies × GainsPart before after (replies_text replies) × (has_lack replies ≡ may_lack)
+
+  -- it gained a part of those to a front of what was asked, from the front
+  abbrev pub GainsFrontNoted : Option (List ℕ) → Option (List ℕ) → List Parsed → Type 0
+  GainsFrontNoted before after asked = (front : List Parsed) × (later : List Parsed) × (asked ≡ front ++ later) × GainsSomeNoted before after front
+
 -- What the replies to a script depend on: what a view shows, and how many records were told
 pub record ReplyBasis : Type 0 where
   pub schema : Schema
@@ -48,15 +60,16 @@ pub record ReplyBasis : Type 0 where
 abbrev pub basis : {V C : Type 0} → CubeView.Ghosts V C → V → ℕ → ReplyBasis
 basis members view told = record { schema = members.schema view; numbers = members.numbers view; weight_at = members.weight_at view; seen = members.seen view; told = told }
 
--- by what is shown: each of these holds over every list of points that the view counts
-module _ (of : ReplyBasis) (may_lack : Bool) where
+-- by what is shown, and by whether one of the replies is the line for want of memory: each of these holds over every
+-- list of points that the view counts
+module _ (of : ReplyBasis) (lacked : Bool) where
   -- the sink gained the replies to what was asked
   abbrev pub PutsReplies : Option (List ℕ) → Option (List ℕ) → List Parsed → Type 0
-  PutsReplies before after ps = EachCounted of.weight_at of.seen (λ h. GainsReplies of.schema (λ s. s ≡ of.numbers) h of.told may_lack before after ps)
+  PutsReplies before after ps = EachCounted of.weight_at of.seen (λ h. GainsNoted of.schema (λ s. s ≡ of.numbers) h of.told lacked before after ps)
 
   -- it gained a part of them, from the front
   abbrev pub PutsSome : Option (List ℕ) → Option (List ℕ) → List Parsed → Type 0
-  PutsSome before after ps = EachCounted of.weight_at of.seen (λ h. GainsSome of.schema (λ s. s ≡ of.numbers) h of.told may_lack before after ps)
+  PutsSome before after ps = EachCounted of.weight_at of.seen (λ h. GainsSomeNoted of.schema (λ s. s ≡ of.numbers) h of.told lacked before after ps)
 
   -- a line of this meaning asks for no end, and the sink gained its reply, if it asks for one
   abbrev pub PutsAnswer : Option (List ℕ) → Option (List ℕ) → Parsed → Type 0
@@ -76,7 +89,7 @@ module _ (of : ReplyBasis) (may_lack : Bool) where
 
   -- it gained a part, from the front, of the replies to a front of what the lines ask
   abbrev pub PutsFront : Option (List ℕ) → Option (List ℕ) → List Line → Type 0
-  PutsFront before after lines = EachCounted of.weight_at of.seen (λ h. GainsFront of.schema (λ s. s ≡ of.numbers) h of.told may_lack before after (asked of.schema lines))
+  PutsFront before after lines = EachCounted of.weight_at of.seen (λ h. GainsFrontNoted of.schema (λ s. s ≡ of.numbers) h of.told lacked before after (asked of.schema lines))
 
   -- it gained the replies to all that a script asks, where its bytes are told; and the script is not refused
   abbrev pub AnswersScript : Option (List ℕ) → Option (List ℕ) → Option (List ℕ) → Type 0

@@ -24,16 +24,10 @@ line_meaning schema Long = Fault LongLine 1
 module _ (stat : Stat) (schema : Schema) (h : List Point) (told : ℕ) where
   -- the reply to a query of a verb; none to `quit`
   abbrev pub query_reply : Query → Verb → Option Reply
-  query_reply q verb.Count = Some (Reply.Table (table schema q h))
-  query_reply q (verb.Hist k) = Some (Reply.Table (table schema q h))
-  query_reply q (verb.Map down) = Some (Reply.Table (table schema q h))
-  query_reply q (verb.Series from wide rows) = Some (Reply.Table (table schema q h))
-  query_reply q (verb.Window rect) = Some (Reply.Table (table schema q h))
-  query_reply q (verb.Cross k l) = Some (Reply.Table (table schema q h))
-  query_reply q (verb.Best down rows) = Some (Reply.Table (table schema q h))
   query_reply q verb.Stat = Some (Reply.Stat stat (length h))
   query_reply q verb.Told = Some (Reply.Told told)
   query_reply q verb.Quit = None
+  query_reply q other = Some (Reply.Table (table schema q h))
 
   -- the reply to what a line means; none to a line that asks nothing
   abbrev pub asked_reply : Parsed → Option Reply
@@ -47,16 +41,8 @@ reply_line reply = reply_text reply ++ 10 ∷ []
 
 -- the verb ends the session
 abbrev pub ends : Verb → Bool
-ends verb.Count = false
-ends (verb.Hist k) = false
-ends (verb.Map down) = false
-ends (verb.Series from wide rows) = false
-ends (verb.Window rect) = false
-ends (verb.Cross k l) = false
-ends (verb.Best down rows) = false
-ends verb.Stat = false
-ends verb.Told = false
 ends verb.Quit = true
+ends other = false
 
 -- the line asks to end the session
 abbrev pub asks_to_end : Parsed → Bool
@@ -72,16 +58,9 @@ asks_reply (Fault fault word) = true
 
 -- the verb asks for what a look at the view shows: a table, or the structure's numbers
 abbrev pub is_look : Verb → Bool
-is_look verb.Count = true
-is_look (verb.Hist k) = true
-is_look (verb.Map down) = true
-is_look (verb.Series from wide rows) = true
-is_look (verb.Window rect) = true
-is_look (verb.Cross k l) = true
-is_look (verb.Best down rows) = true
-is_look verb.Stat = true
 is_look verb.Told = false
 is_look verb.Quit = false
+is_look other = true
 
 -- the line asks for a look at the view
 abbrev pub asks_look : Parsed → Bool

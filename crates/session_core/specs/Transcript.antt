@@ -1,5 +1,5 @@
 -- The transcript of a session: the replies to what it was asked, while the list of points grew.
-use Rattle.std.specs.Prelude.{◌≡◌, ℕ, ◌≤◌, ◌⊎◌, max, Bool, true, false, List, [], ◌∷◌, length, take, Some, unwrap_or, ⊤}
+use Rattle.std.specs.Prelude.{◌≡◌, ℕ, ◌≤◌, ◌⊎◌, max, Bool, true, false, ◌||◌, List, [], ◌∷◌, length, take, Some, unwrap_or, ⊤}
 use Rattle.std.specs.List.{flat_map}
 use Rattle.cube_view.specs.Points.{Point}
 use Rattle.cube_view.specs.declared.schema.Schema.{Schema}
@@ -22,6 +22,16 @@ told_in reply = unwrap_or (told_of reply) 0
 abbrev pub stat_in : Reply → Stat
 stat_in (Reply.Stat stat seen) = stat
 stat_in reply = record { nodes = 0; tables = 0; proper = 0; shared = 0 }
+
+-- the reply is the line for want of memory
+abbrev pub is_lack : Reply → Bool
+is_lack Reply.NoMemory = true
+is_lack reply = false
+
+-- that line is among the replies
+abbrev pub has_lack : List Reply → Bool
+has_lack [] = false
+has_lack (reply ∷ replies) = is_lack reply || has_lack replies
 
 -- a number is at most the most there is; a final one is all there is
 abbrev pub IsUpTo : Bool → ℕ → ℕ → Type 0

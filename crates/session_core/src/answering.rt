@@ -9,8 +9,8 @@ ghost use Rattle.outer_io.specs.Progress.{IsGoing, IsWithinLimit};
 ghost use Rattle.outer_io.specs.Told.{Told};
 ghost use Rattle.probe_core.specs.Blanks.{IsBlankOf};
 ghost use Rattle.query_syntax.specs.Meaning.{asks_valid};
-ghost use Rattle.session_core.specs.Answered.{AnswersScript, PutsAll, PutsAnswer, PutsFront, PutsSomeAnswer, RefusesScript, basis};
-ghost use Rattle.session_core.specs.Answering.{AnswersNext, AnswersPart, CountsFaults, OnTooMuch, OnWrite, RefusesLeft};
+ghost use Rattle.session_core.specs.Answered.{AnswersScript, PutsAll, PutsFront, RefusesScript, basis};
+ghost use Rattle.session_core.specs.Answering.{AnswersNext, AnswersPart, CountsFaults, NotesAnswer, NotesPart, OnTooMuch, OnWrite, PutsNothing, RefusesLeft};
 ghost use Rattle.session_core.specs.Asked.{asks_reply, asks_to_end};
 ghost use Rattle.session_core.specs.Scripts.{has_quit};
 ghost use Rattle.session_core.specs.Serving.{ServesOver};
@@ -72,7 +72,7 @@ fn put_line<O: Sink>(line: &[u8], out: &mut O) -> Result<(), SessionFault>
 }
 
 /// Puts the answer to what a line means, in one put, and says whether the script goes on. A reply that finds no memory
-/// is the line that says so. The memory of `room` is used from reply to reply.
+/// is the line that says so, which `lacked` notes. The memory of `room` is used from reply to reply.
 fn put_answer<V: CubeView, O: Sink>(
     alloc: Global,
     view: &V,
@@ -83,13 +83,13 @@ fn put_answer<V: CubeView, O: Sink>(
     out: &mut O,
 ) -> Result<bool, SessionFault>
     requires { IsTrue (asks_valid (V.schema view.now) parsed.now) × (told ≤ V.seen view.now) }
-    ensures goes_on { result ≡ Ok true → PutsAnswer (basis V.CubeView view.now told) lacked.new (O.held out.old) (O.held out.new) parsed.now }
-    ensures stops { result ≡ Ok false → (asks_to_end parsed.now ≡ true) × (O.held out.new ≡ O.held out.old) }
-    ensures breaks_off { OnWrite result (PutsSomeAnswer (basis V.CubeView view.now told) lacked.new (O.held out.old) (O.held out.new) parsed.now) }
-    ensures nothing { (fault : SessionFault) → result ≡ Err fault → fault ≢ SessionFault.Write → O.held out.new ≡ O.held out.old }
+    ensures goes_on { result ≡ Ok true → NotesAnswer O.held out.old out.new lacked.old lacked.new (basis V.CubeView view.now told) parsed.now }
+    ensures stops { result ≡ Ok false → (asks_to_end parsed.now ≡ true) × PutsNothing O.held out.old out.new lacked.old lacked.new }
+    ensures breaks_off { OnWrite result (NotesPart O.held out.old out.new lacked.old lacked.new (basis V.CubeView view.now told) parsed.now) }
+    ensures nothing { (fault : SessionFault) → result ≡ Err fault → fault ≢ SessionFault.Write → PutsNothing O.held out.old out.new lacked.old lacked.new }
     ensures write { HasCause (O.faults out.old) (O.faults out.new) result SessionFault.Write }
     ensures others { (result ≢ Err SessionFault.Read) × (result ≢ Err SessionFault.TooMuch) }
-    ensures stays { (O.name out.new ≡ O.name out.old) × (lacked.old ≡ true → lacked.new ≡ true) }
+    ensures name { O.name out.new ≡ O.name out.old }
 {
     match serve_in::<V, Brand>(alloc, view, told, parsed, Blank::new(1), room) {
         Ok(Served::Skipped) => Ok(true),
@@ -99,11 +99,17 @@ fn put_answer<V: CubeView, O: Sink>(
             *room = line;
             Ok(true)
         }
-        Err(NoMemory) => {
-            *lacked = true;
-            put_line(no_memory_line().as_bytes(), out)?;
-            Ok(true)
-        }
+        Err(NoMemory) => match out.put(no_memory_line().as_bytes()) {
+            Ok(()) => {
+                *lacked = true;
+                Ok(true)
+            }
+            Err(IoFault::Failed) => {
+                *lacked = true;
+                Err(SessionFault::Write)
+            }
+            Err(IoFault::NoMemory) => Err(SessionFault::NoMemory),
+        },
     }
 }
 
@@ -118,13 +124,13 @@ fn answer_next<V: CubeView, S: Source, O: Sink>(
     out: &mut O,
 ) -> Result<bool, SessionFault>
     requires { IsGoing cutter.old × (told ≤ V.seen view.now) }
-    ensures goes_on { result ≡ Ok true → AnswersNext (basis V.CubeView view.now told) lacked.new S.Source cutter.old cutter.new (O.held out.old) (O.held out.new) }
-    ensures stops { result ≡ Ok false → Stops S.left S.faults (V.schema view.now) cutter.old cutter.new × (O.held out.new ≡ O.held out.old) }
-    ensures breaks_off { OnWrite result (AnswersPart (basis V.CubeView view.now told) lacked.new S.Source cutter.old cutter.new (O.held out.old) (O.held out.new)) }
-    ensures nothing { (fault : SessionFault) → result ≡ Err fault → fault ≢ SessionFault.Write → O.held out.new ≡ O.held out.old }
+    ensures goes_on { result ≡ Ok true → AnswersNext O.held out.old out.new lacked.old lacked.new (basis V.CubeView view.now told) S.Source cutter.old cutter.new }
+    ensures stops { result ≡ Ok false → Stops S.left S.faults (V.schema view.now) cutter.old cutter.new × PutsNothing O.held out.old out.new lacked.old lacked.new }
+    ensures breaks_off { OnWrite result (AnswersPart O.held out.old out.new lacked.old lacked.new (basis V.CubeView view.now told) S.Source cutter.old cutter.new) }
+    ensures nothing { (fault : SessionFault) → result ≡ Err fault → fault ≢ SessionFault.Write → PutsNothing O.held out.old out.new lacked.old lacked.new }
     ensures too_much { IsErrOf result SessionFault.TooMuch → IsTooMuch S.left cutter.old }
     ensures causes { CountsFaults S.faults O.faults cutter.old cutter.new out.old out.new result }
-    ensures stays { (O.name out.new ≡ O.name out.old) × (lacked.old ≡ true → lacked.new ≡ true) }
+    ensures name { O.name out.new ≡ O.name out.old }
 {
     let mut parsed = Parsed::Skip;
     if !next_asked(view.schema(), cutter, &mut parsed)? {
@@ -134,10 +140,10 @@ fn answer_next<V: CubeView, S: Source, O: Sink>(
 }
 
 /// Answers the lines that are left, up to the first `quit`, over any list of points that the view counts; `told` is
-/// the told length. A reply that finds no memory is the line that says so, and the answers go on; that one did is told
+/// the told length. A reply that finds no memory is the line that says so, and the answers go on; that one was is told
 /// by `lacked`. Where the end is `Ok` all lines are answered, and so they are where too much is left: more than 2^30
-/// bytes, and no `quit`. With any other fault a part of the replies, from the front, is put; with `NoMemory` a line, its
-/// meaning or the sink found none.
+/// bytes, and no `quit`. With any other fault a part of the replies, from the front, is put; with `NoMemory` a line,
+/// its meaning or the sink found none.
 pub fn answer_lines<V: CubeView, S: Source, O: Sink>(
     alloc: Global,
     view: &V,

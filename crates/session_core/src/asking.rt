@@ -12,8 +12,8 @@ use cube_view::Schema;
 use outer_io::{Cut, CutFault, LineCutter, Source};
 use query_syntax::{Parsed, QueryFault, parse_into};
 
-/// Puts what the next line means into `parsed`, and says whether there was one: `false` is the end of the script. After any
-/// fault but want of memory the cutter gives no further line.
+/// Puts what the next line means into `parsed`, and says whether there was one: `false` is the end of the script. After
+/// any fault but want of memory the cutter gives no further line.
 pub fn next_asked<S: Source>(
     schema: &Schema,
     cutter: &mut LineCutter<S>,

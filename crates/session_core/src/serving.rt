@@ -3,10 +3,7 @@ ghost use Rattle.std.specs.Prelude.{◌≡◌, ◌+◌, ◌≤◌, List, true, f
 ghost use Rattle.cube_view.specs.Points.{Point};
 ghost use Rattle.cube_view.specs.declared.schema.Schema.{Schema};
 ghost use Rattle.cube_view.specs.declared.stat.Stat.{Stat};
-ghost use Rattle.cube_view.specs.Bag.{EachCounted};
 ghost use Rattle.query_syntax.specs.Meaning.{asks_valid};
-ghost use Rattle.query_syntax.specs.Queries.{is_valid_query};
-ghost use Rattle.query_syntax.specs.Tables.{has_table, table};
 ghost use Rattle.reply_json.specs.Types.{ReplyFits};
 ghost use Rattle.reply_json.specs.Validity.{is_valid_reply};
 ghost use Rattle.session_core.specs.Answered.{basis};
@@ -16,7 +13,7 @@ ghost use Rattle.session_core.specs.Serving.{Serves, ServesOver, ServesWithin};
 use cross_table::{best_answer, cross_answer};
 use cube_view::CubeView;
 use probe_core::Steps;
-use query_syntax::{Parsed, Query, Table, Verb};
+use query_syntax::{Parsed, Verb};
 use reply_json::{Reply, print_reply_in};
 use std::alloc::Global;
 use std::mem::replace;
@@ -43,47 +40,6 @@ fn line_of(alloc: Global, reply: &Reply, room: &mut List<u8>) -> Result<Served, 
     let mut line = print_reply_in(replace(room, List::new(alloc)), reply)?;
     line.add(b'\n')?;
     Ok(Served::Reply(line))
-}
-
-// The table that a query asks for.
-fn table_in<V: CubeView, L: Ledger>(
-    alloc: Global,
-    view: &V,
-    query: &Query,
-    steps: &mut Steps<L>,
-) -> Result<Table, NoMemory>
-    requires valid { IsTrue (is_valid_query (V.schema view.now) query.now) }
-    requires verb { IsTrue (has_table query.now.verb) }
-    ensures table { EachCounted (V.weight_at view.now) (V.seen view.now) (λ h. IfOk result (λ t. t ≡ table (V.schema view.now) query.now h)) }
-    ensures cost { ServesWithin V.CubeView view.now (Parsed.Ask query.now) steps.old steps.new }
-{
-    match query.verb {
-        Verb::Count | Verb::Hist(_) | Verb::Map(_) | Verb::Series { .. } => {
-            answer(alloc, view, query, steps)
-        }
-        Verb::Window(_) => window_answer(alloc, view, query, steps),
-        Verb::Cross(_, _) => cross_answer(alloc, view, query, steps),
-        Verb::Best { .. } => best_answer(alloc, view, query, steps),
-        Verb::Stat | Verb::Told | Verb::Quit => unreachable!(),
-    }
-}
-
-// The line of a query's table.
-fn serve_table<V: CubeView, L: Ledger>(
-    alloc: Global,
-    view: &V,
-    told: u64,
-    query: &Query,
-    steps: &mut Steps<L>,
-    room: &mut List<u8>,
-) -> Result<Served, NoMemory>
-    requires valid { IsTrue (is_valid_query (V.schema view.now) query.now) }
-    requires verb { IsTrue (has_table query.now.verb) }
-    ensures served { ServesOver (basis V.CubeView view.now told) (Parsed.Ask query.now) result }
-    ensures cost { ServesWithin V.CubeView view.now (Parsed.Ask query.now) steps.old steps.new }
-{
-    let table = table_in(alloc, view, query, steps)?;
-    line_of(alloc, &Reply::Table(table), room)
 }
 
 // The line of the structure's numbers.
@@ -119,34 +75,6 @@ pub fn serve_unseen(
     }
 }
 
-// The answer to a query.
-#[tactic(auto, unfolding(reply_json::specs::Validity::is_valid_reply))]
-fn serve_query<V: CubeView, L: Ledger>(
-    alloc: Global,
-    view: &V,
-    told: u64,
-    query: &Query,
-    steps: &mut Steps<L>,
-    room: &mut List<u8>,
-) -> Result<Served, NoMemory>
-    requires { IsTrue (is_valid_query (V.schema view.now) query.now) }
-    ensures served { ServesOver (basis V.CubeView view.now told) (Parsed.Ask query.now) result }
-    ensures cost { ServesWithin V.CubeView view.now (Parsed.Ask query.now) steps.old steps.new }
-    ensures no_memory { OnErr result (asks_reply (Parsed.Ask query.now) ≡ true) }
-{
-    match query.verb {
-        Verb::Count
-        | Verb::Hist(_)
-        | Verb::Map(_)
-        | Verb::Series { .. }
-        | Verb::Window(_)
-        | Verb::Cross(_, _)
-        | Verb::Best { .. } => serve_table(alloc, view, told, query, steps, room),
-        Verb::Stat => serve_stat(alloc, view, room),
-        Verb::Told | Verb::Quit => serve_unseen(alloc, told, &Parsed::Ask(*query), room),
-    }
-}
-
 /// The answer to what a line means, over any list of points that the view counts; `told` is the told length. A table
 /// takes at most the steps of its bound, every other line none. `NoMemory` only where the line asks for a reply.
 ///
@@ -166,8 +94,27 @@ pub fn serve<V: CubeView, L: Ledger>(
     ensures cost { ServesWithin V.CubeView view.now parsed.now steps.old steps.new }
     ensures no_memory { OnErr result (asks_reply parsed.now ≡ true) }
 {
-    match parsed {
-        Parsed::Ask(query) => serve_query(alloc, view, told, query, steps, room),
-        Parsed::Skip | Parsed::Fault(..) => serve_unseen(alloc, told, parsed, room),
+    let Parsed::Ask(query) = parsed else {
+        return serve_unseen(alloc, told, parsed, room);
+    };
+    match query.verb {
+        Verb::Count | Verb::Hist(_) | Verb::Map(_) | Verb::Series { .. } => {
+            let table = answer(alloc, view, query, steps)?;
+            line_of(alloc, &Reply::Table(table), room)
+        }
+        Verb::Window(_) => {
+            let table = window_answer(alloc, view, query, steps)?;
+            line_of(alloc, &Reply::Table(table), room)
+        }
+        Verb::Cross(..) => {
+            let table = cross_answer(alloc, view, query, steps)?;
+            line_of(alloc, &Reply::Table(table), room)
+        }
+        Verb::Best { .. } => {
+            let table = best_answer(alloc, view, query, steps)?;
+            line_of(alloc, &Reply::Table(table), room)
+        }
+        Verb::Stat => serve_stat(alloc, view, room),
+        Verb::Told | Verb::Quit => serve_unseen(alloc, told, parsed, room),
     }
 }

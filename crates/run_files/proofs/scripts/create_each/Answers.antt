@@ -1,7 +1,7 @@
 use Rattle.std.proofs.Common.{◌≡◌, ◌≤◌, ◌+◌, ◌∙◌, ℕ, List, [], ◌∷◌, ◌++◌, length, take, drop, map, All, Err, Some, None, sym, ap, subst}
 use Rattle.std.specs.List.{AllZip}
 use Rattle.std.specs.Prelude.{codes}
-use Rattle.std.proofs.lemmas.List.{append-nil, map-append}
+use Rattle.std.proofs.lemmas.List.{append-nil, map-append, take_all}
 use Rattle.std.proofs.lemmas.List.Elements.{All-nil, All-push}
 use Rattle.cube_schema.specs.Repeats.{outputs}
 use Rattle.run_files.proofs.Apart.{none_not_some, same_stop}
@@ -58,6 +58,10 @@ returns-in_err-sink-clause-opens g c =
     ∙ (map-append (λ (n : List ℕ). n ++ codes ".out") (first ++ script ∷ []) (drop (c.loop-script.script-index + 1) c.args.scripts.now) ∙ ap (λ front. front ++ outputs (drop (c.loop-script.script-index + 1) c.args.scripts.now)) (map-append (λ (n : List ℕ). n ++ codes ".out") first (script ∷ []))))
     c.from_residual.ensures.1
     (scripts_and_creates p c.args.place.now c.loop-script.place c.create_output.new.place [] (outputs first) (name ∷ []) (Some c.in_err-sink.field-0.0) (λ e. c.in_err-sink.ensures.no_read (ap (λ k. Err k) (same_stop _ _ e))) c.loop-script.invariant.0 c.in_err-sink.ensures.opens)
+
+pub returns-clause-opens : goal.returns-clause-opens
+returns-clause-opens g c =
+    subst (λ (scripts : List (List ℕ)). OpensScripts (of_place g.P.Place) c.args.place.now c.loop-script.place [] (outputs scripts) None) (take_all c.loop-script.script-index c.args.scripts.now c.loop-script-test.false) c.loop-script.invariant.0
 
 pub returns-in_err-sink-clause-names : goal.returns-in_err-sink-clause-names
 returns-in_err-sink-clause-names g c =

@@ -1,5 +1,6 @@
 use Rattle.std.proofs.Common.{◌≡◌, ◌≤◌, ◌+◌, ◌∙◌, ℕ, List, [], ◌∷◌, ◌++◌, length, take, drop, All, Some, None, sym, ap, subst}
 use Rattle.std.specs.List.{AllZip}
+use Rattle.std.proofs.lemmas.List.{take_all}
 use Rattle.std.proofs.lemmas.List.Elements.{All-nil, All-push}
 use Rattle.outer_io.specs.declared.cutter.LineCutter.{LineCutter}
 use Rattle.run_files.proofs.Lists.{name_more, name_split}
@@ -46,3 +47,7 @@ returns-in_err-script-clause-opens g c =
     scripts_residual p c.args.place.now c.open_script.new.place c.args.names.now (first ++ name ∷ []) (drop (c.loop-name.name-index + 1) c.args.names.now) [] c.from_residual.result c.in_err-script.field-0.0
     (name_split c.args.names.now c.loop-name.name-index c.name-item.result name c.loop-name-test.true c.name-item.is c.as_str.ensures) c.from_residual.ensures.1
     (scripts_then p c.args.place.now c.loop-name.place c.open_script.new.place first (name ∷ []) [] (Some c.in_err-script.field-0.0) c.loop-name.invariant.0 c.in_err-script.ensures.opens)
+
+pub returns-clause-opens : goal.returns-clause-opens
+returns-clause-opens g c =
+    subst (λ (names : List (List ℕ)). OpensScripts (of_place g.P.Place) c.args.place.now c.loop-name.place names [] None) (take_all c.loop-name.name-index c.args.names.now c.loop-name-test.false) c.loop-name.invariant.0

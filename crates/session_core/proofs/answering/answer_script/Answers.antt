@@ -1,4 +1,3 @@
-use Rattle.std.proofs.Common.{false}
 use Rattle.outer_io.specs.Lines.{lines}
 use Rattle.outer_io.proofs.ProgressLaws.{of_lines}
 use Rattle.session_core.specs.Answered.{PutsAll, PutsFront, basis}
@@ -30,4 +29,4 @@ returns-in-Ok-clause-too_much g c e =
 
 pub returns-in-Err-clause-part : goal.returns-in-Err-clause-part
 returns-in-Err-clause-part g c =
-    told_by (g.S.Source.left c.args.source) _ (λ script told. part_none (basis g.V.CubeView c.args.view.now c.args.told) false g.S.Source.left g.S.Source.faults c.requires (g.O.Sink.held c.args.out.now) (lines script))
+    told_by (g.S.Source.left c.args.source) _ (λ script told. part_none (basis g.V.CubeView c.args.view.now c.args.told) g.S.Source.left g.S.Source.faults c.requires (g.O.Sink.held c.args.out.now) (lines script))

@@ -1,12 +1,6 @@
-use Rattle.std.proofs.Common.{sym, ◌∙◌}
-use Rattle.builder_core.proofs.WorkRuns.{has_run-none, has_run-step, is_built}
+use Rattle.std.proofs.Common.{subst}
+use Rattle.builder_core.specs.Built.{IsBuilt}
 use Rattle.builder_core.proofs.work.BuilderWorkOf+Of+V.run.Goals as goal
 
-pub loop-init : goal.loop-init
-loop-init g c = has_run-none c.args.self.now c.requires
-
-pub loop-preserved : goal.loop-preserved
-loop-preserved g c = has_run-step c.args.self.now c.loop.self c.step.new.self c.loop.invariant c.step.ensures (sym c.has_ended.ensures.test ∙ c.if-has_ended.false)
-
-pub returns-then-has_ended : goal.returns-then-has_ended
-returns-then-has_ended g c = is_built c.args.self.now c.loop.self c.step.new.self c.loop.invariant c.step.ensures (sym c.has_ended.ensures.test ∙ c.if-has_ended.true) (c.has_ended.ensures.each.0 c.if-has_ended.true)
+pub returns : goal.returns
+returns g c = subst (λ w. IsBuilt w c.run_on.new.self) c.begun-start.ensures.value c.run_on.ensures

@@ -1,4 +1,5 @@
-use Rattle.std.proofs.Common.{◌∙◌, sym, refl, arith, rules, true, false}
+use Rattle.std.proofs.Common.{◌∙◌, Result, Ok, Err, sym, subst, refl, arith, rules, true, false}
+use Rattle.std.specs.Prelude.{IsOk}
 use Rattle.std.proofs.lemmas.Bool.{false≢true}
 use Rattle.live_session.specs.News.{news_of}
 use Rattle.live_session.specs.Saying.{IsShownTo}
@@ -8,6 +9,8 @@ use Rattle.live_session.proofs.RunSteps.{costs_at_end, took_nothing, took_on}
 use Rattle.live_session.proofs.SessionRuns.{after_turn, all_ended, all_too_much, answered_on, done_fault, has_ended, mail_same, some_on}
 use Rattle.live_session.proofs.SoFarLaws.{answered_nothing}
 use Rattle.live_session.specs.State.{ends_of}
+use Rattle.live_session.specs.declared.turn.Turn.{Turn}
+use Rattle.session_core.specs.declared.fault.SessionFault.{SessionFault}
 use Rattle.session_core.proofs.SoFar.{fault_is}
 use Rattle.live_session.proofs.session.Session.run.Goals as goal
 
@@ -26,7 +29,7 @@ turns-init g c = record {
     learns = learns_nothing c.args.viewer.learned c.args.mail.now c.args.mail.now refl;
     name = refl;
   };
-  took = took_nothing g.I.Source g.V.CubeView c.args.viewer.schema c.args.self.now.source c.args.steps.now c.args.viewer.shown.points;
+  took = took_nothing g.I.Source c.args.viewer c.args.self.now.source c.args.steps.now;
 }
 
 pub turns-preserved : goal.turns-preserved
@@ -40,8 +43,8 @@ turns-preserved g c =
     turn.turned.turned turn.faults turn.viewer.0 turn.costs.mail turn.so_far turn.finals in
     record {
       between = between;
-      took = took_on g.I.Source g.V.CubeView c.args.viewer.schema c.args.self.now.source c.args.steps.now c.turns.viewer.shown.points after.shown.points c.turns.self.source c.turn-after.new.self.source c.turns.steps c.turn-after.new.steps after.shown_view.value after.schema (turn.viewer.0.same_schema ∙ was.between.viewer.same_schema) turn.viewer.0.goes.seen was.took
-          (λ ended. absurd (false≢true (sym between.going ∙ ended)))
+      took = took_on g.I.Source c.args.viewer c.args.self.now.source c.args.steps.now c.turns.viewer after c.turns.self.source c.turn-after.new.self.source c.turns.steps c.turn-after.new.steps turn.viewer.0 was.took
+          (λ none. absurd (false≢true (sym between.going ∙ none.0)))
           turn.costs.steps;
     }
 
@@ -127,10 +130,10 @@ pub returns-in-Ok-Ended-clause-costs : goal.returns-in-Ok-Ended-clause-costs
 returns-in-Ok-Ended-clause-costs g c =
     let turn = c.turn-after.ensures in
     let was = c.turns.invariant in
-    costs_at_end g.I.Source g.V.CubeView c.turn-after.result.0 c.args.viewer.schema c.args.self.now.source c.turns.self.source c.turn-after.new.self.source c.args.steps.now c.turns.steps c.turn-after.new.steps c.turns.viewer.shown.points (turn.viewer.0.same_schema ∙ was.between.viewer.same_schema) turn.viewer.0.goes.seen was.took turn.costs.steps
+    costs_at_end g.I.Source c.args.viewer c.args.self.now.source c.args.steps.now {T = Unit {0}} (Ok tt) c.turns.viewer c.turn-after.result.0 c.turns.self.source c.turn-after.new.self.source c.turns.steps c.turn-after.new.steps (λ ok. subst (λ (r : Result Turn SessionFault). IsOk r) (sym c.in-Ok-Ended.is) refl) turn.viewer.0 was.took turn.costs.steps
 
 pub returns-in-Err-clause-costs : goal.returns-in-Err-clause-costs
 returns-in-Err-clause-costs g c =
     let turn = c.turn-after.ensures in
     let was = c.turns.invariant in
-    costs_at_end g.I.Source g.V.CubeView c.turn-after.result.0 c.args.viewer.schema c.args.self.now.source c.turns.self.source c.turn-after.new.self.source c.args.steps.now c.turns.steps c.turn-after.new.steps c.turns.viewer.shown.points (turn.viewer.0.same_schema ∙ was.between.viewer.same_schema) turn.viewer.0.goes.seen was.took turn.costs.steps
+    costs_at_end g.I.Source c.args.viewer c.args.self.now.source c.args.steps.now {T = Unit {0}} (Err c.in-Err.fault) c.turns.viewer c.turn-after.result.0 c.turns.self.source c.turn-after.new.self.source c.turns.steps c.turn-after.new.steps (λ ok. absurd (false≢true ok)) turn.viewer.0 was.took turn.costs.steps

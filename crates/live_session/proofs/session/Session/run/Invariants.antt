@@ -11,7 +11,7 @@ invariant-turns g l =
       between : BetweenTurns (ends_of g.I.Source g.O.Sink) g.V.CubeView.is_stat
           l.initial.viewer.shown l.initial.viewer.learned l.initial.viewer.last l.initial.viewer.schema l.initial.mail l.initial.self
           l.viewer.shown l.viewer.learned l.viewer.last l.viewer.schema l.mail l.self;
-      took : TookSoFar g.I.Source g.V.CubeView l.initial.viewer.schema l.initial.self.source l.initial.steps l.viewer.shown.points l.self.source l.steps;
+      took : TookSoFar g.I.Source l.initial.viewer l.initial.self.source l.initial.steps l.viewer l.self.source l.steps;
     }
 
 abbrev pub decreases-turns : goal.decreases-turns

@@ -13,6 +13,7 @@ use Rattle.outer_io.specs.Progress.{Passes}
 use Rattle.query_syntax.specs.Meaning.{asks_valid}
 use Rattle.query_syntax.specs.declared.query.Parsed.{Parsed}
 use Rattle.session_core.specs.Asked.{line_meaning}
+use Rattle.session_core.specs.Turns.{PassesLine}
 use Rattle.session_core.proofs.SoFar.{fault_is}
 use Rattle.live_session.proofs.TurnLaws.{Keeps, breaks_off, turned_answered, turned_end, turned_ended}
 use Rattle.live_session.proofs.session.Session.turn.Goals as goal
@@ -147,7 +148,7 @@ returns-in-Ok-Some-clause-costs g c =
       mail = may_ask p c.args.viewer.shown c.args.viewer.learned c.args.viewer.last c.args.mail.now viewer.shown viewer.learned c.answer_line-viewer.new.mail line.goes;
       steps = inr (
         reads.0,
-        subst (λ s. Passes g.I.Source.left g.I.Source.faults c.args.self.now.source s (reads.0 ∷ [])) (sym c.finish-turn.ensures.source) reads.1.passed,
+        subst (λ (z : Schema). PassesLine g.I.Source.left g.I.Source.faults z c.args.self.now.source c.finish-turn.new.self.source reads.0) (sym line.same.1) (subst (λ s. PassesLine g.I.Source.left g.I.Source.faults c.args.viewer.schema c.args.self.now.source s reads.0) (sym c.finish-turn.ensures.source) reads.1),
         subst (λ (z : Schema). TakesSteps g.V.CubeView viewer.shown_view.value z viewer.shown.points (line_meaning z reads.0) c.args.steps.now c.answer_line-viewer.new.steps) (sym line.same.1) (subst (λ (m : Parsed). TakesSteps g.V.CubeView viewer.shown_view.value c.args.viewer.schema viewer.shown.points m c.args.steps.now c.answer_line-viewer.new.steps) reads.2 line.steps),
       );
     }
