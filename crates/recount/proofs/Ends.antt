@@ -1,6 +1,7 @@
 -- How an audit ends, by how its stages ended.
-use Rattle.std.proofs.Common.{◌≡◌, ◌≢◌, ◌⊎◌, ℕ, ◌≤◌, List, [], ◌∷◌, length, Option, Some, None, Result, Ok, Err, inl, inr, refl, sym, ◌∙◌, ap, subst, arith}
+use Rattle.std.proofs.Common.{◌≡◌, ◌≢◌, ◌⊎◌, ℕ, ◌≤◌, List, [], ◌∷◌, ◌++◌, length, length-append, Option, Some, None, Result, Ok, Err, inl, inr, refl, sym, ◌∙◌, ap, subst, arith}
 use Rattle.std.specs.Prelude.{IsOk, is_ok}
+use Rattle.std.specs.Result.{result_err}
 use Rattle.cube_schema.specs.Meaning.{plan_meaning}
 use Rattle.cube_schema.specs.declared.fault.PlanFault.{PlanFault}
 use Rattle.cube_schema.specs.declared.plan.Plan.{Plan}
@@ -10,15 +11,15 @@ use Rattle.run_files.proofs.Apart.{err_is, ok_not_err, same_stop, stopped}
 use Rattle.run_files.proofs.Fronts.{no_fault}
 use Rattle.run_files.proofs.PlanReads.{plan_end}
 use Rattle.run_files.proofs.SinkPuts.{fails_after, puts_after, silent_after}
-use Rattle.run_files.proofs.Stages.{leaves_ended, leaves_more, leaves_then, nothing_made, same_created, same_files}
-use Rattle.run_files.specs.Leaving.{LeavesPlace}
+use Rattle.run_files.proofs.Stages.{fails_on, leaves_ended, leaves_more, leaves_then, nothing_made, same_created, same_files}
+use Rattle.run_files.specs.Leaving.{FailsAtLast, LeavesPlace}
 use Rattle.run_files.specs.Outside.{FailsToPut, file_of, PlaceSeen, Silent, SinkSeen}
 use Rattle.run_files.specs.Planned.{IsPlanOf, ReadsPlan}
 use Rattle.run_files.specs.declared.stop.Stop.{Stop}
 use Rattle.run_files.specs.declared.stop.Stop.TheVariants.{NoMemory, PlanRefused, ReadFault, WriteFault, FeedRefused}
 use Rattle.recount.specs.declared.verdict.Verdict.{Verdict}
-use Rattle.recount.proofs.AuditTexts.{told_of}
-use Rattle.recount.specs.Ends.{HasNoTexts, IsVerdictOf, RecountEnds}
+use Rattle.recount.proofs.AuditTexts.{fails_one, told_any, told_as, told_of}
+use Rattle.recount.specs.Ends.{HasNoTexts, IsVerdictOf, OpensAudit, RecountEnds}
 use Rattle.recount.specs.VerdictLines.{verdict_line}
 use Rattle.recount.specs.Names.{AuditNames}
 use Rattle.recount.specs.AuditTexts.{AreShort, IsOneLong, ReadsTexts}
@@ -65,10 +66,23 @@ module _ {P O : Type 0} (p : PlaceSeen P) (s : SinkSeen O) (plan journal script 
   same_writes : (a b : P) (stop : Option Stop) → LeavesPlace p a b Names [] stop → p.write_faults b ≡ p.write_faults a
   same_writes a b stop stage = stage.unwritten (nothing_made p a b Names stop stage)
 
+  -- of a place that opened the plan alone, or nothing
+  opens_plan : (a b : P) (stop : Stop) → LeavesPlace p a b (plan ∷ []) [] (Some stop) → (stop ≡ ReadFault → p.opened b ≡ p.opened a ++ plan ∷ []) → OpensAudit p a b Named (Err stop)
+  unfolding leaves_more
+  opens_plan a b stop leaves opened =
+      let few : length leaves.opens ≤ 1 = let n = ap length leaves.inputs_are ∙ length-append leaves.opens leaves.unopened in omega (arith, n) in
+      record {
+        leaves = leaves_more p a b (plan ∷ []) (journal ∷ script ∷ replies ∷ []) [] stop leaves;
+        first = λ e. fails_one p a b plan (Some stop) leaves (opened (err_is stop ReadFault e));
+        refused_plan = λ e. few;
+        no_plan = told_any (p.files a) (λ files. (fault : PlanFault) → plan_meaning (file_or_empty files plan) ≡ Err fault → length leaves.opens ≤ 1) (λ files fault bad. few);
+      }
+
   -- the plan was refused, or was not read
-  pub ended_by_plan : (a b : P) (out out' : O) (stop : Stop) → LeavesPlace p a b (plan ∷ []) [] (Some stop) → ReadsPlan s out out' (file_of (p.files a) plan) (Err stop) → RecountEnds p s a b out out' Named (Err stop)
-  ended_by_plan a b out out' stop leaves reads =
-      let all : LeavesPlace p a b Names [] (Some stop) = leaves_more p a b (plan ∷ []) (journal ∷ script ∷ replies ∷ []) [] stop leaves in
+  pub ended_by_plan : (a b : P) (out out' : O) (stop : Stop) → LeavesPlace p a b (plan ∷ []) [] (Some stop) → (stop ≡ ReadFault → p.opened b ≡ p.opened a ++ plan ∷ []) → ReadsPlan s out out' (file_of (p.files a) plan) (Err stop) → RecountEnds p s a b out out' Named (Err stop)
+  ended_by_plan a b out out' stop leaves opened reads =
+      let opens = opens_plan a b stop leaves opened in
+      let all : LeavesPlace p a b Names [] (Some stop) = opens.leaves in
       record {
         done = tt;
         unsaid = λ e. absurd (reads.ends.0 (err_is stop WriteFault e));
@@ -80,7 +94,7 @@ module _ {P O : Type 0} (p : PlaceSeen P) (s : SinkSeen O) (plan journal script 
         complete = λ files is good short read write. ended_well stop
             (λ e. let told = reads.refused (ap (λ k. Err k) e) in no_fault (file_or_empty files plan) told.fault good (told_of (p.files a) files plan (λ all. plan_meaning all ≡ Err told.fault) is told.meaning))
             (λ e. read (all.read (ap (λ k. Some k) e))) reads.ends.0 reads.ends.1;
-        leaves = all;
+        opens = opens;
         created = same_created p a b Names (Some stop) all;
         write_faults = same_writes a b (Some stop) all;
         files = same_files p a b Names (Some stop) all;
@@ -103,10 +117,27 @@ module _ {P O : Type 0} (p : PlaceSeen P) (s : SinkSeen O) (plan journal script 
     plan_good : (files : Files) → p.files a ≡ Some files → (fault : PlanFault) → plan_meaning (file_or_empty files plan) ≡ Err fault → ⊥
     plan_good files is fault bad = no_fault (file_or_empty files plan) fault (ap is_ok (is_plan files is).meaning) bad
 
+    -- what was opened under it
+    opens_with : (result : Result Audit Stop) (all : LeavesPlace p a c Names [] (result_err result)) → (result ≡ Err ReadFault → FailsAtLast p a all.opens) → result ≢ Err PlanRefused → OpensAudit p a c Named result
+    opens_with result all first not_plan = record {
+      leaves = all;
+      first = first;
+      refused_plan = λ e. absurd (not_plan e);
+      no_plan = told_as (p.files a) (λ files. (fault : PlanFault) → plan_meaning (file_or_empty files plan) ≡ Err fault → length all.opens ≤ 1) (λ files is fault bad. absurd (plan_good files is fault bad));
+    }
+
+    -- and of texts that were not all read
+    opens_texts : (stop : Stop) → ReadsTexts p b c journal script replies (Err stop) → OpensAudit p a c Named (Err stop)
+    unfolding leaves_then
+    opens_texts stop texts =
+        opens_with (Err stop) (leaves_then p a b c (plan ∷ []) (journal ∷ script ∷ replies ∷ []) [] (Some stop) leaves texts.leaves)
+        (λ e. fails_on p a b leaves.opens texts.leaves.opens leaves.opened (leaves.read_quiet (λ e. cc)) (texts.first (ap (λ k. Err k) (err_is stop ReadFault e)))) (λ e. texts.ends.0 (ap (λ k. Err k) (err_is stop PlanRefused e)))
+
     -- a text was refused, or was not read
     pub ended_by_texts : (stop : Stop) → ReadsTexts p b c journal script replies (Err stop) → RecountEnds p s a c out mid Named (Err stop)
     ended_by_texts stop texts =
-        let all = whole (Some stop) texts.leaves in
+        let opens = opens_texts stop texts in
+        let all : LeavesPlace p a c Names [] (Some stop) = opens.leaves in
         record {
           done = tt;
           unsaid = λ e. absurd (texts.ends.1 (ap (λ k. Err k) (err_is stop WriteFault e)));
@@ -117,7 +148,7 @@ module _ {P O : Type 0} (p : PlaceSeen P) (s : SinkSeen O) (plan journal script 
           silent = λ other e not_plan not_write. quiet;
           complete = λ files is good short read write. ended_well stop (λ e. texts.ends.0 (ap (λ k. Err k) e)) (λ e. read (all.read (ap (λ k. Some k) e))) (λ e. texts.ends.1 (ap (λ k. Err k) e))
               (λ e. not_both _ _ _ short (texts.long (ap (λ k. Err k) e) files (same ∙ is)));
-          leaves = all;
+          opens = opens;
           created = same_created p a c Names (Some stop) all;
           write_faults = same_writes a c (Some stop) all;
           files = same_files p a c Names (Some stop) all;
@@ -152,7 +183,7 @@ module _ {P O : Type 0} (p : PlaceSeen P) (s : SinkSeen O) (plan journal script 
             no_texts = λ files is long. absurd (not_long files is long);
             silent = λ other e not_plan not_write. absurd (ok_not_err audit other e);
             complete = λ files is good short no_read no_write. inl refl;
-            leaves = all;
+            opens = opens_with (Ok audit) all (λ e. absurd (ok_not_err audit ReadFault e)) (ok_not_err audit PlanRefused);
             created = same_created p a c Names None all;
             write_faults = same_writes a c None all;
             files = same_files p a c Names None all;
@@ -174,7 +205,7 @@ module _ {P O : Type 0} (p : PlaceSeen P) (s : SinkSeen O) (plan journal script 
             silent = λ other e not_plan not_write. silent_after s out mid out' quiet (silent (ap (λ k. Err k) (only_memory stop ends (λ w. not_write (sym (err_is stop other e) ∙ w)))));
             complete = λ files is good short no_read no_write. ended_well stop (λ e. ends.0 (ap (λ k. Err k) e)) (λ e. ends.1 (ap (λ k. Err k) e))
                 (λ e. no_write (fails_after s out mid out' quiet _ (part (ap (λ k. Err k) e)).2).faults) (λ e. ends.2 (ap (λ k. Err k) e));
-            leaves = all;
+            opens = opens_with (Err stop) all (λ e. absurd (ends.1 e)) ends.0;
             created = same_created p a c Names (Some stop) all;
             write_faults = same_writes a c (Some stop) all;
             files = same_files p a c Names (Some stop) all;

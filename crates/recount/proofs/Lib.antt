@@ -12,6 +12,6 @@ pub mod JournalEntries
 pub mod ReplyTests
 pub mod ScriptLines
 mod TextPieces
-mod AuditTexts
+pub mod AuditTexts
 mod Puts
 mod Ends

@@ -5,17 +5,16 @@ use Rattle.std.proofs.lemmas.Grind.{flat_map-append}
 use Rattle.std.proofs.lemmas.List.{take_more}
 use Rattle.cube_view.specs.Points.{Point}
 use Rattle.cube_view.specs.declared.schema.Schema.{Schema}
-use Rattle.plain_cube.specs.Kept.{points_of, schema_of}
 use Rattle.query_syntax.specs.declared.query.Parsed.{Parsed}
 use Rattle.reply_json.specs.declared.reply.Reply.{Reply}
 use Rattle.session_core.specs.Asked.{reply_line}
 use Rattle.session_core.specs.Transcript.{MayCome, seen_in, told_in, replies_text}
 use Rattle.recount.specs.Agreement.{MayAnswer, AreAnswers}
-use Rattle.recount.specs.Comparing.{KeepsUp, ReplyPasses}
+use Rattle.recount.specs.Comparing.{ReplyPasses}
 use Rattle.recount.specs.Counting.{lacking, count_lacking}
 use Rattle.recount.specs.Faults.{most_seen, most_told, LineFails, RepliesFail, RepliesDiffer}
 use Rattle.recount.specs.Verdicts.{RepliesAgree}
-use Rattle.recount.specs.declared.testing.Audit.{Audit}
+use Rattle.recount.specs.declared.testing.Marks.{Marks}
 use Rattle.recount.specs.declared.verdict.Why.{Why}
 use Rattle.recount.specs.declared.verdict.Why.TheVariants.{TooMany}
 use Rattle.recount.proofs.Fronts.{answers_none, answers_push, most_seen-push, most_told-push, count_lacking-push}
@@ -45,34 +44,32 @@ drop_whole (x ∷ l) = drop_whole l
 
 module _ (schema : Schema) (points : List Point) (ps : List Parsed) (text : List ℕ) where
   -- What was tested so far
-  pub record Audited (audit : Audit) (rest : List ℕ) (without i : ℕ) : Type 0 where
+  pub record Audited (marks : Marks) (rest : List ℕ) (without i : ℕ) : Type 0 where
     pub before : List Reply
     pub many : length before ≡ i
     pub answers : AreAnswers schema points (take i ps) before
     pub front : text ≡ replies_text before ++ rest
-    pub keeps : KeepsUp schema points audit.seen audit.cube
-    pub seen : audit.seen ≡ most_seen 0 before
-    pub told : audit.told ≡ most_told 0 before
+    pub seen : marks.seen ≡ most_seen 0 before
+    pub told : marks.told ≡ most_told 0 before
     pub lacks : without ≡ count_lacking before
     pub few : without ≤ i
 
-  pub audited_none : (audit : Audit) → schema_of audit.cube ≡ schema → points_of audit.cube ≡ [] → audit.seen ≡ 0 → audit.told ≡ 0 → Audited audit text 0 0
-  audited_none audit own none seen told = record {
+  pub audited_none : (marks : Marks) → marks.seen ≡ 0 → marks.told ≡ 0 → Audited marks text 0 0
+  audited_none marks seen told = record {
     before = [];
     many = refl;
     answers = answers_none schema points;
     front = refl;
-    keeps = record { own = own; first = none ∙ ap (λ (l : List Point). take (length l) points) (sym none); few = let n = ap length none in omega (arith, n) };
     seen = seen;
     told = told;
     lacks = refl;
     few = omega arith;
   }
 
-  pub audited_next : (audit after : Audit) (rest later : List ℕ) (without lacks i : ℕ) (p : Parsed) (r : Reply) → Audited audit rest without i → i < length ps → p ≡ get_or ps i p → rest ≡ reply_line r ++ later → ReplyPasses points audit after p r → lacks ≡ lacking r → Audited after later (without + lacks) (i + 1)
-  audited_next audit after rest later without lacks i p r a within is begins passes lack =
-      let answer : MayAnswer schema points p r = subst (λ (z : Schema). MayAnswer z points p r) a.keeps.own passes.answer in
-      let comes : MayCome (most_seen 0 a.before) (most_told 0 a.before) r = subst (λ s. MayCome s (most_told 0 a.before) r) a.seen (subst (λ t. MayCome audit.seen t r) a.told passes.comes.1) in
+  pub audited_next : (marks after : Marks) (rest later : List ℕ) (without lacks i : ℕ) (p : Parsed) (r : Reply) → Audited marks rest without i → i < length ps → p ≡ get_or ps i p → rest ≡ reply_line r ++ later → ReplyPasses schema points marks after p r → lacks ≡ lacking r → Audited after later (without + lacks) (i + 1)
+  audited_next marks after rest later without lacks i p r a within is begins passes lack =
+      let answer : MayAnswer schema points p r = passes.answer in
+      let comes : MayCome (most_seen 0 a.before) (most_told 0 a.before) r = subst (λ s. MayCome s (most_told 0 a.before) r) a.seen (subst (λ t. MayCome marks.seen t r) a.told passes.comes.1) in
       let more : take (i + 1) ps ≡ take i ps ++ p ∷ [] = take_more ps i p within ∙ ap (λ (x : Parsed). take i ps ++ x ∷ []) (sym is) in
       record {
         before = a.before ++ r ∷ [];
@@ -82,7 +79,6 @@ module _ (schema : Schema) (points : List Point) (ps : List Parsed) (text : List
             a.front ∙ ap (λ t. replies_text a.before ++ t) begins
             ∙ sym (append_assoc (replies_text a.before) (reply_line r) later)
             ∙ ap (λ t. t ++ later) (ap (λ t. replies_text a.before ++ t) (sym (append-nil (reply_line r))) ∙ sym (flat_map-append reply_line a.before (r ∷ [])));
-        keeps = record { own = passes.keeps.own ∙ a.keeps.own; first = passes.keeps.first; few = passes.keeps.few };
         seen = passes.seen ∙ ap (λ s. max s (seen_in r)) a.seen ∙ sym (most_seen-push 0 a.before r);
         told = passes.told ∙ ap (λ t. max t (told_in r)) a.told ∙ sym (most_told-push 0 a.before r);
         lacks = (λ j. a.lacks j + lack j) ∙ sym (count_lacking-push a.before r);
@@ -92,8 +88,8 @@ module _ (schema : Schema) (points : List Point) (ps : List Parsed) (text : List
   left_is : (i n : ℕ) (p : Parsed) → i < length ps → p ≡ get_or ps i p → n ≡ i → drop n ps ≡ p ∷ drop (suc i) ps
   left_is i n p within is same = ap (λ k. drop k ps) same ∙ drop-cons ps i p within ∙ ap (λ (x : Parsed). x ∷ drop (suc i) ps) (sym is)
 
-  differs : (audit : Audit) (rest : List ℕ) (without i : ℕ) (why : Why) → (a : Audited audit rest without i) → RepliesFail schema points (most_seen 0 a.before) (most_told 0 a.before) (drop (length a.before) ps) rest why → RepliesDiffer schema points ps text (i + 1) why
-  differs audit rest without i why a fails = record {
+  differs : (marks : Marks) (rest : List ℕ) (without i : ℕ) (why : Why) → (a : Audited marks rest without i) → RepliesFail schema points (most_seen 0 a.before) (most_told 0 a.before) (drop (length a.before) ps) rest why → RepliesDiffer schema points ps text (i + 1) why
+  differs marks rest without i why a fails = record {
     before = a.before;
     rest = rest;
     front = a.front;
@@ -102,20 +98,19 @@ module _ (schema : Schema) (points : List Point) (ps : List Parsed) (text : List
     fails = fails;
   }
 
-  pub audited_fails : (audit : Audit) (rest : List ℕ) (without i : ℕ) (p : Parsed) (why : Why) → Audited audit rest without i → i < length ps → p ≡ get_or ps i p → rest ≢ [] → LineFails (schema_of audit.cube) points audit.seen audit.told p rest why → RepliesDiffer schema points ps text (i + 1) why
-  audited_fails audit rest without i p why a within is some fails =
+  pub audited_fails : (marks : Marks) (rest : List ℕ) (without i : ℕ) (p : Parsed) (why : Why) → Audited marks rest without i → i < length ps → p ≡ get_or ps i p → rest ≢ [] → LineFails schema points marks.seen marks.told p rest why → RepliesDiffer schema points ps text (i + 1) why
+  audited_fails marks rest without i p why a within is some fails =
       let moved : LineFails schema points (most_seen 0 a.before) (most_told 0 a.before) p rest why =
-      subst (λ (z : Schema). LineFails z points (most_seen 0 a.before) (most_told 0 a.before) p rest why) a.keeps.own
-      (subst (λ s. LineFails (schema_of audit.cube) points s (most_told 0 a.before) p rest why) a.seen (subst (λ t. LineFails (schema_of audit.cube) points audit.seen t p rest why) a.told fails)) in
-      differs audit rest without i why a
+      subst (λ s. LineFails schema points s (most_told 0 a.before) p rest why) a.seen (subst (λ t. LineFails schema points marks.seen t p rest why) a.told fails) in
+      differs marks rest without i why a
       (fails_next schema points (most_seen 0 a.before) (most_told 0 a.before) (drop (length a.before) ps) p (drop (suc i) ps) rest why (left_is i (length a.before) p within is a.many) some moved)
 
-  pub audited_many : (audit : Audit) (rest : List ℕ) (without i : ℕ) → Audited audit rest without i → i ≡ length ps → rest ≢ [] → RepliesDiffer schema points ps text (i + 1) TooMany
-  audited_many audit rest without i a all some = differs audit rest without i TooMany a
+  pub audited_many : (marks : Marks) (rest : List ℕ) (without i : ℕ) → Audited marks rest without i → i ≡ length ps → rest ≢ [] → RepliesDiffer schema points ps text (i + 1) TooMany
+  audited_many marks rest without i a all some = differs marks rest without i TooMany a
       (fails_many schema points (most_seen 0 a.before) (most_told 0 a.before) (drop (length a.before) ps) rest (ap (λ n. drop n ps) (a.many ∙ all) ∙ drop_whole ps) some)
 
-  pub audited_all : (audit : Audit) (rest : List ℕ) (without i : ℕ) → Audited audit rest without i → i ≡ length ps → rest ≡ [] → RepliesAgree schema points ps text i without
-  audited_all audit rest without i a all none = record {
+  pub audited_all : (marks : Marks) (rest : List ℕ) (without i : ℕ) → Audited marks rest without i → i ≡ length ps → rest ≡ [] → RepliesAgree schema points ps text i without
+  audited_all marks rest without i a all none = record {
     replies = a.before;
     answers = subst (λ (l : List Parsed). AreAnswers schema points l a.before) (ap (λ n. take n ps) all ∙ take-length ps) a.answers;
     text = a.front ∙ ap (λ t. replies_text a.before ++ t) none ∙ append-nil (replies_text a.before);

@@ -4,10 +4,10 @@ use Rattle.std.specs.Result.{result_err}
 use Rattle.outer_io.specs.Files.{Files, file_or_empty}
 use Rattle.outer_io.specs.Lines.{input_limit}
 use Rattle.outer_io.specs.Told.{Told}
-use Rattle.run_files.specs.Leaving.{LeavesPlace}
+use Rattle.run_files.specs.Leaving.{FailsAtLast, LeavesPlace}
 use Rattle.run_files.specs.Outside.{file_of, PlaceSeen}
 use Rattle.run_files.specs.declared.stop.Stop.{Stop}
-use Rattle.run_files.specs.declared.stop.Stop.TheVariants.{PlanRefused, WriteFault, FeedRefused}
+use Rattle.run_files.specs.declared.stop.Stop.TheVariants.{PlanRefused, ReadFault, WriteFault, FeedRefused}
 use Rattle.recount.specs.declared.text_reading.Texts.{Texts}
 
 -- each of the three has at most 2^30 bytes
@@ -23,6 +23,8 @@ module _ {P : Type 0} (p : PlaceSeen P) (place place' : P) where
   pub record ReadsText (name : List ℕ) (result : Result (List ℕ) Stop) : Type 0 where
     -- it is opened, and nothing is created
     pub leaves : LeavesPlace p place place' (name ∷ []) [] (result_err result)
+    -- where it could not be read it was opened
+    pub first : result ≡ Err ReadFault → FailsAtLast p place leaves.opens
     -- the answer is the whole file, where it is told, and is short
     pub whole : IfOk result (λ bytes. Told (file_of (p.files place) name) (λ all. bytes ≡ all) × (length bytes ≤ input_limit))
     -- it is refused only where it is long
@@ -38,6 +40,8 @@ module _ {P : Type 0} (p : PlaceSeen P) (place place' : P) where
   pub record ReadsTexts (journal script replies : List ℕ) (result : Result Texts Stop) : Type 0 where
     -- they are opened in order, up to the first trouble, and nothing is created
     pub leaves : LeavesPlace p place place' (journal ∷ script ∷ replies ∷ []) [] (result_err result)
+    -- one that could not be read is the last that was opened
+    pub first : result ≡ Err ReadFault → FailsAtLast p place leaves.opens
     -- the answer is the whole files, where they are told
     pub whole : IfOk result (λ texts. OfTexts journal script replies (λ j q r. (texts.journal ≡ j) × (texts.script ≡ q) × (texts.replies ≡ r)))
     -- which are short

@@ -1,17 +1,18 @@
 -- How an audit of a session's transcript ends, from files.
-use Rattle.std.specs.Prelude.{◌≡◌, ◌≢◌, ◌⊎◌, ℕ, List, [], ◌∷◌, Some, Result, Err, IfOk, IsOk}
+use Rattle.std.specs.Prelude.{◌≡◌, ◌≢◌, ◌⊎◌, ℕ, ◌≤◌, List, [], ◌∷◌, length, Some, Result, Err, IfOk, IsOk}
 use Rattle.std.specs.Result.{result_err}
 use Rattle.cube_schema.specs.Meaning.{plan_meaning}
 use Rattle.cube_schema.specs.declared.fault.PlanFault.{PlanFault}
 use Rattle.cube_schema.specs.declared.plan.Plan.{Plan}
 use Rattle.outer_io.specs.Faults.{Rose}
 use Rattle.outer_io.specs.Files.{Files, file_or_empty}
-use Rattle.run_files.specs.Leaving.{LeavesPlace}
+use Rattle.outer_io.specs.Told.{Told}
+use Rattle.run_files.specs.Leaving.{FailsAtLast, LeavesPlace}
 use Rattle.run_files.specs.Outside.{FailsToPut, file_of, PlaceSeen, Puts, Silent, SinkSeen}
 use Rattle.run_files.specs.Planned.{HasNoPlan, IsPlanOf, RefusesPlan}
 use Rattle.run_files.specs.Stops.{IsDoneOrLacks}
 use Rattle.run_files.specs.declared.stop.Stop.{Stop}
-use Rattle.run_files.specs.declared.stop.Stop.TheVariants.{PlanRefused, WriteFault, FeedRefused}
+use Rattle.run_files.specs.declared.stop.Stop.TheVariants.{PlanRefused, ReadFault, WriteFault, FeedRefused}
 use Rattle.recount.specs.declared.verdict.Verdict.{Verdict}
 use Rattle.recount.specs.Audits.{audit_of}
 use Rattle.recount.specs.VerdictLines.{verdict_line}
@@ -33,6 +34,17 @@ pub record IsVerdictOf (text journal script replies : List ℕ) (v : Verdict) : 
 -- a text is refused, or the audit ends as one without a plan does
 abbrev pub HasNoTexts : Result Audit Stop → Type 0
 HasNoTexts result = (result ≡ Err FeedRefused) ⊎ HasNoPlan (λ end. result ≡ Err end)
+
+-- What an audit of the named files opened
+pub record OpensAudit {P : Type 0} (p : PlaceSeen P) (place place' : P) (names : AuditNames) (result : Result Audit Stop) : Type 0 where
+  -- the files are opened in order, all where the audit is done, and a read fault comes only where the count of reading
+  -- rose
+  pub leaves : LeavesPlace p place place' (names.plan ∷ names.journal ∷ names.script ∷ names.replies ∷ []) [] (result_err result)
+  -- one that could not be read is the last that was opened
+  pub first : result ≡ Err ReadFault → FailsAtLast p place leaves.opens
+  -- where the plan is refused, or is none, no other file was
+  pub refused_plan : result ≡ Err PlanRefused → length leaves.opens ≤ 1
+  pub no_plan : Told (p.files place) (λ files. (fault : PlanFault) → plan_meaning (file_or_empty files names.plan) ≡ Err fault → length leaves.opens ≤ 1)
 
 -- what an audit of the named files leaves of a place and a sink
 module _ {P O : Type 0} (p : PlaceSeen P) (s : SinkSeen O) (place place' : P) (out out' : O) (names : AuditNames) where
@@ -76,8 +88,8 @@ module _ {P O : Type 0} (p : PlaceSeen P) (s : SinkSeen O) (place place' : P) (o
     pub silent : (stop : Stop) → result ≡ Err stop → stop ≢ PlanRefused → stop ≢ WriteFault → Silent s out out'
     -- with a plan, texts that are short and no count risen the audit is done, or memory was wanted
     pub complete : OfFiles (λ t j q r. IsOk (plan_meaning t) → AreShort j q r → ¬ Rose (p.read_faults place) (p.read_faults place') → ¬ Rose (s.faults out) (s.faults out') → IsDoneOrLacks result)
-    -- the files are opened in order, all where the audit is done, and a read fault comes only where the count of reading rose
-    pub leaves : LeavesPlace p place place' (names.plan ∷ names.journal ∷ names.script ∷ names.replies ∷ []) [] (result_err result)
+    -- the files are opened in order, up to the first trouble
+    pub opens : OpensAudit p place place' names result
     -- nothing is created or written
     pub created : p.created place' ≡ p.created place
     pub write_faults : p.write_faults place' ≡ p.write_faults place

@@ -9,11 +9,10 @@ ghost use Rattle.recount.specs.declared.verdict.Verdict.{Verdict};
 
 use crate::asked::asked_of;
 use crate::journal::{JournalRead, read_journal};
-use crate::testing::{Audit, Tested, test_next};
+use crate::testing::{Marks, Tested, test_next};
 use crate::{Verdict, Why};
 use cube_view::{Point, Schema};
 use feed_queue::journal_laws;
-use plain_cube::PlainCube;
 use query_syntax::Parsed;
 use std::alloc::Global;
 use texts::NoMemory;
@@ -31,11 +30,7 @@ fn check_replies(
     requires valid { All (λ p. IsTrue (asks_valid schema.now p)) asked.now }
     ensures { IfOk result (HasReplyVerdict schema.now points.now asked.now replies.now) }
 {
-    let mut audit = Audit {
-        cube: PlainCube::new(alloc, schema.copy(alloc)?),
-        seen: 0,
-        told: 0,
-    };
+    let mut marks = Marks { seen: 0, told: 0 };
     let mut without = 0u64;
     let mut rest = replies;
     'replies: for (i, parsed) in asked.iter().enumerate() {
@@ -43,7 +38,7 @@ fn check_replies(
         if rest.is_empty() {
             return Ok(Verdict::Replies(place, Why::TooFew));
         }
-        match test_next(alloc, points, &mut audit, parsed, rest)? {
+        match test_next(alloc, schema, points, &mut marks, parsed, rest)? {
             Tested::Agrees(more, lacks) => {
                 rest = more;
                 without += lacks;
@@ -64,8 +59,8 @@ fn check_replies(
 
 /// The verdict on three texts, of which the journal is of so many feeders: `Agree` exactly where they agree, and each
 /// other verdict exactly where its test is the first that holds, the journal first. It takes a scan of the points that
-/// each table has seen, and room for the points of the journal twice and for what the script asks. Each text has at
-/// most 2^30 bytes, and there are 1 to 8 feeders.
+/// each table has seen, and room for the points of the journal, for what the script asks and for a table. Each text has
+/// at most 2^30 bytes, and there are 1 to 8 feeders.
 pub fn check(
     alloc: Global,
     schema: &Schema,

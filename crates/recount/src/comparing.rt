@@ -1,30 +1,25 @@
-//! A reply, compared with what a plain cube answers.
-ghost use Rattle.std.specs.Prelude.{◌≡◌, ◌≤◌, ◌<◌, ◌⊎◌, ◌↔◌, All, length, take, max, None, IsTrue, IfOk, OnOk};
-ghost use Rattle.cube_view.specs.Bag.{most_points};
+//! A reply, compared with what the points give.
+ghost use Rattle.std.specs.Prelude.{◌≡◌, ◌≤◌, ◌<◌, ◌^◌, ◌↔◌, All, length, IsTrue, IfOk};
+ghost use Rattle.cube_view.specs.Bag.{amount, anywhere, most_points};
 ghost use Rattle.cube_view.specs.Validity.{sound};
-ghost use Rattle.plain_cube.specs.Kept.{points_of, schema_of};
-ghost use Rattle.probe_core.specs.Blanks.{IsBlankOf};
 ghost use Rattle.query_syntax.specs.Meaning.{asks_valid};
+ghost use Rattle.query_syntax.specs.Queries.{is_valid_query};
+ghost use Rattle.query_syntax.specs.Tables.{has_table, table};
+ghost use Rattle.query_syntax.specs.declared.table.Table.{Table};
 ghost use Rattle.recount.specs.Agreement.{MayAnswer, IsCubeStat};
-ghost use Rattle.recount.specs.Comparing.{asks_stat, asks_told, IsReplyOver, KeepsUp};
+ghost use Rattle.recount.specs.Comparing.{asks_stat, asks_told, IsLineOf, IsTableReply};
 ghost use Rattle.recount.specs.Faults.{StaysWithin};
-ghost use Rattle.reply_json.specs.Printed.{seen_of};
 ghost use Rattle.reply_json.specs.Types.{ReplyFits};
 ghost use Rattle.reply_json.specs.declared.reply.Reply.{Reply};
 ghost use Rattle.session_core.specs.Asked.{reply_line};
-ghost use Rattle.session_core.specs.Transcript.{seen_in};
 
 use crate::replies::NextReply;
-use cube_view::{CubeView, Point, Stat};
-use plain_cube::PlainCube;
-use probe_core::Steps;
-use query_syntax::{Parsed, QueryFault, Verb};
-use reply_json::Reply;
-use session_core::{Served, serve};
+use cube_view::{Point, Schema, Stat};
+use list_tables::list_rows;
+use query_syntax::{Parsed, Query, QueryFault, Table, Verb, has_table};
+use reply_json::{Reply, print_reply};
 use std::alloc::Global;
-use std::marker::Brand;
-use std::sync::ledger::{Blank, Ledger};
-use texts::{List, NoMemory};
+use texts::NoMemory;
 
 /// Whether the numbers are those of a cube, in which each slot but the root has one proper link to it.
 fn is_cube_stat(stat: &Stat) -> bool
@@ -63,21 +58,6 @@ fn is_fault_of(parsed: &Parsed, fault: QueryFault, word: u32) -> bool
     }
 }
 
-/// Adds to the cube of the first points those after them, up to so many.
-fn grow(cube: &mut PlainCube, points: &[Point], seen: u64) -> Result<(), NoMemory>
-    requires keeps { points_of cube.old ≡ take (length (points_of cube.old)) points.now }
-    requires more { length (points_of cube.old) ≤ seen }
-    requires within { (seen ≤ length points.now) × (length points.now < most_points) }
-    requires sound { All (λ p. IsTrue (sound (schema_of cube.old) p)) points.now }
-    ensures grown { OnOk result (points_of cube.new ≡ take seen points.now) }
-    ensures schema { schema_of cube.new ≡ schema_of cube.old }
-{
-    for i in cube.seen()..seen {
-        cube.insert(points[i as usize])?;
-    }
-    Ok(())
-}
-
 /// Whether two texts are the same.
 fn same_bytes(s: &[u8], t: &[u8]) -> bool
     ensures { IsTrue result ↔ (s.now ≡ t.now) }
@@ -85,48 +65,66 @@ fn same_bytes(s: &[u8], t: &[u8]) -> bool
     s == t
 }
 
-/// Whether the line is what the cube answers to what was asked, its steps counted in the ledger of the blank.
-fn is_served<L: Ledger>(
+/// Whether the line is that of the query's table over the points.
+fn is_table(
     alloc: Global,
-    cube: &PlainCube,
-    parsed: &Parsed,
+    schema: &Schema,
+    points: &[Point],
+    query: &Query,
     line: &[u8],
-    blank: Blank,
 ) -> Result<bool, NoMemory>
-    requires blank { IsBlankOf L.name L.parts blank }
-    requires valid { IsTrue (asks_valid (schema_of cube.now) parsed.now) }
-    ensures { (reply : Reply) → ReplyFits reply → line.now ≡ reply_line reply → IfOk result (λ same. IsTrue same ↔ IsReplyOver cube.now parsed.now reply) }
+    requires valid { IsTrue (is_valid_query schema.now query.now) }
+    requires verb { IsTrue (has_table query.now.verb) }
+    requires light { amount anywhere points.now < 2 ^ 64 }
+    ensures { (t : Table) → IsLineOf t line.now → IfOk result (λ same. IsTrue same ↔ (t ≡ table schema.now query.now points.now)) }
 {
-    let mut steps = Steps::<L>::new(blank);
-    match serve(alloc, cube, 0, parsed, &mut steps, &mut List::new(alloc))? {
-        Served::Reply(answer) => Ok(same_bytes(answer.as_slice(), line)),
-        Served::Skipped | Served::Quit => Ok(false),
-    }
+    let rows = list_rows(alloc, schema, query, points)?;
+    let seen = points.len() as u64;
+    let own = Reply::Table(Table { rows, seen });
+    let mut text = print_reply(alloc, &own)?;
+    text.add(b'\n')?;
+    Ok(same_bytes(text.as_slice(), line))
 }
 
-/// Whether the reply of a line is one to what was asked, over the first points, as many as it has seen; `seen` is the
-/// greatest number seen before. The cube then has no more points than were seen.
+/// Whether the line, of a table, is that of what was asked over the points.
+fn is_asked_table(
+    alloc: Global,
+    schema: &Schema,
+    points: &[Point],
+    parsed: &Parsed,
+    line: &[u8],
+) -> Result<bool, NoMemory>
+    requires valid { IsTrue (asks_valid schema.now parsed.now) }
+    requires light { amount anywhere points.now < 2 ^ 64 }
+    ensures { (t : Table) → IsLineOf t line.now → IfOk result (λ same. IsTrue same ↔ IsTableReply schema.now points.now parsed.now t) }
+{
+    let Parsed::Ask(query) = parsed else {
+        return Ok(false);
+    };
+    if !has_table(&query.verb) {
+        return Ok(false);
+    }
+    is_table(alloc, schema, points, query, line)
+}
+
+/// Whether the reply of a line is one to what was asked, over the first points, as many as it has seen.
 pub fn is_answer(
     alloc: Global,
+    schema: &Schema,
     points: &[Point],
-    cube: &mut PlainCube,
-    seen: u64,
     parsed: &Parsed,
     next: &NextReply<'_>,
 ) -> Result<bool, NoMemory>
-    requires keeps { KeepsUp (schema_of cube.old) points.now seen cube.old }
-    requires comes { (seen ≤ seen_in next.now.reply) ⊎ (seen_of next.now.reply ≡ None) }
     requires within { StaysWithin (length points.now) next.now.reply × (length points.now < most_points) }
-    requires sound { All (λ p. IsTrue (sound (schema_of cube.old) p)) points.now }
+    requires sound { All (λ p. IsTrue (sound schema.now p)) points.now }
     requires line { ReplyFits next.now.reply × (next.now.line.now ≡ reply_line next.now.reply) }
-    requires valid { IsTrue (asks_valid (schema_of cube.old) parsed.now) }
-    ensures answer { IfOk result (λ is. IsTrue is ↔ MayAnswer (schema_of cube.old) points.now parsed.now next.now.reply) }
-    ensures keeps { OnOk result (KeepsUp (schema_of cube.old) points.now (max seen (seen_in next.now.reply)) cube.new) }
+    requires valid { IsTrue (asks_valid schema.now parsed.now) }
+    ensures { IfOk result (λ is. IsTrue is ↔ MayAnswer schema.now points.now parsed.now next.now.reply) }
 {
     match &next.reply {
         Reply::Table(table) => {
-            grow(cube, points, table.seen)?;
-            is_served::<Brand>(alloc, cube, parsed, next.line, Blank::new(1))
+            let first = &points[..table.seen as usize];
+            is_asked_table(alloc, schema, first, parsed, next.line)
         }
         Reply::Stat(stat, _) => Ok(asks_stat(parsed) && is_cube_stat(stat)),
         Reply::Told(_) => Ok(asks_told(parsed)),

@@ -47,8 +47,8 @@ fn audit_texts<O: Sink>(
 }
 
 /// Audits one session's transcript. The plan is read first, and then the journal, the script and the replies are read
-/// whole, in order; nothing is created. One line is put, which says whether they agree. The first trouble ends the audit:
-/// a plan that is refused has its line, and a text of more than 2^30 bytes counts as a feed that is refused.
+/// whole, in order; nothing is created. One line is put, which says whether they agree. The first trouble ends the
+/// audit: a plan that is refused has its line, and a text of more than 2^30 bytes counts as a feed that is refused.
 pub fn recount_files<P: Place, O: Sink>(
     alloc: Global,
     names: &RecountNames<'_>,

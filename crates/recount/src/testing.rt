@@ -2,9 +2,8 @@
 ghost use Rattle.std.specs.Prelude.{◌≡◌, ◌≤◌, ◌<◌, ◌⊎◌, ◌↔◌, All, length, max, Some, None, IsTrue, IfOk, OnOk, IfSome, IfNone};
 ghost use Rattle.cube_view.specs.Bag.{most_points};
 ghost use Rattle.cube_view.specs.Validity.{sound};
-ghost use Rattle.plain_cube.specs.Kept.{points_of, schema_of};
 ghost use Rattle.query_syntax.specs.Meaning.{asks_valid};
-ghost use Rattle.recount.specs.Comparing.{KeepsUp, ReplyPasses, Tests};
+ghost use Rattle.recount.specs.Comparing.{ReplyPasses, Tests};
 ghost use Rattle.recount.specs.Counting.{lacking};
 ghost use Rattle.recount.specs.Faults.{ReplyFails};
 ghost use Rattle.reply_json.specs.Types.{ReplyFits};
@@ -14,18 +13,15 @@ ghost use Rattle.session_core.specs.Transcript.{seen_in, told_in, MayCome};
 use crate::Why;
 use crate::comparing::is_answer;
 use crate::replies::{NextReply, next_reply};
-use cube_view::Point;
-use plain_cube::PlainCube;
+use cube_view::{Point, Schema};
 use query_syntax::Parsed;
 use reply_json::Reply;
 use std::alloc::Global;
 use texts::NoMemory;
 
-/// What the replies so far leave: a cube of the first points, no more than they have seen, and the greatest numbers of
-/// points that they print as seen and as told.
-#[derive(Drop)]
-pub struct Audit {
-    pub cube: PlainCube,
+/// The greatest numbers of points that the replies so far print as seen and as told.
+#[derive(Clone, Copy)]
+pub struct Marks {
     pub seen: u64,
     pub told: u64,
 }
@@ -39,7 +35,7 @@ pub enum Tested<'a> {
 }
 
 /// How many points the reply prints as seen, or 0.
-fn seen_in(reply: &Reply) -> u64
+pub fn seen_in(reply: &Reply) -> u64
     ensures { result ≡ seen_in reply.now }
 {
     match reply {
@@ -50,7 +46,7 @@ fn seen_in(reply: &Reply) -> u64
 }
 
 /// How many points the reply prints as told, or 0.
-fn told_in(reply: &Reply) -> u64
+pub fn told_in(reply: &Reply) -> u64
     ensures { result ≡ told_in reply.now }
 {
     match reply {
@@ -70,7 +66,7 @@ fn lacking(reply: &Reply) -> u64
 }
 
 /// Whether the reply may come after these greatest numbers seen and told.
-fn may_come(seen: u64, told: u64, reply: &Reply) -> bool
+pub fn may_come(seen: u64, told: u64, reply: &Reply) -> bool
     ensures { IsTrue result ↔ MayCome seen told reply.now }
 {
     match reply {
@@ -84,18 +80,18 @@ fn may_come(seen: u64, told: u64, reply: &Reply) -> bool
 /// The first test that holds of the reply of a line, which should answer what was asked.
 fn reply_fault(
     alloc: Global,
+    schema: &Schema,
     points: &[Point],
-    audit: &mut Audit,
+    marks: &mut Marks,
     parsed: &Parsed,
     next: &NextReply<'_>,
 ) -> Result<Option<Why>, NoMemory>
-    requires keeps { KeepsUp (schema_of audit.old.cube) points.now audit.old.seen audit.old.cube }
     requires few { length points.now < most_points }
-    requires sound { All (λ p. IsTrue (sound (schema_of audit.old.cube) p)) points.now }
+    requires sound { All (λ p. IsTrue (sound schema.now p)) points.now }
     requires line { ReplyFits next.now.reply × (next.now.line.now ≡ reply_line next.now.reply) }
-    requires valid { IsTrue (asks_valid (schema_of audit.old.cube) parsed.now) }
-    ensures passes { IfOk result (λ why. IfNone why (ReplyPasses points.now audit.old audit.new parsed.now next.now.reply)) }
-    ensures fails { IfOk result (λ why. IfSome why (ReplyFails (schema_of audit.old.cube) points.now audit.old.seen audit.old.told parsed.now next.now.reply)) }
+    requires valid { IsTrue (asks_valid schema.now parsed.now) }
+    ensures passes { IfOk result (λ why. IfNone why (ReplyPasses schema.now points.now marks.old marks.new parsed.now next.now.reply)) }
+    ensures fails { IfOk result (λ why. IfSome why (ReplyFails schema.now points.now marks.old.seen marks.old.told parsed.now next.now.reply)) }
 {
     let seen = seen_in(&next.reply);
     let told = told_in(&next.reply);
@@ -103,35 +99,35 @@ fn reply_fault(
     if seen > most || told > most {
         return Ok(Some(Why::PastEnd));
     }
-    if !may_come(audit.seen, audit.told, &next.reply) {
+    if !may_come(marks.seen, marks.told, &next.reply) {
         return Ok(Some(Why::Fell));
     }
-    if !is_answer(alloc, points, &mut audit.cube, audit.seen, parsed, next)? {
+    if !is_answer(alloc, schema, points, parsed, next)? {
         return Ok(Some(Why::Wrong));
     }
-    audit.seen = audit.seen.max(seen);
-    audit.told = audit.told.max(told);
+    marks.seen = marks.seen.max(seen);
+    marks.told = marks.told.max(told);
     Ok(None)
 }
 
 /// Tests the first line of the text, which should answer what was asked.
 pub fn test_next<'a>(
     alloc: Global,
+    schema: &Schema,
     points: &[Point],
-    audit: &mut Audit,
+    marks: &mut Marks,
     parsed: &Parsed,
     text: &'a [u8],
 ) -> Result<Tested<'a>, NoMemory>
-    requires keeps { KeepsUp (schema_of audit.old.cube) points.now audit.old.seen audit.old.cube }
     requires few { length points.now < most_points }
-    requires sound { All (λ p. IsTrue (sound (schema_of audit.old.cube) p)) points.now }
-    requires valid { IsTrue (asks_valid (schema_of audit.old.cube) parsed.now) }
-    ensures { IfOk result (Tests points.now audit.old audit.new parsed.now text.now) }
+    requires sound { All (λ p. IsTrue (sound schema.now p)) points.now }
+    requires valid { IsTrue (asks_valid schema.now parsed.now) }
+    ensures { IfOk result (Tests schema.now points.now marks.old marks.new parsed.now text.now) }
 {
     let Some(next) = next_reply(alloc, text)? else {
         return Ok(Tested::Fails(Why::NotReply));
     };
-    match reply_fault(alloc, points, audit, parsed, &next)? {
+    match reply_fault(alloc, schema, points, marks, parsed, &next)? {
         None => Ok(Tested::Agrees(next.rest, lacking(&next.reply))),
         Some(why) => Ok(Tested::Fails(why)),
     }

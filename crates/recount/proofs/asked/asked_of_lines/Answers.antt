@@ -1,4 +1,4 @@
-use Rattle.std.proofs.Common.{◌∷◌, [], ◌++◌, if◌then◌else◌, Bool, true, Some, None, Ok, sym, ap, ◌∙◌, subst}
+use Rattle.std.proofs.Common.{◌∷◌, [], ◌++◌, if◌then◌else◌, Bool, Some, None, Ok, sym, ap, ◌∙◌, subst}
 use Rattle.session_core.specs.Turns.{AsksNext}
 use Rattle.recount.proofs.ScriptLines.{asked_then-added, asked_on, asked_last}
 use Rattle.recount.proofs.asked.asked_of_lines.Goals as goal

@@ -1,4 +1,4 @@
-use Rattle.std.proofs.Common.{Result, subst, sym}
+use Rattle.std.proofs.Common.{Result, Err, ap, subst, sym}
 use Rattle.run_files.proofs.Apart.{residual_is}
 use Rattle.run_files.specs.Outside.{of_place, of_sink, PlaceSeen, SinkSeen}
 use Rattle.run_files.specs.declared.stop.Stop.{Stop}
@@ -26,7 +26,7 @@ audit_texts-requires-clause-short g c = c.in_ok-texts.ensures.short
 pub returns-in_err-plan : goal.returns-in_err-plan
 returns-in_err-plan g c =
     subst (λ (r : Result Audit Stop). RecountEnds (place_of g) (sink_of g) c.args.place.now c.load_plan.new.place c.args.out.now c.load_plan.new.out (audit_names c.args.names.now) r) (sym (residual_is c.from_residual.result c.in_err-plan.field-0.0 c.from_residual.ensures.1))
-    (ended_by_plan (place_of g) (sink_of g) c.args.names.now.plan.now c.args.names.now.journal.now c.args.names.now.script.now c.args.names.now.replies.now c.args.place.now c.load_plan.new.place c.args.out.now c.load_plan.new.out c.in_err-plan.field-0.0 c.in_err-plan.ensures.leaves c.in_err-plan.ensures.plan)
+    (ended_by_plan (place_of g) (sink_of g) c.args.names.now.plan.now c.args.names.now.journal.now c.args.names.now.script.now c.args.names.now.replies.now c.args.place.now c.load_plan.new.place c.args.out.now c.load_plan.new.out c.in_err-plan.field-0.0 c.in_err-plan.ensures.leaves (λ e. c.in_err-plan.ensures.read (ap (λ k. Err k) e)) c.in_err-plan.ensures.plan)
 
 pub returns-in_err-texts : goal.returns-in_err-texts
 returns-in_err-texts g c =

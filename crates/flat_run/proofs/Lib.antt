@@ -1,0 +1,4 @@
+mod FeedReads
+mod FeedLists
+mod ScriptAnswers
+mod FlatEnds

@@ -1,0 +1,5 @@
+mod Served
+pub mod Gained
+mod SoFar
+mod Whole
+pub mod SameAnswers

@@ -1,0 +1,2 @@
+mod PathNumbers
+mod TileRanges
