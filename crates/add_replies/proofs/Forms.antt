@@ -8,7 +8,7 @@ use Rattle.share_replies.specs.declared.adding.Outcome.{Outcome}
 use Rattle.share_replies.specs.declared.adding.Outcome.TheVariants as outcome
 use Rattle.share_replies.specs.declared.adding.ShareNames.{ShareNames}
 use Rattle.add_replies.specs.Statuses.{IfForm, most_shares, share_names, status_of}
-use Rattle.add_replies.specs.declared.status.Status.TheVariants.{Usage}
+use Rattle.share_replies.specs.declared.status.Status.TheVariants.{Usage}
 
 -- two items and those after them are the list
 pub first_two : {A : Type 0} (xs : List A) (x y : A) → x ≡ get_or xs 0 x → y ≡ get_or xs 1 y → 1 < length xs → xs ≡ x ∷ y ∷ drop 2 xs

@@ -1,12 +1,12 @@
 //! The top call.
 ghost use Rattle.std.specs.Prelude.{◌≡◌, ◌↔◌, None, map, option_map, string_bytes};
-ghost use Rattle.run_files.specs.Outside.{of_place, of_sink};
+ghost use Rattle.run_files.specs.Outside.{at, of_place, of_sink};
 ghost use Rattle.share_replies.specs.Ends.{given_names};
-ghost use Rattle.add_replies.specs.Statuses.{EndsByLaw, EndsInSink, EndsSaying, EndsWithCause, IfForm, OpensBy, share_names};
+ghost use Rattle.add_replies.specs.Statuses.{EndsInStatus, IfForm, share_names};
 
-use crate::status::Status;
+use crate::status::status_of;
 use outer_io::{Place, Sink};
-use share_replies::{ShareNames, add_shares};
+use share_replies::{ShareNames, Status, add_shares};
 use std::alloc::Global;
 
 /// The most shares.
@@ -36,17 +36,13 @@ pub fn add_replies<P: Place, O: Sink>(
     place: &mut P,
     out: &mut O,
 ) -> Status
-    ensures law { IfForm (map string_bytes words.now) (EndsByLaw (P.files place.old) (O.held out.old) (O.held out.new) result) }
-    ensures says { IfForm (map string_bytes words.now) (EndsSaying (of_sink O.Sink) out.old out.new (P.files place.old) result) }
-    ensures causes { IfForm (map string_bytes words.now) (EndsWithCause (P.files place.old) result) }
-    ensures opens { IfForm (map string_bytes words.now) (OpensBy (of_place P.Place) place.old place.new result) }
-    ensures sink { IfForm (map string_bytes words.now) (EndsInSink (of_sink O.Sink) out.old out.new (P.files place.old) result) }
+    ensures ends { IfForm (map string_bytes words.now) (EndsInStatus (of_place P.Place) (of_sink O.Sink) (at place.old out.old) (at place.new out.new) result) }
     ensures usage { (result ≡ Status.Usage) ↔ (share_names (map string_bytes words.now) ≡ None) }
     ensures silent { result ≡ Status.Usage → (place.new ≡ place.old) × (out.new ≡ out.old) }
     ensures files { P.files place.new ≡ P.files place.old }
 {
     match share_names(words) {
-        Some(names) => Status::of_outcome(add_shares(alloc, &names, place, out)),
+        Some(names) => status_of(add_shares(alloc, &names, place, out)),
         None => Status::Usage,
     }
 }

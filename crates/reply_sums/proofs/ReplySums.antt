@@ -19,7 +19,7 @@ use Rattle.session_core.specs.Asked.{asked_reply, query_reply}
 use Rattle.reply_json.proofs.RepliesRead.{one_reply}
 use Rattle.reply_sums.specs.AddingUp.{AddsUp}
 use Rattle.reply_sums.specs.Additive.{adds_up, verb_adds_up}
-use Rattle.reply_sums.specs.Sums.{HaveNoSum, IsSum, sum_of_query, sum_of_rows, sum_tables}
+use Rattle.reply_sums.specs.Sums.{HaveNoSum, IsSum, sum_of_query, sum_of_rows, sum_tables, sum_told}
 use Rattle.reply_sums.specs.declared.fault.SumFault.{SumFault}
 use Rattle.reply_sums.specs.declared.fault.SumFault.TheVariants as fault
 use Rattle.reply_sums.proofs.TableSums.{tables_sum}
@@ -50,7 +50,7 @@ module _ (schema : Schema) (stat : Stat) (g h : List Point) (told more : ℕ) wh
   verb_adds q (verb.Best down rows) a b is adds first second = absurd (false≢true adds)
   verb_adds q verb.Stat a b is adds first second = absurd (false≢true adds)
   verb_adds q verb.Told a b is adds first second =
-      (Reply.Told (told + more), refl, (λ i. sum_of_query q (sym (one_reply (Reply.Told told) a first) i) (sym (one_reply (Reply.Told more) b second) i)))
+      (Reply.Told (told + more), refl, (λ i. sum_of_query q (sym (one_reply (Reply.Told told) a first) i) (sym (one_reply (Reply.Told more) b second) i)) ∙ ap (λ v. sum_told v told more) is)
   verb_adds q verb.Quit a b is adds first second = absurd (false≢true adds)
 
   pub asked_adds : (p : Parsed) (a b : Reply) → adds_up p ≡ true → asked_reply stat schema g told p ≡ Some a → asked_reply stat schema h more p ≡ Some b → Adds p a b

@@ -17,7 +17,7 @@ use Rattle.reply_json.specs.Validity.{are_valid_rows, is_area_row, is_bin_row, i
 use Rattle.reply_json.specs.declared.reply.Reply.{Reply}
 use Rattle.reply_sums.specs.Areas.{after_head, areas_of_both, head_total, is_none_left, left_after, sum_areas}
 use Rattle.reply_sums.specs.Rows.{sum_row, sum_rows}
-use Rattle.reply_sums.specs.Sums.{IsSum, sum_of_query, sum_of_rows, sum_tables}
+use Rattle.reply_sums.specs.Sums.{IsSum, sum_of_query, sum_of_rows, sum_tables, sum_told}
 use Rattle.reply_sums.specs.declared.fault.SumFault.{SumFault}
 use Rattle.reply_sums.proofs.RowSums.{before_sums}
 
@@ -130,9 +130,18 @@ tables_valid q t u sum is valid = at (sum_of_rows q q.verb t.rows u.rows) (λ su
     at None valid is = cc
     at (Some sums) valid is = let e : Reply.Table (record { rows = sums; seen = t.seen + u.seen }) ≡ sum = cc in subst (λ (r : Reply). is_valid_reply r ≡ true) e (valid sums refl)
 
-told_valid : (n m : ℕ) (sum : Reply) → Some (Reply.Told (n + m)) ≡ Some sum → is_valid_reply sum ≡ true
+told_valid : (v : Verb) (n m : ℕ) (sum : Reply) → sum_told v n m ≡ Some sum → is_valid_reply sum ≡ true
 unfolding is_valid_reply
-told_valid n m sum is = let e : Reply.Told (n + m) ≡ sum = cc in subst (λ (r : Reply). is_valid_reply r ≡ true) e refl
+told_valid verb.Told n m sum is = let e : Reply.Told (n + m) ≡ sum = cc in subst (λ (r : Reply). is_valid_reply r ≡ true) e refl
+told_valid verb.Count n m sum is = cc
+told_valid (verb.Hist k) n m sum is = cc
+told_valid (verb.Map down) n m sum is = cc
+told_valid (verb.Series from wide count) n m sum is = cc
+told_valid (verb.Window rect) n m sum is = cc
+told_valid (verb.Cross k l) n m sum is = cc
+told_valid (verb.Best down count) n m sum is = cc
+told_valid verb.Stat n m sum is = cc
+told_valid verb.Quit n m sum is = cc
 
 valid_rows : (t : Table) → is_valid_reply (Reply.Table t) ≡ true → are_valid_rows t.rows ≡ true
 unfolding is_valid_reply
@@ -144,7 +153,7 @@ fault_valid fault word sum is = ap is_valid_reply is
 
 query_valid : (q : Query) (a b sum : Reply) → sum_of_query q a b ≡ Some sum → is_valid_reply a ≡ true → is_valid_reply sum ≡ true
 query_valid q (Reply.Table t) (Reply.Table u) sum is valid = tables_valid q t u sum is (valid_rows t valid)
-query_valid q (Reply.Told n) (Reply.Told m) sum is valid = told_valid n m sum is
+query_valid q (Reply.Told n) (Reply.Told m) sum is valid = told_valid q.verb n m sum is
 query_valid q _ _ sum is valid = cc
 
 -- the sum of a reply that can be printed and another can be printed

@@ -1,5 +1,5 @@
 -- The sum of two replies to what was asked.
-use Rattle.std.specs.Prelude.{◌≡◌, true, ◌+◌, ◌^◌, ◌<◌, ◌≤◌, List, Option, Some, None, option_map, ⊤}
+use Rattle.std.specs.Prelude.{◌≡◌, true, ℕ, ◌+◌, ◌^◌, ◌<◌, ◌≤◌, List, Option, Some, None, option_map, ⊤}
 use Rattle.query_syntax.specs.TileOrder.{tiles_below}
 use Rattle.query_syntax.specs.declared.query.Parsed.{Parsed}
 use Rattle.query_syntax.specs.declared.query.Parsed.TheVariants.{Skip, Ask, Fault}
@@ -30,10 +30,23 @@ sum_of_rows q verb.Quit rows others = None
 unfoldable pub sum_tables : Query → Table → Table → Option Reply
 sum_tables q t u = option_map (λ rows. Reply.Table (record { rows = rows; seen = t.seen + u.seen })) (sum_of_rows q q.verb t.rows u.rows)
 
--- the sum of two replies to a query: tables where it asks for one, else told lengths
+-- the sum of two told lengths, where a verb asks for one
+abbrev pub sum_told : Verb → ℕ → ℕ → Option Reply
+sum_told verb.Count n m = None
+sum_told (verb.Hist k) n m = None
+sum_told (verb.Map down) n m = None
+sum_told (verb.Series from wide count) n m = None
+sum_told (verb.Window rect) n m = None
+sum_told (verb.Cross k l) n m = None
+sum_told (verb.Best down count) n m = None
+sum_told verb.Stat n m = None
+sum_told verb.Told n m = Some (Reply.Told (n + m))
+sum_told verb.Quit n m = None
+
+-- the sum of two replies to a query: of tables or of told lengths, where it asks for them
 abbrev pub sum_of_query : Query → Reply → Reply → Option Reply
 sum_of_query q (Reply.Table t) (Reply.Table u) = sum_tables q t u
-sum_of_query q (Reply.Told n) (Reply.Told m) = Some (Reply.Told (n + m))
+sum_of_query q (Reply.Told n) (Reply.Told m) = sum_told q.verb n m
 sum_of_query q reply other = None
 
 -- The reply is the sum of two to what was asked: to a query their sum, and to a faulty line the fault that both are

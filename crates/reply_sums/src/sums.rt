@@ -5,7 +5,7 @@ ghost use Rattle.reply_json.specs.declared.reply.Reply.{Reply};
 ghost use Rattle.reply_sums.specs.AddingUp.{AddsUp};
 ghost use Rattle.reply_sums.specs.Additive.{adds_up};
 ghost use Rattle.reply_sums.specs.Numbers.{AreGreat, IsGreat, are_rows_great, is_reply_great};
-ghost use Rattle.reply_sums.specs.Sums.{AsksShallow, HaveGreatSum, HaveNoSum, IsMapShallow, IsSum, sum_of_query, sum_of_rows, sum_tables};
+ghost use Rattle.reply_sums.specs.Sums.{AsksShallow, HaveGreatSum, HaveNoSum, IsMapShallow, IsSum, sum_of_query, sum_of_rows, sum_tables, sum_told};
 
 use crate::SumFault;
 use crate::areas::sum_areas;
@@ -66,6 +66,24 @@ fn sum_tables(alloc: Global, query: &Query, table: &Table, other: &Table) -> Res
     Ok(Reply::Table(Table { rows, seen }))
 }
 
+/// The reply of two told lengths to the query, added.
+fn sum_told(query: &Query, told: u64, other: u64) -> Result<Reply, SumFault>
+    ensures sum { IfOk result (λ sum. sum_told query.now.verb told other ≡ Some sum) }
+    ensures fits { IfOk result (λ sum. is_reply_great sum ≡ false) }
+    ensures none { result ≡ Err SumFault.OtherRows → sum_told query.now.verb told other ≡ None }
+    ensures great { result ≡ Err SumFault.TooMuch → IsGreat (sum_told query.now.verb told other) }
+{
+    match query.verb {
+        Verb::Told => Ok(Reply::Told(sum_totals(told, other)?)),
+        Verb::Count | Verb::Hist(_) | Verb::Map(_) | Verb::Series { .. } => {
+            Err(SumFault::OtherRows)
+        }
+        Verb::Window(_) | Verb::Cross(..) | Verb::Best { .. } | Verb::Stat | Verb::Quit => {
+            Err(SumFault::OtherRows)
+        }
+    }
+}
+
 /// The sum of two replies to the query.
 fn sum_of_query(
     alloc: Global,
@@ -81,7 +99,7 @@ fn sum_of_query(
 {
     match (reply, other) {
         (Reply::Table(table), Reply::Table(more)) => sum_tables(alloc, query, table, more),
-        (Reply::Told(told), Reply::Told(more)) => Ok(Reply::Told(sum_totals(*told, *more)?)),
+        (Reply::Told(told), Reply::Told(more)) => sum_told(query, *told, *more),
         _ => Err(SumFault::OtherRows),
     }
 }
@@ -100,8 +118,8 @@ fn is_fault(reply: &Reply, fault: QueryFault, word: u32) -> bool
 ///
 /// Where they are the replies over two lists of points, it is the reply over the lists joined. They have no sum where
 /// one is no reply to what was asked, where their rows are not of the same values, starts or pairs, or where a row of a
-/// map is of no tile that was asked for, out of path order, or of total 0. Where they have one, but a total of it is 2^64
-/// or more, the answer is `TooMuch`.
+/// map is of no tile that was asked for, out of path order, or of total 0. Where they have one, but a total of it is
+/// 2^64 or more, the answer is `TooMuch`.
 #[tactic(auto, unfolding(reply_json::specs::Validity::is_valid_reply))]
 pub fn sum_replies(
     alloc: Global,

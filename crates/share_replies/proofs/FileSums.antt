@@ -16,10 +16,11 @@ use Rattle.share_replies.specs.declared.summed.Summed.{Summed}
 pub told_is : (file : Option (List ℕ)) (bytes all : List ℕ) → Told file (λ own. bytes ≡ own) → file ≡ Some all → bytes ≡ all
 told_is file bytes all told is = let own = subst (λ (f : Option (List ℕ)). Told f (λ own. bytes ≡ own)) is told in own
 
-joined-assoc : (s t u : Share) → joined_shares s (joined_shares t u) ≡ joined_shares (joined_shares s t) u
+-- shares joined in any order of joining
+pub joined-assoc : (s t u : Share) → joined_shares s (joined_shares t u) ≡ joined_shares (joined_shares s t) u
 joined-assoc s t u = let told : s.told + (t.told + u.told) ≡ (s.told + t.told) + u.told = omega arith in λ i. record { points = sym (append_assoc s.points t.points u.points) i; told = told i }
 
-joined-nothing : (s : Share) → joined_shares s nothing ≡ joined_shares nothing s
+pub joined-nothing : (s : Share) → joined_shares s nothing ≡ joined_shares nothing s
 joined-nothing s = let told : s.told + 0 ≡ 0 + s.told = omega arith in λ i. record { points = append-nil s.points i; told = told i }
 
 module _ (schema : Schema) (ps : List Parsed) where

@@ -45,10 +45,6 @@ module _ (p : Parsed) (total : Option Reply) (text : List ℕ) where
   fails_line why.TooGreat reply begins fails = (reply, begins, fails)
 
   module _ (reply : Reply) (own rest : List ℕ) (reads : ReadsReply text reply own rest) where
-    -- a reply that is none to what was asked
-    pub is_other : (w : WrongReply) → wrong Added why.OtherRows ≡ wrong Added w → HasOtherRows (adds_up p) p total reply → IsLineWrong p total text w
-    is_other w e other = subst (IsLineWrong p total text) (wrong_is why.OtherRows w e) (reply, (reads.0, (rest, reads.2)), other)
-
     -- a fault of the sum that was handed on
     pub is_handed : (w : WrongReply) (r : Result Added LineFault) (fault : LineFault) → IsErrAnd r (λ f. f ≡ fault) → r ≡ wrong Added w → (fault ≡ line.Wrong w → IsReplyWrong p total reply w) → IsLineWrong p total text w
     is_handed w (Ok added) fault bad e fails = absurd bad

@@ -1,26 +1,41 @@
 -- The lines of sums, one after another.
-use Rattle.std.proofs.Common.{◌≡◌, ℕ, zero, suc, ◌+◌, ◌<◌, List, [], ◌∷◌, ◌++◌, length, take, get_or, Option, Some, None, Result, Ok, Err, OnOk, refl, sym, ◌∙◌, ap, subst, arith, append_assoc}
-use Rattle.std.proofs.lemmas.List.{append-nil}
+use Rattle.std.proofs.Common.{◌≡◌, ℕ, zero, suc, ◌+◌, ◌<◌, List, [], ◌∷◌, ◌++◌, length, take, drop, get_or, Option, Some, None, Result, Ok, Err, OnOk, refl, sym, ◌∙◌, ap, subst, arith, append_assoc}
+use Rattle.std.proofs.lemmas.Grind.{flat_map-append}
+use Rattle.std.proofs.lemmas.List.{append-nil, map-append, take-append-drop, take-map}
 use Rattle.cube_view.specs.declared.schema.Schema.{Schema}
-use Rattle.outer_io.proofs.GainedLaws.{gains_none, gains_on}
-use Rattle.outer_io.specs.Bytes.{Gains}
+use Rattle.outer_io.proofs.GainedLaws.{gains_none, gains_on, part_on}
+use Rattle.outer_io.specs.Bytes.{Gains, GainsPart}
+use Rattle.outer_io.specs.Faults.{Rose}
 use Rattle.plain_cube.specs.Listed.{no_structure}
 use Rattle.query_syntax.specs.declared.query.Parsed.{Parsed}
 use Rattle.reply_json.specs.Types.{ReplyFits}
+use Rattle.reply_json.specs.declared.reply.Reply.{Reply}
+use Rattle.reply_sums.proofs.RowSums.{drop_at}
 use Rattle.reply_sums.specs.Additive.{adds_up}
-use Rattle.run_files.specs.Outside.{Puts, SinkSeen}
+use Rattle.run_files.proofs.Apart.{err_is, ok_not_err}
+use Rattle.run_files.specs.Outside.{Puts, Silent, SinkSeen}
+use Rattle.run_files.specs.Saying.{SaysText}
+use Rattle.run_files.specs.declared.stop.Stop.{Stop}
+use Rattle.run_files.specs.declared.stop.Stop.TheVariants.{NoMemory, PlanRefused, ReadFault, WriteFault, FeedRefused}
 use Rattle.session_core.specs.Asked.{reply_line}
 use Rattle.session_core.proofs.OwnReplies.{reply_own}
 use Rattle.share_replies.specs.Refusals.{total_of_sum, totals_of}
 use Rattle.share_replies.specs.Shares.{AnyStat, Share}
 use Rattle.share_replies.specs.Sums.{IsSumOver, SumsOver}
-use Rattle.share_replies.specs.Texts.{IsLineOver, IsSummedText, PutsSumLine, PutsSums, not_additive_line, total_line, totals_text}
+use Rattle.share_replies.specs.Texts.{IsLineOver, IsSummedText, PutsSumLine, PutsSums, PutsTotals, not_additive_line, total_line, totals_text}
 use Rattle.share_replies.specs.declared.summed.Summed.{Summed}
 
 -- the lines of sums and one more
 totals_push : (sums : List (Option Summed)) (sum : Option Summed) → totals_text (totals_of (sums ++ sum ∷ [])) ≡ totals_text (totals_of sums) ++ total_line (total_of_sum sum)
 totals_push [] sum = append-nil (total_line (total_of_sum sum))
 totals_push (first ∷ sums) sum = ap (λ t. total_line (total_of_sum first) ++ t) (totals_push sums sum) ∙ sym (append_assoc (total_line (total_of_sum first)) (totals_text (totals_of sums)) (total_line (total_of_sum sum)))
+
+-- the lines of sums before one, its own, and those after it
+totals_split : (sums : List (Option Summed)) (i : ℕ) (sum : Option Summed) → sum ≡ get_or sums i sum → i < length sums → totals_text (totals_of sums) ≡ totals_text (totals_of (take i sums)) ++ (total_line (total_of_sum sum) ++ totals_text (totals_of (drop (i + 1) sums)))
+totals_split sums i sum item lt =
+    ap (λ ss. totals_text (totals_of ss)) (sym (take-append-drop i sums))
+    ∙ (ap totals_text (map-append total_of_sum (take i sums) (drop i sums))
+    ∙ (flat_map-append total_line (totals_of (take i sums)) (totals_of (drop i sums)) ∙ ap (λ ss. totals_text (totals_of (take i sums)) ++ totals_text (totals_of ss)) (drop_at sums i sum item lt)))
 
 -- what follows of a good end
 pub on_ok : {T E : Type 0} (r : Result T E) (P Q : Type 0) → (P → Q) → OnOk r P → OnOk r Q
@@ -40,6 +55,43 @@ module _ {O : Type 0} (s : SinkSeen O) where
         faults = more.faults ∙ before.faults;
         name = more.name ∙ before.name;
       }
+
+  -- what was put is still all that was
+  puts_still : (a b c : O) (text : List ℕ) → Puts s a b text → Silent s b c → Puts s a c text
+  puts_still a b c text puts quiet = record {
+    held = subst (λ (h : Option (List ℕ)). Gains (s.held a) h text) (sym quiet.held) puts.held;
+    faults = quiet.faults ∙ puts.faults;
+    name = quiet.name ∙ puts.name;
+  }
+
+  -- all lines were put
+  pub totals_put : {T : Type 0} (a b : O) (totals : List (Option Reply)) (x : T) → Puts s a b (totals_text totals) → PutsTotals s a b totals (Ok x)
+  totals_put a b totals x puts = record { puts = puts; fails = λ e. absurd (ok_not_err x WriteFault e); first = λ e. absurd (ok_not_err x NoMemory e); ends = (ok_not_err x PlanRefused, ok_not_err x ReadFault, ok_not_err x FeedRefused) }
+
+  -- or not all, as the next was not
+  pub totals_failed : {T U : Type 0} (a b c : O) (sums : List (Option Summed)) (i : ℕ) (sum : Option Summed) (stop : Stop) → sum ≡ get_or sums i sum → i < length sums → Puts s a b (totals_text (totals_of (take i sums)))
+      → SaysText {T = T} s b c (total_line (total_of_sum sum)) (Err stop) → PutsTotals {T = U} s a c (totals_of sums) (Err stop)
+  totals_failed a b c sums i sum stop item lt before says = record {
+    puts = tt;
+    fails = λ e.
+        let fails = says.fails (ap (λ k. Err k) (err_is stop WriteFault e)) in
+        record {
+          held = subst (λ (t : List ℕ). GainsPart (s.held a) (s.held c) t) (sym (totals_split sums i sum item lt)) (part_on (s.held a) (s.held b) (s.held c) (totals_text (totals_of (take i sums))) (total_line (total_of_sum sum)) (totals_text (totals_of (drop (i + 1) sums))) before.held fails.held);
+          faults = subst (λ (n : ℕ). Rose n (s.faults c)) before.faults fails.faults;
+          name = fails.name ∙ before.name;
+        };
+    first = λ e. (i, subst (λ (totals : List (Option Reply)). Puts s a c (totals_text totals)) (sym (take-map total_of_sum i sums)) (puts_still a b c _ before (says.silent (ap (λ k. Err k) (err_is stop NoMemory e)))));
+    ends = (λ e. says.ends.0 (ap (λ k. Err k) (err_is stop PlanRefused e)), λ e. says.ends.1 (ap (λ k. Err k) (err_is stop ReadFault e)), λ e. says.ends.2 (ap (λ k. Err k) (err_is stop FeedRefused e)));
+  }
+
+  -- so it is whatever is answered of it
+  pub totals_ended : {T U : Type 0} (a b : O) (totals : List (Option Reply)) (stop : Stop) → PutsTotals {T = T} s a b totals (Err stop) → PutsTotals {T = U} s a b totals (Err stop)
+  totals_ended a b totals stop put = record {
+    puts = tt;
+    fails = λ e. put.fails (ap (λ k. Err k) (err_is stop WriteFault e));
+    first = λ e. put.first (ap (λ k. Err k) (err_is stop NoMemory e));
+    ends = (λ e. put.ends.0 (ap (λ k. Err k) (err_is stop PlanRefused e)), λ e. put.ends.1 (ap (λ k. Err k) (err_is stop ReadFault e)), λ e. put.ends.2 (ap (λ k. Err k) (err_is stop FeedRefused e)));
+  }
 
 module _ (schema : Schema) (s : Share) where
   -- the line of a sum

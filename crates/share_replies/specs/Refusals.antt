@@ -31,12 +31,16 @@ total_of_sum sum = option_map (λ s. s.reply) sum
 abbrev pub totals_of : List (Option Summed) → List (Option Reply)
 totals_of sums = map total_of_sum sums
 
--- the totals of no replies: the reply over no points, where replies add up
-abbrev pub first_totals : Schema → List Parsed → List (Option Reply)
-first_totals schema ps = map (λ p. if adds_up p then asked_reply no_structure schema [] 0 p else None) ps
+-- the total of no replies: the reply over no points, where replies add up
+abbrev pub first_total : Schema → Parsed → Option Reply
+first_total schema p = if adds_up p then asked_reply no_structure schema [] 0 p else None
 
--- a reply to what was asked makes the next total of the one before: where replies add up their sum, if no number of it is
--- 2^64 or more; where they do not there is none, and the reply is of the kind that was asked for
+-- those of what was asked
+abbrev pub first_totals : Schema → List Parsed → List (Option Reply)
+first_totals schema ps = map (first_total schema) ps
+
+-- a reply to what was asked makes the next total of the one before: where replies add up their sum, if no number of it
+-- is 2^64 or more; where they do not there is none, and the reply is of the kind that was asked for
 abbrev pub AddsBy : Bool → Parsed → Option Reply → Reply → Option Reply → Type 0
 AddsBy false p total reply next = IsTrue (is_of_kind p reply) × (next ≡ None)
 AddsBy true p (Some total) reply (Some next) = IsSum p total reply next × (is_reply_great next ≡ false)

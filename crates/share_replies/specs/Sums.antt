@@ -10,7 +10,7 @@ use Rattle.query_syntax.specs.declared.query.Verb.TheVariants as verb
 use Rattle.reply_json.specs.declared.reply.Reply.{Reply}
 use Rattle.reply_sums.specs.Additive.{adds_up}
 use Rattle.session_core.specs.Asked.{asked_reply}
-use Rattle.session_core.specs.Transcript.{AllAnswered, replies_text}
+use Rattle.session_core.specs.Transcript.{AllAnswered, IsReply, replies_text}
 use Rattle.share_replies.specs.Shares.{AnyStat, AreShares, IsShare, Share, joined_shares, nothing, together}
 use Rattle.share_replies.specs.declared.fault.FileFault.{FileFault}
 use Rattle.share_replies.specs.declared.fault.FileFault.TheVariants as file
@@ -74,6 +74,12 @@ IsInnocentText (text.At n w) = IsInnocent w
 abbrev pub AddsOne : Parsed → Reply → Reply → Result (Option Summed) LineFault → Type 0
 AddsOne p sum reply result =
     (schema : Schema) (g s : Share) → asked_reply no_structure schema g.points g.told p ≡ Some sum → asked_reply no_structure schema s.points s.told p ≡ Some reply
+    → IfOk result (IsSumOver schema (joined_shares g s) p) × IfErr result IsInnocentLine
+
+-- where the sum is over some points and the reply is the final one over a share, the answer is the sum over both
+abbrev pub AddsReply : Parsed → Option Summed → Reply → Result (Option Summed) LineFault → Type 0
+AddsReply p sum reply result =
+    (schema : Schema) (g s : Share) → IsSumOver schema g p sum → IsReply schema AnyStat true s.points s.told p reply
     → IfOk result (IsSumOver schema (joined_shares g s) p) × IfErr result IsInnocentLine
 
 -- where the sum is over some points and the text begins with a share's reply, the answer is the sum over both, and what

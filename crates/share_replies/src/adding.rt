@@ -1,27 +1,27 @@
 //! The replies of shares added, from files.
-ghost use Rattle.std.specs.Prelude.{◌≡◌, ℕ, ◌<◌, ◌++◌, ◌∷◌, Err, List, IfErr, IfOk, OnOk, length, map, string_bytes};
-ghost use Rattle.outer_io.specs.Faults.{HasCause};
+ghost use Rattle.std.specs.Prelude.{◌≡◌, ℕ, ◌<◌, ◌++◌, [], ◌∷◌, Err, List, IfOk, OnOk, length, map, string_bytes};
 ghost use Rattle.cube_view.specs.declared.schema.Schema.{Schema};
 ghost use Rattle.query_syntax.specs.declared.query.Parsed.{Parsed};
-ghost use Rattle.run_files.specs.Outside.{of_place, of_sink, Puts};
-ghost use Rattle.share_replies.specs.Causes.{EndsByFiles, IsPutEnd, LeavesSink, OpensShares, PutsAfter, ReadsShares, stop_in_shares, stop_of_shares};
+ghost use Rattle.run_files.specs.Outside.{of_place, of_sink};
+ghost use Rattle.run_files.specs.Saying.{SaysText};
+ghost use Rattle.share_replies.specs.Causes.{EndsByFiles, LeavesSink, OpensShares, ReadsReplies};
 ghost use Rattle.share_replies.specs.Ends.{AddsUpFiles, AreSumsOver, OutcomeOver, SaysWrong, SaysShares, SaysSums, SumsOfFiles, given_names};
 ghost use Rattle.share_replies.specs.Refusals.{DecidesScript};
 ghost use Rattle.share_replies.specs.Shares.{Share};
 ghost use Rattle.share_replies.specs.Sums.{IsInnocentShares};
 ghost use Rattle.share_replies.specs.declared.fault.SharesFault.{SharesFault};
 ghost use Rattle.share_replies.specs.declared.fault.WrongReply.{WrongReply};
-ghost use Rattle.share_replies.specs.Texts.{wrong_reply_text, wrong_line};
+ghost use Rattle.share_replies.specs.Texts.{share_line, wrong_line, wrong_reply_text};
 
 use crate::fault::{SharesFault, WrongReply};
 use crate::files::{add_files, read_text};
 use crate::first::first_sums;
-use crate::put::{put_bytes, put_sums};
+use crate::put::put_sums;
 use crate::summed::Summed;
 use cube_view::Schema;
 use outer_io::{Place, Sink};
 use recount::asked_of;
-use run_files::{Stop, load_plan};
+use run_files::{Stop, load_plan, put_text};
 use std::alloc::{AllocError, Global};
 use texts::List;
 
@@ -40,7 +40,8 @@ pub enum Outcome {
     Refused(WrongReply),
 }
 
-fn why_name(why: WrongReply) -> &'static str
+/// The name of what is wrong with a reply.
+pub fn why_name(why: WrongReply) -> &'static str
     ensures { result.now ≡ wrong_reply_text why }
 {
     match why {
@@ -53,19 +54,19 @@ fn why_name(why: WrongReply) -> &'static str
 }
 
 // Appends the line that says which reply of a share is wrong.
-#[tactic(auto, unfolding(crate::specs::Texts::wrong_line))]
-fn push_wrong(text: &mut String, name: &str, line: u64, why: WrongReply) -> Result<(), AllocError>
-    ensures { OnOk result (string_bytes text.new ≡ string_bytes text.old ++ wrong_line name.now line why) }
+#[tactic(auto, unfolding(crate::specs::Texts::share_line))]
+fn push_share_line(text: &mut String, name: &str, line: u64, why: &str) -> Result<(), AllocError>
+    ensures { OnOk result (string_bytes text.new ≡ string_bytes text.old ++ share_line name.now line why.now) }
 {
-    let why = why_name(why);
     write!(text, "share {name}: reply {line}: {why}\n")
 }
 
-fn wrong_line(alloc: Global, name: &str, line: u64, why: WrongReply) -> Result<String, AllocError>
-    ensures { IfOk result (λ text. string_bytes text ≡ wrong_line name.now line why) }
+/// The line that says which reply of a share is wrong, by the share's name, the line's number from 1 and a name of why.
+pub fn share_line(alloc: Global, name: &str, line: u64, why: &str) -> Result<String, AllocError>
+    ensures { IfOk result (λ text. string_bytes text ≡ share_line name.now line why.now) }
 {
     let mut text = String::new(alloc);
-    push_wrong(&mut text, name, line, why)?;
+    push_share_line(&mut text, name, line, why)?;
     Ok(text)
 }
 
@@ -78,14 +79,12 @@ fn refuse<O: Sink>(
     out: &mut O,
 ) -> Result<Outcome, Stop>
     ensures outcome { IfOk result (λ outcome. outcome ≡ Outcome.Refused why) }
-    ensures puts { IfOk result (λ outcome. Puts (of_sink O.Sink) out.old out.new (wrong_line name.now line why)) }
-    ensures cause { HasCause (O.faults out.old) (O.faults out.new) result Stop.WriteFault }
-    ensures ends { IfErr result IsPutEnd }
+    ensures says { SaysText (of_sink O.Sink) out.old out.new (wrong_line name.now line why) result }
 {
-    let Ok(text) = wrong_line(alloc, name, line, why) else {
+    let Ok(text) = share_line(alloc, name, line, why_name(why)) else {
         return Err(Stop::NoMemory);
     };
-    put_bytes(text.as_str().as_bytes(), out)?;
+    put_text(text.as_str().as_bytes(), out)?;
     Ok(Outcome::Refused(why))
 }
 
@@ -99,7 +98,7 @@ fn sums_of<P: Place>(
     ensures law { SumsOfFiles schema.now (P.files place.old) (given_names names.now) result }
     ensures decides { DecidesScript schema.now (P.files place.old) names.now.script.now (map string_bytes names.now.replies.now) result }
     ensures share { (k line : ℕ) (why : WrongReply) → result ≡ Err (SharesFault.Wrong k line why) → k < length names.now.replies.now }
-    ensures stage { ReadsShares (of_place P.Place) place.old place.new (given_names names.now) result }
+    ensures stage { ReadsReplies (of_place P.Place) place.old place.new (names.now.script.now ∷ []) (map string_bytes names.now.replies.now) result }
     ensures files { P.files place.new ≡ P.files place.old }
 {
     let script = match read_text(alloc, names.script, place) {
@@ -123,8 +122,7 @@ fn say_fault<O: Sink>(
     out: &mut O,
 ) -> Result<Outcome, Stop>
     requires share { (k line : ℕ) (why : WrongReply) → fault ≡ SharesFault.Wrong k line why → k < length replies.now }
-    ensures says { IfOk result (SaysWrong (of_sink O.Sink) out.old out.new (map string_bytes replies.now) fault) }
-    ensures puts { PutsAfter (of_sink O.Sink) out.old out.new (stop_of_shares fault) result }
+    ensures says { SaysWrong (of_sink O.Sink) out.old out.new (map string_bytes replies.now) fault result }
     ensures law { (z : Schema) (s : Share) (ps : List Parsed) → IsInnocentShares fault → IfOk result (OutcomeOver z ps s (O.held out.old) (O.held out.new)) }
 {
     match fault {
@@ -143,8 +141,7 @@ fn put_outcome<O: Sink>(
     out: &mut O,
 ) -> Result<Outcome, Stop>
     requires share { (k line : ℕ) (why : WrongReply) → sums ≡ Err (SharesFault.Wrong k line why) → k < length replies.now }
-    ensures says { IfOk result (SaysSums (of_sink O.Sink) out.old out.new (map string_bytes replies.now) sums) }
-    ensures puts { PutsAfter (of_sink O.Sink) out.old out.new (stop_in_shares sums) result }
+    ensures says { SaysSums (of_sink O.Sink) out.old out.new (map string_bytes replies.now) sums result }
     ensures law { (z : Schema) (s : Share) (ps : List Parsed) → AreSumsOver z s ps sums → IfOk result (OutcomeOver z ps s (O.held out.old) (O.held out.new)) }
 {
     let sums = match sums {
@@ -157,11 +154,12 @@ fn put_outcome<O: Sink>(
 
 /// Adds the replies to one script of shares, and puts the replies over all of them.
 ///
-/// The plan is read first, then the script, and then the replies of each share, whole, one file after another; nothing
-/// is put before all were added. Where each file of replies is the final transcript of the script over a list of points,
-/// what is put is the final transcript over the lists joined, with a line of its own for what does not add up. The first
-/// line of a share that is wrong is named on `out`, and nothing else is put. A script or replies of more than 2^30 bytes
-/// are refused as a feed is.
+/// The plan is read first, then the script, and then the replies of each share, whole, one file after another; one that
+/// could not be read is the last that is opened, and nothing is put before all were added. Where each file of replies
+/// is the final transcript of the script over a list of points, what is put is the final transcript over the lists
+/// joined, with a line of its own for what does not add up. The first line of a share that is wrong is named on `out`,
+/// and nothing else is put. A script or replies of more than 2^30 bytes are refused as a feed is. Where a put fails, or
+/// memory runs out after all were added, a part of this was put, from the front.
 pub fn add_shares<P: Place, O: Sink>(
     alloc: Global,
     names: &ShareNames<'_>,

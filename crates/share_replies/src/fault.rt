@@ -15,9 +15,9 @@ pub enum WrongReply {
     TooGreat,
 }
 
-/// Why one line is not added.
+/// Why a reply, or the one of a line, is not added: memory ran out, or it is wrong.
 #[derive(Clone, Copy, PartialEq, Eq, Debug)]
-pub(crate) enum LineFault {
+pub enum LineFault {
     NoMemory,
     Wrong(WrongReply),
 }

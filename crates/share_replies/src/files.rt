@@ -7,7 +7,7 @@ ghost use Rattle.outer_io.specs.Told.{Told};
 ghost use Rattle.reply_sums.specs.Sums.{AsksShallow};
 ghost use Rattle.run_files.specs.Outside.{file_of, of_place};
 ghost use Rattle.run_files.specs.declared.stop.Stop.{Stop};
-ghost use Rattle.share_replies.specs.Causes.{ReadsFiles, ReadsReplies, stop_in_file, stop_of_file, stop_of_shares};
+ghost use Rattle.share_replies.specs.Causes.{ReadsFiles, ReadsReplies, stop_in_file};
 ghost use Rattle.share_replies.specs.Refusals.{DecidesFile, DecidesFiles, totals_of};
 ghost use Rattle.share_replies.specs.Sums.{AddsFile, AddsFiles, IsInnocentFile, IsInnocentShares, IsInnocentText};
 ghost use Rattle.share_replies.specs.declared.fault.WrongReply.{WrongReply};
@@ -56,7 +56,7 @@ fn fault_of_text(fault: TextFault) -> FileFault
 fn fault_of_share(fault: FileFault, share: usize) -> SharesFault
     ensures innocent { IsInnocentFile fault → IsInnocentShares result }
     ensures at { (k line : ℕ) (w : WrongReply) → result ≡ SharesFault.Wrong k line w → (k ≡ share) × (fault ≡ FileFault.Wrong line w) }
-    ensures stop { stop_of_shares result ≡ stop_of_file fault }
+    ensures stopped { (stop : Stop) → result ≡ SharesFault.Stopped stop → fault ≡ FileFault.Stopped stop }
 {
     match fault {
         FileFault::Stopped(stop) => SharesFault::Stopped(stop),
@@ -103,7 +103,7 @@ pub(crate) fn add_files<P: Place>(
     ensures law { (schema : Schema) → AddsFiles schema asked.now first (P.files place.old) (map string_bytes names.now) result }
     ensures share { (k line : ℕ) (why : WrongReply) → result ≡ Err (SharesFault.Wrong k line why) → k < length names.now }
     ensures decides { DecidesFiles (P.files place.old) asked.now (totals_of first) (map string_bytes names.now) result }
-    ensures stage { ReadsReplies (of_place P.Place) place.old place.new (map string_bytes names.now) result }
+    ensures stage { ReadsReplies (of_place P.Place) place.old place.new [] (map string_bytes names.now) result }
     ensures files { P.files place.new ≡ P.files place.old }
 {
     let mut sums = first;

@@ -12,7 +12,7 @@ use std::alloc::Global;
 use texts::{List, NoMemory};
 
 /// The sum of no replies to what was asked; none where replies do not add up.
-fn first_sum(alloc: Global, schema: &Schema, asked: &Parsed) -> Result<Option<Summed>, NoMemory>
+pub fn first_sum(alloc: Global, schema: &Schema, asked: &Parsed) -> Result<Option<Summed>, NoMemory>
     requires valid { IsTrue (asks_valid schema.now asked.now) }
     ensures sum { IfOk result (IsSumOver schema.now nothing asked.now) }
 {

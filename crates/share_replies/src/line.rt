@@ -4,7 +4,7 @@ ghost use Rattle.reply_json.specs.Validity.{is_valid_reply};
 ghost use Rattle.reply_sums.specs.Additive.{adds_up};
 ghost use Rattle.reply_sums.specs.Sums.{AsksShallow};
 ghost use Rattle.share_replies.specs.Refusals.{AddsBy, IsLineWrong, IsLineRight, IsReplyWrong, total_of_sum};
-ghost use Rattle.share_replies.specs.Sums.{AddsLine, AddsOne, is_of_kind, kind_fits};
+ghost use Rattle.share_replies.specs.Sums.{AddsLine, AddsOne, AddsReply, is_of_kind, kind_fits};
 ghost use Rattle.share_replies.specs.declared.fault.WrongReply.{WrongReply};
 
 use crate::fault::{LineFault, WrongReply};
@@ -67,6 +67,33 @@ fn sum_with(
     }
 }
 
+/// The sum with one more reply to what was asked.
+///
+/// Where the sum is over some points, and the reply is the final one over others, the answer is the sum over both, and
+/// the reply is not refused, unless the sum is too great.
+pub fn add_reply(
+    alloc: Global,
+    asked: &Parsed,
+    sum: &Option<Summed>,
+    reply: &Reply,
+) -> Result<Option<Summed>, LineFault>
+    requires shallow { AsksShallow asked.now }
+    ensures law { AddsReply asked.now sum.now reply.now result }
+    ensures right { IfOk result (λ next. AddsBy (adds_up asked.now) asked.now (total_of_sum sum.now) reply.now (total_of_sum next)) }
+    ensures wrong { (w : WrongReply) → result ≡ Err (LineFault.Wrong w) → IsReplyWrong asked.now (total_of_sum sum.now) reply.now w }
+{
+    if !adds_up(asked) {
+        if is_of_kind(asked, reply) {
+            return Ok(None);
+        }
+        return Err(LineFault::Wrong(WrongReply::OtherRows));
+    }
+    let Some(sum) = sum else {
+        return Err(LineFault::Wrong(WrongReply::OtherRows));
+    };
+    sum_with(alloc, asked, &sum.reply, reply)
+}
+
 /// The sum with the reply of the text's first line, and what follows that line.
 pub(crate) fn add_next<'a>(
     alloc: Global,
@@ -85,16 +112,9 @@ pub(crate) fn add_next<'a>(
     let Some(next) = next_reply(alloc, text)? else {
         return Err(LineFault::Wrong(WrongReply::NotReply));
     };
-    let rest = next.rest;
-    if !adds_up(asked) {
-        if is_of_kind(asked, &next.reply) {
-            return Ok(Added { sum: None, rest });
-        }
-        return Err(LineFault::Wrong(WrongReply::OtherRows));
-    }
-    let Some(sum) = sum else {
-        return Err(LineFault::Wrong(WrongReply::OtherRows));
-    };
-    let sum = sum_with(alloc, asked, &sum.reply, &next.reply)?;
-    Ok(Added { sum, rest })
+    let sum = add_reply(alloc, asked, sum, &next.reply)?;
+    Ok(Added {
+        sum,
+        rest: next.rest,
+    })
 }

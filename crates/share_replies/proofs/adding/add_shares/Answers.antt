@@ -1,4 +1,4 @@
-use Rattle.std.proofs.Common.{◌≡◌, [], ◌∷◌, List, ℕ, Option, IfOk, None, map, ◌∙◌, ap, subst, sym}
+use Rattle.std.proofs.Common.{◌≡◌, [], ◌∷◌, List, ℕ, Option, IfOk, None, Err, map, ◌∙◌, ap, subst, sym}
 use Rattle.std.specs.Prelude.{string_bytes}
 use Rattle.outer_io.specs.Files.{Files, file_or_empty}
 use Rattle.outer_io.specs.Lines.{lines}
@@ -9,7 +9,6 @@ use Rattle.session_core.specs.Asked.{asked}
 use Rattle.share_replies.specs.Ends.{OutcomeOver, given_names}
 use Rattle.share_replies.specs.Shares.{together}
 use Rattle.share_replies.proofs.Outcomes.{some_plan, under_plan}
-use Rattle.share_replies.proofs.ShareClaims.{says_shares}
 use Rattle.run_files.proofs.Apart.{residual_is}
 use Rattle.share_replies.specs.Causes.{EndsByFiles, LeavesSink, OpensShares}
 use Rattle.share_replies.proofs.ShareEnds.{ended_after, ended_by_plan}
@@ -35,51 +34,54 @@ returns-clause-law g c files told =
 pub returns-clause-shares : goal.returns-clause-shares
 returns-clause-shares g c =
     let p = of_place g.P.Place in
-    let kept : g.P.Place.files c.load_plan.new.place ≡ g.P.Place.files c.args.place.now = same_files p c.args.place.now c.load_plan.new.place (c.args.names.now.plan.now ∷ []) None c.in_ok-plan.ensures.leaves in
-    says_shares (of_sink g.O.Sink) c.args.out.now c.load_plan.new.out c.put_outcome.new.out (g.P.Place.files c.args.place.now) (g.P.Place.files c.load_plan.new.place) (given_names c.args.names.now) c.in_ok-plan.plan
-    c.sums_of-sums.result c.put_outcome.result (c.in_ok-plan.ensures.plan.silent (λ e. cc)) kept c.in_ok-plan.ensures.plan.plan c.sums_of-sums.ensures.decides c.put_outcome.ensures.says
+    let s = of_sink g.O.Sink in
+    (ended_after p s (given_names c.args.names.now) c.args.place.now c.load_plan.new.place c.sums_of-sums.new.place c.args.out.now c.load_plan.new.out c.put_outcome.new.out c.in_ok-plan.plan c.in_ok-plan.ensures.leaves c.in_ok-plan.ensures.plan
+    c.sums_of-sums.result c.put_outcome.result c.sums_of-sums.ensures.stage c.sums_of-sums.ensures.decides c.put_outcome.ensures.says).says
 
 pub returns-in_err-plan-clause-causes : goal.returns-in_err-plan-clause-causes
 returns-in_err-plan-clause-causes g c =
     let p = of_place g.P.Place in
     let s = of_sink g.O.Sink in
     let names = given_names c.args.names.now in
-    subst (EndsByFiles (g.P.Place.files c.args.place.now) names) (sym (residual_is c.from_residual.result c.in_err-plan.field-0.0 c.from_residual.ensures.1))
-    (ended_by_plan p s names c.args.place.now c.load_plan.new.place c.args.out.now c.load_plan.new.out c.in_err-plan.field-0.0 c.in_err-plan.ensures.leaves c.in_err-plan.ensures.plan).causes
+    let k = c.in_err-plan.field-0.0 in
+    subst (EndsByFiles (g.P.Place.files c.args.place.now) names) (sym (residual_is c.from_residual.result k c.from_residual.ensures.1))
+    (ended_by_plan p s names c.args.place.now c.load_plan.new.place c.args.out.now c.load_plan.new.out k c.in_err-plan.ensures.leaves (λ e. c.in_err-plan.ensures.read (ap (λ k. Err k) e)) c.in_err-plan.ensures.plan).causes
 
 pub returns-clause-causes : goal.returns-clause-causes
 returns-clause-causes g c =
     let p = of_place g.P.Place in
     let s = of_sink g.O.Sink in
-    (ended_after p s (given_names c.args.names.now) c.args.place.now c.load_plan.new.place c.sums_of-sums.new.place c.args.out.now c.load_plan.new.out c.put_outcome.new.out c.in_ok-plan.plan
-    c.in_ok-plan.ensures.leaves c.in_ok-plan.ensures.plan _ c.put_outcome.result c.sums_of-sums.ensures.stage c.put_outcome.ensures.puts).causes
+    (ended_after p s (given_names c.args.names.now) c.args.place.now c.load_plan.new.place c.sums_of-sums.new.place c.args.out.now c.load_plan.new.out c.put_outcome.new.out c.in_ok-plan.plan c.in_ok-plan.ensures.leaves c.in_ok-plan.ensures.plan
+    c.sums_of-sums.result c.put_outcome.result c.sums_of-sums.ensures.stage c.sums_of-sums.ensures.decides c.put_outcome.ensures.says).causes
 
 pub returns-in_err-plan-clause-opens : goal.returns-in_err-plan-clause-opens
 returns-in_err-plan-clause-opens g c =
     let p = of_place g.P.Place in
     let s = of_sink g.O.Sink in
     let names = given_names c.args.names.now in
-    subst (OpensShares p c.args.place.now c.load_plan.new.place names) (sym (residual_is c.from_residual.result c.in_err-plan.field-0.0 c.from_residual.ensures.1))
-    (ended_by_plan p s names c.args.place.now c.load_plan.new.place c.args.out.now c.load_plan.new.out c.in_err-plan.field-0.0 c.in_err-plan.ensures.leaves c.in_err-plan.ensures.plan).opens
+    let k = c.in_err-plan.field-0.0 in
+    subst (OpensShares p c.args.place.now c.load_plan.new.place names) (sym (residual_is c.from_residual.result k c.from_residual.ensures.1))
+    (ended_by_plan p s names c.args.place.now c.load_plan.new.place c.args.out.now c.load_plan.new.out k c.in_err-plan.ensures.leaves (λ e. c.in_err-plan.ensures.read (ap (λ k. Err k) e)) c.in_err-plan.ensures.plan).opens
 
 pub returns-clause-opens : goal.returns-clause-opens
 returns-clause-opens g c =
     let p = of_place g.P.Place in
     let s = of_sink g.O.Sink in
-    (ended_after p s (given_names c.args.names.now) c.args.place.now c.load_plan.new.place c.sums_of-sums.new.place c.args.out.now c.load_plan.new.out c.put_outcome.new.out c.in_ok-plan.plan
-    c.in_ok-plan.ensures.leaves c.in_ok-plan.ensures.plan _ c.put_outcome.result c.sums_of-sums.ensures.stage c.put_outcome.ensures.puts).opens
+    (ended_after p s (given_names c.args.names.now) c.args.place.now c.load_plan.new.place c.sums_of-sums.new.place c.args.out.now c.load_plan.new.out c.put_outcome.new.out c.in_ok-plan.plan c.in_ok-plan.ensures.leaves c.in_ok-plan.ensures.plan
+    c.sums_of-sums.result c.put_outcome.result c.sums_of-sums.ensures.stage c.sums_of-sums.ensures.decides c.put_outcome.ensures.says).opens
 
 pub returns-in_err-plan-clause-sink : goal.returns-in_err-plan-clause-sink
 returns-in_err-plan-clause-sink g c =
     let p = of_place g.P.Place in
     let s = of_sink g.O.Sink in
     let names = given_names c.args.names.now in
-    subst (LeavesSink s c.args.out.now c.load_plan.new.out (g.P.Place.files c.args.place.now) names) (sym (residual_is c.from_residual.result c.in_err-plan.field-0.0 c.from_residual.ensures.1))
-    (ended_by_plan p s names c.args.place.now c.load_plan.new.place c.args.out.now c.load_plan.new.out c.in_err-plan.field-0.0 c.in_err-plan.ensures.leaves c.in_err-plan.ensures.plan).sink
+    let k = c.in_err-plan.field-0.0 in
+    subst (LeavesSink s c.args.out.now c.load_plan.new.out (g.P.Place.files c.args.place.now) names) (sym (residual_is c.from_residual.result k c.from_residual.ensures.1))
+    (ended_by_plan p s names c.args.place.now c.load_plan.new.place c.args.out.now c.load_plan.new.out k c.in_err-plan.ensures.leaves (λ e. c.in_err-plan.ensures.read (ap (λ k. Err k) e)) c.in_err-plan.ensures.plan).sink
 
 pub returns-clause-sink : goal.returns-clause-sink
 returns-clause-sink g c =
     let p = of_place g.P.Place in
     let s = of_sink g.O.Sink in
-    (ended_after p s (given_names c.args.names.now) c.args.place.now c.load_plan.new.place c.sums_of-sums.new.place c.args.out.now c.load_plan.new.out c.put_outcome.new.out c.in_ok-plan.plan
-    c.in_ok-plan.ensures.leaves c.in_ok-plan.ensures.plan _ c.put_outcome.result c.sums_of-sums.ensures.stage c.put_outcome.ensures.puts).sink
+    (ended_after p s (given_names c.args.names.now) c.args.place.now c.load_plan.new.place c.sums_of-sums.new.place c.args.out.now c.load_plan.new.out c.put_outcome.new.out c.in_ok-plan.plan c.in_ok-plan.ensures.leaves c.in_ok-plan.ensures.plan
+    c.sums_of-sums.result c.put_outcome.result c.sums_of-sums.ensures.stage c.sums_of-sums.ensures.decides c.put_outcome.ensures.says).sink

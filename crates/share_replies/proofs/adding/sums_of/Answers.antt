@@ -12,7 +12,7 @@ use Rattle.share_replies.proofs.ShallowQueries.{all_shallow}
 use Rattle.share_replies.proofs.FileSums.{told_is}
 use Rattle.share_replies.proofs.Outcomes.{sums_asked}
 use Rattle.share_replies.proofs.ShareClaims.{decides_script}
-use Rattle.share_replies.proofs.ShareEnds.{files_lacked, front_one, front_then}
+use Rattle.share_replies.proofs.ShareEnds.{files_lacked, front_one, replies_then}
 use Rattle.share_replies.proofs.adding.sums_of.Goals as goal
 
 pub add_files-requires-clause-shallow : goal.add_files-requires-clause-shallow
@@ -44,17 +44,17 @@ returns-in-Err-clause-stage g c = front_one (of_place g.P.Place) c.args.place.no
 
 pub returns-clause-stage : goal.returns-clause-stage
 returns-clause-stage g c =
-    front_then (of_place g.P.Place) c.args.place.now c.read_text.new.place c.add_files.new.place c.args.names.now.script.now (map string_bytes c.args.names.now.replies.now) _
-    c.in-Ok.ensures.stage.leaves c.add_files.ensures.stage
+    replies_then (of_place g.P.Place) c.args.place.now c.read_text.new.place c.add_files.new.place c.args.names.now.script.now (map string_bytes c.args.names.now.replies.now) c.add_files.result
+    c.in-Ok.ensures.stage c.add_files.ensures.stage
 
 pub returns-in_default-clause-stage : goal.returns-in_default-clause-stage
 returns-in_default-clause-stage g c =
     let p = of_place g.P.Place in
     let script = c.args.names.now.script.now in
-    front_one p c.args.place.now c.read_text.new.place script (map string_bytes c.args.names.now.replies.now) _ (files_lacked p c.args.place.now c.read_text.new.place (script ∷ []) c.in-Ok.ensures.stage.leaves)
+    front_one p c.args.place.now c.read_text.new.place script (map string_bytes c.args.names.now.replies.now) _ (files_lacked p c.args.place.now c.read_text.new.place (script ∷ []) c.in-Ok.ensures.stage)
 
 pub returns-in_default-first_sums-clause-stage : goal.returns-in_default-first_sums-clause-stage
 returns-in_default-first_sums-clause-stage g c =
     let p = of_place g.P.Place in
     let script = c.args.names.now.script.now in
-    front_one p c.args.place.now c.read_text.new.place script (map string_bytes c.args.names.now.replies.now) _ (files_lacked p c.args.place.now c.read_text.new.place (script ∷ []) c.in-Ok.ensures.stage.leaves)
+    front_one p c.args.place.now c.read_text.new.place script (map string_bytes c.args.names.now.replies.now) _ (files_lacked p c.args.place.now c.read_text.new.place (script ∷ []) c.in-Ok.ensures.stage)

@@ -33,4 +33,4 @@ pub returns-in-Ok-add_text-clause-stage : goal.returns-in-Ok-add_text-clause-sta
 returns-in-Ok-add_text-clause-stage g c = c.in-Ok.ensures.stage
 
 pub returns-clause-stage : goal.returns-clause-stage
-returns-clause-stage g c = file_faulty (of_place g.P.Place) c.args.place.now c.read_text.new.place c.args.name.now c.fault_of_text.result c.fault_of_text.ensures.memory c.in-Ok.ensures.stage.leaves
+returns-clause-stage g c = file_faulty (of_place g.P.Place) c.args.place.now c.read_text.new.place c.args.name.now c.fault_of_text.result c.fault_of_text.ensures.memory c.in-Ok.ensures.stage

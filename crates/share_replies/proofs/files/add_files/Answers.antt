@@ -1,5 +1,6 @@
-use Rattle.std.proofs.Common.{List, Option, Ok, Err, map, take, refl, sym, ◌∙◌, ap, subst, arith}
+use Rattle.std.proofs.Common.{List, ℕ, Option, None, Ok, Err, map, take_all, refl, sym, ◌∙◌, ap, subst, arith}
 use Rattle.std.specs.Prelude.{string_bytes}
+use Rattle.std.proofs.lemmas.List.{length-map}
 use Rattle.outer_io.specs.Files.{file_or_empty}
 use Rattle.run_files.specs.Outside.{file_of, of_place}
 use Rattle.outer_io.specs.Told.{Told}
@@ -10,8 +11,8 @@ use Rattle.share_replies.specs.declared.summed.Summed.{Summed}
 use Rattle.share_replies.proofs.FileSums.{file_adds, front_of, no_shares}
 use Rattle.share_replies.proofs.RightFiles.{at_share, first_wrong, right_all, right_more, same_share, told_none}
 use Rattle.share_replies.proofs.TextSums.{take_at_item}
-use Rattle.share_replies.specs.Causes.{ReadsFront}
-use Rattle.share_replies.proofs.ShareEnds.{all_more, files_read, front_more, names_at, none_read}
+use Rattle.share_replies.specs.Causes.{ReadsFiles}
+use Rattle.share_replies.proofs.ShareEnds.{all_more, names_at, none_read, replies_ended}
 use Rattle.share_replies.proofs.files.add_files.Goals as goal
 
 pub loop-i-init : goal.loop-i-init
@@ -20,7 +21,7 @@ loop-i-init g c = record {
   right = told_none (g.P.Place.files c.args.place.now) c.args.asked.now (totals_of c.args.first);
   size = c.requires.size;
   files = refl;
-  leaves = none_read (of_place g.P.Place) c.args.place.now;
+  read = none_read (of_place g.P.Place) c.args.place.now;
 }
 
 pub returns-in-Err-clause-law : goal.returns-in-Err-clause-law
@@ -54,12 +55,12 @@ loop-i-preserved g c = record {
       (subst (λ (sums : List (Option Summed)). Told (file_of (g.P.Place.files c.loop-i.place) c.as_str.result.now) (λ text. IsRight asked (totals_of sums) text (totals_of c.in-Ok.next))) c.as_slice.ensures c.in-Ok.ensures.decides.right);
   size = c.in-Ok.ensures.size;
   files = c.add_file.ensures.files ∙ c.loop-i.invariant.files;
-  leaves =
+  read =
       let names = c.args.names.now in
       let i = c.loop-i.i in
       let name = c.as_str.result.now in
       let at = names_at string_bytes names i c.index-names-i.result name c.index-names-i.is (omega arith) c.as_str.ensures.value in
-      all_more (of_place g.P.Place) c.args.place.now c.loop-i.place c.add_file.new.place (map string_bytes names) i name at c.loop-i.invariant.leaves c.in-Ok.ensures.stage.leaves;
+      all_more (of_place g.P.Place) c.args.place.now c.loop-i.place c.add_file.new.place (map string_bytes names) i name at c.loop-i.invariant.read c.in-Ok.ensures.stage;
 }
 
 pub returns-in-Err-clause-decides : goal.returns-in-Err-clause-decides
@@ -93,10 +94,10 @@ returns-in-Err-clause-stage g c =
     let name = c.as_str.result.now in
     let all = map string_bytes names in
     let at = names_at string_bytes names i n name c.index-names-i.is (omega arith) c.as_str.ensures.value in
-    subst (ReadsFront p c.args.place.now c.add_file.new.place all) (sym c.fault_of_share.ensures.stop)
-    (front_more p c.args.place.now c.loop-i.place c.add_file.new.place all i name _ at c.loop-i.invariant.leaves c.in-Err.ensures.stage)
+    replies_ended p c.args.place.now c.loop-i.place c.add_file.new.place all i name at c.loop-i.invariant.read c.in-Err.fault c.fault_of_share.result c.fault_of_share.ensures.at c.fault_of_share.ensures.stopped c.in-Err.ensures.stage
 
 pub returns-clause-stage : goal.returns-clause-stage
 returns-clause-stage g c =
     let all = map string_bytes c.args.names.now in
-    (c.loop-i.i, files_read (of_place g.P.Place) c.args.place.now c.loop-i.place (take c.loop-i.i all) c.loop-i.invariant.leaves)
+    let size = length-map c.args.names.now string_bytes in
+    subst (λ (names : List (List ℕ)). ReadsFiles (of_place g.P.Place) c.args.place.now c.loop-i.place names None) (take_all c.loop-i.i all (omega (arith, size))) c.loop-i.invariant.read

@@ -1,4 +1,4 @@
-use Rattle.std.proofs.Common.{◌≡◌, List, take}
+use Rattle.std.proofs.Common.{List, take}
 use Rattle.cube_view.specs.declared.schema.Schema.{Schema}
 use Rattle.query_syntax.specs.declared.query.Parsed.{Parsed}
 use Rattle.run_files.specs.Outside.{of_sink, Puts}
@@ -11,6 +11,5 @@ use Rattle.share_replies.proofs.put.put_sums.Given as goal
 abbrev pub invariant-loop-i : goal.invariant-loop-i
 invariant-loop-i g l = record {
   law : (schema : Schema) (s : Share) (ps : List Parsed) → SumsOver schema s ps l.sums → PutsSums schema s (take l.i ps) (g.O.Sink.held l.fn.out) (g.O.Sink.held l.out);
-  quiet : g.O.Sink.faults l.out ≡ g.O.Sink.faults l.fn.out;
   puts : Puts (of_sink g.O.Sink) l.fn.out l.out (totals_text (totals_of (take l.i l.sums)));
 }

@@ -1,0 +1,8 @@
+mod Shallow
+mod Along
+mod BytesRead
+mod NextReplies
+mod RunSums
+mod TurnClaims
+mod SessionTurns
+mod Opened
