@@ -1,4 +1,5 @@
--- The plan that is built in: depth 10, the category `kind` with a, b, c and d, time from 0 in bins of 1, batch 64. And its two scripts.
+-- The plan that is built in: depth 10, the category `kind` with a, b, c and d, time from 0 in bins of 1, batch 64. And
+-- its two scripts.
 use Rattle.std.specs.Prelude.{ℕ, List, [], ◌∷◌, ◌++◌, None, codes, refl}
 use Rattle.cube_view.specs.declared.category.Category.{Category}
 use Rattle.cube_view.specs.declared.schema.Schema.{Schema}

@@ -82,7 +82,8 @@ fn only_of<T>(items: List<T>) -> T
     only
 }
 
-/// What is printed of a run in which memory was found throughout; the replies of the session beside the feeds are dropped.
+/// What is printed of a run in which memory was found throughout; the replies of the session beside the feeds are
+/// dropped.
 pub(crate) fn print_run(
     alloc: Global,
     crewed: Crewed<RunSource, StillSink>,

@@ -38,8 +38,8 @@ fn big_text<R: Threads + Wait + Sync>(
     }
 }
 
-/// Runs two generated feeds of `rows` rows each, with a session beside them, and puts the report's line of each feed and
-/// the replies of a session after them in one put. Where anything finds no memory, nothing is put.
+/// Runs two generated feeds of `rows` rows each, with a session beside them, and puts the report's line of each feed
+/// and the replies of a session after them in one put. Where anything finds no memory, nothing is put.
 pub fn run_big<R: Threads + Wait + Sync, O: Sink>(
     rt: &R,
     alloc: Global,

@@ -9,21 +9,10 @@
 #![tactic(auto)]
 
 use outer_io::{FilePlace, StdSink};
-use std::env;
-use std::io::ErrorKind;
+use program_words::words;
 use std::process::ExitCode;
-use std::rt::Env;
 use texts::NoMemory;
 use top_call::{Status, nanocube};
-
-/// The words after the program's name. A word that is not UTF-8 leaves a line of no words, which is no form.
-fn words<R: Env + AllocGlobal>(rt: &R) -> Result<Vec<String>, NoMemory> {
-    match env::args(rt) {
-        Ok(args) => args.skip(1).collect(rt.alloc()).map_err(|_| NoMemory),
-        Err(fault) if fault.kind() == ErrorKind::OutOfMemory => Err(NoMemory),
-        Err(_) => Ok(Vec::new(rt.alloc())),
-    }
-}
 
 fn main(rt: HostRuntime) -> ExitCode {
     let status = match words(&rt) {

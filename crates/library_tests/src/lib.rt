@@ -1,8 +1,9 @@
-//! Tests. What no run of a program here shows, on worked examples: how a plan is printed, which tiles cover a rectangle, a
-//! lane that is drawn without waiting, and the lines of a report that tell of memory and of sessions that were not closed.
+//! Tests. What no run of a program here shows, on worked examples: how a plan is printed, which tiles cover a
+//! rectangle, a lane that is drawn without waiting, and the lines of a report that tell of memory and of sessions that
+//! were not closed.
 //!
-//! It stands on `cube_schema` for plans, on `window_cover` for covers, on `feed_queue` for the lane and on `run_files` for
-//! reports. All of it is tests; what programs show of the rest are cases of `worked_rows`.
+//! It stands on `cube_schema` for plans, on `window_cover` for covers, on `feed_queue` for the lane and on `run_files`
+//! for reports. All of it is tests; what programs show of the rest are cases of `worked_rows`.
 //!
 //! ```text
 //! let plan = read_plan(alloc, text.as_bytes())?;                       // a text whose members stand in byte order

@@ -30,7 +30,8 @@ fn read_more<S: Source>(source: &mut S, bytes: &mut Vec<u8>, room: usize) -> Res
     Ok(n)
 }
 
-/// All bytes that are left, or the first `most + 1` of them where there are more. After a fault some of them were taken.
+/// All bytes that are left, or the first `most + 1` of them where there are more. After a fault some of them were
+/// taken.
 pub fn read_up_to<S: Source>(
     alloc: Global,
     source: &mut S,

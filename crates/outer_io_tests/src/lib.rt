@@ -1,9 +1,9 @@
 //! Tests. What the calls of `outer_io` do, on worked examples: lines of every form, sources, sinks and places that fail
 //! where they are to fail, and the system's own files.
 //!
-//! Expected values are those of the definitions in `specs/` of `outer_io`, written out. A test is a table of cases, or of
-//! steps on one place, that a helper takes one by one. All of it is tests; what a line means, and what a run does with its
-//! files, is tested above.
+//! Expected values are those of the definitions in `specs/` of `outer_io`, written out. A test is a table of cases, or
+//! of steps on one place, that a helper takes one by one. All of it is tests; what a line means, and what a run does
+//! with its files, is tested above.
 //!
 //! ```text
 //! let steps = [

@@ -138,8 +138,8 @@ fn a_sink_without_failing_calls_keeps_all(rt: HostRuntime) {
     assert!(rt; keeps_both(rt.alloc()));
 }
 
-/// The most that is read of six bytes, a piece, the number of the read that fails, and what is read; none where that read
-/// is reached.
+/// The most that is read of six bytes, a piece, the number of the read that fails, and what is read; none where that
+/// read is reached.
 type WholeRead = (usize, usize, u32, Option<&'static [u8]>);
 
 const WHOLE_READS: [WholeRead; 8] = [

@@ -52,8 +52,8 @@ fn a_place_fails_at_an_absent_file_and_once_where_it_was_to(rt: HostRuntime) {
     assert_eq!(rt; first_missed(rt.alloc(), &FAULTS_OF_OPENING), None);
 }
 
-/// The numbers of the puts that are to fail, whether giving back is to fail, how the three puts are answered, and what the
-/// file has then.
+/// The numbers of the puts that are to fail, whether giving back is to fail, how the three puts are answered, and what
+/// the file has then.
 type Writing = ([u32; 2], Step, Result<[bool; 3], IoFault>, &'static [u8]);
 
 /// Nothing, since there is no such file.

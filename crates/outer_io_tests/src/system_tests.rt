@@ -76,7 +76,8 @@ fn has<P: Place>(alloc: Global, place: &mut P, name: &str, wanted: &[u8]) -> boo
     }
 }
 
-/// Whether a file into which the texts `a `, this and a line feed are put has the bytes that are wanted, over any place.
+/// Whether a file into which the texts `a `, this and a line feed are put has the bytes that are wanted, over any
+/// place.
 fn reads_again<P: Place>(alloc: Global, place: &mut P, text: &[u8], wanted: &[u8]) -> bool {
     let name = "written.txt";
     let written = write_file(place, name, [b"a ", text, b"\n"]);

@@ -1,12 +1,12 @@
 -- What a run that was closed leaves and says, whatever interrupted it.
 use Rattle.std.proofs.Common.{◌≡◌, ◌≢◌, ◌+◌, ◌≤◌, ℕ, Bool, true, false, List, [], ◌∷◌, ◌++◌, All, length, map, nat_lt, take, Option, Some, Result, Ok, Err, IsSomeAnd, refl, sym, ap, subst, ◌∙◌, append-nil, arith}
-use Rattle.std.specs.Prelude.{AllPairs, Contains, IsErrOf, OnErr, OnOk, count_by}
+use Rattle.std.specs.Prelude.{AllPairs, Any, Contains, IsErrOf, OnErr, OnOk, count_by}
 use Rattle.std.specs.FinMap.{get}
 use Rattle.std.specs.List.{AllZip}
 use Rattle.std.proofs.Math.Seq.{take-length}
 use Rattle.std.proofs.lemmas.Bool.{ltb-false, ltb-true}
 use Rattle.std.proofs.lemmas.List.{length-map, length-take, map-append, take-take, take_all}
-use Rattle.std.proofs.lemmas.List.Elements.{All-contains, All-contains_itself, All-head, All-map, All-weaker}
+use Rattle.std.proofs.lemmas.List.Elements.{All-append, All-contains, All-contains_itself, All-head, All-map, All-weaker}
 use Rattle.crew_feeder.specs.declared.done.FeedDone.{FeedDone}
 use Rattle.live_session.specs.declared.done.SessionDone.{SessionDone}
 use Rattle.cube_crew.proofs.Zips.{AllZip-length, AllZip-right, AllZip-then}
@@ -40,6 +40,7 @@ use Rattle.run_files.specs.Stops.{joined_ends, write_end}
 use Rattle.run_files.specs.declared.counts.ScriptCounts.{ScriptCounts}
 use Rattle.run_files.specs.declared.stop.Stop.{Stop}
 use Rattle.run_files.specs.declared.stop.Stop.TheVariants.{NoMemory, PlanRefused, ReadFault, WriteFault, FeedRefused}
+use Rattle.session_core.specs.declared.fault.SessionFault.{SessionFault}
 use Rattle.session_core.specs.declared.fault.SessionFault.TheVariants as fault
 use Rattle.world_core.specs.Interleaving.{IsInterleaving, list_of}
 use Rattle.world_core.specs.PairFact.{IsPrefix}
@@ -62,7 +63,7 @@ use Rattle.plan_run.proofs.RunNames.{dones_named}
 use Rattle.plan_run.proofs.EndRanks.{ComesFirst, all_ranked, lacking, rank_end, within}
 use Rattle.plan_run.proofs.FeedOutcomes.{Gave, GaveRows, StandsAfterOne, all_gave, points_begin, takes_feed}
 use Rattle.plan_run.proofs.Zips.{AllZip-ap, AllZip-mapped, AllZip-with}
-use Rattle.plan_run.specs.Interrupted.{Account, BeginsFiles, AnswersInFile, HoldsFiles, InterleavesFronts, StopsScript, ReportsFeed, account_text, accepted_lists, is_script_unread, is_unread, read_stops}
+use Rattle.plan_run.specs.Interrupted.{Account, BeginsFiles, AnswersInFile, HoldsFiles, InterleavesFronts, IsUnwritten, StopsScript, ReportsFeed, account_text, accepted_lists, is_script_unread, is_unread, read_stops}
 use Rattle.plan_run.specs.Parts.{ends_seen}
 
 abbrev Answer : Type 0
@@ -229,17 +230,40 @@ module _ {P I O T : Type 0} (p : PlaceSeen P) (i : SourceSeen I) (s : SinkSeen O
   abbrev sinks : List O
   sinks = map sink_of crewed.asks ++ map sink_of crewed.finals
 
+  -- ---- writing
+
+  before_sinks : p.write_faults closes.parts.read ≡ p.write_faults place
+  before_sinks = closes.parts.finals_back.write_faults ∙ closes.parts.asks_back.write_faults ∙ closes.parts.feeds_back.write_faults
+
+  grows_last : p.write_faults closes.replied ≤ p.write_faults place'
+  grows_last = counts_grow _ _ (s.faults closes.sink) closes.kept closes.journal.counts
+
+  -- a count that rose as the sinks were given back rose
+  from_sinks : Rose (p.write_faults closes.parts.read) (p.write_faults closes.replied) → Rose (p.write_faults place) (p.write_faults place')
+  from_sinks rose = rose_later _ _ _ (subst (λ n. Rose n (p.write_faults closes.replied)) before_sinks rose) grows_last
+
+  -- so it did where a sink met a fault
+  abbrev RisesFor : Option SessionFault → Type 0
+  RisesFor f = f ≡ Some fault.Write → Rose (p.write_faults place) (p.write_faults place')
+
+  rises_for : (sessions : List (SessionDone I O)) → All (SessionCause i.faults s.faults) sessions → All (Contains sinks) (map sink_of sessions) → All (λ (d : SessionDone I O). RisesFor d.fault) sessions
+  rises_for sessions causes among = λ k d low is. from_sinks (closes.parts.sinks_back.met _ (All-unmapped sink_of (Contains sinks) sessions among k d low) ((causes k d low).write is))
+
+  -- the count of writing rose where the report says that a script was stopped by `Write`
+  pub writes_counted : Any IsUnwritten (account.asks ++ account.finals) → Rose (p.write_faults place) (p.write_faults place')
+  unfolding account
+  writes_counted any =
+      let all : All (Contains sinks) sinks = All-contains_itself sinks in
+      let script : ScriptCounts → Type 0 = λ script. RisesFor script.fault in
+      let asks : All script (map script_counts crewed.asks) = All-map script script_counts crewed.asks (rises_for crewed.asks ask_causes (All-front (Contains sinks) (map sink_of crewed.asks) (map sink_of crewed.finals) all)) in
+      let finals : All script (map script_counts crewed.finals) = All-map script script_counts crewed.finals (rises_for crewed.finals final_causes (All-back (Contains sinks) (map sink_of crewed.asks) (map sink_of crewed.finals) all)) in
+      All-append script (map script_counts crewed.asks) (map script_counts crewed.finals) asks finals any.0 any.1 any.2 (subst (λ (it : ScriptCounts). IsUnwritten it) (sym any.3) any.4)
+
   -- ---- where no writing failed
 
   module _ (quiet : ¬ Rose (p.write_faults place) (p.write_faults place')) where
-    before_sinks : p.write_faults closes.parts.read ≡ p.write_faults place
-    before_sinks = closes.parts.finals_back.write_faults ∙ closes.parts.asks_back.write_faults ∙ closes.parts.feeds_back.write_faults
-
-    grows_last : p.write_faults closes.replied ≤ p.write_faults place'
-    grows_last = counts_grow _ _ (s.faults closes.sink) closes.kept closes.journal.counts
-
     sinks_quiet : ¬ Rose (p.write_faults closes.parts.read) (p.write_faults closes.replied)
-    sinks_quiet rose = quiet (rose_later _ _ _ (subst (λ n. Rose n (p.write_faults closes.replied)) before_sinks rose) grows_last)
+    sinks_quiet rose = quiet (from_sinks rose)
 
     journal_quiet : ¬ Rose (p.write_faults closes.replied) (p.write_faults place')
     journal_quiet rose = quiet (subst (λ n. Rose n (p.write_faults place')) before_sinks (rose_from_before _ _ _ closes.parts.sinks_back.grows rose))
@@ -247,7 +271,8 @@ module _ {P I O T : Type 0} (p : PlaceSeen P) (i : SourceSeen I) (s : SinkSeen O
     pub wrote_well : closes.wrote ≢ Err io.NoMemory → closes.wrote ≡ Ok tt
     wrote_well found = fine closes.wrote (λ bad. journal_quiet (closes.journal.counts.rose (subst (λ n. Rose n (s.faults closes.sink)) ready.journal.fresh (closes.written.cause.rose (subst (λ r. IsErrOf r io.Failed) (sym bad) refl))))) found
 
-    -- the journal found memory where the report was not left out for want of it, and where the run did not end for want of it
+    -- the journal found memory where the report was not left out for want of it, and where the run did not end for want
+    -- of it
     pub wrote_where : closes.said ≢ Err NoMemory → closes.wrote ≢ Err io.NoMemory
     wrote_where said lost = said (closes.unsaid (ap (λ (r : Answer). joined_ends (write_end r) (write_end closes.kept)) lost ∙ joined_left (write_end closes.kept)))
 

@@ -1,7 +1,7 @@
 -- How a run ends, by how it was opened and by what became of its parts.
 use Rattle.std.proofs.Common.{◌≡◌, ◌≢◌, ◌⊎◌, inl, inr, ℕ, Bool, true, false, List, [], ◌∷◌, ◌++◌, All, map, Option, Some, None, Result, Ok, Err, IsSomeAnd, ◌≤◌, refl, sym, ap, subst, ◌∙◌, arith}
-use Rattle.std.proofs.lemmas.List.{map-append}
-use Rattle.std.specs.Prelude.{Contains, IfSome}
+use Rattle.std.proofs.lemmas.List.{append_cancel_left, map-append}
+use Rattle.std.specs.Prelude.{Any, Contains, IfSome}
 use Rattle.std.specs.FinMap.{get}
 use Rattle.std.specs.List.{AllZip}
 use Rattle.std.proofs.lemmas.List.Elements.{All-weaker}
@@ -24,12 +24,12 @@ use Rattle.outer_io.specs.Told.{Told}
 use Rattle.outer_io.specs.declared.fault.IoFault.TheVariants as io
 use Rattle.run_files.proofs.EmptyFiles.{told_still}
 use Rattle.run_files.proofs.SinkPuts.{fails_after, puts_after, silent_after}
-use Rattle.run_files.proofs.Stages.{all_empty, all_made, all_opened, KeepsOthers-after, KeepsOthers-more, KeepsOthers-one}
+use Rattle.run_files.proofs.Stages.{all_empty, all_made, all_opened, KeepsOthers-after, KeepsOthers-more, KeepsOthers-one, names_of}
 use Rattle.run_files.specs.Counts.{CountsAt, StandStill}
 use Rattle.run_files.specs.Headed.{HasHeader}
-use Rattle.run_files.specs.Leaving.{FailsAtLast, KeepsOthers, LeavesPlace}
+use Rattle.run_files.specs.Leaving.{FailsAtLast, FailsAtLastMade, KeepsOthers, LeavesPlace}
 use Rattle.run_files.specs.Outside.{at, file_of, parts_seen, PlaceSeen, Puts as Said, PutsOrFails, Silent, SinkSeen, SourceSeen}
-use Rattle.run_files.specs.Planned.{IsPlanOf, RefusesPlan}
+use Rattle.run_files.specs.Planned.{IsPlanOf, LacksPlan, RefusesPlan}
 use Rattle.run_files.specs.Saying.{SaysText}
 use Rattle.run_files.specs.Stops.{write_end}
 use Rattle.run_files.specs.declared.stop.Stop.{Stop}
@@ -44,7 +44,7 @@ use Rattle.plan_run.specs.ThreadEnds.{feed_end, feeds_end, session_end, sessions
 use Rattle.plan_run.proofs.Causes.{FeedCause, RunCause, SessionCause, feed_causes, session_causes}
 use Rattle.plan_run.proofs.WellEnds.{End, ended}
 use Rattle.plan_run.proofs.OutputFiles.{some_is, told_pair}
-use Rattle.plan_run.proofs.RunNames.{KeepsOthers-twice, dones_named, names_of, names_then, sessions_named}
+use Rattle.plan_run.proofs.RunNames.{KeepsOthers-twice, dones_named, names_then, sessions_named}
 use Rattle.plan_run.proofs.EndFaults.{AnyOf, all_err, any_in, any_left, any_right, any_unmapped}
 use Rattle.plan_run.proofs.OneJournal.{EntryLaws}
 use Rattle.plan_run.proofs.CountRises.{closing_not_plan, closing_read, closing_write, starved_of}
@@ -53,11 +53,12 @@ use Rattle.plan_run.proofs.EndRanks.{rank_end}
 use Rattle.plan_run.proofs.Said.{InOrder, Unplanned, opening_headed, opening_put, opening_unmade, opening_write}
 use Rattle.plan_run.proofs.StillCounts.{put_still, read_still, write_still}
 use Rattle.plan_run.proofs.RunCompletion.{completed}
-use Rattle.plan_run.proofs.RunAccount.{account, account_is, begins_files, holds_files, kept_well, kept_where, reads_counted, said_lost, wrote_well, wrote_where}
+use Rattle.plan_run.proofs.RunAccount.{account, account_is, begins_files, holds_files, kept_well, kept_where, reads_counted, said_lost, writes_counted, wrote_well, wrote_where}
 use Rattle.plan_run.proofs.EarlyEnds.{empty_made, given_back_empty}
+use Rattle.plan_run.proofs.EndConsequences.{under_plan}
 use Rattle.plan_run.specs.Completed.{IsCompleted}
-use Rattle.plan_run.specs.Ends.{EndsUnderPlan, HasBegun, HasRefusedInput, HasReported, LacksPlan, LacksReport, RunEnds}
-use Rattle.plan_run.specs.Interrupted.{Account, BeginsFiles, HoldsFiles, account_text, read_stops}
+use Rattle.plan_run.specs.Ends.{EndsUnderPlan, HasBegun, HasRefusedInput, HasReported, LacksReport, RunEnds}
+use Rattle.plan_run.specs.Interrupted.{Account, BeginsFiles, HoldsFiles, IsUnwritten, account_text, read_stops}
 use Rattle.plan_run.specs.Parts.{GivesBack, RunsParts, ends_seen}
 
 -- an end of opening among those of a run
@@ -98,37 +99,36 @@ module _ {P T : Type 0} (p : PlaceSeen P) (t : SinkSeen T) where
     }
 
     opening_stage : (plan : Option Plan) (leaves : LeavesPlace p place mid (name ∷ inputs_of plan) (outputs_of plan) (Some stop)) → IfSome plan (IsPlanOf (file_of (p.files place) name)) → (plan ≡ None → Unplanned p t place mid out out1 name stop)
-        → (Some stop ≡ Some ReadFault → FailsAtLast p place leaves.opens) → IfSome plan (InOrder p t place mid out out1 name stop leaves.opens leaves.makes) → (Some stop ≡ Some PlanRefused → (plan ≡ None) × RefusesPlan t out out1 (file_of (p.files place) name))
-        → (Some stop ≢ Some PlanRefused → Some stop ≢ Some FeedRefused → Some stop ≢ Some WriteFault → Silent t out out1) → LacksPlan p t (at place out) (at mid out1) name (Err stop) ⊎ EndsUnderPlan p t (at place out) (at mid out1) name (Err stop)
+        → (Some stop ≡ Some ReadFault → FailsAtLast p place leaves.opens) → (leaves.makes ≡ []) ⊎ FailsAtLastMade p place leaves.makes → IfSome plan (InOrder p t place mid out out1 name stop leaves.opens leaves.makes) → (Some stop ≡ Some PlanRefused → (plan ≡ None) × RefusesPlan t out out1 (file_of (p.files place) name))
+        → (Some stop ≢ Some PlanRefused → Some stop ≢ Some FeedRefused → Some stop ≢ Some WriteFault → Silent t out out1) → CountsAt p t (at place out) (at mid out1) (ended stop) → LacksPlan p t (at place out) (at mid out1) name (ended stop) ⊎ EndsUnderPlan p t (at place out) (at mid out1) name (Err stop)
     unfolding names_of
-    opening_stage None leaves plan_is unplanned first order refused_plan silent = inl (record {
+    opening_stage None leaves plan_is unplanned first made order refused_plan silent counts = inl (record {
       names = names_of p place mid (name ∷ []) [] (Some stop) leaves;
       first = λ e. first (same_stop stop ReadFault e);
       ends = unplanned_end stop (unplanned refl);
       refused = λ e. (refused_plan (same_stop stop PlanRefused e)).1;
       silent = λ other. silent (λ e. other (same_end stop PlanRefused e)) (not_by_file stop FeedRefused (λ e. cc e) (λ e. cc e) (λ e. cc e) (unplanned refl)) (not_by_file stop WriteFault (λ e. cc e) (λ e. cc e) (λ e. cc e) (unplanned refl));
     })
-    opening_stage (Some plan) leaves plan_is unplanned first order refused_plan silent = inr (record {
-      plan = plan;
-      plan_is = plan_is;
-      stage = inl (record {
-        stop = stop;
-        end_is = refl;
-        names = names_of p place mid (name ∷ input_names plan) (output_names plan) (Some stop) leaves;
-        later = order.0;
-        opens_are = order.1;
-        first = λ e. first (ap (λ s. Some s) e);
-        order = order.2;
-        unmade = λ found written. opening_unmade p t place mid out out1 name stop (Some plan) leaves.opens leaves.makes leaves.unmade found written (λ e. leaves.read_first (ap (λ s. Some s) e)) leaves.outputs_are order;
-        empty = λ no_write. empty_made p place mid leaves.makes leaves.others (leaves.emptied (λ _. no_write));
-      });
-    })
+    opening_stage (Some plan) leaves plan_is unplanned first made order refused_plan silent counts =
+        inr (under_plan p t place mid out out1 name (Err stop) plan plan_is (inl (record {
+          stop = stop;
+          end_is = refl;
+          names = names_of p place mid (name ∷ input_names plan) (output_names plan) (Some stop) leaves;
+          later = order.0;
+          opens_are = order.1;
+          first = λ e. first (ap (λ s. Some s) e);
+          order = order.2;
+          made = made;
+          unmade = λ found written. opening_unmade p t place mid out out1 name stop (Some plan) leaves.opens leaves.makes leaves.unmade found written (λ e. leaves.read_first (ap (λ s. Some s) e)) leaves.outputs_are order;
+          empty = λ no_write. empty_made p place mid leaves.makes leaves.others (leaves.emptied (λ _. no_write));
+        })) counts)
 
   pub ended_by_opening : (place mid : P) (out out1 : T) (name : List ℕ) (stop : Stop) → OpensRun p t (at place out) (at mid out1) name None (Some stop) → RunEnds p t (at place out) (at mid out1) name (Err stop)
-  ended_by_opening place mid out out1 name stop opens = record {
-    stage = opening_stage place mid out out1 name stop opens.planned.plan opens.leaves opens.planned.plan_is opens.planned.unplanned opens.first opens.order opens.planned.refused_plan opens.silent;
-    counts = opening_counts place mid out out1 name stop opens.planned.plan (name ∷ inputs_of opens.planned.plan) (outputs_of opens.planned.plan) opens.leaves opens.leaves.opens opens.leaves.makes opens.planned.unplanned opens.order;
-  }
+  ended_by_opening place mid out out1 name stop opens =
+      let counts = opening_counts place mid out out1 name stop opens.planned.plan (name ∷ inputs_of opens.planned.plan) (outputs_of opens.planned.plan) opens.leaves opens.leaves.opens opens.leaves.makes opens.planned.unplanned opens.order in record {
+        stage = opening_stage place mid out out1 name stop opens.planned.plan opens.leaves opens.planned.plan_is opens.planned.unplanned opens.first opens.made opens.order opens.planned.refused_plan opens.silent counts;
+        counts = counts;
+      }
 
   -- ---- a run that went on
 
@@ -138,6 +138,10 @@ module _ {P T : Type 0} (p : PlaceSeen P) (t : SinkSeen T) where
 
     leaves : LeavesPlace p place mid (name ∷ input_names plan) (output_names plan) None
     leaves = subst (λ o. LeavesPlace p place mid (name ∷ inputs_of o) (outputs_of o) None) its_plan opens.leaves
+
+    -- the place may have met its first failed write at the output that was created last
+    made : (leaves.makes ≡ []) ⊎ FailsAtLastMade p place leaves.makes
+    made = subst (λ ns. (ns ≡ []) ⊎ FailsAtLastMade p place ns) (append_cancel_left (p.created place) opens.leaves.makes leaves.makes (sym opens.leaves.created ∙ leaves.created)) opens.made
 
     silent : Silent t out out1
     silent = opens.silent (λ e. cc e) (λ e. cc e) (λ e. cc e)
@@ -344,6 +348,10 @@ module _ {P T : Type 0} (p : PlaceSeen P) (t : SinkSeen T) where
         unfolding its_account
         its_reads = subst (λ n. RoseBy (read_stops its_account) n (p.read_faults place')) read_before (reads_counted p i s t plan parts mid place' out1 out' (p.files place) ready crewed ran feeds asks finals result not_plan closes)
 
+        its_writes : Any IsUnwritten (its_account.asks ++ its_account.finals) → Rose (p.write_faults place) (p.write_faults place')
+        unfolding its_account
+        its_writes any = subst (λ n. Rose n (p.write_faults place')) write_before (writes_counted p i s t plan parts mid place' out1 out' (p.files place) ready crewed ran feeds asks finals result not_plan closes any)
+
         reported : EntryLaws → PutsOrFails t out out' (run_text plan crewed) → closes.said ≢ Err NoMemory → HasReported p t (at place out) (at place' out') name plan result
         reported laws puts found = record {
           begun = begun;
@@ -355,6 +363,7 @@ module _ {P T : Type 0} (p : PlaceSeen P) (t : SinkSeen T) where
               its_files no_write (wrote_where p i s t plan parts mid place' out1 out' (p.files place) ready crewed ran feeds asks finals result not_plan closes quiet found)
               (kept_where p i s t plan parts mid place' out1 out' (p.files place) ready crewed ran feeds asks finals result not_plan closes quiet found);
           reads = its_reads;
+          writes = its_writes;
           done = is_done laws;
           refused = refused;
           planned = not_plan;
@@ -375,10 +384,7 @@ module _ {P T : Type 0} (p : PlaceSeen P) (t : SinkSeen T) where
         stage laws (Err FeedRefused) is text = absurd (text.ends.2 refl)
 
         pub ended_by_closing : EntryLaws → RunEnds p t (at place out) (at place' out') name result
-        ended_by_closing laws = record {
-          stage = inr (record { plan = plan; plan_is = plan_is; stage = inr (stage laws closes.said refl closes.report) });
-          counts = counts;
-        }
+        ended_by_closing laws = record { stage = inr (under_plan p t place place' out out' name result plan plan_is (inr (stage laws closes.said refl closes.report)) counts); counts = counts }
 
       -- a run that found no memory to begin with
       pub ended_unrun : (result : Result (Unit {0}) Stop) → result ≡ Err NoMemory → out' ≡ out1 → GivesBack (parts_seen p i s) parts mid place' → RunEnds p t (at place out) (at place' out') name result
@@ -392,41 +398,38 @@ module _ {P T : Type 0} (p : PlaceSeen P) (t : SinkSeen T) where
           (KeepsOthers-more (p.files back.read) (p.files back.replied) (p.files place') (outputs plan.asks ++ outputs plan.finals) (plan.journal ∷ [])
           (subst (KeepsOthers (p.files back.read) (p.files back.replied)) named back.sinks_back.others)
           (subst (λ n. KeepsOthers (p.files back.replied) (p.files place') (n ∷ [])) ready.journal.name_is (KeepsOthers-one (p.files back.replied) (p.files place') (s.name parts.journal) back.journal_back.others))) in
-          record {
-            stage = inr (record {
-              plan = plan;
-              plan_is = plan_is;
-              stage = inl (record {
-                stop = NoMemory;
-                end_is = is;
-                names = names_then p place mid place' (name ∷ input_names plan) (output_names plan) leaves
-                    (back.journal_back.opened ∙ back.sinks_back.opened ∙ back.finals_back.opened ∙ back.asks_back.opened ∙ back.feeds_back.opened)
-                    created kept;
-                later = input_names plan;
-                opens_are = sym (all_opened p place mid (name ∷ input_names plan) (output_names plan) leaves);
-                first = λ e. absurd (cc e);
-                order = inr (record {
-                  scripts = plan.asks ++ plan.finals;
-                  opens_are = refl;
-                  headed = headed;
-                  silent = silent_after t out out1 out' silent (record { held = ap t.held said; faults = ap t.faults said; name = ap t.name said });
-                  write = λ e. absurd (cc e);
-                  ends = (λ e. cc e, λ e. cc e);
-                });
-                unmade = λ found. absurd (found refl);
-                empty = λ no_write. empty_made p place place' leaves.makes
-                    (KeepsOthers-twice (p.files place) (p.files mid) (p.files place') leaves.makes leaves.others (subst (KeepsOthers (p.files mid) (p.files place')) (all_made p place mid (name ∷ input_names plan) (output_names plan) leaves) kept))
-                    (λ told. given_back_empty p i s plan parts (p.files place) ready told mid place' leaves.makes (told_still (p.files place) (p.files mid) leaves.makes leaves.others told) back (leaves.emptied (λ other. absurd (other refl)) told));
+          let counts : CountsAt p t (at place out) (at place' out') result = record {
+            done = λ x e. absurd (cc (is, e));
+            refused = λ e. absurd (cc (is, e));
+            unread = λ e. absurd (cc (is, e));
+            write = λ e. absurd (cc (is, e));
+            read = λ e. absurd (cc (is, e));
+            refused_plan = λ e. absurd (cc (is, e));
+          } in record {
+            stage = inr (under_plan p t place place' out out' name result plan plan_is (inl (record {
+              stop = NoMemory;
+              end_is = is;
+              names = names_then p place mid place' (name ∷ input_names plan) (output_names plan) leaves
+                  (back.journal_back.opened ∙ back.sinks_back.opened ∙ back.finals_back.opened ∙ back.asks_back.opened ∙ back.feeds_back.opened)
+                  created kept;
+              later = input_names plan;
+              opens_are = sym (all_opened p place mid (name ∷ input_names plan) (output_names plan) leaves);
+              first = λ e. absurd (cc e);
+              order = inr (record {
+                scripts = plan.asks ++ plan.finals;
+                opens_are = refl;
+                headed = headed;
+                silent = silent_after t out out1 out' silent (record { held = ap t.held said; faults = ap t.faults said; name = ap t.name said });
+                write = λ e. absurd (cc e);
+                ends = (λ e. cc e, λ e. cc e);
               });
-            });
-            counts = record {
-              done = λ x e. absurd (cc (is, e));
-              refused = λ e. absurd (cc (is, e));
-              unread = λ e. absurd (cc (is, e));
-              write = λ e. absurd (cc (is, e));
-              read = λ e. absurd (cc (is, e));
-              refused_plan = λ e. absurd (cc (is, e));
-            };
+              made = made;
+              unmade = λ found. absurd (found refl);
+              empty = λ no_write. empty_made p place place' leaves.makes
+                  (KeepsOthers-twice (p.files place) (p.files mid) (p.files place') leaves.makes leaves.others (subst (KeepsOthers (p.files mid) (p.files place')) (all_made p place mid (name ∷ input_names plan) (output_names plan) leaves) kept))
+                  (λ told. given_back_empty p i s plan parts (p.files place) ready told mid place' leaves.makes (told_still (p.files place) (p.files mid) leaves.makes leaves.others told) back (leaves.emptied (λ other. absurd (other refl)) told));
+            })) counts);
+            counts = counts;
           }
 
       pub ended_by_parts : EntryLaws → (result : Result (Unit {0}) Stop) → RunsParts (parts_seen p i s) t plan parts (at mid out1) (at place' out') result → RunEnds p t (at place out) (at place' out') name result

@@ -9,10 +9,8 @@ use Rattle.cube_view.specs.declared.schema.Schema.{Schema}
 use Rattle.cube_view.specs.declared.stat.Stat.{Stat}
 use Rattle.live_session.specs.State.{SessionState}
 use Rattle.outer_io.specs.Files.{Files}
-use Rattle.run_files.specs.Leaving.{KeepsOthers, LeavesPlace}
+use Rattle.run_files.specs.Leaving.{KeepsOthers, LeavesNames, LeavesPlace}
 use Rattle.run_files.specs.Outside.{PlaceSeen, SinkSeen, SourceSeen}
-use Rattle.run_files.specs.declared.stop.Stop.{Stop}
-use Rattle.plan_run.specs.Ends.{LeavesNames}
 use Rattle.plan_run.specs.Parts.{ends_seen}
 use Rattle.plan_run.specs.Ready.{IsSessionOf}
 
@@ -46,22 +44,7 @@ module _ {I O : Type 0} (i : SourceSeen I) (s : SinkSeen O) (files : Option File
       ∙ ap (λ ns. (n ++ codes ".out") ∷ ns) (dones_named is_stat schema final closed starved points names befores dones ready.1 leave.1)
 
 module _ {P : Type 0} (p : PlaceSeen P) where
-  -- a stage that ends the run leaves the names that it leaves
-  unfoldable pub names_of : (a b : P) (inputs outputs : List (List ℕ)) (stop : Option Stop) → LeavesPlace p a b inputs outputs stop → LeavesNames p a b inputs outputs
-  names_of a b inputs outputs stop stage = record {
-    opens = stage.opens;
-    unopened = stage.unopened;
-    inputs_are = stage.inputs_are;
-    opened = stage.opened;
-    makes = stage.makes;
-    unmade = stage.unmade;
-    outputs_are = stage.outputs_are;
-    created = stage.created;
-    opens_first = stage.opens_first;
-    others = stage.others;
-  }
-
-  -- and so does a run that goes on after a stage, and changes files that were created alone
+  -- a run that goes on after a stage, and changes files that were created alone, leaves the names that it leaves
   unfoldable pub names_then : (a b c : P) (inputs outputs : List (List ℕ)) → LeavesPlace p a b inputs outputs None → p.opened c ≡ p.opened b → p.created c ≡ p.created b → KeepsOthers (p.files b) (p.files c) outputs → LeavesNames p a c inputs outputs
   names_then a b c inputs outputs stage opened created others =
       let made : outputs ≡ stage.makes = stage.outputs_are ∙ ap (λ ns. stage.makes ++ ns) (stage.makes_all refl) ∙ append-nil stage.makes in

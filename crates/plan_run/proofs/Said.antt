@@ -16,6 +16,11 @@ use Rattle.run_files.specs.declared.stop.Stop.TheVariants.{NoMemory, PlanRefused
 use Rattle.plan_run.specs.Ends.{HasRefusedInput}
 use Rattle.plan_run.specs.Opening.{OpensInOrder, outputs_of}
 
+-- the last of the names at the front of others is among these
+pub last_among : (all opens later earlier : List (List ℕ)) (last : List ℕ) → all ≡ opens ++ later → opens ≡ earlier ++ last ∷ [] → Contains all last
+last_among all opens later earlier last all_are opens_are =
+    subst (λ names. Contains names last) (sym all_are) (Contains-append_left opens later last (subst (λ names. Contains names last) (sym opens_are) (Contains-push earlier last)))
+
 module _ {P T : Type 0} (p : PlaceSeen P) (t : SinkSeen T) (place mid : P) (out out1 : T) (name : List ℕ) where
   abbrev pub Unplanned : Stop → Type 0
   Unplanned stop = (Some stop ≡ Some NoMemory) ⊎ (Some stop ≡ Some ReadFault) ⊎ (Some stop ≡ Some PlanRefused)
@@ -34,9 +39,7 @@ module _ {P T : Type 0} (p : PlaceSeen P) (t : SinkSeen T) (place mid : P) (out 
   opening_refused stop plan opens makes is (later, e, inr scripts) = absurd (scripts.ends.1 (ap (λ s. Some s) is))
   opening_refused stop plan opens makes is (later, e, inl feeds) =
       let last = feeds.refused (ap (λ s. Some s) is) in
-      let among : Contains plan.feeds last.name =
-      subst (λ names. Contains names last.name) (sym feeds.feeds_are) (Contains-append_left later feeds.unopened last.name (subst (λ names. Contains names last.name) (sym last.names_are) (Contains-push last.earlier last.name))) in
-      of_files (p.files place) last.name among last.refuses.fault last.refuses.refused
+      of_files (p.files place) last.name (last_among plan.feeds later feeds.unopened last.earlier last.name feeds.feeds_are last.names_are) last.refuses.fault last.refuses.refused
     where
       of_files : (files : Option Files) (feed : List ℕ) → Contains plan.feeds feed → (fault : HeadFault) → Told (file_of files feed) (λ bytes. feed_head plan.schema bytes ≡ Err fault) → Told files (λ files. HasRefusedInput files plan)
       of_files None feed among fault refused = tt

@@ -8,7 +8,8 @@ use Rattle.cube_schema.specs.declared.plan.Plan.{Plan}
 use Rattle.outer_io.specs.Faults.{Rose}
 use Rattle.run_files.proofs.SinkPuts.{silent_after, silent_itself}
 use Rattle.run_files.proofs.SourceReturns.{leaves_given_back}
-use Rattle.run_files.proofs.Stages.{all_opened, fails_at, fails_on, leaves_more, leaves_reading, leaves_then, nothing_made}
+use Rattle.run_files.proofs.HeadReads.{at_feeds}
+use Rattle.run_files.proofs.Stages.{all_opened, fails_at, fails_on, leaves_more, leaves_reading, leaves_then, made_after, nothing_made, same_created}
 use Rattle.run_files.specs.GivingBack.{TakesSources}
 use Rattle.run_files.specs.Headed.{HasHeader, OpensFeeds}
 use Rattle.run_files.specs.Leaving.{FailsAtLast, LeavesPlace}
@@ -44,16 +45,8 @@ module _ {P O : Type 0} (p : PlaceSeen P) (s : SinkSeen O) (plan : Plan) where
   feeds_end a b o o' stop one = record {
     leaves = leaves_more p a b plan.feeds (plan.asks ++ plan.finals) (output_names plan) stop one.leaves;
     first = one.first;
-    order = inl (record {
-      unopened = one.leaves.unopened;
-      feeds_are = one.leaves.inputs_are;
-      ends = (λ e. cc, one.ends);
-      unmade = refl;
-      headed = one.headed;
-      refused = one.refused;
-      unsaid = one.unsaid;
-      silent = one.silent;
-    });
+    made = inl refl;
+    order = inl (at_feeds p s plan a b o o' [] stop refl one);
   }
 
   -- or before them, for want of memory
@@ -78,6 +71,7 @@ module _ {P O : Type 0} (p : PlaceSeen P) (s : SinkSeen O) (plan : Plan) where
       record {
         leaves = leaves_then p a b c plan.feeds (plan.asks ++ plan.finals) (output_names plan) stop one.leaves two.leaves;
         first = λ e. fails_on p a b one.leaves.opens two.leaves.opens one.leaves.opened (one.leaves.read_quiet (λ e. cc)) (two.first e);
+        made = made_after p a b two.leaves.makes (same_created p a b plan.feeds None one.leaves) (one.leaves.unwritten nothing) two.made;
         order = inr (record {
           scripts = two.leaves.opens;
           opens_are = ap (λ n. n ++ two.leaves.opens) (sym (all_opened p a b plan.feeds [] one.leaves));
@@ -94,6 +88,7 @@ module _ {P O : Type 0} (p : PlaceSeen P) (s : SinkSeen O) (plan : Plan) where
   files_given_back a b c o o' stop counts one back none = record {
     leaves = leaves_given_back p a b c (input_names plan) (output_names plan) stop counts one.leaves back none;
     first = one.first;
+    made = one.made;
     order = order_on p s plan a a b c o o o' one.leaves.opens one.leaves.makes stop refl refl back.write_faults (silent_itself s o) one.order;
   }
 
@@ -110,6 +105,7 @@ module _ {P O : Type 0} (p : PlaceSeen P) (s : SinkSeen O) (name : List ℕ) whe
     goes_on = tt;
     leaves = one;
     first = λ e. subst (FailsAtLast p a) (append_cancel_left (p.opened a) (name ∷ []) one.opens (sym (opened (same_end stop ReadFault e)) ∙ one.opened)) (fails_at p a name);
+    made = inl (nothing_made p a b (name ∷ []) (Some stop) one);
     order = tt;
     silent = λ other _ _. reads.silent (λ e. other (same_answer stop PlanRefused e));
   }
@@ -132,6 +128,7 @@ module _ {P O : Type 0} (p : PlaceSeen P) (s : SinkSeen O) (name : List ℕ) whe
         goes_on = goes_on;
         leaves = leaves_then p a b c (name ∷ []) (input_names plan) (output_names plan) stop one two.leaves;
         first = λ e. fails_on p a b one.opens two.leaves.opens one.opened (one.read_quiet (λ e. cc)) (two.first e);
+        made = made_after p a b two.leaves.makes (same_created p a b (name ∷ []) None one) (one.unwritten nothing) two.made;
         order = (
           two.leaves.opens,
           ap (λ n. n ++ two.leaves.opens) (sym (all_opened p a b (name ∷ []) [] one)),

@@ -37,7 +37,8 @@ reply_counts replies = record { replies = length replies; seen = last_number (se
 
 -- the replies to a script over a list of points, as files at entry and at exit have them
 pub record HasTranscript (schema : Schema) (final : Bool) (points : List Point) (files files' : Files) (name : List ℕ) (replies : List Reply) : Type 0 where
-  -- they answer all that the script asks, none by the line for want of memory; the numbers of `stat` are those of a cube
+  -- they answer all that the script asks, none by the line for want of memory; the numbers of `stat` are those of a
+  -- cube
   pub transcript : IsTranscript schema OwnsAllButRoot final points (length points) false (asked schema (lines (file_or_empty files name))) replies
   -- and they are what its output holds
   pub text : get files' (output_of name) ≡ Some (replies_text replies)

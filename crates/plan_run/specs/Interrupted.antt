@@ -64,6 +64,10 @@ is_script_unread (Some fault.Write) = false
 is_script_unread (Some fault.TooMuch) = false
 is_script_unread (Some fault.NoMemory) = false
 
+-- a session was ended by a write that failed
+abbrev pub IsUnwritten : ScriptCounts → Type 0
+IsUnwritten script = script.fault ≡ Some fault.Write
+
 -- how many lines of the report say `stopped: Read`
 abbrev pub read_stops : Account → ℕ
 read_stops account =
@@ -115,13 +119,15 @@ module _ (schema : Schema) (final : Bool) (end : Result (Unit {0}) Stop) (accoun
   pub record AnswersInFile (name : List ℕ) (script : ScriptCounts) : Type 0 where
     -- the replies to it
     pub replies : List Reply
-    -- the points over which they are: the journal's where the sessions were closed, and else the first of those that were drawn
+    -- the points over which they are: the journal's where the sessions were closed, and else the first of those that
+    -- were drawn
     pub points : List Point
     pub over : account.closed ≡ true → points ≡ entry_points account.entries
     pub within : IsPrefix points (entry_points account.drawn)
     -- where they were not closed a final put no reply
     pub unrun : account.closed ≡ false → final ≡ true → replies ≡ []
-    -- they answer the first of what the script asks, over these points, by the line for want of memory only where the run ends so
+    -- they answer the first of what the script asks, over these points, by the line for want of memory only where the
+    -- run ends so
     pub transcript : IsTranscript schema OwnsAllButRoot final points (length points) (is_lacking end) (take (length replies) (asked schema (lines (file_or_empty files name)))) replies
     -- its output holds them, or nothing where want of memory kept it from being given back
     pub text : (get files' (output_of name) ≡ Some (replies_text replies)) ⊎ ((end ≡ Err NoMemory) × (get files' (output_of name) ≡ Some []))
@@ -165,8 +171,8 @@ pub record HoldsFiles (plan : Plan) (end : Result (Unit {0}) Stop) (account : Ac
   pub begins : BeginsFiles plan end account files files'
   -- the journal's file is the whole text
   pub journal : get files' plan.journal ≡ Some (journal_text plan.schema account.entries)
-  -- each ask's output holds a transcript as the report counts it, over the entries' points where the sessions were closed, and
-  -- else over the first of those that were drawn
+  -- each ask's output holds a transcript as the report counts it, over the entries' points where the sessions were
+  -- closed, and else over the first of those that were drawn
   pub asks : AllZip (AnswersInFile plan.schema false end account files files') plan.asks account.asks
   -- each final's one in which every number of points is that of all of them, or none
   pub finals : AllZip (AnswersInFile plan.schema true end account files files') plan.finals account.finals

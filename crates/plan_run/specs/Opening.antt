@@ -1,5 +1,5 @@
 -- What the stages of a run before its threads leave, put together.
-use Rattle.std.specs.Prelude.{◌≡◌, ◌≢◌, ◌⊎◌, ℕ, ◌+◌, ◌<◌, ◌≤◌, List, [], ◌∷◌, ◌++◌, get_or, length, Option, Some, None, IfSome, Result, Ok, Err, All, vec_len, vec_capacity}
+use Rattle.std.specs.Prelude.{◌≡◌, ◌≢◌, ◌⊎◌, ℕ, ◌+◌, ◌≤◌, List, [], ◌∷◌, ◌++◌, length, Option, Some, None, IfSome, Result, Ok, Err, All, vec_len, vec_capacity}
 use Rattle.std.specs.List.{AllZip}
 use Rattle.cube_crew.specs.Begins.{MayRun}
 use Rattle.cube_schema.specs.Files.{input_names, output_names}
@@ -7,9 +7,9 @@ use Rattle.cube_schema.specs.declared.plan.Plan.{Plan}
 use Rattle.cube_view.specs.declared.schema.Schema.{Schema}
 use Rattle.outer_io.specs.Faults.{Rose}
 use Rattle.outer_io.specs.Files.{Files}
-use Rattle.run_files.specs.Headed.{HasHeader, RefusesLast}
-use Rattle.run_files.specs.Leaving.{FailsAtLast, LeavesPlace}
-use Rattle.run_files.specs.Outside.{FailsToPut, file_of, Outside, PlaceSeen, Puts, Silent, SinkSeen}
+use Rattle.run_files.specs.Headed.{EndsAtFeeds, HasHeader}
+use Rattle.run_files.specs.Leaving.{FailsAtLast, FailsAtLastMade, LeavesPlace}
+use Rattle.run_files.specs.Outside.{file_of, Outside, PlaceSeen, Silent, SinkSeen}
 use Rattle.run_files.specs.Planned.{MayHavePlan}
 use Rattle.run_files.specs.Scripted.{IsOutput}
 use Rattle.run_files.specs.declared.stop.Stop.{Stop}
@@ -33,21 +33,6 @@ plan_in (Ok run) = Some run.0
 plan_in (Err stop) = None
 
 module _ {P O : Type 0} (p : PlaceSeen P) (s : SinkSeen O) (plan : Plan) (before after : Outside P O) where
-  -- These feeds of the plan were opened, and the run ends at the last one of them, or before the next
-  pub record EndsAtFeeds (opens makes : List (List ℕ)) (stop : Option Stop) : Type 0 where
-    pub unopened : List (List ℕ)
-    pub feeds_are : plan.feeds ≡ opens ++ unopened
-    pub ends : (stop ≢ None) × (stop ≢ Some PlanRefused)
-    -- nothing was created
-    pub unmade : makes ≡ []
-    -- each feed that was opened before another one has a header
-    pub headed : (i : ℕ) → i + 1 < length opens → HasHeader plan.schema (file_of (p.files before.place) (get_or opens i []))
-    -- the one that was opened last is refused, which is said, or a part of it where the put fails
-    pub refused : stop ≡ Some FeedRefused → RefusesLast plan.schema (file_of (p.files before.place)) opens (Puts s before.out after.out)
-    pub unsaid : stop ≡ Some WriteFault → RefusesLast plan.schema (file_of (p.files before.place)) opens (FailsToPut s before.out after.out)
-    -- else nothing was put
-    pub silent : stop ≢ Some FeedRefused → stop ≢ Some WriteFault → Silent s before.out after.out
-
   -- All feeds of the plan were opened, and then these scripts
   pub record PassesFeeds (opens : List (List ℕ)) (stop : Option Stop) : Type 0 where
     pub scripts : List (List ℕ)
@@ -62,13 +47,15 @@ module _ {P O : Type 0} (p : PlaceSeen P) (s : SinkSeen O) (plan : Plan) (before
 
   -- of the plan's files the feeds come first, the header of each one read before the next file is opened
   abbrev pub OpensInOrder : List (List ℕ) → List (List ℕ) → Option Stop → Type 0
-  OpensInOrder opens makes stop = EndsAtFeeds opens makes stop ⊎ PassesFeeds opens stop
+  OpensInOrder opens makes stop = EndsAtFeeds p s plan before after opens makes stop ⊎ PassesFeeds opens stop
 
 -- What opening the files of a plan leaves of a place and a sink, by what ends the run with it, if it does
 pub record OpensFiles {P O : Type 0} (p : PlaceSeen P) (s : SinkSeen O) (before after : Outside P O) (plan : Plan) (stop : Option Stop) : Type 0 where
   pub leaves : LeavesPlace p before.place after.place (input_names plan) (output_names plan) stop
   -- a read fault ends the run at the file that was opened last
   pub first : stop ≡ Some ReadFault → FailsAtLast p before.place leaves.opens
+  -- and no write failed before the output that was created last
+  pub made : (leaves.makes ≡ []) ⊎ FailsAtLastMade p before.place leaves.makes
   pub order : OpensInOrder p s plan before after leaves.opens leaves.makes stop
 
 -- What opening a run leaves of a place and a sink, by the plan that it goes on with, or what ends it
@@ -80,6 +67,8 @@ pub record OpensRun {P O : Type 0} (p : PlaceSeen P) (s : SinkSeen O) (before af
   pub leaves : LeavesPlace p before.place after.place (name ∷ inputs_of planned.plan) (outputs_of planned.plan) stop
   -- a read fault ends the run at the file that was opened last
   pub first : stop ≡ Some ReadFault → FailsAtLast p before.place leaves.opens
+  -- and no write failed before the output that was created last
+  pub made : (leaves.makes ≡ []) ⊎ FailsAtLastMade p before.place leaves.makes
   -- feeds come before scripts, and what ends the run there has its cause
   pub order : IfSome planned.plan (λ plan. (opens : List (List ℕ)) × (leaves.opens ≡ name ∷ opens) × OpensInOrder p s plan before after opens leaves.makes stop)
   -- nothing else is put but what is said of a refused feed

@@ -81,9 +81,9 @@ fn say_run<O: Sink>(
     }
 }
 
-/// Writes the journal, gives all parts back in the order in which they were made, and puts the report in one put. A failure
-/// stops none of the later steps, but without memory for the journal nothing is reported. `room` has nothing in it, and
-/// room for the sinks of all scripts. The end is the first of all, in the order of [`Stop`].
+/// Writes the journal, gives all parts back in the order in which they were made, and puts the report in one put. A
+/// failure stops none of the later steps, but without memory for the journal nothing is reported. `room` has nothing in
+/// it, and room for the sinks of all scripts. The end is the first of all, in the order of [`Stop`].
 pub(crate) fn close_run<P: Place, O: Sink>(
     alloc: Global,
     plan: &Plan,

@@ -52,8 +52,8 @@ fn put_from<O: Sink>(least: usize, buffer: &mut Vec<u8>, out: &mut O) -> Result<
     Ok(())
 }
 
-/// Puts the journal of the entries, a buffer at a time, so that its memory does not grow with the journal. After a fault
-/// it makes no further put. `NoMemory` comes where the buffer, a line or a put found none.
+/// Puts the journal of the entries, a buffer at a time, so that its memory does not grow with the journal. After a
+/// fault it makes no further put. `NoMemory` comes where the buffer, a line or a put found none.
 pub(crate) fn write_journal<O: Sink>(
     alloc: Global,
     schema: &Schema,

@@ -74,10 +74,10 @@ fn run_parts<R: Threads + Wait + Sync, P: Place, O: Sink>(
     }
 }
 
-/// Runs the plan of that name over a place: opens its feeds and scripts and creates its outputs, loads the feeds by threads
-/// while the asks are answered, answers the finals over all that was loaded, writes the journal, gives every part back, and
-/// puts the report on `out`. A refused plan or header is one line on `out`. The end is the first cause in the order of
-/// [`Stop`].
+/// Runs the plan of that name over a place: opens its feeds and scripts and creates its outputs, loads the feeds by
+/// threads while the asks are answered, answers the finals over all that was loaded, writes the journal, gives every
+/// part back, and puts the report on `out`. A refused plan or header is one line on `out`. The end is the first cause
+/// in the order of [`Stop`].
 pub fn run_plan<R: Threads + Wait + Sync, P: Place, O: Sink>(
     rt: &R,
     alloc: Global,

@@ -33,8 +33,8 @@ fn give_back_sessions<P: Place>(
     sinks
 }
 
-/// Gives all parts back: the sources in order, and then the sinks, the journal's last. A failure stops none of the later
-/// ones.
+/// Gives all parts back: the sources in order, and then the sinks, the journal's last. A failure stops none of the
+/// later ones.
 pub(crate) fn give_back_unrun<P: Place>(place: &mut P, parts: RunParts<P::In, P::Out>)
     requires empty { (parts.room.items ≡ []) × (vec_len parts.room ≡ 0) }
     requires room { length parts.jobs.asks + length parts.jobs.finals ≤ vec_capacity parts.room }

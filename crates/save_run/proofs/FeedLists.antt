@@ -5,7 +5,7 @@ use Rattle.std.proofs.lemmas.List.{drop-drop, drop-set-lt, flat_map_more, get_or
 use Rattle.std.proofs.lemmas.List.Elements.{All-set, All-weaker}
 use Rattle.std.proofs.lemmas.List.Quantifiers.{any-set}
 use Rattle.std.proofs.lemmas.Slice.Zip.{all_zipped_more}
-use Rattle.cube_store.specs.Holding.{CubeCounts}
+use Rattle.cube_store.specs.Holding.{CubeCounts, IsLeastCubeOf}
 use Rattle.cube_store.specs.declared.cube.Cube.{Cube}
 use Rattle.cube_view.specs.Points.{Point}
 use Rattle.cube_view.specs.declared.schema.Schema.{Schema}
@@ -19,17 +19,17 @@ use Rattle.outer_io.specs.Progress.{IsTooLarge}
 use Rattle.outer_io.specs.declared.cutter.CutFault.{CutFault}
 use Rattle.outer_io.specs.declared.cutter.CutFault.TheVariants as fault
 use Rattle.save_run.specs.Counting.{JoinsFeed}
-use Rattle.save_run.specs.Grouping.{GroupsCount, grouped_size}
+use Rattle.save_run.specs.Grouping.{GroupsCount, GroupsLeast, grouped_size}
 use Rattle.save_run.specs.Taking.{AreQuiet, EndsBy, HasRows, IsUnread, TakesAll, counts_at_end}
 use Rattle.save_run.specs.declared.grouped_cube.GroupedCube.{GroupedCube}
 use Rattle.save_run.proofs.Groups.{counted_size}
 
 -- lists that are the same from a place on are the same from the next on
-drop_next : {X : Type 0} (n : ℕ) (xs ys : List X) → drop n xs ≡ drop n ys → drop (n + 1) xs ≡ drop (n + 1) ys
+pub drop_next : {X : Type 0} (n : ℕ) (xs ys : List X) → drop n xs ≡ drop n ys → drop (n + 1) xs ≡ drop (n + 1) ys
 drop_next n xs ys e = sym (drop-drop 1 n xs) ∙ ap (λ l. drop 1 l) e ∙ drop-drop 1 n ys
 
 -- and they are the same at it
-same_at : {X : Type 0} (n : ℕ) (xs ys : List X) (d : X) → drop n xs ≡ drop n ys → get_or xs n d ≡ get_or ys n d
+pub same_at : {X : Type 0} (n : ℕ) (xs ys : List X) (d : X) → drop n xs ≡ drop n ys → get_or xs n d ≡ get_or ys n d
 same_at n xs ys d e =
     let here : (l : List _) → get_or l n d ≡ get_or (drop n l) 0 d = λ l. ap (λ k. get_or l k d) (sym (add-zero n)) ∙ sym (get_or-drop n l 0 d) in
     here xs ∙ ap (λ l. get_or l 0 d) e ∙ sym (here ys)
@@ -41,6 +41,7 @@ module _ {S : Type 0} (left : S → Option (List ℕ)) (faults : S → ℕ) (sch
     pub read : AllZip (HasRows left faults) (take n before) rows
     pub schema_is : grouped.cube.schema ≡ schema
     pub points : GroupsCount grouped (flat_map points_in rows)
+    pub least : 1 < schema.batch → GroupsLeast grouped (flat_map points_in rows)
     pub counts_are : counts ≡ map counts_at_end rows
     pub quiet : AreQuiet left faults now
     pub rest : drop n now ≡ drop n before
@@ -52,12 +53,13 @@ module _ {S : Type 0} (left : S → Option (List ℕ)) (faults : S → ℕ) (sch
   all_quiet unread = All-weaker (IsUnread left faults schema) (λ (feed : FeedJob S). faults feed.cutter.source ≡ 0) (λ feed is. is.quiet) before unread
 
   -- before the first feed
-  pub begins : (grouped : GroupedCube) (counts : List FeedCounts) → grouped.cube.schema ≡ schema → GroupsCount grouped [] → counts ≡ [] → All (IsUnread left faults schema) before → HasTaken 0 before grouped counts
-  begins grouped counts schema_is empty none unread = record {
+  pub begins : (grouped : GroupedCube) (counts : List FeedCounts) → grouped.cube.schema ≡ schema → GroupsCount grouped [] → GroupsLeast grouped [] → counts ≡ [] → All (IsUnread left faults schema) before → HasTaken 0 before grouped counts
+  begins grouped counts schema_is empty least none unread = record {
     rows = [];
     read = tt;
     schema_is = schema_is;
     points = empty;
+    least = λ many. least;
     counts_are = none;
     quiet = All-weaker (IsUnread left faults schema) (λ (feed : FeedJob S). faults feed.cutter.source ≡ 0) (λ feed is. is.quiet) before unread;
     rest = refl;
@@ -67,12 +69,13 @@ module _ {S : Type 0} (left : S → Option (List ℕ)) (faults : S → ℕ) (sch
 
   -- all feeds were read, and the points that were gathered last are inserted
   pub all_taken : (now : List (FeedJob S)) (n : ℕ) (grouped : GroupedCube) (counts : List FeedCounts) (cube : Cube) → n ≡ length before → HasTaken n now grouped counts → cube.schema ≡ grouped.cube.schema
-      → ((h : List Point) → GroupsCount grouped h → CubeCounts cube h) → TakesAll left faults schema before now cube counts
-  all_taken now n grouped counts cube all on same counted = record {
+      → ((h : List Point) → GroupsCount grouped h → CubeCounts cube h) → (1 < grouped.cube.schema.batch → (h : List Point) → GroupsLeast grouped h → IsLeastCubeOf cube h) → TakesAll left faults schema before now cube counts
+  all_taken now n grouped counts cube all on same counted least = record {
     rows = on.rows;
     read = subst (λ (feeds : List (FeedJob S)). AllZip (HasRows left faults) feeds on.rows) (take_all n before (omega (arith, all))) on.read;
     schema_is = same ∙ on.schema_is;
     points = counted (flat_map points_in on.rows) on.points;
+    least = λ many. least (subst (λ (z : Schema). 1 < z.batch) (sym on.schema_is) many) (flat_map points_in on.rows) (on.least many);
     counts_are = on.counts_are;
     quiet = on.quiet;
   }
@@ -99,7 +102,8 @@ module _ {S : Type 0} (left : S → Option (List ℕ)) (faults : S → ℕ) (sch
             rows = on.rows ++ taken.rows ∷ [];
             read = subst (λ (feeds : List (FeedJob S)). AllZip (HasRows left faults) feeds (on.rows ++ taken.rows ∷ [])) (sym more) (all_zipped_more (HasRows left faults) (take n before) on.rows (get_or now n d) taken.rows on.read taken.read);
             schema_is = schema_is ∙ on.schema_is;
-            points = subst (λ points. GroupsCount grouped' points) (flat_map_more points_in [] on.rows taken.rows) (taken.points (flat_map points_in on.rows) on.points);
+            points = subst (λ points. GroupsCount grouped' points) (flat_map_more points_in [] on.rows taken.rows) (taken.points.counted (flat_map points_in on.rows) on.points);
+            least = λ many. subst (λ points. GroupsLeast grouped' points) (flat_map_more points_in [] on.rows taken.rows) (taken.points.least (subst (λ (z : Schema). 1 < z.batch) (sym on.schema_is) many) (flat_map points_in on.rows) (on.least many));
             counts_are = counted ∙ ap (λ cs. cs ++ of_feed ∷ []) on.counts_are ∙ ap (λ c. map counts_at_end on.rows ++ c ∷ []) taken.counts_are ∙ sym (map_push counts_at_end on.rows taken.rows);
             quiet = quiet_on quiet;
             rest = drop-set-lt (n + 1) now n after (omega arith) ∙ drop_next n now before on.rest;

@@ -1,5 +1,5 @@
 -- A feed on the way through its cutter's lines, and the cube that takes its points in groups.
-use Rattle.std.proofs.Common.{◌≡◌, ℕ, ◌+◌, ◌≤◌, ◌<◌, ◌^◌, List, [], ◌∷◌, ◌++◌, length, map, Option, refl, sym, ◌∙◌, ap, subst, arith, append-nil, append_assoc, Result, Err, IsErrOf}
+use Rattle.std.proofs.Common.{◌≡◌, ℕ, ◌+◌, ◌≤◌, ◌<◌, ◌^◌, List, [], ◌∷◌, ◌++◌, length, map, Option, refl, sym, ◌∙◌, ap, subst, arith, append-nil, Result, Err, IsErrOf}
 use Rattle.std.proofs.lemmas.List.{length-map, length_push, map_push}
 use Rattle.cube_view.specs.declared.schema.Schema.{Schema}
 use Rattle.feed_reader.proofs.FeedLaws.{points_in-append}
@@ -19,10 +19,10 @@ use Rattle.outer_io.specs.Progress.{IsGoing, Passes, PassesAll}
 use Rattle.outer_io.specs.declared.cutter.CutFault.{CutFault}
 use Rattle.outer_io.specs.declared.cutter.CutFault.TheVariants as fault
 use Rattle.save_run.specs.Counting.{JoinsFeed, tally_counts, having_counted, tally_of}
-use Rattle.save_run.specs.Grouping.{GroupsCount, GroupsTake, grouped_size}
+use Rattle.save_run.specs.Grouping.{GroupsTake, grouped_size}
 use Rattle.save_run.specs.declared.grouped_cube.GroupedCube.{GroupedCube}
 use Rattle.save_run.specs.declared.tally.Tally.{Tally}
-use Rattle.save_run.proofs.Groups.{takes_none}
+use Rattle.save_run.proofs.Groups.{takes_none, takes_twice}
 use Rattle.save_run.proofs.Tallies.{few_counted, tally_more}
 
 -- a call behind one that met no fault of a source, which meets none itself
@@ -37,9 +37,8 @@ same_cause first now after r s f same is also cause = record {
 }
 
 -- the points of some rows, and then that of one row more
-takes_on : (a b c : GroupedCube) (rows : List Row) (row : Row) → GroupsTake a b (points_in rows) → GroupsTake b c (points_in (row ∷ [])) → GroupsTake a c (points_in (rows ++ row ∷ []))
-takes_on a b c rows row p q h counts =
-    subst (λ points. GroupsCount c points) (append_assoc h (points_in rows) (points_in (row ∷ [])) ∙ ap (λ points. h ++ points) (sym (points_in-append rows (row ∷ [])))) (q (h ++ points_in rows) (p h counts))
+takes_on : (a b c : GroupedCube) (rows : List Row) (row : Row) → b.cube.schema ≡ a.cube.schema → GroupsTake a b (points_in rows) → GroupsTake b c (points_in (row ∷ [])) → GroupsTake a c (points_in (rows ++ row ∷ []))
+takes_on a b c rows row same p q = subst (λ points. GroupsTake a c points) (sym (points_in-append rows (row ∷ []))) (takes_twice a b c (points_in rows) (points_in (row ∷ [])) same p q)
 
 module _ {S : Type 0} (left : S → Option (List ℕ)) (faults : S → ℕ) (start : FeedJob S) (before : GroupedCube) where
   -- what a line's row is
@@ -104,7 +103,7 @@ module _ {S : Type 0} (left : S → Option (List ℕ)) (faults : S → ℕ) (sta
           given = omega (arith, gives.given, gives.counts, on.given, more);
           few = omega (arith, gives.given, gives.small);
           header = header ∙ on.header;
-          points = subst (λ rs. GroupsTake before grouped' (points_in rs)) rows_are (takes_on before grouped grouped' rows found.0 on.points points);
+          points = subst (λ rs. GroupsTake before grouped' (points_in rs)) rows_are (takes_on before grouped grouped' rows found.0 on.schema on.points points);
           schema = schema_is ∙ on.schema;
           size = omega (arith, on.size, size, more);
           counted = counted ∙ ap (λ t. having_counted t found.1 found.0) on.counted ∙ tally_more rows found.1 found.0 number ∙ ap tally_of rows_are;

@@ -1,17 +1,18 @@
 -- Points that are gathered behind those that a cube counts, and inserted as one group.
-use Rattle.std.proofs.Common.{◌≡◌, ◌+◌, ◌≤◌, ◌&&◌, nat_le, if◌then◌else◌, All, List, Result, Ok, Err, is_ok, [], ◌∷◌, ◌++◌, length, sym, ◌∙◌, ap, subst, arith, append-nil, append_assoc, length-append}
+use Rattle.std.proofs.Common.{◌≡◌, ◌+◌, ◌<◌, ◌≤◌, ◌&&◌, nat_le, if◌then◌else◌, All, List, Result, Ok, Err, is_ok, [], ◌∷◌, ◌++◌, length, sym, ◌∙◌, ap, subst, arith, append-nil, append_assoc, length-append}
 use Rattle.std.proofs.Math.Logic.{∥∥₁_elim}
 use Rattle.std.proofs.Math.Nat.{ℕ_set}
 use Rattle.std.proofs.lemmas.Bool.{and_parts, leb-true}
 use Rattle.std.proofs.lemmas.List.{length_push}
 use Rattle.std.proofs.lemmas.List.Elements.{All-push}
-use Rattle.cube_store.specs.Holding.{CubeCounts}
+use Rattle.cube_store.specs.Counted.{GoAsGroup}
+use Rattle.cube_store.specs.Holding.{CubeCounts, IsLeastCubeOf}
 use Rattle.cube_store.specs.declared.cube.Cube.{Cube}
 use Rattle.cube_view.specs.Bag.{CountsMore}
 use Rattle.cube_view.specs.Limits.{is_between, categories_in_range, numbers_in_range, parts_in_range, texts_distinct, weight_in_range}
 use Rattle.cube_view.specs.Points.{Point}
 use Rattle.cube_view.specs.declared.schema.Schema.{Schema}
-use Rattle.save_run.specs.Grouping.{GroupsCount, GroupsTake, grouped_size}
+use Rattle.save_run.specs.Grouping.{GroupsCount, GroupsTake, HasFront, grouped_size}
 use Rattle.save_run.specs.declared.grouped_cube.GroupedCube.{GroupedCube}
 
 -- a batch has a point at least
@@ -46,33 +47,65 @@ more_size before after points more = ∥∥₁_elim before.counted (ℕ_set _ _)
     let both = length-append s.0 points in
     omega (arith, later.number, s.1.number, both))
 
+-- with a batch of several points all points go as a group
+pub as_group : (z : Schema) (points : List Point) → 1 < z.batch → GoAsGroup z points
+as_group z points many single one = omega (arith, many, one)
+
+-- ---- whatever is said of the cube and the front of a list
+
+module _ (Says : Cube → List Point → Type 0) where
+  none_more : (grouped : GroupedCube) → CountsMore (HasFront Says grouped) (HasFront Says grouped) []
+  none_more grouped h has = subst (λ points. HasFront Says grouped points) (sym (append-nil h)) has
+
+  inserted_more : (before after : GroupedCube) (points : List Point) → points ≡ before.gathered.items → CountsMore (Says before.cube) (Says after.cube) points → after.gathered.items ≡ [] → CountsMore (HasFront Says before) (HasFront Says after) []
+  inserted_more before after points gathered more none h has =
+      let all : h ++ [] ≡ has.front ++ points = append-nil h ∙ has.all ∙ ap (λ g. has.front ++ g) (sym gathered) in
+      record {
+        front = has.front ++ points;
+        inserted = more has.front has.inserted;
+        all = all ∙ sym (ap (λ g. (has.front ++ points) ++ g) none ∙ append-nil (has.front ++ points));
+      }
+
+  gathered_more : (before after : GroupedCube) (p : Point) → after.cube ≡ before.cube → after.gathered.items ≡ before.gathered.items ++ p ∷ [] → CountsMore (HasFront Says before) (HasFront Says after) (p ∷ [])
+  gathered_more before after p same more h has = record {
+    front = has.front;
+    inserted = subst (λ (cube : Cube). Says cube has.front) (sym same) has.inserted;
+    all = ap (λ points. points ++ p ∷ []) has.all ∙ append_assoc has.front before.gathered.items (p ∷ []) ∙ ap (λ points. has.front ++ points) (sym more);
+  }
+
+  more_twice : (a b c : GroupedCube) (first second : List Point) → CountsMore (HasFront Says a) (HasFront Says b) first → CountsMore (HasFront Says b) (HasFront Says c) second → CountsMore (HasFront Says a) (HasFront Says c) (first ++ second)
+  more_twice a b c first second p q h has = subst (λ points. HasFront Says c points) (append_assoc h first second) (q (h ++ first) (p h has))
+
+  -- where none are gathered it is said of all
+  pub said_of_all : (grouped : GroupedCube) (h : List Point) → grouped.gathered.items ≡ [] → HasFront Says grouped h → Says grouped.cube h
+  said_of_all grouped h none has = subst (λ points. Says grouped.cube points) (sym (has.all ∙ ap (λ points. has.front ++ points) none ∙ append-nil has.front)) has.inserted
+
+  -- and of all that none more were taken behind
+  pub said_at_end : (before after : GroupedCube) (h : List Point) → CountsMore (HasFront Says before) (HasFront Says after) [] → after.gathered.items ≡ [] → HasFront Says before h → Says after.cube h
+  said_at_end before after h more none has = said_of_all after h none (subst (λ points. HasFront Says after points) (append-nil h) (more h has))
+
+-- ---- points that are taken
+
 -- no points are taken where all stays as it is
 pub takes_none : (grouped : GroupedCube) → GroupsTake grouped grouped []
-takes_none grouped h counts = subst (λ points. GroupsCount grouped points) (sym (append-nil h)) counts
+takes_none grouped = record { counted = none_more CubeCounts grouped; least = λ many. none_more IsLeastCubeOf grouped }
 
 module _ (before after : GroupedCube) where
   -- nor where the gathered points are inserted
-  pub inserts : (points : List Point) → points ≡ before.gathered.items → CountsMore (CubeCounts before.cube) (CubeCounts after.cube) points → after.gathered.items ≡ [] → GroupsTake before after []
-  inserts points gathered more none h counts =
-      let all : h ++ [] ≡ counts.front ++ points = append-nil h ∙ counts.all ∙ ap (λ g. counts.front ++ g) (sym gathered) in
-      record {
-        front = counts.front ++ points;
-        inserted = more counts.front counts.inserted;
-        all = all ∙ sym (ap (λ g. (counts.front ++ points) ++ g) none ∙ append-nil (counts.front ++ points));
-      }
+  pub inserts : (points : List Point) → points ≡ before.gathered.items → CountsMore (CubeCounts before.cube) (CubeCounts after.cube) points
+      → (GoAsGroup before.cube.schema points → CountsMore (IsLeastCubeOf before.cube) (IsLeastCubeOf after.cube) points) → after.gathered.items ≡ [] → GroupsTake before after []
+  inserts points gathered more least none = record {
+    counted = inserted_more CubeCounts before after points gathered more none;
+    least = λ many. inserted_more IsLeastCubeOf before after points gathered (least (as_group before.cube.schema points many)) none;
+  }
 
   -- a point is taken where it is gathered
   pub gathers : (p : Point) → after.cube ≡ before.cube → after.gathered.items ≡ before.gathered.items ++ p ∷ [] → GroupsTake before after (p ∷ [])
-  gathers p same more h counts = record {
-    front = counts.front;
-    inserted = subst (λ (cube : Cube). CubeCounts cube counts.front) (sym same) counts.inserted;
-    all = ap (λ points. points ++ p ∷ []) counts.all ∙ append_assoc counts.front before.gathered.items (p ∷ []) ∙ ap (λ points. counts.front ++ points) (sym more);
-  }
+  gathers p same more = record { counted = gathered_more CubeCounts before after p same more; least = λ many. gathered_more IsLeastCubeOf before after p same more }
 
--- a point is taken behind none
-pub takes_behind : (a b c : GroupedCube) (points : List Point) → GroupsTake a b [] → GroupsTake b c points → GroupsTake a c points
-takes_behind a b c points p q h counts = subst (λ front. GroupsCount c (front ++ points)) (append-nil h) (q (h ++ []) (p h counts))
-
--- where none are gathered the cube counts all
-pub all_inserted : (grouped : GroupedCube) (h : List Point) → grouped.gathered.items ≡ [] → GroupsCount grouped h → CubeCounts grouped.cube h
-all_inserted grouped h none counts = subst (λ points. CubeCounts grouped.cube points) (sym (counts.all ∙ ap (λ points. counts.front ++ points) none ∙ append-nil counts.front)) counts.inserted
+-- points are taken one list after another
+pub takes_twice : (a b c : GroupedCube) (first second : List Point) → b.cube.schema ≡ a.cube.schema → GroupsTake a b first → GroupsTake b c second → GroupsTake a c (first ++ second)
+takes_twice a b c first second same p q = record {
+  counted = more_twice CubeCounts a b c first second p.counted q.counted;
+  least = λ many. more_twice IsLeastCubeOf a b c first second (p.least many) (q.least (subst (λ (z : Schema). 1 < z.batch) (sym same) many));
+}

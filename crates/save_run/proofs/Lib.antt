@@ -1,9 +1,9 @@
 mod Groups
 mod Tallies
-mod FeedReads
-mod FeedLists
-mod SaveEnds
-mod FeedRows
+pub mod FeedReads
+pub mod FeedLists
+pub mod SaveEnds
+pub mod FeedRows
 mod Lists
 mod Records
 mod ImageLineFaults

@@ -1,12 +1,12 @@
 -- How a save ends before its feeds were read, and what stands once they were.
-use Rattle.std.proofs.Common.{◌≡◌, ◌≢◌, ◌⊎◌, ◌+◌, ◌<◌, ◌≤◌, ℕ, zero, suc, ◌==◌, not, cond, true, false, List, [], ◌∷◌, ◌++◌, get_or, length, map, Option, Some, None, IfSome, Result, Ok, Err, inl, inr, refl, sym, ◌∙◌, ap, subst, arith}
+use Rattle.std.proofs.Common.{◌≡◌, ◌≢◌, ◌⊎◌, ◌+◌, ◌<◌, ◌≤◌, ℕ, zero, suc, ◌==◌, not, cond, true, false, List, [], ◌∷◌, ◌++◌, get_or, length, map, All, Option, Some, None, Result, Ok, Err, inl, inr, refl, sym, ◌∙◌, ap, subst, arith}
 use Rattle.std.proofs.lemmas.Bool.Decides.{nat_tests}
 use Rattle.std.proofs.lemmas.List.{append-nil}
 use Rattle.std.proofs.lemmas.List.Elements.{All-contains, All-map, Contains-append_left, Contains-push}
 use Rattle.std.specs.List.{AllZip}
 use Rattle.std.specs.Prelude.{Any, Contains}
 use Rattle.cube_schema.specs.declared.plan.Plan.{Plan}
-use Rattle.cube_store.specs.Holding.{CubeCounts}
+use Rattle.cube_store.specs.Holding.{CubeCounts, IsLeastCubeOf}
 use Rattle.cube_store.specs.declared.cube.Cube.{Cube}
 use Rattle.cube_view.specs.Points.{Point}
 use Rattle.cube_view.specs.declared.schema.Schema.{Schema}
@@ -22,17 +22,18 @@ use Rattle.outer_io.specs.Progress.{IsTooLarge}
 use Rattle.outer_io.specs.Told.{Told}
 use Rattle.outer_io.specs.declared.cutter.CutFault.{CutFault}
 use Rattle.outer_io.specs.declared.cutter.CutFault.TheVariants as cut
-use Rattle.run_files.proofs.Apart.{err_is}
+use Rattle.run_files.proofs.Apart.{err_is, stopped}
 use Rattle.run_files.proofs.FaultRises.{faulty-cons, rose_once}
-use Rattle.run_files.proofs.Lists.{not_grown}
-use Rattle.run_files.proofs.PlanReads.{plan_end, says_plan}
-use Rattle.run_files.proofs.SinkPuts.{fails_after, puts_after, refuses_saying, silent_after}
-use Rattle.run_files.proofs.Stages.{all_opened, KeepsOthers-same, leaves_reading, leaves_then, nothing_made, opened_front, same_created, same_files}
+use Rattle.run_files.proofs.HeadReads.{all_headed, at_feeds, at_feeds_on}
+use Rattle.run_files.proofs.PlanReads.{lacks_plan}
+use Rattle.run_files.proofs.SinkPuts.{fails_after, puts_after, silent_after}
+use Rattle.run_files.proofs.Stages.{all_opened, fails_on, KeepsOthers-same, leaves_reading, leaves_then, names_of, nothing_made, same_created, same_files}
+use Rattle.run_files.specs.Counts.{CountsAt}
 use Rattle.run_files.specs.GivingBack.{faulty, TakesSources}
-use Rattle.run_files.specs.Headed.{IsHeaded, OpensFeeds, RefusesLast}
+use Rattle.run_files.specs.Headed.{HasHeader, IsHeaded, OpensFeeds, RefusesLast}
 use Rattle.run_files.specs.Leaving.{LeavesPlace}
-use Rattle.run_files.specs.Outside.{at, FailsToPut, file_of, PlaceSeen, Puts, PutsOrFails, Silent, SinkSeen, SourceSeen}
-use Rattle.run_files.specs.Planned.{IsPlanOf, ReadsPlan, RefusesPlan}
+use Rattle.run_files.specs.Outside.{at, file_of, PlaceSeen, Puts, Silent, SinkSeen, SourceSeen}
+use Rattle.run_files.specs.Planned.{LacksPlan, ReadsPlan}
 use Rattle.run_files.specs.Stops.{IsOrLacks, stop_of_cut}
 use Rattle.run_files.specs.declared.stop.Stop.{Stop}
 use Rattle.run_files.specs.declared.stop.Stop.TheVariants as stop
@@ -41,7 +42,7 @@ use Rattle.save_run.specs.Taking.{AreQuiet, EndsBy, TakesAll, TakesFeeds}
 use Rattle.save_run.proofs.FeedRows.{any_large, are_fed}
 use Rattle.save_run.proofs.Records.{are_records}
 use Rattle.save_run.proofs.EndsAfterFeeds.{End, Stood}
-use Rattle.save_run.specs.Ends.{CreatesNone, feeds_of, AtEntry, SaveEnds, SaysHeader, SaysOfSave}
+use Rattle.save_run.specs.Ends.{AtEntry, EndsPastHeaders, NoneRose, SaveEnds, SavesUnderPlan}
 use Rattle.save_run.specs.Names.{saving}
 use Rattle.save_run.specs.Reading.{taken_end, ReadsFeeds}
 use Rattle.save_run.specs.Saved.{AreTaken, HasLongFeed}
@@ -60,11 +61,14 @@ none_met : (x : Taken) (taken : Result Taken CutFault) → ◌≡◌ {A = Result
 none_met x (Ok y) is = cc
 none_met x (Err f) is = cc
 
--- what holds of a value wherever it is told is told
+-- saving ended by this cause
+abbrev ended : Stop → End
+ended k = Err k
+
 counted_some : (n m : ℕ) → Rose 0 n → 1 ≤ cond (not (n == 0)) 1 0 + m
 counted_some n m rose = let some = rose.1 in grind (arith, nat_tests)
 
-faulty_some : {X : Type 0} (count : X → ℕ) (xs : List X) (k : ℕ) (x : X) → k < length xs → get_or xs k x ≡ x → Rose 0 (count x) → 1 ≤ faulty (map count xs)
+pub faulty_some : {X : Type 0} (count : X → ℕ) (xs : List X) (k : ℕ) (x : X) → k < length xs → get_or xs k x ≡ x → Rose 0 (count x) → 1 ≤ faulty (map count xs)
 faulty_some count [] k x within is rose = absurd (omega (arith, within))
 faulty_some count (y ∷ xs) zero x within is rose = let some = counted_some (count y) (faulty (map count xs)) (subst (λ (z : _). Rose 0 (count z)) (sym is) rose) in let both = faulty-cons (count y) (map count xs) in omega (arith, some, both)
 faulty_some count (y ∷ xs) (suc k) x within is rose = let later = faulty_some count xs k x (omega (arith, within)) is rose in let both = faulty-cons (count y) (map count xs) in omega (arith, later, both)
@@ -74,50 +78,36 @@ not_both : (schema : Schema) (feed : List ℕ) → is_feed_refused schema feed �
 not_both schema feed refused taken = let z : true ≡ false = sym refused ∙ taken in absurd cc
 
 module _ {P O : Type 0} (p : PlaceSeen P) (s : SinkSeen O) where
-  module _ (a b : P) (out out' : O) (name image : List ℕ) where
-    -- with any trouble before the image is created
-    ended_early : (plan : Option Plan) (k : Stop) → LeavesPlace p a b (name ∷ feeds_of plan) [] (Some k) → IfSome plan (IsPlanOf (file_of (p.files a) name))
-        → (plan ≡ None → (◌≡◌ {A = End} (Err k) (Err stop.NoMemory)) ⊎ (◌≡◌ {A = End} (Err k) (Err stop.ReadFault)) ⊎ (◌≡◌ {A = End} (Err k) (Err stop.PlanRefused)))
-        → (k ≡ stop.PlanRefused → (plan ≡ None) × RefusesPlan s out out' (file_of (p.files a) name))
-        → (k ≡ stop.FeedRefused → (which : Plan) × (plan ≡ Some which) × CreatesNone p s (at a out) (at b out') (saving name image) × (SaysHeader p s (at a out) (at b out') (saving name image) which (Puts s out out') ⊎ (Silent s out out' × AtEntry p s (at a out) (at b out') (saving name image) (HasLongFeed which))))
-        → SaysOfSave p s (at a out) (at b out') (saving name image) plan
-        → (k ≡ stop.WriteFault → Rose (s.faults out) (s.faults out'))
-        → (¬ Rose (p.read_faults a) (p.read_faults b) → ¬ Rose (s.faults out) (s.faults out') → IfSome plan (λ which. AtEntry p s (at a out) (at b out') (saving name image) (λ files. AreTaken which files → IsOrLacks Done (Err k) ⊎ IsOrLacks Refused (Err k))))
-        → SaveEnds p s (at a out) (at b out') (saving name image) (Err k)
-    ended_early plan k leaves plan_is unplanned refused_plan refused said write complete =
-        let stays = same_created p a b (name ∷ feeds_of plan) (Some k) leaves in
+  module _ (a b : P) (out out' : O) (name image : List ℕ) (inputs : List (List ℕ)) (k : Stop) (leaves : LeavesPlace p a b inputs [] (Some k)) where
+    -- the counts of faults with any trouble before the image is created
+    early_counts : (k ≡ stop.FeedRefused → s.faults out' ≡ s.faults out) → (k ≡ stop.WriteFault → Rose (s.faults out) (s.faults out')) → CountsAt p s (at a out) (at b out') (ended k)
+    early_counts unput write =
+        let unwritten = leaves.unwritten (nothing_made p a b inputs (Some k) leaves) in
         record {
-          planned = record { plan = plan; plan_is = plan_is; unplanned = unplanned; refused_plan = λ e. refused_plan (err_is k stop.PlanRefused e) };
-          done = λ e. cc;
-          refused_image = λ e. cc;
-          refused = λ e. refused (err_is k stop.FeedRefused e);
-          said = said;
-          opened = opened_front p a b (name ∷ feeds_of plan) (Some k) leaves;
-          created = inl stays;
-          created_last = λ e. absurd (not_grown (p.created a) (p.created b) image e stays);
-          others = KeepsOthers-same (p.files a) (p.files b) (image ∷ []) (same_files p a b (name ∷ feeds_of plan) (Some k) leaves);
-          untouched = λ e. same_files p a b (name ∷ feeds_of plan) (Some k) leaves;
-          counts = record {
-            done = λ x e. cc;
-            refused = λ e. (leaves.read_quiet (λ is. cc), leaves.unwritten (nothing_made p a b (name ∷ feeds_of plan) (Some k) leaves), unput (err_is k stop.FeedRefused e));
-            unread = λ e. leaves.read_quiet (λ is. cc);
-            write = λ e. inr (write (err_is k stop.WriteFault e));
-            read = λ e. leaves.read (ap (λ l. Some l) (err_is k stop.ReadFault e));
-            refused_plan = λ e. (leaves.read_quiet (λ is. cc), leaves.unwritten (nothing_made p a b (name ∷ feeds_of plan) (Some k) leaves));
-          };
-          unsaid = λ e w c. absurd (not_grown (p.created a) (p.created b) image c stays);
-          complete = λ r w u. complete r u;
+          done = λ x e. cc;
+          refused = λ e. (leaves.read_quiet (λ is. cc), unwritten, unput (err_is k stop.FeedRefused e));
+          unread = λ e. leaves.read_quiet (λ is. cc);
+          write = λ e. inr (write (err_is k stop.WriteFault e));
+          read = λ e. leaves.read (ap (λ l. Some l) (err_is k stop.ReadFault e));
+          refused_plan = λ e. (leaves.read_quiet (λ is. cc), unwritten);
         }
-      where
-        -- what is said of a refused feed leaves the count of the sink
-        unput : k ≡ stop.FeedRefused → s.faults out' ≡ s.faults out
-        unput e = elim (refused e).3 [ inl head ↦ head.1.refuses.says.faults | inr quiet ↦ quiet.0.faults ]
 
-    -- ---- the plan was refused, or was not read
+    -- so it ended
+    ended_early : LacksPlan p s (at a out) (at b out') name (ended k) ⊎ SavesUnderPlan p s (at a out) (at b out') (saving name image) (ended k)
+        → (k ≡ stop.FeedRefused → s.faults out' ≡ s.faults out) → (k ≡ stop.WriteFault → Rose (s.faults out) (s.faults out')) → SaveEnds p s (at a out) (at b out') (saving name image) (ended k)
+    ended_early stage unput write = record {
+      stage = stage;
+      others = KeepsOthers-same (p.files a) (p.files b) (image ∷ []) (same_files p a b inputs (Some k) leaves);
+      untouched = λ e. same_files p a b inputs (Some k) leaves;
+      counts = early_counts unput write;
+    }
 
-    pub ended_by_plan : (k : Stop) → LeavesPlace p a b (name ∷ []) [] (Some k) → ReadsPlan s out out' (file_of (p.files a) name) (Err k) → SaveEnds p s (at a out) (at b out') (saving name image) (Err k)
-    ended_by_plan k leaves reads =
-        ended_early None k leaves tt (λ e. plan_end k reads.ends) (λ e. (refl, reads.refused (ap (λ l. Err l) e))) (λ e. absurd (reads.ends.1 e)) (says_plan s out out' (file_of (p.files a) name) k reads) (λ e. absurd (reads.ends.0 e)) (λ r u. tt)
+  -- ---- the plan was refused, or was not read
+
+  pub ended_by_plan : (a b : P) (out out' : O) (name image : List ℕ) (k : Stop) → LeavesPlace p a b (name ∷ []) [] (Some k) → (stopped Plan k ≡ stopped Plan stop.ReadFault → p.opened b ≡ p.opened a ++ name ∷ [])
+      → ReadsPlan s out out' (file_of (p.files a) name) (Err k) → SaveEnds p s (at a out) (at b out') (saving name image) (Err k)
+  ended_by_plan a b out out' name image k leaves opened reads =
+      ended_early a b out out' name image (name ∷ []) k leaves (inl (lacks_plan p s a b out out' name k leaves opened reads)) (λ e. absurd (reads.ends.1 e)) (λ e. absurd (reads.ends.0 e))
 
   -- ---- there is a plan
 
@@ -138,21 +128,6 @@ module _ {P O : Type 0} (p : PlaceSeen P) (s : SinkSeen O) where
     -- ---- a feed was not opened, or has no header
 
     module _ (c : P) (out' : O) where
-      abbrev At : List ℕ → Option (List ℕ)
-      At = file_of (p.files a)
-
-      -- said of the files that the place has at first
-      at_first : (opens : List (List ℕ)) (Says More : List ℕ → Type 0) → ((line : List ℕ) → Says line → More line) → RefusesLast pl.schema (file_of (p.files b)) opens Says → RefusesLast pl.schema (file_of (p.files a)) opens More
-      at_first opens Says More step last = subst (λ (f : Option Files). RefusesLast pl.schema (file_of f) opens More) same (refuses_saying pl.schema (file_of (p.files b)) opens Says More step last)
-
-      -- what is said where opening feeds ended so
-      says_head : (k : Stop) → OpensFeeds p s pl.schema (at b mid) (at c out') pl.feeds (Some k) → SaysOfSave p s (at a out) (at c out') (saving name image) (Some pl)
-      says_head stop.NoMemory O = inl (silent_after s out mid out' quiet (O.silent (λ e. cc) (λ e. cc)))
-      says_head stop.PlanRefused O = inl (silent_after s out mid out' quiet (O.silent (λ e. cc) (λ e. cc)))
-      says_head stop.ReadFault O = inl (silent_after s out mid out' quiet (O.silent (λ e. cc) (λ e. cc)))
-      says_head stop.WriteFault O = inr (inl (O.leaves.opens, at_first O.leaves.opens (FailsToPut s mid out') (PutsOrFails s out out') (λ line x. inr (fails_after s out mid out' quiet line x)) (O.unsaid refl)))
-      says_head stop.FeedRefused O = inr (inl (O.leaves.opens, at_first O.leaves.opens (Puts s mid out') (PutsOrFails s out out') (λ line x. inl (puts_after s out mid out' quiet line x)) (O.refused refl)))
-
       -- a feed of the plan whose header is refused is none that is taken
       refused_none : (opens unopened : List (List ℕ)) (Says : List ℕ → Type 0) (files : Files) → p.files b ≡ Some files → pl.feeds ≡ opens ++ unopened → RefusesLast pl.schema (file_of (p.files b)) opens Says → AreTaken pl files → ⊥
       refused_none opens unopened Says files is are last taken =
@@ -171,13 +146,28 @@ module _ {P O : Type 0} (p : PlaceSeen P) (s : SinkSeen O) where
       head_end stop.FeedRefused O r u files is taken = absurd (refused_none O.leaves.opens O.leaves.unopened (Puts s mid out') files (told files is) O.leaves.inputs_are (O.refused refl) taken)
 
       pub ended_by_header : (k : Stop) → OpensFeeds p s pl.schema (at b mid) (at c out') pl.feeds (Some k) → SaveEnds p s (at a out) (at c out') (saving name image) (Err k)
+      unfolding leaves_then names_of
       ended_by_header k O =
           let all : LeavesPlace p a c (name ∷ pl.feeds) [] (Some k) = leaves_then p a b c (name ∷ []) pl.feeds [] (Some k) leaves O.leaves in
-          ended_early a c out out' name image (Some pl) k all reads.plan (λ e. cc) (λ e. absurd (O.ends (ap (λ l. Some l) e)))
-          (λ e. (pl, refl, same_created p a c (name ∷ pl.feeds) (Some k) all, inl (O.leaves.opens, at_first O.leaves.opens (Puts s mid out') (Puts s out out') (puts_after s out mid out' quiet) (O.refused (ap (λ l. Some l) e)))))
-          (says_head k O)
+          ended_early a c out out' name image (name ∷ pl.feeds) k all
+          (inr (record {
+            plan = pl;
+            plan_is = reads.plan;
+            stage = inl (record {
+              stop = k;
+              end_is = refl;
+              leaves = names_of p a c (name ∷ pl.feeds) [] (Some k) all;
+              opens = O.leaves.opens;
+              opens_are = ap (λ ns. ns ++ O.leaves.opens) (sym (all_opened p a b (name ∷ []) [] leaves));
+              first = λ e. fails_on p a b leaves.opens O.leaves.opens leaves.opened (leaves.read_quiet (λ e. cc)) (O.first (ap (λ l. Some l) e));
+              order =
+                  at_feeds_on p s pl a b c c out mid out' O.leaves.opens O.leaves.makes (Some k) same quiet
+                  (at_feeds p s pl b c mid out' O.leaves.makes k (nothing_made p b c pl.feeds (Some k) O.leaves) O);
+            });
+            complete = λ none. told_by (p.files a) _ (λ files is taken. head_end k O (λ e. none.0 (all.read (ap (λ l. Some l) e))) none.2 files is taken);
+          }))
+          (λ e. (puts_after s out mid out' quiet _ (O.refused (ap (λ l. Some l) e)).refuses.says).faults)
           (λ e. (fails_after s out mid out' quiet _ (O.unsaid (ap (λ l. Some l) e)).refuses.says).faults)
-          (λ r u. told_by (p.files a) _ (λ files is taken. head_end k O (λ e. r (all.read (ap (λ l. Some l) e))) u files is taken))
 
     -- ---- all feeds were opened
 
@@ -195,6 +185,10 @@ module _ {P O : Type 0} (p : PlaceSeen P) (s : SinkSeen O) where
       -- both stages
       both : LeavesPlace p a c (name ∷ pl.feeds) [] None
       both = leaves_then p a b c (name ∷ []) pl.feeds [] None leaves opens.leaves
+
+      -- each feed has a header
+      headers : All (λ n. HasHeader pl.schema (file_of (p.files a) n)) pl.feeds
+      headers = subst (λ (f : Option Files). All (λ n. HasHeader pl.schema (file_of f n)) pl.feeds) same (all_headed i.left i.faults pl.schema (p.files b) pl.feeds feeds headed)
 
       headed_at : (files : Files) → p.files a ≡ Some files → AllZip (λ n. IsHeaded i.left i.faults pl.schema (Some (file_or_empty files n))) pl.feeds feeds
       headed_at files is = subst (λ (f : Option Files). AllZip (λ n. IsHeaded i.left i.faults pl.schema (file_of f n)) pl.feeds feeds) (told files is) headed
@@ -237,17 +231,24 @@ module _ {P O : Type 0} (p : PlaceSeen P) (s : SinkSeen O) where
             not_both pl.schema (file_or_empty files long.0) (refused_by_size pl.schema (file_or_empty files long.0) long.2)
             (All-contains (λ n. is_feed_refused pl.schema (file_or_empty files n) ≡ false) pl.feeds long.0 taken long.1)
 
+        -- saving ended past the headers
+        ended_past : (k : Stop) → LeavesPlace p a d (name ∷ pl.feeds) [] (Some k) → EndsPastHeaders p s (at a out) (at d then) (saving name image) pl (ended k) → k ≢ stop.WriteFault
+            → (NoneRose p s (at a out) (at d then) (saving name image) → AtEntry p s (at a out) (at d then) (saving name image) (λ files. AreTaken pl files → IsOrLacks Done (ended k) ⊎ IsOrLacks Refused (ended k)))
+            → SaveEnds p s (at a out) (at d then) (saving name image) (ended k)
+        ended_past k all past written complete =
+            ended_early a d out then name image (name ∷ pl.feeds) k all
+            (inr (record { plan = pl; plan_is = reads.plan; stage = inr (record { opened = opened_all; headed = headers; ends = past }); complete = complete })) (λ e. still.faults) (λ e. absurd (written e))
+
         pub ended_by_feed : (f : CutFault) → EndsBy i.left i.faults feeds read f → SaveEnds p s (at a out) (at d then) (saving name image) (Err (stop_of_cut f))
         ended_by_feed cut.Read E =
-            ended_early a d out then name image (Some pl) stop.ReadFault (leaves_all stop.ReadFault (λ e. reads_rose E) (λ e. absurd (e refl))) reads.plan (λ e. cc) (λ e. cc) (λ e. cc) (inl still) (λ e. cc)
-            (λ r u. absurd (r (reads_rose E)))
+            ended_past stop.ReadFault (leaves_all stop.ReadFault (λ e. reads_rose E) (λ e. absurd (e refl))) (created_none, still) (λ e. cc)
+            (λ none. absurd (none.0 (reads_rose E)))
         ended_by_feed cut.TooMuch E =
-            ended_early a d out then name image (Some pl) stop.FeedRefused (leaves_all stop.FeedRefused (λ e. cc) (λ e. reads_same E.1)) reads.plan (λ e. cc) (λ e. cc)
-            (λ e. (pl, refl, created_none, inr (still, told_by (p.files a) (HasLongFeed pl) (large_feed E.0)))) (inl still) (λ e. cc)
-            (λ r u. told_by (p.files a) _ (λ files is taken. absurd (not_taken files (large_feed E.0 files is) taken)))
+            ended_past stop.FeedRefused (leaves_all stop.FeedRefused (λ e. cc) (λ e. reads_same E.1)) (created_none, still, told_by (p.files a) (HasLongFeed pl) (large_feed E.0)) (λ e. cc)
+            (λ none. told_by (p.files a) _ (λ files is taken. absurd (not_taken files (large_feed E.0 files is) taken)))
         ended_by_feed cut.NoMemory E =
-            ended_early a d out then name image (Some pl) stop.NoMemory (leaves_all stop.NoMemory (λ e. cc) (λ e. reads_same E)) reads.plan (λ e. cc) (λ e. cc) (λ e. cc) (inl still) (λ e. cc)
-            (λ r u. told_by (p.files a) _ (λ files is taken. inl (inr refl)))
+            ended_past stop.NoMemory (leaves_all stop.NoMemory (λ e. cc) (λ e. reads_same E)) (inl created_none, still) (λ e. cc)
+            (λ none. told_by (p.files a) _ (λ files is taken. inl (inr refl)))
 
         -- ---- all were read to their ends
 
@@ -255,6 +256,7 @@ module _ {P O : Type 0} (p : PlaceSeen P) (s : SinkSeen O) where
         stood_read sound cube counts T = record {
           plan_is = reads.plan;
           opened = opened_all;
+          headed = headers;
           created = created_none;
           files = files_same;
           read_faults = reads_same T.quiet;
@@ -268,6 +270,7 @@ module _ {P O : Type 0} (p : PlaceSeen P) (s : SinkSeen O) where
                 taken = F.taken;
                 counts_are = T.counts_are ∙ F.counts;
                 counted = subst (λ (h : List Point). CubeCounts cube h) F.points T.points;
+                least = λ many. subst (λ (h : List Point). IsLeastCubeOf cube h) F.points (T.least many);
                 records = are_records sound pl.schema (file_or_empty files) pl.feeds;
               });
         }

@@ -7,6 +7,7 @@ use Rattle.cube_view.specs.Points.{Point}
 use Rattle.feed_reader.specs.Feeds.{accepted, is_feed_refused, rows}
 use Rattle.feed_reader.specs.declared.counts.FeedCounts.{FeedCounts}
 use Rattle.image_cube.specs.CubeImages.{HasLongCubeImage, IsCubeImage}
+use Rattle.image_cube.specs.LeastImages.{IsLeastImage}
 use Rattle.outer_io.specs.Files.{Files, file_or_empty}
 use Rattle.outer_io.specs.Lines.{input_limit}
 use Rattle.save_run.specs.Taking.{counts_at_end}
@@ -28,7 +29,7 @@ module _ (plan : Plan) (files : Files) where
   abbrev pub HasLongFeed : Type 0
   HasLongFeed = (name : List ℕ) × Contains plan.feeds name × (input_limit < length (file_or_empty files name))
 
-  -- no feed is refused, and the image of the cube of their records has more than 2^30 bytes
+  -- no feed is refused, and the image of a cube of their records has more than 2^30 bytes
   pub record HasLongRecords : Type 0 where
     pub taken : AreTaken
     pub long : HasLongCubeImage plan.schema accepted_records
@@ -42,3 +43,5 @@ module _ (plan : Plan) (files : Files) where
     pub size_is : size ≡ length bytes
     pub written : get files' image ≡ Some bytes
     pub of_records : IsCubeImage plan.schema bytes accepted_records
+    -- and with a batch over 1 that of every least cube of them, in whatever order they come and under any batch
+    pub least : 1 < plan.schema.batch → IsLeastImage plan.schema bytes accepted_records

@@ -1,7 +1,7 @@
 -- Feeds that are read one after another into a new cube, and what is counted of them.
-use Rattle.std.specs.Prelude.{◌≡◌, ℕ, List, All, Any, map, Option, None, Result, Ok, Err}
+use Rattle.std.specs.Prelude.{◌≡◌, ◌<◌, ℕ, List, All, Any, map, Option, None, Result, Ok, Err}
 use Rattle.std.specs.List.{AllZip, flat_map}
-use Rattle.cube_store.specs.Holding.{CubeCounts}
+use Rattle.cube_store.specs.Holding.{CubeCounts, IsLeastCubeOf}
 use Rattle.cube_store.specs.declared.cube.Cube.{Cube}
 use Rattle.cube_view.specs.declared.schema.Schema.{Schema}
 use Rattle.feed_reader.specs.Feeds.{points_in}
@@ -49,6 +49,8 @@ module _ {S : Type 0} (left : S → Option (List ℕ)) (faults : S → ℕ) wher
     -- the cube counts the points among them
     pub schema_is : cube.schema ≡ schema
     pub points : CubeCounts cube (flat_map points_in rows)
+    -- and with a batch of several points it is the least cube of them
+    pub least : 1 < schema.batch → IsLeastCubeOf cube (flat_map points_in rows)
     pub counts_are : counts ≡ map counts_at_end rows
     -- no source met a fault
     pub quiet : AreQuiet after

@@ -2,11 +2,12 @@
 use Rattle.std.specs.Prelude.{◌≡◌, ◌⊎◌, ℕ, List, [], ◌∷◌, ◌++◌, length, Some, IsSomeAnd, Result, Ok, Err}
 use Rattle.std.specs.FinMap.{get}
 use Rattle.cube_schema.specs.declared.plan.Plan.{Plan}
-use Rattle.cube_store.specs.Holding.{CubeCounts}
+use Rattle.cube_store.specs.Holding.{CubeCounts, IsLeastCubeOf}
 use Rattle.cube_store.specs.declared.cube.Cube.{Cube}
 use Rattle.cube_view.specs.Points.{Point}
 use Rattle.feed_reader.specs.declared.counts.FeedCounts.{FeedCounts}
 use Rattle.image_cube.specs.CubeImages.{AreRecords, HasLongCubeImage, IsCubeImage}
+use Rattle.image_cube.specs.LeastImages.{IsLeastImage}
 use Rattle.image_cube.specs.declared.fault.ImageFault.TheVariants as image_fault
 use Rattle.image_run.specs.Lines.{image_line}
 use Rattle.image_run.specs.declared.end.ImageEnd.{ImageEnd}
@@ -51,6 +52,7 @@ module _ {P O : Type 0} (p : PlaceSeen P) (s : SinkSeen O) (before after : Outsi
   pub record SavesImage (Says : List ℕ → Type 0) : Type 0 where
     pub bytes : List ℕ
     pub of_cube : (h : List Point) → CubeCounts taken.0 h → AreRecords taken.0.schema h → IsCubeImage taken.0.schema bytes h
+    pub of_least : (h : List Point) → IsLeastCubeOf taken.0 h → IsLeastImage taken.0.schema bytes h
     pub writes : Writes p before.place after.place image bytes
     pub says : Says (saved_text plan taken.1 (length bytes))
 

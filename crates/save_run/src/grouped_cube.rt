@@ -9,8 +9,8 @@ use cube_view::{Point, Schema};
 use std::alloc::Global;
 use texts::NoMemory;
 
-/// A cube, and the points that follow those that it counts. They are inserted as one group: where there are as many as the
-/// schema's batch and one more comes, and at the end.
+/// A cube, and the points that follow those that it counts. They are inserted as one group: where there are as many as
+/// the schema's batch and one more comes, and at the end. With a batch of several points the cube is a least one.
 #[derive(Drop)]
 pub(crate) struct GroupedCube {
     cube: Cube,
@@ -20,13 +20,14 @@ pub(crate) struct GroupedCube {
 }
 
 impl GroupedCube {
-    ghost use Rattle.save_run.specs.Grouping.{GroupsCount, GroupsTake, grouped_size};
-    ghost use Rattle.cube_store.specs.Holding.{CubeCounts};
+    ghost use Rattle.save_run.specs.Grouping.{GroupsCount, GroupsLeast, GroupsTake, grouped_size};
+    ghost use Rattle.cube_store.specs.Holding.{CubeCounts, IsLeastCubeOf};
 
     /// A cube of no points, with a schema of its own.
     pub(crate) fn new(alloc: Global, schema: &Schema) -> Result<GroupedCube, NoMemory>
         ensures schema { IfOk result (λ grouped. grouped.cube.schema ≡ schema.now) }
         ensures empty { IfOk result (λ grouped. GroupsCount grouped []) }
+        ensures least { IfOk result (λ grouped. GroupsLeast grouped []) }
     {
         let cube = Cube::new(alloc, schema.copy(alloc)?)?;
         Ok(GroupedCube {
@@ -83,6 +84,7 @@ impl GroupedCube {
         requires room { grouped_size self ≤ most_points }
         ensures schema { IfOk result (λ cube. cube.schema ≡ self.cube.schema) }
         ensures counted { IfOk result (λ cube. (h : List Counted) → GroupsCount self h → CubeCounts cube h) }
+        ensures least { IfOk result (λ cube. 1 < self.cube.schema.batch → (h : List Counted) → GroupsLeast self h → IsLeastCubeOf cube h) }
     {
         self.insert_gathered()?;
         let GroupedCube { cube, gathered: _ } = self;

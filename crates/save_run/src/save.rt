@@ -16,6 +16,7 @@ use image_run::{ImageEnd, refuse_image};
 use outer_io::{Place, Sink};
 use run_files::{Stop, load_plan, open_feeds};
 use std::alloc::Global;
+use std::mem;
 
 /// Writes the image of the cube, and says its length and what was counted of the feeds; or says that it is too long.
 fn save_read<P: Place, O: Sink>(
@@ -43,10 +44,10 @@ fn save_read<P: Place, O: Sink>(
     }
 }
 
-/// Saves the cube of the plan's feeds under the name of the image. The plan is read first, then the header of each feed,
-/// and then all feeds in the plan's order; nothing is created before, nor where the image has more than 2^30 bytes, which
-/// has its line. The first trouble ends the run: a plan or a feed that is refused has its line, and a feed of more than
-/// 2^30 bytes is refused without one.
+/// Saves the cube of the plan's feeds under the name of the image. The plan is read first, then the header of each
+/// feed, and then all feeds in the plan's order; nothing is created before, nor where the image has more than 2^30
+/// bytes, which has its line. The first trouble ends the run: a plan or a feed that is refused has its line, and a feed
+/// of more than 2^30 bytes is refused without one.
 pub fn save_files<P: Place, O: Sink>(
     alloc: Global,
     plan: &str,
@@ -60,5 +61,8 @@ pub fn save_files<P: Place, O: Sink>(
     let plan = load_plan(alloc, plan, place, out)?;
     let feeds = open_feeds(alloc, &plan.schema, plan.feeds.as_slice(), place, out)?;
     let (cube, counts) = read_feeds(alloc, &plan.schema, feeds, place)?;
-    save_read(alloc, &plan, &cube, counts.as_slice(), image, place, out)
+    let saved = save_read(alloc, &plan, &cube, counts.as_slice(), image, place, out);
+    // The system takes the cube's memory back as the program ends, at once and not slot by slot.
+    mem::forget(cube);
+    saved
 }

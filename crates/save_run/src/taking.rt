@@ -45,8 +45,8 @@ fn take_feed<S: Source>(
     Ok(tally.into_counts())
 }
 
-/// The cube of the points of the feeds, in order, and what is counted of each feed. Points go in groups of as many as the
-/// schema's batch, over the borders of feeds. The first fault ends the reading.
+/// The cube of the points of the feeds, in order, and what is counted of each feed. Points go in groups of as many as
+/// the schema's batch, over the borders of feeds. The first fault ends the reading.
 pub(crate) fn cube_of_feeds<S: Source>(
     alloc: Global,
     schema: &Schema,

@@ -88,12 +88,12 @@ module _ {P O : Type 0} (p : PlaceSeen P) (s : SinkSeen O) (place place' : P) (o
     refused = λ e. (unread (Err stop.FeedRefused) e (λ r. cc r), ends.write_faults, (ends.silent stop.FeedRefused e (λ l. cc l) (λ w. cc w)).faults);
     unread = λ e. unread (Err stop.WriteFault) e (λ r. cc r);
     write = λ e. inr (ends.unsaid e).part.faults;
-    read = λ e. ends.leaves.read (ap result_err e);
+    read = λ e. ends.opens.leaves.read (ap result_err e);
     refused_plan = λ e. (unread (Err stop.PlanRefused) e (λ r. cc r), ends.write_faults);
   }
     where
       unread : (r : Result Audit Stop) → end ≡ r → ◌≢◌ (result_err r) (result_err {T = Audit} (Err stop.ReadFault)) → p.read_faults place' ≡ p.read_faults place
-      unread r is other = ends.leaves.read_quiet (λ e. other (sym (ap result_err is) ∙ e))
+      unread r is other = ends.opens.leaves.read_quiet (λ e. other (sym (ap result_err is) ∙ e))
 
   pub audit_causes : (status : Status) (names : AuditNames) → AuditEnds p s place place' out out' status names → Causes status
   audit_causes status names audit =

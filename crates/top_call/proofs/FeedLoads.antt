@@ -1,5 +1,5 @@
 -- Why a feed is not loaded, and what loading one gives.
-use Rattle.std.proofs.Common.{◌≡◌, ℕ, List, [], Option, Result, Ok, Err, refl, sym, subst, IsErrOf, OnOk}
+use Rattle.std.proofs.Common.{◌≡◌, ℕ, List, [], Result, Ok, Err, refl, sym, subst, IsErrOf, OnOk}
 use Rattle.std.specs.Result.{IsErrAnd}
 use Rattle.top_call.specs.LoadFaults.{fault_of_head}
 use Rattle.top_call.specs.Loading.{counted_by, KeepsRows, TakesFeed}

@@ -1,5 +1,5 @@
 mod Points
 mod FeedLoads
 mod DemoEnds
-mod Forms
 mod Causes
+mod FormEnds

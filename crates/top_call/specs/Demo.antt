@@ -1,7 +1,6 @@
 -- The form `demo FEED SCRIPT`: a feed is loaded, and then a script is answered over its points.
-use Rattle.std.specs.Prelude.{◌≡◌, ◌≢◌, ◌⊎◌, ℕ, Bool, true, false, ◌||◌, ◌&&◌, ◌==◌, get_or, if◌then◌else◌, List, [], ◌∷◌, ◌++◌, length, take, Option, Some, None, Result, Ok, Err, codes}
+use Rattle.std.specs.Prelude.{◌≡◌, ◌≢◌, ◌⊎◌, ℕ, Bool, true, false, ◌||◌, List, [], ◌∷◌, ◌++◌, length, take, Option, Some, Result, Ok, Err}
 use Rattle.cube_store.specs.Numbers.{OwnsAllButRoot}
-use Rattle.cube_view.specs.Limits.{same_text}
 use Rattle.feed_reader.specs.Feeds.{accepted, is_feed_refused}
 use Rattle.outer_io.specs.Faults.{Rose}
 use Rattle.outer_io.specs.Files.{Files, file_or_empty}
@@ -26,14 +25,6 @@ pub record DemoNames : Type 0 where
 -- these two
 abbrev pub demo_of : List ℕ → List ℕ → DemoNames
 demo_of feed script = record { feed = feed; script = script }
-
--- the names of the feed and the script, where the words are of this form
-abbrev pub demo_names : List (List ℕ) → Option DemoNames
-demo_names words = if (length words == 3) && same_text (get_or words 0 []) (codes "demo") then Some (demo_of (get_or words 1 []) (get_or words 2 [])) else None
-
--- the claim holds of these names, where the words are of this form
-abbrev pub IfDemo : List (List ℕ) → (DemoNames → Type 0) → Type 0
-IfDemo words Claim = (names : DemoNames) → demo_names words ≡ Some names → Claim names
 
 -- the feed's header is refused, or the feed has more than 2^30 bytes, or the script, before a `quit` among its lines
 unfoldable pub is_refused : List ℕ → List ℕ → Bool
@@ -64,7 +55,7 @@ module _ {P O : Type 0} (p : PlaceSeen P) (s : SinkSeen O) (place place' : P) (o
     pub form : end ≢ Err PlanRefused
     -- with Ok the sink gained all answers, and nothing was refused
     pub done : OfDemoFiles names (λ f q. end ≡ Ok tt → GainsAnswers (s.held out) (s.held out') f q × (is_refused f q ≡ false))
-    -- with any end it gained some of them, and nothing else; only for want of memory a reply may be the line that says so
+    -- with any end it gained some of them alone; only for want of memory a reply may be the line that says so
     pub part : OfDemoFiles names (GainsSomeAnswers (is_lacking end) (s.held out) (s.held out'))
     -- all of them also where a script that is refused follows a feed that is not
     pub all_before_too_much : OfDemoFiles names (λ f q. end ≡ Err FeedRefused → is_feed_refused built_in f ≡ false → GainsAnswers (s.held out) (s.held out') f q)

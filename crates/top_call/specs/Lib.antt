@@ -1,6 +1,7 @@
 pub mod Big
 pub mod BuiltIn
 pub mod Demo
+pub mod Forms
 pub mod Load
 pub mod LoadFaults
 pub mod Loading
@@ -9,4 +10,3 @@ pub mod Recount
 pub mod Run
 pub mod Save
 pub mod Statuses
-pub mod Words

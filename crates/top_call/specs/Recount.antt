@@ -1,6 +1,5 @@
 -- The form `recount PLAN JOURNAL SCRIPT REPLIES`: one session's transcript is checked against the journal.
-use Rattle.std.specs.Prelude.{◌≡◌, ℕ, ◌&&◌, ◌==◌, get_or, if◌then◌else◌, List, [], length, Option, Some, None, Result, Ok, Err, codes}
-use Rattle.cube_view.specs.Limits.{same_text}
+use Rattle.std.specs.Prelude.{◌≡◌, Result, Ok, Err}
 use Rattle.recount.specs.Ends.{RecountEnds}
 use Rattle.recount.specs.Names.{AuditNames}
 use Rattle.recount.specs.declared.audit.Audit.{Audit}
@@ -10,14 +9,6 @@ use Rattle.run_files.specs.declared.stop.Stop.{Stop}
 use Rattle.top_call.specs.Statuses.{status_of_stop}
 use Rattle.top_call.specs.declared.status.Status.{Status}
 use Rattle.top_call.specs.declared.status.Status.TheVariants.{Done, Differs}
-
--- the names of the four files, where the words are of this form
-abbrev pub recount_names : List (List ℕ) → Option AuditNames
-recount_names words = if (length words == 5) && same_text (get_or words 0 []) (codes "recount") then Some (record { plan = get_or words 1 []; journal = get_or words 2 []; script = get_or words 3 []; replies = get_or words 4 [] }) else None
-
--- the claim holds of these names, where the words are of this form
-abbrev pub IfRecount : List (List ℕ) → (AuditNames → Type 0) → Type 0
-IfRecount words Claim = (names : AuditNames) → recount_names words ≡ Some names → Claim names
 
 -- the status of an audit
 abbrev pub status_of_audit : Result Audit Stop → Status

@@ -1,21 +1,12 @@
 -- The form `save PLAN IMAGE`: the cube of a plan's feeds is saved as its image.
-use Rattle.std.specs.Prelude.{◌≡◌, ℕ, ◌&&◌, ◌==◌, get_or, if◌then◌else◌, List, [], length, Option, Some, None, Result, codes}
+use Rattle.std.specs.Prelude.{◌≡◌, Result}
 use Rattle.top_call.specs.Statuses.{status_of_image}
 use Rattle.top_call.specs.declared.status.Status.{Status}
-use Rattle.cube_view.specs.Limits.{same_text}
 use Rattle.image_run.specs.declared.end.ImageEnd.{ImageEnd}
 use Rattle.run_files.specs.Outside.{at, PlaceSeen, SinkSeen}
 use Rattle.run_files.specs.declared.stop.Stop.{Stop}
 use Rattle.save_run.specs.Ends.{SaveEnds}
-use Rattle.save_run.specs.Names.{SaveNames, saving}
-
--- the names of the plan and the image, where the words are of this form
-abbrev pub save_names : List (List ℕ) → Option SaveNames
-save_names words = if (length words == 3) && same_text (get_or words 0 []) (codes "save") then Some (saving (get_or words 1 []) (get_or words 2 [])) else None
-
--- the claim holds of these names, where the words are of this form
-abbrev pub IfSave : List (List ℕ) → (SaveNames → Type 0) → Type 0
-IfSave words Claim = (names : SaveNames) → save_names words ≡ Some names → Claim names
+use Rattle.save_run.specs.Names.{SaveNames}
 
 -- How a run of this form ends: as saving the cube of the feeds does, whose end the status is
 pub record ImageSaveEnds {P O : Type 0} (p : PlaceSeen P) (s : SinkSeen O) (place place' : P) (out out' : O) (status : Status) (names : SaveNames) : Type 0 where

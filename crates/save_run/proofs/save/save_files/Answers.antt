@@ -37,7 +37,7 @@ returns-in_err-plan g c =
     let a = c.args in
     let k = c.in_err-plan.field-0.0 in
     subst (λ (r : Result ImageEnd Stop). SaveEnds (place_of g) (sink_of g) (at a.place.now a.out.now) (at c.load_plan.new.place c.load_plan.new.out) (saving a.plan.now a.image.now) r) (sym (residual_is c.from_residual.result k c.from_residual.ensures.1))
-    (ended_by_plan (place_of g) (sink_of g) a.place.now c.load_plan.new.place a.out.now c.load_plan.new.out a.plan.now a.image.now k c.in_err-plan.ensures.leaves c.in_err-plan.ensures.plan)
+    (ended_by_plan (place_of g) (sink_of g) a.place.now c.load_plan.new.place a.out.now c.load_plan.new.out a.plan.now a.image.now k c.in_err-plan.ensures.leaves c.in_err-plan.ensures.read c.in_err-plan.ensures.plan)
 
 pub returns-in_err-feeds : goal.returns-in_err-feeds
 returns-in_err-feeds g c =
@@ -77,5 +77,5 @@ returns g c =
     let stood =
     stood_reading (place_of g) (sink_of g) a.place.now c.load_plan.new.place a.out.now c.load_plan.new.out a.plan.now a.image.now plan c.in_ok-plan.ensures.leaves c.in_ok-plan.ensures.plan
     (of_source g.P.In.Source) c.open_feeds.new.place c.read_feeds.new.place c.open_feeds.new.out (feeds_open g over) c.in_ok-feeds.feeds (feeds_headed g over) c.accepted_laws.ensures.sound (cube, counts) c.in_ok-cube.ensures in
-    let saves = subst (λ (k : List FeedCounts). SavesCube (place_of g) (sink_of g) (at c.read_feeds.new.place c.open_feeds.new.out) (at c.save_read.new.place c.save_read.new.out) plan (cube, k) a.image.now c.save_read.result) c.as_slice-2.ensures c.save_read.ensures in
-    ended_by_cube (place_of g) (sink_of g) a.place.now c.read_feeds.new.place a.out.now c.open_feeds.new.out a.plan.now plan cube counts stood c.save_read.new.place c.save_read.new.out a.image.now c.save_read.result saves
+    let saves = subst (λ (k : List FeedCounts). SavesCube (place_of g) (sink_of g) (at c.read_feeds.new.place c.open_feeds.new.out) (at c.save_read-saved.new.place c.save_read-saved.new.out) plan (cube, k) a.image.now c.save_read-saved.result) c.as_slice-2.ensures c.save_read-saved.ensures in
+    ended_by_cube (place_of g) (sink_of g) a.place.now c.read_feeds.new.place a.out.now c.open_feeds.new.out a.plan.now plan cube counts stood c.save_read-saved.new.place c.save_read-saved.new.out a.image.now c.save_read-saved.result saves

@@ -16,7 +16,7 @@ returns-in_err-say_saved-in-Ok g c =
     let a = c.args in
     let k = c.in_err-say_saved-in-Ok.field-0.0 in
     subst (λ (r : Result ImageEnd Stop). SavesCube p s (at a.place.now a.out.now) (at c.write_file.new.place c.say_saved.new.out) a.plan.now (a.cube.now, a.counts.now) a.image.now r) (sym (residual_is c.from_residual-in_err-say_saved-in-Ok.result k c.from_residual-in_err-say_saved-in-Ok.ensures.1))
-    (image_unsaid p s a.place.now c.write_file.new.place a.out.now c.say_saved.new.out a.plan.now a.cube.now a.counts.now a.image.now k c.in-Ok.bytes (λ h counted records. (c.in-Ok.ensures.image h counted records).0)
+    (image_unsaid p s a.place.now c.write_file.new.place a.out.now c.say_saved.new.out a.plan.now a.cube.now a.counts.now a.image.now k c.in-Ok.bytes (λ h counted records. (c.in-Ok.ensures.image h counted records).0) c.in-Ok.ensures.least
     (subst (λ (bytes : List ℕ). Writes p a.place.now c.write_file.new.place a.image.now bytes) c.as_slice.ensures c.in_ok-write_file-in-Ok.ensures)
     (subst (λ (n : ℕ). SaysText {T = Unit {0}} s a.out.now c.say_saved.new.out (saved_text a.plan.now a.counts.now n) (Err k)) c.len.ensures c.in_err-say_saved-in-Ok.ensures))
 
@@ -28,6 +28,7 @@ returns-in_ok-say_saved-in-Ok g c =
     record {
       bytes = c.in-Ok.bytes;
       of_cube = λ h counted records. (c.in-Ok.ensures.image h counted records).0;
+      of_least = c.in-Ok.ensures.least;
       writes = subst (λ (bytes : List ℕ). Writes p a.place.now c.write_file.new.place a.image.now bytes) c.as_slice.ensures c.in_ok-write_file-in-Ok.ensures;
       says = subst (λ (n : ℕ). Puts s a.out.now c.say_saved.new.out (saved_text a.plan.now a.counts.now n)) c.len.ensures c.in_ok-say_saved-in-Ok.ensures.puts;
     }

@@ -8,7 +8,7 @@ use Rattle.save_run.proofs.FeedLists.{all_taken, begins, ends_by, next_unread, o
 use Rattle.save_run.proofs.taking.cube_of_feeds.Goals as goal
 
 pub loop-feed-init : goal.loop-feed-init
-loop-feed-init g c = begins g.S.Source.left g.S.Source.faults c.args.schema.now c.args.feeds.now c.in-Ok.grouped c.new-counts.result c.in-Ok.ensures.schema c.in-Ok.ensures.empty c.new-counts.ensures c.requires.unread
+loop-feed-init g c = begins g.S.Source.left g.S.Source.faults c.args.schema.now c.args.feeds.now c.in-Ok.grouped c.new-counts.result c.in-Ok.ensures.schema c.in-Ok.ensures.empty c.in-Ok.ensures.least c.new-counts.ensures c.requires.unread
 
 pub take_feed-requires-clause-unread : goal.take_feed-requires-clause-unread
 take_feed-requires-clause-unread g c =
@@ -40,4 +40,4 @@ pub returns : goal.returns
 returns g c =
     let all : c.loop-feed.feed-index ≡ length c.args.feeds.now = omega (arith, c.loop-feed-test.false, c.loop-feed.invariant.whole, c.loop-feed.auto.feed-index-end) in
     all_taken g.S.Source.left g.S.Source.faults c.args.schema.now c.args.feeds.now c.loop-feed.feeds c.loop-feed.feed-index c.loop-feed.grouped c.loop-feed.counts c.in-Ok-into_cube.cube
-    all c.loop-feed.invariant c.in-Ok-into_cube.ensures.schema c.in-Ok-into_cube.ensures.counted
+    all c.loop-feed.invariant c.in-Ok-into_cube.ensures.schema c.in-Ok-into_cube.ensures.counted c.in-Ok-into_cube.ensures.least

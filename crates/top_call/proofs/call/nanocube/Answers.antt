@@ -1,16 +1,23 @@
-use Rattle.std.proofs.Common.{◌≡◌, ◌∙◌, Some, Global, List, ℕ, map, option_map, string_bytes, sym, ap}
-use Rattle.top_call.proofs.Forms.{run_apart_big, save_apart_demo}
-use Rattle.top_call.specs.Run.{run_name}
+use Rattle.std.proofs.Common.{◌≡◌, Global, List, Option, Some, ℕ, IfSome, map, string_bytes, subst}
+use Rattle.program_forms.specs.Forms.{Form, form_of}
+use Rattle.program_forms.specs.Seen.{form_seen}
+use Rattle.run_files.specs.Outside.{of_place, of_sink}
+use Rattle.top_call.proofs.FormEnds.{form_causes, form_usage}
+use Rattle.top_call.specs.Forms.{FormEnds}
 use Rattle.top_call.proofs.call.nanocube.Goals as goal
 
-pub returns-in-Some-save_names-clause-demo : goal.returns-in-Some-save_names-clause-demo
-returns-in-Some-save_names-clause-demo g c names is =
+pub returns-in-Some : goal.returns-in-Some
+returns-in-Some g c =
+    let p = of_place g.P.Place in
+    let s = of_sink g.O.Sink in
+    let form = form_seen c.in-Some.form in
     let words : List (List ℕ) = map (string_bytes {Z = Global}) c.args.words.now in
-    absurd (save_apart_demo words _ names (sym c.in-Some-save_names.ensures) is)
-
-pub returns-in-None-Some-default-clause-big : goal.returns-in-None-Some-default-clause-big
-returns-in-None-Some-default-clause-big g c rows is =
-    let words : List (List ℕ) = map (string_bytes {Z = Global}) c.args.words.now in
-    let plan = c.in-None-Some-default.plan in
-    let run : run_name words ≡ Some plan.now = sym c.run_file.ensures ∙ ap (option_map (λ name. name.now)) c.in-None-Some-default.is-1 in
-    absurd (run_apart_big words plan.now rows run is)
+    let is : Some form ≡ form_of words = c.in-Some.ensures.form in
+    let status = c.run_form.result in
+    let usage = form_usage p s c.args.place.now c.run_form.new.place c.args.out.now c.run_form.new.out status words form is c.run_form.ensures in
+    record {
+      usage = usage.0;
+      untouched = usage.1;
+      ends = subst (λ (o : Option Form). IfSome o (FormEnds p s c.args.place.now c.run_form.new.place c.args.out.now c.run_form.new.out status)) is c.run_form.ensures;
+      causes = form_causes p s c.args.place.now c.run_form.new.place c.args.out.now c.run_form.new.out status form c.run_form.ensures;
+    }

@@ -1,9 +1,9 @@
-use Rattle.std.proofs.Common.{append-nil, subst}
-use Rattle.save_run.specs.Grouping.{GroupsCount}
-use Rattle.save_run.proofs.Groups.{all_inserted}
+use Rattle.cube_store.specs.Holding.{CubeCounts, IsLeastCubeOf}
+use Rattle.save_run.proofs.Groups.{said_at_end}
 use Rattle.save_run.proofs.grouped_cube.GroupedCube.into_cube.Goals as goal
 
 pub returns-clause-counted : goal.returns-clause-counted
-returns-clause-counted c h counts =
-    all_inserted c.insert_gathered.new.self h c.in_ok-insert_gathered.ensures.none
-    (subst (λ points. GroupsCount c.insert_gathered.new.self points) (append-nil h) (c.in_ok-insert_gathered.ensures.taken h counts))
+returns-clause-counted c h counts = said_at_end CubeCounts c.args.self c.insert_gathered.new.self h c.in_ok-insert_gathered.ensures.taken.counted c.in_ok-insert_gathered.ensures.none counts
+
+pub returns-clause-least : goal.returns-clause-least
+returns-clause-least c many h least = said_at_end IsLeastCubeOf c.args.self c.insert_gathered.new.self h (c.in_ok-insert_gathered.ensures.taken.least many) c.in_ok-insert_gathered.ensures.none least

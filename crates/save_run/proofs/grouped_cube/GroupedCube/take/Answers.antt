@@ -1,8 +1,8 @@
-use Rattle.std.proofs.Common.{IsTrue, arith, refl, subst, sym}
+use Rattle.std.proofs.Common.{IsTrue, [], arith, refl, subst, sym}
 use Rattle.cube_view.specs.Points.{Point}
 use Rattle.cube_view.specs.Validity.{sound}
 use Rattle.cube_view.specs.declared.schema.Schema.{Schema}
-use Rattle.save_run.proofs.Groups.{all_pushed, few_pushed, gathers, takes_behind}
+use Rattle.save_run.proofs.Groups.{all_pushed, few_pushed, gathers, takes_twice}
 use Rattle.save_run.proofs.grouped_cube.GroupedCube.take.Goals as goal
 
 pub invariant_of-self : goal.invariant_of-self
@@ -18,4 +18,4 @@ invariant_of-self c =
 
 pub returns-clause-taken : goal.returns-clause-taken
 returns-clause-taken c =
-    takes_behind c.args.self.now c.make_room.new.self _ _ c.in_ok-make_room.ensures.taken (gathers c.make_room.new.self _ c.args.point refl c.in_ok-push.ensures.items)
+    takes_twice c.args.self.now c.make_room.new.self _ [] _ c.in_ok-make_room.ensures.schema c.in_ok-make_room.ensures.taken (gathers c.make_room.new.self _ c.args.point refl c.in_ok-push.ensures.items)
