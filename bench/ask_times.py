@@ -15,6 +15,8 @@ sys.dont_write_bytecode = True
 HERE = os.path.dirname(os.path.realpath(__file__))
 sys.path.insert(0, f"{HERE}/../client")
 from nanocube import Cube
+
+sys.path.insert(0, f"{HERE}/../judge")
 from pipes import Run
 from pipes import plan_of
 from pipes import write_all
@@ -44,16 +46,21 @@ def main(words):
         print("use: ask_times.py PROGRAM", file=sys.stderr)
         return 2
     plan, draw = plan_of(1, 1, 65536, 10, [("kind", ["a", "b"])], width=3600), random.Random(1)
-    rows = (f"{draw.randrange(1024)},{draw.randrange(1024)},{draw.choice('ab')},{draw.randrange(10**7)}\n"
-            for _ in range(RECORDS))
+    rows = (
+        f"{draw.randrange(1024)},{draw.randrange(1024)},{draw.choice('ab')},{draw.randrange(10**7)}\n"
+        for _ in range(RECORDS)
+    )
     with Run(words[0], plan, 120) as run:
         (feed,), (ask,), (replies,) = run.open_all(b"x,y,kind,time\n")
         write_all(feed, "".join(rows).encode())
         cube = Cube.of_run(run.folder)
         os.set_blocking(replies.fd, True)
         for line in ("count", "hist kind", "count with kind=a time 24 48", "map 2 in 3/1/1"):
-            calls = (lambda: plain(ask, replies.fd, line.encode() + b"\n"), lambda: cube.ask(line),
-                     lambda: cube.rows(line))
+            calls = (
+                lambda: plain(ask, replies.fd, line.encode() + b"\n"),
+                lambda: cube.ask(line),
+                lambda: cube.rows(line),
+            )
             found = [[rate(call) for call in calls] for _ in range(ROUNDS)]
             best = [max(column) for column in zip(*found)]
             print(f"{line}: PLAIN {best[0]:,.0f}, ASK {best[1]:,.0f}, CUBE {best[2]:,.0f} a second", flush=True)

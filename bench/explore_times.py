@@ -1,11 +1,12 @@
 #!/usr/bin/python3
-"""explore_times.py [--scatter RECORDS] FOLDER [SECONDS]
+"""explore_times.py [--flat] [--scatter RECORDS] FOLDER [SECONDS]
 
-Measures the page of ./explore over FOLDER, a folder of records or one with plan.json and feed.csv, in a headless
+Measures the page of ./explore over FOLDER, a folder of records or one with plan.json and its feeds, in a headless
 browser of 1280 x 800: from a move of the mouse over the time series to all views redrawn, and what of it is the run,
 the bridge and the browser; the same over the map; and how many questions 1, 8 and 20 clients of a WebSocket put in
-SECONDS (5). The load of the machine is printed beside each line. With --scatter it is so many records, each made of
-one of FOLDER's by moving it in place and time. Needs what tools/check_explore needs."""
+SECONDS (5). The load of the machine is printed beside each line. With --flat there is no cube, and no clients are
+counted; with --scatter it is so many records, each made of one of FOLDER's by moving it in place and time. Needs what
+tools/check_explore needs."""
 import csv
 import json
 import os
@@ -42,14 +43,19 @@ def redraws(page, name, selector, begin, end):
     page.settle()
     time.sleep(0.2)
     asked = [each for each in page.value("explorer.measured")[before:] if each["asked"] and "painted" in each]
+    if not asked:
+        tell(f"{name}: no redraw had anything to ask")
+        return
     painted, drawn = [each["painted"] for each in asked], [each["ms"] for each in asked]
     of = lambda word: statistics.median(each[word] for each in asked)
     bridge, wire = of("micros") / 1000, of("wire")
-    tell(f"{name}: {len(asked)} redraws of {of('asked'):.0f} questions\n"
-         f"  from the move to all views drawn {part(drawn, 0.5):.0f} ms, 95 of 100 in {part(drawn, 0.95):.0f}; "
-         f"with the picture's next frame {part(painted, 0.5):.0f} and {part(painted, 0.95):.0f}\n"
-         f"  of which run and bridge {bridge:.1f} ms, websocketd {wire - bridge:.1f}, the page "
-         f"{part(drawn, 0.5) - wire:.1f}")
+    tell(
+        f"{name}: {len(asked)} redraws of {of('asked'):.0f} questions\n"
+        f"  from the move to all views drawn {part(drawn, 0.5):.0f} ms, 95 of 100 in {part(drawn, 0.95):.0f}; "
+        f"with the picture's next frame {part(painted, 0.5):.0f} and {part(painted, 0.95):.0f}\n"
+        f"  of which run and bridge {bridge:.1f} ms, websocketd {wire - bridge:.1f}, the page "
+        f"{part(drawn, 0.5) - wire:.1f}"
+    )
 
 
 def questions_of(page, plan):
@@ -107,6 +113,17 @@ def out_of(folder):
     return os.path.join(folder, "out") if os.path.exists(os.path.join(folder, "columns")) else folder
 
 
+def records_of(folder):
+    """How many rows the feeds of a folder have."""
+    with open(f"{folder}/plan.json", encoding="utf-8") as it:
+        feeds = json.load(it)["feeds"]
+    count = 0
+    for name in feeds:
+        with open(f"{folder}/{name}", "rb") as it:
+            count += sum(1 for _ in it) - 1
+    return count
+
+
 def scattered(folder, number, work):
     """A folder with so many records, in the order of time: those of another, each moved by some tiles and days."""
     with open(f"{folder}/plan.json", encoding="utf-8") as it:
@@ -130,6 +147,8 @@ def scattered(folder, number, work):
 
 
 def main(words):
+    flat = words[:1] == ["--flat"]
+    words = words[flat:]
     number = int(words[1]) if words[:1] == ["--scatter"] and len(words) > 1 and words[1].isdecimal() else 0
     words = words[2:] if number else words
     if len(words) not in (1, 2) or not os.path.isdir(words[0]):
@@ -137,16 +156,15 @@ def main(words):
         return 2
     with tempfile.TemporaryDirectory() as work:
         folder = scattered(out_of(words[0]), number, work) if number else words[0]
-        return measure(folder, float(words[1]) if len(words) == 2 else 5)
+        return measure(folder, float(words[1]) if len(words) == 2 else 5, flat)
 
 
-def measure(folder, seconds):
-    explore = Running(TOP, [folder], 900)
+def measure(folder, seconds, flat):
+    explore = Running(TOP, [*["--flat"] * flat, folder], 900)
     page = Page(1280, 800)
     try:
         page.open(explore.url)
-        with open(f"{out_of(folder)}/feed.csv", "rb") as it:
-            records = sum(1 for _ in it) - 1
+        records = records_of(out_of(folder))
         page.until(f"explorer.shown.seen === {records}", 900)
         page.until("document.getElementById('seen').textContent.includes('none arrive')")
         page.settle()
@@ -158,6 +176,8 @@ def measure(folder, seconds):
         redraws(page, "a brush that is moved", "#series", (0.4, 0.5), (0.7, 0.5))
         redraws(page, "the map", "#map", (0.6, 0.5), (0.4, 0.55))
         lines = questions_of(page, plan)
+        if flat:
+            return 0
         for clients in (1, 8, 20):
             crowd(explore.port, clients, seconds, lines)
         run_alone(os.path.abspath(out_of(folder)), plan, lines)

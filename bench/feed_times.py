@@ -1,11 +1,20 @@
 """feed_times.py PROGRAM PEER [--lines N] [--rounds R]: what reading a line of a feed takes, beside plain Rust.
 
-PROGRAM reads by `save` with a plan that starts after all times: each row is split, its numbers are read and its value is found,
-and then it is refused as too early, so that nothing is inserted. PEER is bench/feed_lines.rs, which reads the same lines by the
-Rust crate `csv`. Printed for each feed: processor seconds for N lines (1,000,000), the least of R rounds (9) in turn, and
-instructions a line where `valgrind` is installed, as the difference of 5,000 lines and of none."""
-import argparse, json, os, re, shutil, subprocess, tempfile
+PROGRAM reads by `save` with a plan that starts after all times: each row is split, its numbers are read and its value
+is found, and then it is refused as too early, so that nothing is inserted. PEER is bench/feed_lines.rs, which reads the
+same lines by the Rust crate `csv`. Printed for each feed: processor seconds for N lines (1,000,000), the least of R
+rounds (9) in turn, and instructions a line where `valgrind` is installed, as the difference of 5,000 lines and of
+none."""
+import argparse
+import json
+import os
+import re
+import shutil
+import subprocess
+import sys
+import tempfile
 
+sys.path.insert(0, os.path.join(os.path.dirname(os.path.realpath(__file__)), "../judge"))
 from pipes import plan_of
 from runs import timed
 
@@ -28,8 +37,12 @@ def doubled(i):
     return f"{i % 8},{i // 8 % 8},\"{'ab'[i % 2]}\"\"\",{i}"
 
 
-FEEDS = [("four columns", "x,y,kind,time", four), ("ten columns", "id,a,x,b,y,c,kind,d,time,e", ten),
-         ("four columns, one in quotes", "x,y,kind,time", quoted), ("four columns, one with a doubled quote", "x,y,kind,time", doubled)]
+FEEDS = [
+    ("four columns", "x,y,kind,time", four),
+    ("ten columns", "id,a,x,b,y,c,kind,d,time,e", ten),
+    ("four columns, one in quotes", "x,y,kind,time", quoted),
+    ("four columns, one with a doubled quote", "x,y,kind,time", doubled),
+]
 
 
 def write_feed(path, header, line, count):
@@ -41,8 +54,13 @@ def write_feed(path, header, line, count):
 def instructions(words, folder):
     """How many instructions a command takes."""
     out = os.path.join(folder, "callgrind.out")
-    subprocess.run(["valgrind", "--tool=callgrind", f"--callgrind-out-file={out}", *words], cwd=folder, check=True,
-                   stdout=subprocess.DEVNULL, stderr=subprocess.DEVNULL)
+    subprocess.run(
+        ["valgrind", "--tool=callgrind", f"--callgrind-out-file={out}", *words],
+        cwd=folder,
+        check=True,
+        stdout=subprocess.DEVNULL,
+        stderr=subprocess.DEVNULL,
+    )
     with open(out, encoding="utf-8", errors="replace") as it:
         return int(re.search(r"(?m)^(?:summary|totals): (\d+)", it.read())[1])
 
@@ -66,8 +84,13 @@ def measure(programs, lines, rounds):
             least = [min(timed(words[0], words[1:], folder)[3] for _ in range(rounds)) for words in programs]
             told = [f"{seconds:.3f} s" for seconds in least]
             if shutil.which("valgrind"):
-                told = [f"{text}, {a_line(words, folder, header, line, min(lines, 5_000)):.0f} instructions a line" for text, words in zip(told, programs)]
-            print(f"{name}, {size:.1f} MB: {told[0]}; plain Rust {told[1]}; {least[0] / least[1]:.2f} times", flush=True)
+                told = [
+                    f"{text}, {a_line(words, folder, header, line, min(lines, 5_000)):.0f} instructions a line"
+                    for text, words in zip(told, programs)
+                ]
+            print(
+                f"{name}, {size:.1f} MB: {told[0]}; plain Rust {told[1]}; {least[0] / least[1]:.2f} times", flush=True
+            )
 
 
 def main():

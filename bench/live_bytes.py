@@ -1,9 +1,11 @@
-"""live_bytes.py LIBRARY PROGRAM.. [--records 200000,1000000] [--kinds checkins,generated,city] [--batch 65536] [--rounds 3] [--run]
+"""live_bytes.py LIBRARY PROGRAM.. [--records 200000,1000000] [--kinds checkins,generated,city] [--batch 65536]
+[--rounds 3] [--run]
 
-Tells how many bytes of memory a record takes by `save`, of each PROGRAM in turn, at the moment when most are taken, and how long it
-takes beside the first PROGRAM. LIBRARY is bench/live_bytes.c, built. Pieces of up to 32 KB are slots, tables and lists of children:
-the one copy of a cube. Larger ones are long lists, buffers and the record of changes of a batch. The images have to be the same byte
-for byte. With --run it is `run` of one feed, with two copies, whose replies to `count` and `stat` have to be the same."""
+Tells how many bytes of memory a record takes by `save`, of each PROGRAM in turn, at the moment when most are taken, and
+how long it takes beside the first PROGRAM. LIBRARY is bench/live_bytes.c, built. Pieces of up to 32 KB are slots,
+tables and lists of children: the one copy of a cube. Larger ones are long lists, buffers and the record of changes of a
+batch. The images have to be the same byte for byte. With --run it is `run` of one feed, with two copies, whose replies
+to `count` and `stat` have to be the same."""
 import argparse
 import json
 import os
@@ -47,7 +49,10 @@ def judged(folder, given):
         first = first or left_by(folder, left)
         assert left_by(folder, left) == first, f"{program} leaves another {left}"
     rounds = [[timed(program, words, folder) for program in programs] for _ in range(given.rounds)]
-    return [(told, middle(took[3] for took in tries), max(took[4] for took in tries)) for told, tries in zip(bytes_of, zip(*rounds))]
+    return [
+        (told, middle(took[3] for took in tries), max(took[4] for took in tries))
+        for told, tries in zip(bytes_of, zip(*rounds))
+    ]
 
 
 def measure(name, records, given):
@@ -62,15 +67,22 @@ def measure(name, records, given):
     print(f"{name}, {records:,} records, {words_of(given)[0]}, batch {given.batch}:", flush=True)
     for program, ((most, small), busy, resident) in zip(given.programs, told):
         of_first = f"{small / told[0][0][1]:.2f} and {busy / told[0][1]:.2f} of the first's"
-        print(f"  {program}: {small / records:.0f} bytes a record, {most / records:.0f} with pieces of more than 32 KB; "
-              f"{busy:.2f} s of processors; {of_first}; {resident:.0f} MB", flush=True)
+        print(
+            (
+                f"  {program}: {small / records:.0f} bytes a record, {most / records:.0f} with pieces of more than 32"
+                f" KB; {busy:.2f} s of processors; {of_first}; {resident:.0f} MB"
+            ),
+            flush=True,
+        )
 
 
 def main():
     words = argparse.ArgumentParser(description=__doc__, formatter_class=argparse.RawDescriptionHelpFormatter)
     words.add_argument("library", metavar="LIBRARY")
     words.add_argument("programs", nargs="+", metavar="PROGRAM")
-    words.add_argument("--records", type=lambda text: [int(word) for word in text.split(",")], default=[200_000, 1_000_000])
+    words.add_argument(
+        "--records", type=lambda text: [int(word) for word in text.split(",")], default=[200_000, 1_000_000]
+    )
     words.add_argument("--kinds", type=lambda text: text.split(","), default=["checkins", "generated", "city"])
     words.add_argument("--batch", type=int, default=65536)
     words.add_argument("--rounds", type=int, default=3)

@@ -1,31 +1,48 @@
 """Usage: live_times.py idle PROGRAM.. [--seconds S]
-       live_times.py latency PROGRAM.. [--seconds S] [--batches 1,64] [--rates 1,10000,100000] [--asks 1,8] [--records city]
+       live_times.py latency PROGRAM.. [--seconds S] [--batches 1,64] [--rates 1,10000,100000] [--asks 1,8] [--records
+       city]
                              [--prober PROBER] [--pauses 2]
        live_times.py memory PROGRAM.. [--counts 3600,100000,1000000] [--records city]
        live_times.py city PROGRAM.. [--counts 1000000] [--batches 64] [--rounds 3] [--processors 4,2] [--pipes]
 
-Times live runs over pipes, of each PROGRAM in turn, so that the figures of one run of this script compare with each other.
+Times live runs over pipes, of each PROGRAM in turn, so that the figures of one run of this script compare with each
+other.
 
 idle: the share of a processor that a run takes whose feeds and asks are open and silent for S seconds (10).
-latency: from a record written to the reply that counts it, while other records come from a feed of their own at each rate and the
-asks are answered one line after the other: median and 99th percentile over S seconds (10), how many were timed, the replies a second
-of all asks, and how many records a second were taken, where these are fewer than were to come. A record that is timed comes by a
-second feed, and at batch 64 is published with records of the other. Between a reply and the next record that is timed passes a random
-time of up to so many milliseconds (2). This script sleeps until a reply has come, and its wake is in each time; PROBER, which is built
-from bench/prober.rs, never sleeps. It has the last processor for itself, and the program and what writes the other records have the rest.
-memory: the most memory of a run with so many records, which is an hour of them at that number over 3,600 a second.
-city: a run of so many records of a city's export from 8 feeds at each batch, by the clock and in processor time, on so many processors
-(`taskset`), and beside it what reading and two insertions of each record take on one thread, which is measured on `save`.
+latency: from a record written to the reply that counts it, while other records come from a feed of their own at each
+rate and the asks are answered one line after the other: median and 99th percentile over S seconds (10), how many were
+timed, the replies a second of all asks, and how many records a second were taken, where these are fewer than were to
+come. A record that is timed comes by a second feed, and at batch 64 is published with records of the other. Between a
+reply and the next record that is timed passes a random time of up to so many milliseconds (2). This script sleeps until
+a reply has come, and its wake is in each time; PROBER, which is built from bench/prober.rs, never sleeps. It has the
+last processor for itself, and the program and what writes the other records have the rest. memory: the most memory of a
+run with so many records, which is an hour of them at that number over 3,600 a second. city: a run of so many records of
+a city's export from 8 feeds at each batch, by the clock and in processor time, on so many processors (`taskset`), and
+beside it what reading and two insertions of each record take on one thread, which is measured on `save`.
 
-Records are those of a town of 8 by 8 places in 744 hours, or with `--records city` those of 64 by 64 places at depth 16 with two
-categories, whose insertion takes longer."""
-import argparse, json, os, random, signal, subprocess, sys, tempfile, time
+Records are those of a town of 8 by 8 places in 744 hours, or with `--records city` those of 64 by 64 places at depth 16
+with two categories, whose insertion takes longer."""
+import argparse
+import json
+import os
+import random
+import signal
+import subprocess
+import sys
+import tempfile
+import time
 
+sys.path.insert(0, os.path.join(os.path.dirname(os.path.realpath(__file__)), "../judge"))
 from pipes import Run, Stuck, plan_of, write_all
 
 TOWN = (3, [("kind", ["theft", "battery", "probe"])], 10, 0, b"time,x,y,kind\n")
-CITY = (16, [("type", ["THEFT", "MOTOR VEHICLE THEFT", "BATTERY", "probe"]), ("district", ["001", "002"])], 3600, 1357016400,
-        b"time,x,y,type,district\n")
+CITY = (
+    16,
+    [("type", ["THEFT", "MOTOR VEHICLE THEFT", "BATTERY", "probe"]), ("district", ["001", "002"])],
+    3600,
+    1357016400,
+    b"time,x,y,type,district\n",
+)
 
 
 def plan_over(records, feeds, asks, batch, finals=()):
@@ -49,10 +66,16 @@ def lines_of(records, count, seed):
     rng = random.Random(seed)
     if records == "city":
         kinds = CITY[1][0][1]
-        return [f"{1357016400 + rng.randrange(2678400)},{16800 + rng.randrange(64)},{24300 + rng.randrange(64)},"
-                f"{kinds[rng.randrange(3)]},00{1 + rng.randrange(2)}\n".encode() for _ in range(count)]
-    return [f"{rng.randrange(7440)},{rng.randrange(8)},{rng.randrange(8)},{('theft', 'battery')[rng.randrange(2)]}\n".encode()
-            for _ in range(count)]
+        return [
+            f"{1357016400 + rng.randrange(2678400)},{16800 + rng.randrange(64)},{24300 + rng.randrange(64)},"
+            f"{kinds[rng.randrange(3)]},00{1 + rng.randrange(2)}\n".encode()
+            for _ in range(count)
+        ]
+    return [
+        f"{rng.randrange(7440)},{rng.randrange(8)},{rng.randrange(8)},{('theft', 'battery')[rng.randrange(2)]}\n"
+        .encode()
+        for _ in range(count)
+    ]
 
 
 def close_all(fds):
@@ -79,6 +102,7 @@ def fork_off(fds, work, *words):
 
 # idle
 
+
 def idle(program, seconds):
     for feeds, asks in ((1, 1), (8, 8)):
         with Run(program, plan_over("town", feeds, asks, 1), seconds + 60) as run:
@@ -92,20 +116,28 @@ def idle(program, seconds):
             close_all(fds + ask_fds)
             status, *_ = run.wait()
             assert status == 0, status
-            print(f"{program}: {feeds} feeds and {asks} asks, silent for {seconds:g} s: {100 * share:.2f} % of a processor", flush=True)
+            print(
+                (
+                    f"{program}: {feeds} feeds and {asks} asks, silent for {seconds:g} s: {100 * share:.2f} % of a"
+                    " processor"
+                ),
+                flush=True,
+            )
 
 
 # latency
 
+
 def arrive(fd, records, rate, done, prober):
-    """Writes records at that rate, those that are due each millisecond, until the file `done` is there. It leaves a prober its processor."""
+    """Writes records at that rate, those that are due each millisecond, until the file `done` is there. It leaves a
+    prober its processor."""
     if prober:
         os.sched_setaffinity(0, apart()[0])
     lines, sent, begun = lines_of(records, 20_000, 7), 0, time.monotonic()
     while not os.path.exists(done):
         due = min(int((time.monotonic() - begun) * rate) - sent, 2_000)
         at = sent % (len(lines) - 2_000)
-        write_all(fd, b"".join(lines[at:at + due]))
+        write_all(fd, b"".join(lines[at : at + due]))
         sent += due
         time.sleep(0.001 if due < 2_000 else 0)
 
@@ -119,7 +151,7 @@ def ask_on(fd, replies, line, done):
 
 def counted(reply):
     """The one number in the reply's rows."""
-    return int(reply[10:reply.index(b"]")])
+    return int(reply[10 : reply.index(b"]")])
 
 
 def probes(fd, ask, replies, record, line, seconds, pause):
@@ -167,13 +199,15 @@ def latency(program, records, batch, rate, asks, seconds, prober, pause):
         fds, ask_fds, replies = run.open_all(header_of(records))
         children.append(fork_off([fds[0]], arrive, fds[0], records, rate, done, prober))
         for a in range(1, asks):
-            children.append(fork_off([ask_fds[a], replies[a].fd], ask_on, ask_fds[a], replies[a], probe_of(records)[1], done))
+            children.append(
+                fork_off([ask_fds[a], replies[a].fd], ask_on, ask_fds[a], replies[a], probe_of(records)[1], done)
+            )
         os.close(fds[0])
         close_all(ask_fds[1:])
         record, line = probe_of(records)
         write_all(ask_fds[0], line)
         assert counted(replies[0].next()) == 0
-        os.set_blocking(replies[0].fd, True)       # the program has opened it, and a reply is one put
+        os.set_blocking(replies[0].fd, True)  # the program has opened it, and a reply is one put
         begun = time.monotonic()
         if prober:
             times = spun_probes(prober, [fds[1], ask_fds[0], replies[0].fd], record, line, seconds, pause)
@@ -190,12 +224,20 @@ def latency(program, records, batch, rate, asks, seconds, prober, pause):
         status, report, *_ = run.wait()
         assert status == 0, (status, report)
         answered = sum(int(line.split()[2]) for line in report.splitlines() if line.startswith("script "))
-        timed = (f"median {quantile(times, 0.5):.0f} us, 99th percentile {quantile(times, 0.99):.0f} us, {len(times)} timed"
-                 if times else "none timed")
+        timed = (
+            f"median {quantile(times, 0.5):.0f} us, 99th percentile {quantile(times, 0.99):.0f} us, {len(times)} timed"
+            if times
+            else "none timed"
+        )
         least = "" if rate * took < 20 or taken > 0.95 * rate else f", of which only {taken:.0f} a second are taken"
         paused = f", up to {pause:g} ms apart" if pause != 2 else ""
-        print(f"{program}: batch {batch}, {rate} records a second{least}, {asks} asks{paused}: {timed}; {answered / took:.0f} replies a second, "
-              f"{100 * busy / took:.0f} % of a processor", flush=True)
+        print(
+            (
+                f"{program}: batch {batch}, {rate} records a second{least}, {asks} asks{paused}: {timed};"
+                f" {answered / took:.0f} replies a second, {100 * busy / took:.0f} % of a processor"
+            ),
+            flush=True,
+        )
     finally:
         if run.child.poll() is None:
             for child in children:
@@ -208,6 +250,7 @@ def latency(program, records, batch, rate, asks, seconds, prober, pause):
 
 # memory
 
+
 def memory(program, records, count):
     with Run(program, plan_over(records, 1, 1, 64), 3600) as run:
         fds, ask_fds, replies = run.open_all(header_of(records))
@@ -216,7 +259,7 @@ def memory(program, records, count):
         begun = time.monotonic()
         for _ in range(count // len(lines)):
             write_all(fds[0], block)
-        write_all(fds[0], b"".join(lines[:count % len(lines)]))
+        write_all(fds[0], b"".join(lines[: count % len(lines)]))
         close_all(fds)
         while True:
             write_all(ask_fds[0], b"count\n")
@@ -227,11 +270,17 @@ def memory(program, records, count):
         close_all(ask_fds)
         status, report, _, busy, most = run.wait()
         assert status == 0 and report.endswith(f"journal: {count} entries\n"), (status, report)
-        print(f"{program}: {count} records: {most:.0f} MB at most; {took:.1f} s, {count / took:.0f} records a second, "
-              f"{busy:.1f} s of processors", flush=True)
+        print(
+            (
+                f"{program}: {count} records: {most:.0f} MB at most; {took:.1f} s, {count / took:.0f} records a second,"
+                f" {busy:.1f} s of processors"
+            ),
+            flush=True,
+        )
 
 
 # city
+
 
 def write_city(folder, count, known=True):
     """Eight feeds of a month's records, each in the order of its times."""
@@ -241,8 +290,10 @@ def write_city(folder, count, known=True):
         with open(os.path.join(folder, f"feed{feed}.csv"), "w") as it:
             it.write(header_of("city").decode())
             for i in range(count // 8):
-                it.write(f"{1357016400 + i * 2678400 * 8 // count},{16800 + rng.randrange(64)},{24300 + rng.randrange(64)},"
-                         f"{kinds[rng.randrange(3)]},00{1 + rng.randrange(2)}\n")
+                it.write(
+                    f"{1357016400 + i * 2678400 * 8 // count},{16800 + rng.randrange(64)},{24300 + rng.randrange(64)},"
+                    f"{kinds[rng.randrange(3)]},00{1 + rng.randrange(2)}\n"
+                )
 
 
 def last_of(path):
@@ -259,8 +310,8 @@ def is_asleep(pid):
 
 
 def read_alone(program, folder):
-    """The processor seconds in which `save` reads all feeds and inserts each record once: those it took when it waits for more of the
-    last feed, which is a pipe. It is ended before it makes an image."""
+    """The processor seconds in which `save` reads all feeds and inserts each record once: those it took when it waits
+    for more of the last feed, which is a pipe. It is ended before it makes an image."""
     text = last_of(os.path.join(folder, "feed7.csv"))
     child = subprocess.Popen([program, "save", "plan.json", "none.img"], cwd=folder, stdout=subprocess.DEVNULL)
     try:
@@ -289,19 +340,27 @@ def parts(program, count, batch):
 
 
 def city_run(program, source, processors, count, batch, piped):
-    """By the clock, and in processor seconds, a run over the feeds of a folder: the files themselves, or pipes that are written from them."""
+    """By the clock, and in processor seconds, a run over the feeds of a folder: the files themselves, or pipes that are
+    written from them."""
     names = [f"feed{feed}.csv" for feed in range(8)]
     run, words = None, ["taskset", "-c", f"0-{processors - 1}"]
     try:
         files = [(name, open(os.path.join(source, name)).read()) for name in names]
-        run = Run(program, plan_over("city", 8, 0, batch), 3600, finals=() if piped else files, words=words, piped=names if piped else [])
+        run = Run(
+            program,
+            plan_over("city", 8, 0, batch),
+            3600,
+            finals=() if piped else files,
+            words=words,
+            piped=names if piped else [],
+        )
         children = []
         if piped:
             header = header_of("city")
             for name, text in files:
                 fd = run.open_to_write(name)
                 write_all(fd, header)
-                children.append((fd, text[len(header):].encode()))
+                children.append((fd, text[len(header) :].encode()))
             writers = [fork_off([fd], write_all, fd, text) for fd, text in children]
             close_all([fd for fd, _ in children])
             for writer in writers:
@@ -321,11 +380,23 @@ def city(programs, count, batch, rounds, processors, piped):
             for program in programs:
                 reading, inserting = parts(program, count, batch)
                 alone = 2 * inserting - reading
-                print(f"{program}: batch {batch}: reading {reading:.2f} s, with one insertion {inserting:.2f}, so with two {alone:.2f}", flush=True)
+                print(
+                    (
+                        f"{program}: batch {batch}: reading {reading:.2f} s, with one insertion {inserting:.2f}, so"
+                        f" with two {alone:.2f}"
+                    ),
+                    flush=True,
+                )
                 for number in processors:
                     seconds, busy, most = city_run(program, source, number, count, batch, piped)
-                    print(f"{program}: {count} records from 8 {'pipes' if piped else 'files'} on {number} processors: {seconds:.2f} s, "
-                          f"{busy:.2f} of processors, {busy / alone:.2f} times reading and two insertions, {most:.0f} MB", flush=True)
+                    print(
+                        (
+                            f"{program}: {count} records from 8 {'pipes' if piped else 'files'} on {number} processors:"
+                            f" {seconds:.2f} s, {busy:.2f} of processors, {busy / alone:.2f} times reading and two"
+                            f" insertions, {most:.0f} MB"
+                        ),
+                        flush=True,
+                    )
 
 
 def numbers(text):

@@ -1,11 +1,16 @@
-"""load_times.py PROGRAM.. [--groups GROUPS] [--records 200000] [--kinds generated,city,checkins] [--batches 1,64,1024,16384,65536]
+"""load_times.py PROGRAM.. [--groups GROUPS] [--records 200000] [--kinds generated,city,checkins] [--batches
+1,64,1024,16384,65536]
              [--feeds 1,8] [--rounds 1]: times loading, of each PROGRAM in turn, so that the figures of one run compare.
 
-For each kind of records and each batch: `save` (reading, one cube, and its image), and `run` with so many feeds (two copies), in
-seconds by the clock and of processors, records a second, and MB at most. GROUPS is the program of bench/groups.rs, which inserts
-the same records one by one and in groups of the same sizes in plain Rust. `count` has to be the same of every form, and `stat` of an
-image is printed. runs.py says what the kinds of records are."""
-import argparse, json, os, subprocess, tempfile
+For each kind of records and each batch: `save` (reading, one cube, and its image), and `run` with so many feeds (two
+copies), in seconds by the clock and of processors, records a second, and MB at most. GROUPS is the program of
+bench/groups.rs, which inserts the same records one by one and in groups of the same sizes in plain Rust. `count` has to
+be the same of every form, and `stat` of an image is printed. runs.py says what the kinds of records are."""
+import argparse
+import json
+import os
+import subprocess
+import tempfile
 
 from runs import KINDS, timed
 
@@ -63,9 +68,18 @@ def measure(name, given):
         if given.groups:
             print(f"{name}, {given.records:,} records, plain Rust:", flush=True)
             kind.write(folder, given.records, 1)
-            words = [os.path.abspath(given.groups), "numbers.txt", str(kind.depth), str(len(kind.categories)), "0", *map(str, given.batches)]
+            words = [
+                os.path.abspath(given.groups),
+                "numbers.txt",
+                str(kind.depth),
+                str(len(kind.categories)),
+                "0",
+                *map(str, given.batches),
+            ]
             env = {**os.environ, "ROUNDS": str(given.rounds)}
-            for line in subprocess.run(words, cwd=folder, env=env, check=True, capture_output=True, text=True).stdout.splitlines():
+            for line in subprocess.run(
+                words, cwd=folder, env=env, check=True, capture_output=True, text=True
+            ).stdout.splitlines():
                 print(f"  {line}", flush=True)
     assert counts <= {f"[[{given.records}]]"}, counts
 

@@ -1,15 +1,25 @@
-"""measurements.py PROGRAM [--before BEFORE] [--only NAME,..] [--folder FOLDER]: takes the figures of docs/MEASUREMENTS.md, each
-beside its peer in the same run, and prints each command with what it printed and the machine's load before it.
+"""measurements.py PROGRAM [--before BEFORE] [--only NAME,..] [--folder FOLDER]: takes the figures of
+docs/MEASUREMENTS.md, each beside its peer in the same run, and prints each command with what it printed and the
+machine's load before it.
 
-PROGRAM is crates/cube_main/out/cube_main, as `./nanocube` builds it; BEFORE an earlier one, which is measured beside it where
-a section compares programs. The peers are built in FOLDER (a new one): bench/groups.rs, nanocube.rs, prober.rs and tables.rs by `rustc`,
-bench/feed_lines.rs by `cargo` with the crate `csv`, bench/refuse.c and live_bytes.c by `gcc`. A section whose peer cannot be built is skipped
-and named. bench/gate_times, which measures the gate, and a first build are not among them: each takes the whole machine."""
-import argparse, os, shutil, subprocess, sys, tempfile, time
+PROGRAM is what tools/program_of prints; BEFORE an earlier one, which is measured beside it where a section compares
+programs. The peers are built in FOLDER (a new one): bench/groups.rs, nanocube.rs, prober.rs and tables.rs by `rustc`,
+bench/feed_lines.rs by `cargo` with the crate `csv`, judge/refuse.c and bench/live_bytes.c by `gcc`. A section whose
+peer cannot be built is skipped and named. bench/gate_times, which measures the gate, and a first build are not among
+them: each takes the whole machine."""
+import argparse
+import os
+import shutil
+import subprocess
+import sys
+import tempfile
+import time
 
+sys.path.insert(0, os.path.join(os.path.dirname(os.path.realpath(__file__)), "../judge"))
 import pipes  # All programs, peers too, are run with what `./nanocube` tells the C library.
 
 BENCH = os.path.dirname(os.path.realpath(__file__))
+JUDGE = os.path.realpath(f"{BENCH}/../judge")
 SECTIONS = {
     "feeds": ["python3 {bench}/feed_times.py {program} {feed_lines}"],
     "lists": ["{bench}/measure.sh table_times", "{tables}"],
@@ -17,20 +27,50 @@ SECTIONS = {
     "replies": ["python3 {bench}/reply_times.py {both} --peer {nanocube}"],
     "loading": ["python3 {bench}/load_times.py {both} --groups {groups}"],
     "memory": ["python3 {bench}/live_bytes.py {live_bytes} {both}"],
-    "large": ["python3 {bench}/load_times.py {both} --groups {groups} --records 2000000 --kinds generated,city --batches 1024,65536 --feeds 8",
-              "python3 {bench}/load_times.py {both} --groups {groups} --records 1000000 --kinds checkins --batches 64,65536 --feeds 1"],
+    "large": [
+        (
+            "python3 {bench}/load_times.py {both} --groups {groups} --records 2000000 --kinds generated,city --batches"
+            " 1024,65536 --feeds 8"
+        ),
+        (
+            "python3 {bench}/load_times.py {both} --groups {groups} --records 1000000 --kinds checkins --batches"
+            " 64,65536 --feeds 1"
+        ),
+    ],
     "sessions": ["{bench}/measure.sh session_times"],
-    "windows": ["{bench}/measure.sh window_times", "{bench}/measure.sh window_times cube", "python3 {bench}/window_times/steps.py"],
+    "windows": [
+        "{bench}/measure.sh window_times",
+        "{bench}/measure.sh window_times cube",
+        "python3 {bench}/window_times/steps.py",
+    ],
     "images": ["{bench}/measure.sh --unproved image_times", "python3 {bench}/run_times.py {program} image"],
-    "runs": ["python3 {bench}/run_times.py {program} city", "python3 {bench}/run_times.py {program} big", "python3 {bench}/run_times.py {program} recount"],
-    "pipes": ["python3 {bench}/soak.py {program}", "python3 {bench}/live_times.py idle {both}", "python3 {bench}/live_times.py latency {both} --seconds 3",
-              "python3 {bench}/live_times.py latency {both} --prober {prober} --batches 1 --rates 1,10000 --asks 1 --pauses 2,100",
-              "python3 {bench}/live_times.py city {both} --rounds 1", "python3 {bench}/live_times.py memory {program} --counts 3600,100000,1000000,4000000",
-              "python3 {bench}/short_runs.py three {program} --runs 10000 --beside 4", "python3 {bench}/short_runs.py judged {program} --runs 1000 --beside 4"],
+    "runs": [
+        "python3 {bench}/run_times.py {program} city",
+        "python3 {bench}/run_times.py {program} big",
+        "python3 {bench}/run_times.py {program} recount",
+    ],
+    "pipes": [
+        "python3 {judge}/soak.py {program}",
+        "python3 {bench}/live_times.py idle {both}",
+        "python3 {bench}/live_times.py latency {both} --seconds 3",
+        (
+            "python3 {bench}/live_times.py latency {both} --prober {prober} --batches 1 --rates 1,10000 --asks 1"
+            " --pauses 2,100"
+        ),
+        "python3 {bench}/live_times.py city {both} --rounds 1",
+        "python3 {bench}/live_times.py memory {program} --counts 3600,100000,1000000,4000000",
+        "python3 {judge}/short_runs.py three {program} --runs 10000 --beside 4",
+        "python3 {judge}/short_runs.py judged {program} --runs 1000 --beside 4",
+    ],
     "scaling": ["python3 {bench}/scaling.py {program}"],
-    "refused": ["python3 {bench}/judge_interrupted.py {program} {refuse}", "python3 {bench}/judge_interrupted.py {program} {refuse} 64", "python3 {bench}/judge_interrupted.py {program} {refuse} rows",
-                "python3 {bench}/judge_forms.py {program} {refuse}", "python3 {bench}/refused_tests.py {refuse}"],
-    "least": ["python3 {bench}/judge_least.py {program}", "python3 {bench}/judge_one_image.py {program}"],
+    "refused": [
+        "python3 {judge}/judge_interrupted.py {program} {refuse}",
+        "python3 {judge}/judge_interrupted.py {program} {refuse} 64",
+        "python3 {judge}/judge_interrupted.py {program} {refuse} rows",
+        "python3 {judge}/judge_forms.py {program} {refuse}",
+        "python3 {judge}/refused_tests.py {refuse}",
+    ],
+    "least": ["python3 {judge}/judge_least.py {program}", "python3 {judge}/judge_one_image.py {program}"],
 }
 MANIFEST = """[package]
 name = "feed_lines"
@@ -58,12 +98,19 @@ def cargo_project(folder):
 def build_peers(folder):
     """The path of each peer that could be built."""
     cargo_project(f"{folder}/feed_lines")
-    commands = {name: (f"{folder}/{name}", ["rustc", "-O", "--edition", "2021", f"{BENCH}/{name}.rs", "-o", f"{folder}/{name}"])
-                for name in ("groups", "nanocube", "prober", "tables")}
-    commands["feed_lines"] = (f"{folder}/feed_lines/target/release/feed_lines",
-                              ["cargo", "build", "--release", "--quiet", "--manifest-path", f"{folder}/feed_lines/Cargo.toml"])
-    for name in ("refuse", "live_bytes"):
-        commands[name] = (f"{folder}/{name}.so", ["gcc", "-O2", "-shared", "-fPIC", "-o", f"{folder}/{name}.so", f"{BENCH}/{name}.c"])
+    commands = {
+        name: (f"{folder}/{name}", ["rustc", "-O", "--edition", "2021", f"{BENCH}/{name}.rs", "-o", f"{folder}/{name}"])
+        for name in ("groups", "nanocube", "prober", "tables")
+    }
+    commands["feed_lines"] = (
+        f"{folder}/feed_lines/target/release/feed_lines",
+        ["cargo", "build", "--release", "--quiet", "--manifest-path", f"{folder}/feed_lines/Cargo.toml"],
+    )
+    for name, source in (("refuse", f"{JUDGE}/refuse.c"), ("live_bytes", f"{BENCH}/live_bytes.c")):
+        commands[name] = (
+            f"{folder}/{name}.so",
+            ["gcc", "-O2", "-shared", "-fPIC", "-o", f"{folder}/{name}.so", source],
+        )
     built = {}
     for name, (path, words) in commands.items():
         where = f"{folder}/feed_lines" if name == "feed_lines" else folder
@@ -90,13 +137,15 @@ def main():
     words = argparse.ArgumentParser(description=__doc__, formatter_class=argparse.RawDescriptionHelpFormatter)
     words.add_argument("program")
     words.add_argument("--before")
-    words.add_argument("--only", type=lambda text: text.split(","), default=[*SECTIONS], metavar="NAME,..", help=", ".join(SECTIONS))
+    words.add_argument(
+        "--only", type=lambda text: text.split(","), default=[*SECTIONS], metavar="NAME,..", help=", ".join(SECTIONS)
+    )
     words.add_argument("--folder")
     given = words.parse_args()
     folder = os.path.abspath(given.folder or tempfile.mkdtemp(prefix="measurements-"))
     program = os.path.abspath(given.program)
     both = f"{os.path.abspath(given.before)} {program}" if given.before else program
-    known = {"bench": BENCH, "program": program, "both": both, **build_peers(folder)}
+    known = {"bench": BENCH, "judge": JUDGE, "program": program, "both": both, **build_peers(folder)}
     print(f"{time.strftime('%Y-%m-%d')}, {len(os.sched_getaffinity(0))} processors, peers in {folder}\n", flush=True)
     results = [take(command, known) for name in given.only for command in SECTIONS[name]]
     print(f"{sum(results)} passed, {len(results) - sum(results)} failed")

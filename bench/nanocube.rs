@@ -10,6 +10,10 @@ use std::fs::File;
 use std::io::{self, BufRead, BufReader, Write as _};
 use std::time::Instant;
 
+#[path = "clock.rs"]
+mod clock;
+pub use clock::busy;
+
 const NONE: u32 = u32::MAX;
 
 #[derive(Clone, Copy)]
@@ -420,23 +424,6 @@ fn answers(cube: &Cube, names: &Names, records: u32) {
     serve("map 6", cube, names, records, &vec!["map 6".to_string(); 20]);
     serve("series 0 1 1000", cube, names, records, &vec!["series 0 1 1000".to_string(); 20]);
     serve("hist kind", cube, names, records, &vec!["hist kind".to_string(); 1000]);
-}
-
-#[repr(C)]
-struct Moment {
-    seconds: i64,
-    nanoseconds: i64,
-}
-
-extern "C" {
-    fn clock_gettime(clock: i32, at: *mut Moment) -> i32;
-}
-
-/// Seconds of this thread's processor time.
-pub fn busy() -> f64 {
-    let mut at = Moment { seconds: 0, nanoseconds: 0 };
-    unsafe { clock_gettime(3, &mut at) };
-    at.seconds as f64 + at.nanoseconds as f64 * 1e-9
 }
 
 /// The cube of the lines of a file of numbers.

@@ -1,7 +1,7 @@
 #!/usr/bin/env python3
-"""prepare_times.py [ROWS]: times `./prepare` over two CSVs of ROWS rows (1,000,000), each beside a loop of Python that reads the same
-file by `csv.reader` and does nothing with it. Prints the least of three runs of each, by the clock and in processor time, their ratio,
-and the most memory that prepare and its `sort` had, both at their greatest.
+"""prepare_times.py [ROWS]: times `./prepare` over two CSVs of ROWS rows (1,000,000), each beside a loop of Python that
+reads the same file by `csv.reader` and does nothing with it. Prints the least of three runs of each, by the clock and
+in processor time, their ratio, and the most memory that prepare and its `sort` had, both at their greatest.
 
 - wide: the export of examples/city, 22 columns and four categories, one row of 73 without coordinates;
 - narrow: a date with seconds, a latitude, a longitude and one category."""
@@ -23,7 +23,9 @@ NARROW = "time when\nlatitude lat\nlongitude lon\ncategory kind kind\n"
 def wide(folder, rows):
     """Some 100,000 drawn rows, as often as is needed."""
     words = [f"{TOP}/examples/city/make_export.py", "incidents", str(min(rows, DRAWN))]
-    header, *lines = subprocess.run(words, stdout=subprocess.PIPE, text=True, check=True).stdout.splitlines(keepends=True)
+    header, *lines = subprocess.run(words, stdout=subprocess.PIPE, text=True, check=True).stdout.splitlines(
+        keepends=True
+    )
     with open(f"{folder}/rows.csv", "w", encoding="utf-8") as it:
         it.write(header)
         it.writelines(lines[number % len(lines)] for number in range(rows))
@@ -70,7 +72,7 @@ def children_of(process):
 def prepare_seconds(folder):
     """The seconds of a call, by the clock and in processor time, and the most megabytes of all its processes."""
     begun, used, most = time.perf_counter(), os.times(), {}
-    ran = subprocess.Popen([f"{TOP}/prepare", folder], stderr=subprocess.DEVNULL)
+    ran = subprocess.Popen([f"{TOP}/prepare", "--no-capacity", folder], stderr=subprocess.DEVNULL)
     while ran.poll() is None:
         for process in [str(ran.pid), *children_of(ran.pid)]:
             most[process] = max(most.get(process, 0), most_memory(process))
@@ -95,8 +97,14 @@ def main():
                 it.write(columns)
             runs = [(*plain_seconds(f"{folder}/rows.csv"), *prepare_seconds(folder)) for _ in range(RUNS)]
         plain, plain_used, ours, used = (min(run[part] for run in runs) for part in range(4))
-        print(f"{make.__name__}, by the clock: csv.reader {plain:.2f} s, prepare {ours:.2f} s, {ours / plain:.1f} times as long")
-        print(f"{make.__name__}, processor time: csv.reader {plain_used:.2f} s, prepare {used:.2f} s, {used / plain_used:.1f} times as long")
+        print(
+            f"{make.__name__}, by the clock: csv.reader {plain:.2f} s, prepare {ours:.2f} s, {ours / plain:.1f} times"
+            " as long"
+        )
+        print(
+            f"{make.__name__}, processor time: csv.reader {plain_used:.2f} s, prepare {used:.2f} s,"
+            f" {used / plain_used:.1f} times as long"
+        )
         print(f"{make.__name__}: {max(run[4] for run in runs):.0f} MB")
     return 0
 

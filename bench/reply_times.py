@@ -1,17 +1,26 @@
-"""reply_times.py PROGRAM.. [--peer NANOCUBE] [--records 50000] [--rounds 5] [--functions N]: what replies take, by `load` over one image.
+"""reply_times.py PROGRAM.. [--peer NANOCUBE] [--records 50000] [--rounds 5] [--functions N]: what replies take, by
+`load` over one image.
 
-For each kind of line, of each PROGRAM in turn: processor time a line, as the difference of a script of many such lines and of none
-(the least of so many rounds of each), and, where `valgrind` is installed, instructions a line over a smaller cube, as such a
-difference too. A line is read from the script, answered and printed; the output goes to no file. With `--functions N` the N
-functions that take most of a line's instructions are told besides. At the end, instructions a record of `load` and of `save`'s
-image: of `load` with no line, and of the functions that write the image.
+For each kind of line, of each PROGRAM in turn: processor time a line, as the difference of a script of many such lines
+and of none (the least of so many rounds of each), and, where `valgrind` is installed, instructions a line over a
+smaller cube, as such a difference too. A line is read from the script, answered and printed; the output goes to no
+file. With `--functions N` the N functions that take most of a line's instructions are told besides. At the end,
+instructions a record of `load` and of `save`'s image: of `load` with no line, and of the functions that write the
+image.
 
-NANOCUBE is bench/nanocube.rs, built: plain Rust that inserts the same records, reads the same scripts, answers and prints, and
-measures that part of itself. It has no `told`, `best` and faults. What it prints has to be what the first PROGRAM prints.
+NANOCUBE is bench/nanocube.rs, built: plain Rust that inserts the same records, reads the same scripts, answers and
+prints, and measures that part of itself. It has no `told`, `best` and faults. What it prints has to be what the first
+PROGRAM prints.
 
-Records are those of load_times.py: generated (one category) for all lines but `cross`, which is asked of a city's of three types and
-of one of four."""
-import argparse, json, os, re, shutil, subprocess, tempfile
+Records are those of load_times.py: generated (one category) for all lines but `cross`, which is asked of a city's of
+three types and of one of four."""
+import argparse
+import json
+import os
+import re
+import shutil
+import subprocess
+import tempfile
 
 from runs import KINDS, step, timed
 
@@ -21,7 +30,11 @@ def tiles(level, count, text):
     s, lines = 1, []
     for _ in range(count):
         s = step(s)
-        lines.append(text.format(level, (s >> 50) % (1 << level), (s >> 38) % (1 << level), "abcd"[(s >> 62) & 3], (s >> 32) % 512))
+        lines.append(
+            text.format(
+                level, (s >> 50) % (1 << level), (s >> 38) % (1 << level), "abcd"[(s >> 62) & 3], (s >> 32) % 512
+            )
+        )
     return lines
 
 
@@ -29,7 +42,11 @@ def tiles(level, count, text):
 LINES = {
     "told": ("generated", 400_000, lambda n: ["told"] * n),
     "count": ("generated", 400_000, lambda n: ["count"] * n),
-    "count with tile, value and interval": ("generated", 400_000, lambda n: tiles(4, n, "count in {}/{}/{} with kind={} time {} 1024")),
+    "count with tile, value and interval": (
+        "generated",
+        400_000,
+        lambda n: tiles(4, n, "count in {}/{}/{} with kind={} time {} 1024"),
+    ),
     "hist kind": ("generated", 400_000, lambda n: ["hist kind"] * n),
     "map 6 (4,096 rows)": ("generated", 200, lambda n: ["map 6"] * n),
     "series 0 1 1000": ("generated", 4_000, lambda n: ["series 0 1 1000"] * n),
@@ -73,30 +90,49 @@ def seconds(program, folder, lines, rounds):
 
 def peer_words(kind):
     """The words with which plain Rust answers the script over the records of this kind."""
-    return [str(KINDS[kind].depth), "numbers.txt", "script.txt", *(f"{name}={'|'.join(values)}" for name, values in KINDS[kind].categories)]
+    return [
+        str(KINDS[kind].depth),
+        "numbers.txt",
+        "script.txt",
+        *(f"{name}={'|'.join(values)}" for name, values in KINDS[kind].categories),
+    ]
 
 
 def peer_seconds(peer, folder, kind, lines, rounds):
     """The least processor seconds that plain Rust takes for these lines, as it tells them."""
     write_script(folder, lines)
-    runs = [subprocess.run([peer, *peer_words(kind)], cwd=folder, check=True, stdout=subprocess.DEVNULL, stderr=subprocess.PIPE) for _ in range(rounds)]
+    runs = [
+        subprocess.run(
+            [peer, *peer_words(kind)], cwd=folder, check=True, stdout=subprocess.DEVNULL, stderr=subprocess.PIPE
+        )
+        for _ in range(rounds)
+    ]
     return min(float(it.stderr) for it in runs)
 
 
 def test_same(program, peer, folder, kind, lines):
     """Whether both print the same replies."""
     write_script(folder, lines)
-    one, other = (subprocess.run(words, cwd=folder, check=True, stdout=subprocess.PIPE, stderr=subprocess.DEVNULL).stdout
-                  for words in ([program, *LOAD], [peer, *peer_words(kind)]))
+    one, other = (
+        subprocess.run(words, cwd=folder, check=True, stdout=subprocess.PIPE, stderr=subprocess.DEVNULL).stdout
+        for words in ([program, *LOAD], [peer, *peer_words(kind)])
+    )
     assert one == other, f"{program} and {peer} print other replies to {lines[0]}"
 
 
 def counted(program, folder, words):
     """The instructions of each function of a command."""
     out = os.path.join(folder, "callgrind.out")
-    subprocess.run(["valgrind", "--tool=callgrind", f"--callgrind-out-file={out}", program, *words], cwd=folder, check=True,
-                   stdout=subprocess.DEVNULL, stderr=subprocess.DEVNULL)
-    told = subprocess.run(["callgrind_annotate", "--threshold=100", out], check=True, capture_output=True, text=True, errors="replace")
+    subprocess.run(
+        ["valgrind", "--tool=callgrind", f"--callgrind-out-file={out}", program, *words],
+        cwd=folder,
+        check=True,
+        stdout=subprocess.DEVNULL,
+        stderr=subprocess.DEVNULL,
+    )
+    told = subprocess.run(
+        ["callgrind_annotate", "--threshold=100", out], check=True, capture_output=True, text=True, errors="replace"
+    )
     found = {}
     for taken, where in re.findall(r"(?m)^\s*([\d,]+) \([^)]*\)\s+(\S.*)$", told.stdout):
         name = re.sub(r" \[.*\]$", "", where).split(":", 1)[-1]
@@ -131,7 +167,11 @@ def lines_of(programs, peer, records, rounds, most):
             make_image(programs[0], folder, kind, 2_000)
             for program, words in [(it, LOAD) for it in programs] + [(it, peer_words(kind)) for it in beside]:
                 whole, functions = instructions(program, folder, words, few, most)
-                print(f"  {program}: {whole:,.0f} instructions a line" + "".join(f"\n    {it:>9,.0f}  {at}" for at, it in functions), flush=True)
+                print(
+                    f"  {program}: {whole:,.0f} instructions a line"
+                    + "".join(f"\n    {it:>9,.0f}  {at}" for at, it in functions),
+                    flush=True,
+                )
 
 
 def images_of(programs, most):
@@ -151,7 +191,11 @@ def images_of(programs, most):
                 each = {name: it for name, it in each.items() if "image" in name}
             first = sorted(each.items(), key=lambda it: -it[1])[:most]
             what = "save, what writes its image" if form == "save" else "load"
-            print(f"{program}: {what}: {sum(each.values()):,.0f} instructions a record" + "".join(f"\n    {it:>9,.0f}  {at}" for at, it in first), flush=True)
+            print(
+                f"{program}: {what}: {sum(each.values()):,.0f} instructions a record"
+                + "".join(f"\n    {it:>9,.0f}  {at}" for at, it in first),
+                flush=True,
+            )
 
 
 def main():

@@ -1,12 +1,18 @@
-"""run_times.py PROGRAM city [RECORDS]: times `run` of RECORDS records of a city's export in 8 feeds at batch 64 beside 8 asks of
-20,000 lines, with the time of the journal's writing, and `demo` over as many lines of its own plan.
-run_times.py PROGRAM image: times `save` of 200,000 generated records and of 1,000,000 of a city's export at batch 65,536, `load` of
-each image with one line, and beside them `run` of the same plan with the same line, and `cat` of the image.
-run_times.py PROGRAM big: runs `big 100000` 20 times.
-run_times.py PROGRAM recount: times `recount` of 1,000 replies over a journal of 200,000 entries."""
-import json, os, sys, tempfile, threading, time
+"""run_times.py PROGRAM city [RECORDS]: times `run` of RECORDS records of a city's export in 8 feeds at batch 64 beside
+8 asks of 20,000 lines, with the time of the journal's writing, and `demo` over as many lines of its own plan.
+run_times.py PROGRAM image: times `save` of 200,000 generated records and of 1,000,000 of a city's export at batch
+65,536, `load` of each image with one line, and beside them `run` of the same plan with the same line, and `cat` of the
+image. run_times.py PROGRAM big: runs `big 100000` 20 times. run_times.py PROGRAM recount: times `recount` of 1,000
+replies over a journal of 200,000 entries."""
+import json
+import os
+import sys
+import tempfile
+import threading
+import time
 
 from runs import KINDS, step, timed
+
 sys.path.insert(0, os.path.join(os.path.dirname(os.path.realpath(__file__)), "../tools"))
 from usage import words_of
 
@@ -27,7 +33,9 @@ def write_asks(folder, asks, lines, line_of):
 
 
 def line_of_generated(s):
-    return f"count in 4/{(s >> 60) % 16}/{(s >> 50) % 16} with kind={'abcd'[(s >> 42) % 4]} time {(s >> 32) % 512} 1024\n"
+    return (
+        f"count in 4/{(s >> 60) % 16}/{(s >> 50) % 16} with kind={'abcd'[(s >> 42) % 4]} time {(s >> 32) % 512} 1024\n"
+    )
 
 
 def line_of_city(s):
@@ -56,7 +64,10 @@ def demo(program, folder, records):
         it.write("count\n")
     status, out, seconds, busy, most = timed(program, ["demo", "demo.csv", "count.txt"], folder)
     assert status == 0 and out == f'{{"rows":[[{records}]],"seen":{records}}}\n'.encode(), (status, out)
-    print(f"demo: {seconds:.2f} s, {busy:.2f} of processors, {records / seconds:.0f} records a second, {most:.0f} MB", flush=True)
+    print(
+        f"demo: {seconds:.2f} s, {busy:.2f} of processors, {records / seconds:.0f} records a second, {most:.0f} MB",
+        flush=True,
+    )
 
 
 def city(program, records):
@@ -71,9 +82,15 @@ def city(program, records):
         ended.set()
         watcher.join()
         assert status == 0 and out.endswith(f"journal: {records} entries\n".encode()), (status, out)
-        print(f"run: {seconds:.2f} s, {busy:.2f} of processors, {records / seconds:.0f} records a second, "
-              f"{160_000 / seconds:.0f} replies a second, {most:.0f} MB; the journal's writing {seen['last'] - seen['first']:.2f} s, "
-              f"{os.path.getsize(os.path.join(folder, 'journal.txt')) / 1e6:.1f} MB", flush=True)
+        print(
+            (
+                f"run: {seconds:.2f} s, {busy:.2f} of processors, {records / seconds:.0f} records a second,"
+                f" {160_000 / seconds:.0f} replies a second, {most:.0f} MB; the journal's writing"
+                f" {seen['last'] - seen['first']:.2f} s,"
+                f" {os.path.getsize(os.path.join(folder, 'journal.txt')) / 1e6:.1f} MB"
+            ),
+            flush=True,
+        )
         demo(program, folder, records)
 
 
@@ -85,7 +102,11 @@ def image(program):
             write_plan(folder, KINDS[name].plan(feeds, 65_536, 0, ["count.txt"]))
             with open(os.path.join(folder, "count.txt"), "w") as it:
                 it.write("count\n")
-            for words in (["save", "plan.json", "cube.img"], ["load", "plan.json", "cube.img", "count.txt"], ["run", "plan.json"]):
+            for words in (
+                ["save", "plan.json", "cube.img"],
+                ["load", "plan.json", "cube.img", "count.txt"],
+                ["run", "plan.json"],
+            ):
                 status, out, seconds, busy, most = timed(program, words, folder)
                 assert status == 0, (words, status, out)
                 if words[0] == "load":
@@ -112,8 +133,13 @@ def recount(program):
         status, out, *_ = timed(program, ["run", "plan.json"], folder)
         assert status == 0, (status, out)
         for _ in range(3):
-            status, out, seconds, busy, most = timed(program, ["recount", "plan.json", "journal.txt", "ask0.txt", "ask0.txt.out"], folder)
-            print(f"{out.decode().strip()}: status {status}, {seconds:.2f} s, {busy:.2f} of processors, {most:.0f} MB", flush=True)
+            status, out, seconds, busy, most = timed(
+                program, ["recount", "plan.json", "journal.txt", "ask0.txt", "ask0.txt.out"], folder
+            )
+            print(
+                f"{out.decode().strip()}: status {status}, {seconds:.2f} s, {busy:.2f} of processors, {most:.0f} MB",
+                flush=True,
+            )
 
 
 def main():

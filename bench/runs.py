@@ -3,9 +3,15 @@
 generated: depth 10, one category of four values, 1,024 bins, as bench/nanocube.rs has them.
 city: a month of incidents at depth 16, 64 by 64 places, two categories of three and of two values, hours.
 city4: the same with four values of the first category.
-checkins: depth 15, hour and weekday, 170,000 places round 400 towns, of which few are visited often, in rising order of time."""
-import os, random, subprocess, time
+checkins: depth 15, hour and weekday, 170,000 places round 400 towns, of which few are visited often, in rising order of
+time."""
+import os
+import random
+import subprocess
+import sys
+import time
 
+sys.path.insert(0, os.path.join(os.path.dirname(os.path.realpath(__file__)), "../judge"))
 from pipes import plan_of
 
 
@@ -14,7 +20,8 @@ def step(s):
 
 
 def timed(program, words, folder):
-    """The status, the output, the seconds, those of the processors, and the most memory in MB of a run of the program."""
+    """The status, the output, the seconds, those of the processors, and the most memory in MB of a run of the
+    program."""
     start = time.time()
     child = subprocess.Popen([program, *words], cwd=folder, stdout=subprocess.PIPE)
     out = child.stdout.read()
@@ -58,7 +65,10 @@ def city(records, types=3):
     s = 1
     for i in range(records):
         s = step(s)
-        yield 16800 + (s >> 58), 24300 + (s >> 50) % 64, [(s >> 40) % types, (s >> 33) % 2], 1357016400 + i * 2678400 // records
+        yield 16800 + (s >> 58), 24300 + (s >> 50) % 64, [
+            (s >> 40) % types,
+            (s >> 33) % 2,
+        ], 1357016400 + i * 2678400 // records
 
 
 def checkins(records):
@@ -75,8 +85,23 @@ def checkins(records):
         yield x, y, [time // 3600 % 24, time // 86400 % 7], time
 
 
-KINDS = {"generated": Kind(10, [("kind", list("abcd"))], 1, 0, generated),
-         "city": Kind(16, [("type", ["THEFT", "MOTOR VEHICLE THEFT", "BATTERY"]), ("district", ["001", "002"])], 3600, 1357016400, city),
-         "city4": Kind(16, [("type", ["THEFT", "MOTOR VEHICLE THEFT", "BATTERY", "FRAUD"]), ("district", ["001", "002"])], 3600, 1357016400,
-                       lambda records: city(records, 4)),
-         "checkins": Kind(15, [("hour", [str(n) for n in range(24)]), ("day", [str(n) for n in range(7)])], 3600, 0, checkins)}
+KINDS = {
+    "generated": Kind(10, [("kind", list("abcd"))], 1, 0, generated),
+    "city": Kind(
+        16,
+        [("type", ["THEFT", "MOTOR VEHICLE THEFT", "BATTERY"]), ("district", ["001", "002"])],
+        3600,
+        1357016400,
+        city,
+    ),
+    "city4": Kind(
+        16,
+        [("type", ["THEFT", "MOTOR VEHICLE THEFT", "BATTERY", "FRAUD"]), ("district", ["001", "002"])],
+        3600,
+        1357016400,
+        lambda records: city(records, 4),
+    ),
+    "checkins": Kind(
+        15, [("hour", [str(n) for n in range(24)]), ("day", [str(n) for n in range(7)])], 3600, 0, checkins
+    ),
+}

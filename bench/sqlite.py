@@ -1,4 +1,5 @@
-"""The same 200,000 generated records in SQLite, in memory, with two indexes: what the queries of the cube take there."""
+"""The same 200,000 generated records in SQLite, in memory, with two indexes: what the queries of the cube take
+there."""
 import resource
 import sqlite3
 import time
@@ -41,7 +42,17 @@ def count():
 
 
 timed("count, us", 1e6, 2000, count)
-timed("map 6, ms", 1e3, 5, lambda: len(db.execute("select y >> 4, x >> 4, count(*) from records group by 1, 2").fetchall()))
-timed("series of 1,000 bins, ms", 1e3, 5, lambda: len(db.execute("select bin, count(*) from records where bin < 1000 group by bin").fetchall()))
+timed(
+    "map 6, ms",
+    1e3,
+    5,
+    lambda: len(db.execute("select y >> 4, x >> 4, count(*) from records group by 1, 2").fetchall()),
+)
+timed(
+    "series of 1,000 bins, ms",
+    1e3,
+    5,
+    lambda: len(db.execute("select bin, count(*) from records where bin < 1000 group by bin").fetchall()),
+)
 timed("hist kind, ms", 1e3, 5, lambda: len(db.execute("select kind, count(*) from records group by kind").fetchall()))
 print(f"peak: {resource.getrusage(resource.RUSAGE_SELF).ru_maxrss / 1024:.0f} MB")

@@ -1,5 +1,6 @@
 """judge_least.py [PROGRAM] [CASES [SEED]]: saves CASES (3,000) random small feeds in batches of two records and more,
-and judges the cube of each: it has to be the least one, which is counted here from the list of records alone.
+and judges the cube of each: it has to be the least one, which is counted here from the list of records alone. What is
+left over at the end is a batch too, also a single record.
 
 What `stat` tells has to be the numbers of the least cube. And of the slots that the image has, each proper link has to
 be one whose address has no finer one with all its records. Each shared link has to lead to the slot of a finer address
@@ -7,8 +8,8 @@ with all its records.
 
 A walk goes down the quadrants of a place so far, and then, category by category, down a value or past it, to time.
 Its link is proper where no walk that is longer in an earlier dimension has all the records of it, and shared
-otherwise. A slot stands at the root and at the end of each proper link. A batch of one record is inserted by itself,
-so sizes that leave one over are not drawn. PROGRAM is by default what tools/program_of prints."""
+otherwise. A slot stands at the root and at the end of each proper link. PROGRAM is by default what tools/program_of
+prints."""
 import json
 import os
 import random
@@ -75,8 +76,13 @@ def least(under, count, depth, few):
     slots = proper | {root}
     links = [walk for walk in under if walk != root and slot_before(walk) in slots]
     tables = sum(walk[0] == few + 2 for walk in slots)
-    return {"nodes": len(slots) - tables, "tables": tables, "proper": sum(it in proper for it in links), "seen": count,
-            "shared": sum(it not in proper for it in links)}
+    return {
+        "nodes": len(slots) - tables,
+        "tables": tables,
+        "proper": sum(it in proper for it in links),
+        "seen": count,
+        "shared": sum(it not in proper for it in links),
+    }
 
 
 def walk_of(address):
@@ -89,8 +95,12 @@ def walk_of(address):
 
 def is_finer(address, than):
     """Whether an address goes on from another by the same labels, in earlier dimensions than its last."""
-    return (address != than and len(address) == len(than) and address[-1] == than[-1] and
-            all(long[:len(labels)] == labels for long, labels in zip(address, than)))
+    return (
+        address != than
+        and len(address) == len(than)
+        and address[-1] == than[-1]
+        and all(long[: len(labels)] == labels for long, labels in zip(address, than))
+    )
 
 
 def fault_of_link(mark, address, home, under, depth):
@@ -124,7 +134,7 @@ def quadrants_of(x, y, depth):
 def case(program, folder, rng):
     """One feed in one batch size: what is wrong with its cube, or None."""
     depth, few, batch = rng.randrange(1, 6), rng.randrange(5), rng.choice(BATCHES)
-    drawn = draw(rng, depth, few, rng.choice([n for n in range(2, 26) if n % batch != 1]))
+    drawn = draw(rng, depth, few, rng.randrange(1, 26))
     image = save(program, folder, drawn, [drawn.rows], batch)
     told = json.loads(call(program, folder, "load", "plan.json", "cube.img", "script.txt"))
     records = [(quadrants_of(x, y, depth), tuple(chosen)) for x, y, _, _, *chosen in drawn.rows]

@@ -2,12 +2,10 @@
 other batches and over other splits into feeds. It compares the bytes of the images with each other, and with those
 of the image of the least cube, which is made here of the list of records alone.
 
-Batches of two and more are inserted as groups. Where the last group of a save is a single record, that one is inserted
-by the five cases of docs/CUBE.md, so the image may be another one: this is no fault. Such saves are made besides, one
-for each list that has such a batch. It is told how many of their images differ, and where the first of them does.
+A batch of more than one record is inserted as a group, and so is what is left over at the end, also a single record.
+For each list one of the batches leaves a single record over, where there is such a batch.
 
-PROGRAM is by default what tools/program_of prints. It ends with 1 at the first other image of a save in groups
-alone."""
+PROGRAM is by default what tools/program_of prints. It ends with 1 at the first other image."""
 import random
 import sys
 import tempfile
@@ -33,10 +31,11 @@ def feeds_of(rng, rows):
 
 
 def batches_of(rng, count):
-    """Three batches of two and more that leave no single record over, and one that does, or None."""
+    """Three batches of two and more, one of which leaves a single record over, where there is such a one."""
     sizes = [*range(2, count + 1), 64 * count, 65536]
     single = [batch for batch in sizes if count % batch == 1]
-    return rng.sample([it for it in sizes if it not in single], SAVES), rng.choice(single) if single else None
+    first = [rng.choice(single)] if single else []
+    return first + rng.sample([it for it in sizes if it not in first], SAVES - len(first))
 
 
 def difference(image, other):
@@ -48,54 +47,30 @@ def difference(image, other):
     return told + f"{len(more)} slots more, {len(less)} less, the first of these at {(more + less or ['none'])[0]}"
 
 
-class Tally:
-    """How many saves were made of each kind, and what was seen of those whose last group is a single record."""
-
-    def __init__(self):
-        self.saves = self.single = self.differing = self.only_more = 0
-        self.first = None
-
-    def add_single(self, image, other, told):
-        self.single += 1
-        if other == image:
-            return
-        self.differing += 1
-        self.only_more += set(homes_of(slots_of(image))) < set(homes_of(slots_of(other)))
-        self.first = self.first or f"{told}: {difference(image, other)}"
-
-    def told(self, lists):
-        lines = [f"{lists} lists, {self.saves} saves in groups of two and more: one image each, that of the least cube"]
-        lines += [f"{self.single} saves whose last group is one record: {self.differing} have another image, "
-                  f"{self.only_more} of these with slots more and none less"]
-        return lines + ([f"the first is {self.first}"] if self.first else [])
-
-
-def judge(program, folder, rng, tally, number):
-    """Saves a list three times and more, and gives what is wrong, or None."""
+def judge(program, folder, rng):
+    """Saves a list three times, and gives what is wrong, or None, and how many saves left a single record over."""
     drawn = list_of(rng)
-    batches, single = batches_of(rng, len(drawn.rows))
     wanted = least_image_of(drawn)
+    batches = batches_of(rng, len(drawn.rows))
     for batch in batches:
-        tally.saves += 1
         image = save(program, folder, drawn, feeds_of(rng, drawn.rows), batch)
         if image != wanted:
-            return f"batch {batch} of {batches}: {difference(wanted, image)}: {drawn}"
-    if single:
-        image = save(program, folder, drawn, feeds_of(rng, drawn.rows), single)
-        tally.add_single(wanted, image, f"list {number}, of {len(drawn.rows)} records in batches of {single}")
-    return None
+            return f"batch {batch} of {batches}: {difference(wanted, image)}: {drawn}", 0
+    return None, sum(len(drawn.rows) % batch == 1 for batch in batches)
 
 
 def main():
     program, (lists, seed) = words_of(USE, [500, 1])
-    rng, tally = random.Random(seed), Tally()
+    rng, single = random.Random(seed), 0
     with tempfile.TemporaryDirectory() as folder:
         for number in range(lists):
-            wrong = judge(program, folder, rng, tally, number)
+            wrong, left = judge(program, folder, rng)
             if wrong:
                 print(f"list {number}: {wrong}")
                 sys.exit(1)
-    print("\n".join(tally.told(lists)))
+            single += left
+    print(f"{lists} lists, {SAVES * lists} saves: one image each, that of the least cube")
+    print(f"{single} of the saves leave a single record over")
 
 
 if __name__ == "__main__":

@@ -1,19 +1,22 @@
 /* Loaded before the C library by LD_PRELOAD, it refuses the call whose number stands in one of these variables:
    FAIL_ALLOC an allocation, FAIL_OPEN the opening or creating of a file, FAIL_READ a read, FAIL_WRITE a write, FAIL_CLOSE the
-   closing of a file. Of the write FAIL_SHORT half is taken, and the next one is refused. With TELL_ALLOC and TELL_CALLS it
+   closing of a file, FAIL_THREAD the making of a thread. Of the write FAIL_SHORT half is taken, and the next one is refused.
+   From the thread FAIL_THREADS on none is made. With TELL_ALLOC and TELL_CALLS it
    tells on standard error how many of each there were. */
 #define _GNU_SOURCE
 #include <dlfcn.h>
 #include <errno.h>
 #include <fcntl.h>
+#include <pthread.h>
 #include <stdarg.h>
 #include <stdio.h>
 #include <stdlib.h>
 #include <string.h>
 #include <unistd.h>
 
-enum { ALLOC, OPEN, READ, WRITE, SHORT, CLOSE, KINDS };
-static const char *const names[KINDS] = {"FAIL_ALLOC", "FAIL_OPEN", "FAIL_READ", "FAIL_WRITE", "FAIL_SHORT", "FAIL_CLOSE"};
+enum { ALLOC, OPEN, READ, WRITE, SHORT, CLOSE, THREAD, THREADS, KINDS };
+static const char *const names[KINDS] = {"FAIL_ALLOC", "FAIL_OPEN",  "FAIL_READ",   "FAIL_WRITE",
+                                         "FAIL_SHORT", "FAIL_CLOSE", "FAIL_THREAD", "FAIL_THREADS"};
 static long wanted[KINDS], counts[KINDS];
 static int is_read;
 
@@ -96,8 +99,16 @@ int close(int file) {
     errno = EIO;
     return -1;
 }
+int pthread_create(pthread_t *thread, const pthread_attr_t *attributes, void *(*run)(void *), void *argument) {
+    REAL(int, "pthread_create", pthread_t *, const pthread_attr_t *, void *(*)(void *), void *);
+    int refused = refuse(THREAD, 0);
+    long count = __atomic_add_fetch(&counts[THREADS], 1, __ATOMIC_SEQ_CST);
+    if (wanted[THREADS] > 0 && count >= wanted[THREADS]) refused = 1;
+    return refused ? EAGAIN : real(thread, attributes, run, argument);
+}
 __attribute__((destructor)) static void tell(void) {
     if (getenv("TELL_ALLOC")) dprintf(2, "allocations %ld\n", counts[ALLOC]);
     if (getenv("TELL_CALLS"))
-        dprintf(2, "opens %ld reads %ld writes %ld closes %ld\n", counts[OPEN], counts[READ], counts[WRITE], counts[CLOSE]);
+        dprintf(2, "opens %ld reads %ld writes %ld closes %ld threads %ld\n", counts[OPEN], counts[READ], counts[WRITE],
+                counts[CLOSE], counts[THREADS]);
 }

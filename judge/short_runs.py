@@ -1,18 +1,23 @@
 """Usage: short_runs.py three PROGRAM.. [--runs N] [--beside B] [--limit S] [--seed N]
        short_runs.py judged PROGRAM.. [--runs N] [--beside B] [--limit S] [--pause S] [--seed N]
 
-Runs each PROGRAM over pipes again and again, and ends with 1 where a run hangs (it is killed after a limit of 20 s, or 120 s where it
-is judged), leaves what is wrong, or ends more than a second after its writers. On a machine that other work shares the last may be the
-load's, and where that leaves little for this script it wants a higher limit.
-Each minute it says how many runs were right so far, and also where SIGTERM or SIGINT ends a series, once the runs that are under way
-have ended.
+Runs each PROGRAM over pipes again and again, and ends with 1 where a run hangs (it is killed after a limit of 20 s, or
+120 s where it is judged), leaves what is wrong, or ends more than a second after its writers. On a machine that other
+work shares the last may be the load's, and where that leaves little for this script it wants a higher limit. Each
+minute it says how many runs were right so far, and also where SIGTERM or SIGINT ends a series, once the runs that are
+under way have ended.
 
-three: N runs (10,000), B of them side by side (4), of three records from two feeds and an ask, with random pauses of up to 10 ms
-between the writes, some of which end in mid-line.
-judged: N runs (1,000) of the feeds and scripts of judge_runs.py, 8 feeds of 2,000 records and 8 asks of 500 lines, each written to its
-pipe in 20 pieces with random pauses of up to S seconds (0.15, so that a run's writers take some 1.8 s), and judged as judge_runs.py
-judges them."""
-import argparse, os, random, signal, sys, threading, time
+three: N runs (10,000), B of them side by side (4), of three records from two feeds and an ask, with random pauses of up
+to 10 ms between the writes, some of which end in mid-line. judged: N runs (1,000) of the feeds and scripts of
+judge_runs.py, 8 feeds of 2,000 records and 8 asks of 500 lines, each written to its pipe in 20 pieces with random
+pauses of up to S seconds (0.15, so that a run's writers take some 1.8 s), and judged as judge_runs.py judges them."""
+import argparse
+import os
+import random
+import signal
+import sys
+import threading
+import time
 
 from judge_runs import ASKS, FEEDS, journal_of, judge, make, queries
 from pipes import Run, Stuck, plan_of, write_all
@@ -61,7 +66,7 @@ def judge_three(run, status, report, of_feed, asked, replies):
     seen = 0
     for _ in range(asked):
         reply = replies.next()
-        told = int(reply[10:reply.index(b"]")])
+        told = int(reply[10 : reply.index(b"]")])
         assert reply == b'{"rows":[[%d]],"seen":%d}' % (told, told) and seen <= told <= 3, reply
         seen = told
     assert replies.next() is None
@@ -83,8 +88,10 @@ def judged_run(program, rng, limit, pause):
         texts = [open(os.path.join(source, f"feed{f}.csv"), "rb").read().split(b"\n", 1)[1] for f in range(FEEDS)]
         texts += [open(os.path.join(source, f"ask{a}.txt"), "rb").read() for a in range(ASKS)]
         outs = [[] for _ in range(ASKS)]
-        writers = [threading.Thread(target=write_in_pieces, args=(fd, text, random.Random(rng.random()), pause))
-                   for fd, text in zip(fds + ask_fds, texts)]
+        writers = [
+            threading.Thread(target=write_in_pieces, args=(fd, text, random.Random(rng.random()), pause))
+            for fd, text in zip(fds + ask_fds, texts)
+        ]
         readers = [threading.Thread(target=read_all, args=(it, out)) for it, out in zip(replies, outs)]
         for one in writers + readers:
             one.start()
@@ -119,7 +126,7 @@ def read_all(replies, out):
             out += replies.lines
         out.append(replies.held)
     except Stuck:
-        pass    # The run is stuck too, or is judged without its last line.
+        pass  # The run is stuck too, or is judged without its last line.
     finally:
         replies.close()
 
@@ -131,8 +138,10 @@ def sums_of(lates):
         return "no run has ended"
     slow = sum(late > LATE for late in lates)
     median, most = lates[len(lates) // 2], lates[int(0.99 * len(lates))]
-    return (f"{len(lates)} runs right, {slow} ended more than {LATE} s after their writers: median {1000 * median:.1f} ms, "
-            f"99th percentile {1000 * most:.1f} ms, latest {1000 * lates[-1]:.1f} ms")
+    return (
+        f"{len(lates)} runs right, {slow} ended more than {LATE} s after their writers: median {1000 * median:.1f} ms, "
+        f"99th percentile {1000 * most:.1f} ms, latest {1000 * lates[-1]:.1f} ms"
+    )
 
 
 def runs_of(program, one_run, runs, beside, seed, *words):
@@ -191,8 +200,12 @@ def main():
         signal.signal(number, stop)
     good = True
     for program in map(os.path.abspath, given.programs):
-        one_run, runs, beside, limit = (three_run, 10_000, 4, 20) if given.what == "three" else (judged_run, 1_000, 1, 120)
-        good &= runs_of(program, one_run, given.runs or runs, given.beside or beside, given.seed, given.limit or limit, given.pause)
+        one_run, runs, beside, limit = (
+            (three_run, 10_000, 4, 20) if given.what == "three" else (judged_run, 1_000, 1, 120)
+        )
+        good &= runs_of(
+            program, one_run, given.runs or runs, given.beside or beside, given.seed, given.limit or limit, given.pause
+        )
     return 0 if good else 1
 
 

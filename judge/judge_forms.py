@@ -1,15 +1,25 @@
-"""judge_forms.py PROGRAM REFUSE.SO: answers a script over three records by `demo`, saves the cube of five records and answers the
-script over its image, with each allocation, opening, read, write and closing refused in turn, and judges the status, the output
-and the image of each run."""
-import os, subprocess, sys, tempfile
+"""judge_forms.py PROGRAM REFUSE.SO [FLAT]: answers a script over three records by `demo`, saves the cube of five records
+and answers the script over its image, and by FLAT over the feeds, with each allocation, opening, read, write and closing
+refused in turn, and judges the status, the output and the image of each run."""
+import os
+import subprocess
+import sys
+import tempfile
 from collections import Counter
+
 sys.path.insert(0, os.path.join(os.path.dirname(os.path.realpath(__file__)), "../tools"))
 from usage import words_of
 
-PLAN = ('{"version":1,"depth":3,"categories":[{"name":"kind","values":["a","b"]}],"start":0,"width":10,"batch":1,'
-        '"feeds":["a.csv","b.csv"],"journal":"j.txt","asks":[],"finals":[]}')
-FILES = {"plan.json": PLAN, "a.csv": "x,y,kind,time\n0,0,a,5\n7,7,b,12\n0,0,a,15\n", "b.csv": "x,y,kind,time\n3,4,b,90\n7,7,b,12\n",
-         "q.txt": "count\nhist kind\nmap 1\nseries 0 1 10\ntold\nstat\nsum\n"}
+PLAN = (
+    '{"version":1,"depth":3,"categories":[{"name":"kind","values":["a","b"]}],"start":0,"width":10,"batch":1,'
+    '"feeds":["a.csv","b.csv"],"journal":"j.txt","asks":[],"finals":[]}'
+)
+FILES = {
+    "plan.json": PLAN,
+    "a.csv": "x,y,kind,time\n0,0,a,5\n7,7,b,12\n0,0,a,15\n",
+    "b.csv": "x,y,kind,time\n3,4,b,90\n7,7,b,12\n",
+    "q.txt": "count\nhist kind\nmap 1\nseries 0 1 10\ntold\nstat\nsum\n",
+}
 LACKING = b'{"fault":"NoMemory"}\n'
 KINDS = ("FAIL_ALLOC", "FAIL_OPEN", "FAIL_READ", "FAIL_WRITE", "FAIL_CLOSE")
 
@@ -54,17 +64,26 @@ def judge(program, refuse, words, kind, number, whole, image):
 
 
 def main():
-    program, refuse = map(os.path.abspath, words_of(__doc__, 2)[:2])
+    program, refuse, *flat = map(os.path.abspath, words_of(__doc__, 2)[:3])
     with tempfile.TemporaryDirectory() as folder:
         for name, text in FILES.items():
             open(os.path.join(folder, name), "w").write(text)
         runs = {}
-        for words in (["demo", "a.csv", "q.txt"], ["save", "plan.json", "cube.img"], ["load", "plan.json", "cube.img", "q.txt"]):
+        for words in (
+            ["demo", "a.csv", "q.txt"],
+            ["save", "plan.json", "cube.img"],
+            ["load", "plan.json", "cube.img", "q.txt"],
+        ):
             status, out = run(program, folder, words, {})
             assert status == 0, (words, status, out)
-            runs[words[0]] = (words, out)
+            runs[words[0]] = (program, words, out)
+        for program in flat:
+            words = ["plan.json", "q.txt"]
+            status, out = run(program, folder, words, {})
+            assert status == 0, (words, status, out)
+            runs["flat"] = (program, words, out)
         image = open(os.path.join(folder, "cube.img"), "rb").read()
-    for words, whole in runs.values():
+    for name, (program, words, whole) in runs.items():
         for kind in KINDS:
             seen, number, idle = Counter(), 1, 0
             while idle < 3:
@@ -72,7 +91,13 @@ def main():
                 seen[status, said] += 1
                 idle = idle + 1 if (status, said) == (0, "all") else 0
                 number += 1
-            print(f"{words[0]}, {kind}: " + ", ".join(f"{n} runs with status {s} and {said} of the output" for (s, said), n in sorted(seen.items())), flush=True)
+            print(
+                f"{name}, {kind}: "
+                + ", ".join(
+                    f"{n} runs with status {s} and {said} of the output" for (s, said), n in sorted(seen.items())
+                ),
+                flush=True,
+            )
 
 
 main()

@@ -1,13 +1,12 @@
 #!/usr/bin/env python3
 """Judges `add_replies`: random feeds cut into shares, whose replies are added by the program and by a plain sum.
 
-python3 bench/judge_sums.py NANOCUBE ADD_REPLIES [CASES [SEED]]
+python3 judge/judge_sums.py NANOCUBE ADD_REPLIES [CASES [SEED]]
 
 Each case makes a plan, a script and records, cuts the records into 1 to 8 shares, runs each share and the whole feed by
-NANOCUBE, and adds the shares' replies by ADD_REPLIES. The output must be, line by line, the plain sum of the replies, and
-the reply of the whole feed where replies add up. Then one share has a line more, a line less or another line, and must be
-refused at that line.
-"""
+NANOCUBE, and adds the shares' replies by ADD_REPLIES. The output must be, line by line, the plain sum of the replies,
+and the reply of the whole feed where replies add up. Then one share has a line more, a line less or another line, and
+must be refused at that line. Its plain counts are its own: judges that shared one would share its mistakes."""
 import json
 import os
 import random
@@ -28,7 +27,9 @@ def compact(value):
 
 def random_line(depth, names):
     place = random.randrange(depth + 1)
-    region = f" in {place}/{random.randrange(2 ** place)}/{random.randrange(2 ** place)}" if random.random() < 0.3 else ""
+    region = (
+        f" in {place}/{random.randrange(2 ** place)}/{random.randrange(2 ** place)}" if random.random() < 0.3 else ""
+    )
     level = place if region else 0
     time = f" time {random.randrange(4)} {random.randrange(4, 9)}" if random.random() < 0.3 else ""
     verb = random.choice(["count", "hist", "map", "series", "window", "cross", "best", "stat", "told", "fault", "#"])
@@ -39,7 +40,7 @@ def random_line(depth, names):
     if verb == "series":
         return f"series {random.randrange(3)} {random.randrange(1, 4)} {random.randrange(1, 6)}{region}"
     if verb == "window":
-        x, y = random.randrange(2 ** depth), random.randrange(2 ** depth)
+        x, y = random.randrange(2**depth), random.randrange(2**depth)
         return f"window {x} {y} {random.randrange(x, 2 ** depth + 1)} {random.randrange(y, 2 ** depth + 1)}{time}"
     if verb == "cross":
         return f"cross {names[0]} {names[1]}{region}{time}" if len(names) > 1 else f"cross {names[0]} {names[0]}"
@@ -73,7 +74,9 @@ def plain_sum(line, replies):
         return NOT_ADDITIVE
     if verb == "told":
         return compact({"told": sum(value["told"] for value in values)})
-    return compact({"rows": add_rows(verb, [value["rows"] for value in values]), "seen": sum(value["seen"] for value in values)})
+    return compact(
+        {"rows": add_rows(verb, [value["rows"] for value in values]), "seen": sum(value["seen"] for value in values)}
+    )
 
 
 def damages(replies):
@@ -83,7 +86,7 @@ def damages(replies):
         yield len(replies), "TooFew", replies[:-1]
         at = random.randrange(len(replies))
         why, line = random.choice([("NotReply", ""), ("NotReply", "{}"), ("OtherRows", '{"fault":"NoMemory"}')])
-        yield at + 1, why, replies[:at] + [line] + replies[at + 1:]
+        yield at + 1, why, replies[:at] + [line] + replies[at + 1 :]
 
 
 def run(nanocube, folder, plan, header, records, script):
@@ -91,7 +94,10 @@ def run(nanocube, folder, plan, header, records, script):
     for name, text in (("plan.json", compact(plan)), ("q.txt", script), ("a.csv", header + "".join(records))):
         with open(os.path.join(folder, name), "w", encoding="utf-8") as file:
             file.write(text)
-    assert subprocess.run([nanocube, "run", "plan.json"], cwd=folder, stdout=subprocess.DEVNULL, check=False).returncode == 0
+    assert (
+        subprocess.run([nanocube, "run", "plan.json"], cwd=folder, stdout=subprocess.DEVNULL, check=False).returncode
+        == 0
+    )
     with open(os.path.join(folder, "q.txt.out"), encoding="utf-8") as file:
         return file.read().splitlines()
 
@@ -100,14 +106,29 @@ def one_case(nanocube, add_replies, top):
     depth = random.randrange(1, 6)
     names = random.sample(sorted(VALUES), random.randrange(1, 3))
     weighted = random.random() < 0.4
-    plan = {"asks": [], "batch": random.choice([1, 7, 64]), "categories": [{"name": n, "values": VALUES[n]} for n in names], "depth": depth,
-            "feeds": ["a.csv"], "finals": ["q.txt"], "journal": "j.txt", "start": 0, "version": 1, "width": 10}
+    plan = {
+        "asks": [],
+        "batch": random.choice([1, 7, 64]),
+        "categories": [{"name": n, "values": VALUES[n]} for n in names],
+        "depth": depth,
+        "feeds": ["a.csv"],
+        "finals": ["q.txt"],
+        "journal": "j.txt",
+        "start": 0,
+        "version": 1,
+        "width": 10,
+    }
     if weighted:
         plan.update(version=2, weight="n")
     header = ",".join(["x", "y", "time", *names, *(["n"] if weighted else [])]) + "\n"
     records = []
     for _ in range(random.choice([0, 1, 3, 20, 60])):
-        fields = [random.randrange(2 ** depth), random.randrange(2 ** depth), random.randrange(80), *(random.choice(VALUES[n]) for n in names)]
+        fields = [
+            random.randrange(2**depth),
+            random.randrange(2**depth),
+            random.randrange(80),
+            *(random.choice(VALUES[n]) for n in names),
+        ]
         records.append(",".join(map(str, fields + ([random.randrange(1, 1000)] if weighted else []))) + "\n")
     lines = [random_line(depth, names) for _ in range(random.randrange(1, 8))]
     script = "".join(line + "\n" for line in lines)

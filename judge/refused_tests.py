@@ -1,18 +1,26 @@
-"""refused_tests.py REFUSE.SO [--folder CRATES] [NAME..]: runs tests of the repository with each of their allocations refused in turn.
+"""refused_tests.py REFUSE.SO [--folder CRATES] [NAME..]: runs tests of the repository with each of their allocations
+refused in turn.
 
-REFUSE.SO is bench/refuse.c, built. The tests are built where they are not yet (`rt test`), or stand in another checkout's folder
-CRATES. With each of the first allocations a test may end because it was out of memory before what it tests began; with every
-later one it has to pass, and any other end is wrong. It prints how many allocations a test makes, and how many are such first
-ones."""
-import argparse, os, re, subprocess, sys
+REFUSE.SO is judge/refuse.c, built. The tests are built where they are not yet (`rt test`), or stand in another
+checkout's folder CRATES. With each of the first allocations a test may end because it was out of memory before what it
+tests began; with every later one it has to pass, and any other end is wrong. It prints how many allocations a test
+makes, and how many are such first ones."""
+import argparse
+import os
+import re
+import subprocess
+import sys
 
 TOP = os.path.dirname(os.path.dirname(os.path.realpath(__file__)))
-# The status of a test that passed, and of one whose result is that it was out of memory; an assertion ends a test by a signal.
+# The status of a test that passed, and of one whose result is that it was out of memory; an assertion ends a test by a
+# signal.
 PASSED, STARVED = 0, 101
 # By crate: the tests, each with what it tests.
 TESTS = {
-    "time_table_tests": [("keeps_its_counts_where_an_addition_is_refused", "1,000 additions to 300 bins"),
-                         ("keeps_its_counts_where_rows_are_given", "300 additions in rising bins, the even ones first")],
+    "time_table_tests": [
+        ("keeps_its_counts_where_an_addition_is_refused", "1,000 additions to 300 bins"),
+        ("keeps_its_counts_where_rows_are_given", "300 additions in rising bins, the even ones first"),
+    ],
     "cube_callers": [("a_refused_insertion_changes_nothing", "a cube's fourth insertion")],
     "group_insert_tests": [("a_refused_group_changes_nothing", "64 points as a group into a cube of 200")],
 }
@@ -25,7 +33,9 @@ def path_of(binary, test):
 
 
 def run(binary, path, refuse, more):
-    ran = subprocess.run([binary, path], env={**os.environ, "LD_PRELOAD": refuse, **more}, capture_output=True, text=True)
+    ran = subprocess.run(
+        [binary, path], env={**os.environ, "LD_PRELOAD": refuse, **more}, capture_output=True, text=True
+    )
     return ran.returncode, ran.stderr
 
 
@@ -40,8 +50,15 @@ def judge(crate, test, what, folder, refuse):
     ends = [run(binary, path, refuse, {"FAIL_ALLOC": str(number)})[0] for number in range(1, count + 1)]
     first = ends.count(STARVED)
     right = ends == [STARVED] * first + [PASSED] * (count - first)
-    print(f"{crate}, {test} ({what}): {count} allocations; out of memory with each of the first {first}, passed with the others"
-          if right else f"{crate}, {test} ({what}): WRONG: {ends}", flush=True)
+    print(
+        (
+            f"{crate}, {test} ({what}): {count} allocations; out of memory with each of the first {first}, passed with"
+            " the others"
+            if right
+            else f"{crate}, {test} ({what}): WRONG: {ends}"
+        ),
+        flush=True,
+    )
     return right
 
 

@@ -1,12 +1,21 @@
-"""A run of the program over pipes, for the scripts beside this one (live_times.py, short_runs.py, soak.py).
+"""A run of the program over pipes, for the scripts beside this one, of bench/ and of tools/.
 
-Usage: from pipes import Run, Replies. It measures and prints nothing by itself. What imports it runs all programs, peers too, with
-what `./nanocube` tells the C library.
+Usage: from pipes import Run, Replies. It measures and prints nothing by itself. What imports it runs all programs,
+peers too, with what `./nanocube` tells the C library.
 
-The program opens its feeds in order and reads the header of each before it opens the next, then the asks, then the finals, and
-then creates the outputs of the asks. `Run` opens the other ends in that order, and gives each opening and the whole run a time
-limit, at which the program that was started here is killed and what its threads waited in is told."""
-import errno, json, os, select, shutil, subprocess, tempfile, threading, time
+The program opens its feeds in order and reads the header of each before it opens the next, then the asks, then the
+finals, and then creates the outputs of the asks. `Run` opens the other ends in that order, and gives each opening and
+the whole run a time limit, at which the program that was started here is killed and what its threads waited in is
+told."""
+import errno
+import json
+import os
+import select
+import shutil
+import subprocess
+import tempfile
+import threading
+import time
 
 with open(os.path.join(os.path.dirname(os.path.realpath(__file__)), "../tools/glibc_tunables"), encoding="utf-8") as it:
     os.environ.setdefault("GLIBC_TUNABLES", it.read().strip())
@@ -17,10 +26,18 @@ class Stuck(Exception):
 
 
 def plan_of(feeds, asks, batch, depth, categories, width=1, start=0, finals=()):
-    return {"asks": [f"ask{a}.txt" for a in range(asks)], "batch": batch,
-            "categories": [{"name": name, "values": values} for name, values in categories], "depth": depth,
-            "feeds": [f"feed{f}.csv" for f in range(feeds)], "finals": list(finals), "journal": "journal.txt", "start": start,
-            "version": 1, "width": width}
+    return {
+        "asks": [f"ask{a}.txt" for a in range(asks)],
+        "batch": batch,
+        "categories": [{"name": name, "values": values} for name, values in categories],
+        "depth": depth,
+        "feeds": [f"feed{f}.csv" for f in range(feeds)],
+        "finals": list(finals),
+        "journal": "journal.txt",
+        "start": start,
+        "version": 1,
+        "width": width,
+    }
 
 
 def waits_of(pid):
@@ -33,8 +50,8 @@ def waits_of(pid):
 
 
 class Run:
-    """A run of a plan in a folder of its own, whose feeds and asks are pipes, and the outputs of the asks too. `piped` names the pipes
-    where they are others, and `call` is the form of the program with its words."""
+    """A run of a plan in a folder of its own, whose feeds and asks are pipes, and the outputs of the asks too. `piped`
+    names the pipes where they are others, and `call` is the form of the program with its words."""
 
     def __init__(self, program, plan, limit, finals=(), words=(), piped=None, call=("run", "plan.json")):
         self.folder = tempfile.mkdtemp(prefix="pipes-")
@@ -47,8 +64,9 @@ class Run:
                 it.write(text)
         self.report = open(self.path("report.txt"), "w+b")
         self.began = time.monotonic()
-        self.child = subprocess.Popen([*words, program, *call], cwd=self.folder, stdin=subprocess.DEVNULL,
-                                      stdout=self.report)
+        self.child = subprocess.Popen(
+            [*words, program, *call], cwd=self.folder, stdin=subprocess.DEVNULL, stdout=self.report
+        )
         self.watch = threading.Timer(limit, self.give_up)
         self.watch.daemon = True
         self.watch.start()
@@ -80,12 +98,17 @@ class Run:
             except OSError as fault:
                 if fault.errno != errno.ENXIO:
                     raise
-            if self.stuck is not None or time.monotonic() > self.end or os.waitid(os.P_PID, self.child.pid, os.WEXITED | os.WNOHANG | os.WNOWAIT):
+            if (
+                self.stuck is not None
+                or time.monotonic() > self.end
+                or os.waitid(os.P_PID, self.child.pid, os.WEXITED | os.WNOHANG | os.WNOWAIT)
+            ):
                 raise Stuck(f"{name} is not opened: {self.stuck}")
             time.sleep(0.0002)
 
     def open_all(self, header):
-        """Opens what the run opens, in its order. The ends to write of feeds, after their headers, and of asks, and the replies."""
+        """Opens what the run opens, in its order. The ends to write of feeds, after their headers, and of asks, and the
+        replies."""
         replies = [Replies(self.path(ask + ".out"), self.end) for ask in self.plan["asks"]]
         feeds = []
         for name in self.plan["feeds"]:
@@ -131,7 +154,8 @@ class Run:
 
 
 class Replies:
-    """The lines of a pipe that the program writes, each within the limit. It may be opened before the program opens it."""
+    """The lines of a pipe that the program writes, each within the limit. It may be opened before the program opens
+    it."""
 
     def __init__(self, path, end):
         self.fd, self.end = os.open(path, os.O_RDONLY | os.O_NONBLOCK), end
@@ -165,4 +189,4 @@ def write_all(fd, data):
     """Writes all of it, which a reader that has gone ends by an OSError."""
     view = memoryview(data)
     while view:
-        view = view[os.write(fd, view):]
+        view = view[os.write(fd, view) :]

@@ -48,12 +48,12 @@ def words_of(use, numbers):
     """The program and the numbers of a call `[PROGRAM] [NUMBER ..]`. Those that it lacks are these numbers."""
     words = sys.argv[1:]
     named = words[:1] if words and not words[0].isdigit() else []
-    given = words[len(named):]
+    given = words[len(named) :]
     wrong = named and not (os.path.isfile(named[0]) and os.access(named[0], os.X_OK))
     if wrong or len(given) > len(numbers) or not all(it.isdigit() for it in given):
         print(use, file=sys.stderr)
         sys.exit(2)
-    return os.path.abspath(named[0] if named else program_of()), [*map(int, given), *numbers[len(given):]]
+    return os.path.abspath(named[0] if named else program_of()), [*map(int, given), *numbers[len(given) :]]
 
 
 def run_judge(main):

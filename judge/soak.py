@@ -1,19 +1,27 @@
 """Usage: soak.py PROGRAM.. [--records N] [--seconds S] [--seed N]
 
-Runs a plan of 8 feeds and 8 asks over pipes with N records in all (10,000,000), for each PROGRAM in turn, and judges what the run
-leaves by plain counts over its journal: every reply, every record once and in its feed's order, the report, the status. A run that
-has not ended after S seconds (3,600) is killed, and what its threads waited in is told. Then come short runs for the other
-statuses. It ends with 1 at the first thing that is wrong.
+Runs a plan of 8 feeds and 8 asks over pipes with N records in all (10,000,000), for each PROGRAM in turn, and judges
+what the run leaves by plain counts over its journal: every reply, every record once and in its feed's order, the
+report, the status. A run that has not ended after S seconds (3,600) is killed, and what its threads waited in is told.
+Then come short runs for the other statuses. It ends with 1 at the first thing that is wrong.
 
-The writers: three that write as fast as they can, in blocks that end anywhere in a line; one of them is killed in mid-line. One that
-writes in bursts, one that writes each line by itself, one that pauses after each line, one that is killed in mid-line and followed by
-another at the same pipe, and one that writes a few bytes at a time. The asks: two that wait for each reply, of which one never says
-`quit`; one that writes 200 lines at once; one whose reader stops reading for seconds while lines are written; one that stays open
-until all others have ended; one that quits and goes on writing; one whose writer breaks off in mid-line; and one that asks what is no
-question.
+The writers: three that write as fast as they can, in blocks that end anywhere in a line; one of them is killed in
+mid-line. One that writes in bursts, one that writes each line by itself, one that pauses after each line, one that is
+killed in mid-line and followed by another at the same pipe, and one that writes a few bytes at a time. The asks: two
+that wait for each reply, of which one never says `quit`; one that writes 200 lines at once; one whose reader stops
+reading for seconds while lines are written; one that stays open until all others have ended; one that quits and goes on
+writing; one whose writer breaks off in mid-line; and one that asks what is no question.
 
-Records are of 64 kinds, so that the cube stays small: what is tried is pipes and threads."""
-import argparse, json, os, random, signal, sys, threading, time
+Records are of 64 kinds, so that the cube stays small: what is tried is pipes and threads. Its plain counts are its own:
+judges that shared one would share its mistakes."""
+import argparse
+import json
+import os
+import random
+import signal
+import sys
+import threading
+import time
 
 from pipes import Run, Stuck, plan_of, write_all
 
@@ -28,6 +36,7 @@ TAILS = [f"{x} {y} {v} {t // WIDTH}\n".encode() for t, x, y, v in RECORDS]
 
 # The records of a feed: feed f has RECORDS[(7 * f + n) % KINDS] as its record n.
 
+
 def text_of(feed, first, count):
     """The lines of a feed's records from `first` on, in blocks of at most 4,096 lines."""
     begin = (7 * feed + first) % KINDS
@@ -36,7 +45,7 @@ def text_of(feed, first, count):
     for _ in range(count // (64 * KINDS)):
         yield whole
     left = count % (64 * KINDS)
-    yield turn * (left // KINDS) + b"".join((LINES[begin:] + LINES[:begin])[:left % KINDS])
+    yield turn * (left // KINDS) + b"".join((LINES[begin:] + LINES[:begin])[: left % KINDS])
 
 
 def line_of(feed, number):
@@ -44,6 +53,7 @@ def line_of(feed, number):
 
 
 # The writers. Each is a process of its own, which the system may kill.
+
 
 def in_blocks(fd, feed, first, count, rng):
     """Pieces of any length, as fast as they are taken."""
@@ -77,7 +87,7 @@ def by_bytes(fd, feed, first, count, rng):
     text, at = b"".join(text_of(feed, first, count))[:-1], 0
     while at < len(text):
         size = rng.randrange(1, 9)
-        write_all(fd, text[at:at + size])
+        write_all(fd, text[at : at + size])
         at += size
         if rng.randrange(20) == 0:
             time.sleep(0.0005)
@@ -86,12 +96,13 @@ def by_bytes(fd, feed, first, count, rng):
 def part_of(feed, number, rng):
     """The beginning of a line, and why it is refused."""
     line = line_of(feed, number)[:-1]
-    part = line[:rng.randrange(1, len(line))]
+    part = line[: rng.randrange(1, len(line))]
     return part, "ShortRow" if part.count(b",") < 3 else "UnknownValue(kind)"
 
 
 def start_writer(fd, write, *words, part=None):
-    """A process that holds this pipe alone and writes, and then is killed in mid-line where there is a part of a line."""
+    """A process that holds this pipe alone and writes, and then is killed in mid-line where there is a part of a
+    line."""
     child = os.fork()
     if child:
         return child
@@ -118,7 +129,8 @@ class Feeds:
         self.children, self.second = [], None
 
     def start(self, fds):
-        """Starts the writers at the open pipes, and closes these here. The seventh feed's stays open for its second writer."""
+        """Starts the writers at the open pipes, and closes these here. The seventh feed's stays open for its second
+        writer."""
         writes = [in_blocks, in_blocks, in_blocks, in_bursts, by_line, by_line, in_blocks, by_bytes]
         for feed, write in enumerate(writes):
             count, part, more = self.counts[feed], None, (0.004,) * (feed == 5)
@@ -132,7 +144,8 @@ class Feeds:
         self.second = fds[6]
 
     def wait(self):
-        """Waits for the writers, and lets the second one at the seventh feed begin with the end of the line that was broken off."""
+        """Waits for the writers, and lets the second one at the seventh feed begin with the end of the line that was
+        broken off."""
         half = self.counts[6] // 2
         os.waitpid(self.children[6], 0)
         write_all(self.second, b"\n")
@@ -151,6 +164,7 @@ class Feeds:
 
 
 # The lines that are asked, and what their replies hold by how many records there are of each of the 64 kinds.
+
 
 def one_row(keep):
     kept = [k for k, record in enumerate(RECORDS) if keep(*record)]
@@ -180,8 +194,11 @@ ASKED = {
     b"best 1 2": best_two,
 }
 FAULTS = {
-    b"coun": b'{"at":1,"fault":"UnknownVerb"}', b"count in 9/0/0": b'{"at":3,"fault":"BadTile"}',
-    b"\xff": b'{"at":1,"fault":"NotText"}', b"x" * 5000: b'{"at":1,"fault":"LongLine"}', b"hist": b'{"at":2,"fault":"MissingWord"}',
+    b"coun": b'{"at":1,"fault":"UnknownVerb"}',
+    b"count in 9/0/0": b'{"at":3,"fault":"BadTile"}',
+    b"\xff": b'{"at":1,"fault":"NotText"}',
+    b"x" * 5000: b'{"at":1,"fault":"LongLine"}',
+    b"hist": b'{"at":2,"fault":"MissingWord"}',
 }
 SKIPPED = [b"", b"   ", b"# a note"]
 
@@ -254,10 +271,13 @@ def at_once(ask):
 
 
 def stops_reading(ask):
-    """Lines are written while nobody reads, so that the session waits at its full pipe, and after seconds all is read."""
+    """Lines are written while nobody reads, so that the session waits at its full pipe, and after seconds all is
+    read."""
     while not ask.over.is_set():
         lines = [ask.rng.choice([b"map 1", b"series 0 8 4", b"hist kind"]) for _ in range(4000)]
-        writer = threading.Thread(target=write_all, args=(ask.fd, b"".join(line + b"\n" for line in lines)), daemon=True)
+        writer = threading.Thread(
+            target=write_all, args=(ask.fd, b"".join(line + b"\n" for line in lines)), daemon=True
+        )
         writer.start()
         ask.over.wait(3)
         for line in lines:
@@ -305,6 +325,7 @@ SESSIONS = [steady_quits, steady, at_once, stops_reading, stays, quits_early, br
 
 
 # What is judged.
+
 
 def order_of(asks):
     """All replies that print how many records were seen, by that number; the others are judged here."""
@@ -359,7 +380,8 @@ def judge_reply(reply, of_kind):
 def feed_lines(feed, count, refused):
     name = f"feed{feed}.csv"
     return [f"feed {name}: {count} accepted, 0 blank, {len(refused)} refused"] + [
-        f"feed {name} line {line}: {why}" for line, why in refused]
+        f"feed {name} line {line}: {why}" for line, why in refused
+    ]
 
 
 def main_run(program, records, seconds, seed):
@@ -414,9 +436,11 @@ def end_of(run, feeds, asks, records):
     assert status == 0, status
     parts = {seen for seen, *_ in ordered if 0 < seen < records}
     longest = max(asks[a].longest for a in (0, 1, 4))
-    return (f"{records} records once and in order, {sum(len(ask.got) for ask in asks)} replies right over {len(parts)} different "
-            f"parts of the journal, status 0; {seconds:.1f} s, {busy:.1f} of processors, {most:.0f} MB; longest wait for a reply "
-            f"{longest * 1000:.0f} ms; ended {after:.2f} s after its last ask")
+    return (
+        f"{records} records once and in order, {sum(len(ask.got) for ask in asks)} replies right over"
+        f" {len(parts)} different parts of the journal, status 0; {seconds:.1f} s, {busy:.1f} of processors,"
+        f" {most:.0f} MB; longest wait for a reply {longest * 1000:.0f} ms; ended {after:.2f} s after its last ask"
+    )
 
 
 def last_seen(ask):
@@ -428,8 +452,10 @@ def last_seen(ask):
 
 # Short runs, each with two feeds and two asks, for what else may happen.
 
+
 def short_run(program, feed_writes, ask_writes, status, lines, drop=None):
-    """Writes to each feed and ask what is given, one after another; a reader of replies may go away after one. Judges status and report."""
+    """Writes to each feed and ask what is given, one after another; a reader of replies may go away after one. Judges
+    status and report."""
     plan = plan_of(2, 2, 1, DEPTH, [("kind", VALUES)], WIDTH)
     with Run(program, plan, 60) as run:
         fds, asks, replies = run.open_all(HEADER)
@@ -475,11 +501,15 @@ def full_run(program):
         for fd in asks:
             os.close(fd)
         status, report, *_ = run.wait()
-        assert status == 6 and "script ask0.txt stopped: Write\n" in report and "journal: 1 entries\n" in report, (status, report)
+        assert status == 6 and "script ask0.txt stopped: Write\n" in report and "journal: 1 entries\n" in report, (
+            status,
+            report,
+        )
 
 
 def endless_run(program):
-    """A feed of one line without end, which is given up at 2^30 bytes. Its writer is waited for by nobody, and the other feed is whole."""
+    """A feed of one line without end, which is given up at 2^30 bytes. Its writer is waited for by nobody, and the
+    other feed is whole."""
     with Run(program, plan_of(2, 1, 1, DEPTH, [("kind", VALUES)], WIDTH), 120) as run:
         fds, asks, replies = run.open_all(HEADER)
         child = start_writer(fds[0], lambda fd: [write_all(fd, b"x" * (1 << 20)) for _ in range(1025)])
@@ -490,8 +520,13 @@ def endless_run(program):
         os.close(asks[0])
         status, report, *_ = run.wait()
         os.waitpid(child, 0)
-        lines = ["feed feed0.csv: 0 accepted, 0 blank, 0 refused", "feed feed0.csv stopped: TooMuch",
-                 "feed feed1.csv: 3 accepted, 0 blank, 0 refused", "script ask0.txt: 0 replies, seen 0", "journal: 3 entries"]
+        lines = [
+            "feed feed0.csv: 0 accepted, 0 blank, 0 refused",
+            "feed feed0.csv stopped: TooMuch",
+            "feed feed1.csv: 3 accepted, 0 blank, 0 refused",
+            "script ask0.txt: 0 replies, seen 0",
+            "journal: 3 entries",
+        ]
         assert (status, report.splitlines()) == (7, lines), (status, report)
 
 
