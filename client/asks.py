@@ -185,9 +185,9 @@ class Loaded(Pipes):
             self.child.wait()
 
 
-def program_of():
+def program_of(crate="cube_main"):
     try:
-        return subprocess.run([f"{TOP}/tools/program_of"], stdout=-1, text=True, check=True).stdout.strip()
+        return subprocess.run([f"{TOP}/tools/program_of", crate], stdout=-1, text=True, check=True).stdout.strip()
     except (OSError, subprocess.CalledProcessError):
         raise CubeError("tools/program_of found no program") from None
 

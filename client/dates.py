@@ -10,6 +10,7 @@ docs/FORMATS.md, "A folder of records", has the rules."""
 import datetime
 import re
 import zoneinfo
+from operator import add
 
 DAY = 86400
 EPOCH_DAY = datetime.date(1970, 1, 1).toordinal()
@@ -49,16 +50,16 @@ class FormFault(Exception):
 
 
 class Kept(dict):
-    """What was read of each text. A text that is not there is read, and kept while there are few."""
+    """What `read` gives for each key. It is asked once for a key, while few are kept."""
 
     def __init__(self, read):
         super().__init__()
         self.read = read
 
-    def __missing__(self, text):
-        value = self.read(text)
+    def __missing__(self, key):
+        value = self.read(key)
         if len(self) < MOST_KEPT:
-            self[text] = value
+            self[key] = value
         return value
 
 
@@ -88,8 +89,8 @@ class Dates:
                 wholes = self.wholes
                 return [wholes[text] for text in texts]
             half = is_half(texts[0])
-            heads, tails = self.heads[half], self.tails[half]
-            return [heads[head] + tails[tail] for head, _, tail in [text.partition(":") for text in texts]]
+            heads, _, tails = zip(*[text.partition(":") for text in texts])
+            return list(map(add, map(self.heads[half].__getitem__, heads), map(self.tails[half].__getitem__, tails)))
         except DateFault:
             # One is wrong, or another kind of text than the first, or at an hour in which the clocks change.
             return [self.read(text) for text in texts]

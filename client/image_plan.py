@@ -195,9 +195,15 @@ def may_not_save(plan, image):
     return None
 
 
+def began():
+    """When this process began, as `./nanocube` reads it too; nothing where the system does not tell."""
+    found = (bytes_of("/proc/self/stat") or b"").decode(errors="replace").rpartition(")")[2].split()
+    return found[19] if found else ""
+
+
 def write_beside(path, text, parts):
     """Writes a file that is to take the place of another, under a name beside it that tells which process made it."""
-    parts.append(f"{path}.{len(parts)}.{os.getpid()}.saving")
+    parts.append(f"{path}.{len(parts)}.{os.getpid()}-{began()}.saving")
     with open(parts[-1], "wb") as it:
         it.write(text)
     return parts[-1]

@@ -8,16 +8,19 @@ The time of a line is its instant, in seconds since 1970, which is negative befo
 one reason: `refused` has how many, and of the first its number and the value."""
 import collections
 import csv
+import itertools
 import math
 import re
 from math import asinh
 from math import pi
 from math import radians
 from math import tan
+from math import trunc
 
 from dates import DateFault
 from dates import Dates
 from dates import FormFault
+from dates import Kept
 from dates import NOT_THERE
 from dates import OTHER_FORM
 from dates import SKIPPED
@@ -126,6 +129,8 @@ class Source:
         # How many fields a row needs.
         self.needed = 1 + max([*self.time, self.latitude, self.longitude, self.weight or 0, *(it.place for it in self.values)])
         self.dates, self.earliest = dates_of(columns), start_of(columns)
+        # The columns and rows of tiles, written out.
+        self.numerals = Kept(str)
         self.records = self.doubled = 0
         # Of each reason how many rows, the number of the first and its value.
         self.refused = {}
@@ -135,23 +140,36 @@ class Source:
 
     def write(self, sink):
         """Writes a line of each record."""
-        number, rows, numbers = 1, [], []
+        number, needed, latitude, longitude = 2, self.needed, self.latitude, self.longitude
+        while rows := self.next_rows(number):
+            numbers = range(number, number + len(rows))
+            number += len(rows)
+            # What is most often lacking is looked for here, so that few batches fail.
+            placed = [cells for cells in rows if len(cells) >= needed and cells[latitude] and cells[longitude]]
+            if len(placed) < len(rows):
+                numbers = self.refuse_unplaced(rows, numbers)
+            if placed:
+                sink.writelines(self.lines_of(placed, numbers))
+
+    def next_rows(self, number):
+        """The next rows of the CSV, of which the first has this number."""
+        rows = []
         try:
-            for cells in self.reader:
-                number += 1
-                # What is most often lacking is looked for here, so that few batches fail.
-                if len(cells) < self.needed or not cells[self.latitude] or not cells[self.longitude]:
-                    self.refuse(cells, number)
-                    continue
-                rows.append(cells)
-                numbers.append(number)
-                if len(rows) == ROWS_AT_ONCE:
-                    sink.writelines(self.lines_of(rows, numbers))
-                    rows, numbers = [], []
+            rows.extend(itertools.islice(self.reader, ROWS_AT_ONCE))
         except csv.Error as fault:
-            raise FolderFault(f"row {number + 1} of the CSV, which ends in line {self.reader.line_num}: {fault}") from None
-        if rows:
-            sink.writelines(self.lines_of(rows, numbers))
+            at = f"row {number + len(rows)} of the CSV, which ends in line {self.reader.line_num}"
+            raise FolderFault(f"{at}: {fault}") from None
+        return rows
+
+    def refuse_unplaced(self, rows, numbers):
+        """Refuses the rows that are too short or have no coordinates, and gives the numbers of the others."""
+        kept = []
+        for cells, number in zip(rows, numbers):
+            if len(cells) >= self.needed and cells[self.latitude] and cells[self.longitude]:
+                kept.append(number)
+            else:
+                self.refuse(cells, number)
+        return kept
 
     def lines_of(self, rows, numbers):
         """The lines of some rows, which have these numbers."""
@@ -170,13 +188,14 @@ class Source:
         fields = list(zip(*rows))
         instants = self.instants_of(fields, len(rows))
         xs, ys = tiles_of(fields[self.latitude], fields[self.longitude], self.size)
-        weights = [] if self.weight is None else [[weight_of(text) for text in fields[self.weight]]]
+        weights = [] if self.weight is None else [map(str, [weight_of(text) for text in fields[self.weight]])]
         labels = [list(map(values.__getitem__, fields[values.place])) for values in self.values]
         self.note(xs, ys, instants)
         for values in self.values:
             values.counts.update(fields[values.place])
-        line = "%d,%d,%d" + ",%d" * bool(weights) + ",%s" * len(labels) + "\n"
-        return "".join([line % parts for parts in zip(xs, ys, instants, *weights, *labels)])
+        tiles = self.numerals.__getitem__
+        lines = map(",".join, zip(map(tiles, xs), map(tiles, ys), map(str, instants), *weights, *labels))
+        return "\n".join(lines) + "\n"
 
     def instants_of(self, fields, number):
         """The instants of so many rows' dates."""
@@ -253,13 +272,13 @@ def tiles_of(latitudes, longitudes, size):
         raise OffMap
     if max(longitudes) >= 180:
         longitudes = [longitude - 360 if longitude >= 180 else longitude for longitude in longitudes]
-    xs = [int((longitude + 180) / 360 * size) for longitude in longitudes]
+    xs = list(map(trunc, [(longitude + 180) / 360 * size for longitude in longitudes]))
     if max(xs) == size:
         # So near to 180 that the sum was rounded to 360.
         xs = [min(x, size - 1) for x in xs]
     # From the equator, tiles to an angle of 1 in the map's projection.
     middle, scale = size / 2, size / (2 * pi)
-    return xs, [int(middle - north * scale) for north in map(asinh, map(tan, map(radians, latitudes)))]
+    return xs, list(map(trunc, [middle - north * scale for north in map(asinh, map(tan, map(radians, latitudes)))]))
 
 
 def weight_of(text):

@@ -53,7 +53,7 @@ def end_all():
 
 
 class Running:
-    """./explore of a checkout, as a process that prints its address first."""
+    """./explore of a checkout, as a process that prints its address first, or after the lines `before`."""
 
     def __init__(self, top, words, seconds=60, **more):
         more = {"stdout": subprocess.PIPE, "stderr": subprocess.STDOUT, "text": True, **more}
@@ -64,7 +64,10 @@ class Running:
         if not select.select([self.process.stdout], [], [], seconds)[0]:
             self.process.kill()
             raise RuntimeError("explore printed no address")
-        first = self.process.stdout.readline()
+        self.before, first = "", self.process.stdout.readline()
+        # (Why it takes another form than it was asked for comes before the address.)
+        while first.startswith(("capacity: ", "so ")):
+            self.before, first = self.before + first, self.process.stdout.readline()
         found = re.fullmatch(r"http://127\.0\.0\.1:(\d+)/\n", first)
         if not found:
             raise RuntimeError(f"explore printed {first!r}")
@@ -89,7 +92,7 @@ class Running:
 
     def run_of(self):
         """The process id of the program."""
-        return next(pid for pid, words in self.below().items() if " run plan.json" in words)
+        return next(pid for pid, words in self.below().items() if " plan.json" in words)
 
 
 def alive(pids, seconds=3):

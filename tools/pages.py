@@ -16,8 +16,10 @@ def failed(name, why):
 
 
 def judge(name, wanted, found):
-    """Tells whether what was found is what a page says; a capital letter by itself is any number."""
+    """Tells whether what was found is what a page says. A capital letter by itself is any number, and so are those of a
+    line `capacity: ..`, which tells of the machine."""
     pattern = re.sub(r"(?<=\s)[A-Z](?=\\?\s|,|$)", r"\\d+", re.escape(wanted.strip()), flags=re.M)
+    pattern = re.sub(r"(?m)^capacity:.*$", lambda line: re.sub(r"\d[\d.,\\]*", r"[\\d.,]+", line[0]), pattern)
     if re.fullmatch(pattern, found.strip()):
         ok(name)
     else:

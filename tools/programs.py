@@ -5,18 +5,18 @@ programs.py path CRATE    prints the path of the program to run, and makes it fi
 programs.py standing CRATE   prints the path of a program that stands, or ends with 1
 programs.py which CRATE   prints `proved PATH DIGEST`, `unproved PATH DIGEST` or `none DIGEST`, and makes nothing
 programs.py digest CRATE  prints the digest of the sources of the crate's program
-programs.py proved CRATE DIGEST   notes that `rt ci` passed and left the program of the sources with that digest
+programs.py proved CRATE DIGEST   notes that the program that stands in crates/CRATE/out was proved, of the sources with that digest
 
 People and scripts call tools/program_of, which calls this where something changed. A program's sources are the lines of
 crates.txt for its crate and the crates below it, and the files in their folders src, specs and proofs: from these and from its own
 libraries `rt` proves and compiles it. Beside each program stands a stamp of four lines: the digest of its sources, the kit
 (`rt version`), the digest of the program's bytes, and what proved it, or `unproved`.
 
-crates/CRATE/out/CRATE       the proved program, which tools/build, `rt run` or `rt ci` leaves; CRATE.sources is its stamp
+crates/CRATE/out/CRATE       the proved program, which tools/build or `rt ci` leaves; CRATE.sources is its stamp
 out/programs/CRATE-DIGEST    an unproved program, with its stamp CRATE-DIGEST.stamp
 out/programs/CRATE.listing   the last answer, and the files on which it rests
 
-`rt run` writes a stamp of its own, from which this one is made. `rt ci` writes none: .ci/run has this written after it passed."""
+tools/build, which ./prove calls, writes the stamp of what it proved. `rt ci` writes none: .ci/run has it written after it passed."""
 import fcntl
 import glob
 import hashlib
@@ -149,40 +149,9 @@ def unproved_at(name, sources):
     return Program(path, f"{path}.stamp")
 
 
-def stamp_of_rt(name):
-    """What `rt run` writes beside a program that it proved of these sources, or nothing where the kit's library has another shape."""
-    sys.path.insert(0, os.path.dirname(os.path.realpath(shutil.which("rt"))))
-    sys.dont_write_bytecode = True
-    try:
-        import rtlib
-
-        made, known = rtlib.Crate.stamp, {}
-
-        # A crate's stamp is made from those of the crates below it: each is made once, and not once a way down to it.
-        def stamp(crate):
-            if crate.folder not in known:
-                known[crate.folder] = made(crate)
-            return known[crate.folder]
-
-        rtlib.Crate.stamp = stamp
-        folder = f"{TOP}/crates/{name}"
-        return rtlib.Crate(folder, rtlib.root_above(folder), {}).stamp() + rtlib.sum_of(f"{folder}/out/{name}")
-    except (ImportError, AttributeError, TypeError, OSError, SystemExit):
-        return ""
-
-
-def adopt(name, sources):
-    """Writes the stamp of a program that `rt run`, and so tools/build, proved of these sources."""
-    said = text_of(f"crates/{name}/out/{name}.stamp")
-    if said and shutil.which("rt") and os.path.isfile(f"{TOP}/crates/{name}/out/{name}") and said == stamp_of_rt(name):
-        proved_at(name).write_stamp(sources.digest, "proved by rt run")
-
-
 def standing(name, sources):
     """The state and the program of these sources that stands, a proved one where there is one."""
     this_kit = kit()
-    if not proved_at(name).is_of(sources, this_kit):
-        adopt(name, sources)
     for state, program in (("proved", proved_at(name)), ("unproved", unproved_at(name, sources))):
         if program.is_of(sources, this_kit):
             return state, program
@@ -202,7 +171,7 @@ def write_listing(name, sources, answer):
     """Keeps the answer beside all on which it rests. A file that changed in the second in which it was read could change
     once more in that second, and its line would stay: then there is no listing, and the next call reads all again."""
     command = shutil.which("rt") or ""
-    paths = [*sources.seen, f"crates/{name}/out/{name}.stamp"]
+    paths = [*sources.seen]
     for program in (proved_at(name), unproved_at(name, sources)):
         paths += [program.path, program.stamp]
     paths += [command, kit_file(command)] if command else []
@@ -297,11 +266,11 @@ def path(name):
 
 
 def note_proved(name, digest):
-    """Writes the stamp of the program that `rt ci` left, if the sources are still those with which it began."""
+    """Writes the stamp of a program that was proved, if the sources are still those with which its proof began."""
     if Sources(name).digest != digest:
-        say(f"{name} is not noted as proved: its sources changed while `rt ci` ran")
+        say(f"{name} is not noted as proved: its sources changed while they were proved")
         sys.exit(1)
-    proved_at(name).write_stamp(digest, "proved by rt ci")
+    proved_at(name).write_stamp(digest, "proved")
 
 
 def main(words):
