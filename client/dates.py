@@ -10,7 +10,6 @@ docs/FORMATS.md, "A folder of records", has the rules."""
 import datetime
 import re
 import zoneinfo
-from operator import add
 
 DAY = 86400
 EPOCH_DAY = datetime.date(1970, 1, 1).toordinal()
@@ -88,12 +87,21 @@ class Dates:
             if self.sample_head is None or ":" not in texts[0]:
                 wholes = self.wholes
                 return [wholes[text] for text in texts]
-            half = is_half(texts[0])
-            heads, _, tails = zip(*[text.partition(":") for text in texts])
-            return list(map(add, map(self.heads[half].__getitem__, heads), map(self.tails[half].__getitem__, tails)))
+            return self.sums_of(texts)
         except DateFault:
             # One is wrong, or another kind of text than the first, or at an hour in which the clocks change.
             return [self.read(text) for text in texts]
+
+    def sums_of(self, texts):
+        """The instants of texts, each the sum of what is read up to its first colon and behind it."""
+        half, at = is_half(texts[0]), texts[0].index(":") + 1
+        heads, tails = self.heads[half], self.tails[half]
+        try:
+            # Mostly each text has its first colon where the first text has it.
+            return [heads[text[:at]] + tails[text[at:]] for text in texts]
+        except DateFault:
+            ends = [text.find(":") + 1 for text in texts]
+            return [heads[text[:end]] + tails[text[end:]] for text, end in zip(texts, ends)]
 
     def instant_of(self, text):
         """The instant of a text."""
@@ -101,11 +109,10 @@ class Dates:
 
     def read(self, text):
         """The instant of one text."""
-        head, _, tail = text.partition(":")
-        half = is_half(text)
+        half, end = is_half(text), text.find(":") + 1
         try:
-            if self.sample_head is not None and tail:
-                return self.heads[half][head] + self.tails[half][tail]
+            if self.sample_head is not None and end < len(text):
+                return self.heads[half][text[:end]] + self.tails[half][text[end:]]
         except DateFault:
             pass
         ordinal, seconds, offset = self.parts_of(text)
@@ -124,15 +131,16 @@ class Dates:
             self.note_order(int(parts["m"]), int(parts["d"]), text.partition(":")[0])
         return day_of(parts, self.century), *clock_of(parts)
 
-    def head_24(self, head):
-        """The instant at which the hour of a head begins, where the clocks do not change in it."""
-        ordinal, seconds, _ = self.parts_of(f"{head}:{self.sample_tails[0]}")
-        return ordinal * DAY + seconds - self.steady_shift(ordinal, [seconds])
+    def head_24(self, head, half=False):
+        """The instant at which the hour of a head, which ends in its one colon, begins, where the clocks do not change in it; or that in
+        the morning, where they change neither then nor 12 hours later."""
+        if head.partition(":")[1:] != (":", ""):
+            raise DateFault(OTHER_FORM)
+        ordinal, seconds, _ = self.parts_of(head + self.sample_tails[half])
+        return ordinal * DAY + seconds - self.steady_shift(ordinal, [seconds, seconds + DAY // 2][: 1 + half])
 
     def head_12(self, head):
-        """The same of a clock of 12 hours: the instant in the morning, where the clocks change neither then nor 12 hours later."""
-        ordinal, seconds, _ = self.parts_of(f"{head}:{self.sample_tails[1]}")
-        return ordinal * DAY + seconds - self.steady_shift(ordinal, [seconds, seconds + DAY // 2])
+        return self.head_24(head, True)
 
     def tail_24(self, tail, half=False):
         """The seconds from the begin of the hour, or of the same hour in the morning."""

@@ -86,8 +86,8 @@ class OffMap(ValueError):
 
 
 class Values(dict):
-    """The values of one category: of each field of the CSV what stands in the feed's line. What no plan may have as a value
-    stands there as an empty text, which is none, until the others are gathered."""
+    """The values of one category: of each field of the CSV what stands in the feed's line, behind a comma. What no plan may have as
+    a value stands there as an empty text, which is none, until the others are gathered."""
 
     def __init__(self, name, place):
         super().__init__()
@@ -100,9 +100,9 @@ class Values(dict):
             raise FolderFault(f"the category `{self.name}` has more than {MOST_VALUES} values")
         if len(field.encode()) > 64 or re.search(r'["\x00-\x1f\x7f]', field):
             self.wrong.add(field)
-            self[field] = '""'
+            self[field] = ',""'
         else:
-            self[field] = f'"{field or NO_VALUE}"'
+            self[field] = f',"{field or NO_VALUE}"'
         return self[field]
 
     def totals(self):
@@ -129,8 +129,8 @@ class Source:
         # How many fields a row needs.
         self.needed = 1 + max([*self.time, self.latitude, self.longitude, self.weight or 0, *(it.place for it in self.values)])
         self.dates, self.earliest = dates_of(columns), start_of(columns)
-        # The columns and rows of tiles, written out.
-        self.numerals = Kept(str)
+        # The columns and rows of tiles, written out with what stands before and behind them in a feed.
+        self.columns_out, self.rows_out = Kept(lambda x: f"\n{x},"), Kept(lambda y: f"{y},")
         self.records = self.doubled = 0
         # Of each reason how many rows, the number of the first and its value.
         self.refused = {}
@@ -188,14 +188,17 @@ class Source:
         fields = list(zip(*rows))
         instants = self.instants_of(fields, len(rows))
         xs, ys = tiles_of(fields[self.latitude], fields[self.longitude], self.size)
-        weights = [] if self.weight is None else [map(str, [weight_of(text) for text in fields[self.weight]])]
+        weights = [] if self.weight is None else [[f",{weight_of(text)}" for text in fields[self.weight]]]
         labels = [list(map(values.__getitem__, fields[values.place])) for values in self.values]
         self.note(xs, ys, instants)
         for values in self.values:
             values.counts.update(fields[values.place])
-        tiles = self.numerals.__getitem__
-        lines = map(",".join, zip(map(tiles, xs), map(tiles, ys), map(str, instants), *weights, *labels))
-        return "\n".join(lines) + "\n"
+        columns = [map(self.columns_out.__getitem__, xs), map(self.rows_out.__getitem__, ys), map(str, instants), *weights, *labels]
+        # The texts of all columns in the order of the lines, which is quicker than to put each line together.
+        texts = [""] * (len(columns) * len(rows))
+        for at, column in enumerate(columns):
+            texts[at :: len(columns)] = column
+        return "".join(texts)[1:] + "\n"
 
     def instants_of(self, fields, number):
         """The instants of so many rows' dates."""
@@ -268,9 +271,10 @@ def tiles_of(latitudes, longitudes, size):
     latitudes, longitudes = list(map(float, latitudes)), list(map(float, longitudes))
     if not (-MOST_LATITUDE <= min(latitudes) and max(latitudes) <= MOST_LATITUDE):
         raise OffMap
-    if not (-180 <= min(longitudes) and max(longitudes) <= 360):
+    east = max(longitudes)
+    if not (-180 <= min(longitudes) and east <= 360):
         raise OffMap
-    if max(longitudes) >= 180:
+    if east >= 180:
         longitudes = [longitude - 360 if longitude >= 180 else longitude for longitude in longitudes]
     xs = list(map(trunc, [(longitude + 180) / 360 * size for longitude in longitudes]))
     if max(xs) == size:
