@@ -27,8 +27,8 @@ from pipes import plan_of
 
 @dataclass
 class Case:
-    """A feed's lines, its plan, which form is timed, its script, a last column that no category has, and how many bytes
-    of the feed a pipe gives at a time, if it is one."""
+    """A feed's lines, its plan, which form is timed, its script and how often that is asked, a last column that no
+    category has, and how many bytes of the feed a pipe gives at a time, if it is one."""
 
     lines: Callable
     depth: int = 16
@@ -36,6 +36,7 @@ class Case:
     batch: int = 65536
     form: str = "save"
     script: str = "count\n"
+    times: int = 1
     more: str = ""
     spread: int = 0
 
@@ -125,15 +126,17 @@ FOUR = (256, 256, 256, 256)
 EVERYDAY = (100, 30, 24)
 SETS = "".join(f" with {name}=" + "|".join(f"{name}{v}" for v in range(255)) for name in "abc")
 BORDERS = "window 1 1 65535 65535\n" * 50
-INNER = "window 1 1 32768 32768\n" * 50
+# Four of these have as many tiles along the edges that no large tile ends at as one along the borders.
+INNER = "window 1 1 32768 32768\n" * 200
 
 
 def load(lines, depth, values):
     return Case(lines, depth, values, form="load")
 
 
-def ask(script, values=(256, 256, 256)):
-    return Case(drawn, 16, values, form="ask", script=script)
+def ask(script, times, values=(256, 256, 256)):
+    """A script that is asked so often that it takes much longer than two loads differ."""
+    return Case(drawn, 16, values, form="ask", script=script, times=times)
 
 
 def recount(script):
@@ -156,10 +159,10 @@ ROWS = [
     Row("`load` of everyday records", load(drawn, 16, EVERYDAY), ORDINARY, 20000, 2, True),
     Row("`load` of random records", load(anywhere, 20, FOUR), ORDINARY, 5000, 3, True),
     Row("`load` where no level shares", load(tower, 20, FOUR[:3]), ORDINARY, 5000, 4, True),
-    Row("`count` of sets of 255 values", ask(f"count{SETS}\n"), ask(f"count{SETS} time 0 2160\n"), 20000, 2),
+    Row("`count` of sets of 255 values", ask(f"count{SETS}\n", 10), ask(f"count{SETS} time 0 2160\n", 10), 20000, 2),
     # Each table costs its rows and the ends of the series.
-    Row("a long series of sets", ask(f"series 0 1 10000{SETS}\n"), ask(f"count{SETS}\n"), 20000, 20),
-    Row("windows along the borders", ask(BORDERS, (4,)), ask(INNER, (4,)), SIZE),
+    Row("a long series of sets", ask(f"series 0 1 10000{SETS}\n", 2), ask(f"count{SETS}\n", 20), 20000, 20),
+    Row("windows along the borders", ask(BORDERS, 40, (4,)), ask(INNER, 40, (4,)), SIZE),
     # Each row of a reply is counted by a pass over the records.
     Row("`recount` of a series", recount("series 0 1 1000\n" * 2), recount("count\n" * 2000), 20000, 1.5),
     Row("`recount` of a map", recount("map 4\n" * 10), recount("count\n" * 850), 20000, 2),
@@ -182,7 +185,7 @@ class Folder:
         self.write("plan.json", [json.dumps(plan)])
         names = ",".join(["x", "y", "time", *(name for name, _ in case.schema())])
         self.write("feed0.csv", [f"{names}{case.more}\n", *case.lines(size, case)])
-        self.write("final.txt", [case.script])
+        self.write("final.txt", [case.script] * case.times)
         self.write("none.txt", [])
         if case.form in ("load", "ask"):
             self.run("save", "plan.json", "cube.img")
@@ -224,16 +227,22 @@ class Folder:
         return busy
 
     def seconds(self):
+        """The seconds of the case's run, and of what stands before a question: a load for a script without a line."""
         form = self.case.form
         if self.case.spread:
-            return self.spread()
+            return self.spread(), 0
         if form == "save":
-            return self.run("save", "plan.json", "cube.img")
+            return self.run("save", "plan.json", "cube.img"), 0
         if form == "load":
-            return self.load("none.txt")
+            return self.load("none.txt"), 0
         if form == "ask":
-            return self.load("final.txt") - self.load("none.txt")
-        return self.run("recount", "plan.json", "journal.txt", "final.txt", "final.txt.out")
+            return self.load("final.txt"), self.load("none.txt")
+        return self.run("recount", "plan.json", "journal.txt", "final.txt", "final.txt.out"), 0
+
+    def least(self, rounds):
+        """The seconds of asking the script once, by the least of several rounds."""
+        whole, before = map(min, zip(*rounds))
+        return max(whole - before, 0.002) / self.case.times
 
     def image(self):
         return os.path.getsize(os.path.join(self.top, "cube.img"))
@@ -245,7 +254,7 @@ def measured(program, row, size, rounds):
         cases = {"shape": row.shape, "peer": row.peer}
         pair = [Folder(program, os.path.join(top, name), case, size) for name, case in cases.items()]
         took = [[it.seconds() for it in pair] for _ in range(rounds)]
-        shape, peer = (max(min(column), 0.002) for column in zip(*took))
+        shape, peer = (it.least(column) for it, column in zip(pair, zip(*took)))
         ratio = shape / peer
         if row.by_bytes:
             ratio *= pair[1].image() / pair[0].image()
